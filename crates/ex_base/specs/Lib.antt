@@ -1,0 +1,12 @@
+pub mod Area
+pub mod Bytes
+pub mod Edits
+pub mod Even
+pub mod Fault
+pub mod Faults
+pub mod Fields
+pub mod Limits
+pub mod Order
+pub mod Ports
+pub mod Sizes
+pub mod Superblock

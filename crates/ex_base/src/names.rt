@@ -1,0 +1,48 @@
+//! What every layer names: pages, areas, places, versions of objects, notes of updates and roots of trees.
+
+/// The number of a page of the volume, counted from its start.
+#[derive(Clone, Copy, Debug, PartialEq, Eq, PartialOrd, Ord)]
+pub struct PageNo(pub u32);
+
+/// One of the two areas of a volume that have units to give.
+#[derive(Clone, Copy, Debug, PartialEq, Eq)]
+pub enum Area {
+    /// Single pages: the catalog, pages of files and of their indexes, and inner nodes of trees.
+    Page,
+    /// Segments of `seg_len` pages each: the leaves of trees.
+    Segment,
+}
+
+/// Where a record lies: a page of a file and a slot of it.
+#[derive(Clone, Copy, Debug, PartialEq, Eq)]
+pub struct Place {
+    pub page: PageNo,
+    pub slot: u16,
+}
+
+/// The identifier of a version of an object: where its record was placed, and a number that no other version has.
+#[derive(Clone, Copy, Debug, PartialEq, Eq)]
+pub struct Oid {
+    pub page: PageNo,
+    pub slot: u16,
+    pub unique: u64,
+}
+
+/// What one accepted update did, as the log tells it.
+#[derive(Clone, Copy, Debug, PartialEq, Eq)]
+pub struct OpNote {
+    pub kind: u8,
+    pub oid: Oid,
+    pub first: u64,
+    pub second: u64,
+}
+
+/// The root of an object's tree. A root of size 0 has no page.
+#[derive(Clone, Copy, Debug, PartialEq, Eq)]
+pub struct Root {
+    /// The level of the root's page: 0 for a leaf.
+    pub height: u8,
+    pub page: Option<PageNo>,
+    /// The bytes of the object.
+    pub size: u64,
+}

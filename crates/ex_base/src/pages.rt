@@ -1,0 +1,71 @@
+//! The port of logged pages, and both ports over one object.
+ghost use Rattle.std.specs.Prelude.{◌≡◌, ◌≢◌, ◌≤◌, ◌+◌, ◌↔◌, IsTrue, length, IfOk, IfErr, OnOk};
+ghost use Rattle.std.specs.Borrow.{sem};
+ghost use Rattle.ex_base.specs.Area.{InPageArea, catalog_no};
+ghost use Rattle.ex_base.specs.Ports.{Rests, Keeps, HasCause, IsDamage, PutsImage, TakesPage, GivesPage};
+ghost use Rattle.ex_base.specs.declared.names.Area.TheVariants.{Page, Segment};
+
+use crate::blocks::Blocks;
+use crate::faults::PortFault;
+use crate::ground::Ground;
+use crate::names::PageNo;
+use std::alloc::Global;
+
+/// Logged pages: the catalog, and the pages of files and of their indexes. A call that allocates takes `alloc`. `Disk` comes only where the count of
+/// faults rose in the call, and no call answers `Damaged`.
+pub trait Pages: Ground {
+    /// The bytes of a page.
+    fn page_size(&self) -> u32
+        requires ready { Self.ready self.now }
+        ensures { result ≡ (Self.geometry self.now).page_size };
+
+    /// Whether a page lies in the page area.
+    fn in_area(&self, page: PageNo) -> bool
+        requires ready { Self.ready self.now }
+        ensures { IsTrue result ↔ InPageArea (Self.geometry self.now) page.0 };
+
+    /// Lends a page as the working state has it.
+    fn get(&mut self, alloc: Global, page: PageNo) -> Result<&[u8], PortFault>
+        requires ready { Self.ready self.old }
+        requires page { InPageArea (Self.geometry self.old) page.0 }
+        ensures bytes { IfOk result (λ s. Self.tells self.old → s.now ≡ Self.image self.old page.0) }
+        ensures len { IfOk result (λ s. length s.now ≡ (Self.geometry self.old).page_size) }
+        ensures no_damage { IfErr result (λ fault. IsDamage fault → ⊥) }
+        ensures* after { sem 𝓛 (Rests Self.row self.entry (λ new.
+            Keeps Self.Ground self.old new × HasCause (Self.faults self.old) (Self.faults new) result)) };
+
+    /// Changes the working image of a page, and touches the page.
+    fn put(&mut self, alloc: Global, page: PageNo, image: &[u8]) -> Result<(), PortFault>
+        requires ready { Self.ready self.old }
+        requires page { InPageArea (Self.geometry self.old) page.0 }
+        requires len { length image.now ≡ (Self.geometry self.old).page_size }
+        ensures put { OnOk result (PutsImage Self.Ground self.old self.new page.0 image.now) }
+        ensures no_damage { IfErr result (λ fault. IsDamage fault → ⊥) }
+        ensures leads { Self.leads self.old self.new }
+        ensures cause { HasCause (Self.faults self.old) (Self.faults self.new) result };
+
+    /// Takes a free page, with this image.
+    fn take_page(&mut self, alloc: Global, image: &[u8]) -> Result<PageNo, PortFault>
+        requires ready { Self.ready self.old }
+        requires free { 1 ≤ Self.free self.old Page }
+        requires len { length image.now ≡ (Self.geometry self.old).page_size }
+        ensures taken { IfOk result (λ page. TakesPage Self.Ground self.old self.new page.0 image.now) }
+        ensures pages { OnOk result (Self.free self.new Page + 1 ≡ Self.free self.old Page) }
+        ensures leaves { OnOk result (Self.free self.new Segment ≡ Self.free self.old Segment) }
+        ensures no_damage { IfErr result (λ fault. IsDamage fault → ⊥) }
+        ensures leads { Self.leads self.old self.new }
+        ensures cause { HasCause (Self.faults self.old) (Self.faults self.new) result };
+
+    /// Gives a page back. It is free at once where the transaction took it, and else once the transaction is committed.
+    fn give_page(&mut self, alloc: Global, page: PageNo) -> Result<(), PortFault>
+        requires ready { Self.ready self.old }
+        requires page { InPageArea (Self.geometry self.old) page.0 }
+        requires other { page.0 ≢ catalog_no }
+        ensures given { OnOk result (GivesPage Self.Ground self.old self.new page.0) }
+        ensures no_damage { IfErr result (λ fault. IsDamage fault → ⊥) }
+        ensures leads { Self.leads self.old self.new }
+        ensures cause { HasCause (Self.faults self.old) (Self.faults self.new) result };
+}
+
+/// Both ports over one object.
+pub trait Volume: Blocks + Pages {}
