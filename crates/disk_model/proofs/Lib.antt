@@ -1,0 +1,4 @@
+mod Images
+mod Inside
+mod Leaves
+mod Writes
