@@ -1,0 +1,3 @@
+pub mod Keys
+pub mod Edited
+pub mod Changed

@@ -1,0 +1,140 @@
+//! The names of a session, and lists of names and identifiers that replies give.
+
+ghost use Rattle.std.specs.Prelude.{◌≡◌, [], ◌∷◌, ◌++◌, map, flat_map, find, bytes_eq, true, option_copied, IfOk};
+ghost use Rattle.std.specs.List.{list_any};
+ghost use Rattle.table_model.specs.Tables.{current};
+ghost use Rattle.table_model.specs.Machines.{unmarked, kept};
+ghost use Rattle.table_model.specs.Steps.{current_oids, oids};
+
+use crate::find::same_bytes;
+use ex_base::{Items, Oid};
+use std::alloc::{AllocError, Global};
+use table_model::{BoundName, BoundNames, GroupRow, Name, Object, TableFile, Version};
+
+/// What the name is bound to: the first row that has it.
+pub fn bound_named<'a>(names: &'a [BoundName], name: &[u8]) -> Option<&'a BoundName>
+    ensures { option_copied result ≡ find (λ b. bytes_eq b.name name.now) names.now }
+{
+    for bound in names {
+        if same_bytes(bound.name.as_slice(), name) {
+            return Some(bound);
+        }
+    }
+    None
+}
+
+/// Whether the name is bound.
+pub fn is_bound(names: &[BoundName], name: &[u8]) -> bool
+    ensures { result ≡ list_any (λ b. bytes_eq b.name name.now) names.now }
+{
+    for bound in names {
+        if same_bytes(bound.name.as_slice(), name) {
+            return true;
+        }
+    }
+    false
+}
+
+/// Whether a group has the name.
+pub fn is_group(groups: &[GroupRow], name: &[u8]) -> bool
+    ensures { result ≡ list_any (λ g. bytes_eq g.name name.now) groups.now }
+{
+    for group in groups {
+        if same_bytes(group.name.as_slice(), name) {
+            return true;
+        }
+    }
+    false
+}
+
+/// A copy of the name, with a mark or without.
+fn with_marks(alloc: Global, bound: &BoundName, marked: bool) -> Result<BoundName, AllocError>
+    ensures { IfOk result (λ copy. copy ≡ record bound.now { marked = marked }) }
+{
+    Ok(BoundName {
+        name: Items::of_bytes(alloc, bound.name.as_slice())?,
+        oid: bound.oid,
+        marked,
+    })
+}
+
+/// The names with all marks taken off.
+pub fn unmarked(alloc: Global, names: &[BoundName]) -> Result<BoundNames, AllocError>
+    ensures { IfOk result (λ changed. changed ≡ unmarked names.now) }
+{
+    let mut out = Vec::new(alloc);
+    for bound in names {
+        out.push(with_marks(alloc, bound, false)?)?;
+    }
+    Ok(Items::of(out))
+}
+
+/// The names that carry no mark.
+pub fn kept(alloc: Global, names: &[BoundName]) -> Result<BoundNames, AllocError>
+    ensures { IfOk result (λ changed. changed ≡ kept names.now) }
+{
+    let mut out = Vec::new(alloc);
+    for bound in names {
+        if !bound.marked {
+            out.push(with_marks(alloc, bound, bound.marked)?)?;
+        }
+    }
+    Ok(Items::of(out))
+}
+
+/// The names with one more, marked, at their end.
+pub fn with_bound(
+    alloc: Global,
+    names: &[BoundName],
+    name: &[u8],
+    oid: Oid,
+) -> Result<BoundNames, AllocError>
+    ensures { IfOk result (λ changed. changed ≡ names.now ++ record { name = name.now; oid = oid; marked = true } ∷ []) }
+{
+    let mut out = Vec::new(alloc);
+    for bound in names {
+        out.push(with_marks(alloc, bound, bound.marked)?)?;
+    }
+    out.push(BoundName {
+        name: Items::of_bytes(alloc, name)?,
+        oid,
+        marked: true,
+    })?;
+    Ok(Items::of(out))
+}
+
+/// The names of the files, in their order.
+pub fn file_names(alloc: Global, files: &[TableFile]) -> Result<Vec<Name>, AllocError>
+    ensures { IfOk result (λ names. names.items ≡ map (λ f. f.name) files.now) }
+{
+    let mut out = Vec::new(alloc);
+    for file in files {
+        out.push(Items::of_bytes(alloc, file.name.as_slice())?)?;
+    }
+    Ok(out)
+}
+
+/// The identifiers of the objects' current versions, in the order of the objects.
+pub fn current_oids(alloc: Global, objects: &[Object]) -> Result<Vec<Oid>, AllocError>
+    ensures { IfOk result (λ found. found.items ≡ flat_map (λ o. current_oids (current o.versions)) objects.now) }
+{
+    let mut out = Vec::new(alloc);
+    for object in objects {
+        match object.versions.as_slice().last() {
+            Some(version) => out.push(version.oid)?,
+            None => {}
+        }
+    }
+    Ok(out)
+}
+
+/// The identifiers of the versions, in their order.
+pub fn oids(alloc: Global, versions: &[Version]) -> Result<Vec<Oid>, AllocError>
+    ensures { IfOk result (λ found. found.items ≡ oids versions.now) }
+{
+    let mut out = Vec::new(alloc);
+    for version in versions {
+        out.push(version.oid)?;
+    }
+    Ok(out)
+}

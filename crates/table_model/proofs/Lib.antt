@@ -1,0 +1,10 @@
+pub mod Copies
+pub mod Lists
+pub mod TableRules
+pub mod Updates
+pub mod NewVersions
+pub mod Files
+pub mod Stepping
+pub mod Sizes
+pub mod Keeping
+pub mod StepsKeep

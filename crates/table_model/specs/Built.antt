@@ -1,0 +1,34 @@
+-- The commands that the product has yet. The machine is defined for all of them; a line that spells another one is answered as no command.
+-- To build a command is to turn its case, here and in the function that computes it.
+use Rattle.std.specs.Prelude.{Bool, false}
+use Rattle.table_model.specs.Requests.{Request}
+use Rattle.table_model.specs.Requests as request
+
+abbrev pub is_built : Request → Bool
+is_built request.Begin = false
+is_built request.Commit = false
+is_built request.Abort = false
+is_built request.Checkpoint = false
+is_built request.Log = false
+is_built request.Files = false
+is_built request.Space = false
+is_built (request.File name) = false
+is_built (request.Unfile name) = false
+is_built (request.ListFile name) = false
+is_built (request.Create file bind) = false
+is_built (request.Destroy x) = false
+is_built (request.Size x) = false
+is_built (request.Stat x) = false
+is_built (request.Digest x) = false
+is_built (request.Versions x) = false
+is_built (request.DropVersion x) = false
+is_built (request.Read x pos len) = false
+is_built (request.Insert x pos given) = false
+is_built (request.Append x given) = false
+is_built (request.Replace x pos given) = false
+is_built (request.Delete x pos len) = false
+is_built (request.Freeze x bind) = false
+is_built (request.Group name frames mru) = false
+is_built (request.Scan x name group) = false
+is_built (request.Next name len) = false
+is_built (request.Close name) = false

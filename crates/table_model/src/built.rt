@@ -1,0 +1,43 @@
+//! Which commands the product has yet.
+ghost use Rattle.std.specs.Prelude.{◌≡◌};
+ghost use Rattle.table_model.specs.Requests.{request_of};
+ghost use Rattle.table_model.specs.Built.{is_built};
+
+use crate::command::Command;
+
+/// Whether the command is one of the product's yet. A line that spells another one is refused as no command.
+///
+/// To build `Begin`, say, is to answer `true` for it here, and in the definition that the contract cites.
+pub fn is_built(command: &Command) -> bool
+    ensures { result ≡ is_built (request_of command.now) }
+{
+    match command {
+        Command::Begin
+        | Command::Commit
+        | Command::Abort
+        | Command::Checkpoint
+        | Command::Log
+        | Command::Files
+        | Command::Space => false,
+        Command::File { .. }
+        | Command::Unfile { .. }
+        | Command::List { .. }
+        | Command::Create { .. } => false,
+        Command::Destroy { .. }
+        | Command::Size { .. }
+        | Command::Stat { .. }
+        | Command::Digest { .. }
+        | Command::Versions { .. }
+        | Command::DropVersion { .. } => false,
+        Command::Read { .. }
+        | Command::Insert { .. }
+        | Command::Append { .. }
+        | Command::Replace { .. }
+        | Command::Delete { .. }
+        | Command::Freeze { .. } => false,
+        Command::Group { .. }
+        | Command::Scan { .. }
+        | Command::Next { .. }
+        | Command::Close { .. } => false,
+    }
+}

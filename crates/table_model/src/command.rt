@@ -1,0 +1,125 @@
+//! A command: what the words of a line ask for.
+
+/// The version of an object that a command names.
+#[derive(Clone, Copy)]
+pub enum Subject<'a> {
+    /// The name that is bound to it, without its `@`.
+    Name(&'a [u8]),
+    /// The numbers of its identifier. One that is out of its field's range names no version.
+    Number { page: u64, slot: u64, unique: u64 },
+}
+
+/// One command. Its words are slices of the line that it was read from.
+#[derive(Clone, Copy)]
+pub enum Command<'a> {
+    /// Opens a transaction.
+    Begin,
+    /// Makes the working state the committed one.
+    Commit,
+    /// Drops the working state.
+    Abort,
+    /// Writes logged pages home and empties the log.
+    Checkpoint,
+    /// Tells how many records the log has.
+    Log,
+    /// Lists the names of the files.
+    Files,
+    /// Tells how many units are in use.
+    Space,
+    /// Makes an empty file.
+    File {
+        name: &'a [u8],
+    },
+    /// Removes a file without objects.
+    Unfile {
+        name: &'a [u8],
+    },
+    /// Lists the objects of a file.
+    List {
+        name: &'a [u8],
+    },
+    /// Makes an empty object at the end of a file, and binds a name to it.
+    Create {
+        file: &'a [u8],
+        bind: &'a [u8],
+    },
+    /// Removes an object.
+    Destroy {
+        x: Subject<'a>,
+    },
+    /// Tells the bytes of a version.
+    Size {
+        x: Subject<'a>,
+    },
+    /// Tells how a version lies on the volume.
+    Stat {
+        x: Subject<'a>,
+    },
+    /// Tells the SHA-256 of a version's bytes.
+    Digest {
+        x: Subject<'a>,
+    },
+    /// Lists the versions of an object, the current one last.
+    Versions {
+        x: Subject<'a>,
+    },
+    /// Removes a frozen version.
+    DropVersion {
+        x: Subject<'a>,
+    },
+    /// Gives `len` bytes from `pos` on.
+    Read {
+        x: Subject<'a>,
+        pos: u64,
+        len: u32,
+    },
+    /// Puts bytes in before the byte at `pos`. `given` is the whole data word.
+    Insert {
+        x: Subject<'a>,
+        pos: u64,
+        given: &'a [u8],
+    },
+    /// Puts bytes at the end. `given` is the whole data word.
+    Append {
+        x: Subject<'a>,
+        given: &'a [u8],
+    },
+    /// Puts bytes over those from `pos` on. `given` is the whole data word.
+    Replace {
+        x: Subject<'a>,
+        pos: u64,
+        given: &'a [u8],
+    },
+    /// Removes `len` bytes from `pos` on.
+    Delete {
+        x: Subject<'a>,
+        pos: u64,
+        len: u64,
+    },
+    /// Keeps the current version as a frozen one, and binds a name to that.
+    Freeze {
+        x: Subject<'a>,
+        bind: &'a [u8],
+    },
+    /// Makes a group of buffer frames. `mru`: its most recent frame is given up first.
+    Group {
+        name: &'a [u8],
+        frames: u32,
+        mru: bool,
+    },
+    /// Opens a scan of a version's bytes as they are now. Without a group it is in `main`.
+    Scan {
+        x: Subject<'a>,
+        name: &'a [u8],
+        group: Option<&'a [u8]>,
+    },
+    /// Gives the next bytes of a scan, at most `len` of them.
+    Next {
+        name: &'a [u8],
+        len: u32,
+    },
+    /// Closes a scan.
+    Close {
+        name: &'a [u8],
+    },
+}

@@ -1,0 +1,28 @@
+//! The table machine: what a volume is to its users, and what each command means, over lists of bytes alone. No page, tree or unit is named here
+//! but by its number, so that all that a session answers can be held against it.
+#![tactic(auto)]
+
+mod built;
+mod command;
+mod laws;
+mod limits;
+mod machine;
+mod notes;
+mod reply;
+mod table;
+
+pub use built::is_built;
+pub use command::{Command, Subject};
+pub use laws::{rules_hold_at_the_start, steps_keep_the_rules};
+pub use limits::{
+    DATA_MOST, FRAMES_MOST, GROUPS_MOST, OBJECT_MOST, SCANS_MOST, TOUCHED_MOST, UPDATES_MOST,
+};
+pub use machine::{
+    BoundName, BoundNames, GroupRow, GroupRows, Lengths, Machine, NoteList, Pick, ScanRow, ScanRows,
+};
+pub use notes::{
+    APPENDED, DELETED, DROPPED, FILE_MADE, FILE_REMOVED, FROZEN, INSERTED, OBJECT_MADE,
+    OBJECT_REMOVED, REPLACED,
+};
+pub use reply::{Names, OidList, Refusal, Reply};
+pub use table::{Bytes, Name, Object, Objects, Table, TableFile, TableFiles, Version, Versions};

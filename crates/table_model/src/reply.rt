@@ -1,0 +1,167 @@
+//! What a step answers.
+
+use crate::machine::Lengths;
+use crate::table::{Bytes, Name};
+use ex_base::{Area, Items, Oid};
+
+/// Names of files, in byte order.
+pub type Names = Items<Name>;
+
+/// Identifiers of versions.
+pub type OidList = Items<Oid>;
+
+/// Why a line was refused. The refusals have the numbers 1 to 23, in this order, and of those that apply the first is given.
+#[derive(Clone, Copy, Debug, PartialEq, Eq)]
+pub enum Refusal {
+    /// The line is over its limit.
+    LineLong,
+    /// The line is no command.
+    Syntax,
+    /// The line gives or asks for more bytes than one line may.
+    DataLimit,
+    /// No transaction is open.
+    NoTxn,
+    /// A transaction is open.
+    TxnOpen,
+    /// The `@name` isn't bound.
+    NoName,
+    /// The name to be bound is that of a bound name, an open scan or a group.
+    NameTaken,
+    /// No file has the name.
+    NoFile,
+    /// A file has the name.
+    FileExists,
+    /// The catalog has room for no further file.
+    FilesFull,
+    /// No live version has the identifier.
+    NoObject,
+    /// The version is frozen.
+    Frozen,
+    /// The version is the current one of its object.
+    Current,
+    /// The file has an object.
+    NotEmpty,
+    /// The object has a frozen version.
+    HasVersions,
+    /// No open scan has the name.
+    NoScan,
+    /// No group has the name.
+    NoGroup,
+    /// The bytes that are named end behind the object's end.
+    Range,
+    /// The object would be longer than an object may be.
+    TooLarge,
+    /// As many scans are open, or groups were made, as may be.
+    TooMany { scans: bool },
+    /// The next number of a version, or of a commit, is the last one of 64 bits, which stays unused.
+    IdsSpent,
+    /// The transaction has as many updates, or would touch more pages, than one may.
+    LongTxn { updates: u32, touched: u32 },
+    /// The command may need more units of the area than are free.
+    Full { area: Area, need: u64, free: u64 },
+}
+
+/// What a line is answered: a reply for each command, two for `stat`, and one for a refusal.
+#[derive(Drop)]
+pub enum Reply {
+    /// The number that the transaction's commit will have.
+    Begin {
+        number: u64,
+    },
+    /// The number of the commit.
+    Commit {
+        number: u64,
+    },
+    Abort,
+    Checkpoint,
+    /// The records of the log that count.
+    Log {
+        records: u32,
+    },
+    File {
+        name: Name,
+    },
+    Unfile {
+        name: Name,
+    },
+    Files {
+        names: Names,
+    },
+    /// The current versions of the file's objects.
+    List {
+        oids: OidList,
+    },
+    Create {
+        oid: Oid,
+    },
+    Destroy {
+        oid: Oid,
+    },
+    Size {
+        size: u64,
+    },
+    /// The version is one record of so many bytes.
+    StatSmall {
+        size: u64,
+    },
+    /// The version is a tree: its bytes, height and leaves, and the bytes of its first leaves.
+    StatLarge {
+        size: u64,
+        height: u8,
+        leaves: u64,
+        first: Lengths,
+    },
+    /// The SHA-256 of the bytes.
+    Digest {
+        hash: [u8; 32],
+    },
+    Read {
+        bytes: Bytes,
+    },
+    /// The new size, as of the further edits.
+    Insert {
+        size: u64,
+    },
+    Append {
+        size: u64,
+    },
+    Replace {
+        size: u64,
+    },
+    Delete {
+        size: u64,
+    },
+    /// The frozen version.
+    Freeze {
+        oid: Oid,
+    },
+    /// The versions from the oldest to the current one.
+    Versions {
+        oids: OidList,
+    },
+    DropVersion {
+        oid: Oid,
+    },
+    Group {
+        name: Name,
+    },
+    /// The bytes that the scan will give.
+    Scan {
+        name: Name,
+        size: u64,
+    },
+    Next {
+        bytes: Bytes,
+    },
+    Close {
+        name: Name,
+    },
+    /// The units in use, and all that there are, of the page area and of the segment area.
+    Space {
+        pages: u32,
+        of_pages: u32,
+        segs: u32,
+        of_segs: u32,
+    },
+    No(Refusal),
+}
