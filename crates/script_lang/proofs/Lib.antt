@@ -1,0 +1,8 @@
+pub mod WordCuts
+pub mod PartCuts
+pub mod DataParts
+pub mod Slots
+pub mod Rows
+pub mod Laws
+pub mod Built
+pub mod Keeps

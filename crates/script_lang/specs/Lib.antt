@@ -1,0 +1,8 @@
+pub mod LineWords
+pub mod Grammar
+pub mod Reading
+pub mod Forms
+pub mod Verbs
+pub mod Spoken
+pub mod Parsed
+pub mod Begins

@@ -1,0 +1,10 @@
+//! What a line of a script says.
+#![tactic(auto)]
+
+mod commands;
+mod forms;
+mod parser;
+mod verbs;
+mod words;
+
+pub use parser::{parse, parse_any};

@@ -1,0 +1,192 @@
+//! The first words of the commands.
+
+ghost use Rattle.std.specs.Prelude.{◌≡◌, bytes_eq, true, false, MatchOption};
+ghost use Rattle.script_lang.specs.declared.verbs.Verb.{Verb};
+ghost use Rattle.table_model.specs.Requests.{request_of};
+ghost use Rattle.table_model.specs.Built.{is_built};
+ghost use Rattle.script_lang.specs.Verbs.{word_of, bare};
+
+use crate::forms::is_word;
+use table_model::{Command, Subject, is_built};
+
+/// What a command does, by its first word.
+#[derive(Clone, Copy)]
+pub enum Verb {
+    Begin,
+    Commit,
+    Abort,
+    Checkpoint,
+    Log,
+    Files,
+    Space,
+    File,
+    Unfile,
+    List,
+    Close,
+    Destroy,
+    Size,
+    Stat,
+    Digest,
+    Versions,
+    Drop,
+    Create,
+    Freeze,
+    Read,
+    Insert,
+    Append,
+    Replace,
+    Delete,
+    Group,
+    Scan,
+    Next,
+}
+
+/// The command that a word begins.
+pub(crate) fn verb_of(word: &[u8]) -> Option<Verb>
+    ensures { MatchOption result ((v : Verb) → bytes_eq word.now (word_of v) ≡ false) (λ v. bytes_eq word.now (word_of v) ≡ true) }
+{
+    if is_word(word, "begin") {
+        Some(Verb::Begin)
+    } else if is_word(word, "commit") {
+        Some(Verb::Commit)
+    } else if is_word(word, "abort") {
+        Some(Verb::Abort)
+    } else if is_word(word, "checkpoint") {
+        Some(Verb::Checkpoint)
+    } else if is_word(word, "log") {
+        Some(Verb::Log)
+    } else if is_word(word, "files") {
+        Some(Verb::Files)
+    } else if is_word(word, "space") {
+        Some(Verb::Space)
+    } else if is_word(word, "file") {
+        Some(Verb::File)
+    } else if is_word(word, "unfile") {
+        Some(Verb::Unfile)
+    } else if is_word(word, "list") {
+        Some(Verb::List)
+    } else if is_word(word, "close") {
+        Some(Verb::Close)
+    } else if is_word(word, "destroy") {
+        Some(Verb::Destroy)
+    } else if is_word(word, "size") {
+        Some(Verb::Size)
+    } else if is_word(word, "stat") {
+        Some(Verb::Stat)
+    } else if is_word(word, "digest") {
+        Some(Verb::Digest)
+    } else if is_word(word, "versions") {
+        Some(Verb::Versions)
+    } else if is_word(word, "drop") {
+        Some(Verb::Drop)
+    } else if is_word(word, "create") {
+        Some(Verb::Create)
+    } else if is_word(word, "freeze") {
+        Some(Verb::Freeze)
+    } else if is_word(word, "read") {
+        Some(Verb::Read)
+    } else if is_word(word, "insert") {
+        Some(Verb::Insert)
+    } else if is_word(word, "append") {
+        Some(Verb::Append)
+    } else if is_word(word, "replace") {
+        Some(Verb::Replace)
+    } else if is_word(word, "delete") {
+        Some(Verb::Delete)
+    } else if is_word(word, "group") {
+        Some(Verb::Group)
+    } else if is_word(word, "scan") {
+        Some(Verb::Scan)
+    } else if is_word(word, "next") {
+        Some(Verb::Next)
+    } else {
+        None
+    }
+}
+
+/// A command of the verb, of nothing.
+fn bare(verb: Verb) -> Command<'static>
+    ensures { request_of result ≡ bare verb }
+{
+    match verb {
+        Verb::Begin => Command::Begin,
+        Verb::Commit => Command::Commit,
+        Verb::Abort => Command::Abort,
+        Verb::Checkpoint => Command::Checkpoint,
+        Verb::Log => Command::Log,
+        Verb::Files => Command::Files,
+        Verb::Space => Command::Space,
+        Verb::File => Command::File { name: b"" },
+        Verb::Unfile => Command::Unfile { name: b"" },
+        Verb::List => Command::List { name: b"" },
+        Verb::Close => Command::Close { name: b"" },
+        Verb::Destroy => Command::Destroy {
+            x: Subject::Name(b""),
+        },
+        Verb::Size => Command::Size {
+            x: Subject::Name(b""),
+        },
+        Verb::Stat => Command::Stat {
+            x: Subject::Name(b""),
+        },
+        Verb::Digest => Command::Digest {
+            x: Subject::Name(b""),
+        },
+        Verb::Versions => Command::Versions {
+            x: Subject::Name(b""),
+        },
+        Verb::Drop => Command::DropVersion {
+            x: Subject::Name(b""),
+        },
+        Verb::Create => Command::Create {
+            file: b"",
+            bind: b"",
+        },
+        Verb::Freeze => Command::Freeze {
+            x: Subject::Name(b""),
+            bind: b"",
+        },
+        Verb::Read => Command::Read {
+            x: Subject::Name(b""),
+            pos: 0,
+            len: 0,
+        },
+        Verb::Insert => Command::Insert {
+            x: Subject::Name(b""),
+            pos: 0,
+            given: b"",
+        },
+        Verb::Append => Command::Append {
+            x: Subject::Name(b""),
+            given: b"",
+        },
+        Verb::Replace => Command::Replace {
+            x: Subject::Name(b""),
+            pos: 0,
+            given: b"",
+        },
+        Verb::Delete => Command::Delete {
+            x: Subject::Name(b""),
+            pos: 0,
+            len: 0,
+        },
+        Verb::Group => Command::Group {
+            name: b"",
+            frames: 0,
+            mru: false,
+        },
+        Verb::Scan => Command::Scan {
+            x: Subject::Name(b""),
+            name: b"",
+            group: None,
+        },
+        Verb::Next => Command::Next { name: b"", len: 0 },
+    }
+}
+
+/// Whether the commands of the verb are built.
+pub(crate) fn is_built_verb(verb: Verb) -> bool
+    ensures { result ≡ is_built (bare verb) }
+{
+    is_built(&bare(verb))
+}
