@@ -1,0 +1,56 @@
+use Rattle.std.proofs.Common.{◌≡◌, ◌+◌, take, drop, ◌∙◌, ap, arith, length, ℕ, List}
+use Rattle.disk_model.specs.Runs.{honest_on}
+use Rattle.ex_base.specs.Sizes.{most_page}
+use Rattle.op_log.specs.declared.record.LogRecord.{LogRecord}
+use Rattle.op_log.specs.Records.{record_len}
+use Rattle.op_log.specs.Log.{Adding}
+use Rattle.op_log.specs.Gates.{has_log}
+use Rattle.op_log.specs.State.{LogState, Prolongs}
+use Rattle.op_log.proofs.Moments.{spelled, keeps_settled, settled_says}
+use Rattle.op_log.proofs.log.OpLog.append.Given as given
+use Rattle.op_log.proofs.log.OpLog.append.Goals as goal
+use Rattle.op_log.proofs.log.OpLog.append.Goals.{After-write_record}
+
+-- what is written is the record, at the log's end
+adding : (g : given.Over) (c : After-write_record g) (rs : List LogRecord) → Prolongs c.args.self.now rs c.args.item.now
+    → Adding c.args.self.now.geometry rs c.args.item.now (c.self.inside.geometry.page_size + c.self.inside.end) (take c.length_of-len.result c.deref.result.now)
+adding g c rs prolongs =
+    let s = c.args.self.now in
+    let r = c.args.item.now in
+    let len : c.length_of-len.result ≡ record_len r = omega (arith, c.length_of-len.ensures, c.requires.fits, most_page s.geometry) in
+    let out : length c.encode.new.out ≡ c.self.inside.buffer.len = omega (arith, c.encode.auto.out, c.deref_mut.ensures.len) in
+    record {
+      gate_is = ap (λ (t : LogState). t.geometry.page_size + t.end) c.self.view_is ∙ ap (λ (e : ℕ). s.geometry.page_size + e) prolongs.at_end;
+      bytes_are = spelled r c.length_of-len.result c.encode.result c.self.inside.buffer.len c.deref_mut.result.now c.encode.new.out (drop (length c.encode.new.out) c.self.inside.buffer.items) c.deref.result.now
+          len c.encode.ensures.end out c.deref.ensures.value c.encode.ensures.puts;
+      fits = omega (arith, c.requires.fits, prolongs.at_end);
+      is_record = c.requires.record;
+      follow = prolongs.follow;
+    }
+
+pub returns-in_err-write_record-clause-any_moment : goal.returns-in_err-write_record-clause-any_moment
+returns-in_err-write_record-clause-any_moment g c rs prolongs keeps =
+    let adds = adding g (goal.at.returns-in_err-write_record-clause-any_moment g c).After-write_record rs prolongs in
+    c.write_record.ensures.any_moment c.args.self.now.geometry rs c.args.item.now adds (has_log c.args.self.now.geometry (g.D.World.outside c.args.disk.now) c.requires.room) keeps
+
+pub returns-clause-any_moment : goal.returns-clause-any_moment
+returns-clause-any_moment g c rs prolongs keeps =
+    let adds = adding g (goal.at.returns-clause-any_moment g c).After-write_record rs prolongs in
+    c.write_record.ensures.any_moment c.args.self.now.geometry rs c.args.item.now adds (has_log c.args.self.now.geometry (g.D.World.outside c.args.disk.now) c.requires.room) keeps
+
+pub returns-clause-says : goal.returns-clause-says
+returns-clause-says g c rs prolongs says =
+    let adds = adding g (goal.at.returns-clause-says g c).After-write_record rs prolongs in
+    c.in_ok-write_record.ensures.says c.args.self.now.geometry rs c.args.item.now adds (has_log c.args.self.now.geometry (g.D.World.outside c.args.disk.now) c.requires.room) says
+
+pub returns-clause-keeps : goal.returns-clause-keeps
+returns-clause-keeps g c rs prolongs keeps =
+    let adds = adding g (goal.at.returns-clause-keeps g c).After-write_record rs prolongs in
+    let says = c.in_ok-write_record.ensures.says c.args.self.now.geometry rs c.args.item.now adds (has_log c.args.self.now.geometry (g.D.World.outside c.args.disk.now) c.requires.room) keeps.on_disk in
+    keeps_settled (g.D.World.outside c.write_record.new.disk) (honest_on c.write_record.ensures.changes.only.goes keeps.honest) says (c.in_ok-write_record.ensures.settled keeps.honest)
+
+pub returns-clause-after : goal.returns-clause-after
+returns-clause-after g c rs prolongs keeps x here =
+    let adds = adding g (goal.at.returns-clause-after g c).After-write_record rs prolongs in
+    let says = c.in_ok-write_record.ensures.says c.args.self.now.geometry rs c.args.item.now adds (has_log c.args.self.now.geometry (g.D.World.outside c.args.disk.now) c.requires.room) keeps.on_disk in
+    settled_says (g.D.World.outside c.write_record.new.disk) x says (c.in_ok-write_record.ensures.settled keeps.honest) here

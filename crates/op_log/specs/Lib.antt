@@ -1,0 +1,7 @@
+pub mod AfterLog
+pub mod Decoding
+pub mod Gates
+pub mod Log
+pub mod Records
+pub mod State
+pub mod Writing

@@ -1,0 +1,160 @@
+//! A record is read.
+ghost use Rattle.std.specs.Prelude.{◌≡◌, ◌+◌, ◌*◌, ◌≤◌, length, IfOk, MatchOption};
+ghost use Rattle.ex_base.specs.Bytes.{part};
+ghost use Rattle.op_log.specs.Records.{note_bytes, image_bytes, number_bytes};
+ghost use Rattle.op_log.specs.Decoding.{FitsNote, FitsImage, FitsNumber, Reads, Begins, NoRecord, HasHead};
+
+use crate::layout::{HEAD_LEN, NOTE_LEN, NOTES_MOST, NUMBER_LEN, PAGES_MOST, WITH_IMAGES};
+use crate::record::{LogRecord, Notes, PageImage, PageImages, PageList};
+use crate::valid::is_valid;
+use ex_base::{Geometry, Image, Items, Oid, OpNote, PageNo, get_u16, get_u32, get_u64};
+use std::alloc::{AllocError, Global};
+
+/// The numbers at the head of a record.
+#[derive(Clone, Copy)]
+pub struct Head {
+    pub txn: u64,
+    pub notes: usize,
+    pub pages: usize,
+    pub freed: usize,
+}
+
+fn note_at(bytes: &[u8], at: usize) -> OpNote
+    requires { at + 31 ≤ length bytes.now }
+    ensures spelled { note_bytes result ≡ part bytes.now at 31 }
+    ensures fits { FitsNote result }
+{
+    OpNote {
+        kind: bytes[at],
+        oid: Oid {
+            page: PageNo(get_u32(bytes, at + 1)),
+            slot: get_u16(bytes, at + 5),
+            unique: get_u64(bytes, at + 7),
+        },
+        first: get_u64(bytes, at + 15),
+        second: get_u64(bytes, at + 23),
+    }
+}
+
+fn read_notes(alloc: Global, bytes: &[u8], start: usize, count: usize) -> Result<Notes, AllocError>
+    requires { start + 31 * count ≤ length bytes.now }
+    ensures { IfOk result (λ notes. Reads FitsNote note_bytes bytes.now start 31 count notes) }
+{
+    let mut notes = Items::make(alloc);
+    for i in 0..count {
+        notes.push(note_at(bytes, start + NOTE_LEN * i))?;
+    }
+    Ok(notes)
+}
+
+fn image_at(
+    alloc: Global,
+    geometry: &Geometry,
+    bytes: &[u8],
+    at: usize,
+) -> Result<PageImage, AllocError>
+    requires { at + (geometry.now.page_size + 4) ≤ length bytes.now }
+    ensures { IfOk result (λ entry. (image_bytes entry ≡ part bytes.now at (geometry.now.page_size + 4)) × FitsImage geometry.now entry) }
+{
+    let page = PageNo(get_u32(bytes, at));
+    let from = at + NUMBER_LEN;
+    let image = Image::of(alloc, &bytes[from..from + geometry.page_size as usize])?;
+    Ok(PageImage { page, image })
+}
+
+fn read_images(
+    alloc: Global,
+    geometry: &Geometry,
+    bytes: &[u8],
+    start: usize,
+    count: usize,
+) -> Result<PageImages, AllocError>
+    requires { start + (geometry.now.page_size + 4) * count ≤ length bytes.now }
+    ensures { IfOk result (λ entries. Reads (FitsImage geometry.now) image_bytes bytes.now start (geometry.now.page_size + 4) count entries) }
+{
+    let width = geometry.page_size as usize + NUMBER_LEN;
+    let mut entries = Items::make(alloc);
+    for i in 0..count {
+        entries.push(image_at(alloc, geometry, bytes, start + width * i)?)?;
+    }
+    Ok(entries)
+}
+
+fn read_numbers(
+    alloc: Global,
+    bytes: &[u8],
+    start: usize,
+    count: usize,
+) -> Result<PageList, AllocError>
+    requires { start + 4 * count ≤ length bytes.now }
+    ensures { IfOk result (λ pages. Reads FitsNumber number_bytes bytes.now start 4 count pages) }
+{
+    let mut pages = Items::make(alloc);
+    for i in 0..count {
+        pages.push(PageNo(get_u32(bytes, start + NUMBER_LEN * i)))?;
+    }
+    Ok(pages)
+}
+
+/// The head that the bytes behind a gate begin with, where a record of these counts can stand there.
+fn read_head(geometry: &Geometry, bytes: &[u8]) -> Option<Head>
+    ensures { MatchOption result (NoRecord geometry.now bytes.now) (λ head. HasHead geometry.now bytes.now head) }
+{
+    if bytes.len() < HEAD_LEN + 1 {
+        return None;
+    }
+    let kind = bytes[0];
+    let len = get_u32(bytes, 1) as usize;
+    let txn = get_u64(bytes, 5);
+    let notes = get_u16(bytes, 13) as usize;
+    let pages = get_u16(bytes, 15) as usize;
+    let freed = get_u16(bytes, 17) as usize;
+    if kind != WITH_IMAGES {
+        return None;
+    }
+    if notes > NOTES_MOST {
+        return None;
+    }
+    if pages + freed > PAGES_MOST {
+        return None;
+    }
+    let images = (geometry.page_size as usize + NUMBER_LEN) * pages;
+    if len != HEAD_LEN + NOTE_LEN * notes + images + NUMBER_LEN * freed + 1 {
+        return None;
+    }
+    if len > bytes.len() {
+        return None;
+    }
+    Some(Head {
+        txn,
+        notes,
+        pages,
+        freed,
+    })
+}
+
+/// The record that the bytes behind its gate begin with, where one byte follows for the next gate.
+pub fn decode(
+    alloc: Global,
+    geometry: &Geometry,
+    bytes: &[u8],
+) -> Result<Option<LogRecord>, AllocError>
+    ensures { IfOk result (λ found. MatchOption found (NoRecord geometry.now bytes.now) (λ r. Begins geometry.now bytes.now r)) }
+{
+    let Some(head) = read_head(geometry, bytes) else {
+        return Ok(None);
+    };
+    let pages_at = HEAD_LEN + NOTE_LEN * head.notes;
+    let freed_at = pages_at + (geometry.page_size as usize + NUMBER_LEN) * head.pages;
+    let item = LogRecord {
+        txn: head.txn,
+        notes: read_notes(alloc, bytes, HEAD_LEN, head.notes)?,
+        pages: read_images(alloc, geometry, bytes, pages_at, head.pages)?,
+        freed: read_numbers(alloc, bytes, freed_at, head.freed)?,
+    };
+    if is_valid(geometry, &item) {
+        Ok(Some(item))
+    } else {
+        Ok(None)
+    }
+}
