@@ -1,0 +1,88 @@
+-- An area's lists and numbers stay sound when a unit is taken or given back.
+use Rattle.std.proofs.Common.{◌≡◌, ℕ, ◌+◌, ◌/◌, ◌-◌, ◌<◌, ◌≤◌, ◌≢◌, inl, inr, Bool, true, false, List, length, get_or, ap, ◌∙◌, arith, get_or-set_same, get_or-set_other, length-set}
+use Rattle.std.proofs.Math.ListN.{set}
+use Rattle.std.proofs.lemmas.Bool.{cases_eq}
+use Rattle.page_alloc.specs.Flags.{IsFirstFree}
+use Rattle.page_alloc.specs.Hints.{IsHint, IsSound}
+use Rattle.page_alloc.proofs.Counts.{count_free-take, count_free-give}
+
+-- a used unit stays used when another is taken
+used_more : (used : List Bool) (at k : ℕ) → at < length used → get_or used k true ≡ true → get_or (set used at true) k true ≡ true
+used_more used at k h e = elim (cases_eq k at) [
+  | inl same ↦ rw same (get_or-set_same used at true true h)
+  | inr other ↦ rw (get_or-set_other used at k true true other) e
+]
+
+-- what is free after another is taken was free
+free_before : (used : List Bool) (at k : ℕ) → at < length used → get_or (set used at true) k true ≡ false → get_or used k true ≡ false
+free_before used at k h e = elim (cases_eq k at) [
+  | inl same ↦ let t : get_or (set used at true) at true ≡ true = get_or-set_same used at true true h in
+      let u : get_or (set used at true) at true ≡ false = rw same at e in cc
+  | inr other ↦ rw (get_or-set_other used at k true true other) at e
+]
+
+hints_taken : (size : ℕ) (hints used : List Bool) (at : ℕ) → at < length used → IsHint size hints used → IsHint size hints (set used at true)
+hints_taken size hints used at h hint = record { sound = λ k e. used_more used at k h (hint.sound k e) }
+
+-- no hint of the unit's run is left
+hints_given : (size : ℕ) (hints used : List Bool) (at : ℕ) → at / size < length hints → IsHint size hints used → IsHint size (set hints (at / size) false) (set used at false)
+hints_given size hints used at h hint = record {
+  sound = λ k e. elim (cases_eq (k / size) (at / size)) [
+    | inl same ↦ let t : get_or (set hints (at / size) false) (at / size) false ≡ false = get_or-set_same hints (at / size) false false h in
+        let u : get_or (set hints (at / size) false) (at / size) false ≡ true = rw same at e in cc
+    | inr other ↦
+        let n : k ≢ at = λ s. other (ap (λ x. x / size) s) in
+        rw (get_or-set_other used at k false true n) (hint.sound k (rw (get_or-set_other hints (at / size) (k / size) false false other) at e))
+  ];
+}
+
+pub sound_adopt : (used : List Bool) (refs : List ℕ) (full crowded : List Bool) (start count at : ℕ) → IsSound used refs full crowded start count → at < length used → get_or used at true ≡ false → IsSound (set used at true) refs full crowded start (count - 1)
+sound_adopt used refs full crowded start count at s inside free =
+    let len : length (set used at true) ≡ length used = length-set used at true in
+    record {
+      small = omega (arith, s.small);
+      same_len = cc (s.same_len);
+      groups = rw len s.groups;
+      blocks = rw len s.blocks;
+      group_hints = hints_taken 128 full used at inside s.group_hints;
+      block_hints = hints_taken 16384 crowded used at inside s.block_hints;
+      low = λ k h. used_more used at k inside (s.low k h);
+      free = omega (arith, count_free-take used at inside free, s.free);
+      unowned = λ k e. s.unowned k (free_before used at k inside e);
+    }
+
+pub sound_take : (used : List Bool) (refs : List ℕ) (full crowded full_now crowded_now : List Bool) (start count at : ℕ) → IsSound used refs full crowded start count → IsFirstFree used at → length full_now ≡ length full → length crowded_now ≡ length crowded → IsHint 128 full_now used → IsHint 16384 crowded_now used → IsSound (set used at true) refs full_now crowded_now (at + 1) (count - 1)
+sound_take used refs full crowded full_now crowded_now start count at s first fl cl gh bh =
+    let len : length (set used at true) ≡ length used = length-set used at true in
+    record {
+      small = omega (arith, s.small);
+      same_len = cc (s.same_len);
+      groups = rw len (fl ∙ s.groups);
+      blocks = rw len (cl ∙ s.blocks);
+      group_hints = hints_taken 128 full_now used at first.inside gh;
+      block_hints = hints_taken 16384 crowded_now used at first.inside bh;
+      low = λ k h. elim (cases_eq k at) [
+        | inl same ↦ rw same (get_or-set_same used at true true first.inside)
+        | inr other ↦ used_more used at k first.inside (first.others k (omega arith))
+      ];
+      free = omega (arith, count_free-take used at first.inside first.free, s.free);
+      unowned = λ k e. s.unowned k (free_before used at k first.inside e);
+    }
+
+pub sound_give : (used : List Bool) (refs : List ℕ) (full crowded : List Bool) (start count at next : ℕ) → IsSound used refs full crowded start count → at < length used → get_or used at true ≡ true → next ≤ start → next ≤ at → IsSound (set used at false) (set refs at 0) (set full (at / 128) false) (set crowded (at / 16384) false) next (count + 1)
+sound_give used refs full crowded start count at next s inside was before below =
+    let len : length (set used at false) ≡ length used = length-set used at false in
+    record {
+      small = omega (arith, s.small);
+      same_len = cc (length-set refs at 0, s.same_len);
+      groups = rw (len, length-set full (at / 128) false) s.groups;
+      blocks = rw (len, length-set crowded (at / 16384) false) s.blocks;
+      group_hints = hints_given 128 full used at (omega (arith, s.groups)) s.group_hints;
+      block_hints = hints_given 16384 crowded used at (omega (arith, s.blocks)) s.block_hints;
+      low = λ k h. let n : k ≢ at = omega arith in rw (get_or-set_other used at k false true n) (s.low k (omega arith));
+      free = omega (arith, count_free-give used at inside was, s.free);
+      unowned = λ k e. elim (cases_eq k at) [
+        | inl same ↦ let h : at < length refs = omega (arith, s.same_len) in rw same (get_or-set_same refs at 0 0 h)
+        | inr other ↦ rw (get_or-set_other refs at k 0 0 other) (s.unowned k (rw (get_or-set_other used at k false true other) at e))
+      ];
+    }

@@ -1,0 +1,138 @@
+// The units of one area, by their place in it.
+ghost use Rattle.std.specs.Prelude.{◌≡◌, ℕ, ◌+◌, ◌-◌, ◌<◌, ◌≤◌, ◌↔◌, IsTrue, true, false, length, slice_index_or, slice_set, IfOk, replicate, if◌then◌else◌, ◌&&◌};
+ghost use Rattle.ex_base.specs.Ports.{with_ref, without_ref};
+ghost use Rattle.page_alloc.specs.Flags.{IsFirstFree, count_free};
+
+use crate::search::{BLOCK, GROUP, first_free};
+use std::alloc::{AllocError, Global};
+use std::marker::Model;
+
+#[derive(Drop)]
+pub struct AreaUnits {
+    used: Vec<bool>,
+    refs: Vec<u32>,
+    // of each group and of each block, whether all its units are known to be used
+    full: Vec<bool>,
+    crowded: Vec<bool>,
+    // no free unit lies before it
+    low: usize,
+    free: u32,
+}
+
+impl Model for AreaUnits {
+    ghost use Rattle.ex_base.specs.Ports.{with_ref, without_ref};
+    ghost use Rattle.page_alloc.specs.Flags.{UnitFlags};
+    ghost use Rattle.page_alloc.specs.Hints.{IsSound};
+
+    ghost Value = { UnitFlags };
+
+    ghost view = { λ a. record { used = a.used.items; refs = a.refs.items } };
+
+    ghost invariant = { λ a. IsSound a.used.items a.refs.items a.full.items a.crowded.items a.low a.free };
+}
+
+impl AreaUnits {
+    pub fn make(alloc: Global, count: usize) -> Result<AreaUnits, AllocError>
+        requires { count ≤ 4000000 }
+        ensures used { IfOk result (λ a. a.used ≡ replicate count false) }
+        ensures refs { IfOk result (λ a. a.refs ≡ replicate count 0) }
+    {
+        Ok(AreaUnits {
+            used: vec![in alloc; false; count]?,
+            refs: vec![in alloc; 0; count]?,
+            full: vec![in alloc; false; count / GROUP + 1]?,
+            crowded: vec![in alloc; false; count / BLOCK + 1]?,
+            low: 0,
+            free: count as u32,
+        })
+    }
+
+    pub fn free(&self) -> u32
+        ensures { result ≡ count_free self.now.used }
+    {
+        self.free
+    }
+
+    pub fn is_used(&self, at: usize) -> bool
+        requires { at < length self.now.used }
+        ensures { result ≡ slice_index_or self.now.used at true }
+    {
+        self.used[at]
+    }
+
+    /// Takes the first free unit.
+    pub fn take(&mut self) -> usize
+        requires { 0 < count_free self.old.used }
+        ensures first { IsFirstFree self.old.used result }
+        ensures used { self.new.used ≡ slice_set self.old.used result true }
+        ensures refs { self.new.refs ≡ self.old.refs }
+        ensures fresh { slice_index_or self.old.refs result 0 ≡ 0 }
+    {
+        let at = first_free(&self.used, &mut self.full, &mut self.crowded, self.low);
+        self.used[at] = true;
+        self.low = at + 1;
+        self.free -= 1;
+        at
+    }
+
+    /// Makes a free unit used.
+    pub fn adopt(&mut self, at: usize)
+        requires inside { at < length self.old.used }
+        requires unused { slice_index_or self.old.used at true ≡ false }
+        ensures used { self.new.used ≡ slice_set self.old.used at true }
+        ensures refs { self.new.refs ≡ self.old.refs }
+        ensures fresh { slice_index_or self.old.refs at 0 ≡ 0 }
+    {
+        self.used[at] = true;
+        self.free -= 1;
+    }
+
+    /// Gives a used unit back.
+    pub fn give(&mut self, at: usize)
+        requires inside { at < length self.old.used }
+        requires used { slice_index_or self.old.used at true ≡ true }
+        ensures used { self.new.used ≡ slice_set self.old.used at false }
+        ensures refs { self.new.refs ≡ slice_set self.old.refs at 0 }
+    {
+        self.used[at] = false;
+        self.refs[at] = 0;
+        self.full[at / GROUP] = false;
+        self.crowded[at / BLOCK] = false;
+        self.low = self.low.min(at);
+        self.free += 1;
+    }
+
+    pub fn refs(&self, at: usize) -> u32
+        requires { at < length self.now.used }
+        ensures refs { result ≡ slice_index_or self.now.refs at 0 }
+        ensures unowned { slice_index_or self.now.used at true ≡ false → result ≡ 0 }
+    {
+        self.refs[at]
+    }
+
+    /// Adds a reference to a used unit, unless it has the most that fit.
+    pub fn add_ref(&mut self, at: usize)
+        requires { at < length self.old.used }
+        ensures used { self.new.used ≡ self.old.used }
+        ensures refs { self.new.refs ≡ slice_set self.old.refs at (with_ref (slice_index_or self.old.used at true) (slice_index_or self.old.refs at 0)) }
+    {
+        if self.used[at] && self.refs[at] < u32::MAX {
+            self.refs[at] += 1;
+        }
+    }
+
+    /// Takes a reference away, where there is one; true where it was the last.
+    pub fn drop_ref(&mut self, at: usize) -> bool
+        requires { at < length self.old.used }
+        ensures last { IsTrue result ↔ (slice_index_or self.old.refs at 0 ≡ 1) }
+        ensures used { self.new.used ≡ self.old.used }
+        ensures refs { self.new.refs ≡ slice_set self.old.refs at (without_ref (slice_index_or self.old.refs at 0)) }
+    {
+        let count = self.refs[at];
+        if count == 0 {
+            return false;
+        }
+        self.refs[at] = count - 1;
+        count == 1
+    }
+}
