@@ -1,0 +1,38 @@
+-- What a contract sees of the groups of a session, a list of groups.
+use Rattle.std.specs.Prelude.{◌≡◌, ℕ, List, length, map, All, nat_eq, Option, Some, IsSome, slice_get, slice_set}
+use Rattle.std.specs.Map.{lookup}
+use Rattle.buffer_groups.specs.Frames.{Frames, Lends, Brought, NotBrought, forgotten}
+
+-- Each group without the frame of a page.
+abbrev pub forgotten_in_all : ℕ → List Frames → List Frames
+forgotten_in_all page groups = map (forgotten page) groups
+
+-- The group at an index has a frame of the page.
+pub record HasFrame (groups : List Frames) (index page : ℕ) : Type 0 where
+  pub group : Frames
+  pub at : slice_get groups index ≡ Some group
+  pub found : IsSome (lookup (nat_eq page) group.entries)
+
+-- The group at an index brought the page into its first frame, with these bytes. The other groups stay.
+pub record GroupBrought (disk : Option (List ℕ)) (old new : List Frames) (index page : ℕ) : Type 0 where
+  pub before : Frames
+  pub after : Frames
+  pub bytes : List ℕ
+  pub at : slice_get old index ≡ Some before
+  pub groups : new ≡ slice_set old index after
+  pub brought : Brought disk before after page bytes
+  pub has : HasFrame new index page
+
+-- The group at an index did not bring the page. The other groups stay.
+pub record GroupNotBrought (old new : List Frames) (index page : ℕ) : Type 0 where
+  pub before : Frames
+  pub after : Frames
+  pub at : slice_get old index ≡ Some before
+  pub groups : new ≡ slice_set old index after
+  pub unchanged : NotBrought before after page
+
+-- Groups that lent the disk's bytes still do, and stay as many and of the same page size.
+pub record GroupsKeep (disk : Option (List ℕ)) (old new : List Frames) : Type 0 where
+  pub lends : All (Lends disk) old → All (Lends disk) new
+  pub sizes : (n : ℕ) → All (λ (f : Frames). f.page_size ≡ n) old → All (λ (f : Frames). f.page_size ≡ n) new
+  pub len : length new ≡ length old

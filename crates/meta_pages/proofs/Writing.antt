@@ -1,0 +1,178 @@
+-- Writing images home.
+use Rattle.std.proofs.Common.{◌≡◌, ◌≤◌, ◌<◌, ◌+◌, ◌*◌, ℕ, Bool, true, false, cond, List, [], ◌∷◌, length, All, Option, Some, None, IsSome, nat_eq, refl, sym, ap, subst, ◌∙◌, eq-eqb, suc, get_or, drop, drop-cons, arith}
+use Rattle.std.specs.Map.{lookup}
+use Rattle.std.proofs.Common.{◌≢◌, unwrap_or, eqb-true}
+use Rattle.std.proofs.Math.Nat.{mul-le-mul_right, suc-mul}
+use Rattle.std.proofs.lemmas.List.Elements.{All-head, All-tail, All-weaker}
+use Rattle.ex_base.specs.Bytes.{part, repl, Apart, part-repl, length-repl, repl_same_outside}
+use Rattle.ex_base.specs.Sizes.{volume_bytes}
+use Rattle.ex_base.specs.Area.{InPageArea}
+use Rattle.disk_model.specs.Outside.{IsWorld}
+use Rattle.disk_model.specs.Runs.{some_same}
+use Rattle.buffer_groups.specs.Frames.{page_of}
+use Rattle.buffer_groups.proofs.Kept.{part_apart, pages_apart}
+use Rattle.disk_model.specs.Outside.{Outside}
+use Rattle.disk_model.specs.Calls.{Tears}
+use Rattle.disk_model.specs.Changes.{ChangesWithin, InRange, changes_trans, changes_wider}
+use Rattle.std.proofs.Common.{Result, Ok, Err, OnOk, OnErr}
+use Rattle.std.proofs.lemmas.List.Elements.{All-contains}
+use Rattle.lru.proofs.CallerLemmas.{Contains-lookup}
+use Rattle.ex_base.specs.declared.geometry.Geometry.{Geometry}
+use Rattle.meta_pages.specs.Rows.{with_row, without_row, IsRising}
+use Rattle.meta_pages.specs.Overlays.{AreKept, IsPageRow, IsWorkingRow}
+use Rattle.meta_pages.proofs.RowLists.{few_rising, none_above, rising_with, rising_without, All-with_row, All-without_row}
+use Rattle.meta_pages.specs.Homes.{InHomes, homes_written}
+
+pub torn_page : (a b : Outside) (at size n : ℕ) → n ≡ size → Tears at n a b → Tears at size a b
+torn_page a b at size n same tears = subst (λ m. Tears at m a b) same tears
+
+-- the first home
+pub home_first : (size : ℕ) (row : ℕ × List ℕ) (rows : List (ℕ × List ℕ)) (i : ℕ) → InRange (row.0 * size) size i → InHomes size (row ∷ rows) i
+home_first size row rows i in_it = (row.0, found, in_it)
+  where
+    found : IsSome (lookup (nat_eq row.0) (row ∷ rows))
+    found = rw (eq-eqb row.0 row.0 refl) refl
+
+home_later : (size : ℕ) (row : ℕ × List ℕ) (rows : List (ℕ × List ℕ)) (i : ℕ) → InHomes size rows i → InHomes size (row ∷ rows) i
+home_later size row rows i in_it = (in_it.0, found, in_it.2)
+  where
+    found : IsSome (lookup (nat_eq in_it.0) (row ∷ rows))
+    found = elim (nat_eq in_it.0 row.0) as (λ b. IsSome (cond b (Some row.1) (lookup (nat_eq in_it.0) rows))) [ true ↦ refl | false ↦ in_it.1 ]
+
+pub homes_first : {a b : Outside} (size : ℕ) (row : ℕ × List ℕ) (rows all : List (ℕ × List ℕ)) → all ≡ row ∷ rows
+    → ChangesWithin (InRange (row.0 * size) size) a b → ChangesWithin (InHomes size all) a b
+homes_first size row rows all is one = rw is (changes_wider (InRange (row.0 * size) size) (InHomes size (row ∷ rows)) one (home_first size row rows))
+
+pub homes_on : {a b c : Outside} (size : ℕ) (row : ℕ × List ℕ) (rows all : List (ℕ × List ℕ)) → all ≡ row ∷ rows
+    → ChangesWithin (InRange (row.0 * size) size) a b → ChangesWithin (InHomes size rows) b c → ChangesWithin (InHomes size all) a c
+homes_on size row rows all is one two =
+    changes_trans (homes_first size row rows all is one) (rw is (changes_wider (InHomes size rows) (InHomes size (row ∷ rows)) two (home_later size row rows)))
+
+pub rows_on : (rows : List (ℕ × List ℕ)) (at : ℕ) (row : ℕ × List ℕ) → at < length rows → row ≡ get_or rows at row → drop at rows ≡ row ∷ drop (at + 1) rows
+rows_on rows at row h is =
+    let on : at + 1 ≡ suc at = omega arith in
+    drop-cons rows at row h ∙ ap (λ (r : ℕ × List ℕ). r ∷ drop (suc at) rows) (sym is) ∙ ap (λ n. row ∷ drop n rows) (sym on)
+
+pub page_row_len : (g : Geometry) (page : ℕ) (rows r : List (ℕ × List ℕ)) (b s : List ℕ) (n : ℕ) → r ≡ rows → All (IsPageRow g) rows → Some b ≡ lookup (nat_eq page) r → s ≡ b → g.page_size ≡ n → length s ≡ n
+page_row_len g page rows r b s n same all found is size =
+    let at = Contains-lookup (nat_eq page) rows b (ap (lookup (nat_eq page)) (sym same) ∙ sym found) in
+    ap length is ∙ (All-contains (IsPageRow g) rows (at.0, b) all at.1).1 ∙ size
+
+pub working_row_len : (g : Geometry) (page : ℕ) (rows r : List (ℕ × Option (List ℕ))) (b s : List ℕ) (n : ℕ) → r ≡ rows → All (IsWorkingRow g) rows → Some (Some b) ≡ lookup (nat_eq page) r → s ≡ b → g.page_size ≡ n → length s ≡ n
+working_row_len g page rows r b s n same all found is size =
+    let at = Contains-lookup (nat_eq page) rows (Some b) (ap (lookup (nat_eq page)) (sym same) ∙ sym found) in
+    ap length is ∙ (All-contains (IsWorkingRow g) rows (at.0, Some b) all at.1).1 ∙ size
+
+-- the invariant after a row was put, or not
+pub kept_put : {T E : Type 0} (r : Result T E) (g : Geometry) (page cap cap' : ℕ) (b : List ℕ) (rows now : List (ℕ × List ℕ)) (working : List (ℕ × Option (List ℕ))) → AreKept g rows working cap
+    → IsPageRow g (page, b) → OnOk r (now ≡ with_row page b rows) → OnErr r (now ≡ rows) → cap ≤ cap' → AreKept g now working cap'
+kept_put (Ok x) g page cap cap' b rows now working kept here ok err more = rw ok (record {
+  rising = rising_with page b rows kept.rising;
+  working_rising = kept.working_rising;
+  pages = All-with_row page (IsPageRow g) b rows here kept.pages;
+  working_pages = kept.working_pages;
+  room = omega (arith, kept.room, more);
+})
+kept_put (Err x) g page cap cap' b rows now working kept here ok err more = rw err (record {
+  rising = kept.rising;
+  working_rising = kept.working_rising;
+  pages = kept.pages;
+  working_pages = kept.working_pages;
+  room = omega (arith, kept.room, more);
+})
+
+pub working_put : {T E : Type 0} (r : Result T E) (g : Geometry) (page cap : ℕ) (b : Option (List ℕ)) (rows : List (ℕ × List ℕ)) (working now : List (ℕ × Option (List ℕ))) → AreKept g rows working cap
+    → IsWorkingRow g (page, b) → OnOk r (now ≡ with_row page b working) → OnErr r (now ≡ working) → AreKept g rows now cap
+working_put (Ok x) g page cap b rows working now kept here ok err = rw ok (record {
+  rising = kept.rising;
+  working_rising = rising_with page b working kept.working_rising;
+  pages = kept.pages;
+  working_pages = All-with_row page (IsWorkingRow g) b working here kept.working_pages;
+  room = kept.room;
+})
+working_put (Err x) g page cap b rows working now kept here ok err = rw err kept
+
+pub kept_taken : (g : Geometry) (page cap cap' : ℕ) (rows now : List (ℕ × List ℕ)) (working : List (ℕ × Option (List ℕ))) → AreKept g rows working cap
+    → now ≡ without_row page rows → cap ≤ cap' → AreKept g now working cap'
+kept_taken g page cap cap' rows now working kept is more = rw is (record {
+  rising = rising_without page rows kept.rising;
+  working_rising = kept.working_rising;
+  pages = All-without_row page (IsPageRow g) rows kept.pages;
+  working_pages = kept.working_pages;
+  room = omega (arith, kept.room, more);
+})
+
+-- ---- what stands at the homes afterwards
+
+-- each row lies inside the disk and is one page
+abbrev pub AreInside : ℕ → ℕ → List (ℕ × List ℕ) → Type 0
+AreInside size n rows = All (λ (row : ℕ × List ℕ). (row.0 * size + size ≤ n) × (length row.1 ≡ size)) rows
+
+home_step : (size : ℕ) (row : ℕ × List ℕ) (d : List ℕ) (p : ℕ) → (row.0 * size + size ≤ length d) × (length row.1 ≡ size) → p ≢ row.0
+    → page_of (repl d (row.0 * size) row.1) size p ≡ page_of d size p
+home_step size row d p inside differ =
+    let fits : row.0 * size + length row.1 ≤ length d = omega (arith, inside) in
+    part_apart (row.0 * size) (length row.1) d (repl d (row.0 * size) row.1) (p * size) size (repl_same_outside d (row.0 * size) row.1 fits)
+    (subst (λ n. Apart (p * size) size (row.0 * size) n) (sym inside.1) (pages_apart size row.0 p differ))
+
+home_stays : (size : ℕ) (rows : List (ℕ × List ℕ)) (d : List ℕ) (p : ℕ) → AreInside size (length d) rows → lookup (nat_eq p) rows ≡ None → page_of (homes_written size rows d) size p ≡ page_of d size p
+home_stays size [] d p inside none = refl
+home_stays size (row ∷ rows) d p inside none =
+    let first = All-head (λ (r : ℕ × List ℕ). (r.0 * size + size ≤ length d) × (length r.1 ≡ size)) row rows inside in
+    let rest = All-tail (λ (r : ℕ × List ℕ). (r.0 * size + size ≤ length d) × (length r.1 ≡ size)) row rows inside in
+    let long = length-repl d (row.0 * size) row.1 (omega (arith, first)) in
+    let next : AreInside size (length (repl d (row.0 * size) row.1)) rows = subst (λ n. AreInside size n rows) (sym long) rest in
+    (elim (nat_eq p row.0) as (λ b. nat_eq p row.0 ≡ b → cond b (Some row.1) (lookup (nat_eq p) rows) ≡ None → page_of (homes_written size rows (repl d (row.0 * size) row.1)) size p ≡ page_of d size p) [
+      | true ↦ λ t gone. absurd (some_none gone)
+      | false ↦ λ t gone. home_stays size rows (repl d (row.0 * size) row.1) p next gone ∙ home_step size row d p first (λ same. let e = eq-eqb p row.0 same in true_false e t)
+    ]) refl none
+  where
+    some_none : {x : List ℕ} → Some x ≡ None → ⊥
+    some_none e = cc
+
+    true_false : {x : Bool} → x ≡ true → x ≡ false → ⊥
+    true_false e t = cc
+
+home_is : (size : ℕ) (rows : List (ℕ × List ℕ)) (d : List ℕ) (p : ℕ) (image : List ℕ) → IsRising rows → AreInside size (length d) rows → lookup (nat_eq p) rows ≡ Some image → page_of (homes_written size rows d) size p ≡ image
+home_is size [] d p image rising inside found = absurd (cc)
+home_is size (row ∷ rows) d p image rising inside found =
+    let first = All-head (λ (r : ℕ × List ℕ). (r.0 * size + size ≤ length d) × (length r.1 ≡ size)) row rows inside in
+    let rest = All-tail (λ (r : ℕ × List ℕ). (r.0 * size + size ≤ length d) × (length r.1 ≡ size)) row rows inside in
+    let fits : row.0 * size + length row.1 ≤ length d = omega (arith, first) in
+    let long = length-repl d (row.0 * size) row.1 fits in
+    let next : AreInside size (length (repl d (row.0 * size) row.1)) rows = subst (λ n. AreInside size n rows) (sym long) rest in
+    (elim (nat_eq p row.0) as (λ b. nat_eq p row.0 ≡ b → cond b (Some row.1) (lookup (nat_eq p) rows) ≡ Some image → page_of (homes_written size rows (repl d (row.0 * size) row.1)) size p ≡ image) [
+      | true ↦ λ t is.
+          let same : p ≡ row.0 = eqb-true p row.0 t in
+          let image_is : row.1 ≡ image = cc in
+          home_stays size rows (repl d (row.0 * size) row.1) p next (none_above p row.0 rows (omega (arith, same)) rising.0)
+          ∙ ap (λ q. page_of (repl d (row.0 * size) row.1) size q) same
+          ∙ ap (λ n. part (repl d (row.0 * size) row.1) (row.0 * size) n) (sym first.1)
+          ∙ part-repl d (row.0 * size) row.1 fits ∙ image_is
+      | false ↦ λ t is. home_is size rows (repl d (row.0 * size) row.1) p image rising.1 next is
+    ]) refl found
+
+pub home_reads : (size : ℕ) (rows : List (ℕ × List ℕ)) (d : List ℕ) (p : ℕ) (o : Option (List ℕ)) → IsRising rows → AreInside size (length d) rows → lookup (nat_eq p) rows ≡ o → page_of (homes_written size rows d) size p ≡ unwrap_or o (page_of d size p)
+home_reads size rows d p None rising inside found = home_stays size rows d p inside found
+home_reads size rows d p (Some image) rising inside found = home_is size rows d p image rising inside found
+
+pub rows_inside : (g : Geometry) (n : ℕ) (rows : List (ℕ × List ℕ)) → All (IsPageRow g) rows → volume_bytes g ≤ n → AreInside g.page_size n rows
+rows_inside g n rows all fits = All-weaker (IsPageRow g) (λ (row : ℕ × List ℕ). (row.0 * g.page_size + g.page_size ≤ n) × (length row.1 ≡ g.page_size)) (λ row is. (inside row.0 is.0, is.1)) rows all
+  where
+    inside : (p : ℕ) → InPageArea g p → p * g.page_size + g.page_size ≤ n
+    inside p area =
+        let h : suc p * g.page_size ≤ (257 + g.pages + g.segs * g.seg_len) * g.page_size = mul-le-mul_right g.page_size (omega (arith, area.1)) in
+        omega (arith, suc-mul p g.page_size, h, fits)
+
+pub homes_read : (a b : Outside) (g : Geometry) (rows : List (ℕ × List ℕ)) → IsWorld a → IsRising rows → All (IsPageRow g) rows → volume_bytes g ≤ a.size
+    → ((d : List ℕ) → a.disk ≡ Some d → b.disk ≡ Some (homes_written g.page_size rows d))
+    → (d e : List ℕ) → a.disk ≡ Some d → b.disk ≡ Some e → (p : ℕ) → page_of e g.page_size p ≡ unwrap_or (lookup (nat_eq p) rows) (page_of d g.page_size p)
+homes_read a b g rows world rising all fits written d e was is p =
+    let long : length d ≡ a.size = world.whole d (world.held_may_stay d was) in
+    let same : e ≡ homes_written g.page_size rows d = some_same e (homes_written g.page_size rows d) (sym is ∙ written d was) in
+    ap (λ l. page_of l g.page_size p) same ∙ home_reads g.page_size rows d p (lookup (nat_eq p) rows) rising (subst (λ n. AreInside g.page_size n rows) (sym long) (rows_inside g a.size rows all fits)) refl
+
+-- there are no more touched pages than pages of the page area
+pub few_touched : (g : Geometry) (committed : List (ℕ × List ℕ)) (working : List (ℕ × Option (List ℕ))) (capacity : ℕ) → AreKept g committed working capacity → length working ≤ g.pages
+few_touched g committed working capacity kept =
+    omega (arith, few_rising 256 (257 + g.pages) working (omega arith) kept.working_rising (All-weaker (IsWorkingRow g) (λ (row : ℕ × Option (List ℕ)). (suc 256 ≤ row.0) × (row.0 < 257 + g.pages)) (λ row is. is.0) working kept.working_pages))

@@ -1,0 +1,5 @@
+pub mod Counting
+pub mod Forgetting
+pub mod Places
+pub mod Reading
+pub mod Taking

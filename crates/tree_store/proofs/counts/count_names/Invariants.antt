@@ -1,0 +1,5 @@
+use Rattle.tree_store.proofs.Counting.{CountedSoFar}
+use Rattle.tree_store.proofs.counts.count_names.Given as goal
+
+abbrev pub invariant-loop-index : goal.invariant-loop-index
+invariant-loop-index l = CountedSoFar l.geometry l.bytes l.fn.units l.pairs l.index l.units

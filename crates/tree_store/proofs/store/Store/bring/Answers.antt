@@ -1,0 +1,37 @@
+use Rattle.std.proofs.Common.{refl, ap}
+use Rattle.tree_store.specs.Stored.{unit_bytes}
+use Rattle.tree_store.proofs.Reading.{range_at, read_leads}
+use Rattle.tree_store.proofs.store.Store.bring.Goals as goal
+
+pub bring-requires-clause-range : goal.bring-requires-clause-range
+bring-requires-clause-range g c =
+    let s = c.args.self.now in
+    range_at s.geometry c.args.page.0 _ s.index s.groups.now _ refl c.requires.ready.group c.requires.page c.requires.ready.frames c.requires.ready.disk
+
+pub returns-in_err-bring-clause-kept : goal.returns-in_err-bring-clause-kept
+returns-in_err-bring-clause-kept g c =
+    let s = c.args.self.now in
+    let brought = c.bring.ensures in
+    record {
+      units = ap (unit_bytes s.geometry) brought.only.nothing.disk;
+      images = refl;
+      used = refl;
+      refs = refl;
+      held = refl;
+      free = refl;
+      leads = read_leads g.D.World.outside s.disk _ s.units s.groups _ s.index s.geometry refl refl brought.only brought.keeps;
+    }
+
+pub returns-clause-kept : goal.returns-clause-kept
+returns-clause-kept g c =
+    let s = c.args.self.now in
+    let brought = c.bring.ensures in
+    record {
+      units = ap (unit_bytes s.geometry) brought.only.nothing.disk;
+      images = refl;
+      used = refl;
+      refs = refl;
+      held = refl;
+      free = refl;
+      leads = read_leads g.D.World.outside s.disk _ s.units s.groups _ s.index s.geometry refl refl brought.only brought.keeps;
+    }

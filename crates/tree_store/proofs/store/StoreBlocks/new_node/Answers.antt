@@ -1,0 +1,96 @@
+use Rattle.std.proofs.Common.{◌≡◌, ◌≤◌, ℕ, Bool, true, false, length, refl, ap, sym, ◌∙◌, arith}
+use Rattle.ex_base.specs.declared.names.Area.TheVariants.{Page, Segment}
+use Rattle.page_alloc.specs.UnitSet.{used_at, updated}
+use Rattle.tree_store.specs.Stored.{unit_len}
+use Rattle.tree_store.proofs.Places.{area_unit, node_fits, page_len}
+use Rattle.tree_store.proofs.Taking.{differ_used, other_unit, same_free, taken_area, taken_bytes, taken_counted, taken_leads, taken_whole, updated_here, updated_other}
+use Rattle.tree_store.proofs.store.StoreBlocks.new_node.Goals as goal
+
+pub take-page-requires : goal.take-page-requires
+take-page-requires g c =
+    let s = c.args.self.now in
+    let named = c.count_names.ensures in
+    omega (arith, c.requires.free, same_free s.geometry s.units.now c.count_names.new.units Page c.requires.ready.counted named.counted named.used)
+
+pub returns-clause-pages : goal.returns-clause-pages
+returns-clause-pages g c =
+    let s = c.args.self.now in
+    let named = c.count_names.ensures in
+    c.take-page.ensures.free ∙ same_free s.geometry s.units.now c.count_names.new.units Page c.requires.ready.counted named.counted named.used
+
+pub returns-clause-leaves : goal.returns-clause-leaves
+returns-clause-leaves g c =
+    let s = c.args.self.now in
+    let named = c.count_names.ensures in
+    c.take-page.ensures.other_free Segment (λ same. cc) ∙ same_free s.geometry s.units.now c.count_names.new.units Segment c.requires.ready.counted named.counted named.used
+
+pub returns-clause-references : goal.returns-clause-references
+returns-clause-references g c = λ p. ap (λ (f : ℕ → ℕ). f p) c.take-page.ensures.refs ∙ c.count_names.ensures.refs p
+
+pub returns-in_err-write_unit-clause-leads : goal.returns-in_err-write_unit-clause-leads
+returns-in_err-write_unit-clause-leads g c =
+    let s = c.args.self.now in
+    let p = c.take-page.result.0 in
+    let took = c.take-page.ensures in
+    let named = c.count_names.ensures in
+    let area = taken_area s.geometry c.count_names.new.units Page p named.counted.geometry took.lowest in
+    let unit = area_unit s.geometry Page p area in
+    let used : used_at c.take-page.new.self ≡ updated (used_at s.units.now) p true = took.used ∙ ap (λ (f : ℕ → Bool). updated f p true) named.used in
+    let free : used_at s.units.now p ≡ false = ap (λ (f : ℕ → Bool). f p) (sym named.used) ∙ took.lowest.free in
+    let room : length c.args.bytes.now ≤ unit_len s.geometry p = omega (arith, c.requires.page, page_len s.geometry p area) in
+    let counted = taken_counted s.geometry c.count_names.new.units c.take-page.new.self p named.counted unit took.geometry took.used took.refs in
+    taken_leads g.D.World.outside s.disk _ s.units _ s.groups _ s.index s.geometry p (length c.args.bytes.now) refl refl refl used (λ before. counted) unit free room
+    c.write_unit.ensures.changes c.write_unit.ensures.len c.write_unit.ensures.sizes c.write_unit.ensures.lends
+
+pub returns-clause-leads : goal.returns-clause-leads
+returns-clause-leads g c =
+    let s = c.args.self.now in
+    let p = c.take-page.result.0 in
+    let took = c.take-page.ensures in
+    let named = c.count_names.ensures in
+    let area = taken_area s.geometry c.count_names.new.units Page p named.counted.geometry took.lowest in
+    let unit = area_unit s.geometry Page p area in
+    let used : used_at c.take-page.new.self ≡ updated (used_at s.units.now) p true = took.used ∙ ap (λ (f : ℕ → Bool). updated f p true) named.used in
+    let free : used_at s.units.now p ≡ false = ap (λ (f : ℕ → Bool). f p) (sym named.used) ∙ took.lowest.free in
+    let room : length c.args.bytes.now ≤ unit_len s.geometry p = omega (arith, c.requires.page, page_len s.geometry p area) in
+    let counted = taken_counted s.geometry c.count_names.new.units c.take-page.new.self p named.counted unit took.geometry took.used took.refs in
+    taken_leads g.D.World.outside s.disk _ s.units _ s.groups _ s.index s.geometry p (length c.args.bytes.now) refl refl refl used (λ before. counted) unit free room
+    c.write_unit.ensures.changes c.write_unit.ensures.len c.write_unit.ensures.sizes c.write_unit.ensures.lends
+
+pub returns-clause-taken : goal.returns-clause-taken
+returns-clause-taken g c =
+    let s = c.args.self.now in
+    let p = c.take-page.result.0 in
+    let took = c.take-page.ensures in
+    let named = c.count_names.ensures in
+    let area = taken_area s.geometry c.count_names.new.units Page p named.counted.geometry took.lowest in
+    let unit = area_unit s.geometry Page p area in
+    let used : used_at c.take-page.new.self ≡ updated (used_at s.units.now) p true = took.used ∙ ap (λ (f : ℕ → Bool). updated f p true) named.used in
+    let free : used_at s.units.now p ≡ false = ap (λ (f : ℕ → Bool). f p) (sym named.used) ∙ took.lowest.free in
+    let room : length c.args.bytes.now ≤ unit_len s.geometry p = omega (arith, c.requires.page, page_len s.geometry p area) in
+    let counted = taken_counted s.geometry c.count_names.new.units c.take-page.new.self p named.counted unit took.geometry took.used took.refs in
+    let was = g.D.World.outside s.disk.now in
+    let is = g.D.World.outside c.write_unit.new.disk in
+    let fits = node_fits s.geometry p (length c.args.bytes.now) was.size area c.requires.page c.requires.ready.disk in
+    let world = g.D.World.is_world s.disk.now in
+    record {
+      named = area;
+      was_free = free;
+      now_used = ap (λ (f : ℕ → Bool). f p) used ∙ updated_here (used_at s.units.now) p true;
+      bytes = λ told. taken_bytes was is s.geometry p c.args.bytes.now told.1 c.in_ok-write_unit.ensures.written room fits world;
+      units = λ q held. other_unit was is s.geometry p q c.args.bytes.now was.disk refl c.write_unit.ensures.changes.only.goes c.in_ok-write_unit.ensures.written unit
+          (c.requires.ready.counted.named q held) (differ_used (used_at s.units.now) p q free held) room fits world;
+      images = λ q differ. refl;
+      used = λ q differ. ap (λ (f : ℕ → Bool). f q) used ∙ updated_other (used_at s.units.now) p true q differ;
+      held = refl;
+    }
+
+pub returns-clause-whole : goal.returns-clause-whole
+returns-clause-whole g c = λ told.
+    let s = c.args.self.now in
+    let p = c.take-page.result.0 in
+    let area = taken_area s.geometry c.count_names.new.units Page p c.count_names.ensures.counted.geometry c.take-page.ensures.lowest in
+    let was = g.D.World.outside s.disk.now in
+    let is = g.D.World.outside c.write_unit.new.disk in
+    let fits = node_fits s.geometry p (length c.args.bytes.now) was.size area c.requires.page c.requires.ready.disk in
+    taken_whole was is s.geometry p c.args.bytes.now told.1 c.in_ok-write_unit.ensures.written (page_len s.geometry p area ∙ sym c.requires.page) fits (g.D.World.is_world s.disk.now)

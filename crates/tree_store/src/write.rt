@@ -1,0 +1,50 @@
+//! Writing a unit that was taken.
+ghost use Rattle.std.specs.Prelude.{◌≡◌, ◌≤◌, ◌<◌, ◌+◌, ◌*◌, ◌^◌, ℕ, List, length, All, OnOk, IsTrue, IfErr};
+ghost use Rattle.disk_model.specs.Outside.{Outside};
+ghost use Rattle.disk_model.specs.Calls.{Wrote};
+ghost use Rattle.disk_model.specs.Changes.{ChangesWithin, InRange};
+ghost use Rattle.ex_base.specs.Ports.{HasCause, IsDamage};
+ghost use Rattle.buffer_groups.specs.Frames.{Frames, Lends};
+ghost use Rattle.tree_store.specs.Stored.{unit_forgotten};
+
+use buffer_groups::Groups;
+use disk_model::Disk;
+use ex_base::{PageNo, PortFault};
+
+// Writes the front of a unit of so many pages. Every group forgets the unit's pages first.
+pub fn write_unit<D: Disk>(
+    disk: &mut D,
+    groups: &mut Groups,
+    page: PageNo,
+    pages: u32,
+    bytes: &[u8],
+    size: u32,
+) -> Result<(), PortFault>
+    requires fits { page.0 * size + length bytes.now ≤ (D.outside disk.old).size }
+    requires room { length bytes.now ≤ pages * size }
+    requires numbers { page.0 + pages < 2 ^ 32 }
+    requires sizes { All (λ (f : Frames). f.page_size ≡ size) groups.old }
+    ensures written { OnOk result (Wrote (page.0 * size) bytes.now (D.outside disk.old) (D.outside disk.new)) }
+    ensures lends { IsTrue (D.outside disk.old).honest → All (Lends (D.outside disk.old).disk) groups.old → All (Lends (D.outside disk.new).disk) groups.new }
+    ensures len { length groups.new ≡ length groups.old }
+    ensures sizes { All (λ (f : Frames). f.page_size ≡ size) groups.new }
+    ensures changes { ChangesWithin (InRange (page.0 * size) (length bytes.now)) (D.outside disk.old) (D.outside disk.new) }
+    ensures no_damage { IfErr result (λ fault. IsDamage fault → ⊥) }
+    ensures cause { HasCause (D.outside disk.old).disk_faults (D.outside disk.new).disk_faults result }
+{
+    forget_unit(groups, page, pages);
+    match disk.write(page.0 as u64 * size as u64, bytes) {
+        Ok(()) => Ok(()),
+        Err(_) => Err(PortFault::Disk),
+    }
+}
+
+// Takes the pages of a unit out of the frames of every group.
+fn forget_unit(groups: &mut Groups, page: PageNo, pages: u32)
+    requires { page.0 + pages < 2 ^ 32 }
+    ensures { groups.new ≡ unit_forgotten page.0 pages groups.old }
+{
+    for i in 0..pages {
+        groups.forget(PageNo(page.0 + i));
+    }
+}
