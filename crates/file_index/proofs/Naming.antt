@@ -1,0 +1,28 @@
+-- What a page that is what names it reads as.
+use Rattle.std.proofs.Common.{◌≡◌, ℕ, Bool, true, false, eqb, eq-eqb, List, [], ◌∷◌, Option, Some, None, refl, ap, ◌∙◌}
+use Rattle.std.specs.Prelude.{slice_get, ◌&&◌, not}
+use Rattle.ex_base.specs.declared.faults.Seen.{Seen}
+use Rattle.index_pages.specs.declared.Entry.{Entry}
+use Rattle.index_pages.specs.IndexPage.{entries_on}
+use Rattle.index_pages.proofs.PageLaws.{ReadsAs, spelled_reads}
+use Rattle.file_index.specs.Index.{IsNamed, HasLeast, key_seen}
+
+pub named_reads : (page : List ℕ) (level file_no : ℕ) (least : Option ℕ) → IsNamed page level file_no least → ReadsAs page level file_no (entries_on page)
+named_reads page level file_no least named = spelled_reads page level file_no (entries_on page) named.spelled
+
+pub key_same : (least : Option ℕ) (entries : List Entry) (entry : Entry) → HasLeast least entries → slice_get entries 0 ≡ Some entry → key_seen least entry.key ≡ least
+key_same least [] entry h e = absurd h
+key_same None (x ∷ entries) entry h e = refl
+key_same (Some least) (x ∷ entries) entry h e = let same : x ≡ entry = cc in ap (λ (k : ℕ). Some k) (ap (λ (y : Entry). y.key) (let back : entry ≡ x = cc in back) ∙ h)
+
+not_all : (x y z r : Bool) → x ≡ true → y ≡ true → z ≡ true → r ≡ not (x && (y && z)) → r ≡ true → ⊥
+not_all true true true r a b c e h = absurd (let f : r ≡ false = e in cc)
+not_all true true false r a b c e h = absurd cc
+not_all true false z r a b c e h = absurd cc
+not_all false y z r a b c e h = absurd cc
+
+-- a test that finds a difference between equals
+pub seen_differs : (r : Bool) (a b : Seen) → r ≡ not (eqb a.kind b.kind && (eqb a.level b.level && eqb a.total b.total)) → r ≡ true → a ≡ b → ⊥
+seen_differs r a b e h same =
+    not_all (eqb a.kind b.kind) (eqb a.level b.level) (eqb a.total b.total) r
+    (eq-eqb a.kind b.kind (ap (λ (s : Seen). s.kind) same)) (eq-eqb a.level b.level (ap (λ (s : Seen). s.level) same)) (eq-eqb a.total b.total (ap (λ (s : Seen). s.total) same)) e h

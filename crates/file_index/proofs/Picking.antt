@@ -1,0 +1,175 @@
+-- The least key that is not below a key, through the entry that leads to it.
+use Rattle.std.proofs.Common.{◌≡◌, ◌≤◌, ◌<◌, ◌+◌, ℕ, zero, suc, true, false, List, [], ◌∷◌, ◌++◌, drop, Option, Some, None, nat_lt, refl, ap, subst, ◌∙◌, arith, ltb-true, ltb-false, lt-ltb, le-ltb, ◌⊎◌, inl, inr}
+use Rattle.std.specs.Prelude.{slice_get, Contains, if◌then◌else◌}
+use Rattle.std.specs.List.{flat_map, AllByRecursion}
+use Rattle.std.proofs.lemmas.List.{append-nil}
+use Rattle.ex_base.specs.declared.names.PageNo.{PageNo}
+use Rattle.index_pages.specs.declared.Entry.{Entry}
+use Rattle.file_index.specs.declared.step.Step.{Step}
+use Rattle.ex_base.specs.Order.{Rising}
+use Rattle.file_index.specs.Index.{Rises}
+use Rattle.file_index.specs.Least.{IsLeastFrom, first_from, pick_from, pick, page_no}
+use Rattle.file_index.proofs.Under.{Begins}
+
+-- ---- numbers that rise
+
+pub rises_weak : (a b : ℕ) (xs : List ℕ) → a ≤ b → Rises b xs → Rises a xs
+rises_weak a b [] le h = tt
+rises_weak a b (x ∷ xs) le h = (omega (arith, h.0), h.1)
+
+pub rises_back : (a : ℕ) (xs ys : List ℕ) → Rises a (xs ++ ys) → Rises a ys
+rises_back a [] ys h = h
+rises_back a (x ∷ xs) ys h = rises_weak a (x + 1) ys (omega (arith, h.0)) (rises_back (x + 1) xs ys h.1)
+
+pub rises_front : (a : ℕ) (xs ys : List ℕ) → Rises a (xs ++ ys) → Rises a xs
+rises_front a [] ys h = tt
+rises_front a (x ∷ xs) ys h = (h.0, rises_front (x + 1) xs ys h.1)
+
+pub rises_low : (a y : ℕ) (xs ys : List ℕ) → Rises a (xs ++ y ∷ ys) → a ≤ y
+rises_low a y [] ys h = h.0
+rises_low a y (x ∷ xs) ys h = omega (arith, h.0, rises_low (x + 1) y xs ys h.1)
+
+-- strictly rising numbers rise from 0 on, and what rises so is strictly rising
+rises_on : (a x : ℕ) (xs : List ℕ) → a ≤ x → Rising (x ∷ xs) → Rises a (x ∷ xs)
+rises_on a x [] le h = (le, tt)
+rises_on a x (y ∷ xs) le h = (le, rises_on (x + 1) y xs (omega (arith, h.0)) h.1)
+
+pub rises_of : (xs : List ℕ) → Rising xs → Rises 0 xs
+rises_of [] h = tt
+rises_of (x ∷ xs) h = rises_on 0 x xs (omega arith) h
+
+pub rising_of : (a : ℕ) (xs : List ℕ) → Rises a xs → Rising xs
+rising_of a [] h = tt
+rising_of a (x ∷ []) h = tt
+rising_of a (x ∷ y ∷ xs) h = (omega (arith, h.1.0), rising_of (x + 1) (y ∷ xs) h.1)
+
+-- ---- the first one that is not below a key
+
+pub first-append : (key : ℕ) (xs ys : List ℕ) (next : Option PageNo) → first_from key (xs ++ ys) next ≡ first_from key xs (first_from key ys next)
+first-append key [] ys next = refl
+first-append key (x ∷ xs) ys next =
+    elim (nat_lt x key) as (λ t. (if t then first_from key (xs ++ ys) next else Some (page_no x)) ≡ (if t then first_from key xs (first_from key ys next) else Some (page_no x))) [
+      | true ↦ first-append key xs ys next
+      | false ↦ refl
+    ]
+
+-- numbers in front of one that is not above the key are below the key
+pub first_skips : (a key y : ℕ) (xs ys : List ℕ) (next : Option PageNo) → Rises a (xs ++ y ∷ ys) → y ≤ key → first_from key xs next ≡ next
+first_skips a key y [] ys next h le = refl
+first_skips a key y (x ∷ xs) ys next h le =
+    let below : x + 1 ≤ y = rises_low (x + 1) y xs ys h.1 in
+    let test : nat_lt x key ≡ true = lt-ltb x key (omega arith) in
+    rw test (first_skips (x + 1) key y xs ys next h.1 le)
+
+first_here : (key x : ℕ) (xs : List ℕ) (next : Option PageNo) → key ≤ x → first_from key (x ∷ xs) next ≡ Some (page_no x)
+first_here key x xs next le = let test : nat_lt x key ≡ false = le-ltb x key le in rw test refl
+
+-- ---- through one entry
+
+-- what the entry that is picked leads to holds the answer
+pub pick_first : (K : Entry → List ℕ) (entry : Entry) (entries : List Entry) (key a : ℕ) (next : Option PageNo) → AllByRecursion (λ (e : Entry). Begins e.key (K e)) (entry ∷ entries) → Rises a (flat_map K (entry ∷ entries))
+    → first_from key (flat_map K (entry ∷ entries)) next ≡ first_from key (K (pick_from entry entries key next).child) (pick_from entry entries key next).next
+pick_first K entry [] key a next each rises = ap (λ (xs : List ℕ). first_from key xs next) (append-nil (K entry))
+pick_first K entry (after ∷ entries) key a next each rises =
+    let b = each.1.0 in
+    let behind : K after ++ flat_map K entries ≡ after.key ∷ (b.rest ++ flat_map K entries) = ap (λ (xs : List ℕ). xs ++ flat_map K entries) b.is in
+    (elim (nat_lt key after.key) as (λ t. nat_lt key after.key ≡ t → first_from key (K entry ++ (K after ++ flat_map K entries)) next
+    ≡ first_from key (K (if t then record { child = entry; next = Some (page_no after.key) } else pick_from after entries key next).child) (if t then record { child = entry; next = Some (page_no after.key) } else pick_from after entries key next).next) [
+      | true ↦ λ t.
+          let le : key ≤ after.key = omega (arith, ltb-true key after.key t) in
+          first-append key (K entry) (K after ++ flat_map K entries) next
+          ∙ ap (first_from key (K entry)) (ap (λ (xs : List ℕ). first_from key xs next) behind ∙ first_here key after.key (b.rest ++ flat_map K entries) next le)
+      | false ↦ λ t.
+          let le : after.key ≤ key = ltb-false key after.key t in
+          first-append key (K entry) (K after ++ flat_map K entries) next
+          ∙ first_skips a key after.key (K entry) (b.rest ++ flat_map K entries) (first_from key (K after ++ flat_map K entries) next) (subst (λ (xs : List ℕ). Rises a (K entry ++ xs)) behind rises) le
+          ∙ pick_first K after entries key a next each.1 (rises_back a (K entry) (K after ++ flat_map K entries) rises)
+    ]) refl
+
+-- what is true of each entry is true of the one that is picked
+pub picked_own : (P : Entry → Type 0) (entry : Entry) (entries : List Entry) (key : ℕ) (next : Option PageNo) → AllByRecursion P (entry ∷ entries) → P (pick_from entry entries key next).child
+picked_own P entry [] key next each = each.0
+picked_own P entry (after ∷ entries) key next each =
+    elim (nat_lt key after.key) as (λ t. P (if t then record { child = entry; next = Some (page_no after.key) } else pick_from after entries key next).child) [
+      | true ↦ each.0
+      | false ↦ picked_own P after entries key next each.1
+    ]
+
+-- what the picked entry leads to rises
+pub picked_rises : (K : Entry → List ℕ) (entry : Entry) (entries : List Entry) (key a : ℕ) (next : Option PageNo) → Rises a (flat_map K (entry ∷ entries)) → Rises a (K (pick_from entry entries key next).child)
+picked_rises K entry [] key a next rises = rises_front a (K entry) [] rises
+picked_rises K entry (after ∷ entries) key a next rises =
+    elim (nat_lt key after.key) as (λ t. Rises a (K (if t then record { child = entry; next = Some (page_no after.key) } else pick_from after entries key next).child)) [
+      | true ↦ rises_front a (K entry) (flat_map K (after ∷ entries)) rises
+      | false ↦ picked_rises K after entries key a next (rises_back a (K entry) (flat_map K (after ∷ entries)) rises)
+    ]
+
+-- ---- a loop over the entries
+
+next_of : (entries : List Entry) (at : ℕ) (after : Entry) → slice_get entries at ≡ Some after → drop at entries ≡ after ∷ drop (at + 1) entries
+next_of [] at after e = absurd cc
+next_of (x ∷ entries) zero after e = let same : x ≡ after = cc in ap (λ (y : Entry). y ∷ entries) same
+next_of (x ∷ entries) (suc at) after e =
+    let count : suc (at + 1) ≡ suc at + 1 = omega arith in
+    next_of entries at after e ∙ ap (λ (k : ℕ). after ∷ drop k (x ∷ entries)) count
+
+pub pick_starts : (entries : List Entry) (entry : Entry) (key : ℕ) (next : Option PageNo) → slice_get entries 0 ≡ Some entry → pick entries key next ≡ pick_from entry (drop 1 entries) key next
+pick_starts [] entry key next e = absurd cc
+pick_starts (x ∷ entries) entry key next e = let same : x ≡ entry = cc in ap (λ (y : Entry). pick_from y entries key next) same
+
+pub pick_stops : (entries : List Entry) (child after : Entry) (at key : ℕ) (next : Option PageNo) (all : Step) → slice_get entries at ≡ Some after → key < after.key → all ≡ pick_from child (drop at entries) key next
+    → all ≡ record { child = child; next = Some (page_no after.key) }
+pick_stops entries child after at key next all e lt h =
+    let test : nat_lt key after.key ≡ true = lt-ltb key after.key lt in
+    h ∙ ap (λ (xs : List Entry). pick_from child xs key next) (next_of entries at after e) ∙ (rw test refl)
+
+pub pick_goes_on : (entries : List Entry) (child after : Entry) (at key : ℕ) (next : Option PageNo) (all : Step) → slice_get entries at ≡ Some after → after.key ≤ key → all ≡ pick_from child (drop at entries) key next
+    → all ≡ pick_from after (drop (at + 1) entries) key next
+pick_goes_on entries child after at key next all e le h =
+    let test : nat_lt key after.key ≡ false = le-ltb key after.key le in
+    h ∙ ap (λ (xs : List Entry). pick_from child xs key next) (next_of entries at after e) ∙ (rw test refl)
+
+-- ---- the least one
+
+contains_more : (x y : ℕ) (xs : List ℕ) → Contains xs y → Contains (x ∷ xs) y
+contains_more x y xs c = (suc c.0, omega (arith, c.1), c.2)
+
+contains_one : (x y : ℕ) (xs : List ℕ) → Contains (x ∷ xs) y → (x ≡ y) ⊎ Contains xs y
+contains_one x y xs (zero, lt, e) = inl e
+contains_one x y xs (suc k, lt, e) = inr (k, omega (arith, lt), e)
+
+contained_low : (a y : ℕ) (xs : List ℕ) → Rises a xs → Contains xs y → a ≤ y
+contained_low a y [] rises c = absurd (omega (arith, c.1))
+contained_low a y (x ∷ xs) rises c = elim (contains_one x y xs c) [
+  | inl e ↦ omega (arith, rises.0)
+  | inr c' ↦ omega (arith, rises.0, contained_low (x + 1) y xs rises.1 c')
+]
+
+least_more : (x key : ℕ) (xs : List ℕ) (least : Option PageNo) → x < key → IsLeastFrom xs key least → IsLeastFrom (x ∷ xs) key least
+least_more x key xs None lt h = λ page c. elim (contains_one x page xs c) [
+  | inl e ↦ omega arith
+  | inr c' ↦ h page c'
+]
+least_more x key xs (Some least) lt h = (
+  contains_more x least.0 xs h.0,
+  h.1,
+  λ page c le. elim (contains_one x page xs c) [
+    | inl e ↦ absurd (omega arith)
+    | inr c' ↦ h.2 page c' le
+  ],
+)
+
+pub least_is : (a key : ℕ) (xs : List ℕ) → Rises a xs → IsLeastFrom xs key (first_from key xs None)
+least_is a key [] rises = λ page c. absurd (omega (arith, c.1))
+least_is a key (x ∷ xs) rises =
+    (elim (nat_lt x key) as (λ t. nat_lt x key ≡ t → IsLeastFrom (x ∷ xs) key (if t then first_from key xs None else Some (page_no x))) [
+      | true ↦ λ t. least_more x key xs (first_from key xs None) (ltb-true x key t) (least_is (x + 1) key xs rises.1)
+      | false ↦ λ t. (
+        (zero, omega arith, refl),
+        ltb-false x key t,
+        λ page c le. elim (contains_one x page xs c) [
+          | inl e ↦ omega arith
+          | inr c' ↦ let low : x + 1 ≤ page = contained_low (x + 1) page xs rises.1 c' in omega arith
+        ],
+      )
+    ]) refl

@@ -1,0 +1,16 @@
+use Rattle.file_index.proofs.Descent.{if_ok, if_err, sound_here, sound_below, least_below_is}
+use Rattle.file_index.proofs.least.+least_below.Goals as goal
+
+pub returns-clause-least : goal.returns-clause-least
+returns-clause-least g t c =
+    if_ok c.least_below.result _ _ (λ answer below. least_below_is g.P.Ground c.args.pages.now c.step_at.new.pages c.args.named.file_no c.args.named.level c.args.named.least c.args.named.page.0 c.args.key c.args.next c.in-Ok.step answer
+    c.if-named-eq0.false c.step_at.ensures.kept c.in-Ok.ensures.step below) c.least_below.ensures.least
+
+pub returns-clause-sound : goal.returns-clause-sound
+returns-clause-sound g t c =
+    if_err c.least_below.result _ _ (λ fault never damage. sound_below g.P.Ground c.args.pages.now c.step_at.new.pages c.args.named.file_no c.args.named.level c.args.named.least c.args.named.page.0 c.args.key c.args.next c.in-Ok.step
+    c.if-named-eq0.false c.step_at.ensures.kept c.in-Ok.ensures.step (never damage)) c.least_below.ensures.sound
+
+pub returns-in-Err-clause-sound : goal.returns-in-Err-clause-sound
+returns-in-Err-clause-sound g t c = λ damage told.
+    sound_here g.P.Ground c.args.pages.now c.args.named.file_no c.args.named.level c.args.named.least c.args.named.page.0 c.if-named-eq0.false (c.in-Err.ensures.sound damage told)

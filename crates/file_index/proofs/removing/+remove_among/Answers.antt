@@ -1,0 +1,105 @@
+use Rattle.std.proofs.Common.{◌≡◌, ◌+◌, ◌-◌, suc, List, take, drop, None, subst, sym, ap, ◌∙◌, refl, arith}
+use Rattle.std.specs.Prelude.{◌==◌}
+use Rattle.index_pages.specs.declared.Entry.{Entry}
+use Rattle.index_pages.specs.IndexPage.{entries_on}
+use Rattle.file_index.specs.Edits.{take_out}
+use Rattle.file_index.specs.Nodes.{IsPlace, IsWritten, first_key}
+use Rattle.file_index.proofs.Descent.{on_three}
+use Rattle.file_index.proofs.Lists.{out_local}
+use Rattle.file_index.proofs.Descending.{never_read, row_below, stays_below, written_below}
+use Rattle.file_index.proofs.Leaves.{leaf_removed}
+use Rattle.file_index.proofs.Mending.{pair_known, mended, still_named, left_still, right_still, pages_differ}
+use Rattle.file_index.proofs.removing.+remove_among.Goals as goal
+
+pub returns-then-level-eq1-clause-removes : goal.returns-then-level-eq1-clause-removes
+returns-then-level-eq1-clause-removes g t c = λ told row.
+    leaf_removed g.P.Ground c.args.pages.now c.args.file_no (c.args.level - 1) c.args.key c.place_of-at.result c.index-child.result.now c.args.entries.now.items c.remove_leaf.new.entries.items c.remove_leaf.result
+    (omega (arith, c.if-level-eq1.true)) (subst (λ (l : List Entry). IsPlace c.args.key l c.place_of-at.result) c.deref.ensures.value c.place_of-at.ensures) c.index-child.ensures c.remove_leaf.ensures row
+
+pub returns-in-Err-clause-sound : goal.returns-in-Err-clause-sound
+returns-in-Err-clause-sound g t c = λ damage told row.
+    let step : suc (c.args.level - 1 - 1) ≡ c.args.level - 1 = omega (arith, c.requires.level, c.if-level-eq1.false) in
+    let place = (subst (λ (l : List Entry). IsPlace c.args.key l c.place_of-at.result) c.deref.ensures.value c.place_of-at.ensures) in
+    never_read g.P.Ground c.args.pages.now c.args.file_no (c.args.level - 1) (c.args.level - 1 - 1) c.args.key c.args.entries.now.items c.place_of-at.result c.index-child.result.now step place c.index-child.ensures (c.in-Err.ensures.sound damage told) row
+
+pub returns-in-Err-remove_among-clause-sound : goal.returns-in-Err-remove_among-clause-sound
+returns-in-Err-remove_among-clause-sound g t c = λ damage told row.
+    let step : suc (c.args.level - 1 - 1) ≡ c.args.level - 1 = omega (arith, c.requires.level, c.if-level-eq1.false) in
+    let place = (subst (λ (l : List Entry). IsPlace c.args.key l c.place_of-at.result) c.deref.ensures.value c.place_of-at.ensures) in
+    let told_b = g.P.Ground.leads_told c.args.pages.now c.entries_at.new.pages c.entries_at.ensures.kept.leads told in
+    let read = c.in-Ok.ensures.entries told in
+    let below_row = row_below g.P.Ground c.args.pages.now c.args.file_no (c.args.level - 1) (c.args.level - 1 - 1) c.args.key c.args.entries.now.items c.place_of-at.result c.index-child.result.now step place c.index-child.ensures c.entries_at.new.pages c.in-Ok.below.items c.entries_at.ensures.kept read row in
+    c.in-Err-remove_among.ensures.sound damage told_b below_row
+
+pub returns-in-Ok-false-clause-removes : goal.returns-in-Ok-false-clause-removes
+returns-in-Ok-false-clause-removes g t c = λ told row.
+    let step : suc (c.args.level - 1 - 1) ≡ c.args.level - 1 = omega (arith, c.requires.level, c.if-level-eq1.false) in
+    let place = (subst (λ (l : List Entry). IsPlace c.args.key l c.place_of-at.result) c.deref.ensures.value c.place_of-at.ensures) in
+    let told_b = g.P.Ground.leads_told c.args.pages.now c.entries_at.new.pages c.entries_at.ensures.kept.leads told in
+    let read = c.in-Ok.ensures.entries told in
+    let below_row = row_below g.P.Ground c.args.pages.now c.args.file_no (c.args.level - 1) (c.args.level - 1 - 1) c.args.key c.args.entries.now.items c.place_of-at.result c.index-child.result.now step place c.index-child.ensures c.entries_at.new.pages c.in-Ok.below.items c.entries_at.ensures.kept read row in
+    stays_below g.P.Ground c.args.pages.now c.args.file_no (c.args.level - 1) (c.args.level - 1 - 1) c.args.key c.args.entries.now.items c.place_of-at.result c.index-child.result.now step place c.index-child.ensures c.entries_at.new.pages c.in-Ok.below.items c.entries_at.ensures.kept read c.remove_among.new.pages (take_out c.args.key) c.remove_among.new.entries.items (out_local c.args.key) row
+    (c.in-Ok-false.ensures.removes told_b below_row) (c.in-Ok-false.ensures.same c.in-Ok-false.field-0-test)
+
+pub returns-then-len-most_entries-clause-removes : goal.returns-then-len-most_entries-clause-removes
+returns-then-len-most_entries-clause-removes g t c =
+    on_three c.write_child.result _ _ _ _ c.write_child.ensures.written c.write_child.ensures.changes c.write_child.ensures.items (λ written changes items told row.
+    let step : suc (c.args.level - 1 - 1) ≡ c.args.level - 1 = omega (arith, c.requires.level, c.if-level-eq1.false) in
+    let place = (subst (λ (l : List Entry). IsPlace c.args.key l c.place_of-at.result) c.deref.ensures.value c.place_of-at.ensures) in
+    let told_b = g.P.Ground.leads_told c.args.pages.now c.entries_at.new.pages c.entries_at.ensures.kept.leads told in
+    let read = c.in-Ok.ensures.entries told in
+    let below_row = row_below g.P.Ground c.args.pages.now c.args.file_no (c.args.level - 1) (c.args.level - 1 - 1) c.args.key c.args.entries.now.items c.place_of-at.result c.index-child.result.now step place c.index-child.ensures c.entries_at.new.pages c.in-Ok.below.items c.entries_at.ensures.kept read row in
+    let told_c = g.P.Ground.leads_told c.entries_at.new.pages c.remove_among.new.pages c.remove_among.ensures.leads told_b in
+    let becomes = c.in-Ok-true.ensures.removes told_b below_row in
+    let same = c.deref-then-len-most_entries.ensures.value in
+    written_below g.P.Ground c.args.pages.now c.args.file_no (c.args.level - 1) (c.args.level - 1 - 1) c.args.key c.args.entries.now.items c.place_of-at.result c.index-child.result.now step place c.index-child.ensures c.entries_at.new.pages c.in-Ok.below.items c.entries_at.ensures.kept read c.remove_among.new.pages c.write_child.new.pages (take_out c.args.key) c.remove_among.new.entries.items c.write_child.new.entries.items
+    (record { key = first_key c.deref-then-len-most_entries.result.now; page = c.index-child.result.now.page }) None (out_local c.args.key) row becomes changes
+    (subst (λ (l : List Entry). IsWritten g.P.Ground c.write_child.new.pages c.index-child.result.now.page.0 (c.args.level - 1) c.args.file_no l) same (written told_c))
+    (omega (arith, c.if-len-most_entries.true, c.most_entries.ensures, c.requires.buffer)) refl (ap first_key same) items)
+
+pub returns-in-Ok-spread-clause-removes : goal.returns-in-Ok-spread-clause-removes
+returns-in-Ok-spread-clause-removes g t c = λ told row.
+    let step : suc (c.args.level - 1 - 1) ≡ c.args.level - 1 = omega (arith, c.requires.level, c.if-level-eq1.false) in
+    let place = (subst (λ (l : List Entry). IsPlace c.args.key l c.place_of-at.result) c.deref.ensures.value c.place_of-at.ensures) in
+    let told_b = g.P.Ground.leads_told c.args.pages.now c.entries_at.new.pages c.entries_at.ensures.kept.leads told in
+    let read = c.in-Ok.ensures.entries told in
+    let below_row = row_below g.P.Ground c.args.pages.now c.args.file_no (c.args.level - 1) (c.args.level - 1 - 1) c.args.key c.args.entries.now.items c.place_of-at.result c.index-child.result.now step place c.index-child.ensures c.entries_at.new.pages c.in-Ok.below.items c.entries_at.ensures.kept read row in
+    let told_c = g.P.Ground.leads_told c.entries_at.new.pages c.remove_among.new.pages c.remove_among.ensures.leads told_b in
+    let becomes = c.in-Ok-true.ensures.removes told_b below_row in
+    let known = pair_known g.P.Ground c.args.pages.now c.args.file_no (c.args.level - 1 - 1) c.args.key (c.args.level - 1) c.args.entries.now.items c.place_of-at.result c.saturating_sub-first.result c.index-child.result.now (record { left = c.index.result.now; right = c.index-2.result.now; thin_is_left = c.place_of-at.result == 0; level = c.args.level - 1; file_no = c.args.file_no })
+    place c.index-child.ensures (omega (arith, c.saturating_sub-first.ensures)) refl c.requires.some c.index.ensures c.index-2.ensures row in
+    let thin_read = read ∙ ap (λ (e : Entry). entries_on (g.P.Ground.image c.args.pages.now e.page.0)) (sym known.thin) in
+    mended g.P.Ground c.args.pages.now c.args.file_no (c.args.level - 1 - 1) c.args.key (record { left = c.index.result.now; right = c.index-2.result.now; thin_is_left = c.place_of-at.result == 0; level = c.args.level - 1; file_no = c.args.file_no }) (c.args.level - 1)
+    (take c.saturating_sub-first.result c.args.entries.now.items) (drop (c.saturating_sub-first.result + 2) c.args.entries.now.items) c.args.entries.now.items step known.split.is row known.lacks
+    c.entries_at.new.pages c.remove_among.new.pages c.in-Ok.below.items c.remove_among.new.entries.items c.entries_at.ensures.kept thin_read becomes
+    c.spread.new.pages c.in-Ok-spread.left c.in-Ok-spread.right c.replace_two.new.entries.items
+    (c.in-Ok-spread.ensures.changes (right_still g.P.Ground c.args.pages.now c.args.file_no (c.args.level - 1 - 1) c.args.key (record { left = c.index.result.now; right = c.index-2.result.now; thin_is_left = c.place_of-at.result == 0; level = c.args.level - 1; file_no = c.args.file_no }) (c.args.level - 1)
+    (take c.saturating_sub-first.result c.args.entries.now.items) (drop (c.saturating_sub-first.result + 2) c.args.entries.now.items) c.args.entries.now.items step known.split.is row known.lacks
+    c.entries_at.new.pages c.remove_among.new.pages c.in-Ok.below.items c.remove_among.new.entries.items c.entries_at.ensures.kept thin_read becomes))
+    (c.in-Ok-spread.ensures.stored told_c (left_still g.P.Ground c.args.pages.now c.args.file_no (c.args.level - 1 - 1) c.args.key (record { left = c.index.result.now; right = c.index-2.result.now; thin_is_left = c.place_of-at.result == 0; level = c.args.level - 1; file_no = c.args.file_no }) (c.args.level - 1)
+    (take c.saturating_sub-first.result c.args.entries.now.items) (drop (c.saturating_sub-first.result + 2) c.args.entries.now.items) c.args.entries.now.items step known.split.is row known.lacks
+    c.entries_at.new.pages c.remove_among.new.pages c.in-Ok.below.items c.remove_among.new.entries.items c.entries_at.ensures.kept thin_read becomes) (pages_differ g.P.Ground c.args.pages.now c.args.file_no (c.args.level - 1 - 1) c.args.key (record { left = c.index.result.now; right = c.index-2.result.now; thin_is_left = c.place_of-at.result == 0; level = c.args.level - 1; file_no = c.args.file_no }) (c.args.level - 1)
+    (take c.saturating_sub-first.result c.args.entries.now.items) (drop (c.saturating_sub-first.result + 2) c.args.entries.now.items) c.args.entries.now.items step known.split.is row known.lacks
+    c.entries_at.new.pages c.remove_among.new.pages c.in-Ok.below.items c.remove_among.new.entries.items c.entries_at.ensures.kept thin_read becomes))
+    (c.in-Ok-spread.ensures.enough told_c) (ap (λ p. p.0) c.in-Ok-spread.ensures.page) (c.in-Ok-spread.ensures.key told_c) c.replace_two.ensures
+
+pub returns-in-Ok-spread-clause-leads : goal.returns-in-Ok-spread-clause-leads
+returns-in-Ok-spread-clause-leads g t c =
+    let on = g.P.Ground.leads_trans in
+    on _ _ _ c.entries_at.ensures.kept.leads (on _ _ _ c.remove_among.ensures.leads c.spread.ensures.leads)
+
+pub returns-in-Err-spread-clause-sound : goal.returns-in-Err-spread-clause-sound
+returns-in-Err-spread-clause-sound g t c = λ damage told row.
+    let step : suc (c.args.level - 1 - 1) ≡ c.args.level - 1 = omega (arith, c.requires.level, c.if-level-eq1.false) in
+    let place = (subst (λ (l : List Entry). IsPlace c.args.key l c.place_of-at.result) c.deref.ensures.value c.place_of-at.ensures) in
+    let told_b = g.P.Ground.leads_told c.args.pages.now c.entries_at.new.pages c.entries_at.ensures.kept.leads told in
+    let read = c.in-Ok.ensures.entries told in
+    let below_row = row_below g.P.Ground c.args.pages.now c.args.file_no (c.args.level - 1) (c.args.level - 1 - 1) c.args.key c.args.entries.now.items c.place_of-at.result c.index-child.result.now step place c.index-child.ensures c.entries_at.new.pages c.in-Ok.below.items c.entries_at.ensures.kept read row in
+    let told_c = g.P.Ground.leads_told c.entries_at.new.pages c.remove_among.new.pages c.remove_among.ensures.leads told_b in
+    let becomes = c.in-Ok-true.ensures.removes told_b below_row in
+    let known = pair_known g.P.Ground c.args.pages.now c.args.file_no (c.args.level - 1 - 1) c.args.key (c.args.level - 1) c.args.entries.now.items c.place_of-at.result c.saturating_sub-first.result c.index-child.result.now (record { left = c.index.result.now; right = c.index-2.result.now; thin_is_left = c.place_of-at.result == 0; level = c.args.level - 1; file_no = c.args.file_no })
+    place c.index-child.ensures (omega (arith, c.saturating_sub-first.ensures)) refl c.requires.some c.index.ensures c.index-2.ensures row in
+    let thin_read = read ∙ ap (λ (e : Entry). entries_on (g.P.Ground.image c.args.pages.now e.page.0)) (sym known.thin) in
+    still_named g.P.Ground c.args.pages.now c.args.file_no (c.args.level - 1 - 1) c.args.key (record { left = c.index.result.now; right = c.index-2.result.now; thin_is_left = c.place_of-at.result == 0; level = c.args.level - 1; file_no = c.args.file_no }) (c.args.level - 1)
+    (take c.saturating_sub-first.result c.args.entries.now.items) (drop (c.saturating_sub-first.result + 2) c.args.entries.now.items) c.args.entries.now.items step known.split.is row known.lacks
+    c.entries_at.new.pages c.remove_among.new.pages c.in-Ok.below.items c.remove_among.new.entries.items c.entries_at.ensures.kept thin_read becomes (c.in-Err-spread.ensures.sound damage told_c)

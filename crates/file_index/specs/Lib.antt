@@ -1,0 +1,5 @@
+pub mod Changes
+pub mod Edits
+pub mod Index
+pub mod Least
+pub mod Nodes

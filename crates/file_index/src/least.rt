@@ -1,0 +1,107 @@
+//! The least page of a file that is not below a key.
+ghost use Rattle.std.specs.Prelude.{◌≡◌, ◌≤◌, ℕ, length, IfOk, IfErr, OnOk};
+ghost use Rattle.ex_base.specs.Ports.{Keeps, HasCause, IsDamage};
+ghost use Rattle.index_pages.specs.IndexPage.{entries_on};
+ghost use Rattle.file_index.specs.Index.{IsFilesPage, IsNamed, IsUnder, Rises, keys_under, keys_of, IsIndex, HasRoot};
+ghost use Rattle.file_index.specs.Least.{pick, first_from, IsLeastFrom};
+
+use crate::named::{Named, checked, no_index_page};
+use crate::step::{Step, pick};
+use crate::{CATALOG_NO, Index};
+use ex_base::{PageNo, Pages, PortFault};
+use std::alloc::Global;
+
+/// The entry of an index page that a key leads to.
+fn step_at<P: Pages>(
+    pages: &mut P,
+    alloc: Global,
+    named: &Named,
+    key: u32,
+    next: Option<PageNo>,
+) -> Result<Step, PortFault>
+    requires { P.ready pages.old }
+    ensures step { IfOk result (λ step. P.tells pages.old → step ≡ pick (entries_on (P.image pages.old named.now.page.0)) key next) }
+    ensures sound { IfErr result (λ fault. IsDamage fault → P.tells pages.old → IsFilesPage (P.geometry pages.old) named.now.page.0
+        → IsNamed (P.image pages.old named.now.page.0) named.now.level named.now.file_no named.now.least → ⊥) }
+    ensures kept { Keeps P.Ground pages.old pages.new }
+    ensures cause { HasCause (P.faults pages.old) (P.faults pages.new) result }
+{
+    if !pages.in_area(named.page) || named.page.0 == CATALOG_NO {
+        return Err(no_index_page(named));
+    }
+    let page = pages.get(alloc, named.page)?;
+    match checked(page, named) {
+        Ok(view) => Ok(pick(&view, key, next)),
+        Err(fault) => Err(fault),
+    }
+}
+
+/// The least page under a page that is not below the key, else what comes next.
+fn least_below<P: Pages>(
+    pages: &mut P,
+    alloc: Global,
+    named: Named,
+    key: u32,
+    next: Option<PageNo>,
+) -> Result<Option<PageNo>, PortFault>
+    requires { P.ready pages.old }
+    ensures least { IfOk result (λ least. P.tells pages.old
+        → IsUnder (P.geometry pages.old) named.file_no (P.image pages.old) named.level named.least named.page.0
+        → Rises 0 (keys_under (P.image pages.old) named.level named.page.0)
+        → least ≡ first_from key (keys_under (P.image pages.old) named.level named.page.0) next) }
+    ensures sound { IfErr result (λ fault. IsDamage fault → P.tells pages.old
+        → IsUnder (P.geometry pages.old) named.file_no (P.image pages.old) named.level named.least named.page.0 → ⊥) }
+    ensures kept { Keeps P.Ground pages.old pages.new }
+    ensures cause { HasCause (P.faults pages.old) (P.faults pages.new) result }
+{
+    if named.level == 0 {
+        return if named.page.0 < key {
+            Ok(next)
+        } else {
+            Ok(Some(named.page))
+        };
+    }
+    let step = match step_at(pages, alloc, &named, key, next) {
+        Ok(step) => step,
+        Err(fault) => return Err(fault),
+    };
+    let child = Named {
+        page: step.child.page,
+        level: named.level - 1,
+        least: Some(step.child.key),
+        file_no: named.file_no,
+    };
+    least_below(pages, alloc, child, key, step.next)
+}
+
+/// The least file page of an index that is not below a key.
+pub fn at_least<P: Pages>(
+    pages: &mut P,
+    alloc: Global,
+    index: &Index,
+    key: PageNo,
+) -> Result<Option<PageNo>, PortFault>
+    requires ready { P.ready pages.old }
+    requires level { index.now.level ≤ 5 }
+    requires root { HasRoot index.now.level index.now.root }
+    ensures least { IfOk result (λ least. P.tells pages.old
+        → IsIndex (P.geometry pages.old) (P.image pages.old) index.now.file_no index.now.level index.now.root
+        → IsLeastFrom (keys_of (P.image pages.old) index.now.level index.now.root) key.0 least) }
+    ensures sound { IfErr result (λ fault. IsDamage fault → P.tells pages.old
+        → IsIndex (P.geometry pages.old) (P.image pages.old) index.now.file_no index.now.level index.now.root → ⊥) }
+    ensures kept { Keeps P.Ground pages.old pages.new }
+    ensures cause { HasCause (P.faults pages.old) (P.faults pages.new) result }
+{
+    match index.root {
+        None => Ok(None),
+        Some(page) => {
+            let root = Named {
+                page,
+                level: index.level,
+                least: None,
+                file_no: index.file_no,
+            };
+            least_below(pages, alloc, root, key.0, None)
+        }
+    }
+}

@@ -1,0 +1,31 @@
+//! The index of a file: a tree of page numbers over any port of logged pages. Its leaves are the pages of the file; an index page holds, for each page
+//! below it, the least page of the file that it leads to. A file of one page has no index page.
+#![tactic(auto)]
+
+mod adding;
+mod least;
+mod named;
+mod nodes;
+mod removing;
+mod rows;
+mod spreading;
+mod step;
+mod storing;
+
+pub use adding::add;
+use ex_base::PageNo;
+pub use least::at_least;
+pub use removing::remove;
+
+/// The page number of the catalog, which is no page of a file.
+const CATALOG_NO: u32 = 257;
+
+/// An index: its root, the root's level and the file's number.
+#[derive(Clone, Copy, Debug, PartialEq, Eq)]
+pub struct Index {
+    /// The top index page, or the one page of the file at level 0; none of a file without pages.
+    pub root: Option<PageNo>,
+    /// How many index pages stand over each page of the file.
+    pub level: u8,
+    pub file_no: u32,
+}

@@ -1,0 +1,34 @@
+//! The entry that a key leads to.
+ghost use Rattle.std.specs.Prelude.{◌≡◌, ◌≤◌, ◌<◌, length, Some, drop};
+ghost use Rattle.index_pages.specs.IndexPage.{Indexed};
+ghost use Rattle.file_index.specs.Least.{pick};
+
+use ex_base::PageNo;
+use index_pages::Entry;
+use index_pages::view::IndexView;
+
+/// The entry that a key leads to, and the first file page behind all that it leads to.
+#[derive(Clone, Copy, Debug, PartialEq, Eq)]
+pub struct Step {
+    pub child: Entry,
+    pub next: Option<PageNo>,
+}
+
+/// The last entry whose key is not above the key, else the first one.
+pub fn pick(view: &IndexView, key: u32, next: Option<PageNo>) -> Step
+    requires { 1 ≤ length view.now.entries }
+    ensures { result ≡ pick view.now.entries key next }
+{
+    let mut child = view.entry(0);
+    for at in 1..view.len() {
+        let after = view.entry(at);
+        if key < after.key {
+            return Step {
+                child,
+                next: Some(PageNo(after.key)),
+            };
+        }
+        child = after;
+    }
+    Step { child, next }
+}

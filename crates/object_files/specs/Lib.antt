@@ -1,0 +1,4 @@
+pub mod Catalog
+pub mod Edits
+pub mod Marks
+pub mod Reads
