@@ -1,0 +1,12 @@
+mod PlaceLaws
+mod PlanLaws
+mod RootSteps
+mod Growing
+mod Paid
+mod Layouts
+mod LeafStep
+mod NodeStep
+mod PaidRows
+mod RootGrow
+mod Results
+mod RootEdit

@@ -1,0 +1,148 @@
+use Rattle.std.proofs.Common.{arith, ℕ, List, ◌≡◌, ◌≤◌, ◌+◌, ◌-◌, ◌*◌, ◌∙◌, ap, sym, subst, refl, suc, length}
+use Rattle.std.proofs.lemmas.List.{length-take-le}
+use Rattle.ex_base.specs.Edits.{inserted}
+use Rattle.ex_base.specs.declared.geometry.Geometry.{Geometry}
+use Rattle.ex_base.specs.declared.names.Area.{Area}
+use Rattle.ex_base.specs.declared.names.Area.TheVariants.{Page, Segment}
+use Rattle.ex_base.specs.Sizes.{leaf_bytes}
+use Rattle.count_nodes.specs.Split.{nodes_for}
+use Rattle.tree_rows.specs.declared.rows.Part.{Part}
+use Rattle.tree_rows.specs.Rows.{row_size, row_bytes, row_shape, FitLeaves}
+use Rattle.tree_rows.proofs.Parts.{narrow, below_fit}
+use Rattle.tree_steps.specs.Made.{Holds}
+use Rattle.tree_steps.specs.Built.{AreSome, Built, even_lens}
+use Rattle.tree_steps.proofs.Laid.{extends_on, extends_kept}
+use Rattle.tree_insert.specs.Grown.{Grew}
+use Rattle.tree_insert.specs.Growth.{IsSpot, row_by}
+use Rattle.tree_insert.specs.Need.{need_leaves}
+use Rattle.tree_insert.proofs.Paid.{some_node, level_up, node_free, node_paid}
+use Rattle.tree_insert.proofs.PaidRows.{page_le, paid_at}
+use Rattle.tree_insert.proofs.Results.{if_ok_on, on_ok_on, ok_of, on_of, cause_on}
+use Rattle.tree_insert.proofs.RootGrow.{lone_grew, root_grew}
+use Rattle.tree_insert.proofs.edit.grow_root.Goals as goal
+
+pub returns-then-height-eq0-clause-paid : goal.returns-then-height-eq0-clause-paid
+returns-then-height-eq0-clause-paid g c =
+    if_ok_on c.grow_leaves.result _ (λ made is. record {
+      parts = need_leaves (leaf_bytes (g.B.Ground.geometry c.args.blocks.now)) (length c.args.given.now);
+      some = omega arith;
+      count = ok_of c.grow_leaves.result made _ is c.grow_leaves.ensures.count;
+      paid = omega (arith, ap (λ k. (g.B.Ground.geometry c.args.blocks.now).fan * k) (on_of c.grow_leaves.result made _ is c.grow_leaves.ensures.pages));
+    })
+
+pub returns-then-height-eq0-clause-grew : goal.returns-then-height-eq0-clause-grew
+returns-then-height-eq0-clause-grew g c =
+    if_ok_on c.grow_leaves.result _ (λ made is told l same holds.
+    lone_grew g.B.Ground c.args.blocks.now c.grow_leaves.new.blocks c.args.growth (g.B.Ground.geometry c.args.blocks.now).fan (leaf_bytes (g.B.Ground.geometry c.args.blocks.now)) (length c.args.given.now) c.args.height l c.args.tree made.items c.args.pos c.args.given.now c.if-height-eq0.true same
+    (ok_of c.grow_leaves.result made _ is c.grow_leaves.ensures.grew told) holds)
+
+pub grow_row-requires-clause-buffer : goal.grow_row-requires-clause-buffer
+grow_row-requires-clause-buffer g c = c.requires.buffer ∙ ap leaf_bytes (sym (g.B.Ground.leads_geometry c.args.blocks.now c.row_of.new.blocks c.in_ok-below.ensures.kept.leads))
+
+pub grow_row-requires-clause-some : goal.grow_row-requires-clause-some
+grow_row-requires-clause-some g c = omega (arith, ap length c.deref.ensures.value, c.in_ok-below.ensures.counted.filled.enough)
+
+pub grow_row-requires-clause-few : goal.grow_row-requires-clause-few
+grow_row-requires-clause-few g c = omega (arith, ap length c.deref.ensures.value, c.in_ok-below.ensures.counted.few, narrow (g.B.Ground.geometry c.args.blocks.now))
+
+pub grow_row-requires-clause-sizes : goal.grow_row-requires-clause-sizes
+grow_row-requires-clause-sizes g c = subst AreSome (sym c.deref.ensures.value) c.in_ok-below.ensures.counted.some
+
+pub grow_row-requires-clause-leaves : goal.grow_row-requires-clause-leaves
+grow_row-requires-clause-leaves g c =
+    subst (λ geo. FitLeaves geo (c.args.height - 1) c.deref.result.now) (sym (g.B.Ground.leads_geometry c.args.blocks.now c.row_of.new.blocks c.in_ok-below.ensures.kept.leads))
+    (subst (FitLeaves (g.B.Ground.geometry c.args.blocks.now) (c.args.height - 1)) (sym c.deref.ensures.value) (below_fit (g.B.Ground.geometry c.args.blocks.now) c.args.height _ _ c.in_ok-below.below.items c.if-height-eq0.false c.in_ok-below.ensures.counted))
+
+pub grow_row-requires-clause-limit : goal.grow_row-requires-clause-limit
+grow_row-requires-clause-limit g c = omega (arith, ap row_size c.deref.ensures.value, c.in_ok-below.ensures.counted.sum, c.requires.limit)
+
+pub grow_row-requires-clause-spot : goal.grow_row-requires-clause-spot
+grow_row-requires-clause-spot g c = subst (IsSpot c.args.growth c.args.pos) (sym (ap row_size c.deref.ensures.value ∙ c.in_ok-below.ensures.counted.sum)) c.requires.spot
+
+pub grow_row-requires-clause-free : goal.grow_row-requires-clause-free
+grow_row-requires-clause-free g c =
+    subst (λ (geo : Geometry). need_leaves (leaf_bytes geo) (length c.args.given.now) ≤ g.B.Ground.free c.row_of.new.blocks Segment) (sym (g.B.Ground.leads_geometry c.args.blocks.now c.row_of.new.blocks c.in_ok-below.ensures.kept.leads)) (subst (λ (f : Area → ℕ). need_leaves (leaf_bytes (g.B.Ground.geometry c.args.blocks.now)) (length c.args.given.now) ≤ f Segment) (sym c.in_ok-below.ensures.kept.free) c.requires.free)
+
+pub grow_row-requires-clause-pages : goal.grow_row-requires-clause-pages
+grow_row-requires-clause-pages g c =
+    subst (λ (geo : Geometry). need_leaves (leaf_bytes geo) (length c.args.given.now) + (c.args.height - 1) * (2 * geo.fan) ≤ geo.fan * g.B.Ground.free c.row_of.new.blocks Page) (sym (g.B.Ground.leads_geometry c.args.blocks.now c.row_of.new.blocks c.in_ok-below.ensures.kept.leads))
+    (subst (λ (f : Area → ℕ). need_leaves (leaf_bytes (g.B.Ground.geometry c.args.blocks.now)) (length c.args.given.now) + (c.args.height - 1) * (2 * (g.B.Ground.geometry c.args.blocks.now).fan) ≤ (g.B.Ground.geometry c.args.blocks.now).fan * f Page) (sym c.in_ok-below.ensures.kept.free)
+    (omega (arith, level_up c.args.height (2 * (g.B.Ground.geometry c.args.blocks.now).fan) c.if-height-eq0.false, c.requires.pages)))
+
+pub nodes_over-requires-clause-buffer : goal.nodes_over-requires-clause-buffer
+nodes_over-requires-clause-buffer g c =
+    length-take-le c.geometry-geometry.result.page_size c.grow_row.new.buffer (omega (arith, c.grow_row.auto.buffer, c.requires.buffer, page_le (g.B.Ground.geometry c.args.blocks.now), ap (λ (k : Geometry). k.page_size) c.geometry-geometry.ensures))
+    ∙ ap (λ (k : Geometry). k.page_size) (c.geometry-geometry.ensures ∙ sym (g.B.Ground.leads_geometry c.row_of.new.blocks c.grow_row.new.blocks c.in_ok-grown.ensures.extends.leads ∙ (g.B.Ground.leads_geometry c.args.blocks.now c.row_of.new.blocks c.in_ok-below.ensures.kept.leads)))
+
+pub nodes_over-requires-clause-limit : goal.nodes_over-requires-clause-limit
+nodes_over-requires-clause-limit g c =
+    omega (arith, ap row_size c.deref-2.ensures.value, c.in_ok-grown.ensures.grown.sum, ap row_size c.deref.ensures.value, c.in_ok-below.ensures.counted.sum, c.requires.limit)
+
+pub nodes_over-requires-clause-free : goal.nodes_over-requires-clause-free
+nodes_over-requires-clause-free g c =
+    let paid = (paid_at g.B.Ground c.args.blocks.now c.row_of.new.blocks c.grow_row.new.blocks c.args.height (length c.args.given.now) (length c.deref.result.now) (length c.in_ok-grown.grown.items) c.in_ok-below.ensures.kept c.in_ok-grown.ensures.paid) in
+    subst (λ (k : Geometry). nodes_for k.fan (length c.deref-2.result.now) ≤ g.B.Ground.free c.grow_row.new.blocks Page) (sym (g.B.Ground.leads_geometry c.row_of.new.blocks c.grow_row.new.blocks c.in_ok-grown.ensures.extends.leads ∙ (g.B.Ground.leads_geometry c.args.blocks.now c.row_of.new.blocks c.in_ok-below.ensures.kept.leads)))
+    (node_free (g.B.Ground.geometry c.args.blocks.now).fan (need_leaves (leaf_bytes (g.B.Ground.geometry c.args.blocks.now)) (length c.args.given.now)) c.args.height paid.parts (length c.in_ok-grown.grown.items) (length c.deref.result.now) (nodes_for (g.B.Ground.geometry c.args.blocks.now).fan (length c.deref-2.result.now)) (g.B.Ground.free c.args.blocks.now Page) (g.B.Ground.free c.grow_row.new.blocks Page)
+    (omega (arith, (g.B.Ground.geometry c.args.blocks.now).two)) c.if-height-eq0.false paid.some paid.count (omega (arith, ap length c.deref.ensures.value, c.in_ok-below.ensures.counted.few)) (ap (nodes_for (g.B.Ground.geometry c.args.blocks.now).fan) (ap length c.deref-2.ensures.value)) c.requires.pages paid.paid)
+
+pub returns-clause-extends : goal.returns-clause-extends
+returns-clause-extends g c =
+    on_ok_on c.nodes_over.result _ (λ made is. extends_on g.B.Ground c.args.blocks.now c.row_of.new.blocks c.nodes_over.new.blocks (extends_kept g.B.Ground c.args.blocks.now c.row_of.new.blocks c.in_ok-below.ensures.kept) (extends_on g.B.Ground c.row_of.new.blocks c.grow_row.new.blocks c.nodes_over.new.blocks c.in_ok-grown.ensures.extends (on_of c.nodes_over.result made _ is c.nodes_over.ensures.extends)))
+
+pub returns-clause-leads : goal.returns-clause-leads
+returns-clause-leads g c =
+    g.B.Ground.leads_trans c.args.blocks.now c.row_of.new.blocks c.nodes_over.new.blocks c.in_ok-below.ensures.kept.leads (g.B.Ground.leads_trans c.row_of.new.blocks c.grow_row.new.blocks c.nodes_over.new.blocks c.in_ok-grown.ensures.leads c.nodes_over.ensures.leads)
+
+pub returns-clause-cause : goal.returns-clause-cause
+returns-clause-cause g c =
+    let first : g.B.Ground.faults c.args.blocks.now ≤ g.B.Ground.faults c.row_of.new.blocks = g.B.Ground.leads_faults c.args.blocks.now c.row_of.new.blocks c.in_ok-below.ensures.kept.leads in
+    let second : g.B.Ground.faults c.row_of.new.blocks ≤ g.B.Ground.faults c.grow_row.new.blocks = g.B.Ground.leads_faults c.row_of.new.blocks c.grow_row.new.blocks c.in_ok-grown.ensures.leads in
+    cause_on (g.B.Ground.faults c.args.blocks.now) (g.B.Ground.faults c.grow_row.new.blocks) (g.B.Ground.faults c.nodes_over.new.blocks) c.nodes_over.result (omega arith) c.nodes_over.ensures.cause
+
+pub returns-clause-grown : goal.returns-clause-grown
+returns-clause-grown g c =
+    if_ok_on c.nodes_over.result _ (λ made is. record {
+      sum = omega (arith, ok_of c.nodes_over.result made _ is c.nodes_over.ensures.sum, ap row_size c.deref-2.ensures.value, c.in_ok-grown.ensures.grown.sum, ap row_size c.deref.ensures.value, c.in_ok-below.ensures.counted.sum);
+      sizes = ok_of c.nodes_over.result made _ is c.nodes_over.ensures.sizes;
+      some = omega (arith, ok_of c.nodes_over.result made _ is c.nodes_over.ensures.count, some_node (g.B.Ground.geometry c.grow_row.new.blocks).fan (length c.deref-2.result.now) (omega (arith, ap length c.deref-2.ensures.value, c.in_ok-grown.ensures.grown.some)));
+    })
+
+pub returns-clause-leaves : goal.returns-clause-leaves
+returns-clause-leaves g c =
+    on_ok_on c.nodes_over.result _ (λ made is.
+    let later : g.B.Ground.free c.row_of.new.blocks Segment ≤ g.B.Ground.free c.grow_row.new.blocks Segment + need_leaves (leaf_bytes (g.B.Ground.geometry c.args.blocks.now)) (length c.args.given.now) =
+    subst (λ (geo : Geometry). g.B.Ground.free c.row_of.new.blocks Segment ≤ g.B.Ground.free c.grow_row.new.blocks Segment + need_leaves (leaf_bytes geo) (length c.args.given.now)) (g.B.Ground.leads_geometry c.args.blocks.now c.row_of.new.blocks c.in_ok-below.ensures.kept.leads) c.in_ok-grown.ensures.leaves in
+    omega (arith, (on_of c.nodes_over.result made _ is c.nodes_over.ensures.spent).of_leaves, ap (λ (f : Area → ℕ). f Segment) c.in_ok-below.ensures.kept.free))
+
+pub returns-clause-paid : goal.returns-clause-paid
+returns-clause-paid g c =
+    if_ok_on c.nodes_over.result _ (λ made is.
+    let paid = (paid_at g.B.Ground c.args.blocks.now c.row_of.new.blocks c.grow_row.new.blocks c.args.height (length c.args.given.now) (length c.deref.result.now) (length c.in_ok-grown.grown.items) c.in_ok-below.ensures.kept c.in_ok-grown.ensures.paid) in
+    let count = ok_of c.nodes_over.result made _ is c.nodes_over.ensures.count in
+    let many : length made.items ≡ nodes_for (g.B.Ground.geometry c.args.blocks.now).fan (length c.in_ok-grown.grown.items) =
+    count ∙ ap (λ (k : Geometry). nodes_for k.fan (length c.deref-2.result.now)) (g.B.Ground.leads_geometry c.row_of.new.blocks c.grow_row.new.blocks c.in_ok-grown.ensures.extends.leads ∙ (g.B.Ground.leads_geometry c.args.blocks.now c.row_of.new.blocks c.in_ok-below.ensures.kept.leads)) ∙ ap (nodes_for (g.B.Ground.geometry c.args.blocks.now).fan) (ap length c.deref-2.ensures.value) in
+    record {
+      parts = length made.items;
+      some = omega (arith, many, some_node (g.B.Ground.geometry c.args.blocks.now).fan (length c.in_ok-grown.grown.items) c.in_ok-grown.ensures.grown.some);
+      count = omega arith;
+      paid = node_paid (g.B.Ground.geometry c.args.blocks.now).fan (need_leaves (leaf_bytes (g.B.Ground.geometry c.args.blocks.now)) (length c.args.given.now)) c.args.height paid.parts (length c.in_ok-grown.grown.items) (length c.deref.result.now) (length made.items) (g.B.Ground.free c.args.blocks.now Page) (g.B.Ground.free c.grow_row.new.blocks Page) (g.B.Ground.free c.nodes_over.new.blocks Page)
+          (omega (arith, (g.B.Ground.geometry c.args.blocks.now).two)) c.if-height-eq0.false paid.some paid.count (omega (arith, ap length c.deref.ensures.value, c.in_ok-below.ensures.counted.few)) many (omega (arith, (on_of c.nodes_over.result made _ is c.nodes_over.ensures.spent).of_pages, count)) paid.paid;
+    })
+
+pub returns-clause-grew : goal.returns-clause-grew
+returns-clause-grew g c =
+    if_ok_on c.nodes_over.result _ (λ made is told l same holds.
+    let b = g.B.Ground in
+    let kept = c.in_ok-below.ensures.kept in
+    let told_b = b.leads_told c.args.blocks.now c.row_of.new.blocks kept.leads told in
+    let told_c = b.leads_told c.row_of.new.blocks c.grow_row.new.blocks c.in_ok-grown.ensures.leads told_b in
+    let grew : (m : ℕ) → c.args.height - 1 ≡ m → Holds g.B.Ground c.row_of.new.blocks m c.in_ok-below.below.items → Grew g.B.Ground c.row_of.new.blocks c.grow_row.new.blocks m c.in_ok-below.below.items c.in_ok-grown.grown.items (inserted (row_bytes (g.B.Ground.unit c.row_of.new.blocks) m c.in_ok-below.below.items) c.args.pos c.args.given.now)
+    (row_by c.args.growth (g.B.Ground.geometry c.args.blocks.now).fan (leaf_bytes (g.B.Ground.geometry c.args.blocks.now)) (length c.args.given.now) m (row_shape (g.B.Ground.unit c.row_of.new.blocks) m c.in_ok-below.below.items) c.args.pos) =
+    subst (λ (geo : Geometry). (m : ℕ) → c.args.height - 1 ≡ m → Holds g.B.Ground c.row_of.new.blocks m c.in_ok-below.below.items → Grew g.B.Ground c.row_of.new.blocks c.grow_row.new.blocks m c.in_ok-below.below.items c.in_ok-grown.grown.items (inserted (row_bytes (g.B.Ground.unit c.row_of.new.blocks) m c.in_ok-below.below.items) c.args.pos c.args.given.now)
+    (row_by c.args.growth geo.fan (leaf_bytes geo) (length c.args.given.now) m (row_shape (g.B.Ground.unit c.row_of.new.blocks) m c.in_ok-below.below.items) c.args.pos)) (g.B.Ground.leads_geometry c.args.blocks.now c.row_of.new.blocks c.in_ok-below.ensures.kept.leads)
+    (subst (λ (r : List Part). (m : ℕ) → c.args.height - 1 ≡ m → Holds g.B.Ground c.row_of.new.blocks m r → Grew g.B.Ground c.row_of.new.blocks c.grow_row.new.blocks m r c.in_ok-grown.grown.items (inserted (row_bytes (g.B.Ground.unit c.row_of.new.blocks) m r) c.args.pos c.args.given.now)
+    (row_by c.args.growth (g.B.Ground.geometry c.row_of.new.blocks).fan (leaf_bytes (g.B.Ground.geometry c.row_of.new.blocks)) (length c.args.given.now) m (row_shape (g.B.Ground.unit c.row_of.new.blocks) m r) c.args.pos)) c.deref.ensures.value (c.in_ok-grown.ensures.grew told_b)) in
+    let built : (m : ℕ) → c.args.height ≡ suc m → Holds g.B.Ground c.grow_row.new.blocks m c.in_ok-grown.grown.items → Built g.B.Ground c.nodes_over.new.blocks m (even_lens (g.B.Ground.geometry c.grow_row.new.blocks).fan (length c.in_ok-grown.grown.items)) c.in_ok-grown.grown.items made.items =
+    subst (λ (r : List Part). (m : ℕ) → c.args.height ≡ suc m → Holds g.B.Ground c.grow_row.new.blocks m r → Built g.B.Ground c.nodes_over.new.blocks m (even_lens (g.B.Ground.geometry c.grow_row.new.blocks).fan (length r)) r made.items) c.deref-2.ensures.value (ok_of c.nodes_over.result made _ is c.nodes_over.ensures.built told_c) in
+    root_grew g.B.Ground c.args.blocks.now c.row_of.new.blocks c.grow_row.new.blocks c.nodes_over.new.blocks c.args.growth (g.B.Ground.geometry c.args.blocks.now).fan (leaf_bytes (g.B.Ground.geometry c.args.blocks.now)) c.args.height l c.args.tree c.in_ok-below.below.items c.in_ok-grown.grown.items made.items c.args.pos c.args.given.now
+    same c.if-height-eq0.false kept c.in_ok-grown.ensures.extends (on_of c.nodes_over.result made _ is c.nodes_over.ensures.extends) refl (c.in_ok-below.ensures.found told) grew (ok_of c.nodes_over.result made _ is c.nodes_over.ensures.took) built holds)

@@ -1,0 +1,44 @@
+use Rattle.std.proofs.Common.{arith, rules, ◌≡◌, ◌≤◌, length}
+use Rattle.tree_model.specs.Trees.{root_shape, root_units}
+use Rattle.ex_base.specs.Sizes.{leaf_bytes}
+use Rattle.tree_insert.specs.declared.layout.Growth.TheVariants.{Insert}
+use Rattle.tree_insert.proofs.Results.{if_ok_on, on_ok_on, ok_of, on_of}
+use Rattle.tree_insert.proofs.RootEdit.{root_stays, nothing_changes, nothing_turned, leaves_most, pages_most}
+use Rattle.tree_insert.proofs.edit.insert.Goals as goal
+
+pub returns-then-is_empty-clause-shape : goal.returns-then-is_empty-clause-shape
+returns-then-is_empty-clause-shape g c = λ told bytes spells used.
+    let none : length c.args.given.now ≡ 0 = search rules in
+    nothing_changes Insert (g.B.Ground.geometry c.args.blocks.now).fan (leaf_bytes (g.B.Ground.geometry c.args.blocks.now)) (root_shape (g.B.Ground.unit c.args.blocks.now) c.args.root.now) c.args.pos (length c.args.given.now) none
+
+pub returns-then-is_empty-clause-units : goal.returns-then-is_empty-clause-units
+returns-then-is_empty-clause-units g c = λ told bytes spells used. nothing_turned g.B.Ground c.args.blocks.now (root_units (g.B.Ground.unit c.args.blocks.now) c.args.root.now)
+
+pub returns-clause-spells : goal.returns-clause-spells
+returns-clause-spells g c = if_ok_on c.grow.result _ (λ made is told bytes spells used. (ok_of c.grow.result made _ is c.grow.ensures.edited told bytes spells used).spells)
+
+pub returns-clause-shape : goal.returns-clause-shape
+returns-clause-shape g c = if_ok_on c.grow.result _ (λ made is told bytes spells used. (ok_of c.grow.result made _ is c.grow.ensures.edited told bytes spells used).shape)
+
+pub returns-clause-units : goal.returns-clause-units
+returns-clause-units g c = if_ok_on c.grow.result _ (λ made is told bytes spells used. (ok_of c.grow.result made _ is c.grow.ensures.edited told bytes spells used).units)
+
+pub grow-requires-clause-pages : goal.grow-requires-clause-pages
+grow-requires-clause-pages g c =
+    let some : 1 ≤ (length c.args.given.now) = search rules in
+    omega (arith, pages_most (g.B.Ground.geometry c.args.blocks.now) c.args.root.now.page (length c.args.given.now) c.args.root.now.height, c.requires.pages some)
+
+pub grow-requires-clause-leaves : goal.grow-requires-clause-leaves
+grow-requires-clause-leaves g c =
+    let some : 1 ≤ (length c.args.given.now) = search rules in
+    omega (arith, leaves_most (g.B.Ground.geometry c.args.blocks.now) c.args.root.now.page (length c.args.given.now), c.requires.leaves some)
+
+pub returns-clause-leaves : goal.returns-clause-leaves
+returns-clause-leaves g c = on_ok_on c.grow.result _ (λ made is. omega (arith, on_of c.grow.result made _ is c.grow.ensures.leaves, leaves_most (g.B.Ground.geometry c.args.blocks.now) c.args.root.now.page (length c.args.given.now)))
+
+pub returns-clause-pages : goal.returns-clause-pages
+returns-clause-pages g c = on_ok_on c.grow.result _ (λ made is. omega (arith, on_of c.grow.result made _ is c.grow.ensures.pages, pages_most (g.B.Ground.geometry c.args.blocks.now) c.args.root.now.page (length c.args.given.now) c.args.root.now.height))
+
+pub returns-clause-old : goal.returns-clause-old
+returns-clause-old g c =
+    on_ok_on c.grow.result _ (λ made is told bytes spells used. root_stays g.B.Ground c.args.blocks.now c.grow.new.blocks c.args.root.now bytes (on_of c.grow.result made _ is c.grow.ensures.extends) used spells)

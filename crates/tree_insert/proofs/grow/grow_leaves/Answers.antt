@@ -1,0 +1,111 @@
+use Rattle.std.proofs.Common.{arith, ◌≡◌, ◌≤◌, ◌+◌, ◌-◌, ◌/◌, ◌++◌, ◌∙◌, ap, sym, subst, refl, length, take, drop}
+use Rattle.std.specs.List.{AllByRecursion}
+use Rattle.ex_base.specs.Even.{sum_of}
+use Rattle.ex_base.proofs.Spread.{plain, Between}
+use Rattle.leaf_segments.specs.Layout.{layout_of}
+use Rattle.tree_rows.specs.declared.rows.Part.{Part}
+use Rattle.tree_rows.specs.Rows.{row_size, row_bytes, row_shape}
+use Rattle.tree_steps.specs.Made.{Holds, changed, sizes_of}
+use Rattle.tree_insert.specs.Grown.{Grew}
+use Rattle.tree_insert.specs.Growth.{row_by}
+use Rattle.ex_base.specs.Edits.{inserted}
+use Rattle.tree_insert.specs.Places.{last_of, first_of, size_at}
+use Rattle.tree_insert.proofs.LeafStep.{leaf_step, leaf_some, left_there, right_there, step_count, step_grown, leaves_grew}
+use Rattle.tree_insert.proofs.grow.grow_leaves.Goals as goal
+
+pub run_of-run-requires-clause-left : goal.run_of-run-requires-clause-left
+run_of-run-requires-clause-left g c =
+    left_there c.args.growth (length c.args.buffer.now) c.args.row.now c.tree_at-index.result.0 (size_at c.args.row.now c.tree_at-index.result.0) (first_of (sizes_of (drop (c.tree_at-index.result.0 + 1) c.args.row.now))) (length c.args.given.now)
+    (layout_of (length c.args.buffer.now) c.plan_for-plan.result) c.plan_for-plan.ensures.layout
+
+pub run_of-run-requires-clause-right : goal.run_of-run-requires-clause-right
+run_of-run-requires-clause-right g c =
+    right_there c.args.growth (length c.args.buffer.now) c.args.row.now c.tree_at-index.result.0 (last_of (sizes_of (take c.tree_at-index.result.0 c.args.row.now))) (size_at c.args.row.now c.tree_at-index.result.0) (length c.args.given.now)
+    (layout_of (length c.args.buffer.now) c.plan_for-plan.result) c.plan_for-plan.ensures.layout
+
+pub write_leaves-requires-clause-change : goal.write_leaves-requires-clause-change
+write_leaves-requires-clause-change g c =
+    let step = leaf_step c.args.growth (g.B.Ground.geometry c.args.blocks.now).fan (length c.args.buffer.now) (length c.args.given.now) c.args.row.now c.args.pos c.tree_at-index.result.0 c.tree_at-index.result.1 c.run_of-run.result.first c.run_of-run.result.end c.run_of-run.result.at
+    (layout_of (length c.args.buffer.now) c.plan_for-plan.result) (omega (arith, leaf_some (g.B.Ground.geometry c.args.blocks.now), c.requires.buffer)) c.requires.given c.requires.sizes
+    (subst (λ k. AllByRecursion (λ (part : Part). part.size ≤ k) c.args.row.now) (sym c.requires.buffer) (c.requires.leaves refl)) c.requires.spot c.tree_at-index.ensures c.plan_for-plan.ensures.layout
+    c.run_of-run.ensures.first c.run_of-run.ensures.end c.run_of-run.ensures.at c.run_of-run.ensures.inside in
+    omega (arith, step.fits, ap row_size c.piece-old.ensures)
+
+pub write_leaves-requires-clause-lengths : goal.write_leaves-requires-clause-lengths
+write_leaves-requires-clause-lengths g c =
+    let step = leaf_step c.args.growth (g.B.Ground.geometry c.args.blocks.now).fan (length c.args.buffer.now) (length c.args.given.now) c.args.row.now c.args.pos c.tree_at-index.result.0 c.tree_at-index.result.1 c.run_of-run.result.first c.run_of-run.result.end c.run_of-run.result.at
+    (layout_of (length c.args.buffer.now) c.plan_for-plan.result) (omega (arith, leaf_some (g.B.Ground.geometry c.args.blocks.now), c.requires.buffer)) c.requires.given c.requires.sizes
+    (subst (λ k. AllByRecursion (λ (part : Part). part.size ≤ k) c.args.row.now) (sym c.requires.buffer) (c.requires.leaves refl)) c.requires.spot c.tree_at-index.ensures c.plan_for-plan.ensures.layout
+    c.run_of-run.ensures.first c.run_of-run.ensures.end c.run_of-run.ensures.at c.run_of-run.ensures.inside in
+    subst (AllByRecursion (Between 1 (length c.args.buffer.now))) (sym (c.deref.ensures.value ∙ c.in_ok-lengths.ensures)) step.each
+
+pub write_leaves-requires-clause-sum : goal.write_leaves-requires-clause-sum
+write_leaves-requires-clause-sum g c =
+    let step = leaf_step c.args.growth (g.B.Ground.geometry c.args.blocks.now).fan (length c.args.buffer.now) (length c.args.given.now) c.args.row.now c.args.pos c.tree_at-index.result.0 c.tree_at-index.result.1 c.run_of-run.result.first c.run_of-run.result.end c.run_of-run.result.at
+    (layout_of (length c.args.buffer.now) c.plan_for-plan.result) (omega (arith, leaf_some (g.B.Ground.geometry c.args.blocks.now), c.requires.buffer)) c.requires.given c.requires.sizes
+    (subst (λ k. AllByRecursion (λ (part : Part). part.size ≤ k) c.args.row.now) (sym c.requires.buffer) (c.requires.leaves refl)) c.requires.spot c.tree_at-index.ensures c.plan_for-plan.ensures.layout
+    c.run_of-run.ensures.first c.run_of-run.ensures.end c.run_of-run.ensures.at c.run_of-run.ensures.inside in
+    omega (arith, step.sum, ap (sum_of plain) (c.deref.ensures.value ∙ c.in_ok-lengths.ensures), ap row_size c.piece-old.ensures)
+
+pub write_leaves-requires-clause-limit : goal.write_leaves-requires-clause-limit
+write_leaves-requires-clause-limit g c =
+    let step = leaf_step c.args.growth (g.B.Ground.geometry c.args.blocks.now).fan (length c.args.buffer.now) (length c.args.given.now) c.args.row.now c.args.pos c.tree_at-index.result.0 c.tree_at-index.result.1 c.run_of-run.result.first c.run_of-run.result.end c.run_of-run.result.at
+    (layout_of (length c.args.buffer.now) c.plan_for-plan.result) (omega (arith, leaf_some (g.B.Ground.geometry c.args.blocks.now), c.requires.buffer)) c.requires.given c.requires.sizes
+    (subst (λ k. AllByRecursion (λ (part : Part). part.size ≤ k) c.args.row.now) (sym c.requires.buffer) (c.requires.leaves refl)) c.requires.spot c.tree_at-index.ensures c.plan_for-plan.ensures.layout
+    c.run_of-run.ensures.first c.run_of-run.ensures.end c.run_of-run.ensures.at c.run_of-run.ensures.inside in
+    omega (arith, step.smaller, ap row_size c.piece-old.ensures, c.requires.limit)
+
+pub write_leaves-requires-clause-free : goal.write_leaves-requires-clause-free
+write_leaves-requires-clause-free g c =
+    let step = leaf_step c.args.growth (g.B.Ground.geometry c.args.blocks.now).fan (length c.args.buffer.now) (length c.args.given.now) c.args.row.now c.args.pos c.tree_at-index.result.0 c.tree_at-index.result.1 c.run_of-run.result.first c.run_of-run.result.end c.run_of-run.result.at
+    (layout_of (length c.args.buffer.now) c.plan_for-plan.result) (omega (arith, leaf_some (g.B.Ground.geometry c.args.blocks.now), c.requires.buffer)) c.requires.given c.requires.sizes
+    (subst (λ k. AllByRecursion (λ (part : Part). part.size ≤ k) c.args.row.now) (sym c.requires.buffer) (c.requires.leaves refl)) c.requires.spot c.tree_at-index.ensures c.plan_for-plan.ensures.layout
+    c.run_of-run.ensures.first c.run_of-run.ensures.end c.run_of-run.ensures.at c.run_of-run.ensures.inside in
+    omega (arith, step.few, ap length (c.deref.ensures.value ∙ c.in_ok-lengths.ensures), c.requires.free, ap (λ k. length c.args.given.now / k) c.requires.buffer)
+
+pub returns-clause-grown : goal.returns-clause-grown
+returns-clause-grown g c =
+    let step = leaf_step c.args.growth (g.B.Ground.geometry c.args.blocks.now).fan (length c.args.buffer.now) (length c.args.given.now) c.args.row.now c.args.pos c.tree_at-index.result.0 c.tree_at-index.result.1 c.run_of-run.result.first c.run_of-run.result.end c.run_of-run.result.at
+    (layout_of (length c.args.buffer.now) c.plan_for-plan.result) (omega (arith, leaf_some (g.B.Ground.geometry c.args.blocks.now), c.requires.buffer)) c.requires.given c.requires.sizes
+    (subst (λ k. AllByRecursion (λ (part : Part). part.size ≤ k) c.args.row.now) (sym c.requires.buffer) (c.requires.leaves refl)) c.requires.spot c.tree_at-index.ensures c.plan_for-plan.ensures.layout
+    c.run_of-run.ensures.first c.run_of-run.ensures.end c.run_of-run.ensures.at c.run_of-run.ensures.inside in
+    step_grown c.args.growth (g.B.Ground.geometry c.args.blocks.now).fan (length c.args.buffer.now) (length c.args.given.now) c.args.row.now c.args.pos c.run_of-run.result.first c.run_of-run.result.end c.run_of-run.result.at (layout_of (length c.args.buffer.now) c.plan_for-plan.result).lengths
+    c.in_ok-made.made.items c.in_ok-spliced.field-0.items (omega (arith, c.run_of-run.ensures.first, c.run_of-run.ensures.end)) c.run_of-run.ensures.inside c.requires.some c.requires.sizes step (c.in_ok-spliced.ensures ∙ ap (λ m. (take c.run_of-run.result.first c.args.row.now ++ m) ++ drop c.run_of-run.result.end c.args.row.now) c.deref-2.ensures.value) (c.in_ok-made.ensures.sizes ∙ c.deref.ensures.value ∙ c.in_ok-lengths.ensures)
+
+pub returns-clause-count : goal.returns-clause-count
+returns-clause-count g c =
+    let step = leaf_step c.args.growth (g.B.Ground.geometry c.args.blocks.now).fan (length c.args.buffer.now) (length c.args.given.now) c.args.row.now c.args.pos c.tree_at-index.result.0 c.tree_at-index.result.1 c.run_of-run.result.first c.run_of-run.result.end c.run_of-run.result.at
+    (layout_of (length c.args.buffer.now) c.plan_for-plan.result) (omega (arith, leaf_some (g.B.Ground.geometry c.args.blocks.now), c.requires.buffer)) c.requires.given c.requires.sizes
+    (subst (λ k. AllByRecursion (λ (part : Part). part.size ≤ k) c.args.row.now) (sym c.requires.buffer) (c.requires.leaves refl)) c.requires.spot c.tree_at-index.ensures c.plan_for-plan.ensures.layout
+    c.run_of-run.ensures.first c.run_of-run.ensures.end c.run_of-run.ensures.at c.run_of-run.ensures.inside in
+    omega (
+      arith,
+      step_count c.run_of-run.result.first c.run_of-run.result.end c.args.row.now c.in_ok-made.made.items c.in_ok-spliced.field-0.items (layout_of (length c.args.buffer.now) c.plan_for-plan.result).lengths (omega (arith, c.run_of-run.ensures.first, c.run_of-run.ensures.end)) c.run_of-run.ensures.inside (c.in_ok-spliced.ensures ∙ ap (λ m. (take c.run_of-run.result.first c.args.row.now ++ m) ++ drop c.run_of-run.result.end c.args.row.now) c.deref-2.ensures.value) (c.in_ok-made.ensures.sizes ∙ c.deref.ensures.value ∙ c.in_ok-lengths.ensures),
+      c.run_of-run.ensures.first,
+      c.run_of-run.ensures.end,
+      step.few,
+      ap (λ k. length c.args.given.now / k) c.requires.buffer,
+    )
+
+pub returns-clause-leaves : goal.returns-clause-leaves
+returns-clause-leaves g c =
+    let step = leaf_step c.args.growth (g.B.Ground.geometry c.args.blocks.now).fan (length c.args.buffer.now) (length c.args.given.now) c.args.row.now c.args.pos c.tree_at-index.result.0 c.tree_at-index.result.1 c.run_of-run.result.first c.run_of-run.result.end c.run_of-run.result.at
+    (layout_of (length c.args.buffer.now) c.plan_for-plan.result) (omega (arith, leaf_some (g.B.Ground.geometry c.args.blocks.now), c.requires.buffer)) c.requires.given c.requires.sizes
+    (subst (λ k. AllByRecursion (λ (part : Part). part.size ≤ k) c.args.row.now) (sym c.requires.buffer) (c.requires.leaves refl)) c.requires.spot c.tree_at-index.ensures c.plan_for-plan.ensures.layout
+    c.run_of-run.ensures.first c.run_of-run.ensures.end c.run_of-run.ensures.at c.run_of-run.ensures.inside in
+    omega (arith, c.in_ok-made.ensures.spent.of_leaves, step.few, ap length (c.deref.ensures.value ∙ c.in_ok-lengths.ensures), ap (λ k. length c.args.given.now / k) c.requires.buffer)
+
+pub returns-clause-grew : goal.returns-clause-grew
+returns-clause-grew g c = λ told holds.
+    let step = leaf_step c.args.growth (g.B.Ground.geometry c.args.blocks.now).fan (length c.args.buffer.now) (length c.args.given.now) c.args.row.now c.args.pos c.tree_at-index.result.0 c.tree_at-index.result.1 c.run_of-run.result.first c.run_of-run.result.end c.run_of-run.result.at
+    (layout_of (length c.args.buffer.now) c.plan_for-plan.result) (omega (arith, leaf_some (g.B.Ground.geometry c.args.blocks.now), c.requires.buffer)) c.requires.given c.requires.sizes
+    (subst (λ k. AllByRecursion (λ (part : Part). part.size ≤ k) c.args.row.now) (sym c.requires.buffer) (c.requires.leaves refl)) c.requires.spot c.tree_at-index.ensures c.plan_for-plan.ensures.layout
+    c.run_of-run.ensures.first c.run_of-run.ensures.end c.run_of-run.ensures.at c.run_of-run.ensures.inside in
+    let made = c.in_ok-made.ensures in
+    let bytes : Holds g.B.Ground c.args.blocks.now 0 (take (c.run_of-run.result.end - c.run_of-run.result.first) (drop c.run_of-run.result.first c.args.row.now))
+    → row_bytes (g.B.Ground.unit c.write_leaves.new.blocks) 0 c.in_ok-made.made.items ≡ changed (row_bytes (g.B.Ground.unit c.args.blocks.now) 0 (take (c.run_of-run.result.end - c.run_of-run.result.first) (drop c.run_of-run.result.first c.args.row.now))) c.run_of-run.result.at 0 c.args.given.now =
+    subst (λ r. Holds g.B.Ground c.args.blocks.now 0 r → row_bytes (g.B.Ground.unit c.write_leaves.new.blocks) 0 c.in_ok-made.made.items ≡ changed (row_bytes (g.B.Ground.unit c.args.blocks.now) 0 r) c.run_of-run.result.at 0 c.args.given.now) c.piece-old.ensures (made.bytes told) in
+    subst (λ k. Grew g.B.Ground c.args.blocks.now c.write_leaves.new.blocks 0 c.args.row.now c.in_ok-spliced.field-0.items (inserted (row_bytes (g.B.Ground.unit c.args.blocks.now) 0 c.args.row.now) c.args.pos c.args.given.now)
+    (row_by c.args.growth (g.B.Ground.geometry c.args.blocks.now).fan k (length c.args.given.now) 0 (row_shape (g.B.Ground.unit c.args.blocks.now) 0 c.args.row.now) c.args.pos)) c.requires.buffer
+    (leaves_grew g.B.Ground c.args.blocks.now c.write_leaves.new.blocks c.args.growth (g.B.Ground.geometry c.args.blocks.now).fan (length c.args.buffer.now) c.args.row.now c.args.pos c.run_of-run.result.first c.run_of-run.result.end c.run_of-run.result.at c.args.given.now
+    (layout_of (length c.args.buffer.now) c.plan_for-plan.result).lengths c.in_ok-made.made.items c.in_ok-spliced.field-0.items c.requires.ready told c.requires.buffer step made.extends holds (c.in_ok-spliced.ensures ∙ ap (λ m. (take c.run_of-run.result.first c.args.row.now ++ m) ++ drop c.run_of-run.result.end c.args.row.now) c.deref-2.ensures.value) (c.in_ok-made.ensures.sizes ∙ c.deref.ensures.value ∙ c.in_ok-lengths.ensures) made.named made.took bytes)

@@ -1,0 +1,11 @@
+use Rattle.std.proofs.Common.{rules, ◌-◌}
+use Rattle.tree_insert.proofs.PlaceLaws.{read_most, left_is}
+use Rattle.tree_insert.proofs.layout.left_of.Goals as goal
+
+pub overflow_cast-result : goal.overflow_cast-result
+overflow_cast-result c =
+    let le = read_most c.args.row.now (c.args.index - 1) in
+    search rules
+
+pub returns : goal.returns
+returns c = left_is c.args.row.now c.args.index c.if-index-eq0.false c.requires.index

@@ -1,0 +1,6 @@
+pub mod Places
+pub mod Growth
+pub mod Grown
+pub mod Need
+pub mod Roots
+pub mod Edited

@@ -1,0 +1,105 @@
+// Growing a row: down one path, and new leaves and nodes on the way back.
+ghost use Rattle.std.specs.Prelude.{◌≡◌, ℕ, [], ◌∷◌, ◌≤◌, ◌<◌, ◌+◌, ◌*◌, ◌^◌, length, OnOk, IfOk};
+ghost use Rattle.ex_base.specs.Edits.{inserted};
+ghost use Rattle.ex_base.specs.Ports.{HasCause};
+ghost use Rattle.ex_base.specs.Sizes.{leaf_bytes};
+ghost use Rattle.ex_base.specs.declared.names.Area.TheVariants.{Page, Segment};
+ghost use Rattle.tree_model.specs.Trees.{shape_on};
+ghost use Rattle.tree_rows.specs.Rows.{row_size, row_bytes, row_shape, FitLeaves};
+ghost use Rattle.tree_steps.specs.Made.{Extends, Holds};
+ghost use Rattle.tree_steps.specs.Built.{AreSome};
+ghost use Rattle.tree_insert.specs.Grown.{Grew, HasGrown, IsPaid};
+ghost use Rattle.tree_insert.specs.Growth.{IsSpot, row_by, parts_by};
+ghost use Rattle.tree_insert.specs.Need.{need_leaves};
+
+use crate::layout::{Growth, lengths_of, plan_for, run_of, tree_at};
+use ex_base::{Blocks, PortFault};
+use std::alloc::Global;
+use tree_rows::{Part, piece, row_of, spliced};
+use tree_steps::{Change, nodes_over, write_leaves};
+
+/// New bytes at a position of a row of leaves.
+pub(crate) fn grow_leaves<B: Blocks>(
+    blocks: &mut B,
+    alloc: Global,
+    buffer: &mut [u8],
+    growth: Growth,
+    row: &[Part],
+    pos: u64,
+    given: &[u8],
+) -> Result<Vec<Part>, PortFault>
+    requires ready { B.ready blocks.old }
+    requires buffer { length buffer.old ≡ leaf_bytes (B.geometry blocks.old) }
+    requires some { 1 ≤ length row.now }
+    requires few { length row.now ≤ 999 }
+    requires sizes { AreSome row.now }
+    requires leaves { FitLeaves (B.geometry blocks.old) 0 row.now }
+    requires given { 1 ≤ length given.now }
+    requires limit { row_size row.now + length given.now < 2 ^ 32 }
+    requires spot { IsSpot growth pos (row_size row.now) }
+    requires free { need_leaves (leaf_bytes (B.geometry blocks.old)) (length given.now) ≤ B.free blocks.old Segment }
+    ensures extends { OnOk result (Extends B.Ground blocks.old blocks.new) }
+    ensures grown { IfOk result (λ made. HasGrown (length given.now) row.now made.items) }
+    ensures count { IfOk result (λ made. length made.items + 1 ≤ length row.now + need_leaves (leaf_bytes (B.geometry blocks.old)) (length given.now)) }
+    ensures leaves { OnOk result (B.free blocks.old Segment ≤ B.free blocks.new Segment + need_leaves (leaf_bytes (B.geometry blocks.old)) (length given.now)) }
+    ensures pages { OnOk result (B.free blocks.new Page ≡ B.free blocks.old Page) }
+    ensures grew { IfOk result (λ made. B.tells blocks.old → Holds B.Ground blocks.old 0 row.now
+        → Grew B.Ground blocks.old blocks.new 0 row.now made.items (inserted (row_bytes (B.unit blocks.old) 0 row.now) pos given.now)
+        (row_by growth (B.geometry blocks.old).fan (leaf_bytes (B.geometry blocks.old)) (length given.now) 0 (row_shape (B.unit blocks.old) 0 row.now) pos)) }
+    ensures leads { B.leads blocks.old blocks.new }
+    ensures cause { HasCause (B.faults blocks.old) (B.faults blocks.new) result }
+{
+    let (index, at) = tree_at(row, pos);
+    let cap = buffer.len() as u32;
+    let plan = plan_for(growth, row, index, given.len() as u64, cap);
+    let lengths = lengths_of(alloc, &plan, cap)?;
+    let run = run_of(&plan, row, index, at);
+    let old = piece(row, run.first, run.end - run.first);
+    let change = Change { at: run.at, cut: 0 };
+    let made = write_leaves(blocks, alloc, buffer, old, change, given, &lengths)?;
+    Ok(spliced(alloc, row, run.first, run.end, &made)?)
+}
+
+/// New bytes at a position of a row of trees of a level.
+pub(crate) fn grow_row<B: Blocks>(
+    blocks: &mut B,
+    alloc: Global,
+    buffer: &mut [u8],
+    growth: Growth,
+    level: u8,
+    row: &[Part],
+    pos: u64,
+    given: &[u8],
+) -> Result<Vec<Part>, PortFault>
+    requires ready { B.ready blocks.old }
+    requires buffer { length buffer.old ≡ leaf_bytes (B.geometry blocks.old) }
+    requires some { 1 ≤ length row.now }
+    requires few { length row.now ≤ 999 }
+    requires sizes { AreSome row.now }
+    requires leaves { FitLeaves (B.geometry blocks.old) level row.now }
+    requires given { 1 ≤ length given.now }
+    requires limit { row_size row.now + length given.now < 2 ^ 32 }
+    requires spot { IsSpot growth pos (row_size row.now) }
+    requires free { need_leaves (leaf_bytes (B.geometry blocks.old)) (length given.now) ≤ B.free blocks.old Segment }
+    requires pages { need_leaves (leaf_bytes (B.geometry blocks.old)) (length given.now) + level * (2 * (B.geometry blocks.old).fan) ≤ (B.geometry blocks.old).fan * B.free blocks.old Page }
+    ensures extends { OnOk result (Extends B.Ground blocks.old blocks.new) }
+    ensures grown { IfOk result (λ made. HasGrown (length given.now) row.now made.items) }
+    ensures leaves { OnOk result (B.free blocks.old Segment ≤ B.free blocks.new Segment + need_leaves (leaf_bytes (B.geometry blocks.old)) (length given.now)) }
+    ensures paid { IfOk result (λ made. IsPaid (B.geometry blocks.old).fan (need_leaves (leaf_bytes (B.geometry blocks.old)) (length given.now)) level (B.free blocks.old Page) (B.free blocks.new Page) (length row.now) (length made.items)) }
+    ensures grew { IfOk result (λ made. B.tells blocks.old → (l : ℕ) → level ≡ l → Holds B.Ground blocks.old l row.now
+        → Grew B.Ground blocks.old blocks.new l row.now made.items (inserted (row_bytes (B.unit blocks.old) l row.now) pos given.now)
+        (row_by growth (B.geometry blocks.old).fan (leaf_bytes (B.geometry blocks.old)) (length given.now) l (row_shape (B.unit blocks.old) l row.now) pos)) }
+    ensures leads { B.leads blocks.old blocks.new }
+    ensures cause { HasCause (B.faults blocks.old) (B.faults blocks.new) result }
+{
+    if level == 0 {
+        return grow_leaves(blocks, alloc, buffer, growth, row, pos, given);
+    }
+    let (index, at) = tree_at(row, pos);
+    let geometry = blocks.geometry();
+    let below = row_of(blocks, alloc, level, row[index], geometry.fan)?;
+    let grown = grow_row(blocks, alloc, buffer, growth, level - 1, &below, at, given)?;
+    let page = &mut buffer[..geometry.page_size as usize];
+    let made = nodes_over(blocks, alloc, page, level, &grown)?;
+    Ok(spliced(alloc, row, index, index + 1, &made)?)
+}

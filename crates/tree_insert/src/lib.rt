@@ -1,0 +1,12 @@
+//! Whole trees over any blocks: reading, appending and inserting, each equal to an edit of the list of bytes that a root spells. An edit never writes a
+//! unit that is in use: it takes new leaves, from left to right, and then new nodes, from the bottom up.
+#![tactic(auto)]
+
+mod edit;
+mod grow;
+mod layout;
+mod root_read;
+mod root_step;
+
+pub use edit::{append, insert};
+pub use root_read::{is_root_for, read};

@@ -1,0 +1,60 @@
+// Reading what a root spells.
+ghost use Rattle.std.specs.Prelude.{◌≡◌, ◌↔◌, ℕ, List, ◌≤◌, ◌+◌, length, IsTrue, OnOk, IfErr};
+ghost use Rattle.ex_base.specs.Bytes.{bytes_at};
+ghost use Rattle.ex_base.specs.Ports.{Keeps, HasCause};
+ghost use Rattle.tree_model.specs.Trees.{RootSpells};
+ghost use Rattle.tree_rows.specs.Damage.{IsTreeFault};
+ghost use Rattle.tree_insert.specs.Roots.{IsRootFor};
+
+use ex_base::{Blocks, Geometry, PortFault, Root};
+use std::alloc::Global;
+use tree_rows::{Part, read_row};
+
+/// The least number of children of a root that is a node.
+pub(crate) const ROOT_LEAST: u32 = 2;
+
+/// The largest size of an object: the largest number of four bytes.
+const SIZE_MOST: u64 = u32::MAX as u64;
+
+/// The largest height of a tree.
+const HEIGHT_MOST: u8 = 64;
+
+/// Whether a root is one that the calls on trees take: of size 0 with no page and height 0, or with a page and numbers in their limits.
+pub fn is_root_for(geometry: &Geometry, root: &Root) -> bool
+    ensures { IsTrue result ↔ IsRootFor geometry.now root.now }
+{
+    if root.page.is_none() {
+        return root.size == 0 && root.height == 0;
+    }
+    if root.size == 0 || root.size > SIZE_MOST || root.height > HEIGHT_MOST {
+        return false;
+    }
+    root.height != 0 || root.size <= geometry.leaf_bytes() as u64
+}
+
+/// Reads the bytes that a root spells from a position on, as many as `out` holds.
+pub fn read<B: Blocks>(
+    blocks: &mut B,
+    alloc: Global,
+    root: &Root,
+    pos: u64,
+    out: &mut [u8],
+) -> Result<(), PortFault>
+    requires ready { B.ready blocks.old }
+    requires root { IsRootFor (B.geometry blocks.old) root.now }
+    requires range { pos + length out.old ≤ root.now.size }
+    ensures bytes { OnOk result (B.tells blocks.old → (bytes : List ℕ) → RootSpells (B.geometry blocks.old) (B.unit blocks.old) root.now bytes
+        → out.new ≡ bytes_at bytes pos (length out.old)) }
+    ensures fault { IfErr result (λ fault. B.tells blocks.old → IsTreeFault (B.geometry blocks.old) (B.unit blocks.old) fault) }
+    ensures kept { Keeps B.Ground blocks.old blocks.new }
+    ensures cause { HasCause (B.faults blocks.old) (B.faults blocks.new) result }
+{
+    let Some(page) = root.page else {
+        return Ok(());
+    };
+    let part = Part {
+        size: root.size,
+        page,
+    };
+    read_row(blocks, alloc, root.height, ROOT_LEAST, &[part], pos, out)
+}
