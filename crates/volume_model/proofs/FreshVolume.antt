@@ -1,0 +1,41 @@
+-- A volume as it is made stands for the empty table.
+use Rattle.std.proofs.Common.{◌≡◌, ◌≢◌, ℕ, ◌≤◌, Bool, true, false, cond, ltb, List, [], length, slice_index, refl, sym, ap, subst, ◌∙◌, arith, add-zero}
+use Rattle.std.proofs.lemmas.Bool.Decides.{nat_tests}
+use Rattle.ex_base.specs.declared.geometry.Geometry.{Geometry}
+use Rattle.ex_base.specs.Area.{catalog_no, area_end, page_at}
+use Rattle.ex_base.specs.Bytes.{part}
+use Rattle.ex_base.specs.Sizes.{volume_bytes, least_volume, least_page}
+use Rattle.op_log.specs.Gates.{says_of}
+use Rattle.op_log.specs.Log.{SaysLog}
+use Rattle.object_files.specs.Catalog.{CatalogOf, fresh_catalog}
+use Rattle.table_model.specs.Tables.{empty_table}
+use Rattle.volume_model.specs.Parts.{SuperOf, StandsFor}
+use Rattle.volume_model.specs.Volume.{Decoded, units_of}
+
+abbrev fresh : Geometry → Decoded
+fresh g = record { geometry = g; records = []; volume = record { catalog = fresh_catalog; files = [] } }
+
+no_records : (g : Geometry) (disk : List ℕ) → volume_bytes g ≤ length disk → slice_index disk g.page_size ≢ 1 → SaysLog g [] disk
+unfolding part
+no_records g disk large closed = says_of g [] disk tt tt (record {
+  large = omega (arith, large, least_volume g);
+  room = omega (arith, least_page g);
+  records = refl;
+  closed = λ is. closed (ap (λ (i : ℕ). slice_index disk i) (sym (add-zero g.page_size)) ∙ is);
+})
+
+chosen : {A : Type 0} (b : Bool) (x y : A) → b ≡ true → cond b x y ≡ x
+chosen true x y is = refl
+chosen false x y is = absurd (cc)
+
+catalog_unit : (g : Geometry) (disk : List ℕ) → units_of (fresh g) disk catalog_no ≡ page_at g disk catalog_no
+catalog_unit g disk = chosen (ltb catalog_no (area_end g)) _ _ (let some = g.some_pages in grind (arith, nat_tests))
+
+pub fresh_stands : (g : Geometry) (disk : List ℕ) → SuperOf disk g → slice_index disk g.page_size ≢ 1 → CatalogOf (page_at g disk catalog_no) fresh_catalog → StandsFor disk empty_table
+fresh_stands g disk super closed catalog =
+    let page = subst (λ (bytes : List ℕ). CatalogOf bytes fresh_catalog) (sym (catalog_unit g disk)) catalog in
+    record {
+      decoded = fresh g;
+      parts = (super, (no_records g disk super.large closed, ((page, tt), ((tt, tt), (tt, (tt, (record { named = tt; no_file_page = tt; one_object = tt }, (tt, (record { differ = tt; some = tt; below = tt; listed = tt }, tt)))))))));
+      same = refl;
+    }

@@ -1,0 +1,110 @@
+-- What a disk decodes as is determined, up to the order in which a file's records are listed as lines.
+use Rattle.std.proofs.Common.{◌≡◌, ℕ, ◌-◌, ◌≤◌, List, [], ◌∷◌, ◌++◌, drop, refl, sym, ap, subst, ◌∙◌, arith, append_assoc, IsTrue, true}
+use Rattle.std.specs.List.{AllZip}
+use Rattle.std.proofs.lemmas.List.{take-append-drop}
+use Rattle.std.proofs.Math.Bridge.{le_prop}
+use Rattle.std.proofs.Math.Bool.{Bool-set}
+use mathlib.Core.HLevel.{is_prop→PathP}
+use Rattle.ex_base.specs.declared.geometry.Geometry.{Geometry}
+use Rattle.ex_base.specs.declared.names.Place.{Place}
+use Rattle.ex_base.specs.Bytes.{part}
+use Rattle.ex_base.specs.Fields.{four_bytes, zeros}
+use Rattle.ex_base.specs.Limits.{is_page_size, fan_most}
+use Rattle.ex_base.specs.Sizes.{most_page}
+use Rattle.ex_base.specs.Superblock.{magic, super_rest, super_page}
+use Rattle.ex_base.proofs.FieldLaws.{same_front, same_four}
+use Rattle.slotted_pages.specs.FilePage.{FilePage}
+use Rattle.object_records.specs.Record.{Record}
+use Rattle.volume_model.proofs.OneReading.{one_page, one_record}
+use Rattle.object_files.specs.Catalog.{FileEntry}
+use Rattle.tree_model.specs.Trees.{Units}
+use Rattle.volume_model.specs.Parts.{SuperOf, HasIndex, HasPage, HasPages, IsStored, HasLines, bodies_in}
+use Rattle.volume_model.specs.Volume.{Stored, FileContent}
+
+-- ---- the superblock
+
+-- a geometry is its numbers
+same_geometry : (a b : Geometry) → a.page_size ≡ b.page_size → a.pages ≡ b.pages → a.segs ≡ b.segs → a.seg_len ≡ b.seg_len → a.fan ≡ b.fan → a ≡ b
+same_geometry a b size pages segs len fan =
+    λ i. record {
+      page_size = size i;
+      pages = pages i;
+      segs = segs i;
+      seg_len = len i;
+      fan = fan i;
+      a_page_size = is_prop→PathP (λ j. IsTrue (is_page_size (size j))) (λ j. Bool-set (is_page_size (size j)) true) a.a_page_size b.a_page_size i;
+      some_pages = is_prop→PathP (λ j. 1 ≤ pages j) (λ j. le_prop) a.some_pages b.some_pages i;
+      few_pages = is_prop→PathP (λ j. pages j ≤ 4000000) (λ j. le_prop) a.few_pages b.few_pages i;
+      few_segs = is_prop→PathP (λ j. segs j ≤ 4000000) (λ j. le_prop) a.few_segs b.few_segs i;
+      some_length = is_prop→PathP (λ j. 1 ≤ len j) (λ j. le_prop) a.some_length b.some_length i;
+      short = is_prop→PathP (λ j. len j ≤ 16) (λ j. le_prop) a.short b.short i;
+      two = is_prop→PathP (λ j. 2 ≤ fan j) (λ j. le_prop) a.two b.two i;
+      narrow = is_prop→PathP (λ j. fan j ≤ fan_most (size j)) (λ j. le_prop) a.narrow b.narrow i;
+    }
+
+super_fields : (g : Geometry) (x : List ℕ) → super_page g ++ x ≡ magic ++ (four_bytes g.page_size ++ (four_bytes g.pages ++ (four_bytes g.segs ++ (four_bytes g.seg_len ++ (four_bytes g.fan ++ (four_bytes 1 ++ (zeros (g.page_size - 32) ++ x)))))))
+unfolding super_page super_rest
+super_fields g x = simp append_assoc
+
+super_front : (disk : List ℕ) (g : Geometry) → SuperOf disk g → super_page g ++ drop g.page_size disk ≡ disk
+unfolding part
+super_front disk g super = ap (λ (t : List ℕ). t ++ drop g.page_size disk) (sym super.spelled) ∙ take-append-drop g.page_size disk
+
+pub one_geometry : (disk : List ℕ) (a b : Geometry) → SuperOf disk a → SuperOf disk b → a ≡ b
+one_geometry disk a b p q =
+    let whole = sym (super_fields a (drop a.page_size disk)) ∙ super_front disk a p ∙ sym (super_front disk b q) ∙ super_fields b (drop b.page_size disk) in
+    let head = same_front magic magic _ _ refl whole in
+    let size = same_four a.page_size b.page_size _ _ (omega (arith, most_page a)) (omega (arith, most_page b)) head.1 in
+    let pages = same_four a.pages b.pages _ _ (omega (arith, a.few_pages)) (omega (arith, b.few_pages)) size.1 in
+    let segs = same_four a.segs b.segs _ _ (omega (arith, a.few_segs)) (omega (arith, b.few_segs)) pages.1 in
+    let len = same_four a.seg_len b.seg_len _ _ (omega (arith, a.short)) (omega (arith, b.short)) segs.1 in
+    let fan = same_four a.fan b.fan _ _ (omega (arith, a.narrow, most_page a)) (omega (arith, b.narrow, most_page b)) len.1 in
+    same_geometry a b size.0 pages.0 segs.0 len.0 fan.0
+
+-- ---- pages and records
+
+one_list_of_pages : (units : Units) (entry : FileEntry) (numbers : List ℕ) (xs ys : List FilePage) → AllZip (HasPage units entry) numbers xs → AllZip (HasPage units entry) numbers ys → xs ≡ ys
+one_list_of_pages units entry [] [] [] p q = refl
+one_list_of_pages units entry [] [] (y ∷ ys) p q = absurd q
+one_list_of_pages units entry [] (x ∷ xs) ys p q = absurd p
+one_list_of_pages units entry (page ∷ numbers) [] ys p q = absurd p
+one_list_of_pages units entry (page ∷ numbers) (x ∷ xs) [] p q = absurd q
+one_list_of_pages units entry (page ∷ numbers) (x ∷ xs) (y ∷ ys) p q =
+    let here : x ≡ y = one_page (units page) x y p.0.0 q.0.0 in
+    let rest = one_list_of_pages units entry numbers xs ys p.1 q.1 in
+    cc (here, rest)
+
+abbrev made_stored : Place → Record → Stored
+made_stored place body = record { place = place; body = body }
+
+one_list_of_records : (rows : List (Place × List ℕ)) (xs ys : List Stored) → AllZip IsStored rows xs → AllZip IsStored rows ys → xs ≡ ys
+one_list_of_records [] [] [] p q = refl
+one_list_of_records [] [] (y ∷ ys) p q = absurd q
+one_list_of_records [] (x ∷ xs) ys p q = absurd p
+one_list_of_records (row ∷ rows) [] ys p q = absurd p
+one_list_of_records (row ∷ rows) (x ∷ xs) [] p q = absurd q
+one_list_of_records (row ∷ rows) (x ∷ xs) (y ∷ ys) p q =
+    let place : x.place ≡ y.place = sym p.0.0 ∙ q.0.0 in
+    let body : x.body ≡ y.body = one_record row.1 x.body y.body p.0.1 q.0.1 in
+    let here : made_stored x.place x.body ≡ made_stored y.place y.body = cc (place, body) in
+    let rest = one_list_of_records rows xs ys p.1 q.1 in
+    cc (here, rest)
+
+-- ---- files
+
+-- two files that differ at most in how their records are listed as lines
+pub record SameRecords (a b : FileContent) : Type 0 where
+  pub numbers : a.numbers ≡ b.numbers
+  pub pages : a.pages ≡ b.pages
+  pub stored : a.stored ≡ b.stored
+
+pub one_file : (units : Units) (entry : FileEntry) (a b : FileContent) → HasIndex entry a → HasIndex entry b → HasPages units entry a → HasPages units entry b → HasLines a → HasLines b → SameRecords a b
+one_file units entry a b index_a index_b pages_a pages_b lines_a lines_b =
+    let numbers : a.numbers ≡ b.numbers = index_a.none ∙ sym index_b.none in
+    let pages : a.pages ≡ b.pages = one_list_of_pages units entry a.numbers a.pages b.pages pages_a (subst (λ (c : List ℕ). AllZip (HasPage units entry) c b.pages) (sym numbers) pages_b) in
+    let bodies : bodies_in a ≡ bodies_in b = cc (numbers, pages) in
+    record {
+      numbers = numbers;
+      pages = pages;
+      stored = one_list_of_records (bodies_in a) a.stored b.stored lines_a.records (subst (λ (rows : List (Place × List ℕ)). AllZip IsStored rows b.stored) (sym bodies) lines_b.records);
+    }

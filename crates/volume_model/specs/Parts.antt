@@ -1,0 +1,177 @@
+-- Which table the image of a volume stands for, and else which part of it fails first.
+use Rattle.std.specs.Prelude.{◌≡◌, ℕ, suc, ◌+◌, ◌<◌, ◌≤◌, List, [], ◌∷◌, length, map, take, Option, Some, None, Contains}
+use Rattle.std.specs.List.{flat_map, AllByRecursion, AllZip, zip}
+use Rattle.std.specs.List.Sorted.{IsPermutation}
+use Rattle.ex_base.specs.declared.names.Place.{Place}
+use Rattle.ex_base.specs.declared.names.Root.{Root}
+use Rattle.ex_base.specs.declared.geometry.Geometry.{Geometry}
+use Rattle.ex_base.specs.Area.{catalog_no, log_at}
+use Rattle.ex_base.specs.Bytes.{part}
+use Rattle.ex_base.specs.Order.{Rising, AllDiffer}
+use Rattle.ex_base.specs.Sizes.{leaf_bytes, object_most, volume_bytes}
+use Rattle.ex_base.specs.Superblock.{super_page}
+use Rattle.op_log.specs.declared.record.LogRecord.{LogRecord}
+use Rattle.op_log.specs.Log.{LogSpells}
+use Rattle.slotted_pages.specs.FilePage.{FilePage, Slot, SlotsOf}
+use Rattle.object_records.specs.declared.State.TheVariants.{Current, Frozen}
+use Rattle.object_records.specs.Record.{BodyOf}
+use Rattle.object_files.specs.Catalog.{FileEntry, CatalogOf}
+use Rattle.tree_model.specs.Shape.{IsBalanced}
+use Rattle.tree_model.specs.Trees.{Units, RootNamed, RootSized, root_shape, root_units}
+use Rattle.table_model.specs.declared.table.Table.{Table}
+use Rattle.session_views.specs.declared.Part.{Part}
+use Rattle.session_views.specs.declared.Part.TheVariants.{Super, Log, Catalog, File, Page, Body, Node, Balance, Unique}
+use Rattle.volume_model.specs.Volume.{Stored, Line, FileContent, Volume, Decoded, line_records, lines_of, stored_in, file_pages, unique_of, line_number, roots_in, line_units, table_of, units_of}
+
+-- ---- Super
+
+-- The disk begins with the superblock of a geometry, and is large enough for it.
+pub record SuperOf (disk : List ℕ) (g : Geometry) : Type 0 where
+  pub spelled : part disk 0 g.page_size ≡ super_page g
+  pub large : volume_bytes g ≤ length disk
+
+-- ---- Catalog
+
+-- The number is that of the last record, where there is one.
+abbrev pub IsLastOf : List LogRecord → ℕ → Type 0
+IsLastOf [] last = Unit {0}
+IsLastOf (r ∷ []) last = last ≡ r.txn
+IsLastOf (r ∷ next ∷ rs) last = IsLastOf (next ∷ rs) last
+
+-- ---- File
+
+-- The file's pages are those that its index names. A file without a root has none; no other file stands yet.
+pub record HasIndex (entry : FileEntry) (file : FileContent) : Type 0 where
+  pub no_root : entry.root ≡ None
+  pub none : file.numbers ≡ []
+
+-- ---- Page
+
+-- The page is in its grammar, has a record, and has its file's number.
+abbrev pub HasPage : Units → FileEntry → ℕ → FilePage → Type 0
+HasPage units entry page p = SlotsOf (units page) p × (1 ≤ length p.slots) × (p.file_no ≡ entry.file_no)
+
+abbrev pub HasPages : Units → FileEntry → FileContent → Type 0
+HasPages units entry file = AllZip (HasPage units entry) file.numbers file.pages
+
+-- ---- Body
+
+-- the live slots of a page from a slot on, each with its place
+abbrev pub bodies_from : ℕ → ℕ → List Slot → List (Place × List ℕ)
+bodies_from page slot [] = []
+bodies_from page slot (None ∷ slots) = bodies_from page (suc slot) slots
+bodies_from page slot (Some body ∷ slots) = (record { page = record { 0 = page }; slot = slot }, body) ∷ bodies_from page (suc slot) slots
+
+abbrev pub bodies_in : FileContent → List (Place × List ℕ)
+bodies_in file = flat_map (λ (row : ℕ × FilePage). bodies_from row.0 0 row.1.slots) (zip file.numbers file.pages)
+
+abbrev pub IsStored : Place × List ℕ → Stored → Type 0
+IsStored row s = (row.0 ≡ s.place) × BodyOf row.1 s.body
+
+-- Each record names the one before it as its older and the one behind it as its newer version; the last is current, all others are frozen.
+abbrev pub Linked : Option Place → List Stored → Type 0
+Linked older [] = ⊥
+Linked older (s ∷ []) = (s.body.head.state ≡ Current) × (s.body.head.older ≡ older) × (s.body.head.newer ≡ None)
+Linked older (s ∷ next ∷ rest) = (s.body.head.state ≡ Frozen) × (s.body.head.older ≡ older) × (s.body.head.newer ≡ Some next.place) × Linked (Some s.place) (next ∷ rest)
+
+-- The frozen versions' numbers rise, each above the current one's.
+pub record IsLine (line : Line) : Type 0 where
+  pub linked : Linked None (line_records line)
+  pub numbers : Rising (line_number line ∷ map unique_of line.frozen)
+
+-- Each record is in its grammar, and lies in exactly one line.
+pub record HasLines (file : FileContent) : Type 0 where
+  pub records : AllZip IsStored (bodies_in file) file.stored
+  pub lines : AllByRecursion IsLine file.lines
+  pub each_once : IsPermutation file.stored (flat_map line_records file.lines)
+
+-- ---- Node
+
+-- no unit of the one stands in the other
+abbrev pub Apart : List ℕ → List ℕ → Type 0
+Apart xs ys = AllByRecursion (λ x. ¬ Contains ys x) xs
+
+abbrev pub AllApart : List (List ℕ) → Type 0
+AllApart [] = Unit {0}
+AllApart (xs ∷ rest) = AllByRecursion (Apart xs) rest × AllApart rest
+
+-- Each tree is well formed, has no page of a file, and shares no unit with another object's.
+pub record HasNodes (g : Geometry) (units : Units) (v : Volume) : Type 0 where
+  pub named : AllByRecursion (λ (root : Root). RootNamed g units root.height root.page) (roots_in (stored_in v))
+  pub no_file_page : AllByRecursion (λ (root : Root). Apart (root_units units root) (catalog_no ∷ file_pages v)) (roots_in (stored_in v))
+  pub one_object : AllApart (map (line_units units) (lines_of v))
+
+-- ---- Balance
+
+-- The counts of a tree agree, its leaves and nodes are as full as they must be, and it isn't above the largest size.
+pub record HasBalance (g : Geometry) (units : Units) (root : Root) : Type 0 where
+  pub sized : RootSized g units root.height root.size root.page
+  pub balanced : IsBalanced g.fan (leaf_bytes g) (root_shape units root)
+  pub limit : root.size ≤ object_most
+
+-- ---- Unique
+
+-- All unique numbers differ, are at least 1 and below the next one. The objects of a file are listed in rising order of their numbers.
+pub record HasUniques (v : Volume) : Type 0 where
+  pub differ : AllDiffer (map unique_of (stored_in v))
+  pub some : AllByRecursion (λ (s : Stored). 1 ≤ unique_of s) (stored_in v)
+  pub below : AllByRecursion (λ (s : Stored). unique_of s < v.catalog.next_unique) (stored_in v)
+  pub listed : AllByRecursion (λ (file : FileContent). Rising (map line_number file.lines)) v.files
+
+-- ---- all parts
+
+-- a part from the catalog on, of pages that decode as a volume
+abbrev pub HoldsOf : Geometry → List LogRecord → Units → Volume → Part → Type 0
+HoldsOf g records units v Super = Unit {0}
+HoldsOf g records units v Log = Unit {0}
+HoldsOf g records units v Catalog = CatalogOf (units catalog_no) v.catalog × IsLastOf records v.catalog.last
+HoldsOf g records units v File = AllZip HasIndex v.catalog.entries v.files × AllDiffer (file_pages v)
+HoldsOf g records units v Page = AllZip (HasPages units) v.catalog.entries v.files
+HoldsOf g records units v Body = AllByRecursion HasLines v.files
+HoldsOf g records units v Node = HasNodes g units v
+HoldsOf g records units v Balance = AllByRecursion (HasBalance g units) (roots_in (stored_in v))
+HoldsOf g records units v Unique = HasUniques v
+
+-- a part of a disk that decodes so
+abbrev pub Holds : List ℕ → Decoded → Part → Type 0
+Holds disk d Super = SuperOf disk d.geometry
+Holds disk d Log = LogSpells d.geometry (log_at d.geometry disk) d.records
+Holds disk d part = HoldsOf d.geometry d.records (units_of d disk) d.volume part
+
+abbrev pub content_parts : List Part
+content_parts = Catalog ∷ File ∷ Page ∷ Body ∷ Node ∷ Balance ∷ Unique ∷ []
+
+-- the parts in the order in which an opening tests them
+abbrev pub all_parts : List Part
+all_parts = Super ∷ Log ∷ content_parts
+
+-- The disk decodes so, with all its parts.
+abbrev pub Decodes : List ℕ → Decoded → Type 0
+Decodes disk d = AllByRecursion (Holds disk d) all_parts
+
+-- The image stands for the table.
+pub record StandsFor (disk : List ℕ) (table : Table) : Type 0 where
+  pub decoded : Decoded
+  pub parts : Decodes disk decoded
+  pub same : table ≡ table_of (units_of decoded disk) decoded.volume
+
+-- how many parts are tested before a part
+abbrev pub rank : Part → ℕ
+rank Super = 0
+rank Log = 1
+rank Catalog = 2
+rank File = 3
+rank Page = 4
+rank Body = 5
+rank Node = 6
+rank Balance = 7
+rank Unique = 8
+
+-- The disk decodes so that these first parts hold.
+abbrev pub FirstHold : List ℕ → ℕ → Type 0
+FirstHold disk n = (d : Decoded) × AllByRecursion (Holds disk d) (take n all_parts)
+
+-- The part is the first that fails: those before it hold together, and not with it.
+pub record FirstBad (disk : List ℕ) (part : Part) : Type 0 where
+  pub earlier : FirstHold disk (rank part)
+  pub fails : ¬ FirstHold disk (rank part + 1)

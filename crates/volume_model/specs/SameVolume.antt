@@ -1,0 +1,185 @@
+-- Units that are kept where a volume reaches decode as the same volume, with the same table.
+use Rattle.std.proofs.Common.{◌≡◌, ℕ, List, [], ◌∷◌, ◌++◌, Option, Some, None, refl, sym, ap, subst}
+use Rattle.std.specs.Prelude.{map}
+use Rattle.std.specs.List.{flat_map, AllByRecursion, AllZip, zip}
+use Rattle.std.proofs.lemmas.List.Concat.{flat_map-append}
+use Rattle.ex_base.specs.declared.names.PageNo.{PageNo}
+use Rattle.ex_base.specs.declared.names.Root.{Root}
+use Rattle.ex_base.specs.declared.geometry.Geometry.{Geometry}
+use Rattle.ex_base.specs.Area.{catalog_no}
+use Rattle.ex_base.specs.Sizes.{leaf_bytes}
+use Rattle.op_log.specs.declared.record.LogRecord.{LogRecord}
+use Rattle.slotted_pages.specs.FilePage.{FilePage, SlotsOf}
+use Rattle.object_files.specs.Catalog.{FileEntry, CatalogOf}
+use Rattle.object_records.specs.Record.{Content, Small, Large}
+use Rattle.tree_model.specs.Shape.{IsBalanced}
+use Rattle.tree_model.specs.Trees.{Units, root_units, root_units_at, root_shape_at, root_bytes_at, RootNamed, RootSized}
+use Rattle.tree_model.proofs.SameUnits.{Kept, split_each, units_same, bytes_same, shape_same, named_same, sized_same}
+use Rattle.volume_model.specs.Parts.{HasPage, HasPages, Apart, AllApart, HasNodes, HasBalance, HoldsOf, content_parts}
+use Rattle.volume_model.specs.Volume.{Stored, Line, FileContent, Volume, line_records, lines_of, stored_in, file_pages, root_in, roots_in, line_units, reach_of, content_in, version_of, object_of, file_of, table_of}
+
+-- ---- lists
+
+parts_of : {A B : Type 0} (P : B → Type 0) (f : A → List B) (xs : List A) → AllByRecursion P (flat_map f xs) → AllByRecursion (λ x. AllByRecursion P (f x)) xs
+parts_of P f [] h = tt
+parts_of P f (x ∷ xs) h = let both = split_each P (f x) (flat_map f xs) h in (both.0, parts_of P f xs both.1)
+
+each_with : {A : Type 0} (P Q R : A → Type 0) (xs : List A) → ((x : A) → P x → Q x → R x) → AllByRecursion P xs → AllByRecursion Q xs → AllByRecursion R xs
+each_with P Q R [] f p q = tt
+each_with P Q R (x ∷ xs) f p q = (f x p.0 q.0, each_with P Q R xs f p.1 q.1)
+
+zip_with : {A B : Type 0} (K : B → Type 0) (P R : A → B → Type 0) (xs : List A) (ys : List B) → ((x : A) (y : B) → K y → P x y → R x y) → AllByRecursion K ys → AllZip P xs ys → AllZip R xs ys
+zip_with K P R [] [] f k p = tt
+zip_with K P R [] (y ∷ ys) f k p = p
+zip_with K P R (x ∷ xs) [] f k p = p
+zip_with K P R (x ∷ xs) (y ∷ ys) f k p = (f x y k.0 p.0, zip_with K P R xs ys f k.1 p.1)
+
+flat_same : {A : Type 0} (f g : A → List ℕ) (K : A → Type 0) (xs : List A) → ((x : A) → K x → g x ≡ f x) → AllByRecursion K xs → flat_map g xs ≡ flat_map f xs
+flat_same f g K [] same k = refl
+flat_same f g K (x ∷ xs) same k = let here = same x k.0 in let rest = flat_same f g K xs same k.1 in cc (here, rest)
+
+map_same : {A B : Type 0} (f g : A → B) (K : A → Type 0) (xs : List A) → ((x : A) → K x → g x ≡ f x) → AllByRecursion K xs → map g xs ≡ map f xs
+map_same f g K [] same k = refl
+map_same f g K (x ∷ xs) same k = let here = same x k.0 in let rest = map_same f g K xs same k.1 in cc (here, rest)
+
+-- ---- roots
+
+abbrev RootKept : Units → Units → Root → Type 0
+RootKept old new root = Kept old new (root_units old root)
+
+units_of_root : (old new : Units) (height : ℕ) (page : Option PageNo) → Kept old new (root_units_at old height page) → root_units_at new height page ≡ root_units_at old height page
+units_of_root old new height None kept = refl
+units_of_root old new height (Some page) kept = units_same old new height page.0 kept
+
+bytes_of_root : (old new : Units) (height size : ℕ) (page : Option PageNo) → Kept old new (root_units_at old height page) → root_bytes_at new height size page ≡ root_bytes_at old height size page
+bytes_of_root old new height size None kept = refl
+bytes_of_root old new height size (Some page) kept = bytes_same old new height page.0 size kept
+
+shape_of_root : (old new : Units) (height size : ℕ) (page : Option PageNo) → Kept old new (root_units_at old height page) → root_shape_at new height size page ≡ root_shape_at old height size page
+shape_of_root old new height size None kept = refl
+shape_of_root old new height size (Some page) kept = ap (λ shape. Some (height, shape)) (shape_same old new height page.0 size kept)
+
+named_root : (g : Geometry) (old new : Units) (height : ℕ) (page : Option PageNo) → Kept old new (root_units_at old height page) → RootNamed g old height page → RootNamed g new height page
+named_root g old new height None kept h = h
+named_root g old new height (Some page) kept h = named_same g old new height page.0 kept h
+
+sized_root : (g : Geometry) (old new : Units) (height size : ℕ) (page : Option PageNo) → Kept old new (root_units_at old height page) → RootSized g old height size page → RootSized g new height size page
+sized_root g old new height size None kept h = h
+sized_root g old new height size (Some page) kept h = sized_same g old new height page.0 size kept h
+
+balance_kept : (g : Geometry) (old new : Units) (root : Root) → RootKept old new root → HasBalance g old root → HasBalance g new root
+balance_kept g old new root kept h = record {
+  sized = sized_root g old new root.height root.size root.page kept h.sized;
+  balanced = subst (IsBalanced g.fan (leaf_bytes g)) (sym (shape_of_root old new root.height root.size root.page kept)) h.balanced;
+  limit = h.limit;
+}
+
+-- ---- records and lines
+
+abbrev RootsKept : Units → Units → List Root → Type 0
+RootsKept old new roots = AllByRecursion (RootKept old new) roots
+
+abbrev LineKept : Units → Units → Line → Type 0
+LineKept old new line = RootsKept old new (roots_in (line_records line))
+
+lines_kept : (old new : Units) (lines : List Line) → RootsKept old new (roots_in (flat_map line_records lines)) → AllByRecursion (LineKept old new) lines
+lines_kept old new [] h = tt
+lines_kept old new (line ∷ lines) h =
+    let joined : roots_in (flat_map line_records (line ∷ lines)) ≡ roots_in (line_records line) ++ roots_in (flat_map line_records lines) = flat_map-append (λ (s : Stored). root_in s.body.content) (line_records line) (flat_map line_records lines) in
+    let both = split_each (RootKept old new) (roots_in (line_records line)) (roots_in (flat_map line_records lines)) (subst (RootsKept old new) joined h) in
+    (both.0, lines_kept old new lines both.1)
+
+line_units_same : (old new : Units) (line : Line) → LineKept old new line → line_units new line ≡ line_units old line
+line_units_same old new line kept = flat_same (root_units old) (root_units new) (RootKept old new) (roots_in (line_records line)) (λ root k. units_of_root old new root.height root.page k) kept
+
+content_same : (old new : Units) (content : Content) → RootsKept old new (root_in content) → content_in new content ≡ content_in old content
+content_same old new (Small bytes) kept = refl
+content_same old new (Large root) kept = bytes_of_root old new root.height root.size root.page kept.0
+
+version_same : (old new : Units) (s : Stored) → RootsKept old new (root_in s.body.content) → version_of new s ≡ version_of old s
+version_same old new s kept = let content = content_same old new s.body.content kept in cc content
+
+object_same : (old new : Units) (line : Line) → LineKept old new line → object_of new line ≡ object_of old line
+object_same old new line kept =
+    let each = parts_of (RootKept old new) (λ (s : Stored). root_in s.body.content) (line_records line) kept in
+    let versions : map (version_of new) (line_records line) ≡ map (version_of old) (line_records line) = map_same (version_of old) (version_of new) (λ s. RootsKept old new (root_in s.body.content)) (line_records line) (λ s k. version_same old new s k) each in
+    cc versions
+
+abbrev FileKept : Units → Units → FileContent → Type 0
+FileKept old new file = AllByRecursion (LineKept old new) file.lines
+
+file_same : (old new : Units) (entry : FileEntry) (file : FileContent) → FileKept old new file → file_of new (entry, file) ≡ file_of old (entry, file)
+file_same old new entry file kept =
+    let objects : map (object_of new) file.lines ≡ map (object_of old) file.lines = map_same (object_of old) (object_of new) (LineKept old new) file.lines (λ line k. object_same old new line k) kept in
+    cc objects
+
+files_same : (old new : Units) (entries : List FileEntry) (files : List FileContent) → AllByRecursion (FileKept old new) files → map (file_of new) (zip entries files) ≡ map (file_of old) (zip entries files)
+files_same old new [] files kept = refl
+files_same old new (entry ∷ entries) [] kept = refl
+files_same old new (entry ∷ entries) (file ∷ files) kept =
+    let here = file_same old new entry file kept.0 in
+    let rest = files_same old new entries files kept.1 in
+    cc (here, rest)
+
+-- ---- pages
+
+pages_kept : (old new : Units) (entry : FileEntry) (numbers : List ℕ) (pages : List FilePage) → Kept old new numbers → AllZip (HasPage old entry) numbers pages → AllZip (HasPage new entry) numbers pages
+pages_kept old new entry [] [] kept h = tt
+pages_kept old new entry [] (p ∷ pages) kept h = h
+pages_kept old new entry (page ∷ numbers) [] kept h = h
+pages_kept old new entry (page ∷ numbers) (p ∷ pages) kept h =
+    ((subst (λ (bytes : List ℕ). SlotsOf bytes p) (sym kept.0) h.0.0, h.0.1, h.0.2), pages_kept old new entry numbers pages kept.1 h.1)
+
+-- ---- the parts
+
+pub record IsKept (old new : Units) (v : Volume) : Type 0 where
+  pub catalog : new catalog_no ≡ old catalog_no
+  pub numbers : AllByRecursion (λ (file : FileContent). Kept old new file.numbers) v.files
+  pub roots : RootsKept old new (roots_in (stored_in v))
+
+pub kept_from_reach : (old new : Units) (v : Volume) → Kept old new (reach_of old v) → IsKept old new v
+kept_from_reach old new v h =
+    let both = split_each (λ u. new u ≡ old u) (catalog_no ∷ file_pages v) (flat_map (root_units old) (roots_in (stored_in v))) h in
+    record {
+      catalog = both.0.0;
+      numbers = parts_of (λ u. new u ≡ old u) (λ (file : FileContent). file.numbers) v.files both.0.1;
+      roots = parts_of (λ u. new u ≡ old u) (root_units old) (roots_in (stored_in v)) both.1;
+    }
+
+nodes_kept : (g : Geometry) (old new : Units) (v : Volume) → IsKept old new v → HasNodes g old v → HasNodes g new v
+nodes_kept g old new v kept h =
+    let lines = lines_kept old new (lines_of v) kept.roots in
+    let same : map (line_units new) (lines_of v) ≡ map (line_units old) (lines_of v) = map_same (line_units old) (line_units new) (LineKept old new) (lines_of v) (λ line k. line_units_same old new line k) lines in
+    record {
+      named = each_with (RootKept old new) (λ (root : Root). RootNamed g old root.height root.page) (λ (root : Root). RootNamed g new root.height root.page) (roots_in (stored_in v)) (λ root k n. named_root g old new root.height root.page k n) kept.roots h.named;
+      no_file_page = each_with (RootKept old new) (λ (root : Root). Apart (root_units old root) (catalog_no ∷ file_pages v)) (λ (root : Root). Apart (root_units new root) (catalog_no ∷ file_pages v)) (roots_in (stored_in v)) (λ root k n. subst (λ (us : List ℕ). Apart us (catalog_no ∷ file_pages v)) (sym (units_of_root old new root.height root.page k)) n) kept.roots h.no_file_page;
+      one_object = subst AllApart (sym same) h.one_object;
+    }
+
+pub parts_kept : (g : Geometry) (records : List LogRecord) (old new : Units) (v : Volume) → IsKept old new v → AllByRecursion (HoldsOf g records old v) content_parts → AllByRecursion (HoldsOf g records new v) content_parts
+parts_kept g records old new v kept (catalog, (file, (page, (body, (node, (balance, (unique, end))))))) = (
+  (subst (λ (bytes : List ℕ). CatalogOf bytes v.catalog) (sym kept.catalog) catalog.0, catalog.1),
+  (
+    file,
+    (
+      zip_with (λ (f : FileContent). Kept old new f.numbers) (HasPages old) (HasPages new) v.catalog.entries v.files (λ entry f k h. pages_kept old new entry f.numbers f.pages k h) kept.numbers page,
+      (
+        body,
+        (
+          nodes_kept g old new v kept node,
+          (
+            each_with (RootKept old new) (HasBalance g old) (HasBalance g new) (roots_in (stored_in v)) (λ root k h. balance_kept g old new root k h) kept.roots balance,
+            (unique, tt),
+          ),
+        ),
+      ),
+    ),
+  ),
+)
+
+pub table_kept : (old new : Units) (v : Volume) → IsKept old new v → table_of new v ≡ table_of old v
+table_kept old new v kept =
+    let lines = lines_kept old new (lines_of v) kept.roots in
+    let each = parts_of (LineKept old new) (λ (file : FileContent). file.lines) v.files lines in
+    let files = files_same old new v.catalog.entries v.files each in
+    cc files

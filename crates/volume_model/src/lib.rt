@@ -1,0 +1,43 @@
+//! What a volume stands for: the table of an image or the first part of it that fails; when a running session shows a volume; and what a crash may
+//! leave of it. It has definitions and their laws alone.
+#![tactic(auto)]
+
+ghost use Rattle.std.specs.Prelude.{◌≡◌, ◌≢◌, ℕ, List, slice_index};
+ghost use Rattle.ex_base.specs.Area.{catalog_no, page_at};
+ghost use Rattle.ex_base.specs.declared.geometry.Geometry.{Geometry};
+ghost use Rattle.object_files.specs.Catalog.{CatalogOf, fresh_catalog};
+ghost use Rattle.session_views.specs.declared.Part.{Part};
+ghost use Rattle.table_model.specs.declared.table.Table.{Table};
+ghost use Rattle.table_model.specs.Tables.{empty_table};
+ghost use Rattle.volume_model.specs.Durable.{Agrees};
+ghost use Rattle.volume_model.specs.Parts.{Decodes, FirstBad, StandsFor, SuperOf};
+ghost use Rattle.volume_model.specs.Volume.{Decoded, table_of, units_of};
+
+pub use session_views::Part;
+
+/// An image stands for at most one table.
+pub fn one_table_of_an_image()
+    ensures { (disk : List ℕ) (a b : Table) → StandsFor disk a → StandsFor disk b → a ≡ b }
+{}
+
+/// An image has at most one part that fails first.
+pub fn one_first_bad_part()
+    ensures { (disk : List ℕ) (a b : Part) → FirstBad disk a → FirstBad disk b → a ≡ b }
+{}
+
+/// An image that stands for a table has no part that fails.
+pub fn a_table_has_no_bad_part()
+    ensures { (disk : List ℕ) (table : Table) (part : Part) → StandsFor disk table → FirstBad disk part → ⊥ }
+{}
+
+/// An image that agrees with a disk on the bytes that no crash may change stands for the disk's table.
+pub fn what_agrees_stands_for_the_table()
+    ensures { (disk image : List ℕ) (decoded : Decoded) → Decodes disk decoded → Agrees decoded disk image
+        → StandsFor image (table_of (units_of decoded disk) decoded.volume) }
+{}
+
+/// A volume as it is made, with a closed log and a catalog of no file, stands for the empty table.
+pub fn a_fresh_volume_stands_for_the_empty_table()
+    ensures { (g : Geometry) (disk : List ℕ) → SuperOf disk g → slice_index disk g.page_size ≢ 1
+        → CatalogOf (page_at g disk catalog_no) fresh_catalog → StandsFor disk empty_table }
+{}
