@@ -1,0 +1,5 @@
+pub mod Status
+pub mod Numerals
+pub mod Words
+pub mod EmptyVolume
+pub mod Format
