@@ -157,7 +157,10 @@ fn a_leaf_is_read_as_it_was_written(rt: HostRuntime) -> Result<(), Fail> {
     assert_eq!(rt; store.free(Area::Segment), 2);
     assert_eq!(rt; store.geometry().leaf_bytes(), PAGE_SIZE);
     let mut read = [0u8; 4];
-    assert_eq!(rt; write_and_read(&mut store, alloc, b"leaf", &mut read), Ok(()));
+    assert_eq!(rt;
+        write_and_read(&mut store, alloc, b"leaf", &mut read),
+        Ok(())
+    );
     assert_eq!(rt; read, *b"leaf");
     Ok(())
 }
