@@ -2,7 +2,7 @@
 -- the disk.
 use Rattle.std.specs.Prelude.{◌≡◌, ◌⊎◌, ℕ, IsTrue, IsSome, Some, List}
 use Rattle.disk_model.specs.Outside.{Outside}
-use Rattle.session_views.specs.declared.Part.{Part}
+use Rattle.session_views.specs.declared.part.Part.{Part}
 use Rattle.table_model.specs.declared.table.Table.{Table}
 use Rattle.table_model.specs.declared.machine.Machine.{Machine}
 use Rattle.table_model.specs.declared.machine.Pick.{Pick}

@@ -1,19 +1,19 @@
 -- The commands that the product has yet. The machine is defined for all of them; a line that spells another one is answered as no command.
 -- To build a command is to turn its case, here and in the function that computes it.
-use Rattle.std.specs.Prelude.{Bool, false}
+use Rattle.std.specs.Prelude.{Bool, true, false}
 use Rattle.table_model.specs.Requests.{Request}
 use Rattle.table_model.specs.Requests as request
 
 abbrev pub is_built : Request → Bool
-is_built request.Begin = false
-is_built request.Commit = false
-is_built request.Abort = false
-is_built request.Checkpoint = false
-is_built request.Log = false
-is_built request.Files = false
-is_built request.Space = false
-is_built (request.File name) = false
-is_built (request.Unfile name) = false
+is_built request.Begin = true
+is_built request.Commit = true
+is_built request.Abort = true
+is_built request.Checkpoint = true
+is_built request.Log = true
+is_built request.Files = true
+is_built request.Space = true
+is_built (request.File name) = true
+is_built (request.Unfile name) = true
 is_built (request.ListFile name) = false
 is_built (request.Create file bind) = false
 is_built (request.Destroy x) = false

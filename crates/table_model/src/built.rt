@@ -7,7 +7,7 @@ use crate::command::Command;
 
 /// Whether the command is one of the product's yet. A line that spells another one is refused as no command.
 ///
-/// To build `Begin`, say, is to answer `true` for it here, and in the definition that the contract cites.
+/// To build `List`, say, is to answer `true` for it here, and in the definition that the contract cites.
 pub fn is_built(command: &Command) -> bool
     ensures { result ≡ is_built (request_of command.now) }
 {
@@ -18,11 +18,9 @@ pub fn is_built(command: &Command) -> bool
         | Command::Checkpoint
         | Command::Log
         | Command::Files
-        | Command::Space => false,
-        Command::File { .. }
-        | Command::Unfile { .. }
-        | Command::List { .. }
-        | Command::Create { .. } => false,
+        | Command::Space => true,
+        Command::File { .. } | Command::Unfile { .. } => true,
+        Command::List { .. } | Command::Create { .. } => false,
         Command::Destroy { .. }
         | Command::Size { .. }
         | Command::Stat { .. }

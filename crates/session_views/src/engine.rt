@@ -1,0 +1,55 @@
+//! What a run needs of a session.
+ghost use Rattle.std.specs.Prelude.{◌≡◌, ◌≢◌, ◌⊎◌, Err, IsTrue, IfOk};
+ghost use Rattle.disk_model.specs.Outside.{DiskOnly, Leaves, Rose};
+ghost use Rattle.table_model.specs.Built.{is_built};
+ghost use Rattle.table_model.specs.Requests.{request_of, is_request};
+ghost use Rattle.session_views.specs.View.{View, Meaning, ShowsNow, Stepped, StandsDuring};
+
+use disk_model::Host;
+use ex_base::{PageNo, Seen};
+use std::alloc::Global;
+use table_model::{Command, Reply};
+
+/// Why a session stopped.
+#[derive(Clone, Copy, Debug, PartialEq, Eq)]
+pub enum Stop {
+    /// No memory was there.
+    Memory,
+    /// The disk failed: its count of faults rose.
+    Disk,
+    /// What a read gave isn't what the page that names it says. `want` and `got` differ.
+    Damaged { page: PageNo, want: Seen, got: Seen },
+    /// An earlier call of the session met one of the others.
+    Down,
+}
+
+/// A session that steps on commands.
+pub trait Engine {
+    /// When a session shows a volume, and what it decides.
+    ghost meaning: { Meaning Self };
+
+    /// Steps on a command that is built, to its reply. Refusals are replies.
+    fn step<H: Host>(
+        &mut self,
+        alloc: Global,
+        host: &mut H,
+        command: &Command<'_>,
+    ) -> Result<Reply, Stop>
+        requires form { IsTrue (is_request (request_of command.now)) }
+        requires built { IsTrue (is_built (request_of command.now)) }
+        ensures only { DiskOnly (H.outside host.old) (H.outside host.new) }
+        ensures disk { result ≡ Err Stop.Disk → Rose (H.outside host.old).disk_faults (H.outside host.new).disk_faults }
+        ensures damaged { (page : PageNo) (want got : Seen) → result ≡ Err (Stop.Damaged page want got) → want ≢ got }
+
+        // From a view that shows to a view that shows, by the machine's step.
+        ensures stepped { (before : View Self) → before.session ≡ self.old → ShowsNow meaning (H.outside host.old) before
+            → IfOk result (λ told. Stepped meaning before (request_of command.now) told self.new (H.outside host.new)) }
+
+        // Where it shows, nothing but a fault of the disk or want of memory stops it.
+        ensures sound { (before : View Self) (stop : Stop) → before.session ≡ self.old → ShowsNow meaning (H.outside host.old) before
+            → result ≡ Err stop → (stop ≡ Stop.Disk) ⊎ (stop ≡ Stop.Memory) }
+
+        // A crash at any moment leaves the committed table before it, or in a commit that one or the next.
+        ensures any_moment { (before : View Self) → before.session ≡ self.old → ShowsNow meaning (H.outside host.old) before
+            → Leaves (H.outside host.old) (H.outside host.new) (StandsDuring meaning before.machine (request_of command.now)) };
+}
