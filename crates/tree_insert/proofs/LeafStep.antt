@@ -32,12 +32,12 @@ use Rattle.tree_insert.proofs.Growing.{holds_split, grew_leaves, grew_between}
 
 -- ---- sizes of a part of a row
 
-map_take : {A B : Type 0} (f : A → B) (n : ℕ) (xs : List A) → map f (take n xs) ≡ take n (map f xs)
+pub map_take : {A B : Type 0} (f : A → B) (n : ℕ) (xs : List A) → map f (take n xs) ≡ take n (map f xs)
 map_take f zero xs = refl
 map_take f (suc n) [] = refl
 map_take f (suc n) (x ∷ xs) = ap (λ ys. f x ∷ ys) (map_take f n xs)
 
-map_drop : {A B : Type 0} (f : A → B) (n : ℕ) (xs : List A) → map f (drop n xs) ≡ drop n (map f xs)
+pub map_drop : {A B : Type 0} (f : A → B) (n : ℕ) (xs : List A) → map f (drop n xs) ≡ drop n (map f xs)
 map_drop f zero xs = refl
 map_drop f (suc n) [] = refl
 map_drop f (suc n) (x ∷ xs) = map_drop f n xs
@@ -45,15 +45,15 @@ map_drop f (suc n) (x ∷ xs) = map_drop f n xs
 abbrev size_of : Part → ℕ
 size_of part = part.size
 
-sizes_sum : (row : List Part) → sum_of plain (sizes_of row) ≡ row_size row
+pub sizes_sum : (row : List Part) → sum_of plain (sizes_of row) ≡ row_size row
 sizes_sum [] = refl
 sizes_sum (part ∷ row) = ap (λ n. part.size + n) (sizes_sum row)
 
-sizes_each : (P : ℕ → Type 0) (row : List Part) → AllByRecursion (λ (part : Part). P part.size) row → AllByRecursion P (sizes_of row)
+pub sizes_each : (P : ℕ → Type 0) (row : List Part) → AllByRecursion (λ (part : Part). P part.size) row → AllByRecursion P (sizes_of row)
 sizes_each P [] all = tt
 sizes_each P (part ∷ row) all = (all.0, sizes_each P row all.1)
 
-each_size : (P : ℕ → Type 0) (row : List Part) → AllByRecursion P (sizes_of row) → AllByRecursion (λ (part : Part). P part.size) row
+pub each_size : (P : ℕ → Type 0) (row : List Part) → AllByRecursion P (sizes_of row) → AllByRecursion (λ (part : Part). P part.size) row
 each_size P [] all = tt
 each_size P (part ∷ row) all = (all.0, each_size P row all.1)
 
@@ -61,7 +61,7 @@ both : (full : ℕ) (row : List Part) → AreSome row → AllByRecursion (λ (pa
 both full [] some fit = tt
 both full (part ∷ row) some fit = ((some.0, fit.0), both full row some.1 fit.1)
 
-cut_three : (row : List Part) (first end : ℕ) → first ≤ end → row ≡ take first row ++ (take (end - first) (drop first row) ++ drop end row)
+pub cut_three : (row : List Part) (first end : ℕ) → first ≤ end → row ≡ take first row ++ (take (end - first) (drop first row) ++ drop end row)
 cut_three row first end le =
     sym (ap (λ r. take first row ++ (take (end - first) (drop first row) ++ r)) (ap (λ k. drop k row) {x = end} {y = first + (end - first)} (omega arith) ∙ sym (drop-drop (end - first) first row))
     ∙ ap (λ r. take first row ++ r) (take-append-drop (end - first) (drop first row)) ∙ take-append-drop first row)
@@ -89,7 +89,7 @@ size_fits full [] i fit lt = absurd (omega arith)
 size_fits full (part ∷ row) zero fit lt = fit.0
 size_fits full (part ∷ row) (suc i) fit lt = size_fits full row i fit.1 (omega arith)
 
-front_le : (row : List Part) (i j : ℕ) → i ≤ j → row_size (take i row) ≤ row_size (take j row)
+pub front_le : (row : List Part) (i j : ℕ) → i ≤ j → row_size (take i row) ≤ row_size (take j row)
 front_le row zero j le = omega arith
 front_le [] (suc i) zero le = absurd (omega arith)
 front_le [] (suc i) (suc j) le = omega arith
@@ -168,20 +168,20 @@ step_grown growth fan full n row pos first end at lengths made items lt inside s
 
 -- ---- bytes that go in between
 
-take_over : (a b : List ℕ) (n : ℕ) → take (length a + n) (a ++ b) ≡ a ++ take n b
+pub take_over : (a b : List ℕ) (n : ℕ) → take (length a + n) (a ++ b) ≡ a ++ take n b
 take_over [] b n = ap (λ k. take k b) (let e : 0 + n ≡ n = omega arith in e)
 take_over (x ∷ a) b n = ap (λ k. take k (x ∷ (a ++ b))) (let e : length (x ∷ a) + n ≡ suc (length a + n) = omega arith in e) ∙ ap (λ ys. x ∷ ys) (take_over a b n)
 
-drop_over : (a b : List ℕ) (n : ℕ) → drop (length a + n) (a ++ b) ≡ drop n b
+pub drop_over : (a b : List ℕ) (n : ℕ) → drop (length a + n) (a ++ b) ≡ drop n b
 drop_over [] b n = ap (λ k. drop k b) (let e : 0 + n ≡ n = omega arith in e)
 drop_over (x ∷ a) b n = ap (λ k. drop k (x ∷ (a ++ b))) (let e : length (x ∷ a) + n ≡ suc (length a + n) = omega arith in e) ∙ drop_over a b n
 
-take_in : (a b : List ℕ) (n : ℕ) → n ≤ length a → take n (a ++ b) ≡ take n a
+pub take_in : (a b : List ℕ) (n : ℕ) → n ≤ length a → take n (a ++ b) ≡ take n a
 take_in a b zero le = refl
 take_in [] b (suc n) le = absurd (omega arith)
 take_in (x ∷ a) b (suc n) le = ap (λ ys. x ∷ ys) (take_in a b n (omega arith))
 
-drop_in : (a b : List ℕ) (n : ℕ) → n ≤ length a → drop n (a ++ b) ≡ drop n a ++ b
+pub drop_in : (a b : List ℕ) (n : ℕ) → n ≤ length a → drop n (a ++ b) ≡ drop n a ++ b
 drop_in a b zero le = refl
 drop_in [] b (suc n) le = absurd (omega arith)
 drop_in (x ∷ a) b (suc n) le = drop_in a b n (omega arith)

@@ -5,8 +5,14 @@ mod Growing
 mod Paid
 mod Layouts
 mod LeafStep
+mod Spans
+mod BelowRows
+mod ReplacedLeaves
+mod ReplacedRuns
 mod NodeStep
 mod PaidRows
 mod RootGrow
 mod Results
-mod RootEdit
+mod Faults
+mod Counting
+pub mod RootEdit

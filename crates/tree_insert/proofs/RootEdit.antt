@@ -143,7 +143,7 @@ edited g a m d growth l root made_root made bytes pos given x y spells h roots =
 
 -- ---- the need
 
-fan_height : (fan h : ℕ) → h * (2 * fan) ≡ 2 * (fan * h)
+pub fan_height : (fan h : ℕ) → h * (2 * fan) ≡ 2 * (fan * h)
 fan_height fan zero = omega arith
 fan_height fan (suc h) = omega (arith, fan_height fan h)
 

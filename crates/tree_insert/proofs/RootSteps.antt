@@ -30,16 +30,16 @@ bool_cases false = inr refl
 
 module _ {S : Type 0} (g : ground.Ghosts S) where
   -- what was taken in the first or the second of two steps was taken
-  taken_first : (a b c : S) (p : ℕ) → Extends g b c → IsTaken g a b p → IsTaken g a c p
+  pub taken_first : (a b c : S) (p : ℕ) → Extends g b c → IsTaken g a b p → IsTaken g a c p
   taken_first a b c p y h = (h.0, y.used p h.1)
 
-  taken_second : (a b c : S) (p : ℕ) → Extends g a b → IsTaken g b c p → IsTaken g a c p
+  pub taken_second : (a b c : S) (p : ℕ) → Extends g a b → IsTaken g b c p → IsTaken g a c p
   taken_second a b c p x h = elim (bool_cases (g.used a p)) [
     | inl used ↦ absurd (true≢false (sym (x.used p used) ∙ h.0))
     | inr free ↦ (free, h.1)
   ]
 
-  taken_in : (a b c : S) (p : ℕ) → IsTaken g a c p → IsTaken g a b p ⊎ IsTaken g b c p
+  pub taken_in : (a b c : S) (p : ℕ) → IsTaken g a c p → IsTaken g a b p ⊎ IsTaken g b c p
   taken_in a b c p h = elim (bool_cases (g.used b p)) [
     | inl used ↦ inl (h.0, used)
     | inr free ↦ inr (free, h.1)

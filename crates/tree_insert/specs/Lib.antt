@@ -4,3 +4,5 @@ pub mod Grown
 pub mod Need
 pub mod Roots
 pub mod Edited
+pub mod Replaced
+pub mod Counts

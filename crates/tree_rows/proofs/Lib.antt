@@ -1,3 +1,4 @@
 pub mod Parts
 pub mod Reading
-mod Blame
+pub mod Blame
+pub mod Sound

@@ -1,14 +1,18 @@
 -- What a page shows of itself, and what the page that names it says of it.
-use Rattle.std.specs.Prelude.{◌≡◌, ◌≢◌, ◌⊎◌, ℕ, List, ⊤}
+use Rattle.std.specs.Prelude.{◌≡◌, ◌≢◌, ◌⊎◌, ℕ, zero, suc, List, [], ◌∷◌, Option, Some, None, ⊤}
+use Rattle.std.specs.List.{AllByRecursion}
 use Rattle.ex_base.specs.declared.faults.Seen.{Seen}
 use Rattle.ex_base.specs.declared.faults.PortFault.{PortFault}
 use Rattle.ex_base.specs.declared.faults.PortFault.TheVariants.{Disk, Memory, Damaged}
 use Rattle.ex_base.specs.declared.geometry.Geometry.{Geometry}
+use Rattle.ex_base.specs.declared.names.PageNo.{PageNo}
+use Rattle.ex_base.specs.declared.names.Root.{Root}
 use Rattle.ex_base.specs.Area.{InPageArea, NamesLeaf, catalog_no}
 use Rattle.count_nodes.specs.declared.Pair.{Pair}
 use Rattle.count_nodes.specs.Node.{PairsOf, level_on, pairs_on, total_of}
-use Rattle.tree_model.specs.Trees.{Units}
-use Rattle.tree_rows.specs.Rows.{IsFilled, parts_of}
+use Rattle.tree_model.specs.Trees.{Units, RootSpells, root_units}
+use Rattle.tree_rows.specs.declared.rows.Part.{Part}
+use Rattle.tree_rows.specs.Rows.{IsFilled, IsRowOn, parts_of}
 
 -- a node of a level that spells so many bytes
 abbrev pub node_seen : ℕ → ℕ → Seen
@@ -40,10 +44,52 @@ IsNodeFault g bytes level total least page Disk = ⊤
 IsNodeFault g bytes level total least page Memory = ⊤
 IsNodeFault g bytes level total least page (Damaged at want got) = (at.0 ≡ page) × (want ≡ node_seen level total) × IsMisread g bytes level total least page got
 
--- the fault is the port's own, or tells of a page of some tree that isn't the node or the leaf that names it
-abbrev pub IsTreeFault : Geometry → Units → PortFault → Type 0
-IsTreeFault g units Disk = ⊤
-IsTreeFault g units Memory = ⊤
-IsTreeFault g units (Damaged at want got) =
-    ((level : ℕ) × (total : ℕ) × (least : ℕ) × IsNodeFault g (units at.0) level total least at.0 (Damaged at want got))
-    ⊎ ((want ≡ leaf_seen) × (got ≡ nothing_seen) × (NamesLeaf g at.0 → ⊥))
+-- the fault is the port's own, or tells that this page, which is asked for a leaf, names none
+abbrev pub IsLeafFault : Geometry → PageNo → PortFault → Type 0
+IsLeafFault g page Disk = ⊤
+IsLeafFault g page Memory = ⊤
+IsLeafFault g page (Damaged at want got) = (at ≡ page) × (want ≡ leaf_seen) × (got ≡ nothing_seen) × (NamesLeaf g at.0 → ⊥)
+
+-- The page is the node that names it: it lies where a node may lie, is in the grammar, of this level and total, with at least so many children, over
+-- leaves that are at least half full.
+pub record IsNodeAt (g : Geometry) (units : Units) (level total least page : ℕ) : Type 0 where
+  pub area : NamesNode g page
+  pub row : IsRowOn g (units page) level total (parts_of 0 (pairs_on (units page)))
+  pub filled : IsFilled g level least (parts_of 0 (pairs_on (units page)))
+
+-- P holds of a tree of a row
+abbrev pub AnyPart : (Part → Type 0) → List Part → Type 0
+AnyPart P [] = ⊥
+AnyPart P (part ∷ row) = P part ⊎ AnyPart P row
+
+-- The fault is the port's own, or tells of a page on the way down from a row of trees of this level, whose nodes have at least so many children: a leaf
+-- or a node that isn't what names it, below nodes that are what names them.
+abbrev pub IsWalkFault : Geometry → Units → ℕ → ℕ → List Part → PortFault → Type 0
+IsWalkFault g units level least row Disk = ⊤
+IsWalkFault g units level least row Memory = ⊤
+IsWalkFault g units zero least row (Damaged at want got) = AnyPart (λ part. IsLeafFault g part.page (Damaged at want got)) row
+IsWalkFault g units (suc l) least row (Damaged at want got) = AnyPart (λ part.
+    IsNodeFault g (units part.page.0) (suc l) part.size least part.page.0 (Damaged at want got)
+    ⊎ (IsNodeAt g units (suc l) part.size least part.page.0 × IsWalkFault g units l g.fan (parts_of 0 (pairs_on (units part.page.0))) (Damaged at want got))) row
+
+-- the tree of a root as a row, where it has one
+abbrev pub root_row_at : ℕ → Option PageNo → List Part
+root_row_at size None = []
+root_row_at size (Some page) = record { size = size; page = page } ∷ []
+
+abbrev pub root_row : Root → List Part
+root_row root = root_row_at root.size root.page
+
+-- the fault is the port's own, or tells of a page on the way down from a root
+abbrev pub IsRootFault : Geometry → Units → Root → PortFault → Type 0
+IsRootFault g units root fault = IsWalkFault g units root.height 2 (root_row root) fault
+
+-- none of the units is the catalog's page
+abbrev pub AvoidsCatalog : List ℕ → Type 0
+AvoidsCatalog units = AllByRecursion (λ p. p ≢ catalog_no) units
+
+-- The tree of a root is whole: the root spells bytes, and the catalog's page is none of its nodes.
+pub record IsWhole (g : Geometry) (units : Units) (root : Root) : Type 0 where
+  pub bytes : List ℕ
+  pub spells : RootSpells g units root bytes
+  pub avoids : AvoidsCatalog (root_units units root)

@@ -2,7 +2,7 @@
 ghost use Rattle.std.specs.Prelude.{◌≡◌, ◌≤◌, ◌-◌, length, drop, take, OnOk, IfErr};
 ghost use Rattle.ex_base.specs.Ports.{Keeps, HasCause};
 ghost use Rattle.ex_base.specs.Sizes.{leaf_bytes};
-ghost use Rattle.tree_rows.specs.Damage.{IsTreeFault};
+ghost use Rattle.tree_rows.specs.Damage.{IsLeafFault, IsWalkFault};
 ghost use Rattle.tree_rows.specs.Rows.{row_size, row_bytes, AreTrees, FitLeaves};
 
 use crate::faults::no_leaf;
@@ -23,7 +23,7 @@ fn read_leaf<B: Blocks>(
     requires range { length out.old ≤ leaf.size - pos }
     requires fits { leaf.size ≤ leaf_bytes (B.geometry blocks.old) }
     ensures bytes { OnOk result (B.tells blocks.old → out.new ≡ take (length out.old) (drop pos (B.unit blocks.old leaf.page.0))) }
-    ensures fault { IfErr result (IsTreeFault (B.geometry blocks.old) (B.unit blocks.old)) }
+    ensures fault { IfErr result (IsLeafFault (B.geometry blocks.old) leaf.page) }
     ensures kept { Keeps B.Ground blocks.old blocks.new }
     ensures cause { HasCause (B.faults blocks.old) (B.faults blocks.new) result }
 {
@@ -51,7 +51,7 @@ pub fn read_row<B: Blocks>(
     ensures bytes { OnOk result (B.tells blocks.old
         → AreTrees (B.geometry blocks.old) (B.unit blocks.old) level row.now
         → out.new ≡ take (length out.old) (drop pos (row_bytes (B.unit blocks.old) level row.now))) }
-    ensures fault { IfErr result (λ fault. B.tells blocks.old → IsTreeFault (B.geometry blocks.old) (B.unit blocks.old) fault) }
+    ensures fault { IfErr result (λ fault. B.tells blocks.old → IsWalkFault (B.geometry blocks.old) (B.unit blocks.old) level least row.now fault) }
     ensures kept { Keeps B.Ground blocks.old blocks.new }
     ensures cause { HasCause (B.faults blocks.old) (B.faults blocks.new) result }
 {

@@ -131,6 +131,7 @@ pub fn row_of<B: Blocks>(
 ) -> Result<Vec<Part>, PortFault>
     requires { B.ready blocks.old }
     ensures counted { IfOk result (λ row. IsCounted (B.geometry blocks.old) level part.size least row.items) }
+    ensures area { OnOk result (NamesNode (B.geometry blocks.old) part.page.0) }
     ensures found { IfOk result (λ row. B.tells blocks.old → IsRowOn (B.geometry blocks.old) (B.unit blocks.old part.page.0) level part.size row.items) }
     ensures fault { IfErr result (λ fault. B.tells blocks.old → IsNodeFault (B.geometry blocks.old) (B.unit blocks.old part.page.0) level part.size least part.page.0 fault) }
     ensures kept { Keeps B.Ground blocks.old blocks.new }

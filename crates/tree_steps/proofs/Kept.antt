@@ -1,10 +1,13 @@
 -- Rows over units that are kept.
 use Rattle.std.proofs.Common.{◌≡◌, ℕ, List, [], ◌∷◌, ◌++◌, true, sym, ap, subst, ◌∙◌, refl}
+use Rattle.ex_base.specs.declared.faults.PortFault.{PortFault}
+use Rattle.ex_base.specs.declared.faults.PortFault.TheVariants.{Disk, Memory, Damaged}
 use Rattle.ex_base.specs.declared.geometry.Geometry.{Geometry}
 use Rattle.ex_base.specs.declared.ground.Ground as ground
 use Rattle.tree_model.specs.Trees.{Units, bytes_on, shape_on, units_on}
 use Rattle.tree_model.proofs.SameUnits.{Kept, split_each, units_same, bytes_same, shape_same, named_same, sized_same}
 use Rattle.tree_rows.specs.declared.rows.Part.{Part}
+use Rattle.tree_rows.specs.Damage.{IsWalkFault}
 use Rattle.tree_rows.specs.Rows.{row_bytes, row_units, row_shape, AreTrees}
 use Rattle.tree_steps.specs.Made.{Extends, AreUsed, Holds}
 use Rattle.tree_steps.proofs.Laid.{each_same}
@@ -42,3 +45,10 @@ holds_on g a b l row ext h =
       trees = subst (λ geo. AreTrees geo (g.unit b) l row) (sym (g.leads_geometry a b ext.leads)) same.trees;
       used = subst (AreUsed (g.used b)) (sym same.units) (each_same (λ p. g.used a p ≡ true) (λ p. g.used b p ≡ true) (row_units (g.unit a) l row) (λ p used. ext.used p used) h.used);
     }
+
+-- A fault of a walk over leaves speaks of no unit's content, so it is one of any earlier state.
+pub leaves_back : {S : Type 0} (g : ground.Ghosts S) (a b : S) (run : List Part) (fault : PortFault) → g.leads a b → (g.tells b → IsWalkFault (g.geometry b) (g.unit b) 0 0 run fault) → g.tells a → IsWalkFault (g.geometry a) (g.unit a) 0 0 run fault
+leaves_back g a b run Disk leads later told = tt
+leaves_back g a b run Memory leads later told = tt
+leaves_back g a b run (Damaged at want got) leads later told =
+    subst (λ geo. IsWalkFault geo (g.unit b) 0 0 run (Damaged at want got)) (g.leads_geometry a b leads) (later (g.leads_told a b leads told))

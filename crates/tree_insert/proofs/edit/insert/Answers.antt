@@ -4,6 +4,8 @@ use Rattle.ex_base.specs.Sizes.{leaf_bytes}
 use Rattle.tree_insert.specs.declared.layout.Growth.TheVariants.{Insert}
 use Rattle.tree_insert.proofs.Results.{if_ok_on, on_ok_on, ok_of, on_of}
 use Rattle.tree_insert.proofs.RootEdit.{root_stays, nothing_changes, nothing_turned, leaves_most, pages_most}
+use Rattle.tree_rows.proofs.Blame.{if_err_on}
+use Rattle.tree_rows.proofs.Sound.{sound_root}
 use Rattle.tree_insert.proofs.edit.insert.Goals as goal
 
 pub returns-then-is_empty-clause-shape : goal.returns-then-is_empty-clause-shape
@@ -42,3 +44,6 @@ returns-clause-pages g c = on_ok_on c.grow.result _ (λ made is. omega (arith, o
 pub returns-clause-old : goal.returns-clause-old
 returns-clause-old g c =
     on_ok_on c.grow.result _ (λ made is told bytes spells used. root_stays g.B.Ground c.args.blocks.now c.grow.new.blocks c.args.root.now bytes (on_of c.grow.result made _ is c.grow.ensures.extends) used spells)
+
+pub returns-clause-sound : goal.returns-clause-sound
+returns-clause-sound g c = if_err_on c.grow.result _ _ (λ f h told whole. sound_root (g.B.Ground.geometry c.args.blocks.now) (g.B.Ground.unit c.args.blocks.now) c.args.root.now f whole (h told)) c.grow.ensures.fault

@@ -1,4 +1,4 @@
-use Rattle.std.proofs.Common.{arith, rules, ℕ, List, ◌≡◌, ◌≤◌, ◌<◌, ◌+◌, ◌-◌, ◌*◌, ◌^◌, ◌++◌, ◌∙◌, ap, sym, subst, refl, suc, length, take, drop, Result, Ok, Err, IfOk, OnOk}
+use Rattle.std.proofs.Common.{arith, rules, ℕ, List, ◌≡◌, ◌≤◌, ◌<◌, ◌+◌, ◌-◌, ◌*◌, ◌^◌, ◌++◌, ◌∙◌, ap, sym, subst, refl, suc, length, take, drop, get_or, Result, Ok, Err, IfOk, OnOk}
 use Rattle.std.proofs.lemmas.List.{length-take-le}
 use Rattle.ex_base.specs.Edits.{inserted}
 use Rattle.ex_base.specs.declared.geometry.Geometry.{Geometry}
@@ -7,7 +7,9 @@ use Rattle.ex_base.specs.declared.names.Area.TheVariants.{Page, Segment}
 use Rattle.ex_base.specs.Sizes.{leaf_bytes}
 use Rattle.count_nodes.specs.Split.{nodes_for}
 use Rattle.tree_rows.specs.declared.rows.Part.{Part}
-use Rattle.tree_rows.specs.Rows.{row_size, row_bytes, row_shape, FitLeaves}
+use Rattle.tree_rows.specs.Damage.{IsNodeFault, IsWalkFault}
+use Rattle.tree_rows.proofs.Blame.{walk_back, walk_node, walk_below}
+use Rattle.tree_rows.specs.Rows.{IsFilled, row_size, row_bytes, row_shape, FitLeaves}
 use Rattle.tree_rows.proofs.Parts.{narrow, below_fit}
 use Rattle.tree_steps.specs.Made.{Holds}
 use Rattle.tree_steps.specs.Built.{AreSome, Built, even_lens}
@@ -19,6 +21,8 @@ use Rattle.tree_insert.proofs.PlaceLaws.{read_size, read_most}
 use Rattle.tree_insert.proofs.Paid.{some_node, level_up, node_free, node_paid}
 use Rattle.tree_insert.proofs.PaidRows.{page_le, paid_at}
 use Rattle.tree_insert.proofs.NodeStep.{spot_below, tree_grown, tree_count, tree_grew}
+use Rattle.tree_insert.proofs.PlaceLaws.{no_part}
+use Rattle.tree_insert.proofs.Results.{err_on}
 use Rattle.tree_insert.proofs.grow.+grow_row.Goals as goal
 
 if_ok_with : {X E : Type 0} (r : Result X E) (A : Type 0) (P Q : X → Type 0) → ((x : X) → A → P x → Q x) → OnOk r A → IfOk r P → IfOk r Q
@@ -143,3 +147,18 @@ returns-clause-grew g t c = λ told l same holds.
     subst (λ (r : List Part). (m : ℕ) → c.args.level ≡ suc m → Holds g.B.Ground c.grow_row.new.blocks m r → Built g.B.Ground c.nodes_over.new.blocks m (even_lens (g.B.Ground.geometry c.grow_row.new.blocks).fan (length r)) r c.in_ok-made.made.items) c.deref-2.ensures.value (made.built told_c) in
     tree_grew g.B.Ground c.args.blocks.now c.row_of.new.blocks c.grow_row.new.blocks c.nodes_over.new.blocks c.args.growth (g.B.Ground.geometry c.args.blocks.now).fan (leaf_bytes (g.B.Ground.geometry c.args.blocks.now)) c.args.level l c.args.row.now c.args.pos c.tree_at-index.result.0 c.tree_at-index.result.1 c.args.given.now c.in_ok-below.below.items c.in_ok-grown.grown.items c.in_ok-made.made.items c.in_ok-spliced.field-0.items
     c.requires.ready told same c.if-level-eq0.false kept c.in_ok-grown.ensures.extends made.extends refl (c.in_ok-below.ensures.found told) holds c.requires.sizes c.requires.spot c.tree_at-index.ensures grew made.took built (c.in_ok-spliced.ensures ∙ ap (λ m. (take c.tree_at-index.result.0 c.args.row.now ++ m) ++ drop (c.tree_at-index.result.0 + 1) c.args.row.now) c.deref-3.ensures.value)
+
+pub returns-in_err-below-clause-fault : goal.returns-in_err-below-clause-fault
+returns-in_err-below-clause-fault g t c =
+    err_on c.from_residual.result _ c.in_err-below.field-0.0 c.from_residual.ensures.1
+    (λ told. walk_node (g.B.Ground.geometry c.args.blocks.now) (g.B.Ground.unit c.args.blocks.now) c.args.level (g.B.Ground.geometry c.args.blocks.now).fan c.tree_at-index.result.0 c.args.row.now c.in_err-below.field-0.0 c.if-level-eq0.false c.tree_at-index.ensures.inside
+    (subst (λ (x : Geometry). IsNodeFault (g.B.Ground.geometry c.args.blocks.now) (g.B.Ground.unit c.args.blocks.now (get_or c.args.row.now c.tree_at-index.result.0 no_part).page.0) c.args.level (get_or c.args.row.now c.tree_at-index.result.0 no_part).size x.fan (get_or c.args.row.now c.tree_at-index.result.0 no_part).page.0 c.in_err-below.field-0.0) c.geometry-geometry.ensures (c.in_err-below.ensures.fault told)))
+
+pub returns-in_err-grown-clause-fault : goal.returns-in_err-grown-clause-fault
+returns-in_err-grown-clause-fault g t c =
+    err_on c.from_residual-in_err-grown.result _ c.in_err-grown.field-0.0 c.from_residual-in_err-grown.ensures.1
+    (λ told. walk_below (g.B.Ground.geometry c.args.blocks.now) (g.B.Ground.unit c.args.blocks.now) c.args.level (g.B.Ground.geometry c.args.blocks.now).fan c.tree_at-index.result.0 c.args.row.now c.in_ok-below.below.items c.in_err-grown.field-0.0 c.if-level-eq0.false c.tree_at-index.ensures.inside c.in_ok-below.ensures.area (c.in_ok-below.ensures.found told)
+    (subst (λ (x : Geometry). IsFilled (g.B.Ground.geometry c.args.blocks.now) c.args.level x.fan c.in_ok-below.below.items) c.geometry-geometry.ensures c.in_ok-below.ensures.counted.filled)
+    (walk_back g.B.Ground c.args.blocks.now c.row_of.new.blocks (c.args.level - 1) (g.B.Ground.geometry c.args.blocks.now).fan c.in_ok-below.below.items c.in_err-grown.field-0.0 c.in_ok-below.ensures.kept
+    (λ later. subst (λ r. IsWalkFault (g.B.Ground.geometry c.row_of.new.blocks) (g.B.Ground.unit c.row_of.new.blocks) (c.args.level - 1) (g.B.Ground.geometry c.args.blocks.now).fan r c.in_err-grown.field-0.0) c.deref.ensures.value
+    (subst (λ (x : Geometry). IsWalkFault (g.B.Ground.geometry c.row_of.new.blocks) (g.B.Ground.unit c.row_of.new.blocks) (c.args.level - 1) x.fan c.deref.result.now c.in_err-grown.field-0.0) (g.B.Ground.leads_geometry c.args.blocks.now c.row_of.new.blocks c.in_ok-below.ensures.kept.leads) (c.in_err-grown.ensures.fault later))) told))

@@ -1,8 +1,9 @@
-use Rattle.std.proofs.Common.{arith, rules, ◌≡◌, ◌≤◌, ◌-◌, ◌∙◌, ap, sym, subst, length}
+use Rattle.std.proofs.Common.{arith, rules, suc, ◌≡◌, ◌≤◌, ◌+◌, ◌-◌, ◌∙◌, ap, sym, subst, length}
 use Rattle.tree_rows.specs.Rows.{row_size, FitLeaves}
+use Rattle.tree_rows.specs.Damage.{IsWalkFault}
 use Rattle.tree_rows.proofs.Parts.{narrow, below_fit}
-use Rattle.tree_rows.proofs.Blame.{if_err_on, fault_back}
-use Rattle.tree_rows.proofs.Reading.{on_ok, read_behind, first_of, keeps_on, leaf_case, node_case}
+use Rattle.tree_rows.proofs.Blame.{if_err_on, walk_back, walk_part}
+use Rattle.tree_rows.proofs.Reading.{on_ok, read_behind, first_of, rest_of, size_split, length_split, keeps_on, leaf_case, node_case}
 use Rattle.tree_rows.proofs.read.+read_row.Goals as goal
 
 pub returns-then-first-pos-clause-bytes : goal.returns-then-first-pos-clause-bytes
@@ -40,6 +41,22 @@ returns-clause-bytes g t c =
 pub returns-clause-kept : goal.returns-clause-kept
 returns-clause-kept g t c = keeps_on g.B.Ground c.args.blocks.now c.row_of.new.blocks c.read_row-3.new.blocks c.in_ok-below.ensures.kept (keeps_on g.B.Ground c.row_of.new.blocks c.read_row-2.new.blocks c.read_row-3.new.blocks c.in_ok-read_row.ensures.kept c.read_row-3.ensures.kept)
 
+pub read_row-requires-3 : goal.read_row-requires-3
+read_row-requires-3 g t c κs within =
+    let some : 1 ≤ length c.args.row.now = c.in-len1-up.len_at_least in
+    let size : row_size c.args.row.now ≡ (first_of c.args.row.now).size + row_size (rest_of c.args.row.now) = size_split c.args.row.now c.in-len1-up.len_at_least in
+    let count : length c.args.row.now ≡ suc (length (rest_of c.args.row.now)) = length_split c.args.row.now c.in-len1-up.len_at_least in
+    search rules
+
 pub returns-then-level-eq0-clause-fault : goal.returns-then-level-eq0-clause-fault
 returns-then-level-eq0-clause-fault g t c =
-    if_err_on c.read_row-then-level-eq0.result _ _ (λ f h. fault_back g.B.Ground c.args.blocks.now c.read_leaf.new.blocks f c.in_ok-read_leaf.ensures.kept h) c.read_row-then-level-eq0.ensures.fault
+    if_err_on c.read_row-then-level-eq0.result _ _ (λ f h told.
+    subst (λ k. IsWalkFault (g.B.Ground.geometry c.args.blocks.now) (g.B.Ground.unit c.args.blocks.now) k c.args.least c.args.row.now f) (sym c.if-level-eq0.true)
+    (walk_part (g.B.Ground.geometry c.args.blocks.now) (g.B.Ground.unit c.args.blocks.now) 0 c.args.least 1 (length c.args.row.now - 1) c.args.row.now f
+    (walk_back g.B.Ground c.args.blocks.now c.read_leaf.new.blocks 0 c.args.least (rest_of c.args.row.now) f c.in_ok-read_leaf.ensures.kept h told))) c.read_row-then-level-eq0.ensures.fault
+
+pub returns-clause-fault : goal.returns-clause-fault
+returns-clause-fault g t c =
+    if_err_on c.read_row-3.result _ _ (λ f h told.
+    walk_part (g.B.Ground.geometry c.args.blocks.now) (g.B.Ground.unit c.args.blocks.now) c.args.level c.args.least 1 (length c.args.row.now - 1) c.args.row.now f
+    (walk_back g.B.Ground c.args.blocks.now c.read_row-2.new.blocks c.args.level c.args.least (rest_of c.args.row.now) f (keeps_on g.B.Ground c.args.blocks.now c.row_of.new.blocks c.read_row-2.new.blocks c.in_ok-below.ensures.kept c.in_ok-read_row.ensures.kept) h told)) c.read_row-3.ensures.fault

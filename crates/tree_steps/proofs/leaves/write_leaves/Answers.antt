@@ -1,4 +1,5 @@
 use Rattle.std.proofs.Common.{length, ◌≤◌, ℕ, arith, rules, get_or}
+use Rattle.tree_steps.proofs.Kept.{leaves_back}
 use Rattle.tree_steps.proofs.Laid.{laid_step, laid_all, each_at}
 use Rattle.tree_steps.proofs.leaves.write_leaves.Goals as goal
 
@@ -12,3 +13,12 @@ pub returns-clause-bytes : goal.returns-clause-bytes
 returns-clause-bytes g c =
     laid_all g.B.Ground c.args.blocks.now c.loop-size.blocks c.args.run.now c.args.change.at c.args.change.cut c.args.given.now c.args.lengths.now c.loop-size.size-index c.loop-size.row.items c.loop-size.at
     c.requires.ready c.requires.change c.requires.sum (omega (arith, c.loop-size-test.false)) c.loop-size.invariant
+
+pub returns-in_err-fill-clause-fault : goal.returns-in_err-fill-clause-fault
+returns-in_err-fill-clause-fault g c =
+    let back = leaves_back g.B.Ground c.args.blocks.now c.loop-size.blocks c.args.run.now c.in_err-fill.field-0.0 c.loop-size.invariant.extends.leads c.in_err-fill.ensures.fault in
+    search rules
+
+pub returns-in_err-put-clause-leads : goal.returns-in_err-put-clause-leads
+returns-in_err-put-clause-leads g c =
+    g.B.Ground.leads_trans c.args.blocks.now c.loop-size.blocks c.new_leaf.new.self c.loop-size.invariant.extends.leads (g.B.Ground.leads_trans c.loop-size.blocks c.fill.new.blocks c.new_leaf.new.self c.in_ok-fill.ensures.kept.leads c.in_ok-page.ensures.leads)

@@ -1,0 +1,44 @@
+use Rattle.std.proofs.Common.{◌-◌, ◌*◌, ◌≤◌, suc, length, ap, sym, subst, arith}
+use Rattle.std.proofs.Math.Nat.{mul-le-mul_right}
+use Rattle.count_nodes.specs.Split.{most_pairs}
+use Rattle.tree_rows.specs.Rows.{row_size}
+use Rattle.tree_steps.specs.Made.{Holds}
+use Rattle.tree_delete.specs.Cuts.{IsOpened, IsCutOf}
+use Rattle.tree_delete.proofs.CutLaws.{size_cut, length_cut}
+use Rattle.tree_delete.proofs.LeafLaws.{run_most}
+use Rattle.tree_rows.specs.Damage.{IsWalkFault}
+use Rattle.tree_delete.proofs.Faults.{walk_cut}
+use Rattle.tree_delete.proofs.NodeLaws.{below_at, below_is}
+use Rattle.tree_delete.proofs.nodes.cut_below.Goals as goal
+
+pub cut_through-requires-clause-limit : goal.cut_through-requires-clause-limit
+cut_through-requires-clause-limit g c = omega (arith, ap row_size c.deref-2.ensures.value, c.in_ok-row.ensures.counted.sum, ap row_size c.deref.ensures.value, run_most c.args.cut.now, c.requires.cut_at.limit)
+
+pub returns-clause-cut_at : goal.returns-clause-cut_at
+returns-clause-cut_at g c =
+    below_at (g.B.Ground.geometry c.args.blocks.now) c.args.level c.args.least c.deref.result.now c.in_ok-row.row.items c.args.cut.now.at c.args.cut.now.len c.in_ok-cut_through.field-0 c.in_ok-row.ensures.counted
+    (omega (arith, ap row_size c.deref.ensures.value, run_most c.args.cut.now, c.requires.cut_at.limit)) (subst (λ r. IsCutOf r c.args.cut.now.at c.args.cut.now.len c.in_ok-cut_through.field-0) c.deref-2.ensures.value c.in_ok-cut_through.ensures)
+
+pub returns-clause-sum : goal.returns-clause-sum
+returns-clause-sum g c =
+    omega (arith, size_cut c.deref-2.result.now c.args.cut.now.at c.args.cut.now.len c.in_ok-cut_through.field-0 c.in_ok-cut_through.ensures, ap row_size c.deref-2.ensures.value, c.in_ok-row.ensures.counted.sum, ap row_size c.deref.ensures.value)
+
+pub returns-clause-few : goal.returns-clause-few
+returns-clause-few g c =
+    let runs : length c.deref.result.now ≤ 2 = omega (arith, ap length c.deref.ensures.value, c.requires.cut_at.few) in
+    let product : length c.deref.result.now * most_pairs (g.B.Ground.geometry c.args.blocks.now).fan ≤ 2 * most_pairs (g.B.Ground.geometry c.args.blocks.now).fan = mul-le-mul_right (most_pairs (g.B.Ground.geometry c.args.blocks.now).fan) runs in
+    omega (arith, length_cut c.deref-2.result.now c.args.cut.now.at c.args.cut.now.len c.in_ok-cut_through.field-0 c.in_ok-cut_through.ensures, ap length c.deref-2.ensures.value, c.in_ok-row.ensures.counted.few)
+
+pub returns-clause-below : goal.returns-clause-below
+returns-clause-below g c = λ told l same holds.
+    below_is g.B.Ground c.args.blocks.now l c.args.cut.now.run.items c.in_ok-row.row.items c.args.cut.now.at c.args.cut.now.len c.in_ok-cut_through.field-0 c.requires.ready told
+    (subst (λ r. IsOpened g.B.Ground c.args.blocks.now l r c.in_ok-row.row.items) c.deref.ensures.value
+    (c.in_ok-row.ensures.opened told l same (subst (Holds g.B.Ground c.args.blocks.now (suc l)) (sym c.deref.ensures.value) holds)))
+    (subst (λ r. IsCutOf r c.args.cut.now.at c.args.cut.now.len c.in_ok-cut_through.field-0) c.deref-2.ensures.value c.in_ok-cut_through.ensures)
+
+pub returns-clause-walk : goal.returns-clause-walk
+returns-clause-walk g c = λ told fault h.
+    subst (λ r. IsWalkFault (g.B.Ground.geometry c.args.blocks.now) (g.B.Ground.unit c.args.blocks.now) c.args.level c.args.least r fault) c.deref.ensures.value
+    (c.in_ok-row.ensures.walk told fault
+    (walk_cut (g.B.Ground.geometry c.args.blocks.now) (g.B.Ground.unit c.args.blocks.now) (c.args.level - 1) (g.B.Ground.geometry c.args.blocks.now).fan c.in_ok-row.row.items c.args.cut.now.at c.args.cut.now.len c.in_ok-cut_through.field-0 fault
+    (subst (λ r. IsCutOf r c.args.cut.now.at c.args.cut.now.len c.in_ok-cut_through.field-0) c.deref-2.ensures.value c.in_ok-cut_through.ensures) h))

@@ -1,0 +1,112 @@
+use Rattle.std.proofs.Common.{arith, rules, ℕ, List, [], ◌≡◌, ◌≤◌, ◌-◌, ◌*◌, ◌++◌, ◌∙◌, ap, sym, subst, length}
+use Rattle.std.specs.Vec.{vec_len}
+use Rattle.std.proofs.lemmas.Bool.{eqb-true}
+use Rattle.std.proofs.lemmas.List.{length-take-le}
+use Rattle.ex_base.specs.declared.geometry.Geometry.{Geometry}
+use Rattle.ex_base.specs.declared.names.Area.{Area}
+use Rattle.ex_base.specs.declared.names.Area.TheVariants.{Page, Segment}
+use Rattle.ex_base.specs.Sizes.{leaf_bytes}
+use Rattle.count_nodes.specs.Split.{nodes_for}
+use Rattle.tree_rows.specs.declared.rows.Part.{Part}
+use Rattle.tree_rows.specs.Rows.{row_size}
+use Rattle.tree_steps.proofs.Laid.{extends_on, extends_kept}
+use Rattle.tree_delete.specs.Cuts.{all_of, sides, IsCutAt}
+use Rattle.tree_delete.proofs.Paid.{some_node}
+use Rattle.tree_delete.proofs.Results.{if_ok_on, ok_of, err_on}
+use Rattle.tree_rows.specs.Damage.{IsWalkFault}
+use Rattle.tree_rows.proofs.Blame.{walk_back}
+use Rattle.tree_delete.proofs.RowLaws.{left_at, whole_left, tree_left, node_left_of, page_le, made_few}
+use Rattle.tree_delete.proofs.rows.+cut_row.Goals as goal
+
+pub returns-then-level-eq0-clause-left : goal.returns-then-level-eq0-clause-left
+returns-then-level-eq0-clause-left g t c =
+    if_ok_on c.cut_leaves.result _ (λ made is told l same holds.
+    left_at g.B.Ground c.args.blocks.now c.cut_leaves.new.blocks c.args.level l 0 c.args.cut made.items c.if-level-eq0.true same (ok_of c.cut_leaves.result made _ is c.cut_leaves.ensures.left told) holds)
+
+pub returns-then-is_empty-clause-left : goal.returns-then-is_empty-clause-left
+returns-then-is_empty-clause-left g t c = λ told l same holds.
+    whole_left g.B.Ground c.args.blocks.now l c.args.cut c.in_ok-joined.field-0.items (omega (arith, eqb-true (vec_len c.args.cut.run) 0 (sym c.if-is_empty.ensures), c.args.cut.run.ok.0))
+    (c.in_ok-joined.ensures ∙ ap (λ (xs : List Part). xs ++ ([] ++ c.deref-then-is_empty.result.now)) c.deref.ensures.value ∙ ap (λ (xs : List Part). c.args.cut.left.items ++ xs) c.deref-then-is_empty.ensures.value) holds
+
+pub cut_row-requires : goal.cut_row-requires
+cut_row-requires g t c κs within =
+    let kept = c.in_ok-left.ensures.kept in
+    let counted = c.in_ok-left.ensures.counted in
+    let geo = g.B.Ground.leads_geometry c.args.blocks.now c.open.new.blocks kept.leads in
+    let ready : g.B.Ground.ready c.open.new.blocks = g.B.Ground.leads_ready c.args.blocks.now c.open.new.blocks kept.leads c.requires.ready in
+    let buffer : length c.args.buffer.now ≡ leaf_bytes (g.B.Ground.geometry c.open.new.blocks) = c.requires.buffer ∙ ap leaf_bytes (sym geo) in
+    let cut_at : IsCutAt (g.B.Ground.geometry c.open.new.blocks) (c.args.level - 1) c.in_ok-left.field-0.below = subst (λ k. IsCutAt k (c.args.level - 1) c.in_ok-left.field-0.below) (sym geo) counted.cut_at in
+    let side : 1 ≤ sides c.in_ok-left.field-0.below = omega (arith, counted.enough, (g.B.Ground.geometry c.args.blocks.now).two) in
+    let free : 4 ≤ g.B.Ground.free c.open.new.blocks Segment = omega (arith, ap (λ (f : Area → ℕ). f Segment) kept.free, c.requires.free) in
+    let pages : 4 * (c.args.level - 1) ≤ g.B.Ground.free c.open.new.blocks Page = omega (arith, ap (λ (f : Area → ℕ). f Page) kept.free, c.requires.pages) in
+    search rules
+
+pub nodes_over-requires-clause-buffer : goal.nodes_over-requires-clause-buffer
+nodes_over-requires-clause-buffer g t c =
+    let geo = (g.B.Ground.leads_geometry c.open.new.blocks c.cut_row.new.blocks c.in_ok-kept.ensures.extends.leads ∙ (g.B.Ground.leads_geometry c.args.blocks.now c.open.new.blocks c.in_ok-left.ensures.kept.leads)) in
+    length-take-le c.geometry-geometry.result.page_size c.cut_row.new.buffer (omega (arith, c.cut_row.auto.buffer, c.requires.buffer, page_le (g.B.Ground.geometry c.args.blocks.now), ap (λ (k : Geometry). k.page_size) c.geometry-geometry.ensures))
+    ∙ ap (λ (k : Geometry). k.page_size) (c.geometry-geometry.ensures ∙ sym geo)
+
+pub nodes_over-requires-clause-free : goal.nodes_over-requires-clause-free
+nodes_over-requires-clause-free g t c =
+    let geo = (g.B.Ground.leads_geometry c.open.new.blocks c.cut_row.new.blocks c.in_ok-kept.ensures.extends.leads ∙ (g.B.Ground.leads_geometry c.args.blocks.now c.open.new.blocks c.in_ok-left.ensures.kept.leads)) in
+    let few = made_few (g.B.Ground.geometry c.args.blocks.now) c.args.level c.args.cut c.in_ok-left.field-0 c.in_ok-kept.kept.items c.in_ok-left.ensures.counted c.in_ok-kept.ensures.left_of in
+    let at_start : nodes_for (g.B.Ground.geometry c.args.blocks.now).fan (length c.deref-2.result.now) ≤ 4 = subst (λ (r : List Part). nodes_for (g.B.Ground.geometry c.args.blocks.now).fan (length r) ≤ 4) (sym c.deref-2.ensures.value) few in
+    let four : nodes_for (g.B.Ground.geometry c.cut_row.new.blocks).fan (length c.deref-2.result.now) ≤ 4 = subst (λ (k : Geometry). nodes_for k.fan (length c.deref-2.result.now) ≤ 4) (sym geo) at_start in
+    omega (arith, c.in_ok-kept.ensures.pages, ap (λ (f : Area → ℕ). f Page) c.in_ok-left.ensures.kept.free, c.requires.pages, c.if-level-eq0.false)
+
+pub returns-in_err-made-clause-cause : goal.returns-in_err-made-clause-cause
+returns-in_err-made-clause-cause g t c =
+    let first : g.B.Ground.faults c.args.blocks.now ≤ g.B.Ground.faults c.open.new.blocks = g.B.Ground.leads_faults c.args.blocks.now c.open.new.blocks c.in_ok-left.ensures.kept.leads in
+    let second : g.B.Ground.faults c.open.new.blocks ≤ g.B.Ground.faults c.cut_row.new.blocks = g.B.Ground.leads_faults c.open.new.blocks c.cut_row.new.blocks c.in_ok-kept.ensures.leads in
+    let le : g.B.Ground.faults c.args.blocks.now ≤ g.B.Ground.faults c.cut_row.new.blocks = omega arith in
+    search rules
+
+pub returns-in_err-joined-2-clause-leads : goal.returns-in_err-joined-2-clause-leads
+returns-in_err-joined-2-clause-leads g t c =
+    g.B.Ground.leads_trans c.args.blocks.now c.open.new.blocks c.nodes_over.new.blocks c.in_ok-left.ensures.kept.leads (g.B.Ground.leads_trans c.open.new.blocks c.cut_row.new.blocks c.nodes_over.new.blocks c.in_ok-kept.ensures.leads c.in_ok-made.ensures.leads)
+
+pub returns-clause-leads : goal.returns-clause-leads
+returns-clause-leads g t c =
+    g.B.Ground.leads_trans c.args.blocks.now c.open.new.blocks c.nodes_over.new.blocks c.in_ok-left.ensures.kept.leads (g.B.Ground.leads_trans c.open.new.blocks c.cut_row.new.blocks c.nodes_over.new.blocks c.in_ok-kept.ensures.leads c.in_ok-made.ensures.leads)
+
+pub returns-clause-extends : goal.returns-clause-extends
+returns-clause-extends g t c =
+    extends_on g.B.Ground c.args.blocks.now c.open.new.blocks c.nodes_over.new.blocks (extends_kept g.B.Ground c.args.blocks.now c.open.new.blocks c.in_ok-left.ensures.kept) (extends_on g.B.Ground c.open.new.blocks c.cut_row.new.blocks c.nodes_over.new.blocks c.in_ok-kept.ensures.extends c.in_ok-made.ensures.extends)
+
+pub returns-clause-left_of : goal.returns-clause-left_of
+returns-clause-left_of g t c =
+    let made = c.in_ok-made.ensures in
+    let geo = (g.B.Ground.leads_geometry c.open.new.blocks c.cut_row.new.blocks c.in_ok-kept.ensures.extends.leads ∙ (g.B.Ground.leads_geometry c.args.blocks.now c.open.new.blocks c.in_ok-left.ensures.kept.leads)) in
+    let many : length c.in_ok-made.made.items ≡ nodes_for (g.B.Ground.geometry c.args.blocks.now).fan (length c.in_ok-kept.kept.items) =
+    made.count ∙ ap (λ (k : Geometry). nodes_for k.fan (length c.deref-2.result.now)) geo ∙ ap (λ (r : List Part). nodes_for (g.B.Ground.geometry c.args.blocks.now).fan (length r)) c.deref-2.ensures.value in
+    node_left_of (g.B.Ground.geometry c.args.blocks.now) c.args.level c.args.cut c.in_ok-left.field-0 c.in_ok-kept.kept.items c.in_ok-made.made.items c.in_ok-joined-2.field-0.items c.in_ok-left.ensures.counted c.in_ok-kept.ensures.left_of
+    (made.sum ∙ ap row_size c.deref-2.ensures.value) made.sizes
+    (omega (arith, many, some_node (g.B.Ground.geometry c.args.blocks.now).fan (length c.in_ok-kept.kept.items) (omega (arith, c.in_ok-kept.ensures.left_of.many, c.in_ok-left.ensures.counted.enough, (g.B.Ground.geometry c.args.blocks.now).two))))
+    (omega (arith, many, made_few (g.B.Ground.geometry c.args.blocks.now) c.args.level c.args.cut c.in_ok-left.field-0 c.in_ok-kept.kept.items c.in_ok-left.ensures.counted c.in_ok-kept.ensures.left_of))
+    (c.in_ok-joined-2.ensures ∙ ap (λ (xs : List Part). xs ++ (c.deref-4.result.now ++ c.deref-5.result.now)) c.deref-3.ensures.value ∙ ap (λ (xs : List Part). c.in_ok-left.field-0.left.items ++ (xs ++ c.deref-5.result.now)) c.deref-4.ensures.value ∙ ap (λ (xs : List Part). c.in_ok-left.field-0.left.items ++ (c.in_ok-made.made.items ++ xs)) c.deref-5.ensures.value)
+
+pub returns-clause-pages : goal.returns-clause-pages
+returns-clause-pages g t c =
+    let made = c.in_ok-made.ensures in
+    let geo = (g.B.Ground.leads_geometry c.open.new.blocks c.cut_row.new.blocks c.in_ok-kept.ensures.extends.leads ∙ (g.B.Ground.leads_geometry c.args.blocks.now c.open.new.blocks c.in_ok-left.ensures.kept.leads)) in
+    let many : length c.in_ok-made.made.items ≡ nodes_for (g.B.Ground.geometry c.args.blocks.now).fan (length c.in_ok-kept.kept.items) =
+    made.count ∙ ap (λ (k : Geometry). nodes_for k.fan (length c.deref-2.result.now)) geo ∙ ap (λ (r : List Part). nodes_for (g.B.Ground.geometry c.args.blocks.now).fan (length r)) c.deref-2.ensures.value in
+    let few = made_few (g.B.Ground.geometry c.args.blocks.now) c.args.level c.args.cut c.in_ok-left.field-0 c.in_ok-kept.kept.items c.in_ok-left.ensures.counted c.in_ok-kept.ensures.left_of in
+    omega (arith, made.spent.of_pages, made.count, c.in_ok-kept.ensures.pages, ap (λ (f : Area → ℕ). f Page) c.in_ok-left.ensures.kept.free, c.if-level-eq0.false)
+
+pub returns-clause-left : goal.returns-clause-left
+returns-clause-left g t c = λ told l same holds.
+    tree_left g.B.Ground c.args.blocks.now c.open.new.blocks c.cut_row.new.blocks c.nodes_over.new.blocks c.args.level l c.args.cut c.in_ok-left.field-0 c.in_ok-kept.kept.items c.deref-2.result.now c.in_ok-made.made.items c.in_ok-joined-2.field-0.items
+    told same c.if-level-eq0.false c.in_ok-left.ensures.kept c.in_ok-kept.ensures.extends c.in_ok-made.ensures.extends c.in_ok-left.ensures.opened c.in_ok-kept.ensures.left
+    (omega (arith, c.in_ok-kept.ensures.left_of.many, c.in_ok-left.ensures.counted.enough)) (omega (arith, c.in_ok-left.ensures.counted.enough, (g.B.Ground.geometry c.args.blocks.now).two)) c.deref-2.ensures.value c.in_ok-made.ensures.took c.in_ok-made.ensures.built
+    (c.in_ok-joined-2.ensures ∙ ap (λ (xs : List Part). xs ++ (c.deref-4.result.now ++ c.deref-5.result.now)) c.deref-3.ensures.value ∙ ap (λ (xs : List Part). c.in_ok-left.field-0.left.items ++ (xs ++ c.deref-5.result.now)) c.deref-4.ensures.value ∙ ap (λ (xs : List Part). c.in_ok-left.field-0.left.items ++ (c.in_ok-made.made.items ++ xs)) c.deref-5.ensures.value)
+    holds
+
+pub returns-in_err-kept-clause-fault : goal.returns-in_err-kept-clause-fault
+returns-in_err-kept-clause-fault g t c =
+    err_on c.from_residual-in_err-kept.result _ c.in_err-kept.field-0.0 c.from_residual-in_err-kept.ensures.1
+    (λ told least only. subst (λ k. IsWalkFault (g.B.Ground.geometry c.args.blocks.now) (g.B.Ground.unit c.args.blocks.now) c.args.level k (all_of c.args.cut) c.in_err-kept.field-0.0) (sym (only (omega (arith, c.if-level-eq0.false))))
+    (c.in_ok-left.ensures.walk told c.in_err-kept.field-0.0
+    (walk_back g.B.Ground c.args.blocks.now c.open.new.blocks (c.args.level - 1) (g.B.Ground.geometry c.args.blocks.now).fan (all_of c.in_ok-left.field-0.below) c.in_err-kept.field-0.0 c.in_ok-left.ensures.kept
+    (λ told_b. c.in_err-kept.ensures.fault told_b (g.B.Ground.geometry c.args.blocks.now).fan (λ some. ap (λ (k : Geometry). k.fan) (sym (g.B.Ground.leads_geometry c.args.blocks.now c.open.new.blocks c.in_ok-left.ensures.kept.leads)))) told)))

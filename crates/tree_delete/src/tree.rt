@@ -1,0 +1,116 @@
+// Deletes of whole trees.
+ghost use Rattle.std.specs.Prelude.{◌≡◌, IfErr, ℕ, List, ◌≤◌, ◌<◌, ◌+◌, ◌-◌, ◌*◌, ◌^◌, ◌∷◌, [], length, IfOk, OnOk, Ok};
+ghost use Rattle.ex_base.specs.Edits.{deleted};
+ghost use Rattle.ex_base.specs.Ports.{HasCause, IsDamage};
+ghost use Rattle.ex_base.specs.Sizes.{leaf_bytes};
+ghost use Rattle.ex_base.specs.declared.names.Area.TheVariants.{Page, Segment};
+ghost use Rattle.tree_model.specs.Trees.{RootSpells, root_units};
+ghost use Rattle.tree_rows.specs.Damage.{IsWalkFault, IsRootFault, IsWhole};
+ghost use Rattle.tree_steps.specs.Made.{Extends, AreUsed};
+ghost use Rattle.tree_insert.specs.Grown.{Turned};
+ghost use Rattle.tree_insert.specs.Roots.{IsRootFor};
+ghost use Rattle.tree_delete.specs.Need.{need_leaves, need_pages};
+ghost use Rattle.tree_delete.specs.Trees.{IsCutTree, TreeSpells};
+
+use crate::cut::{Cut, joined};
+use crate::root_step::rooted;
+use crate::rows::cut_tree;
+use ex_base::{Blocks, PortFault, Root};
+use std::alloc::Global;
+use tree_rows::Part;
+
+/// The least number of children of a root that is a node.
+const ROOT_LEAST: u32 = 2;
+
+/// The root of an object without bytes.
+const NO_TREE: Root = Root {
+    height: 0,
+    page: None,
+    size: 0,
+};
+
+/// A tree without some of its bytes.
+fn without<B: Blocks>(
+    blocks: &mut B,
+    alloc: Global,
+    height: u8,
+    tree: Part,
+    pos: u64,
+    len: u64,
+) -> Result<Root, PortFault>
+    requires ready { B.ready blocks.old }
+    requires low { height ≤ 64 }
+    requires range { pos + len ≤ tree.size }
+    requires rest { len < tree.size }
+    requires limit { tree.size < 2 ^ 32 }
+    requires leaf { height ≡ 0 → tree.size ≤ leaf_bytes (B.geometry blocks.old) }
+    requires leaves { need_leaves ≤ B.free blocks.old Segment }
+    requires pages { need_pages height ≤ B.free blocks.old Page }
+    ensures size { IfOk result (λ made. made.size + len ≡ tree.size) }
+    ensures extends { OnOk result (Extends B.Ground blocks.old blocks.new) }
+    ensures edited { IfOk result (λ made. B.tells blocks.old → (l : ℕ) → height ≡ l → TreeSpells B.Ground blocks.old l tree → IsCutTree B.Ground blocks.old blocks.new l tree pos len made) }
+    ensures fault { IfErr result (λ fault. B.tells blocks.old → IsWalkFault (B.geometry blocks.old) (B.unit blocks.old) height 2 (tree ∷ []) fault) }
+    ensures leaves { OnOk result (B.free blocks.old Segment ≤ B.free blocks.new Segment + need_leaves) }
+    ensures pages { OnOk result (B.free blocks.old Page ≤ B.free blocks.new Page + need_pages height) }
+    ensures leads { B.leads blocks.old blocks.new }
+    ensures cause { HasCause (B.faults blocks.old) (B.faults blocks.new) result }
+{
+    let geometry = blocks.geometry();
+    let mut buffer = vec![in alloc; 0u8; geometry.leaf_bytes() as usize]?;
+    let cut = Cut {
+        left: Vec::new(alloc),
+        run: joined(alloc, &[tree], &[], &[])?,
+        right: Vec::new(alloc),
+        at: pos,
+        len,
+    };
+    let (level, row) = cut_tree(blocks, alloc, &mut buffer, height, ROOT_LEAST, cut)?;
+    let page = &mut buffer[..geometry.page_size as usize];
+    rooted(blocks, alloc, page, level, &row)
+}
+
+/// Takes bytes from a position on away from those that a root spells, and gives the new root. The old one still spells its bytes. Faults are the port's
+/// own, or tell of a page that isn't what names it. After a fault, units that were taken stay taken.
+pub fn delete<B: Blocks>(
+    blocks: &mut B,
+    alloc: Global,
+    root: &Root,
+    pos: u64,
+    len: u64,
+) -> Result<Root, PortFault>
+    requires ready { B.ready blocks.old }
+    requires root { IsRootFor (B.geometry blocks.old) root.now }
+    requires range { pos + len ≤ root.now.size }
+    requires leaves { 1 ≤ len → need_leaves ≤ B.free blocks.old Segment }
+    requires pages { 1 ≤ len → need_pages root.now.height ≤ B.free blocks.old Page }
+    ensures nothing { len ≡ 0 → (result ≡ Ok root.now) × (blocks.new ≡ blocks.old) }
+    ensures size { IfOk result (λ made. made.size + len ≡ root.now.size) }
+    ensures extends { OnOk result (Extends B.Ground blocks.old blocks.new) }
+    ensures old { OnOk result (B.tells blocks.old → (bytes : List ℕ) → RootSpells (B.geometry blocks.old) (B.unit blocks.old) root.now bytes → AreUsed (B.used blocks.old) (root_units (B.unit blocks.old) root.now)
+        → RootSpells (B.geometry blocks.new) (B.unit blocks.new) root.now bytes) }
+    ensures spells { IfOk result (λ made. B.tells blocks.old → (bytes : List ℕ) → RootSpells (B.geometry blocks.old) (B.unit blocks.old) root.now bytes → AreUsed (B.used blocks.old) (root_units (B.unit blocks.old) root.now)
+        → RootSpells (B.geometry blocks.new) (B.unit blocks.new) made (deleted bytes pos len)) }
+    ensures units { IfOk result (λ made. B.tells blocks.old → (bytes : List ℕ) → RootSpells (B.geometry blocks.old) (B.unit blocks.old) root.now bytes → AreUsed (B.used blocks.old) (root_units (B.unit blocks.old) root.now)
+        → Turned B.Ground blocks.old blocks.new (root_units (B.unit blocks.old) root.now) (root_units (B.unit blocks.new) made)) }
+    ensures leaves { OnOk result (B.free blocks.old Segment ≤ B.free blocks.new Segment + need_leaves) }
+    ensures pages { OnOk result (B.free blocks.old Page ≤ B.free blocks.new Page + need_pages root.now.height) }
+    ensures fault { IfErr result (λ fault. B.tells blocks.old → IsRootFault (B.geometry blocks.old) (B.unit blocks.old) root.now fault) }
+    ensures sound { IfErr result (λ fault. B.tells blocks.old → IsWhole (B.geometry blocks.old) (B.unit blocks.old) root.now → IsDamage fault → ⊥) }
+    ensures leads { B.leads blocks.old blocks.new }
+    ensures cause { HasCause (B.faults blocks.old) (B.faults blocks.new) result }
+{
+    if len == 0 {
+        return Ok(*root);
+    }
+    let Some(page) = root.page else {
+        return Ok(NO_TREE);
+    };
+    if len == root.size {
+        return Ok(NO_TREE);
+    }
+    let tree = Part {
+        size: root.size,
+        page,
+    };
+    without(blocks, alloc, root.height, tree, pos, len)
+}

@@ -1,0 +1,137 @@
+use Rattle.std.proofs.Common.{rules, arith, ℕ, List, ◌≡◌, ◌≤◌, ◌<◌, ◌+◌, ◌-◌, ◌*◌, ◌^◌, ◌++◌, ◌∙◌, ap, sym, subst, suc, length, take, drop}
+use Rattle.std.proofs.lemmas.List.{length-take-le}
+use Rattle.ex_base.specs.Bytes.{written}
+use Rattle.ex_base.specs.Sizes.{leaf_bytes}
+use Rattle.ex_base.specs.declared.geometry.Geometry.{Geometry}
+use Rattle.ex_base.specs.declared.names.Area.{Area}
+use Rattle.ex_base.specs.declared.names.Area.TheVariants.{Page, Segment}
+use Rattle.ex_base.proofs.Spread.{Between}
+use Rattle.count_nodes.specs.Split.{most_pairs}
+use Rattle.tree_rows.specs.declared.rows.Part.{Part}
+use Rattle.tree_rows.specs.Damage.{IsWalkFault}
+use Rattle.tree_rows.specs.Rows.{row_size, row_bytes, row_shape}
+use Rattle.tree_steps.specs.Built.{AreSome, Built, IsCut}
+use Rattle.tree_steps.specs.Made.{Holds}
+use Rattle.tree_steps.proofs.Laid.{extends_on, extends_kept, each_same}
+use Rattle.tree_insert.specs.Grown.{Grew}
+use Rattle.tree_insert.specs.Replaced.{IsSpan, IsTouched, IsSpent, AreLeaves, touched_leaves}
+use Rattle.tree_insert.proofs.BelowRows.{size_below, count_below, lens_below, as_many, some_below}
+use Rattle.tree_insert.proofs.PaidRows.{page_le}
+use Rattle.tree_insert.proofs.Paid.{level_up}
+use Rattle.tree_insert.proofs.ReplacedLeaves.{few_leaves}
+use Rattle.tree_insert.proofs.ReplacedRuns.{run_replaced, same_row, touched_count, touched_sum, touched_some, touched_leaves_fit, spent_at, few_up, enough_nodes, nodes_spent, walk_touched}
+use Rattle.tree_insert.proofs.Results.{if_ok_on, on_ok_on, ok_of, on_of, cause_on, err_on}
+use Rattle.tree_insert.proofs.overwrite.+replace_run.Goals as goal
+
+pub returns-then-level-eq0-clause-spent : goal.returns-then-level-eq0-clause-spent
+returns-then-level-eq0-clause-spent g t c =
+    on_ok_on c.replace_leaves.result _ (λ made is.
+    let few = few_leaves (g.B.Ground.geometry c.args.blocks.now) c.args.run.now c.args.pos (length c.args.given.now) (subst (λ k. AreLeaves (g.B.Ground.geometry c.args.blocks.now) k c.args.run.now) c.if-level-eq0.true c.requires.leaves) c.requires.touched in
+    omega (arith, ap (λ k. ((g.B.Ground.geometry c.args.blocks.now).fan - 1) * k) (on_of c.replace_leaves.result made _ is c.replace_leaves.ensures.pages), ap (λ k. k * (2 * ((g.B.Ground.geometry c.args.blocks.now).fan - 1))) c.if-level-eq0.true))
+
+pub span_of-span-requires-clause-all : goal.span_of-span-requires-clause-all
+span_of-span-requires-clause-all g t c = omega (arith, ap row_size c.deref.ensures.value, size_below (g.B.Ground.geometry c.args.blocks.now) c.args.level c.args.least c.args.run.now c.in_ok-below.below.lens.items c.in_ok-below.below.row.items c.in_ok-below.ensures.counted, c.requires.touched.all)
+
+pub span_of-span-requires-clause-limit : goal.span_of-span-requires-clause-limit
+span_of-span-requires-clause-limit g t c = omega (arith, ap row_size c.deref.ensures.value, size_below (g.B.Ground.geometry c.args.blocks.now) c.args.level c.args.least c.args.run.now c.in_ok-below.below.lens.items c.in_ok-below.below.row.items c.in_ok-below.ensures.counted, c.requires.limit)
+
+pub replace_run-requires : goal.replace_run-requires
+replace_run-requires g t c κs within =
+    let span = (subst (λ r. IsSpan r c.args.pos (length c.args.given.now) c.span_of-span.result.first c.span_of-span.result.end c.span_of-span.result.at) c.deref.ensures.value c.span_of-span.ensures) in
+    let ready : g.B.Ground.ready c.row_below.new.blocks = g.B.Ground.leads_ready c.args.blocks.now c.row_below.new.blocks c.in_ok-below.ensures.kept.leads c.requires.ready in
+    let buffer : length c.args.buffer.now ≡ leaf_bytes (g.B.Ground.geometry c.row_below.new.blocks) = c.requires.buffer ∙ ap leaf_bytes (sym (g.B.Ground.leads_geometry c.args.blocks.now c.row_below.new.blocks c.in_ok-below.ensures.kept.leads)) in
+    let sizes : AreSome c.piece-touched.result.now = subst AreSome (sym (c.piece-touched.ensures ∙ ap (λ r. take (c.span_of-span.result.end - c.span_of-span.result.first) (drop c.span_of-span.result.first r)) c.deref-2.ensures.value)) (touched_some c.in_ok-below.below.row.items c.span_of-span.result.first (c.span_of-span.result.end - c.span_of-span.result.first) (some_below (g.B.Ground.geometry c.args.blocks.now) c.args.level c.args.least c.args.run.now c.in_ok-below.below.lens.items c.in_ok-below.below.row.items c.in_ok-below.ensures.counted)) in
+    let leaves : AreLeaves (g.B.Ground.geometry c.row_below.new.blocks) (c.args.level - 1) c.piece-touched.result.now =
+    subst (λ x. AreLeaves x (c.args.level - 1) c.piece-touched.result.now) (sym (g.B.Ground.leads_geometry c.args.blocks.now c.row_below.new.blocks c.in_ok-below.ensures.kept.leads)) (subst (AreLeaves (g.B.Ground.geometry c.args.blocks.now) (c.args.level - 1)) (sym (c.piece-touched.ensures ∙ ap (λ r. take (c.span_of-span.result.end - c.span_of-span.result.first) (drop c.span_of-span.result.first r)) c.deref-2.ensures.value)) (touched_leaves_fit (g.B.Ground.geometry c.args.blocks.now) c.args.level c.args.least c.args.run.now c.in_ok-below.below.lens.items c.in_ok-below.below.row.items c.span_of-span.result.first (c.span_of-span.result.end - c.span_of-span.result.first) c.if-level-eq0.false c.in_ok-below.ensures.counted)) in
+    let touched : IsTouched c.piece-touched.result.now c.span_of-span.result.at (length c.args.given.now) = subst (λ r. IsTouched r c.span_of-span.result.at (length c.args.given.now)) (sym (c.piece-touched.ensures ∙ ap (λ r. take (c.span_of-span.result.end - c.span_of-span.result.first) (drop c.span_of-span.result.first r)) c.deref-2.ensures.value)) span.touched in
+    let limit : row_size c.piece-touched.result.now < 2 ^ 32 = omega (arith, ap row_size (c.piece-touched.ensures ∙ ap (λ r. take (c.span_of-span.result.end - c.span_of-span.result.first) (drop c.span_of-span.result.first r)) c.deref-2.ensures.value), touched_sum c.in_ok-below.below.row.items c.span_of-span.result.first c.span_of-span.result.end span.order, size_below (g.B.Ground.geometry c.args.blocks.now) c.args.level c.args.least c.args.run.now c.in_ok-below.below.lens.items c.in_ok-below.below.row.items c.in_ok-below.ensures.counted, c.requires.limit) in
+    let some : 1 ≤ c.geometry-geometry.result.fan = omega (arith, c.geometry-geometry.result.two) in
+    let least : 2 ≤ length c.piece-touched.result.now → (g.B.Ground.geometry c.row_below.new.blocks).fan ≤ c.geometry-geometry.result.fan = λ two. omega (arith, ap (λ (x : Geometry). x.fan) (g.B.Ground.leads_geometry c.args.blocks.now c.row_below.new.blocks c.in_ok-below.ensures.kept.leads), ap (λ (x : Geometry). x.fan) c.geometry-geometry.ensures) in
+    let free : touched_leaves (leaf_bytes (g.B.Ground.geometry c.row_below.new.blocks)) (length c.args.given.now) ≤ g.B.Ground.free c.row_below.new.blocks Segment =
+    subst (λ (x : Geometry). touched_leaves (leaf_bytes x) (length c.args.given.now) ≤ g.B.Ground.free c.row_below.new.blocks Segment) (sym (g.B.Ground.leads_geometry c.args.blocks.now c.row_below.new.blocks c.in_ok-below.ensures.kept.leads)) (subst (λ (f : Area → ℕ). touched_leaves (leaf_bytes (g.B.Ground.geometry c.args.blocks.now)) (length c.args.given.now) ≤ f Segment) (sym c.in_ok-below.ensures.kept.free) c.requires.free) in
+    let pages : touched_leaves (leaf_bytes (g.B.Ground.geometry c.row_below.new.blocks)) (length c.args.given.now) + (c.args.level - 1) * (2 * ((g.B.Ground.geometry c.row_below.new.blocks).fan - 1)) ≤ ((g.B.Ground.geometry c.row_below.new.blocks).fan - 1) * g.B.Ground.free c.row_below.new.blocks Page =
+    subst (λ (x : Geometry). touched_leaves (leaf_bytes x) (length c.args.given.now) + (c.args.level - 1) * (2 * (x.fan - 1)) ≤ (x.fan - 1) * g.B.Ground.free c.row_below.new.blocks Page) (sym (g.B.Ground.leads_geometry c.args.blocks.now c.row_below.new.blocks c.in_ok-below.ensures.kept.leads))
+    (subst (λ (f : Area → ℕ). (touched_leaves (leaf_bytes (g.B.Ground.geometry c.args.blocks.now)) (length c.args.given.now)) + (c.args.level - 1) * (2 * ((g.B.Ground.geometry c.args.blocks.now).fan - 1)) ≤ ((g.B.Ground.geometry c.args.blocks.now).fan - 1) * f Page) (sym c.in_ok-below.ensures.kept.free)
+    (omega (arith, level_up c.args.level (2 * ((g.B.Ground.geometry c.args.blocks.now).fan - 1)) c.if-level-eq0.false, c.requires.pages))) in
+    search rules
+
+pub returns-in_err-made-clause-fault : goal.returns-in_err-made-clause-fault
+returns-in_err-made-clause-fault g t c =
+    err_on c.from_residual-in_err-made.result _ c.in_err-made.field-0.0 c.from_residual-in_err-made.ensures.1
+    (walk_touched g.B.Ground c.args.blocks.now c.row_below.new.blocks c.args.level c.args.least c.args.run.now c.in_ok-below.below.lens.items c.in_ok-below.below.row.items c.span_of-span.result.first (c.span_of-span.result.end - c.span_of-span.result.first) c.in_err-made.field-0.0 c.if-level-eq0.false c.in_ok-below.ensures.kept c.in_ok-below.ensures.counted c.in_ok-below.ensures.found c.in_ok-below.ensures.area
+    (λ told. subst (λ r. IsWalkFault (g.B.Ground.geometry c.row_below.new.blocks) (g.B.Ground.unit c.row_below.new.blocks) (c.args.level - 1) (g.B.Ground.geometry c.args.blocks.now).fan r c.in_err-made.field-0.0) (c.piece-touched.ensures ∙ ap (λ r. take (c.span_of-span.result.end - c.span_of-span.result.first) (drop c.span_of-span.result.first r)) c.deref-2.ensures.value)
+    (subst (λ (x : Geometry). IsWalkFault (g.B.Ground.geometry c.row_below.new.blocks) (g.B.Ground.unit c.row_below.new.blocks) (c.args.level - 1) x.fan c.piece-touched.result.now c.in_err-made.field-0.0) c.geometry-geometry.ensures (c.in_err-made.ensures.fault told))))
+
+pub nodes_by-requires-clause-ready : goal.nodes_by-requires-clause-ready
+nodes_by-requires-clause-ready g t c = g.B.Ground.leads_ready c.row_below.new.blocks c.replace_run.new.blocks c.in_ok-made.ensures.extends.leads (g.B.Ground.leads_ready c.args.blocks.now c.row_below.new.blocks c.in_ok-below.ensures.kept.leads c.requires.ready)
+
+pub nodes_by-requires-clause-buffer : goal.nodes_by-requires-clause-buffer
+nodes_by-requires-clause-buffer g t c =
+    length-take-le c.geometry-geometry.result.page_size c.replace_run.new.buffer (omega (arith, c.replace_run.auto.buffer, c.requires.buffer, page_le (g.B.Ground.geometry c.args.blocks.now), ap (λ (x : Geometry). x.page_size) c.geometry-geometry.ensures))
+    ∙ ap (λ (x : Geometry). x.page_size) (c.geometry-geometry.ensures ∙ sym ((g.B.Ground.leads_geometry c.row_below.new.blocks c.replace_run.new.blocks c.in_ok-made.ensures.extends.leads ∙ (g.B.Ground.leads_geometry c.args.blocks.now c.row_below.new.blocks c.in_ok-below.ensures.kept.leads))))
+
+pub nodes_by-requires-clause-sizes : goal.nodes_by-requires-clause-sizes
+nodes_by-requires-clause-sizes g t c = subst AreSome (sym c.deref-5.ensures.value) (same_row c.in_ok-below.below.row.items c.in_ok-made.made.items c.in_ok-row.row.items c.span_of-span.result.first c.span_of-span.result.end c.span_of-span.ensures.order (omega (arith, c.span_of-span.ensures.within, ap length c.deref.ensures.value)) (c.in_ok-row.ensures ∙ ap (λ r. (take c.span_of-span.result.first r ++ c.deref-4.result.now) ++ drop c.span_of-span.result.end r) c.deref-3.ensures.value ∙ ap (λ m. (take c.span_of-span.result.first c.in_ok-below.below.row.items ++ m) ++ drop c.span_of-span.result.end c.in_ok-below.below.row.items) c.deref-4.ensures.value) (c.in_ok-made.ensures.sum ∙ ap row_size (c.piece-touched.ensures ∙ ap (λ r. take (c.span_of-span.result.end - c.span_of-span.result.first) (drop c.span_of-span.result.first r)) c.deref-2.ensures.value)) (c.in_ok-made.ensures.count ∙ ap length (c.piece-touched.ensures ∙ ap (λ r. take (c.span_of-span.result.end - c.span_of-span.result.first) (drop c.span_of-span.result.first r)) c.deref-2.ensures.value)) (some_below (g.B.Ground.geometry c.args.blocks.now) c.args.level c.args.least c.args.run.now c.in_ok-below.below.lens.items c.in_ok-below.below.row.items c.in_ok-below.ensures.counted) c.in_ok-made.ensures.sizes).some
+
+pub nodes_by-requires-clause-limit : goal.nodes_by-requires-clause-limit
+nodes_by-requires-clause-limit g t c = omega (arith, ap row_size c.deref-5.ensures.value, (same_row c.in_ok-below.below.row.items c.in_ok-made.made.items c.in_ok-row.row.items c.span_of-span.result.first c.span_of-span.result.end c.span_of-span.ensures.order (omega (arith, c.span_of-span.ensures.within, ap length c.deref.ensures.value)) (c.in_ok-row.ensures ∙ ap (λ r. (take c.span_of-span.result.first r ++ c.deref-4.result.now) ++ drop c.span_of-span.result.end r) c.deref-3.ensures.value ∙ ap (λ m. (take c.span_of-span.result.first c.in_ok-below.below.row.items ++ m) ++ drop c.span_of-span.result.end c.in_ok-below.below.row.items) c.deref-4.ensures.value) (c.in_ok-made.ensures.sum ∙ ap row_size (c.piece-touched.ensures ∙ ap (λ r. take (c.span_of-span.result.end - c.span_of-span.result.first) (drop c.span_of-span.result.first r)) c.deref-2.ensures.value)) (c.in_ok-made.ensures.count ∙ ap length (c.piece-touched.ensures ∙ ap (λ r. take (c.span_of-span.result.end - c.span_of-span.result.first) (drop c.span_of-span.result.first r)) c.deref-2.ensures.value)) (some_below (g.B.Ground.geometry c.args.blocks.now) c.args.level c.args.least c.args.run.now c.in_ok-below.below.lens.items c.in_ok-below.below.row.items c.in_ok-below.ensures.counted) c.in_ok-made.ensures.sizes).sum, size_below (g.B.Ground.geometry c.args.blocks.now) c.args.level c.args.least c.args.run.now c.in_ok-below.below.lens.items c.in_ok-below.below.row.items c.in_ok-below.ensures.counted, c.requires.limit)
+
+pub nodes_by-requires-clause-lens : goal.nodes_by-requires-clause-lens
+nodes_by-requires-clause-lens g t c =
+    subst (λ (x : Geometry). IsCut (most_pairs x.fan) (length c.deref-5.result.now) c.deref-6.result.now) (sym ((g.B.Ground.leads_geometry c.row_below.new.blocks c.replace_run.new.blocks c.in_ok-made.ensures.extends.leads ∙ (g.B.Ground.leads_geometry c.args.blocks.now c.row_below.new.blocks c.in_ok-below.ensures.kept.leads))))
+    (subst (λ k. IsCut (most_pairs (g.B.Ground.geometry c.args.blocks.now).fan) k c.deref-6.result.now) (sym (ap length c.deref-5.ensures.value ∙ (same_row c.in_ok-below.below.row.items c.in_ok-made.made.items c.in_ok-row.row.items c.span_of-span.result.first c.span_of-span.result.end c.span_of-span.ensures.order (omega (arith, c.span_of-span.ensures.within, ap length c.deref.ensures.value)) (c.in_ok-row.ensures ∙ ap (λ r. (take c.span_of-span.result.first r ++ c.deref-4.result.now) ++ drop c.span_of-span.result.end r) c.deref-3.ensures.value ∙ ap (λ m. (take c.span_of-span.result.first c.in_ok-below.below.row.items ++ m) ++ drop c.span_of-span.result.end c.in_ok-below.below.row.items) c.deref-4.ensures.value) (c.in_ok-made.ensures.sum ∙ ap row_size (c.piece-touched.ensures ∙ ap (λ r. take (c.span_of-span.result.end - c.span_of-span.result.first) (drop c.span_of-span.result.first r)) c.deref-2.ensures.value)) (c.in_ok-made.ensures.count ∙ ap length (c.piece-touched.ensures ∙ ap (λ r. take (c.span_of-span.result.end - c.span_of-span.result.first) (drop c.span_of-span.result.first r)) c.deref-2.ensures.value)) (some_below (g.B.Ground.geometry c.args.blocks.now) c.args.level c.args.least c.args.run.now c.in_ok-below.below.lens.items c.in_ok-below.below.row.items c.in_ok-below.ensures.counted) c.in_ok-made.ensures.sizes).count))
+    (subst (IsCut (most_pairs (g.B.Ground.geometry c.args.blocks.now).fan) (length c.in_ok-below.below.row.items)) (sym c.deref-6.ensures.value) (record {
+      each = each_same _ (Between 1 (most_pairs (g.B.Ground.geometry c.args.blocks.now).fan)) c.in_ok-below.below.lens.items (λ k h. (omega (arith, h.0, c.requires.some), h.1)) (lens_below (g.B.Ground.geometry c.args.blocks.now) c.args.level c.args.least c.args.run.now c.in_ok-below.below.lens.items c.in_ok-below.below.row.items c.in_ok-below.ensures.counted);
+      sum = count_below (g.B.Ground.geometry c.args.blocks.now) c.args.level c.args.least c.args.run.now c.in_ok-below.below.lens.items c.in_ok-below.below.row.items c.in_ok-below.ensures.counted;
+    })))
+
+pub nodes_by-requires-clause-free : goal.nodes_by-requires-clause-free
+nodes_by-requires-clause-free g t c =
+    let span = (subst (λ r. IsSpan r c.args.pos (length c.args.given.now) c.span_of-span.result.first c.span_of-span.result.end c.span_of-span.result.at) c.deref.ensures.value c.span_of-span.ensures) in
+    let r : length c.args.run.now ≤ g.B.Ground.free c.replace_run.new.blocks Page = enough_nodes ((g.B.Ground.geometry c.args.blocks.now).fan - 1) (touched_leaves (leaf_bytes (g.B.Ground.geometry c.args.blocks.now)) (length c.args.given.now)) c.args.level (g.B.Ground.free c.args.blocks.now Page) (g.B.Ground.free c.replace_run.new.blocks Page) (length c.args.run.now) (c.span_of-span.result.end - c.span_of-span.result.first) (omega (arith, (g.B.Ground.geometry c.args.blocks.now).two)) c.if-level-eq0.false c.requires.touched.some (omega (arith, span.order)) (few_up (g.B.Ground.geometry c.args.blocks.now) c.args.level c.args.least c.args.run.now c.in_ok-below.below.lens.items c.in_ok-below.below.row.items c.args.pos (length c.args.given.now) c.span_of-span.result.first c.span_of-span.result.end c.span_of-span.result.at c.in_ok-below.ensures.counted c.requires.touched span c.requires.least) c.requires.pages (subst (λ x. IsSpent (g.B.Ground.geometry c.args.blocks.now).fan (touched_leaves (leaf_bytes (g.B.Ground.geometry c.args.blocks.now)) (length c.args.given.now)) (c.args.level - 1) (g.B.Ground.free c.args.blocks.now Page) (g.B.Ground.free c.replace_run.new.blocks Page) x) (ap length (c.piece-touched.ensures ∙ ap (λ r. take (c.span_of-span.result.end - c.span_of-span.result.first) (drop c.span_of-span.result.first r)) c.deref-2.ensures.value) ∙ touched_count c.in_ok-below.below.row.items c.span_of-span.result.first c.span_of-span.result.end c.span_of-span.ensures.order (omega (arith, c.span_of-span.ensures.within, ap length c.deref.ensures.value))) (spent_at g.B.Ground c.args.blocks.now c.row_below.new.blocks c.replace_run.new.blocks c.args.level (length c.args.given.now) (length c.piece-touched.result.now) c.in_ok-below.ensures.kept c.in_ok-made.ensures.spent)) in
+    omega (arith, ap length c.deref-6.ensures.value, as_many (g.B.Ground.geometry c.args.blocks.now) c.args.level c.args.least c.args.run.now c.in_ok-below.below.lens.items c.in_ok-below.below.row.items c.in_ok-below.ensures.counted)
+
+pub returns-clause-extends : goal.returns-clause-extends
+returns-clause-extends g t c =
+    on_ok_on c.nodes_by.result _ (λ made is. extends_on g.B.Ground c.args.blocks.now c.row_below.new.blocks c.nodes_by.new.blocks (extends_kept g.B.Ground c.args.blocks.now c.row_below.new.blocks c.in_ok-below.ensures.kept) (extends_on g.B.Ground c.row_below.new.blocks c.replace_run.new.blocks c.nodes_by.new.blocks c.in_ok-made.ensures.extends (on_of c.nodes_by.result made _ is c.nodes_by.ensures.extends)))
+
+pub returns-clause-sum : goal.returns-clause-sum
+returns-clause-sum g t c = if_ok_on c.nodes_by.result _ (λ made is. omega (arith, ok_of c.nodes_by.result made _ is c.nodes_by.ensures.sum, ap row_size c.deref-5.ensures.value, (same_row c.in_ok-below.below.row.items c.in_ok-made.made.items c.in_ok-row.row.items c.span_of-span.result.first c.span_of-span.result.end c.span_of-span.ensures.order (omega (arith, c.span_of-span.ensures.within, ap length c.deref.ensures.value)) (c.in_ok-row.ensures ∙ ap (λ r. (take c.span_of-span.result.first r ++ c.deref-4.result.now) ++ drop c.span_of-span.result.end r) c.deref-3.ensures.value ∙ ap (λ m. (take c.span_of-span.result.first c.in_ok-below.below.row.items ++ m) ++ drop c.span_of-span.result.end c.in_ok-below.below.row.items) c.deref-4.ensures.value) (c.in_ok-made.ensures.sum ∙ ap row_size (c.piece-touched.ensures ∙ ap (λ r. take (c.span_of-span.result.end - c.span_of-span.result.first) (drop c.span_of-span.result.first r)) c.deref-2.ensures.value)) (c.in_ok-made.ensures.count ∙ ap length (c.piece-touched.ensures ∙ ap (λ r. take (c.span_of-span.result.end - c.span_of-span.result.first) (drop c.span_of-span.result.first r)) c.deref-2.ensures.value)) (some_below (g.B.Ground.geometry c.args.blocks.now) c.args.level c.args.least c.args.run.now c.in_ok-below.below.lens.items c.in_ok-below.below.row.items c.in_ok-below.ensures.counted) c.in_ok-made.ensures.sizes).sum, size_below (g.B.Ground.geometry c.args.blocks.now) c.args.level c.args.least c.args.run.now c.in_ok-below.below.lens.items c.in_ok-below.below.row.items c.in_ok-below.ensures.counted))
+
+pub returns-clause-count : goal.returns-clause-count
+returns-clause-count g t c = if_ok_on c.nodes_by.result _ (λ made is. omega (arith, ok_of c.nodes_by.result made _ is c.nodes_by.ensures.count, ap length c.deref-6.ensures.value, as_many (g.B.Ground.geometry c.args.blocks.now) c.args.level c.args.least c.args.run.now c.in_ok-below.below.lens.items c.in_ok-below.below.row.items c.in_ok-below.ensures.counted))
+
+pub returns-clause-leaves : goal.returns-clause-leaves
+returns-clause-leaves g t c =
+    on_ok_on c.nodes_by.result _ (λ made is.
+    let later : g.B.Ground.free c.row_below.new.blocks Segment ≤ g.B.Ground.free c.replace_run.new.blocks Segment + (touched_leaves (leaf_bytes (g.B.Ground.geometry c.args.blocks.now)) (length c.args.given.now)) = subst (λ (x : Geometry). g.B.Ground.free c.row_below.new.blocks Segment ≤ g.B.Ground.free c.replace_run.new.blocks Segment + touched_leaves (leaf_bytes x) (length c.args.given.now)) (g.B.Ground.leads_geometry c.args.blocks.now c.row_below.new.blocks c.in_ok-below.ensures.kept.leads) c.in_ok-made.ensures.leaves in
+    omega (arith, (on_of c.nodes_by.result made _ is c.nodes_by.ensures.spent).of_leaves, ap (λ (f : Area → ℕ). f Segment) c.in_ok-below.ensures.kept.free))
+
+pub returns-clause-spent : goal.returns-clause-spent
+returns-clause-spent g t c =
+    on_ok_on c.nodes_by.result _ (λ made is.
+    let span = (subst (λ r. IsSpan r c.args.pos (length c.args.given.now) c.span_of-span.result.first c.span_of-span.result.end c.span_of-span.result.at) c.deref.ensures.value c.span_of-span.ensures) in
+    nodes_spent ((g.B.Ground.geometry c.args.blocks.now).fan - 1) (touched_leaves (leaf_bytes (g.B.Ground.geometry c.args.blocks.now)) (length c.args.given.now)) c.args.level (g.B.Ground.free c.args.blocks.now Page) (g.B.Ground.free c.replace_run.new.blocks Page) (g.B.Ground.free c.nodes_by.new.blocks Page) (length c.args.run.now) (c.span_of-span.result.end - c.span_of-span.result.first) (omega (arith, (g.B.Ground.geometry c.args.blocks.now).two)) c.if-level-eq0.false c.requires.touched.some (omega (arith, span.order)) (few_up (g.B.Ground.geometry c.args.blocks.now) c.args.level c.args.least c.args.run.now c.in_ok-below.below.lens.items c.in_ok-below.below.row.items c.args.pos (length c.args.given.now) c.span_of-span.result.first c.span_of-span.result.end c.span_of-span.result.at c.in_ok-below.ensures.counted c.requires.touched span c.requires.least)
+    (omega (arith, (on_of c.nodes_by.result made _ is c.nodes_by.ensures.spent).of_pages, ap length c.deref-6.ensures.value, as_many (g.B.Ground.geometry c.args.blocks.now) c.args.level c.args.least c.args.run.now c.in_ok-below.below.lens.items c.in_ok-below.below.row.items c.in_ok-below.ensures.counted)) (subst (λ x. IsSpent (g.B.Ground.geometry c.args.blocks.now).fan (touched_leaves (leaf_bytes (g.B.Ground.geometry c.args.blocks.now)) (length c.args.given.now)) (c.args.level - 1) (g.B.Ground.free c.args.blocks.now Page) (g.B.Ground.free c.replace_run.new.blocks Page) x) (ap length (c.piece-touched.ensures ∙ ap (λ r. take (c.span_of-span.result.end - c.span_of-span.result.first) (drop c.span_of-span.result.first r)) c.deref-2.ensures.value) ∙ touched_count c.in_ok-below.below.row.items c.span_of-span.result.first c.span_of-span.result.end c.span_of-span.ensures.order (omega (arith, c.span_of-span.ensures.within, ap length c.deref.ensures.value))) (spent_at g.B.Ground c.args.blocks.now c.row_below.new.blocks c.replace_run.new.blocks c.args.level (length c.args.given.now) (length c.piece-touched.result.now) c.in_ok-below.ensures.kept c.in_ok-made.ensures.spent)))
+
+pub returns-clause-leads : goal.returns-clause-leads
+returns-clause-leads g t c = g.B.Ground.leads_trans c.args.blocks.now c.row_below.new.blocks c.nodes_by.new.blocks c.in_ok-below.ensures.kept.leads (g.B.Ground.leads_trans c.row_below.new.blocks c.replace_run.new.blocks c.nodes_by.new.blocks c.in_ok-made.ensures.leads c.nodes_by.ensures.leads)
+
+pub returns-clause-cause : goal.returns-clause-cause
+returns-clause-cause g t c =
+    let first : g.B.Ground.faults c.args.blocks.now ≤ g.B.Ground.faults c.row_below.new.blocks = g.B.Ground.leads_faults c.args.blocks.now c.row_below.new.blocks c.in_ok-below.ensures.kept.leads in
+    let second : g.B.Ground.faults c.row_below.new.blocks ≤ g.B.Ground.faults c.replace_run.new.blocks = g.B.Ground.leads_faults c.row_below.new.blocks c.replace_run.new.blocks c.in_ok-made.ensures.leads in
+    cause_on (g.B.Ground.faults c.args.blocks.now) (g.B.Ground.faults c.replace_run.new.blocks) (g.B.Ground.faults c.nodes_by.new.blocks) c.nodes_by.result (omega arith) c.nodes_by.ensures.cause
+
+pub returns-clause-grew : goal.returns-clause-grew
+returns-clause-grew g t c =
+    if_ok_on c.nodes_by.result _ (λ made is told l same holds.
+    let told_b = g.B.Ground.leads_told c.args.blocks.now c.row_below.new.blocks c.in_ok-below.ensures.kept.leads told in
+    let told_c = g.B.Ground.leads_told c.row_below.new.blocks c.replace_run.new.blocks c.in_ok-made.ensures.leads told_b in
+    let grew : (m : ℕ) → c.args.level - 1 ≡ m → Holds g.B.Ground c.row_below.new.blocks m (take (c.span_of-span.result.end - c.span_of-span.result.first) (drop c.span_of-span.result.first c.in_ok-below.below.row.items)) → Grew g.B.Ground c.row_below.new.blocks c.replace_run.new.blocks m (take (c.span_of-span.result.end - c.span_of-span.result.first) (drop c.span_of-span.result.first c.in_ok-below.below.row.items)) c.in_ok-made.made.items (written (row_bytes (g.B.Ground.unit c.row_below.new.blocks) m (take (c.span_of-span.result.end - c.span_of-span.result.first) (drop c.span_of-span.result.first c.in_ok-below.below.row.items))) c.span_of-span.result.at c.args.given.now) (row_shape (g.B.Ground.unit c.row_below.new.blocks) m (take (c.span_of-span.result.end - c.span_of-span.result.first) (drop c.span_of-span.result.first c.in_ok-below.below.row.items))) =
+    subst (λ (r : List Part). (m : ℕ) → c.args.level - 1 ≡ m → Holds g.B.Ground c.row_below.new.blocks m r → Grew g.B.Ground c.row_below.new.blocks c.replace_run.new.blocks m r c.in_ok-made.made.items (written (row_bytes (g.B.Ground.unit c.row_below.new.blocks) m r) c.span_of-span.result.at c.args.given.now) (row_shape (g.B.Ground.unit c.row_below.new.blocks) m r)) (c.piece-touched.ensures ∙ ap (λ r. take (c.span_of-span.result.end - c.span_of-span.result.first) (drop c.span_of-span.result.first r)) c.deref-2.ensures.value) (c.in_ok-made.ensures.grew told_b) in
+    let built : (m : ℕ) → c.args.level ≡ suc m → Holds g.B.Ground c.replace_run.new.blocks m c.in_ok-row.row.items → Built g.B.Ground c.nodes_by.new.blocks m c.in_ok-below.below.lens.items c.in_ok-row.row.items made.items =
+    subst (λ (ls : List ℕ). (m : ℕ) → c.args.level ≡ suc m → Holds g.B.Ground c.replace_run.new.blocks m c.in_ok-row.row.items → Built g.B.Ground c.nodes_by.new.blocks m ls c.in_ok-row.row.items made.items) c.deref-6.ensures.value
+    (subst (λ (r : List Part). (m : ℕ) → c.args.level ≡ suc m → Holds g.B.Ground c.replace_run.new.blocks m r → Built g.B.Ground c.nodes_by.new.blocks m c.deref-6.result.now r made.items) c.deref-5.ensures.value (ok_of c.nodes_by.result made _ is c.nodes_by.ensures.built told_c)) in
+    run_replaced g.B.Ground c.args.blocks.now c.row_below.new.blocks c.replace_run.new.blocks c.nodes_by.new.blocks c.args.level l c.args.run.now c.in_ok-below.below.row.items c.in_ok-below.below.lens.items c.args.pos c.span_of-span.result.first c.span_of-span.result.end c.span_of-span.result.at c.args.given.now c.in_ok-made.made.items c.in_ok-row.row.items made.items
+    c.requires.ready told same c.if-level-eq0.false c.in_ok-below.ensures.kept c.in_ok-made.ensures.extends (on_of c.nodes_by.result made _ is c.nodes_by.ensures.extends) (c.in_ok-below.ensures.found told) holds (subst (λ r. IsSpan r c.args.pos (length c.args.given.now) c.span_of-span.result.first c.span_of-span.result.end c.span_of-span.result.at) c.deref.ensures.value c.span_of-span.ensures) grew (ok_of c.nodes_by.result made _ is c.nodes_by.ensures.took) built (c.in_ok-row.ensures ∙ ap (λ r. (take c.span_of-span.result.first r ++ c.deref-4.result.now) ++ drop c.span_of-span.result.end r) c.deref-3.ensures.value ∙ ap (λ m. (take c.span_of-span.result.first c.in_ok-below.below.row.items ++ m) ++ drop c.span_of-span.result.end c.in_ok-below.below.row.items) c.deref-4.ensures.value))

@@ -1,0 +1,75 @@
+use Rattle.std.proofs.Common.{arith, [], ◌∷◌, ◌≡◌, ◌+◌, ◌-◌, ◌∙◌, ◌++◌, ap, subst, take, drop, length, get_or}
+use Rattle.tree_rows.specs.Rows.{row_bytes}
+use Rattle.tree_steps.specs.Made.{Holds, changed}
+use Rattle.tree_steps.proofs.Kept.{leaves_back}
+use Rattle.tree_insert.proofs.BelowRows.{walk_one}
+use Rattle.tree_insert.proofs.PlaceLaws.{no_part}
+use Rattle.tree_insert.proofs.ReplacedLeaves.{leaf_here, piece_here, few_leaves, replaced_more, replaced_all, same_sizes, same_sum, same_some, same_count}
+use Rattle.tree_insert.proofs.Results.{err_on, err_cause}
+use Rattle.tree_insert.proofs.overwrite.replace_leaves.Goals as goal
+
+pub overflow_sub-len : goal.overflow_sub-len
+overflow_sub-len g c =
+    let h = leaf_here c.args.run.now c.args.pos (length c.args.given.now) c.loop-leaf.leaf-index c.loop-leaf.start c.loop-leaf-test.true c.requires.touched c.loop-leaf.invariant.start_is in
+    omega (arith, h.ends, c.saturating_sub-done.ensures)
+
+pub slice_bounds-part-end : goal.slice_bounds-part-end
+slice_bounds-part-end g c =
+    let h = leaf_here c.args.run.now c.args.pos (length c.args.given.now) c.loop-leaf.leaf-index c.loop-leaf.start c.loop-leaf-test.true c.requires.touched c.loop-leaf.invariant.start_is in
+    omega (arith, h.ends, c.saturating_sub-done.ensures, c.min-cut.ensures)
+
+pub overflow_cast-lengths : goal.overflow_cast-lengths
+overflow_cast-lengths g c =
+    let h = leaf_here c.args.run.now c.args.pos (length c.args.given.now) c.loop-leaf.leaf-index c.loop-leaf.start c.loop-leaf-test.true c.requires.touched c.loop-leaf.invariant.start_is in
+    omega (arith, h.fits, c.requires.limit)
+
+pub write_leaves-requires-clause-free : goal.write_leaves-requires-clause-free
+write_leaves-requires-clause-free g c =
+    omega (arith, c.loop-leaf.invariant.spent.of_leaves, c.loop-leaf-test.true, c.requires.free, few_leaves (g.B.Ground.geometry c.args.blocks.now) c.args.run.now c.args.pos (length c.args.given.now) c.requires.leaves c.requires.touched)
+
+pub returns-in_err-new-clause-fault : goal.returns-in_err-new-clause-fault
+returns-in_err-new-clause-fault g c =
+    err_on c.from_residual.result _ c.in_err-new.field-0.0 c.from_residual.ensures.1
+    (λ told. walk_one (g.B.Ground.geometry c.args.blocks.now) (g.B.Ground.unit c.args.blocks.now) 0 0 c.loop-leaf.leaf-index c.args.run.now c.in_err-new.field-0.0 c.loop-leaf-test.true
+    (leaves_back g.B.Ground c.args.blocks.now c.loop-leaf.blocks (get_or c.args.run.now c.loop-leaf.leaf-index no_part ∷ []) c.in_err-new.field-0.0 c.loop-leaf.invariant.extends.leads c.in_err-new.ensures.fault told))
+
+pub returns-in_err-new-clause-leads : goal.returns-in_err-new-clause-leads
+returns-in_err-new-clause-leads g c = g.B.Ground.leads_trans c.args.blocks.now c.loop-leaf.blocks c.write_leaves.new.blocks c.loop-leaf.invariant.extends.leads c.in_err-new.ensures.leads
+
+pub returns-in_err-new-clause-cause : goal.returns-in_err-new-clause-cause
+returns-in_err-new-clause-cause g c =
+    err_cause (g.B.Ground.faults c.args.blocks.now) (g.B.Ground.faults c.loop-leaf.blocks) (g.B.Ground.faults c.write_leaves.new.blocks) c.from_residual.result c.in_err-new.field-0.0 c.from_residual.ensures.1
+    (g.B.Ground.leads_faults c.args.blocks.now c.loop-leaf.blocks c.loop-leaf.invariant.extends.leads) c.in_err-new.ensures.cause
+
+pub overflow_add-start : goal.overflow_add-start
+overflow_add-start g c =
+    let h = leaf_here c.args.run.now c.args.pos (length c.args.given.now) c.loop-leaf.leaf-index c.loop-leaf.start c.loop-leaf-test.true c.requires.touched c.loop-leaf.invariant.start_is in
+    omega (arith, h.fits, c.requires.limit)
+
+pub loop-leaf-preserved : goal.loop-leaf-preserved
+loop-leaf-preserved g c =
+    let h = leaf_here c.args.run.now c.args.pos (length c.args.given.now) c.loop-leaf.leaf-index c.loop-leaf.start c.loop-leaf-test.true c.requires.touched c.loop-leaf.invariant.start_is in
+    replaced_more g.B.Ground c.args.blocks.now c.loop-leaf.blocks c.write_leaves.new.blocks c.args.run.now c.args.pos c.args.given.now c.loop-leaf.leaf-index c.loop-leaf.start c.saturating_sub-at.result c.saturating_sub-done.result c.min-cut.result c.loop-leaf.made.items c.extend_from_slice.new.self.items c.in_ok-new.new.items
+    c.requires.ready c.loop-leaf-test.true c.requires.touched c.loop-leaf.invariant (piece_here c.args.run.now c.args.pos (length c.args.given.now) c.loop-leaf.leaf-index c.loop-leaf.start c.saturating_sub-at.result c.saturating_sub-done.result c.min-cut.result h c.saturating_sub-at.ensures c.saturating_sub-done.ensures c.min-cut.ensures)
+    c.in_ok-new.ensures.extends c.in_ok-new.ensures.spent c.in_ok-new.ensures.sizes c.in_ok-new.ensures.named c.in_ok-new.ensures.took
+    (subst (λ k. g.B.Ground.tells c.loop-leaf.blocks → Holds g.B.Ground c.loop-leaf.blocks 0 (get_or c.args.run.now c.loop-leaf.leaf-index no_part ∷ [])
+    → row_bytes (g.B.Ground.unit c.write_leaves.new.blocks) 0 c.in_ok-new.new.items ≡ changed (row_bytes (g.B.Ground.unit c.loop-leaf.blocks) 0 (get_or c.args.run.now c.loop-leaf.leaf-index no_part ∷ [])) c.saturating_sub-at.result c.min-cut.result (take k (drop c.saturating_sub-done.result c.args.given.now)))
+    {x = c.saturating_sub-done.result + c.min-cut.result - c.saturating_sub-done.result} {y = c.min-cut.result} (omega arith) c.in_ok-new.ensures.bytes)
+    (c.in_ok-extend_from_slice.ensures.items ∙ ap (λ r. c.loop-leaf.made.items ++ r) c.deref.ensures.value)
+
+pub returns-clause-sum : goal.returns-clause-sum
+returns-clause-sum g c = same_sum c.args.run.now c.loop-leaf.made.items (same_sizes c.args.run.now c.loop-leaf.made.items c.loop-leaf.leaf-index (omega arith) c.loop-leaf.invariant.sizes)
+
+pub returns-clause-sizes : goal.returns-clause-sizes
+returns-clause-sizes g c = same_some c.args.run.now c.loop-leaf.made.items (same_sizes c.args.run.now c.loop-leaf.made.items c.loop-leaf.leaf-index (omega arith) c.loop-leaf.invariant.sizes) c.requires.sizes
+
+pub returns-clause-count : goal.returns-clause-count
+returns-clause-count g c = same_count c.args.run.now c.loop-leaf.made.items (same_sizes c.args.run.now c.loop-leaf.made.items c.loop-leaf.leaf-index (omega arith) c.loop-leaf.invariant.sizes)
+
+pub returns-clause-leaves : goal.returns-clause-leaves
+returns-clause-leaves g c =
+    omega (arith, c.loop-leaf.invariant.spent.of_leaves, few_leaves (g.B.Ground.geometry c.args.blocks.now) c.args.run.now c.args.pos (length c.args.given.now) c.requires.leaves c.requires.touched)
+
+pub returns-clause-grew : goal.returns-clause-grew
+returns-clause-grew g c =
+    replaced_all g.B.Ground c.args.blocks.now c.loop-leaf.blocks c.args.run.now c.args.pos c.args.given.now c.loop-leaf.leaf-index c.loop-leaf.start c.loop-leaf.made.items c.requires.ready (omega arith) c.requires.sizes c.requires.leaves c.requires.touched c.loop-leaf.invariant

@@ -1,0 +1,12 @@
+use Rattle.std.proofs.Common.{Option, sym, subst}
+use Rattle.ex_base.specs.declared.names.PageNo.{PageNo}
+use Rattle.tree_rows.specs.Damage.{IsWalkFault, root_row_at}
+use Rattle.tree_rows.proofs.Blame.{if_err_on}
+use Rattle.tree_rows.proofs.Sound.{sound_root}
+use Rattle.tree_insert.proofs.root_read.read.Goals as goal
+
+pub returns-clause-sound : goal.returns-clause-sound
+returns-clause-sound g c =
+    if_err_on c.read_row.result _ _ (λ f h told whole.
+    sound_root (g.B.Ground.geometry c.args.blocks.now) (g.B.Ground.unit c.args.blocks.now) c.args.root.now f whole
+    (subst (λ (p : Option PageNo). IsWalkFault (g.B.Ground.geometry c.args.blocks.now) (g.B.Ground.unit c.args.blocks.now) c.args.root.now.height 2 (root_row_at c.args.root.now.size p) f) (sym c.in-Some.is) (h told))) c.read_row.ensures.fault
