@@ -44,15 +44,14 @@ written_entries size level file_no least entries fits =
     let page : IsIndexPage size level file_no entries = record { inner = fits.inner; byte = fits.byte; number = fits.number; some = fits.some; few = omega (arith, fits.room, fits.size_few); room = fits.room; rising = fits.rising; fields = fits.fields } in
     (spelled_reads (index_page size level file_no entries) level file_no entries (written_reads size level file_no entries page)).same_entries
 
-pub written_named : (size level file_no : ℕ) (least : Option ℕ) (entries : List Entry) → Fits size level file_no least entries → IsNamed (index_page size level file_no entries) level file_no least
+pub written_named : (size level file_no : ℕ) (least : Option ℕ) (entries : List Entry) → Fits size level file_no least entries → IsNamed size (index_page size level file_no entries) level file_no least
 written_named size level file_no least entries fits =
     let page : IsIndexPage size level file_no entries = record { inner = fits.inner; byte = fits.byte; number = fits.number; some = fits.some; few = omega (arith, fits.room, fits.size_few); room = fits.room; rising = fits.rising; fields = fits.fields } in
     let again = written_entries size level file_no least entries fits in
-    let len = page_length size level file_no entries fits.room in
     record {
       spelled = subst (λ (t : List Entry). EntriesOf (index_page size level file_no entries) level file_no t) (sym again) (written_reads size level file_no entries page);
       two = subst (λ (t : List Entry). 2 ≤ length t) (sym again) (two_at_least size least entries fits.size_many fits.enough);
-      enough = subst (λ (t : List Entry). least_entries (length (index_page size level file_no entries)) least ≤ length t) (sym again) (subst (λ (k : ℕ). least_entries k least ≤ length entries) (sym len) fits.enough);
+      enough = subst (λ (t : List Entry). least_entries size least ≤ length t) (sym again) fits.enough;
       least_is = subst (HasLeast least) (sym again) fits.least_is;
     }
 
@@ -92,7 +91,7 @@ module _ {S : Type 0} (g : ground.Ghosts S) (s : S) where
   -- a page that was written is what names it
   pub record IsNew (page level file_no : ℕ) (least : Option ℕ) (entries : List Entry) : Type 0 where
     pub files : IsFilesPage (g.geometry s) page
-    pub named : IsNamed (g.image s page) level file_no least
+    pub named : IsNamed (g.geometry s).page_size (g.image s page) level file_no least
     pub has : entries_on (g.image s page) ≡ entries
 
   new_page : (page level file_no : ℕ) (least : Option ℕ) (entries : List Entry) → IsWritten g s page level file_no entries → RiseFrom 0 entries → HasLeast least entries → least_entries (g.geometry s).page_size least ≤ length entries
@@ -113,7 +112,7 @@ module _ {S : Type 0} (g : ground.Ghosts S) (s : S) where
       } in
       record {
         files = w.files;
-        named = subst (λ (t : List ℕ). IsNamed t level file_no least) (sym w.image) (written_named (g.geometry s).page_size level file_no least entries fits);
+        named = subst (λ (t : List ℕ). IsNamed (g.geometry s).page_size t level file_no least) (sym w.image) (written_named (g.geometry s).page_size level file_no least entries fits);
         has = ap entries_on w.image ∙ written_entries (g.geometry s).page_size level file_no least entries fits;
       }
 

@@ -25,7 +25,7 @@ module _ {S : Type 0} (g : ground.Ghosts S) (a : S) (file_no l m key : ℕ) (ent
   here row = placed g a file_no l key entries at child place item row
 
   -- a page that isn't what its entry says is no part of a whole index
-  pub never_read : (IsFilesPage (g.geometry a) child.page.0 → IsNamed (g.image a child.page.0) l file_no (Some child.key) → ⊥) → IsRow g a file_no l entries → ⊥
+  pub never_read : (IsFilesPage (g.geometry a) child.page.0 → IsNamed (g.geometry a).page_size (g.image a child.page.0) l file_no (Some child.key) → ⊥) → IsRow g a file_no l entries → ⊥
   never_read never row = let named = (open_row g a file_no m l (child ∷ []) step (here row).row).named in never named.0.0 named.0.1
 
   module _ (b : S) (es : List Entry) (kept : Keeps g a b) (read : es ≡ entries_on (g.image a child.page.0)) where

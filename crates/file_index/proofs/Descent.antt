@@ -41,7 +41,7 @@ first : (K : Entry → List ℕ) (least : Option ℕ) (entries : List Entry) (ke
 first K least [] key next some each h = absurd some
 first K least (entry ∷ entries) key next some each h = pick_first K entry entries key 0 next each h
 
-pub sound_here : {S : Type 0} (g : ground.Ghosts S) (a : S) (file_no level : ℕ) (least : Option ℕ) (page : ℕ) → level ≢ 0 → (IsFilesPage (g.geometry a) page → IsNamed (g.image a page) level file_no least → ⊥)
+pub sound_here : {S : Type 0} (g : ground.Ghosts S) (a : S) (file_no level : ℕ) (least : Option ℕ) (page : ℕ) → level ≢ 0 → (IsFilesPage (g.geometry a) page → IsNamed (g.geometry a).page_size (g.image a page) level file_no least → ⊥)
     → IsUnder (g.geometry a) file_no (g.image a) level least page → ⊥
 sound_here g a file_no level least page nonzero never under =
     let o = under_open (g.geometry a) file_no (g.image a) level least page nonzero under in

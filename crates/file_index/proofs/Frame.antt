@@ -42,7 +42,7 @@ module _ (g : Geometry) (file_no : ℕ) (i j : ℕ → List ℕ) where
         pages = ap (λ (t : List ℕ). page ∷ pages_among j level (entries_on t)) e ∙ ap (λ (t : List ℕ). page ∷ t) row.pages;
         under = λ least h. (
           h.0,
-          subst (λ (t : List ℕ). IsNamed t (suc level) file_no least) (sym e) h.1,
+          subst (λ (t : List ℕ). IsNamed g.page_size t (suc level) file_no least) (sym e) h.1,
           subst (λ (t : List ℕ). AllByRecursion (λ (x : Entry). IsUnder g file_no j level (Some x.key) x.page.0) (entries_on t)) (sym e) (row.under h.2),
         );
       }

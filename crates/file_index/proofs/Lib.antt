@@ -16,3 +16,4 @@ pub mod Leaves
 pub mod Roots
 pub mod Tops
 pub mod Mending
+pub mod Heights

@@ -97,7 +97,7 @@ out_here key x xs same = let here : eqb key x ≡ true = eq-eqb key x (sym same)
 pub out_other : (key x : ℕ) (xs : List ℕ) → x ≢ key → take_out key (x ∷ xs) ≡ x ∷ take_out key xs
 out_other key x xs differ = let other : eqb key x ≡ false = not_equal key x (λ same. differ (sym same)) in rw other refl
 
-out_joined : (key : ℕ) (xs ys : List ℕ) → take_out key (xs ++ ys) ≡ take_out key xs ++ take_out key ys
+pub out_joined : (key : ℕ) (xs ys : List ℕ) → take_out key (xs ++ ys) ≡ take_out key xs ++ take_out key ys
 out_joined key [] ys = refl
 out_joined key (x ∷ xs) ys =
     elim (eqb key x) as (λ t. (if t then take_out key (xs ++ ys) else x ∷ take_out key (xs ++ ys)) ≡ (if t then take_out key xs else x ∷ take_out key xs) ++ take_out key ys) [

@@ -187,7 +187,7 @@ module _ {S : Type 0} (g : ground.Ghosts S) (a : S) (file_no m key : ℕ) (pair 
   beside_held true l p = p.right_held
   beside_held false l p = p.left_held
 
-  beside_named : (thin : Bool) (l : ℕ) → Pages g a file_no m pair l → IsFilesPage (g.geometry a) (next_to thin pair.left pair.right).page.0 × IsNamed (g.image a (next_to thin pair.left pair.right).page.0) l file_no (Some (next_to thin pair.left pair.right).key)
+  beside_named : (thin : Bool) (l : ℕ) → Pages g a file_no m pair l → IsFilesPage (g.geometry a) (next_to thin pair.left pair.right).page.0 × IsNamed (g.geometry a).page_size (g.image a (next_to thin pair.left pair.right).page.0) l file_no (Some (next_to thin pair.left pair.right).key)
   beside_named true l p = p.opened.named.1.0
   beside_named false l p = p.opened.named.0
 
@@ -212,10 +212,11 @@ module _ {S : Type 0} (g : ground.Ghosts S) (a : S) (file_no m key : ℕ) (pair 
       same_geometry = g.leads_geometry a b was.changes.leads
 
       -- the page beside is still what its entry says
-      pub still_named : (IsFilesPage (g.geometry b) (beside_of pair).page.0 → IsNamed (g.image b (beside_of pair).page.0) l file_no (Some (beside_of pair).key) → ⊥) → ⊥
+      pub still_named : (IsFilesPage (g.geometry b) (beside_of pair).page.0 → IsNamed (g.geometry b).page_size (g.image b (beside_of pair).page.0) l file_no (Some (beside_of pair).key) → ⊥) → ⊥
       still_named never =
           let n = beside_named pair.thin_is_left l known in
-          never (subst (λ (y : Geometry). IsFilesPage y (beside_of pair).page.0) (sym same_geometry) n.0) (subst (λ (t : List ℕ). IsNamed t l file_no (Some (beside_of pair).key)) (sym same_image) n.1)
+          never (subst (λ (y : Geometry). IsFilesPage y (beside_of pair).page.0) (sym same_geometry) n.0) (subst (λ (y : Geometry). IsNamed y.page_size (g.image b (beside_of pair).page.0) l file_no (Some (beside_of pair).key)) (sym same_geometry)
+          (subst (λ (t : List ℕ). IsNamed (g.geometry a).page_size t l file_no (Some (beside_of pair).key)) (sym same_image) n.1))
 
       both : Becomes g a b file_no m (take_out key) (EL ++ (ER ++ [])) (joined pair.thin_is_left N (entries_on (g.image b (beside_of pair).page.0)))
       both =

@@ -7,8 +7,8 @@ use Rattle.index_pages.specs.IndexPage.{entries_on}
 use Rattle.index_pages.proofs.PageLaws.{ReadsAs, spelled_reads}
 use Rattle.file_index.specs.Index.{IsNamed, HasLeast, key_seen}
 
-pub named_reads : (page : List ℕ) (level file_no : ℕ) (least : Option ℕ) → IsNamed page level file_no least → ReadsAs page level file_no (entries_on page)
-named_reads page level file_no least named = spelled_reads page level file_no (entries_on page) named.spelled
+pub named_reads : (size : ℕ) (page : List ℕ) (level file_no : ℕ) (least : Option ℕ) → IsNamed size page level file_no least → ReadsAs page level file_no (entries_on page)
+named_reads size page level file_no least named = spelled_reads page level file_no (entries_on page) named.spelled
 
 pub key_same : (least : Option ℕ) (entries : List Entry) (entry : Entry) → HasLeast least entries → slice_get entries 0 ≡ Some entry → key_seen least entry.key ≡ least
 key_same least [] entry h e = absurd h

@@ -48,7 +48,7 @@ each_open P f (e ∷ es) h = (front (f e) h, each_open P f es (back (f e) h))
 
 -- each entry names a page that is what it says
 abbrev pub AreNamed : Geometry → ℕ → (ℕ → List ℕ) → ℕ → List Entry → Type 0
-AreNamed g file_no image level es = AllByRecursion (λ (e : Entry). IsFilesPage g e.page.0 × IsNamed (image e.page.0) level file_no (Some e.key)) es
+AreNamed g file_no image level es = AllByRecursion (λ (e : Entry). IsFilesPage g e.page.0 × IsNamed g.page_size (image e.page.0) level file_no (Some e.key)) es
 
 closed : (g : Geometry) (file_no : ℕ) (image : ℕ → List ℕ) (m : ℕ) (es : List Entry) → AreNamed g file_no image (suc m) es
     → AllByRecursion (λ (e : Entry). AllByRecursion (λ (x : Entry). IsUnder g file_no image m (Some x.key) x.page.0) (entries_on (image e.page.0))) es

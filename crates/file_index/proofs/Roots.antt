@@ -23,7 +23,7 @@ module _ {S : Type 0} (g : ground.Ghosts S) where
   pub record Root (a : S) (file_no m : ℕ) (page : PageNo) : Type 0 where
     pub row : IsRow g a file_no m (entries_on (g.image a page.0))
     pub files : IsFilesPage (g.geometry a) page.0
-    pub named : IsNamed (g.image a page.0) (suc m) file_no None
+    pub named : IsNamed (g.geometry a).page_size (g.image a page.0) (suc m) file_no None
     pub once : (p : ℕ) → times p (page.0 ∷ []) + times p (pages_among (g.image a) m (entries_on (g.image a page.0))) ≤ count_of (g.held a p)
     pub held : g.held a page.0 ≡ true
 

@@ -29,7 +29,7 @@ module _ {S : Type 0} (g : ground.Ghosts S) where
         named = (
           (
             subst (λ (p : ℕ). IsFilesPage (g.geometry c) p) (sym at) n.files,
-            subst (λ (k : ℕ). IsNamed (g.image c first.page.0) level file_no (Some k)) (sym key) (subst (λ (p : ℕ). IsNamed (g.image c p) level file_no (Some (first_key N))) (sym at) n.named),
+            subst (λ (k : ℕ). IsNamed (g.geometry c).page_size (g.image c first.page.0) level file_no (Some k)) (sym key) (subst (λ (p : ℕ). IsNamed (g.geometry c).page_size (g.image c p) level file_no (Some (first_key N))) (sym at) n.named),
           ),
           tt,
         );
@@ -48,9 +48,9 @@ module _ {S : Type 0} (g : ground.Ghosts S) where
         named = (
           (
             subst (λ (p : ℕ). IsFilesPage (g.geometry c) p) (sym at) l.files,
-            subst (λ (k : ℕ). IsNamed (g.image c first.page.0) level file_no (Some k)) (sym (key ∙ front)) (subst (λ (p : ℕ). IsNamed (g.image c p) level file_no (Some (first_key (take (left_part (length N)) N)))) (sym at) l.named),
+            subst (λ (k : ℕ). IsNamed (g.geometry c).page_size (g.image c first.page.0) level file_no (Some k)) (sym (key ∙ front)) (subst (λ (p : ℕ). IsNamed (g.geometry c).page_size (g.image c p) level file_no (Some (first_key (take (left_part (length N)) N)))) (sym at) l.named),
           ),
-          ((r.files, subst (λ (k : ℕ). IsNamed (g.image c second.page.0) level file_no (Some k)) (sym stored.1) r.named), tt),
+          ((r.files, subst (λ (k : ℕ). IsNamed (g.geometry c).page_size (g.image c second.page.0) level file_no (Some k)) (sym stored.1) r.named), tt),
         );
         parts = ap (λ (t : List Entry). entries_on (g.image c first.page.0) ++ t) (append-nil (entries_on (g.image c second.page.0)))
             ∙ ap (λ (p : ℕ). entries_on (g.image c p) ++ entries_on (g.image c second.page.0)) at
@@ -84,7 +84,7 @@ module _ {S : Type 0} (g : ground.Ghosts S) where
       row_kept g a file_no m b es ch.kept (subst (IsRow g a file_no m) (entries_are a b file_no l m child es ch) (child_open a b file_no l m child es ch).row)
 
   -- what a parent says of it holds
-  pub child_named : (a b : S) (file_no l m : ℕ) (child : Entry) (es : List Entry) → Child a b file_no l m child es → IsNamed (g.image a child.page.0) l file_no (Some child.key)
+  pub child_named : (a b : S) (file_no l m : ℕ) (child : Entry) (es : List Entry) → Child a b file_no l m child es → IsNamed (g.geometry a).page_size (g.image a child.page.0) l file_no (Some child.key)
   child_named a b file_no l m child es ch = (child_open a b file_no l m child es ch).named.0.1
 
   -- the working state still has its page once its entries became others
@@ -120,7 +120,8 @@ module _ {S : Type 0} (g : ground.Ghosts S) where
         named = (
           (
             subst (λ (y : Geometry). IsFilesPage y child.page.0) (sym (g.leads_geometry a c was.changes.leads)) o.named.0.0,
-            subst (λ (t : List ℕ). IsNamed t l file_no (Some child.key)) (sym image) o.named.0.1,
+            subst (λ (y : Geometry). IsNamed y.page_size (g.image c child.page.0) l file_no (Some child.key)) (sym (g.leads_geometry a c was.changes.leads))
+                (subst (λ (t : List ℕ). IsNamed (g.geometry a).page_size t l file_no (Some child.key)) (sym image) o.named.0.1),
           ),
           tt,
         );

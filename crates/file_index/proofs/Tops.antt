@@ -75,7 +75,8 @@ module _ {S : Type 0} (g : ground.Ghosts S) (a : S) (before : Index) (root : Pag
           let image : g.image c root.0 ≡ g.image a root.0 = was.changes.images root.0 top.held none in
           stays c edit (topped g a c c before.file_no m edit (keys_among (g.image a) m (entries_on (g.image a root.0))) (pages_among (g.image a) m (entries_on (g.image a root.0))) (root.0 ∷ []) root N was top.once (changes_same g c (root.0 ∷ [])) (record {
             files = subst (λ (y : Geometry). IsFilesPage y root.0) (sym (g.leads_geometry a c was.changes.leads)) top.files;
-            named = subst (λ (t : List ℕ). IsNamed t (suc m) before.file_no None) (sym image) top.named;
+            named = subst (λ (y : Geometry). IsNamed y.page_size (g.image c root.0) (suc m) before.file_no None) (sym (g.leads_geometry a c was.changes.leads))
+                (subst (λ (t : List ℕ). IsNamed (g.geometry a).page_size t (suc m) before.file_no None) (sym image) top.named);
             has = ap entries_on image ∙ sym read ∙ sym same;
           }))
 

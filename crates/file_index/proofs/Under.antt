@@ -33,7 +33,7 @@ module _ (g : Geometry) (file_no : ℕ) (image : ℕ → List ℕ) where
   -- what stands under a page above level 0
   pub record Opened (level : ℕ) (least : Option ℕ) (page : ℕ) : Type 0 where
     pub files : IsFilesPage g page
-    pub named : IsNamed (image page) level file_no least
+    pub named : IsNamed g.page_size (image page) level file_no least
     pub each : AllByRecursion (λ (e : Entry). IsUnder g file_no image (level - 1) (Some e.key) e.page.0) (entries_on (image page))
     pub keys : keys_under image level page ≡ flat_map (λ (e : Entry). keys_under image (level - 1) e.page.0) (entries_on (image page))
 

@@ -41,11 +41,12 @@ abbrev pub key_seen : Option ℕ → ℕ → Option ℕ
 key_seen None key = None
 key_seen (Some least) key = Some key
 
--- the page is what names it: an index page of this level and file, with an allowed number of entries, which is two at least, and this least key
-pub record IsNamed (page : List ℕ) (level file_no : ℕ) (least : Option ℕ) : Type 0 where
+-- the page is what names it: an index page of this level and file, with a number of entries that pages of this size may have, which is two at least, and
+-- this least key
+pub record IsNamed (size : ℕ) (page : List ℕ) (level file_no : ℕ) (least : Option ℕ) : Type 0 where
   pub spelled : EntriesOf page level file_no (entries_on page)
   pub two : 2 ≤ length (entries_on page)
-  pub enough : least_entries (length page) least ≤ length (entries_on page)
+  pub enough : least_entries size least ≤ length (entries_on page)
   pub least_is : HasLeast least (entries_on page)
 
 -- the file pages that an index of a level names, from left to right: at level 0 the page itself
@@ -62,7 +63,7 @@ pages_under image (suc level) page = page ∷ flat_map (λ (entry : Entry). page
 abbrev pub IsUnder : Geometry → ℕ → (ℕ → List ℕ) → ℕ → Option ℕ → ℕ → Type 0
 IsUnder g file_no image zero least page = IsFilesPage g page × HasKey least page
 IsUnder g file_no image (suc level) least page =
-    IsFilesPage g page × IsNamed (image page) (suc level) file_no least
+    IsFilesPage g page × IsNamed g.page_size (image page) (suc level) file_no least
     × AllByRecursion (λ (entry : Entry). IsUnder g file_no image level (Some entry.key) entry.page.0) (entries_on (image page))
 
 -- numbers rise strictly, from a least one on

@@ -12,6 +12,11 @@ IsLeastFrom pages key (Some least) = Contains pages least.0 × (key ≤ least.0)
 abbrev pub page_no : ℕ → PageNo
 page_no n = record { 0 = n }
 
+-- none, or a page that is not below the key
+abbrev pub IsAtLeast : ℕ → Option PageNo → Type 0
+IsAtLeast key None = Unit {0}
+IsAtLeast key (Some page) = key ≤ page.0
+
 -- the first of the pages that is not below the key, else what comes next
 abbrev pub first_from : ℕ → List ℕ → Option PageNo → Option PageNo
 first_from key [] next = next

@@ -4,7 +4,10 @@ use Rattle.std.specs.List.{AllByRecursion}
 use Rattle.ex_base.specs.declared.ground.Ground as ground
 use Rattle.index_pages.specs.declared.Entry.{Entry}
 use Rattle.index_pages.specs.IndexPage.{index_page, most_entries, HasEntryFields}
+use Rattle.ex_base.specs.declared.names.PageNo.{PageNo}
+use Rattle.file_index.specs.declared.Index.{Index}
 use Rattle.file_index.specs.declared.spreading.Pair.{Pair}
+use Rattle.file_index.specs.Changes.{Changes}
 use Rattle.file_index.specs.Index.{IsFilesPage}
 
 -- how many of so many entries stand on the left one of two pages: the greater half
@@ -26,6 +29,13 @@ pub record IsWritten {S : Type 0} (g : ground.Ghosts S) (s : S) (page level file
   pub room : length entries ≤ most_entries (g.geometry s).page_size
   pub fields : AllByRecursion HasEntryFields entries
   pub image : g.image s page ≡ index_page (g.geometry s).page_size level file_no entries
+
+-- A page was taken for entries, and an index of this level has it as its root.
+pub record IsRootOver {S : Type 0} (g : ground.Ghosts S) (old new : S) (level file_no : ℕ) (entries : List Entry) (index : Index) : Type 0 where
+  pub page : PageNo
+  pub is : index ≡ record { root = Some page; level = level; file_no = file_no }
+  pub changes : Changes g old new [] (page.0 ∷ [])
+  pub written : g.tells old → IsWritten g new page.0 level file_no entries
 
 -- the page has all the entries, or the greater half of them, and a second page, which an entry names, the others
 abbrev pub Stored : {S : Type 0} → ground.Ghosts S → S → ℕ → ℕ → ℕ → List Entry → Option Entry → Type 0

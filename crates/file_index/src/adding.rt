@@ -1,17 +1,17 @@
 //! A page put into the index of a file.
 ghost use Rattle.std.specs.Prelude.{◌≡◌, ◌≤◌, ◌<◌, ◌+◌, ◌-◌, ◌∷◌, [], ℕ, false, length, IfOk, IfErr, OnOk};
 ghost use Rattle.ex_base.specs.declared.names.Area.TheVariants.{Page};
-ghost use Rattle.ex_base.specs.Ports.{HasCause, IsDamage};
+ghost use Rattle.ex_base.specs.Ports.{Cause, HasCause, IsDamage};
 ghost use Rattle.index_pages.specs.IndexPage.{most_entries};
 ghost use Rattle.file_index.specs.Index.{IsFilesPage, HasRoot};
-ghost use Rattle.file_index.specs.Nodes.{PutsLeaf, leaves_of};
+ghost use Rattle.file_index.specs.Nodes.{PutsLeaf, leaves_of, IsRootOver};
 ghost use Rattle.file_index.specs.Edits.{IsRow, Becomes, HasIndex, EditsIndex, GrowsTo, put_in};
 
-use crate::Index;
-use crate::named::Named;
+use crate::named::{Named, no_index_page};
 use crate::nodes::{entries_at, page_buffer, take_index};
 use crate::rows::{place_of, replace_one};
 use crate::storing::store;
+use crate::{Index, MOST_LEVEL};
 use ex_base::{PageNo, Pages, PortFault};
 use index_pages::Entry;
 use std::alloc::Global;
@@ -129,15 +129,37 @@ fn add_second<P: Pages>(
         Err(fault) => return Err(fault),
     };
     let top = two_leaves(root, key.0);
-    let page = match take_index(pages, alloc, 1, index.file_no, &top, &mut buffer) {
-        Ok(page) => page,
-        Err(fault) => return Err(fault),
-    };
-    Ok(Index {
-        root: Some(page),
-        level: 1,
-        file_no: index.file_no,
-    })
+    take_root(pages, alloc, 1, index.file_no, &top, &mut buffer)
+}
+
+/// Takes a page for the entries of a new root, and answers the index that it makes.
+fn take_root<P: Pages>(
+    pages: &mut P,
+    alloc: Global,
+    level: u8,
+    file_no: u32,
+    top: &[Entry; 2],
+    buffer: &mut [u8],
+) -> Result<Index, PortFault>
+    requires ready { P.ready pages.old }
+    requires free { 1 ≤ P.free pages.old Page }
+    requires level { 1 ≤ level }
+    requires buffer { length buffer.old ≡ (P.geometry pages.old).page_size }
+    ensures made { IfOk result (λ made. IsRootOver P.Ground pages.old pages.new level file_no top.now made) }
+    ensures level { IfOk result (λ made. (made.level ≡ level) × (made.file_no ≡ file_no) × HasRoot made.level made.root) }
+    ensures free { OnOk result (P.free pages.new Page + 1 ≡ P.free pages.old Page) }
+    ensures leads { P.leads pages.old pages.new }
+    ensures no_damage { IfErr result (λ fault. IsDamage fault → ⊥) }
+    ensures cause { HasCause (P.faults pages.old) (P.faults pages.new) result }
+{
+    match take_index(pages, alloc, level, file_no, top, buffer) {
+        Ok(page) => Ok(Index {
+            root: Some(page),
+            level,
+            file_no,
+        }),
+        Err(fault) => Err(fault),
+    }
 }
 
 /// The entries of two pages of a file, in order.
@@ -176,13 +198,11 @@ fn add_below<P: Pages>(
     ensures leads { P.leads pages.old pages.new }
     ensures cause { HasCause (P.faults pages.old) (P.faults pages.new) result }
 {
-    let level = index.level;
-    let file_no = index.file_no;
     let named = Named {
         page: root,
-        level,
+        level: index.level,
         least: None,
-        file_no,
+        file_no: index.file_no,
     };
     let mut buffer = match page_buffer(pages, alloc) {
         Ok(buffer) => buffer,
@@ -195,8 +215,8 @@ fn add_below<P: Pages>(
     match add_among(
         pages,
         alloc,
-        level,
-        file_no,
+        named.level,
+        named.file_no,
         &mut entries,
         key.0,
         &mut buffer,
@@ -215,18 +235,32 @@ fn add_below<P: Pages>(
         page: root,
     };
     let top = [first, second];
-    match take_index(pages, alloc, level + 1, file_no, &top, &mut buffer) {
-        Ok(page) => Ok(Index {
-            root: Some(page),
-            level: level + 1,
-            file_no,
-        }),
-        Err(fault) => Err(fault),
-    }
+    take_root(
+        pages,
+        alloc,
+        named.level + 1,
+        named.file_no,
+        &top,
+        &mut buffer,
+    )
+}
+
+/// The fault of a root that has too many entries for its level.
+fn too_high(index: &Index, root: PageNo) -> PortFault
+    ensures damage { IsDamage result }
+    ensures cause { (before now : ℕ) → Cause before now result }
+{
+    no_index_page(&Named {
+        page: root,
+        level: index.level,
+        least: None,
+        file_no: index.file_no,
+    })
 }
 
 /// Puts a page into the index of its file. A page that the index has stays there. An index page that would get too many entries becomes two, of which
-/// the left one has the greater half.
+/// the left one has the greater half. The index gets a level more where its root becomes two pages; a level above 5 is that of no whole index, and is
+/// told as damage of the root.
 pub fn add<P: Pages>(
     pages: &mut P,
     alloc: Global,
@@ -240,8 +274,9 @@ pub fn add<P: Pages>(
     ensures adds { IfOk result (λ added. P.tells pages.old → IsFilesPage (P.geometry pages.old) key.0 → HasIndex P.Ground pages.old index.now
         → EditsIndex P.Ground pages.old pages.new (put_in key.0) index.now added) }
     ensures grows { IfOk result (λ added. GrowsTo index.now added) }
+    ensures level { IfOk result (λ added. added.level ≤ 5) }
     ensures free { OnOk result (P.free pages.old Page ≤ P.free pages.new Page + (index.now.level + 1)) }
-    ensures sound { IfErr result (λ fault. IsDamage fault → P.tells pages.old → HasIndex P.Ground pages.old index.now → ⊥) }
+    ensures sound { IfErr result (λ fault. IsDamage fault → P.tells pages.old → IsFilesPage (P.geometry pages.old) key.0 → HasIndex P.Ground pages.old index.now → ⊥) }
     ensures leads { P.leads pages.old pages.new }
     ensures cause { HasCause (P.faults pages.old) (P.faults pages.new) result }
 {
@@ -255,5 +290,13 @@ pub fn add<P: Pages>(
     if index.level == 0 {
         return add_second(pages, alloc, index, root, key);
     }
-    add_below(pages, alloc, index, root, key)
+    match add_below(pages, alloc, index, root, key) {
+        Ok(added) => {
+            if added.level > MOST_LEVEL {
+                return Err(too_high(index, root));
+            }
+            Ok(added)
+        }
+        Err(fault) => Err(fault),
+    }
 }

@@ -3,7 +3,7 @@ ghost use Rattle.std.specs.Prelude.{◌≡◌, ◌≤◌, ℕ, length, IfOk, IfE
 ghost use Rattle.ex_base.specs.Ports.{Keeps, HasCause, IsDamage};
 ghost use Rattle.index_pages.specs.IndexPage.{entries_on};
 ghost use Rattle.file_index.specs.Index.{IsFilesPage, IsNamed, IsUnder, Rises, keys_under, keys_of, IsIndex, HasRoot};
-ghost use Rattle.file_index.specs.Least.{pick, first_from, IsLeastFrom};
+ghost use Rattle.file_index.specs.Least.{pick, first_from, IsLeastFrom, IsAtLeast};
 
 use crate::named::{Named, checked, no_index_page};
 use crate::step::{Step, pick};
@@ -21,8 +21,9 @@ fn step_at<P: Pages>(
 ) -> Result<Step, PortFault>
     requires { P.ready pages.old }
     ensures step { IfOk result (λ step. P.tells pages.old → step ≡ pick (entries_on (P.image pages.old named.now.page.0)) key next) }
+    ensures above { IfOk result (λ step. IsAtLeast key next → IsAtLeast key step.next) }
     ensures sound { IfErr result (λ fault. IsDamage fault → P.tells pages.old → IsFilesPage (P.geometry pages.old) named.now.page.0
-        → IsNamed (P.image pages.old named.now.page.0) named.now.level named.now.file_no named.now.least → ⊥) }
+        → IsNamed (P.geometry pages.old).page_size (P.image pages.old named.now.page.0) named.now.level named.now.file_no named.now.least → ⊥) }
     ensures kept { Keeps P.Ground pages.old pages.new }
     ensures cause { HasCause (P.faults pages.old) (P.faults pages.new) result }
 {
@@ -44,11 +45,13 @@ fn least_below<P: Pages>(
     key: u32,
     next: Option<PageNo>,
 ) -> Result<Option<PageNo>, PortFault>
-    requires { P.ready pages.old }
+    requires ready { P.ready pages.old }
+    requires next { IsAtLeast key next }
     ensures least { IfOk result (λ least. P.tells pages.old
         → IsUnder (P.geometry pages.old) named.file_no (P.image pages.old) named.level named.least named.page.0
         → Rises 0 (keys_under (P.image pages.old) named.level named.page.0)
         → least ≡ first_from key (keys_under (P.image pages.old) named.level named.page.0) next) }
+    ensures above { IfOk result (λ least. IsAtLeast key least) }
     ensures sound { IfErr result (λ fault. IsDamage fault → P.tells pages.old
         → IsUnder (P.geometry pages.old) named.file_no (P.image pages.old) named.level named.least named.page.0 → ⊥) }
     ensures kept { Keeps P.Ground pages.old pages.new }
@@ -87,6 +90,7 @@ pub fn at_least<P: Pages>(
     ensures least { IfOk result (λ least. P.tells pages.old
         → IsIndex (P.geometry pages.old) (P.image pages.old) index.now.file_no index.now.level index.now.root
         → IsLeastFrom (keys_of (P.image pages.old) index.now.level index.now.root) key.0 least) }
+    ensures above { IfOk result (λ least. IsAtLeast key.0 least) }
     ensures sound { IfErr result (λ fault. IsDamage fault → P.tells pages.old
         → IsIndex (P.geometry pages.old) (P.image pages.old) index.now.file_no index.now.level index.now.root → ⊥) }
     ensures kept { Keeps P.Ground pages.old pages.new }

@@ -34,7 +34,6 @@ pub fn most_entries(size: usize) -> usize
 }
 
 /// The least number of entries of an index page of so many bytes.
-
 fn least_entries(size: usize, least: Option<u32>) -> usize
     requires { 16 ≤ size }
     ensures { result ≡ least_entries size least }
@@ -90,8 +89,8 @@ pub fn no_index_page(named: &Named) -> PortFault
 pub fn checked<'a>(page: &'a [u8], named: &Named) -> Result<IndexView<'a>, PortFault>
     requires { 48 ≤ length page.now }
     ensures view { IfOk result (λ view. view ≡ indexed_on page.now) }
-    ensures ok { IfOk result (λ view. IsNamed page.now named.now.level named.now.file_no named.now.least) }
-    ensures err { IfErr result (λ fault. IsNamed page.now named.now.level named.now.file_no named.now.least → ⊥) }
+    ensures ok { IfOk result (λ view. IsNamed (length page.now) page.now named.now.level named.now.file_no named.now.least) }
+    ensures err { IfErr result (λ fault. IsNamed (length page.now) page.now named.now.level named.now.file_no named.now.least → ⊥) }
     ensures damage { (before now : ℕ) → HasCause before now result }
 {
     let Some(view) = IndexView::of(page) else {

@@ -35,12 +35,12 @@ pub fn entries_at<P: Pages>(
 ) -> Result<Vec<Entry>, PortFault>
     requires { P.ready pages.old }
     ensures entries { IfOk result (λ entries. P.tells pages.old → entries.items ≡ entries_on (P.image pages.old named.now.page.0)) }
-    ensures named { OnOk result (P.tells pages.old → IsNamed (P.image pages.old named.now.page.0) named.now.level named.now.file_no named.now.least) }
+    ensures named { OnOk result (P.tells pages.old → IsNamed (P.geometry pages.old).page_size (P.image pages.old named.now.page.0) named.now.level named.now.file_no named.now.least) }
     ensures few { IfOk result (λ entries. least_entries (P.geometry pages.old).page_size named.now.least ≤ length entries.items) }
     ensures many { IfOk result (λ entries. length entries.items ≤ most_entries (P.geometry pages.old).page_size) }
     ensures area { OnOk result (IsFilesPage (P.geometry pages.old) named.now.page.0) }
     ensures sound { IfErr result (λ fault. IsDamage fault → P.tells pages.old → IsFilesPage (P.geometry pages.old) named.now.page.0
-        → IsNamed (P.image pages.old named.now.page.0) named.now.level named.now.file_no named.now.least → ⊥) }
+        → IsNamed (P.geometry pages.old).page_size (P.image pages.old named.now.page.0) named.now.level named.now.file_no named.now.least → ⊥) }
     ensures kept { Keeps P.Ground pages.old pages.new }
     ensures cause { HasCause (P.faults pages.old) (P.faults pages.new) result }
 {

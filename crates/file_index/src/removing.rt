@@ -152,13 +152,11 @@ fn remove_below<P: Pages>(
     ensures leads { P.leads pages.old pages.new }
     ensures cause { HasCause (P.faults pages.old) (P.faults pages.new) result }
 {
-    let level = index.level;
-    let file_no = index.file_no;
     let named = Named {
         page: root,
-        level,
+        level: index.level,
         least: None,
-        file_no,
+        file_no: index.file_no,
     };
     let mut buffer = match page_buffer(pages, alloc) {
         Ok(buffer) => buffer,
@@ -171,8 +169,8 @@ fn remove_below<P: Pages>(
     match remove_among(
         pages,
         alloc,
-        level,
-        file_no,
+        named.level,
+        named.file_no,
         &mut entries,
         key.0,
         &mut buffer,
@@ -182,20 +180,16 @@ fn remove_below<P: Pages>(
         Err(fault) => return Err(fault),
     }
     if entries.len() > 1 {
-        match put_index(pages, alloc, &named, &entries, &mut buffer) {
-            Ok(()) => return Ok(*index),
-            Err(fault) => return Err(fault),
-        }
+        put_index(pages, alloc, &named, &entries, &mut buffer)?;
+        return Ok(*index);
     }
     let only = entries[0].page;
-    match pages.give_page(alloc, root) {
-        Ok(()) => Ok(Index {
-            root: Some(only),
-            level: level - 1,
-            file_no,
-        }),
-        Err(fault) => Err(fault),
-    }
+    pages.give_page(alloc, root)?;
+    Ok(Index {
+        root: Some(only),
+        level: index.level - 1,
+        file_no: index.file_no,
+    })
 }
 
 /// Takes a page out of the index of its file. Without the page nothing changes. An index page that has too few entries left is filled from the one

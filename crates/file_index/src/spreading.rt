@@ -108,7 +108,7 @@ pub fn spread<P: Pages>(
         → Changes P.Ground pages.old pages.new (pair.now.left.page.0 ∷ pair.now.right.page.0 ∷ []) (pair.now.left.page.0 ∷ heads (entries_of made.1))) }
     ensures free { OnOk result (P.free pages.old Page ≤ P.free pages.new Page) }
     ensures sound { IfErr result (λ fault. IsDamage fault → P.tells pages.old → IsFilesPage (P.geometry pages.old) (beside_of pair.now).page.0
-        → IsNamed (P.image pages.old (beside_of pair.now).page.0) pair.now.level pair.now.file_no (Some (beside_of pair.now).key) → ⊥) }
+        → IsNamed (P.geometry pages.old).page_size (P.image pages.old (beside_of pair.now).page.0) pair.now.level pair.now.file_no (Some (beside_of pair.now).key) → ⊥) }
     ensures leads { P.leads pages.old pages.new }
     ensures cause { HasCause (P.faults pages.old) (P.faults pages.new) result }
 {

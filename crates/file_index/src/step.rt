@@ -1,7 +1,7 @@
 //! The entry that a key leads to.
 ghost use Rattle.std.specs.Prelude.{◌≡◌, ◌≤◌, ◌<◌, length, Some, drop};
 ghost use Rattle.index_pages.specs.IndexPage.{Indexed};
-ghost use Rattle.file_index.specs.Least.{pick};
+ghost use Rattle.file_index.specs.Least.{pick, IsAtLeast};
 
 use ex_base::PageNo;
 use index_pages::Entry;
@@ -17,7 +17,8 @@ pub struct Step {
 /// The last entry whose key is not above the key, else the first one.
 pub fn pick(view: &IndexView, key: u32, next: Option<PageNo>) -> Step
     requires { 1 ≤ length view.now.entries }
-    ensures { result ≡ pick view.now.entries key next }
+    ensures step { result ≡ pick view.now.entries key next }
+    ensures above { IsAtLeast key next → IsAtLeast key result.next }
 {
     let mut child = view.entry(0);
     for at in 1..view.len() {

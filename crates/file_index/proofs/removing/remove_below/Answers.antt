@@ -25,23 +25,23 @@ returns-in-Ok-false-clause-removes g c = λ told has.
     let becomes = c.in-Ok-false.ensures.removes told_b row in
     same_top g.P.Ground c.args.pages.now c.args.index.now c.args.root (c.args.index.now.level - 1) c.requires.root step has c.entries_at.new.pages c.in-Ok-entries_at.entries.items c.entries_at.ensures.kept read c.remove_among.new.pages (take_out c.args.key.0) c.remove_among.new.entries.items becomes (c.in-Ok-false.ensures.same c.in-Ok-false.field-0-test)
 
-pub returns-in-Ok-put_index-clause-removes : goal.returns-in-Ok-put_index-clause-removes
-returns-in-Ok-put_index-clause-removes g c = λ told has.
+pub returns-then-len-gt1-clause-removes : goal.returns-then-len-gt1-clause-removes
+returns-then-len-gt1-clause-removes g c = λ told has.
     let step : suc (c.args.index.now.level - 1) ≡ c.args.index.now.level = omega (arith, c.requires.level) in
     let told_b = g.P.Ground.leads_told c.args.pages.now c.entries_at.new.pages c.entries_at.ensures.kept.leads told in
     let read = c.in-Ok-entries_at.ensures.entries told in
     let row = row_top g.P.Ground c.args.pages.now c.args.index.now c.args.root (c.args.index.now.level - 1) c.requires.root step has c.entries_at.new.pages c.in-Ok-entries_at.entries.items c.entries_at.ensures.kept read in
     let told_c = g.P.Ground.leads_told c.entries_at.new.pages c.remove_among.new.pages c.remove_among.ensures.leads told_b in
     let becomes = c.in-Ok-true.ensures.removes told_b row in
-    written_top g.P.Ground c.args.pages.now c.args.index.now c.args.root (c.args.index.now.level - 1) c.requires.root step has c.entries_at.new.pages c.in-Ok-entries_at.entries.items c.entries_at.ensures.kept read c.remove_among.new.pages (take_out c.args.key.0) c.remove_among.new.entries.items becomes c.put_index.new.pages c.in-Ok-put_index.ensures.changes
-    (subst (λ (l : List Entry). IsWritten g.P.Ground c.put_index.new.pages c.args.root.0 c.args.index.now.level c.args.index.now.file_no l) c.deref.ensures.value (c.in-Ok-put_index.ensures.written told_c)) (omega (arith, c.if-len-gt1.true))
+    written_top g.P.Ground c.args.pages.now c.args.index.now c.args.root (c.args.index.now.level - 1) c.requires.root step has c.entries_at.new.pages c.in-Ok-entries_at.entries.items c.entries_at.ensures.kept read c.remove_among.new.pages (take_out c.args.key.0) c.remove_among.new.entries.items becomes c.put_index.new.pages c.in_ok-put_index.ensures.changes
+    (subst (λ (l : List Entry). IsWritten g.P.Ground c.put_index.new.pages c.args.root.0 c.args.index.now.level c.args.index.now.file_no l) c.deref.ensures.value (c.in_ok-put_index.ensures.written told_c)) (omega (arith, c.if-len-gt1.true))
 
-pub returns-in-Ok-give_page-clause-removes : goal.returns-in-Ok-give_page-clause-removes
-returns-in-Ok-give_page-clause-removes g c = λ told has.
+pub returns-clause-removes : goal.returns-clause-removes
+returns-clause-removes g c = λ told has.
     let step : suc (c.args.index.now.level - 1) ≡ c.args.index.now.level = omega (arith, c.requires.level) in
     let told_b = g.P.Ground.leads_told c.args.pages.now c.entries_at.new.pages c.entries_at.ensures.kept.leads told in
     let read = c.in-Ok-entries_at.ensures.entries told in
     let row = row_top g.P.Ground c.args.pages.now c.args.index.now c.args.root (c.args.index.now.level - 1) c.requires.root step has c.entries_at.new.pages c.in-Ok-entries_at.entries.items c.entries_at.ensures.kept read in
     let becomes = c.in-Ok-true.ensures.removes told_b row in
     lowered_top g.P.Ground c.args.pages.now c.args.index.now c.args.root (c.args.index.now.level - 1) c.requires.root step has c.entries_at.new.pages c.in-Ok-entries_at.entries.items c.entries_at.ensures.kept read c.remove_among.new.pages (take_out c.args.key.0) c.remove_among.new.entries.items becomes c.give_page.new.self c.index.result.now
-    (single c.remove_among.new.entries.items c.index.result.now (omega (arith, c.if-len-gt1.false, c.in-Ok-true.ensures.fewer, c.in-Ok-entries_at.ensures.few)) c.index.ensures) c.in-Ok-give_page.ensures.given c.give_page.ensures.leads
+    (single c.remove_among.new.entries.items c.index.result.now (omega (arith, c.if-len-gt1.false, c.in-Ok-true.ensures.fewer, c.in-Ok-entries_at.ensures.few)) c.index.ensures) c.in_ok-give_page.ensures.given c.give_page.ensures.leads

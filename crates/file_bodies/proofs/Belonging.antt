@@ -1,0 +1,72 @@
+-- Which file a page belongs to.
+use Rattle.std.proofs.Common.{◌≡◌, ℕ, List, Option, Some, None, sym, subst, ◌∙◌}
+use Rattle.std.specs.Prelude.{Contains}
+use Rattle.ex_base.specs.declared.ground.Ground as ground
+use Rattle.ex_base.specs.Ports.{Keeps}
+use Rattle.slotted_pages.specs.Reads.{page_on, IsPage}
+use Rattle.file_index.specs.declared.Index.{Index}
+use Rattle.file_index.specs.Index.{IsFilesPage}
+use Rattle.ex_base.specs.declared.names.Place.{Place}
+use Rattle.file_bodies.specs.Bodies.{pages_in, bodies_of}
+use Rattle.file_bodies.specs.Places.{FirstFrom}
+use Rattle.file_bodies.specs.Files.{index_at, HasFile, HasFiles, IsOfFile}
+use Rattle.file_bodies.proofs.Moving.{lies, kept_file}
+use Rattle.file_bodies.proofs.Slots.{page_of}
+use Rattle.file_bodies.proofs.Rows.{contains_times}
+
+module _ {S : Type 0} (g : ground.Ghosts S) where
+  -- a page of a file lies where it may, and is in its grammar
+  pub of_lies : (a : S) (page : ℕ) → IsOfFile g a page → IsFilesPage (g.geometry a) page
+  of_lies a page of = lies g a of.index page of.file (contains_times page (pages_in (g.image a) of.index) of.named)
+
+  pub of_page : (a : S) (page : ℕ) → IsOfFile g a page → IsPage (g.image a page)
+  of_page a page of = (page_of g a of.index page of.file (contains_times page (pages_in (g.image a) of.index) of.named)).spelled
+
+  -- the number on the page is that of its file
+  pub of_number : (a : S) (page file_no : ℕ) (of : IsOfFile g a page) → (page_on (g.image a page)).file_no ≡ file_no → index_at (g.image a) file_no ≡ Some of.index
+  of_number a page file_no of is =
+      let number = (page_of g a of.index page of.file (contains_times page (pages_in (g.image a) of.index) of.named)).number in
+      subst (λ (n : ℕ). index_at (g.image a) n ≡ Some of.index) (sym number ∙ is) of.file.entry
+
+  -- the index that the catalog names is that of the file
+  pub the_index : (a : S) (index found : Index) (file_no : ℕ) → HasFile g a index → index.file_no ≡ file_no → index_at (g.image a) file_no ≡ Some found → index ≡ found
+  the_index a index found file_no file number is =
+      let at : index_at (g.image a) file_no ≡ Some index = subst (λ (n : ℕ). index_at (g.image a) n ≡ Some index) number file.entry in
+      let e : Some index ≡ Some found = sym at ∙ is in cc
+
+  pub found_file : (a b : S) (index found : Index) (file_no : ℕ) → HasFile g a index → index.file_no ≡ file_no → index_at (g.image a) file_no ≡ Some found → Keeps g a b → HasFile g b found
+  found_file a b index found file_no file number is kept = kept_file g a b found kept (subst (HasFile g a) (the_index a index found file_no file number is) file)
+
+  pub found_rows : (a b : S) (index found : Index) (file_no key slot : ℕ) (next : Option Place) → HasFile g a index → index.file_no ≡ file_no → index_at (g.image a) file_no ≡ Some found → Keeps g a b
+      → FirstFrom (bodies_of (g.image b) found) key slot next → FirstFrom (bodies_of (g.image a) index) key slot next
+  found_rows a b index found file_no key slot next file number is kept rows =
+      subst (λ (i : Index). FirstFrom (bodies_of (g.image a) i) key slot next) (sym (the_index a index found file_no file number is))
+      (subst (λ (f : ℕ → List ℕ). FirstFrom (bodies_of f found) key slot next) kept.images rows)
+
+  module _ (a b c : S) (page file_no : ℕ) (one : Keeps g a b) (two : Keeps g b c) (number : (page_on (g.image a page)).file_no ≡ file_no) where
+    -- no file has the number
+    pub of_none : (found : Option Index) → found ≡ None → found ≡ index_at (g.image b) file_no → IsOfFile g a page → ⊥
+    of_none found none is of =
+        let at : index_at (g.image b) file_no ≡ Some of.index = rw one.images (of_number a page file_no of number) in
+        absurd (let e : None ≡ Some of.index = sym none ∙ is ∙ at in cc)
+
+    module _ (index : Index) (found : Option Index) (some : found ≡ Some index) (is : found ≡ index_at (g.image b) file_no) where
+      entry : index_at (g.image a) file_no ≡ Some index
+      entry = subst (λ (f : ℕ → List ℕ). index_at f file_no ≡ Some index) one.images (sym is ∙ some)
+
+      pub file_c : HasFiles g a → HasFile g c index
+      file_c files = kept_file g b c index two (kept_file g a b index one (files.each file_no index entry))
+
+      pub of_yes : HasFiles g a → Contains (pages_in (g.image c) index) page → IsOfFile g a page
+      of_yes files named = record {
+        index = index;
+        file = files.each file_no index entry;
+        named = subst (λ (f : ℕ → List ℕ). Contains (pages_in f index) page) (two.images ∙ one.images) named;
+      }
+
+      pub of_no : (HasFile g c index → Contains (pages_in (g.image c) index) page → ⊥) → IsOfFile g a page → ⊥
+      of_no never of =
+          let same : index ≡ of.index = let e : Some index ≡ Some of.index = sym entry ∙ of_number a page file_no of number in cc in
+          let file : HasFile g a index = subst (HasFile g a) (sym same) of.file in
+          let named : Contains (pages_in (g.image a) index) page = subst (λ (i : Index). Contains (pages_in (g.image a) i) page) (sym same) of.named in
+          never (kept_file g b c index two (kept_file g a b index one file)) (rw (two.images, one.images) named)

@@ -1,0 +1,13 @@
+pub mod Pages
+pub mod Entries
+pub mod Rows
+pub mod Moving
+pub mod Slots
+pub mod Belonging
+pub mod Following
+pub mod Searching
+pub mod Indexing
+pub mod Fresh
+pub mod Placed
+pub mod Leaving
+pub mod Ordered

@@ -1,0 +1,16 @@
+use Rattle.std.proofs.Common.{ℕ, List, sym, ap, ◌∙◌}
+use Rattle.object_files.specs.Edits.{entries_on}
+use Rattle.file_bodies.specs.Files.{index_in}
+use Rattle.file_bodies.proofs.Entries.{entries_are, usable_if}
+use Rattle.file_bodies.proofs.catalog.find_index.Goals as goal
+
+pub returns-in-Some-clause-found : goal.returns-in-Some-clause-found
+returns-in-Some-clause-found g c = λ told.
+    c.index_with.ensures ∙ ap (index_in c.args.file_no) (sym (entries_are c.in_ok-page.page.now c.in-Some.view c.in-Some.ensures.found))
+    ∙ ap (λ (p : List ℕ). index_in c.args.file_no (entries_on p)) (c.in_ok-page.ensures.bytes told)
+
+pub returns-in-Some-clause-usable : goal.returns-in-Some-clause-usable
+returns-in-Some-clause-usable g c = usable_if c.args.file_no c.in-Some.view.entries c.index_with.result c.index_with.ensures c.in-Some.ensures.found.fits.entries
+
+pub returns-in-None-clause-cause : goal.returns-in-None-clause-cause
+returns-in-None-clause-cause g c = c.no_catalog.ensures.cause _ _

@@ -1,0 +1,4 @@
+use Rattle.file_bodies.proofs.changing.change_body.Goals as goal
+
+pub returns-in-Err-clause-cause : goal.returns-in-Err-clause-cause
+returns-in-Err-clause-cause g c = c.in-Err.ensures.cause _ _

@@ -1,0 +1,15 @@
+use Rattle.std.proofs.Common.{sym, ap, ◌∙◌, arith, length}
+use Rattle.file_bodies.proofs.Pages.{slots_are, number_is, viewed_is, page_is_of}
+use Rattle.file_bodies.proofs.page.page_checked.Goals as goal
+
+pub returns-then-slots-eq0-clause-err : goal.returns-then-slots-eq0-clause-err
+returns-then-slots-eq0-clause-err c = λ of. absurd (omega (arith, of.some, ap length (slots_are c.args.bytes.now c.in-Some.view.page c.in-Some.ensures.found.1)))
+
+pub returns-then-found-file_no-clause-err : goal.returns-then-found-file_no-clause-err
+returns-then-found-file_no-clause-err c = λ of. c.if-found-file_no.true (c.file_no-found.ensures ∙ sym (number_is c.args.bytes.now c.in-Some.view.page c.in-Some.ensures.found.1) ∙ of.number)
+
+pub returns-clause-ok : goal.returns-clause-ok
+returns-clause-ok c = page_is_of c.args.bytes.now c.in-Some.view.page c.args.file_no c.in-Some.ensures.found.1 (sym c.file_no-found.ensures ∙ c.if-found-file_no.false) (λ none. c.if-slots-eq0.false (c.slots.ensures ∙ none))
+
+pub returns-clause-view : goal.returns-clause-view
+returns-clause-view c = viewed_is c.args.bytes.now c.in-Some.view c.in-Some.ensures.found.0 c.in-Some.ensures.found.1

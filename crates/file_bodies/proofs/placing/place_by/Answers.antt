@@ -1,0 +1,25 @@
+use Rattle.std.proofs.Common.{length}
+use Rattle.file_bodies.proofs.Pages.{at_none, at_some, if_ok, if_err}
+use Rattle.file_bodies.proofs.Moving.{kept_file}
+use Rattle.file_bodies.proofs.Placed.{placed_old, kept_places, none_below, none_from_kept}
+use Rattle.file_bodies.proofs.placing.place_by.Goals as goal
+
+pub returns-in-Ok-None-clause-placed : goal.returns-in-Ok-None-clause-placed
+returns-in-Ok-None-clause-placed g c = if_ok c.put_on_new_page.result _ _ (λ place placed told file below.
+    let kept = c.put_in_room.ensures.kept in
+    let told_b = g.P.Ground.leads_told c.args.pages.now c.put_in_room.new.pages kept.leads told in
+    let none = at_none c.in-Ok-None.field-0 _ c.in-Ok-None.field-0-is c.in-Ok-None.ensures.none told file in
+    kept_places g.P.Ground c.args.pages.now c.put_in_room.new.pages c.put_on_new_page.new.pages c.args.index.now place c.args.body.now kept
+    (placed told_b (kept_file g.P.Ground c.args.pages.now c.put_in_room.new.pages c.args.index.now kept file)
+    (none_from_kept g.P.Ground c.args.pages.now c.put_in_room.new.pages c.args.index.now (length c.args.body.now) 0 kept (none_below g.P.Ground c.args.pages.now c.args.index.now c.args.from (length c.args.body.now) below none)))) c.put_on_new_page.ensures.placed
+
+pub returns-in-Ok-None-clause-sound : goal.returns-in-Ok-None-clause-sound
+returns-in-Ok-None-clause-sound g c = if_err c.put_on_new_page.result _ _ (λ fault never damage told file.
+    let kept = c.put_in_room.ensures.kept in
+    never damage (g.P.Ground.leads_told c.args.pages.now c.put_in_room.new.pages kept.leads told) (kept_file g.P.Ground c.args.pages.now c.put_in_room.new.pages c.args.index.now kept file)) c.put_on_new_page.ensures.sound
+
+pub returns-in-Ok-clause-placed : goal.returns-in-Ok-clause-placed
+returns-in-Ok-clause-placed g c = λ told file below.
+    let kept = c.put_in_room.ensures.kept in
+    let placed = at_some c.in-Ok-Some.field-0 c.in-Ok-Some.place _ c.in-Ok-Some.field-0-is (c.in-Ok-Some.ensures.placed told file) in
+    placed_old g.P.Ground c.args.pages.now c.put_in_room.new.pages c.put.new.self c.args.index.now c.args.from c.args.body.now c.put_in_room.new.image c.in-Ok-Some.place file told placed kept c.in-Ok.ensures.put c.put.ensures.leads below

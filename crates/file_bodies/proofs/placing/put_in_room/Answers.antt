@@ -1,0 +1,57 @@
+use Rattle.std.proofs.Common.{◌≡◌, ◌≤◌, refl, ℕ, length, sym, ◌∙◌, subst, List, Some, None, arith}
+use Rattle.slotted_pages.specs.FilePage.{SlotsOf}
+use Rattle.slotted_pages.specs.Reads.{page_on}
+use Rattle.slotted_pages.specs.Edits.{slots_of, with_slot, with_slots}
+use Rattle.file_index.specs.Least.{IsAtLeast}
+use Rattle.file_bodies.proofs.Searching.{keeps_trans, file_now, told_now, none_left, passed_to, passed_page, page_named, load_sound, slot_read}
+use Rattle.file_bodies.proofs.placing.put_in_room.Goals as goal
+
+pub returns-in-Ok-None-clause-none : goal.returns-in-Ok-None-clause-none
+returns-in-Ok-None-clause-none g c = λ told file.
+    let told_b = told_now g.P.Ground c.args.pages.now c.searched.pages c.args.index.now (length c.args.body.now) c.args.from c.searched.key c.searched.invariant told file in
+    let file_b = file_now g.P.Ground c.args.pages.now c.searched.pages c.args.index.now (length c.args.body.now) c.args.from c.searched.key c.searched.invariant told file in
+    none_left g.P.Ground c.args.pages.now c.searched.pages c.args.index.now (length c.args.body.now) c.args.from c.searched.key c.searched.invariant told file c.in-Ok-None.field-0 c.in-Ok-None.field-0-is (c.in-Ok-None.ensures.least told_b file_b.whole)
+
+pub returns-in-Err-load_page-clause-sound : goal.returns-in-Err-load_page-clause-sound
+returns-in-Err-load_page-clause-sound g c = λ damage told file.
+    let told_b = told_now g.P.Ground c.args.pages.now c.searched.pages c.args.index.now (length c.args.body.now) c.args.from c.searched.key c.searched.invariant told file in
+    let file_b = file_now g.P.Ground c.args.pages.now c.searched.pages c.args.index.now (length c.args.body.now) c.args.from c.searched.key c.searched.invariant told file in
+    load_sound g.P.Ground c.args.pages.now c.searched.pages c.args.index.now (length c.args.body.now) c.args.from c.searched.key c.searched.invariant told file c.in-Ok-Some.page c.in-Ok-Some.field-0 c.in-Ok-Some.field-0-is (c.in-Ok-Some.ensures.least told_b file_b.whole)
+    c.at_least.new.pages c.at_least.ensures.kept (c.in-Err-load_page.ensures.sound damage (g.P.Ground.leads_told c.searched.pages c.at_least.new.pages c.at_least.ensures.kept.leads told_b))
+
+pub returns-in-Some-clause-placed : goal.returns-in-Some-clause-placed
+returns-in-Some-clause-placed g c = λ told file.
+    let told_b = told_now g.P.Ground c.args.pages.now c.searched.pages c.args.index.now (length c.args.body.now) c.args.from c.searched.key c.searched.invariant told file in
+    let file_b = file_now g.P.Ground c.args.pages.now c.searched.pages c.args.index.now (length c.args.body.now) c.args.from c.searched.key c.searched.invariant told file in
+    let told_c = g.P.Ground.leads_told c.searched.pages c.at_least.new.pages c.at_least.ensures.kept.leads told_b in
+    let least = c.in-Ok-Some.ensures.least told_b file_b.whole in
+    let kept_c = keeps_trans g.P.Ground c.args.pages.now c.searched.pages c.at_least.new.pages c.searched.invariant.kept c.at_least.ensures.kept in
+    let read : c.load_page.new.out ≡ g.P.Ground.image c.at_least.new.pages c.in-Ok-Some.page.0 = c.in-Ok.ensures.bytes told_c in
+    let size : length c.load_page.new.out ≡ (g.P.Ground.geometry c.args.pages.now).page_size = omega (arith, c.load_page.auto.out, c.searched.auto.image, c.requires.image) in
+    let at : g.P.Ground.image c.at_least.new.pages c.in-Ok-Some.page.0 ≡ g.P.Ground.image c.args.pages.now c.in-Ok-Some.page.0 = rw kept_c.images refl in
+    record {
+      named = page_named g.P.Ground c.args.pages.now c.searched.pages c.args.index.now (length c.args.body.now) c.args.from c.searched.key c.searched.invariant told file c.in-Ok-Some.page c.in-Ok-Some.field-0 c.in-Ok-Some.field-0-is least;
+      area = rw (← g.P.Ground.leads_geometry c.args.pages.now c.at_least.new.pages kept_c.leads) c.in-Ok.ensures.area;
+      slot = sym (slot_read g.P.Ground c.args.pages.now c.at_least.new.pages c.in-Ok-Some.page.0 (length c.args.body.now) c.load_page.new.out (Some c.in-Some.slot) kept_c read size c.in-Some.ensures.place);
+      passed = passed_to g.P.Ground c.args.pages.now c.searched.pages c.args.index.now (length c.args.body.now) c.args.from c.searched.key c.searched.invariant told file c.in-Ok-Some.page c.in-Ok-Some.field-0 c.in-Ok-Some.field-0-is least;
+      spelled = subst (λ (t : List ℕ). SlotsOf c.insert_body.new.image (with_slots (page_on t) (with_slot (slots_of t) c.in-Some.slot (Some c.args.body.now)))) (read ∙ at) c.in-Some.ensures.placed;
+    }
+
+pub searched-preserved : goal.searched-preserved
+searched-preserved g c =
+    let kept_c = keeps_trans g.P.Ground c.args.pages.now c.searched.pages c.at_least.new.pages c.searched.invariant.kept c.at_least.ensures.kept in
+    record {
+      kept = keeps_trans g.P.Ground c.args.pages.now c.at_least.new.pages c.load_page.new.pages kept_c c.load_page.ensures.kept;
+      reached =
+          let up : c.searched.key ≤ c.in-Ok-Some.page.0 = subst (IsAtLeast c.searched.key) c.in-Ok-Some.field-0-is c.in-Ok-Some.ensures.above in
+          omega (arith, up, c.searched.invariant.reached);
+      passed = λ told file.
+          let told_b = told_now g.P.Ground c.args.pages.now c.searched.pages c.args.index.now (length c.args.body.now) c.args.from c.searched.key c.searched.invariant told file in
+          let file_b = file_now g.P.Ground c.args.pages.now c.searched.pages c.args.index.now (length c.args.body.now) c.args.from c.searched.key c.searched.invariant told file in
+          let told_c = g.P.Ground.leads_told c.searched.pages c.at_least.new.pages c.at_least.ensures.kept.leads told_b in
+          let least = c.in-Ok-Some.ensures.least told_b file_b.whole in
+          let read : c.load_page.new.out ≡ g.P.Ground.image c.at_least.new.pages c.in-Ok-Some.page.0 = c.in-Ok.ensures.bytes told_c in
+          let size : length c.load_page.new.out ≡ (g.P.Ground.geometry c.args.pages.now).page_size = omega (arith, c.load_page.auto.out, c.searched.auto.image, c.requires.image) in
+          passed_page g.P.Ground c.args.pages.now c.searched.pages c.args.index.now (length c.args.body.now) c.args.from c.searched.key c.searched.invariant told file c.in-Ok-Some.page c.in-Ok-Some.field-0 c.in-Ok-Some.field-0-is least
+          (sym (slot_read g.P.Ground c.args.pages.now c.at_least.new.pages c.in-Ok-Some.page.0 (length c.args.body.now) c.load_page.new.out None kept_c read size (sym c.in-None.is ∙ c.insert_body.ensures.place)));
+    }

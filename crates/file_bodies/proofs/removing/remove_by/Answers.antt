@@ -1,0 +1,47 @@
+use Rattle.std.proofs.Common.{◌≡◌, ℕ, List, [], None, subst, sym, ap, ◌∙◌}
+use Rattle.std.specs.Prelude.{Contains}
+use Rattle.slotted_pages.specs.Reads.{page_on}
+use Rattle.slotted_pages.specs.Edits.{slots_of, with_slot, with_slots, trimmed}
+use Rattle.file_bodies.specs.Bodies.{pages_in}
+use Rattle.file_bodies.proofs.Pages.{is_page, slots_are, on_ok, if_err}
+use Rattle.file_bodies.proofs.Rows.{contains_times}
+use Rattle.file_bodies.proofs.Moving.{kept_file}
+use Rattle.file_bodies.proofs.Slots.{page_of, body_sound, body_removed}
+use Rattle.file_bodies.proofs.Leaving.{left_edits, kept_leaves}
+use Rattle.file_bodies.proofs.removing.remove_by.Goals as goal
+
+pub returns-in-Err-clause-sound : goal.returns-in-Err-clause-sound
+returns-in-Err-clause-sound g c = λ damage told index body has. body_sound g.P.Ground c.args.pages.now index c.args.place body has (c.in-Err.ensures.sound damage told)
+
+pub has_slots-requires : goal.has_slots-requires
+has_slots-requires g c = is_page c.remove_body.new.image _ c.remove_body.ensures
+
+pub returns-then-has_slots-clause-removes : goal.returns-then-has_slots-clause-removes
+returns-then-has_slots-clause-removes g c = on_ok c.put.result _ _ (λ put told index body has. record {
+  after = index;
+  edit = body_removed g.P.Ground c.args.pages.now c.load_body_page.new.pages c.put.new.self index c.args.place body c.load_body_page.new.out c.remove_body.new.image has c.load_body_page.ensures.kept told
+      (c.in-Ok.ensures.bytes told) c.remove_body.ensures (c.has_slots.ensures.some c.if-has_slots.true) put c.put.ensures.leads;
+}) c.put.ensures.put
+
+pub returns-clause-removes : goal.returns-clause-removes
+returns-clause-removes g c = on_ok c.drop_page.result _ _ (λ leaves told index body has.
+    let kept = c.load_body_page.ensures.kept in
+    let told_b = g.P.Ground.leads_told c.args.pages.now c.load_body_page.new.pages kept.leads told in
+    let read = c.in-Ok.ensures.bytes told in
+    let at = contains_times c.args.place.page.0 (pages_in (g.P.Ground.image c.args.pages.now) index) has.named in
+    let number : index.file_no ≡ c.in-Ok.file_no = sym (page_of g.P.Ground c.args.pages.now index c.args.place.page.0 has.file at).number ∙ ap (λ (t : List ℕ). (page_on t).file_no) (sym read) ∙ c.in-Ok.ensures.file in
+    let named_b : Contains (pages_in (g.P.Ground.image c.load_body_page.new.pages) index) c.args.place.page.0 = rw kept.images has.named in
+    let empty : trimmed (with_slot (slots_of c.load_body_page.new.out) c.args.place.slot None) ≡ [] =
+    sym (slots_are c.remove_body.new.image (with_slots (page_on c.load_body_page.new.out) (trimmed (with_slot (slots_of c.load_body_page.new.out) c.args.place.slot None))) c.remove_body.ensures) ∙ c.has_slots.ensures.none c.if-has_slots.false in
+    left_edits g.P.Ground c.args.pages.now c.drop_page.new.pages index c.args.place body has
+    (kept_leaves g.P.Ground c.args.pages.now c.load_body_page.new.pages c.drop_page.new.pages index c.args.place.page.0 kept (leaves told_b index (kept_file g.P.Ground c.args.pages.now c.load_body_page.new.pages index kept has.file) number named_b))
+    (subst (λ (t : List ℕ). trimmed (with_slot (slots_of t) c.args.place.slot None) ≡ []) read empty)) c.drop_page.ensures.leaves
+
+pub returns-clause-sound : goal.returns-clause-sound
+returns-clause-sound g c = if_err c.drop_page.result _ _ (λ fault never damage told index body has.
+    let kept = c.load_body_page.ensures.kept in
+    let told_b = g.P.Ground.leads_told c.args.pages.now c.load_body_page.new.pages kept.leads told in
+    let read = c.in-Ok.ensures.bytes told in
+    let at = contains_times c.args.place.page.0 (pages_in (g.P.Ground.image c.args.pages.now) index) has.named in
+    let number : index.file_no ≡ c.in-Ok.file_no = sym (page_of g.P.Ground c.args.pages.now index c.args.place.page.0 has.file at).number ∙ ap (λ (t : List ℕ). (page_on t).file_no) (sym read) ∙ c.in-Ok.ensures.file in
+    never damage told_b index (kept_file g.P.Ground c.args.pages.now c.load_body_page.new.pages index kept has.file) number) c.drop_page.ensures.sound

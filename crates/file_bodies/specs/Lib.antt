@@ -1,0 +1,6 @@
+pub mod Bodies
+pub mod Files
+pub mod Indexes
+pub mod Places
+pub mod Placing
+pub mod Removing

@@ -1,0 +1,170 @@
+//! Bodies read, and the places of a file in order.
+ghost use Rattle.std.specs.Prelude.{◌≡◌, ◌≤◌, ◌<◌, ◌+◌, ℕ, List, length, Contains, IfOk, IfErr, IfSome, IfNone, IsTrue, false, ◌≢◌, MatchOption, Some};
+ghost use Rattle.std.specs.Borrow.{sem};
+ghost use Rattle.ex_base.specs.Ports.{Rests, Keeps, HasCause, IsDamage};
+ghost use Rattle.slotted_pages.specs.Reads.{page_on, IsPage};
+ghost use Rattle.file_index.specs.declared.Index.{Index};
+ghost use Rattle.file_index.specs.Index.{IsFilesPage};
+ghost use Rattle.file_bodies.specs.Bodies.{bodies_of, pages_in, InPlaceOrder};
+ghost use Rattle.file_bodies.specs.Files.{HasFile, HasFiles, HasBody, IsOfFile, HasSomeBody};
+ghost use Rattle.file_bodies.specs.Indexes.{IsUsable};
+ghost use Rattle.file_bodies.specs.Places.{IsNext, FirstFrom};
+
+use crate::catalog::{find_index, index_of};
+use crate::page::{body_on, file_on, live_slot, may_be_of_file};
+use ex_base::{PageNo, Pages, Place, PortFault};
+use file_index::{Index, at_least};
+use std::alloc::Global;
+
+/// The bodies of a whole file stand in order of their places.
+pub fn bodies_stand_in_order<P: Pages>()
+    ensures { (s : P) (index : Index) → HasFile P.Ground s index → InPlaceOrder (bodies_of (P.image s) index) }
+{}
+
+/// The number of the file that a page says it belongs to, none where it can't be a page of a file.
+fn file_at<P: Pages>(pages: &mut P, alloc: Global, page: PageNo) -> Result<Option<u32>, PortFault>
+    requires { P.ready pages.old }
+    ensures some { IfOk result (λ found. IfSome found (λ file_no. P.tells pages.old → IsPage (P.image pages.old page.0) × ((page_on (P.image pages.old page.0)).file_no ≡ file_no))) }
+    ensures area { IfOk result (λ found. IfSome found (λ file_no. IsFilesPage (P.geometry pages.old) page.0)) }
+    ensures none { IfOk result (λ found. IfNone found (P.tells pages.old → IsFilesPage (P.geometry pages.old) page.0 → IsPage (P.image pages.old page.0) → ⊥)) }
+    ensures no_damage { IfErr result (λ fault. IsDamage fault → ⊥) }
+    ensures kept { Keeps P.Ground pages.old pages.new }
+    ensures cause { HasCause (P.faults pages.old) (P.faults pages.new) result }
+{
+    if !may_be_of_file(pages, page) {
+        return Ok(None);
+    }
+    Ok(file_on(pages.get(alloc, page)?))
+}
+
+/// Whether an index names a page.
+fn names<P: Pages>(
+    pages: &mut P,
+    alloc: Global,
+    index: &Index,
+    page: PageNo,
+) -> Result<bool, PortFault>
+    requires ready { P.ready pages.old }
+    requires usable { IsUsable index.now.file_no index.now }
+    ensures yes { IfOk result (λ named. IsTrue named → P.tells pages.old → HasFile P.Ground pages.old index.now → Contains (pages_in (P.image pages.old) index.now) page.0) }
+    ensures no { IfOk result (λ named. named ≡ false → P.tells pages.old → HasFile P.Ground pages.old index.now → Contains (pages_in (P.image pages.old) index.now) page.0 → ⊥) }
+    ensures sound { IfErr result (λ fault. IsDamage fault → P.tells pages.old → HasFile P.Ground pages.old index.now → ⊥) }
+    ensures kept { Keeps P.Ground pages.old pages.new }
+    ensures cause { HasCause (P.faults pages.old) (P.faults pages.new) result }
+{
+    match at_least(pages, alloc, index, page) {
+        Ok(None) => Ok(false),
+        Ok(Some(found)) => Ok(found == page),
+        Err(fault) => Err(fault),
+    }
+}
+
+/// Whether a page is one of a file.
+fn is_of_file<P: Pages>(pages: &mut P, alloc: Global, page: PageNo) -> Result<bool, PortFault>
+    requires { P.ready pages.old }
+    ensures yes { IfOk result (λ of. IsTrue of → P.tells pages.old → HasFiles P.Ground pages.old → IsOfFile P.Ground pages.old page.0) }
+    ensures no { IfOk result (λ of. of ≡ false → P.tells pages.old → IsOfFile P.Ground pages.old page.0 → ⊥) }
+    ensures area { IfOk result (λ of. IsTrue of → IsFilesPage (P.geometry pages.old) page.0) }
+    ensures sound { IfErr result (λ fault. IsDamage fault → P.tells pages.old → HasFiles P.Ground pages.old → ⊥) }
+    ensures kept { Keeps P.Ground pages.old pages.new }
+    ensures cause { HasCause (P.faults pages.old) (P.faults pages.new) result }
+{
+    let file_no = match file_at(pages, alloc, page) {
+        Ok(None) => return Ok(false),
+        Ok(Some(file_no)) => file_no,
+        Err(fault) => return Err(fault),
+    };
+    let index = match find_index(pages, alloc, file_no) {
+        Ok(None) => return Ok(false),
+        Ok(Some(index)) => index,
+        Err(fault) => return Err(fault),
+    };
+    names(pages, alloc, &index, page)
+}
+
+/// Lends the body at a place. None exactly where no file has one there.
+pub fn body_at<P: Pages>(
+    pages: &mut P,
+    alloc: Global,
+    place: Place,
+) -> Result<Option<&[u8]>, PortFault>
+    requires { P.ready pages.old }
+    ensures found { IfOk result (λ found. P.tells pages.old → HasFiles P.Ground pages.old
+        → MatchOption found ((body : List ℕ) → HasSomeBody P.Ground pages.old place body → ⊥) (λ body. HasSomeBody P.Ground pages.old place body.now)) }
+    ensures sound { IfErr result (λ fault. IsDamage fault → P.tells pages.old → HasFiles P.Ground pages.old → ⊥) }
+    ensures* after { sem 𝓛 (Rests P.row pages.entry (λ new. Keeps P.Ground pages.old new × HasCause (P.faults pages.old) (P.faults new) result)) }
+{
+    match is_of_file(pages, alloc, place.page) {
+        Ok(true) => {}
+        Ok(false) => return Ok(None),
+        Err(fault) => return Err(fault),
+    }
+    let page = pages.get(alloc, place.page)?;
+    Ok(body_on(page, place.slot))
+}
+
+/// The first place of a file from a slot of a page on.
+fn first_from<P: Pages>(
+    pages: &mut P,
+    alloc: Global,
+    index: &Index,
+    key: u32,
+    slot: u32,
+) -> Result<Option<Place>, PortFault>
+    requires ready { P.ready pages.old }
+    requires usable { IsUsable index.now.file_no index.now }
+    ensures first { IfOk result (λ found. P.tells pages.old → HasFile P.Ground pages.old index.now → FirstFrom (bodies_of (P.image pages.old) index.now) key slot found) }
+    ensures sound { IfErr result (λ fault. IsDamage fault → P.tells pages.old → HasFile P.Ground pages.old index.now → ⊥) }
+    ensures kept { Keeps P.Ground pages.old pages.new }
+    ensures cause { HasCause (P.faults pages.old) (P.faults pages.new) result }
+{
+    let page = match at_least(pages, alloc, index, PageNo(key)) {
+        Ok(None) => return Ok(None),
+        Ok(Some(page)) => page,
+        Err(fault) => return Err(fault),
+    };
+    let from = slot_from(page, key, slot);
+    match live_slot(pages, alloc, page, index.file_no, from) {
+        Ok(Some(slot)) => return Ok(Some(Place { page, slot })),
+        Ok(None) => {}
+        Err(fault) => return Err(fault),
+    }
+    first_from(pages, alloc, index, page.0 + 1, 0)
+}
+
+/// The slot from which a page is looked at: the named one on the page with the number, the first one on another.
+fn slot_from(page: PageNo, key: u32, slot: u32) -> u32
+    ensures same { page.0 ≡ key → result ≡ slot }
+    ensures other { page.0 ≢ key → result ≡ 0 }
+{
+    if page.0 == key { slot } else { 0 }
+}
+
+/// The place of a file that comes behind a place, or its first one. None exactly at the end.
+pub fn next_place<P: Pages>(
+    pages: &mut P,
+    alloc: Global,
+    file_no: u32,
+    after: Option<Place>,
+) -> Result<Option<Place>, PortFault>
+    requires { P.ready pages.old }
+    ensures next { IfOk result (λ next. P.tells pages.old → (index : Index) → HasFile P.Ground pages.old index → index.file_no ≡ file_no → IsNext (bodies_of (P.image pages.old) index) after next) }
+    ensures sound { IfErr result (λ fault. IsDamage fault → P.tells pages.old → (index : Index) → HasFile P.Ground pages.old index → index.file_no ≡ file_no → ⊥) }
+    ensures kept { Keeps P.Ground pages.old pages.new }
+    ensures cause { HasCause (P.faults pages.old) (P.faults pages.new) result }
+{
+    let index = match index_of(pages, alloc, file_no) {
+        Ok(index) => index,
+        Err(fault) => return Err(fault),
+    };
+    match after {
+        None => first_from(pages, alloc, &index, 0, 0),
+        Some(place) => first_from(
+            pages,
+            alloc,
+            &index,
+            place.page.0,
+            u32::from(place.slot) + 1,
+        ),
+    }
+}

@@ -1,0 +1,7 @@
+//! Tests of files and of their indexes over a volume in memory, against sorted lists.
+#![tactic(auto)]
+
+#[cfg(test)]
+mod bodies;
+#[cfg(test)]
+mod index;
