@@ -229,3 +229,13 @@ kept_image c (w ∷ ws) p h = (elim (nat_eq p w.0) as (λ b. nat_eq p w.0 ≡ b 
   where
     true_false : {x : Bool} → x ≡ true → x ≡ false → ⊥
     true_false e t = cc
+
+-- a committed image that was put
+pub lookup_put : {T E : Type 0} (r : Result T E) (page : ℕ) (image : List ℕ) (rows now : List (ℕ × List ℕ)) → OnOk r (now ≡ with_row page image rows)
+    → OnOk r ((p : ℕ) → lookup (nat_eq p) now ≡ cond (nat_eq page p) (Some image) (lookup (nat_eq p) rows))
+lookup_put (Err e) page image rows now put = tt
+lookup_put (Ok v) page image rows now put = λ p. ap (lookup (nat_eq p)) put ∙ put_at p (nat_eq page p) refl
+  where
+    put_at : (p : ℕ) (b : Bool) → nat_eq page p ≡ b → lookup (nat_eq p) (with_row page image rows) ≡ cond b (Some image) (lookup (nat_eq p) rows)
+    put_at p true is = ap (λ (q : ℕ). lookup (nat_eq q) (with_row page image rows)) (sym (eqb-true page p is)) ∙ lookup_put_here page image rows
+    put_at p false is = lookup_put_other page image rows p (λ same. let h = eq-eqb page p same in cc)

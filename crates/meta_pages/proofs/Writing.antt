@@ -9,7 +9,10 @@ use Rattle.ex_base.specs.Sizes.{volume_bytes}
 use Rattle.ex_base.specs.Area.{InPageArea}
 use Rattle.disk_model.specs.Outside.{IsWorld}
 use Rattle.disk_model.specs.Runs.{some_same}
-use Rattle.buffer_groups.specs.Frames.{page_of}
+use Rattle.buffer_groups.specs.Frames.{Frames, page_of, forgotten, without}
+use Rattle.buffer_groups.specs.Groups.{forgotten_in_all}
+use Rattle.std.specs.Prelude.{not}
+use Rattle.std.proofs.lemmas.List.Elements.{All-map, All-filter}
 use Rattle.buffer_groups.proofs.Kept.{part_apart, pages_apart}
 use Rattle.disk_model.specs.Outside.{Outside}
 use Rattle.disk_model.specs.Calls.{Tears}
@@ -21,7 +24,7 @@ use Rattle.ex_base.specs.declared.geometry.Geometry.{Geometry}
 use Rattle.meta_pages.specs.Rows.{with_row, without_row, IsRising}
 use Rattle.meta_pages.specs.Overlays.{AreKept, IsPageRow, IsWorkingRow}
 use Rattle.meta_pages.proofs.RowLists.{few_rising, none_above, rising_with, rising_without, All-with_row, All-without_row}
-use Rattle.meta_pages.specs.Homes.{InHomes, homes_written}
+use Rattle.meta_pages.specs.Homes.{AreFrom, InHomes, homes_written}
 
 pub torn_page : (a b : Outside) (at size n : ℕ) → n ≡ size → Tears at n a b → Tears at size a b
 torn_page a b at size n same tears = subst (λ m. Tears at m a b) same tears
@@ -176,3 +179,10 @@ homes_read a b g rows world rising all fits written d e was is p =
 pub few_touched : (g : Geometry) (committed : List (ℕ × List ℕ)) (working : List (ℕ × Option (List ℕ))) (capacity : ℕ) → AreKept g committed working capacity → length working ≤ g.pages
 few_touched g committed working capacity kept =
     omega (arith, few_rising 256 (257 + g.pages) working (omega arith) kept.working_rising (All-weaker (IsWorkingRow g) (λ (row : ℕ × Option (List ℕ)). (suc 256 ≤ row.0) × (row.0 < 257 + g.pages)) (λ row is. is.0) working kept.working_pages))
+
+-- frames that a group forgets leave the others
+pub from_forgotten : (low page : ℕ) (gs : List Frames) → AreFrom low gs → AreFrom low (forgotten_in_all page gs)
+from_forgotten low page gs all =
+    All-map (λ (f : Frames). All (λ (e : ℕ × List ℕ). low ≤ e.0) f.entries) (forgotten page) gs
+    (All-weaker (λ (f : Frames). All (λ (e : ℕ × List ℕ). low ≤ e.0) f.entries) (λ (f : Frames). All (λ (e : ℕ × List ℕ). low ≤ e.0) (without page f.entries))
+    (λ f h. All-filter (λ (e : ℕ × List ℕ). not (nat_eq page e.0)) (λ (e : ℕ × List ℕ). low ≤ e.0) f.entries h) gs all)

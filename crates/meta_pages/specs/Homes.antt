@@ -1,5 +1,5 @@
 -- What is written home.
-use Rattle.std.specs.Prelude.{◌*◌, ℕ, List, [], ◌∷◌, nat_eq, IsSome}
+use Rattle.std.specs.Prelude.{◌*◌, ◌≤◌, ℕ, List, [], ◌∷◌, All, nat_eq, IsSome}
 use Rattle.std.specs.Map.{lookup}
 use Rattle.ex_base.specs.Bytes.{repl}
 use Rattle.disk_model.specs.Changes.{InRange}
@@ -19,3 +19,7 @@ homes_written size (row ∷ rows) disk = homes_written size rows (repl disk (row
 abbrev pub homes_forgotten : List (ℕ × List ℕ) → List Frames → List Frames
 homes_forgotten [] groups = groups
 homes_forgotten (row ∷ rows) groups = homes_forgotten rows (forgotten_in_all row.0 groups)
+
+-- Each frame is of this page or of a later one.
+abbrev pub AreFrom : ℕ → List Frames → Type 0
+AreFrom low groups = All (λ (f : Frames). All (λ (e : ℕ × List ℕ). low ≤ e.0) f.entries) groups

@@ -41,3 +41,14 @@ pub record AreKept (g : Geometry) (committed : List (ℕ × List ℕ)) (working 
   pub pages : All (IsPageRow g) committed
   pub working_pages : All (IsWorkingRow g) working
   pub room : images_most ≤ capacity
+
+-- What holds of the rows of logged pages: they rise, and each image is one page of the page area.
+pub record AreRows (o : Overlays) : Type 0 where
+  pub rising : IsRising o.committed
+  pub working_rising : IsRising o.working
+  pub pages : All (IsPageRow o.geometry) o.committed
+  pub working_pages : All (IsWorkingRow o.geometry) o.working
+
+pub are_rows : {g : Geometry} {committed : List (ℕ × List ℕ)} {working : List (ℕ × Option (List ℕ))} (capacity : ℕ) → AreKept g committed working capacity
+    → AreRows (record { committed = committed; working = working; geometry = g })
+are_rows capacity kept = record { rising = kept.rising; working_rising = kept.working_rising; pages = kept.pages; working_pages = kept.working_pages }

@@ -5,7 +5,7 @@ ghost use Rattle.disk_model.specs.Changes.{ChangesWithin, InRange};
 ghost use Rattle.ex_base.specs.Bytes.{repl};
 ghost use Rattle.buffer_groups.specs.Groups.{forgotten_in_all};
 ghost use Rattle.buffer_groups.specs.Frames.{Frames, Lends};
-ghost use Rattle.meta_pages.specs.Homes.{InHomes, homes_written, homes_forgotten};
+ghost use Rattle.meta_pages.specs.Homes.{AreFrom, InHomes, homes_written, homes_forgotten};
 
 use buffer_groups::Groups;
 use disk_model::{Disk, Failed};
@@ -27,6 +27,7 @@ pub fn write_rows<D: Disk>(
     ensures lends { IsTrue (D.outside disk.old).honest → All (Lends (D.outside disk.old).disk) groups.old → All (Lends (D.outside disk.new).disk) groups.new }
     ensures len { length groups.new ≡ length groups.old }
     ensures sizes { All (λ (f : Frames). f.page_size ≡ size) groups.new }
+    ensures from { (low : ℕ) → AreFrom low groups.old → AreFrom low groups.new }
     ensures changes { ChangesWithin (InHomes size (drop at rows.now)) (D.outside disk.old) (D.outside disk.new) }
     ensures cause { OnErr result (Rose (D.outside disk.old).disk_faults (D.outside disk.new).disk_faults) }
 {
@@ -54,6 +55,7 @@ fn write_page<D: Disk>(
     ensures forgotten { groups.new ≡ forgotten_in_all page.0 groups.old }
     ensures len { length groups.new ≡ length groups.old }
     ensures sizes { All (λ (f : Frames). f.page_size ≡ size) groups.new }
+    ensures from { (low : ℕ) → AreFrom low groups.old → AreFrom low groups.new }
     ensures size { (D.outside disk.new).size ≡ (D.outside disk.old).size }
     ensures honest { (D.outside disk.new).honest ≡ (D.outside disk.old).honest }
     ensures lends { IsTrue (D.outside disk.old).honest → All (Lends (D.outside disk.old).disk) groups.old → All (Lends (D.outside disk.new).disk) groups.new }

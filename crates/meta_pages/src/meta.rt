@@ -48,9 +48,9 @@ impl Model for Meta {
 }
 
 impl Meta {
-    ghost use Rattle.meta_pages.specs.Overlays.{Overlays, image_at, committed_image, images_most};
+    ghost use Rattle.meta_pages.specs.Overlays.{Overlays, AreRows, image_at, committed_image, images_most};
     ghost use Rattle.meta_pages.specs.Rows.{with_row, kept_rows, named, IsRising};
-    ghost use Rattle.meta_pages.specs.Homes.{InHomes, homes_written, homes_forgotten};
+    ghost use Rattle.meta_pages.specs.Homes.{AreFrom, InHomes, homes_written, homes_forgotten};
 
     /// No images, and the room for those that the log and a transaction can have.
     pub fn make(alloc: Global, geometry: &Geometry) -> Result<Meta, AllocError>
@@ -68,6 +68,7 @@ impl Meta {
         requires area { InPageArea self.old.geometry page.0 }
         requires whole { length image ≡ self.old.geometry.page_size }
         ensures ok { OnOk result (self.new ≡ record self.old { committed = with_row page.0 image self.old.committed }) }
+        ensures image { OnOk result ((p : ℕ) → committed_image self.new p ≡ (if nat_eq page.0 p then Some image else committed_image self.old p)) }
         ensures err { OnErr result (self.new ≡ self.old) }
     {
         put_row(&mut self.committed, page.0, image)
@@ -123,7 +124,8 @@ impl Meta {
 
     /// How many pages the transaction touched.
     pub fn touched(&self) -> u32
-        ensures { result ≡ length self.now.working }
+        ensures value { result ≡ length self.now.working }
+        ensures rows { AreRows self.now }
     {
         self.working.len() as u32
     }
@@ -144,6 +146,7 @@ impl Meta {
         requires { named self.old.committed self.old.working ≤ images_most }
         ensures rows { self.new ≡ record self.old { committed = kept_rows self.old.committed self.old.working; working = [] } }
         ensures image { (p : ℕ) → committed_image self.new p ≡ image_at self.old p }
+        ensures kept { AreRows self.new }
     {
         keep_rows(&mut self.committed, &mut self.working);
     }
@@ -163,11 +166,12 @@ impl Meta {
         match find_row(&self.working, page.0) {
             Some(Some(image)) => Some(image.as_slice()),
             Some(None) => None,
-            None => self.shown_committed(page),
+            None => self.committed_at(page),
         }
     }
 
-    fn shown_committed(&self, page: PageNo) -> Option<&[u8]>
+    /// Lends the committed image of a page, where it has one.
+    pub fn committed_at(&self, page: PageNo) -> Option<&[u8]>
         ensures value { option_copied result ≡ committed_image self.now page.0 }
         ensures len { IfSome result (λ s. length s.now ≡ self.now.geometry.page_size) }
     {
@@ -234,7 +238,7 @@ impl Meta {
         ensures only { ReadsOnly (D.outside disk.old) (D.outside disk.new) }
         ensures cause { HasFetchCause (D.outside disk.old).disk_faults (D.outside disk.new).disk_faults result }
     {
-        match meta.shown_committed(page) {
+        match meta.committed_at(page) {
             Some(image) => Ok(image),
             None => {
                 group.bring(alloc, disk, page)?;
@@ -249,6 +253,7 @@ impl Meta {
     pub fn write_home<D: Disk>(&mut self, disk: &mut D, groups: &mut Groups) -> Result<(), Failed>
         requires room { volume_bytes self.old.geometry ≤ (D.outside disk.old).size }
         requires sizes { All (λ (f : Frames). f.page_size ≡ self.old.geometry.page_size) groups.old }
+        ensures rows { AreRows self.old }
         ensures emptied { OnOk result (self.new ≡ record self.old { committed = [] }) }
         ensures err { OnErr result (self.new ≡ self.old) }
         ensures written { OnOk result ((d : List ℕ) → (D.outside disk.old).disk ≡ Some d
@@ -260,6 +265,7 @@ impl Meta {
         ensures lends { IsTrue (D.outside disk.old).honest → All (Lends (D.outside disk.old).disk) groups.old → All (Lends (D.outside disk.new).disk) groups.new }
         ensures len { length groups.new ≡ length groups.old }
         ensures sizes { All (λ (f : Frames). f.page_size ≡ self.old.geometry.page_size) groups.new }
+        ensures from { (low : ℕ) → AreFrom low groups.old → AreFrom low groups.new }
         ensures changes { ChangesWithin (InHomes self.old.geometry.page_size self.old.committed) (D.outside disk.old) (D.outside disk.new) }
         ensures cause { OnErr result (Rose (D.outside disk.old).disk_faults (D.outside disk.new).disk_faults) }
     {

@@ -7,11 +7,11 @@ use Rattle.ex_base.specs.declared.geometry.Geometry.{Geometry}
 use Rattle.ex_base.specs.Bytes.{part, repl, part-repl, length-repl, repl-inside, repl_same_outside, same_parts, part_reads}
 use Rattle.disk_model.specs.Outside.{Outside, IsWorld, Only, Leaves}
 use Rattle.disk_model.specs.Calls.{Wrote}
-use Rattle.disk_model.specs.Changes.{SameBut, InRange, ChangesWithin, same_but_range, changes_wider, changes_trans, leaves_changes}
-use Rattle.disk_model.specs.Runs.{leaves_start, honest_on, leaves_trans}
+use Rattle.disk_model.specs.Changes.{SameBut, InRange, ChangesWithin, same_but_range, same_but_trans, changes_wider, changes_trans, leaves_changes}
+use Rattle.disk_model.specs.Runs.{leaves_start, honest_on, leaves_trans, some_same}
 use Rattle.op_log.specs.declared.record.LogRecord.{LogRecord}
 use Rattle.op_log.specs.Records.{record_len, record_body, IsLogRecord}
-use Rattle.op_log.specs.Log.{Follow, open_records, log_end, SaysLog, SaysEither, HasLog, DiskSays, KeepsLog, Adding}
+use Rattle.op_log.specs.Log.{Follow, open_records, log_end, SaysLog, SaysEither, AddsHere, HasLog, DiskSays, KeepsLog, Adding}
 use Rattle.op_log.specs.Writing.{Puts}
 use Rattle.op_log.specs.Gates.{Front, held_front, image_front, image_says, says_of, front_kept, front_more, length-record_body}
 
@@ -96,26 +96,42 @@ gate_there {g} {rs} {r} gate bytes d adds each ready =
 
 -- ---- over the outside
 
+-- what an image says, whatever else it has
+pub adds_says : (g : Geometry) (rs : List LogRecord) (r : LogRecord) (places : ℕ → Type 0) (before : List ℕ → Type 0) (held e : List ℕ) → AddsHere g rs r places before held e → SaysEither g rs (rs ++ r ∷ []) e
+adds_says g rs r places before held e adds = ⊎_elim (λ old. inl old.3) (λ new. inr new.1) adds
+
+wider_first : (gate n : ℕ) (x e : List ℕ) → SameBut (InRange (gate + 1) n) x e → SameBut (InRange gate (n + 1)) x e
+wider_first gate n x e same = record { same_length = same.same_length; each = λ i apart. same.each i (λ inside. apart (omega (arith, inside.0), omega (arith, inside.1))) }
+
+wider_gate : (gate n : ℕ) (x e : List ℕ) → SameBut (InRange gate 1) x e → SameBut (InRange gate (n + 1)) x e
+wider_gate gate n x e same = record { same_length = same.same_length; each = λ i apart. same.each i (λ inside. apart (inside.0, omega (arith, inside.1))) }
+
 -- up to the end of the first write
-pub first_leaves : {g : Geometry} {rs : List LogRecord} {r : LogRecord} (a b : Outside) (gate : ℕ) (bytes : List ℕ) → Adding g rs r gate bytes → IsWorld a → HasLog g a → KeepsLog g a rs
-    → ChangesWithin (InRange (gate + 1) (length bytes)) a b → Leaves a b (SaysEither g rs (rs ++ r ∷ []))
-first_leaves {g} {rs} {r} a b gate bytes adds world large keeps changes =
+pub first_leaves : {g : Geometry} {rs : List LogRecord} {r : LogRecord} (a b : Outside) (gate : ℕ) (bytes held : List ℕ) → Adding g rs r gate bytes → IsWorld a → HasLog g a → KeepsLog g a rs
+    → ChangesWithin (InRange (gate + 1) (length bytes)) a b → Leaves a b (AddsHere g rs r (InRange gate (length bytes + 1)) a.images held)
+first_leaves {g} {rs} {r} a b gate bytes held adds world large keeps changes =
     let says = keeps.on_disk.says in
-    leaves_changes (InRange (gate + 1) (length bytes)) (SaysEither g rs (rs ++ r ∷ [])) world keeps.honest changes
-    (λ x e here same. inl (says_of g rs e says.each says.follow (body_torn gate bytes x e adds (image_front a x world large keeps here) same)))
+    leaves_changes (InRange (gate + 1) (length bytes)) (AddsHere g rs r (InRange gate (length bytes + 1)) a.images held) world keeps.honest changes
+    (λ x e here same. inl (x, here, wider_first gate (length bytes) x e same, says_of g rs e says.each says.follow (body_torn gate bytes x e adds (image_front a x world large keeps here) same)))
 
 -- up to the end of the second
-pub second_leaves : {g : Geometry} {rs : List LogRecord} {r : LogRecord} (a b c : Outside) (gate : ℕ) (bytes : List ℕ) → Adding g rs r gate bytes → IsWorld a → IsWorld b → HasLog g a → KeepsLog g a rs
+pub second_leaves : {g : Geometry} {rs : List LogRecord} {r : LogRecord} (a b c : Outside) (gate : ℕ) (bytes held : List ℕ) → Adding g rs r gate bytes → IsWorld a → IsWorld b → HasLog g a → KeepsLog g a rs → a.disk ≡ Some held
     → ChangesWithin (InRange (gate + 1) (length bytes)) a b → Wrote (gate + 1) bytes a b → (IsTrue a.honest → (d : List ℕ) → b.disk ≡ Some d → Only d b.images)
-    → ChangesWithin (InRange gate 1) b c → Leaves a c (SaysEither g rs (rs ++ r ∷ []))
-second_leaves {g} {rs} {r} a b c gate bytes adds world now large keeps one wrote settled two =
-    let held = keeps.on_disk in
-    let d = repl held.disk (gate + 1) bytes in
-    let ready = body_there gate bytes held.disk adds (held_front a world large held) in
-    leaves_trans (SaysEither g rs (rs ++ r ∷ [])) (first_leaves a b gate bytes adds world large keeps one)
-    (leaves_changes (InRange gate 1) (SaysEither g rs (rs ++ r ∷ [])) now (honest_on one.only.goes keeps.honest) two
-    (λ x e here same. gate_torn gate bytes d e adds held.says.each held.says.follow ready
-    (subst (λ (y : List ℕ). SameBut (InRange gate 1) y e) (settled keeps.honest d (wrote held.disk held.holds) x here) same)))
+    → ChangesWithin (InRange gate 1) b c → Leaves a c (AddsHere g rs r (InRange gate (length bytes + 1)) a.images held)
+second_leaves {g} {rs} {r} a b c gate bytes held adds world now large keeps holds one wrote settled two =
+    let says = keeps.on_disk.says in
+    let is : keeps.on_disk.disk ≡ held = some_same keeps.on_disk.disk held (sym keeps.on_disk.holds ∙ holds) in
+    let front = subst (Front g rs) is (held_front a world large keeps.on_disk) in
+    let d = repl held (gate + 1) bytes in
+    let ready = body_there gate bytes held adds front in
+    let room : gate + 1 + length bytes ≤ length held = omega (arith, front.large, adds.fits, long_of bytes adds, adds.gate_is) in
+    let body : SameBut (InRange gate (length bytes + 1)) held d = wider_first gate (length bytes) held d (same_but_range (gate + 1) (length bytes) held d (repl_same_outside held (gate + 1) bytes room)) in
+    leaves_trans (AddsHere g rs r (InRange gate (length bytes + 1)) a.images held) (first_leaves a b gate bytes held adds world large keeps one)
+    (leaves_changes (InRange gate 1) (AddsHere g rs r (InRange gate (length bytes + 1)) a.images held) now (honest_on one.only.goes keeps.honest) two
+    (λ x e here same.
+    let torn = subst (λ (y : List ℕ). SameBut (InRange gate 1) y e) (settled keeps.honest d (wrote held holds) x here) same in
+    let whole = same_but_trans body (wider_gate gate (length bytes) d e torn) in
+    ⊎_elim (λ old. inl (held, world.held_may_stay held holds, whole, old)) (λ new. inr (whole, new)) (gate_torn gate bytes d e adds says.each says.follow ready torn)))
 
 -- what the disk then says
 pub then_says : {g : Geometry} {rs : List LogRecord} {r : LogRecord} (a b c : Outside) (gate : ℕ) (bytes : List ℕ) → Adding g rs r gate bytes → IsWorld a → HasLog g a → DiskSays g a rs

@@ -4,7 +4,7 @@ use Rattle.std.specs.List.{AllByRecursion}
 use Rattle.ex_base.specs.declared.geometry.Geometry.{Geometry}
 use Rattle.ex_base.specs.Area.{log_at, log_size}
 use Rattle.disk_model.specs.Outside.{Outside}
-use Rattle.disk_model.specs.Changes.{AgreesOn, InRange}
+use Rattle.disk_model.specs.Changes.{AgreesOn, InRange, SameBut}
 use Rattle.op_log.specs.declared.record.LogRecord.{LogRecord}
 use Rattle.op_log.specs.Records.{IsLogRecord, record_body, record_len}
 
@@ -41,6 +41,12 @@ SaysLog g records disk = LogSpells g (log_at g disk) records
 -- the same list, or this one
 abbrev pub SaysEither : Geometry → List LogRecord → List LogRecord → List ℕ → Type 0
 SaysEither g old new disk = SaysLog g old disk ⊎ SaysLog g new disk
+
+-- While a record is added in these places of a disk, an image that a crash leaves is one of before, changed there at most, and says the old list; or
+-- it is the disk as it was held, changed there at most, and says the list with the record: then all else was settled.
+abbrev pub AddsHere : Geometry → List LogRecord → LogRecord → (ℕ → Type 0) → (List ℕ → Type 0) → List ℕ → List ℕ → Type 0
+AddsHere g records r places before held image =
+    ((x : List ℕ) × before x × SameBut places x image × SaysLog g records image) ⊎ (SameBut places held image × SaysLog g (records ++ r ∷ []) image)
 
 -- The disk is long enough for the log, which stands behind one page.
 abbrev pub HasLog : Geometry → Outside → Type 0

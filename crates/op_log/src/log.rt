@@ -6,7 +6,7 @@ ghost use Rattle.ex_base.specs.Area.{log_size};
 ghost use Rattle.disk_model.specs.Outside.{Rose, Leaves, Only};
 ghost use Rattle.disk_model.specs.Changes.{ChangesWithin, InRange};
 ghost use Rattle.op_log.specs.declared.record.LogRecord.{LogRecord};
-ghost use Rattle.op_log.specs.Log.{HasLog, KeepsLog, SaysEither, DiskSays, Adding};
+ghost use Rattle.op_log.specs.Log.{HasLog, KeepsLog, SaysEither, AddsHere, DiskSays, Adding};
 ghost use Rattle.op_log.specs.Records.{record_len};
 
 use crate::encode::encode;
@@ -26,6 +26,9 @@ fn write_record<D: Disk>(disk: &mut D, gate: u64, bytes: &[u8]) -> Result<(), Fa
     ensures cause { OnErr result (Rose (D.outside disk.old).disk_faults (D.outside disk.new).disk_faults) }
     ensures any_moment { (g : Geometry) (records : List LogRecord) (r : LogRecord) → Adding g records r gate bytes.now → HasLog g (D.outside disk.old)
         → KeepsLog g (D.outside disk.old) records → Leaves (D.outside disk.old) (D.outside disk.new) (SaysEither g records (records ++ r ∷ [])) }
+    ensures leaves { (g : Geometry) (records : List LogRecord) (r : LogRecord) (held : List ℕ) → Adding g records r gate bytes.now → HasLog g (D.outside disk.old)
+        → KeepsLog g (D.outside disk.old) records → (D.outside disk.old).disk ≡ Some held
+        → Leaves (D.outside disk.old) (D.outside disk.new) (AddsHere g records r (InRange gate (length bytes.now + 1)) (D.outside disk.old).images held) }
     ensures says { OnOk result ((g : Geometry) (records : List LogRecord) (r : LogRecord) → Adding g records r gate bytes.now → HasLog g (D.outside disk.old)
         → DiskSays g (D.outside disk.old) records → DiskSays g (D.outside disk.new) (records ++ r ∷ [])) }
     ensures settled { OnOk result (IsTrue (D.outside disk.old).honest → (d : List ℕ) → (D.outside disk.new).disk ≡ Some d → Only d (D.outside disk.new).images) }
@@ -57,7 +60,7 @@ impl Model for OpLog {
 
 impl OpLog {
     ghost use Rattle.op_log.specs.Records.{record_len, IsLogRecord};
-    ghost use Rattle.op_log.specs.Log.{KeepsLog, DiskSays, SaysLog, SaysEither};
+    ghost use Rattle.op_log.specs.Log.{KeepsLog, DiskSays, SaysLog, SaysEither, AddsHere};
     ghost use Rattle.op_log.specs.State.{Prolongs};
     ghost use Rattle.op_log.specs.declared.record.LogRecord.{LogRecord};
 
@@ -107,6 +110,11 @@ impl OpLog {
         // A crash at any moment leaves the old list or the one with the record.
         ensures any_moment { (records : List LogRecord) → Prolongs self.old records item.now → KeepsLog self.old.geometry (D.outside disk.old) records
             → Leaves (D.outside disk.old) (D.outside disk.new) (SaysEither self.old.geometry records (records ++ item.now ∷ [])) }
+
+        // Where it leaves the one with the record, all that was written before is settled.
+        ensures leaves { (records : List LogRecord) (held : List ℕ) → Prolongs self.old records item.now → KeepsLog self.old.geometry (D.outside disk.old) records
+            → (D.outside disk.old).disk ≡ Some held → Leaves (D.outside disk.old) (D.outside disk.new) (AddsHere self.old.geometry records item.now
+            (InRange (self.old.geometry.page_size + self.old.end) (record_len item.now + 1)) (D.outside disk.old).images held) }
 
         // The list then has one record more, and a crash leaves that one.
         ensures says { OnOk result ((records : List LogRecord) → Prolongs self.old records item.now → DiskSays self.old.geometry (D.outside disk.old) records

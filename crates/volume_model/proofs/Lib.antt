@@ -4,3 +4,6 @@ pub mod FreshVolume
 pub mod OneListOfLines
 pub mod OneReading
 pub mod OneVolume
+pub mod BareTable
+pub mod FreshSession
+pub mod OpenedView

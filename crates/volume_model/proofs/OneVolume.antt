@@ -42,17 +42,18 @@ same_geometry a b size pages segs len fan =
       narrow = is_prop→PathP (λ j. fan j ≤ fan_most (size j)) (λ j. le_prop) a.narrow b.narrow i;
     }
 
-super_fields : (g : Geometry) (x : List ℕ) → super_page g ++ x ≡ magic ++ (four_bytes g.page_size ++ (four_bytes g.pages ++ (four_bytes g.segs ++ (four_bytes g.seg_len ++ (four_bytes g.fan ++ (four_bytes 1 ++ (zeros (g.page_size - 32) ++ x)))))))
+pub super_fields : (g : Geometry) (x : List ℕ) → super_page g ++ x ≡ magic ++ (four_bytes g.page_size ++ (four_bytes g.pages ++ (four_bytes g.segs ++ (four_bytes g.seg_len ++ (four_bytes g.fan ++ (four_bytes 1 ++ (zeros (g.page_size - 32) ++ x)))))))
 unfolding super_page super_rest
 super_fields g x = simp append_assoc
 
-super_front : (disk : List ℕ) (g : Geometry) → SuperOf disk g → super_page g ++ drop g.page_size disk ≡ disk
+pub super_front : (disk : List ℕ) (g : Geometry) → SuperOf disk g → super_page g ++ drop g.page_size disk ≡ disk
 unfolding part
 super_front disk g super = ap (λ (t : List ℕ). t ++ drop g.page_size disk) (sym super.spelled) ∙ take-append-drop g.page_size disk
 
-pub one_geometry : (disk : List ℕ) (a b : Geometry) → SuperOf disk a → SuperOf disk b → a ≡ b
-one_geometry disk a b p q =
-    let whole = sym (super_fields a (drop a.page_size disk)) ∙ super_front disk a p ∙ sym (super_front disk b q) ∙ super_fields b (drop b.page_size disk) in
+-- superblocks determine their geometry
+pub same_super : (a b : Geometry) (x y : List ℕ) → super_page a ++ x ≡ super_page b ++ y → a ≡ b
+same_super a b x y is =
+    let whole = sym (super_fields a x) ∙ is ∙ super_fields b y in
     let head = same_front magic magic _ _ refl whole in
     let size = same_four a.page_size b.page_size _ _ (omega (arith, most_page a)) (omega (arith, most_page b)) head.1 in
     let pages = same_four a.pages b.pages _ _ (omega (arith, a.few_pages)) (omega (arith, b.few_pages)) size.1 in
@@ -60,6 +61,9 @@ one_geometry disk a b p q =
     let len = same_four a.seg_len b.seg_len _ _ (omega (arith, a.short)) (omega (arith, b.short)) segs.1 in
     let fan = same_four a.fan b.fan _ _ (omega (arith, a.narrow, most_page a)) (omega (arith, b.narrow, most_page b)) len.1 in
     same_geometry a b size.0 pages.0 segs.0 len.0 fan.0
+
+pub one_geometry : (disk : List ℕ) (a b : Geometry) → SuperOf disk a → SuperOf disk b → a ≡ b
+one_geometry disk a b p q = same_super a b (drop a.page_size disk) (drop b.page_size disk) (super_front disk a p ∙ sym (super_front disk b q))
 
 -- ---- pages and records
 

@@ -16,7 +16,7 @@ use Rattle.volume_model.specs.Parts.{SuperOf, Decodes, StandsFor}
 use Rattle.volume_model.specs.SameVolume.{kept_from_reach, parts_kept, table_kept}
 use Rattle.volume_model.specs.Volume.{Decoded, units_of, reach_of, table_of}
 
-each_contained : {A : Type 0} (P : A → Type 0) (xs : List A) → ((x : A) → Contains xs x → P x) → AllByRecursion P xs
+pub each_contained : {A : Type 0} (P : A → Type 0) (xs : List A) → ((x : A) → Contains xs x → P x) → AllByRecursion P xs
 each_contained P [] h = tt
 each_contained P (x ∷ xs) h = (h x (0, omega arith, refl), each_contained P xs (λ y (k, lt, is). h y (suc k, omega arith, is)))
 
@@ -25,18 +25,18 @@ unfolding part
 length-part_within l at n = omega (arith, length-take n (drop at l), length-drop at l)
 
 -- two lists of one length have the same part where their bytes there are the same
-same_part : (b c : List ℕ) (p n : ℕ) → length b ≡ length c → ((i : ℕ) → p ≤ i → i < p + n → slice_index b i ≡ slice_index c i) → part b p n ≡ part c p n
+pub same_part : (b c : List ℕ) (p n : ℕ) → length b ≡ length c → ((i : ℕ) → p ≤ i → i < p + n → slice_index b i ≡ slice_index c i) → part b p n ≡ part c p n
 same_part b c p n long same =
     let one = length-part_within b p n in
     let other = length-part_within c p n in
     ext_get_or 0 (part b p n) (part c p n) (omega (arith, one, other, long))
     (λ i lt. let inside : i < n = omega (arith, lt, one) in get-part b p n i inside ∙ same (p + i) (omega arith) (omega (arith, inside)) ∙ sym (get-part c p n i inside))
 
-either_way : {A : Type 0} (b : Bool) (x y u v : A) → (b ≡ true → x ≡ u) → (b ≡ false → y ≡ v) → cond b x y ≡ cond b u v
+pub either_way : {A : Type 0} (b : Bool) (x y u v : A) → (b ≡ true → x ≡ u) → (b ≡ false → y ≡ v) → cond b x y ≡ cond b u v
 either_way true x y u v f g = f refl
 either_way false x y u v f g = g refl
 
-from_home : (logged : Option (List ℕ)) (a b : List ℕ) → (logged ≡ None → a ≡ b) → unwrap_or logged a ≡ unwrap_or logged b
+pub from_home : (logged : Option (List ℕ)) (a b : List ℕ) → (logged ≡ None → a ≡ b) → unwrap_or logged a ≡ unwrap_or logged b
 from_home None a b h = h refl
 from_home (Some image) a b h = refl
 

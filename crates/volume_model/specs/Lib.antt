@@ -2,6 +2,8 @@ pub mod Volume
 pub mod Parts
 pub mod Durable
 pub mod Shown
+pub mod Committed
 pub mod SameVolume
 pub mod CrashImage
 pub mod Meaning
+pub mod BareTable

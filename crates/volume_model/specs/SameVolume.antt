@@ -34,7 +34,7 @@ zip_with K P R [] (y ∷ ys) f k p = p
 zip_with K P R (x ∷ xs) [] f k p = p
 zip_with K P R (x ∷ xs) (y ∷ ys) f k p = (f x y k.0 p.0, zip_with K P R xs ys f k.1 p.1)
 
-flat_same : {A : Type 0} (f g : A → List ℕ) (K : A → Type 0) (xs : List A) → ((x : A) → K x → g x ≡ f x) → AllByRecursion K xs → flat_map g xs ≡ flat_map f xs
+pub flat_same : {A : Type 0} (f g : A → List ℕ) (K : A → Type 0) (xs : List A) → ((x : A) → K x → g x ≡ f x) → AllByRecursion K xs → flat_map g xs ≡ flat_map f xs
 flat_same f g K [] same k = refl
 flat_same f g K (x ∷ xs) same k = let here = same x k.0 in let rest = flat_same f g K xs same k.1 in cc (here, rest)
 
@@ -44,10 +44,10 @@ map_same f g K (x ∷ xs) same k = let here = same x k.0 in let rest = map_same 
 
 -- ---- roots
 
-abbrev RootKept : Units → Units → Root → Type 0
+abbrev pub RootKept : Units → Units → Root → Type 0
 RootKept old new root = Kept old new (root_units old root)
 
-units_of_root : (old new : Units) (height : ℕ) (page : Option PageNo) → Kept old new (root_units_at old height page) → root_units_at new height page ≡ root_units_at old height page
+pub units_of_root : (old new : Units) (height : ℕ) (page : Option PageNo) → Kept old new (root_units_at old height page) → root_units_at new height page ≡ root_units_at old height page
 units_of_root old new height None kept = refl
 units_of_root old new height (Some page) kept = units_same old new height page.0 kept
 

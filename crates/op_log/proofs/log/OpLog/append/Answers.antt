@@ -1,12 +1,14 @@
-use Rattle.std.proofs.Common.{◌≡◌, ◌+◌, take, drop, ◌∙◌, ap, arith, length, ℕ, List}
+use Rattle.std.proofs.Common.{◌≡◌, ◌+◌, take, drop, ◌∙◌, ap, subst, arith, length, ℕ, List, Some}
+use Rattle.disk_model.specs.Changes.{InRange}
+use Rattle.disk_model.specs.Outside.{Leaves}
 use Rattle.disk_model.specs.Runs.{honest_on}
 use Rattle.ex_base.specs.Sizes.{most_page}
 use Rattle.op_log.specs.declared.record.LogRecord.{LogRecord}
 use Rattle.op_log.specs.Records.{record_len}
-use Rattle.op_log.specs.Log.{Adding}
+use Rattle.op_log.specs.Log.{Adding, AddsHere, KeepsLog}
 use Rattle.op_log.specs.Gates.{has_log}
 use Rattle.op_log.specs.State.{LogState, Prolongs}
-use Rattle.op_log.proofs.Moments.{spelled, keeps_settled, settled_says}
+use Rattle.op_log.proofs.Moments.{long_of, spelled, keeps_settled, settled_says}
 use Rattle.op_log.proofs.log.OpLog.append.Given as given
 use Rattle.op_log.proofs.log.OpLog.append.Goals as goal
 use Rattle.op_log.proofs.log.OpLog.append.Goals.{After-write_record}
@@ -37,6 +39,30 @@ pub returns-clause-any_moment : goal.returns-clause-any_moment
 returns-clause-any_moment g c rs prolongs keeps =
     let adds = adding g (goal.at.returns-clause-any_moment g c).After-write_record rs prolongs in
     c.write_record.ensures.any_moment c.args.self.now.geometry rs c.args.item.now adds (has_log c.args.self.now.geometry (g.D.World.outside c.args.disk.now) c.requires.room) keeps
+
+-- the record's range, as the caller names it
+range_is : (g : given.Over) (c : After-write_record g) (rs : List LogRecord) → Prolongs c.args.self.now rs c.args.item.now
+    → (c.self.inside.geometry.page_size + c.self.inside.end ≡ c.args.self.now.geometry.page_size + c.args.self.now.end) × (length (take c.length_of-len.result c.deref.result.now) ≡ record_len c.args.item.now)
+range_is g c rs prolongs = (ap (λ (t : LogState). t.geometry.page_size + t.end) c.self.view_is, long_of (take c.length_of-len.result c.deref.result.now) (adding g c rs prolongs))
+
+leaves : (g : given.Over) (c : After-write_record g) (rs : List LogRecord) (held : List ℕ) → Prolongs c.args.self.now rs c.args.item.now
+    → KeepsLog c.args.self.now.geometry (g.D.World.outside c.args.disk.now) rs → (g.D.World.outside c.args.disk.now).disk ≡ Some held
+    → Leaves (g.D.World.outside c.args.disk.now) (g.D.World.outside c.write_record.new.disk) (AddsHere c.args.self.now.geometry rs c.args.item.now
+    (InRange (c.args.self.now.geometry.page_size + c.args.self.now.end) (record_len c.args.item.now + 1)) (g.D.World.outside c.args.disk.now).images held)
+leaves g c rs held prolongs keeps holds =
+    let s = c.args.self.now in
+    let a = g.D.World.outside c.args.disk.now in
+    let b = g.D.World.outside c.write_record.new.disk in
+    let range = range_is g c rs prolongs in
+    subst (λ (n : ℕ). Leaves a b (AddsHere s.geometry rs c.args.item.now (InRange (s.geometry.page_size + s.end) (n + 1)) a.images held)) range.1
+    (subst (λ (p : ℕ). Leaves a b (AddsHere s.geometry rs c.args.item.now (InRange p (length (take c.length_of-len.result c.deref.result.now) + 1)) a.images held)) range.0
+    (c.write_record.ensures.leaves s.geometry rs c.args.item.now held (adding g c rs prolongs) (has_log s.geometry a c.requires.room) keeps holds))
+
+pub returns-in_err-write_record-clause-leaves : goal.returns-in_err-write_record-clause-leaves
+returns-in_err-write_record-clause-leaves g c rs held = leaves g (goal.at.returns-in_err-write_record-clause-leaves g c).After-write_record rs held
+
+pub returns-clause-leaves : goal.returns-clause-leaves
+returns-clause-leaves g c rs held = leaves g (goal.at.returns-clause-leaves g c).After-write_record rs held
 
 pub returns-clause-says : goal.returns-clause-says
 returns-clause-says g c rs prolongs says =

@@ -1,0 +1,9 @@
+pub mod Places
+pub mod Reached
+pub mod WorkingRows
+pub mod Lending
+pub mod Closing
+pub mod LoggedPages
+pub mod Adding
+pub mod RoomInLog
+pub mod Composed

@@ -1,0 +1,88 @@
+use Rattle.std.proofs.Common.{◌≡◌, ℕ, List, Some, IsTrue, refl, ◌∙◌}
+use Rattle.disk_model.specs.Outside.{DiskOnly, Leaves}
+use Rattle.disk_model.specs.Runs.{disk_trans, honest_on, writes_nothing_refl}
+use Rattle.volume_model.specs.Committed.{Committed}
+use Rattle.restart.proofs.Opened.{all_closed, opened_on, opens_as, quiet_leaves, read_committed}
+use Rattle.restart.specs.Opening.{OpensAs, ReadsAs}
+use Rattle.restart.proofs.opening.open_volume.Given as given
+use Rattle.restart.proofs.opening.open_volume.Goals as goal
+use Rattle.restart.proofs.opening.open_volume.Goals.{After-checkpoint}
+
+pub returns-in_default-clause-any_moment : goal.returns-in_default-clause-any_moment
+returns-in_default-clause-any_moment g c image honest holds =
+    let b = g.D.World.outside c.sync.new.self in
+    quiet_leaves (g.D.World.outside c.args.disk.now) b b image (g.D.World.is_world c.args.disk.now) honest c.sync.ensures.only (writes_nothing_refl b)
+
+pub returns-in-Err-clause-bad : goal.returns-in-Err-clause-bad
+returns-in-Err-clause-bad g c part is image holds = c.read_volume.ensures.bad part (c.in-Err.is ∙ is) image (c.sync.ensures.only.disk ∙ holds)
+
+pub returns-in-Err-clause-any_moment : goal.returns-in-Err-clause-any_moment
+returns-in-Err-clause-any_moment g c image honest holds =
+    quiet_leaves (g.D.World.outside c.args.disk.now) (g.D.World.outside c.sync.new.self) (g.D.World.outside c.read_volume.new.disk) image (g.D.World.is_world c.args.disk.now) honest c.sync.ensures.only c.read_volume.ensures.only.nothing
+
+-- ---- once it was read
+
+only : (g : given.Over) (c : After-checkpoint g) → DiskOnly (g.D.World.outside c.args.disk.now) (g.D.World.outside c.checkpoint.new.disk)
+only g c = disk_trans (disk_trans c.sync.ensures.only.only c.read_volume.ensures.only.nothing.only) c.checkpoint.ensures.only
+
+pub returns-in_default-checkpoint-clause-only : goal.returns-in_default-checkpoint-clause-only
+returns-in_default-checkpoint-clause-only g c = only g (goal.at.returns-in_default-checkpoint-clause-only g c).After-checkpoint
+
+pub returns-clause-only : goal.returns-clause-only
+returns-clause-only g c = only g (goal.at.returns-clause-only g c).After-checkpoint
+
+reads : (g : given.Over) (c : After-checkpoint g) (image : List ℕ) → (g.D.World.outside c.args.disk.now).disk ≡ Some image
+    → ReadsAs image c.in-Ok-read_volume.parts.geometry c.in-Ok-read_volume.parts.log c.in-Ok-read_volume.parts.meta.committed
+reads g c image holds = c.in-Ok-read_volume.ensures.reads image (c.sync.ensures.only.disk ∙ holds)
+
+committed : (g : given.Over) (c : After-checkpoint g) (image : List ℕ) → IsTrue (g.D.World.outside c.args.disk.now).honest → (holds : (g.D.World.outside c.args.disk.now).disk ≡ Some image)
+    → Committed (g.D.World.outside c.read_volume.new.disk).images (reads g c image holds).decoded image c.in-Ok-read_volume.parts.log c.in-Ok-read_volume.parts.meta.committed
+committed g c image honest holds =
+    let p = c.in-Ok-read_volume.parts in
+    read_committed (g.D.World.outside c.args.disk.now) (g.D.World.outside c.sync.new.self) (g.D.World.outside c.read_volume.new.disk) image p.geometry p.log p.meta.committed honest holds c.sync.ensures.only c.in-Ok.ensures.settles
+    c.read_volume.ensures.only.nothing (reads g c image holds)
+
+leaves : (g : given.Over) (c : After-checkpoint g) (image : List ℕ) → IsTrue (g.D.World.outside c.args.disk.now).honest → (g.D.World.outside c.args.disk.now).disk ≡ Some image
+    → Leaves (g.D.World.outside c.args.disk.now) (g.D.World.outside c.checkpoint.new.disk) (OpensAs (g.D.World.outside c.args.disk.now).images image)
+leaves g c image honest holds =
+    let read = reads g c image holds in
+    let here = honest_on c.read_volume.ensures.only.nothing.only.goes (honest_on c.sync.ensures.only.only.goes honest) in
+    opens_as (g.D.World.outside c.args.disk.now) (g.D.World.outside c.sync.new.self) (g.D.World.outside c.read_volume.new.disk) (g.D.World.outside c.checkpoint.new.disk) image read.decoded (g.D.World.is_world c.args.disk.now) honest
+    c.sync.ensures.only c.read_volume.ensures.only.nothing (record { decoded = read.decoded; parts = read.parts; same = refl })
+    (c.checkpoint.ensures.any_moment read.decoded image here (c.read_volume.ensures.only.nothing.disk ∙ (c.sync.ensures.only.disk ∙ holds)) (committed g c image honest holds))
+
+pub returns-in_default-checkpoint-clause-any_moment : goal.returns-in_default-checkpoint-clause-any_moment
+returns-in_default-checkpoint-clause-any_moment g c = leaves g (goal.at.returns-in_default-checkpoint-clause-any_moment g c).After-checkpoint
+
+pub returns-clause-any_moment : goal.returns-clause-any_moment
+returns-clause-any_moment g c = leaves g (goal.at.returns-clause-any_moment g c).After-checkpoint
+
+pub returns-clause-opened : goal.returns-clause-opened
+returns-clause-opened g c image honest holds =
+    let after = (goal.at.returns-clause-opened g c).After-checkpoint in
+    let p = c.in-Ok-read_volume.parts in
+    let read = reads g after image holds in
+    let here = honest_on c.read_volume.ensures.only.nothing.only.goes (honest_on c.sync.ensures.only.only.goes honest) in
+    opened_on (g.D.World.outside c.checkpoint.new.disk) image p.geometry p.log c.checkpoint.new.log p.meta.committed c.checkpoint.new.meta.committed read
+    (c.in-Ok-checkpoint.ensures.done read.decoded image here (c.read_volume.ensures.only.nothing.disk ∙ (c.sync.ensures.only.disk ∙ holds)) (committed g after image honest holds))
+
+pub returns-clause-parts : goal.returns-clause-parts
+returns-clause-parts g c =
+    let p = c.in-Ok-read_volume.parts in
+    let fresh = c.in-Ok-read_volume.ensures.fresh in
+    let closed = all_closed p.geometry p.log c.checkpoint.new.log p.meta c.checkpoint.new.meta p.groups c.checkpoint.new.groups fresh.log fresh.groups c.in-Ok-read_volume.ensures.logged c.in-Ok-checkpoint.ensures.closed
+    c.in-Ok-checkpoint.ensures.emptied c.in-Ok-checkpoint.ensures.forgotten c.checkpoint.ensures.nothing in
+    record {
+      fresh = record {
+        log = c.checkpoint.ensures.log_geometry ∙ fresh.log;
+        meta = c.checkpoint.ensures.same_geometry ∙ fresh.meta;
+        working = c.checkpoint.ensures.working ∙ fresh.working;
+        units = fresh.units;
+        used = fresh.used;
+        refs = fresh.refs;
+        given = fresh.given;
+        groups = closed.2;
+      };
+      log = closed.0;
+      images = closed.1;
+    }

@@ -1,0 +1,67 @@
+use Rattle.std.proofs.Common.{◌≡◌, ℕ, List, length, Some, ◌∙◌, ap, arith}
+use Rattle.ex_base.specs.Area.{catalog_no}
+use Rattle.ex_base.specs.Sizes.{most_page}
+use Rattle.ex_base.specs.declared.geometry.Geometry.{Geometry}
+use Rattle.disk_model.specs.Runs.{reads_trans}
+use Rattle.op_log.specs.AfterLog.{after_log, logged}
+use Rattle.op_log.specs.declared.record.LogRecord.{LogRecord}
+use Rattle.op_log.specs.Decoding.{last_number}
+use Rattle.meta_pages.specs.Overlays.{committed_image}
+use Rattle.restart.proofs.BadParts.{catalog_fails}
+use Rattle.restart.proofs.LastRecord.{count_within}
+use Rattle.restart.proofs.Opened.{none_logged, page_after_log, reads_as, same_log}
+use Rattle.restart.proofs.Superblocks.{fault_of, part_is_bad, same_fault}
+use Rattle.restart.specs.declared.opening.OpenedParts.{OpenedParts}
+use Rattle.restart.proofs.opening.read_volume.Given as given
+use Rattle.restart.proofs.opening.read_volume.Goals as goal
+use Rattle.restart.proofs.opening.read_volume.Goals.{After-test_catalog}
+
+pub returns-in-Err-clause-bad : goal.returns-in-Err-clause-bad
+returns-in-Err-clause-bad g c part is image holds = c.read_geometry.ensures.bad part (c.in-Err.is ∙ ap (fault_of Geometry) (same_fault OpenedParts c.in-Err.fault _ is)) image holds
+
+pub returns-in-Err-read_log-clause-bad : goal.returns-in-Err-read_log-clause-bad
+returns-in-Err-read_log-clause-bad g c part is image holds =
+    c.read_log.ensures.bad part (c.in-Err-read_log.is ∙ ap (fault_of _) (same_fault OpenedParts c.in-Err-read_log.fault _ is)) image (c.read_geometry.ensures.only.nothing.disk ∙ holds) (c.in-Ok.ensures.found image holds)
+
+-- each page's image is what the log has of it
+just : (g : given.Over) (c : After-test_catalog g) (page : ℕ) → committed_image c.in-Ok-overlay_of.meta page ≡ logged c.in-Ok-read_log.records page
+just g c page = c.in-Ok-overlay_of.ensures.just page ∙ ap (λ (rs : List LogRecord). logged rs page) c.as_slice.ensures
+
+-- the page that was tested
+tested : (g : given.Over) (c : After-test_catalog g) (image : List ℕ) → (g.D.World.outside c.args.disk.now).disk ≡ Some image → c.deref.result.now ≡ after_log c.in-Ok.geometry c.in-Ok-read_log.records image catalog_no
+tested g c image holds =
+    page_after_log c.in-Ok.geometry image c.in-Ok-read_log.records c.in-Ok-overlay_of.meta c.deref.result.now (just g c)
+    (c.deref.ensures.value ∙ c.in-Ok-read_catalog.ensures.page image (c.read_log.ensures.only.nothing.disk ∙ (c.read_geometry.ensures.only.nothing.disk ∙ holds)))
+
+number : (g : given.Over) (c : After-test_catalog g) → c.last_txn.result ≡ last_number c.in-Ok-read_log.records
+number g c = c.last_txn.ensures ∙ ap last_number c.as_slice-2.ensures
+
+pub returns-in-Err-test_catalog-clause-bad : goal.returns-in-Err-test_catalog-clause-bad
+returns-in-Err-test_catalog-clause-bad g c part is image holds =
+    let after = (goal.at.returns-in-Err-test_catalog-clause-bad g c).After-test_catalog in
+    let p = c.in-Err-test_catalog.part in
+    part_is_bad OpenedParts p part image is
+    (catalog_fails image c.in-Ok.geometry c.in-Ok-read_log.records c.deref.result.now c.last_txn.result p (c.in-Ok.ensures.found image holds)
+    (c.in-Ok-read_log.ensures.records image (c.read_geometry.ensures.only.nothing.disk ∙ holds)) (tested g after image holds) (number g after) (c.test_catalog.ensures.bad p c.in-Err-test_catalog.is))
+
+pub overflow_cast-count : goal.overflow_cast-count
+overflow_cast-count g c = omega (arith, ap length c.as_slice-3.ensures, count_within c.in-Ok-read_log.records, c.in-Ok-read_log.ensures.inside, most_page c.in-Ok.geometry)
+
+pub make_parts-requires-clause-count : goal.make_parts-requires-clause-count
+make_parts-requires-clause-count g c = omega (arith, ap length c.as_slice-3.ensures, count_within c.in-Ok-read_log.records, c.end.ensures)
+
+pub returns-in-Ok-make_parts-clause-only : goal.returns-in-Ok-make_parts-clause-only
+returns-in-Ok-make_parts-clause-only g c = reads_trans (reads_trans c.read_geometry.ensures.only c.read_log.ensures.only) c.read_catalog.ensures.only
+
+pub returns-in-Ok-make_parts-clause-logged : goal.returns-in-Ok-make_parts-clause-logged
+returns-in-Ok-make_parts-clause-logged g c =
+    let after = (goal.at.returns-in-Ok-make_parts-clause-logged g c).After-test_catalog in
+    none_logged c.in-Ok.geometry c.in-Ok-read_log.records c.in-Ok-overlay_of.meta c.in-Ok-make_parts.parts.meta c.in-Ok-make_parts.parts.log (just g after) c.in-Ok-make_parts.ensures.meta
+    (c.in-Ok-make_parts.ensures.log ∙ same_log c.in-Ok.geometry c.end.ensures (ap length c.as_slice-3.ensures))
+
+pub returns-in-Ok-make_parts-clause-reads : goal.returns-in-Ok-make_parts-clause-reads
+returns-in-Ok-make_parts-clause-reads g c image holds =
+    let after = (goal.at.returns-in-Ok-make_parts-clause-reads g c).After-test_catalog in
+    reads_as image c.in-Ok.geometry c.in-Ok-make_parts.parts.geometry c.in-Ok-read_log.records c.deref.result.now c.last_txn.result c.in-Ok-overlay_of.meta c.in-Ok-make_parts.parts.meta c.in-Ok-make_parts.parts.log
+    (c.in-Ok.ensures.found image holds) (c.in-Ok-read_log.ensures.records image (c.read_geometry.ensures.only.nothing.disk ∙ holds)) (tested g after image holds) (number g after)
+    c.in_default-test_catalog.ensures.fine (just g after) c.in-Ok-make_parts.ensures.meta c.in-Ok-make_parts.ensures.geometry (c.in-Ok-make_parts.ensures.log ∙ same_log c.in-Ok.geometry c.end.ensures (ap length c.as_slice-3.ensures))

@@ -1,0 +1,170 @@
+//! A volume is opened.
+ghost use Rattle.std.specs.Prelude.{◌≡◌, ◌≤◌, ◌<◌, ℕ, List, [], length, Some, Err, IsTrue, IfOk};
+ghost use Rattle.std.specs.List.{AllByRecursion};
+ghost use Rattle.ex_base.specs.Area.{log_size};
+ghost use Rattle.ex_base.specs.Sizes.{volume_bytes};
+ghost use Rattle.disk_model.specs.Outside.{DiskOnly, ReadsOnly, Leaves, Only, Rose};
+ghost use Rattle.op_log.specs.Decoding.{last_number};
+ghost use Rattle.op_log.specs.Log.{SaysLog, log_end};
+ghost use Rattle.op_log.specs.Records.{IsLogRecord};
+ghost use Rattle.volume_model.specs.Parts.{SuperOf, FirstBad};
+ghost use Rattle.restart.specs.Opening.{AreFresh, AreOpened, OpenedOn, OpensAs, ReadsAs};
+
+use crate::catalog::{read_catalog, test_catalog};
+use crate::geometry::read_geometry;
+use crate::overlay::overlay_of;
+use buffer_groups::{Group, Groups, Policy};
+use commits::checkpoint;
+use disk_model::Disk;
+use ex_base::Geometry;
+use meta_pages::Meta;
+use op_log::{LogFault, LogRecord, LogRecords, OpLog, scan_log};
+use page_alloc::Units;
+use session_views::{OpenFault, Part};
+use std::alloc::{AllocError, Global};
+
+/// The frames of the group `main`.
+const MAIN_FRAMES: u32 = 64;
+
+/// What a session needs of the volume that was opened: no record counts, no page has an image, the catalog's page is the one unit in use, and no frame
+/// is filled.
+#[derive(Drop)]
+pub struct OpenedParts {
+    pub geometry: Geometry,
+    pub log: OpLog,
+    pub meta: Meta,
+    pub units: Units,
+    pub groups: Groups,
+}
+
+/// Opens the volume on a disk. It begins with a sync, then reads the volume and tests its parts in their order, and where records count it makes a
+/// checkpoint. A volume that stands for no table isn't written.
+pub fn open_volume<D: Disk>(alloc: Global, disk: &mut D) -> Result<OpenedParts, OpenFault>
+    ensures only { DiskOnly (D.outside disk.old) (D.outside disk.new) }
+    ensures disk { result ≡ Err OpenFault.Disk → Rose (D.outside disk.old).disk_faults (D.outside disk.new).disk_faults }
+    ensures parts { IfOk result AreOpened }
+    ensures room { IfOk result (λ p. volume_bytes p.geometry ≤ (D.outside disk.new).size) }
+
+    // The volume, as it read, stood for a table, and it is committed.
+    ensures opened { IfOk result (λ p. (image : List ℕ) → IsTrue (D.outside disk.old).honest → (D.outside disk.old).disk ≡ Some image
+        → OpenedOn image p.geometry (D.outside disk.new) p.log p.meta.committed) }
+
+    // Or it stood for none, and holds what it held.
+    ensures bad { (part : Part) → result ≡ Err (OpenFault.BadVolume part) → (image : List ℕ) → (D.outside disk.old).disk ≡ Some image → FirstBad image part }
+    ensures kept { (part : Part) → result ≡ Err (OpenFault.BadVolume part) → IsTrue (D.outside disk.old).honest → (image : List ℕ) → (D.outside disk.old).disk ≡ Some image
+        → ((D.outside disk.new).disk ≡ Some image) × Only image (D.outside disk.new).images }
+
+    // A crash at any moment leaves what could be left before, or the volume as it reads, or what stands for the same table.
+    ensures any_moment { (image : List ℕ) → IsTrue (D.outside disk.old).honest → (D.outside disk.old).disk ≡ Some image
+        → Leaves (D.outside disk.old) (D.outside disk.new) (OpensAs (D.outside disk.old).images image) }
+{
+    let Ok(()) = disk.sync() else {
+        return Err(OpenFault::Disk);
+    };
+    let mut parts = match read_volume(alloc, disk) {
+        Ok(parts) => parts,
+        Err(fault) => return Err(fault),
+    };
+    let Ok(()) = checkpoint(&mut parts.log, &mut parts.meta, &mut parts.groups, disk) else {
+        return Err(OpenFault::Disk);
+    };
+    Ok(parts)
+}
+
+// Reads the volume and tests it.
+fn read_volume<D: Disk>(alloc: Global, disk: &mut D) -> Result<OpenedParts, OpenFault>
+    ensures only { ReadsOnly (D.outside disk.old) (D.outside disk.new) }
+    ensures cause { result ≡ Err OpenFault.Disk → Rose (D.outside disk.old).disk_faults (D.outside disk.new).disk_faults }
+    ensures fresh { IfOk result AreFresh }
+    ensures logged { IfOk result (λ p. p.log.count ≡ 0 → (p.log.end ≡ 0) × (p.meta.committed ≡ [])) }
+    ensures room { IfOk result (λ p. volume_bytes p.geometry ≤ (D.outside disk.old).size) }
+    ensures reads { IfOk result (λ p. (image : List ℕ) → (D.outside disk.old).disk ≡ Some image → ReadsAs image p.geometry p.log p.meta.committed) }
+    ensures bad { (part : Part) → result ≡ Err (OpenFault.BadVolume part) → (image : List ℕ) → (D.outside disk.old).disk ≡ Some image → FirstBad image part }
+{
+    let geometry = match read_geometry(alloc, disk) {
+        Ok(geometry) => geometry,
+        Err(fault) => return Err(fault),
+    };
+    let records = match read_log(alloc, disk, &geometry) {
+        Ok(records) => records,
+        Err(fault) => return Err(fault),
+    };
+    let Ok(meta) = overlay_of(alloc, &geometry, records.as_slice()) else {
+        return Err(OpenFault::Memory);
+    };
+    let page = match read_catalog(alloc, disk, &geometry, &meta) {
+        Ok(page) => page,
+        Err(fault) => return Err(fault),
+    };
+    if let Err(part) = test_catalog(&page, last_txn(records.as_slice())) {
+        return Err(OpenFault::BadVolume { part });
+    }
+    let count = records.as_slice().len() as u32;
+    match make_parts(alloc, &geometry, meta, records.end(), count) {
+        Ok(parts) => Ok(parts),
+        Err(_) => Err(OpenFault::Memory),
+    }
+}
+
+// The records of the log.
+fn read_log<D: Disk>(
+    alloc: Global,
+    disk: &mut D,
+    geometry: &Geometry,
+) -> Result<LogRecords, OpenFault>
+    requires { volume_bytes geometry.now ≤ (D.outside disk.old).size }
+    ensures only { ReadsOnly (D.outside disk.old) (D.outside disk.new) }
+    ensures cause { result ≡ Err OpenFault.Disk → Rose (D.outside disk.old).disk_faults (D.outside disk.new).disk_faults }
+    ensures each { IfOk result (AllByRecursion (IsLogRecord geometry.now)) }
+    ensures inside { IfOk result (λ found. log_end found < log_size geometry.now) }
+    ensures records { IfOk result (λ found. (image : List ℕ) → (D.outside disk.old).disk ≡ Some image → SaysLog geometry.now found image) }
+    ensures bad { (part : Part) → result ≡ Err (OpenFault.BadVolume part) → (image : List ℕ) → (D.outside disk.old).disk ≡ Some image → SuperOf image geometry.now → FirstBad image part }
+{
+    match scan_log(alloc, disk, geometry) {
+        Ok(records) => Ok(records),
+        Err(LogFault::Memory) => Err(OpenFault::Memory),
+        Err(LogFault::Disk) => Err(OpenFault::Disk),
+        Err(LogFault::Bad { .. }) => Err(OpenFault::BadVolume { part: Part::Log }),
+    }
+}
+
+// The number of the last record, where there is one.
+fn last_txn(records: &[LogRecord]) -> Option<u64>
+    ensures { result ≡ last_number records.now }
+{
+    match records.last() {
+        Some(record) => Some(record.txn),
+        None => None,
+    }
+}
+
+// The parts of a session over a log of this end and so many records.
+fn make_parts(
+    alloc: Global,
+    geometry: &Geometry,
+    meta: Meta,
+    end: u32,
+    count: u32,
+) -> Result<OpenedParts, AllocError>
+    requires inside { end < log_size geometry.now }
+    requires count { count ≤ end }
+    requires geometry { meta.geometry ≡ geometry.now }
+    requires working { meta.working ≡ [] }
+    ensures fresh { IfOk result AreFresh }
+    ensures geometry { IfOk result (λ p. p.geometry ≡ geometry.now) }
+    ensures meta { IfOk result (λ p. p.meta ≡ meta) }
+    ensures log { IfOk result (λ p. p.log ≡ record { geometry = geometry.now; end = end; count = count }) }
+{
+    let mut log = OpLog::make(alloc, geometry)?;
+    log.adopt(end, count);
+    let units = Units::make(alloc, geometry)?;
+    let main = Group::make(alloc, MAIN_FRAMES, geometry.page_size, Policy::Lru)?;
+    let groups = Groups::make(alloc, main)?;
+    Ok(OpenedParts {
+        geometry: *geometry,
+        log,
+        meta,
+        units,
+        groups,
+    })
+}
