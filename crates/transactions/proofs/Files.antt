@@ -1,0 +1,73 @@
+-- What an update of the files finds of its catalog.
+use Rattle.std.proofs.Common.{◌≡◌, ℕ, zero, suc, ◌-◌, ◌^◌, ◌<◌, true, false, cond, List, [], ◌∷◌, length, map, Option, Some, None, is_some, refl, sym, ap, subst, arith, leb-true}
+use Rattle.std.specs.Prelude.{find, is_none, Contains, IsTrue, bytes_eq, slice_index_or, nat_le, ◌&&◌, nat_eq}
+use Rattle.std.specs.List.{AllByRecursion, list_all}
+use Rattle.std.specs.Map.{lookup}
+use Rattle.std.proofs.lemmas.Slice.Eq.{bytes_eq-Decides}
+use Rattle.std.specs.Cmp.Lexicographic.{other_text}
+use Rattle.ex_base.specs.Area.{catalog_no}
+use Rattle.meta_pages.specs.Overlays.{over, image_at}
+use Rattle.object_files.specs.Catalog.{Catalog, CatalogOf, FileEntry, IsName, is_name_byte, name_of}
+use Rattle.object_files.specs.Edits.{IsCatalogPage, has_name, with_entries}
+use Rattle.object_files.specs.Reads.{catalog_on}
+use Rattle.object_files.proofs.CatalogLaws.{catalog_read}
+use Rattle.table_model.specs.Words as words
+use Rattle.table_model.specs.declared.reply.Refusal.TheVariants as refusal
+use Rattle.table_model.specs.Refusals.{when}
+use Rattle.table_model.proofs.Stepping.{neither, unmet}
+use Rattle.std.proofs.lemmas.Bool.{and_parts}
+use Rattle.transactions.specs.Sessions.{SessionState, IsSession}
+use Rattle.transactions.specs.Refused.{file_refusal, unfile_refusal, entry_of}
+
+-- ---- names
+
+each_byte : (name : List ℕ) → list_all words.is_name_byte name ≡ true → AllByRecursion (λ b. is_name_byte b ≡ true) name
+each_byte [] all = tt
+each_byte (b ∷ name) all = let both = and_parts (words.is_name_byte b) (list_all words.is_name_byte name) all in (both.0, each_byte name both.1)
+
+pub name_is : (name : List ℕ) → IsTrue (words.is_name name) → IsName name
+name_is name form =
+    let outer = and_parts (nat_le 1 (length name) && nat_le (length name) 32) (list_all words.is_name_byte name) form in
+    let inner = and_parts (nat_le 1 (length name)) (nat_le (length name) 32) outer.0 in
+    record { some = leb-true 1 (length name) inner.0; short = leb-true (length name) 32 inner.1; bytes = each_byte name outer.1 }
+
+-- ---- whether a file has the name
+
+same_bytes : (a b : List ℕ) → a ≡ b → bytes_eq a b ≡ true
+same_bytes a b same = (elim (bytes_eq a b) as (λ t. bytes_eq a b ≡ t → t ≡ true) [ true ↦ λ is. refl | false ↦ λ isnt. absurd (other_text a b (sym isnt) same) ]) refl
+
+found_if : (name : List ℕ) (es : List FileEntry) (k : ℕ) → k < length (map name_of es) → slice_index_or (map name_of es) k name ≡ name → is_some (find (has_name name) es) ≡ true
+found_if name [] k lt is = absurd (omega (arith, lt))
+found_if name (e ∷ es) zero lt is = let here = same_bytes e.name name is in rw here refl
+found_if name (e ∷ es) (suc k) lt is = elim (bytes_eq e.name name) as (λ b. is_some (cond b (Some e) (find (has_name name) es)) ≡ true) [ true ↦ refl | false ↦ found_if name es k (omega (arith, lt)) is ]
+
+missing_if : (name : List ℕ) (es : List FileEntry) → is_some (find (has_name name) es) ≡ false → Contains (map name_of es) name → ⊥
+missing_if name es none (k, lt, is) = let some = found_if name es k lt is in absurd (cc)
+
+there_if : (name : List ℕ) (es : List FileEntry) → is_none (find (has_name name) es) ≡ false → Contains (map name_of es) name
+there_if name [] some = absurd (cc)
+there_if name (e ∷ es) some = (elim (bytes_eq e.name name) as (λ b. bytes_eq e.name name ≡ b → is_none (cond b (Some e) (find (has_name name) es)) ≡ false → Contains (map name_of (e ∷ es)) name) [
+  | true ↦ λ is _. (0, omega arith, (bytes_eq-Decides e.name name).0 is)
+  | false ↦ λ _ later. let rest = there_if name es later in (suc rest.0, omega (arith, rest.1), rest.2)
+]) refl some
+
+pub name_unused : (s : SessionState) (c : Catalog) (name : List ℕ) → None ≡ file_refusal s c name → Contains (map name_of c.entries) name → ⊥
+name_unused s c name none = missing_if name c.entries (unmet (is_some (entry_of c name)) refusal.FileExists (neither (when (is_some (entry_of c name)) refusal.FileExists) _ none).0)
+
+pub name_used : (s : SessionState) (c : Catalog) (name : List ℕ) → None ≡ unfile_refusal s c name → Contains (map name_of c.entries) name
+name_used s c name none = there_if name c.entries (unmet (is_none (entry_of c name)) refusal.NoFile (neither (when (is_none (entry_of c name)) refusal.NoFile) _ none).0)
+
+-- ---- the working catalog that was read
+
+pub read_work : (s : SessionState) (page : List ℕ) → IsSession s → s.opened ≡ true → ((b : List ℕ) → image_at s.meta catalog_no ≡ Some b → page ≡ b) → (catalog_on page).last < 2 ^ 64 - 1
+read_work s page is opened read =
+    let work = is.work opened in
+    let image : image_at s.meta catalog_no ≡ Some work.image = ap (λ (row : Option (Option (List ℕ))). over row (lookup (nat_eq catalog_no) s.meta.committed)) work.there in
+    subst (λ (b : List ℕ). (catalog_on b).last < 2 ^ 64 - 1) (sym (read work.image image)) work.room
+
+-- an edit of the entries leaves the number
+pub edited_page : (page image : List ℕ) (entries : List FileEntry) → CatalogOf image (with_entries (catalog_on page) entries) → IsCatalogPage image
+edited_page page image entries catalog = subst (λ (c : Catalog). CatalogOf image c) (sym (catalog_read image (with_entries (catalog_on page) entries) catalog)) catalog
+
+pub edited_number : (page image : List ℕ) (entries : List FileEntry) → CatalogOf image (with_entries (catalog_on page) entries) → (catalog_on page).last < 2 ^ 64 - 1 → (catalog_on image).last < 2 ^ 64 - 1
+edited_number page image entries catalog room = subst (λ (c : Catalog). c.last < 2 ^ 64 - 1) (sym (catalog_read image (with_entries (catalog_on page) entries) catalog)) room

@@ -1,0 +1,16 @@
+pub mod NoObjects
+pub mod Showing
+pub mod Frames
+pub mod Quiet
+pub mod Refusing
+pub mod Working
+pub mod Accepted
+pub mod Reading
+pub mod Entries
+pub mod Sessions
+pub mod Files
+pub mod Committing
+pub mod Marks
+pub mod Writing
+pub mod Dispatch
+pub mod Summing

@@ -1,0 +1,221 @@
+-- The refusals that a session tells are those of the machine that it shows.
+use Rattle.std.proofs.Common.{◌≡◌, ◌∙◌, ℕ, zero, suc, ◌+◌, ◌-◌, ◌≤◌, Bool, true, false, cond, List, [], ◌∷◌, length, map, Option, Some, None, is_some, refl, sym, ap, arith, ◌^◌, eqb, eqb-true, eq-eqb}
+use Rattle.std.specs.Prelude.{is_none, find, nat_lt, nat_le, ◌/◌, ◌||◌, bytes_eq}
+use Rattle.std.specs.Option.{option_or}
+use Rattle.ex_base.specs.declared.geometry.Geometry.{Geometry}
+use Rattle.ex_base.specs.declared.names.Area.{Area}
+use Rattle.ex_base.specs.declared.names.Area.TheVariants.{Page, Segment}
+use Rattle.ex_base.specs.Area.{unit_at}
+use Rattle.ex_base.specs.Sizes.{units}
+use Rattle.page_alloc.specs.UnitSet.{free_below, free_count, used_at}
+use Rattle.object_files.specs.Catalog.{Catalog, FileEntry}
+use Rattle.object_files.specs.Edits as entries
+use Rattle.table_model.specs.declared.table.TableFile.{TableFile}
+use Rattle.table_model.specs.declared.table.Table.{Table}
+use Rattle.table_model.specs.declared.machine.Machine.{Machine}
+use Rattle.table_model.specs.declared.machine.Pick.{Pick}
+use Rattle.table_model.specs.declared.reply.Refusal.{Refusal}
+use Rattle.table_model.specs.declared.reply.Refusal.TheVariants as refusal
+use Rattle.table_model.specs.Requests as request
+use Rattle.table_model.specs.Machines.{shown, updates_most, touched_most}
+use Rattle.table_model.specs.Needs.{free}
+use Rattle.table_model.specs.Refusals.{refusal_of, has_objects, when, no_txn}
+use Rattle.table_model.specs.Tables as tables
+use Rattle.session_views.specs.View.{View}
+use Rattle.volume_model.specs.Shown.{Shows, used_below, used_in}
+use Rattle.transactions.specs.Sessions.{SessionState}
+use Rattle.transactions.specs.Meant.{held_view}
+use Rattle.transactions.specs.Refused.{free_in, entry_of, has_pages, long_txn, full_pages, file_refusal, unfile_refusal}
+use Rattle.transactions.proofs.NoObjects.{file_named, table_with, AreRootless}
+use Rattle.transactions.proofs.Showing.{shows_catalog, session_geometry}
+
+-- ---- the units that are free
+
+pub all_below : (used : ℕ → Bool) (at : ℕ → ℕ) (n : ℕ) → used_below used at n + free_below used at n ≡ n
+unfolding free_below
+all_below used at zero = refl
+all_below used at (suc n) = step (used (at n)) (used_below used at n) (free_below used at n) (all_below used at n)
+  where
+    step : (b : Bool) (x y : ℕ) → x + y ≡ n → (x + cond b 1 0) + (y + cond b 0 1) ≡ suc n
+    step true x y is = omega (arith, is)
+    step false x y is = omega (arith, is)
+
+pub free_left : (g : Geometry) (used : ℕ → Bool) (area : Area) → used_in g used area + free_count g used area ≡ units g area
+free_left g used area = all_below used (unit_at g area) (units g area)
+
+pub free_within : (g h : Geometry) (used : ℕ → Bool) (area : Area) (free : ℕ) → h ≡ g → free ≡ free_count h used area → free ≤ units g area
+free_within g h used area free same is =
+    let here : free ≡ free_count g used area = is ∙ ap (λ (g : Geometry). free_count g used area) same in
+    omega (arith, free_left g used area, here)
+
+-- ---- the file of a name
+
+found : (name : List ℕ) (es : List FileEntry) → is_some (find (tables.has_name name) (map file_named es)) ≡ is_some (find (entries.has_name name) es)
+found name [] = refl
+found name (e ∷ es) = elim (bytes_eq e.name name) as (λ b. is_some (cond b (Some (file_named e)) (find (tables.has_name name) (map file_named es))) ≡ is_some (cond b (Some e) (find (entries.has_name name) es))) [
+  | true ↦ refl
+  | false ↦ found name es
+]
+
+missing : (name : List ℕ) (es : List FileEntry) → is_none (find (tables.has_name name) (map file_named es)) ≡ is_none (find (entries.has_name name) es)
+missing name [] = refl
+missing name (e ∷ es) = elim (bytes_eq e.name name) as (λ b. is_none (cond b (Some (file_named e)) (find (tables.has_name name) (map file_named es))) ≡ is_none (cond b (Some e) (find (entries.has_name name) es))) [
+  | true ↦ refl
+  | false ↦ missing name es
+]
+
+-- no file has objects
+none_within : (name : List ℕ) (es : List FileEntry) → has_objects (find (tables.has_name name) (map file_named es)) ≡ false
+none_within name [] = refl
+none_within name (e ∷ es) = elim (bytes_eq e.name name) as (λ b. has_objects (cond b (Some (file_named e)) (find (tables.has_name name) (map file_named es))) ≡ false) [
+  | true ↦ refl
+  | false ↦ none_within name es
+]
+
+-- nor pages
+no_root : (name : List ℕ) (es : List FileEntry) → AreRootless es → has_pages (find (entries.has_name name) es) ≡ false
+no_root name [] rootless = refl
+no_root name (e ∷ es) rootless = elim (bytes_eq e.name name) as (λ b. has_pages (cond b (Some e) (find (entries.has_name name) es)) ≡ false) [
+  | true ↦ ap (λ r. is_some r) rootless.0
+  | false ↦ no_root name es rootless.1
+]
+
+pub same_length : (es : List FileEntry) → length (map file_named es) ≡ length es
+same_length [] = refl
+same_length (e ∷ es) = ap suc (same_length es)
+
+pub none_is_false : (o : Option Table) → is_some o ≡ true → is_none o ≡ false
+none_is_false None is = absurd (cc)
+none_is_false (Some t) is = refl
+
+below_zero : (n : ℕ) → nat_lt n 0 ≡ false
+below_zero n = grind arith
+
+-- ---- as the machine tells them
+
+-- the machine has a transaction open where the session has
+abbrev pub SameOpen : View SessionState → Type 0
+SameOpen v = is_some v.machine.working ≡ v.session.opened
+
+-- what the view gives of the machine
+pub record SameCounts (v : View SessionState) (c : Catalog) : Type 0 where
+  pub is_open : SameOpen v
+  pub table : shown v.machine ≡ table_with c
+  pub geometry : v.machine.geometry ≡ v.session.geometry
+  pub notes : v.machine.notes ≡ v.session.notes
+  pub touched : v.machine.touched ≡ length v.session.meta.working
+  pub free_pages : free v.machine Page ≡ free_in v.session Page
+
+pub same_counts : {may_leave : List ℕ → Type 0} {v : View SessionState} (shows : Shows may_leave (held_view v)) → v.session.units.geometry ≡ v.session.geometry → SameCounts v shows.working.catalog
+same_counts {may_leave} {v} shows same =
+    let g = shows.decoded.geometry in
+    let units_is : v.session.units.geometry ≡ g = same ∙ session_geometry shows in
+    let left = free_left g (used_at v.session.units) Page in
+    let used = shows.used.pages in
+    let area : v.machine.geometry.pages ≡ g.pages = ap (λ (g : Geometry). g.pages) shows.geometry in
+    let here : free_in v.session Page ≡ free_count g (used_at v.session.units) Page = ap (λ (g : Geometry). free_count g (used_at v.session.units) Page) units_is in
+    record {
+      is_open = shows.shared.open_txn;
+      table = (shows_catalog shows).table;
+      geometry = shows.shared.geometry;
+      notes = shows.shared.notes;
+      touched = shows.used.touched;
+      free_pages = omega (arith, left, used, area, here);
+    }
+
+one_less : (a : Option Refusal) → option_or (option_or a (option_or None None)) None ≡ option_or a None
+one_less None = refl
+one_less (Some why) = refl
+
+-- what an update is told, from whether no transaction is open, whether a file has the name, the page size, the files, the updates, the touched
+-- pages, the free pages, and whether segment units are wanting
+abbrev file_told : Bool → Bool → ℕ → ℕ → ℕ → ℕ → ℕ → Bool → ℕ → Option Refusal
+file_told none found size files updates touched pages wanting segs =
+    option_or (when none refusal.NoTxn)
+    (option_or (when found refusal.FileExists)
+    (option_or (when (nat_le ((size - 32) / 48) files) refusal.FilesFull)
+    (option_or (when (nat_le updates_most updates || nat_lt touched_most (touched + 2)) (refusal.LongTxn updates touched))
+    (option_or (option_or (when (nat_lt pages 2) (refusal.Full Page 2 pages)) (option_or (when wanting (refusal.Full Segment 0 segs)) None)) None))))
+
+told : {none none' found found' : Bool} {size size' files files' updates updates' touched touched' pages pages' : ℕ} {wanting wanting' : Bool} (segs : ℕ)
+    → none ≡ none' → found ≡ found' → size ≡ size' → files ≡ files' → updates ≡ updates' → touched ≡ touched' → pages ≡ pages' → wanting ≡ wanting'
+    → file_told none found size files updates touched pages wanting segs ≡ file_told none' found' size' files' updates' touched' pages' wanting' segs
+told segs a b c d e f g h = cc (a, b, c, d, e, f, g, h)
+
+pub file_refused : (v : View SessionState) (c : Catalog) (name : List ℕ) (q : Pick) → SameCounts v c → v.session.opened ≡ true → refusal_of v.machine (request.File name) q ≡ file_refusal v.session c name
+file_refused v c name q same opened =
+    let some = none_is_false v.machine.working (same.is_open ∙ opened) in
+    let files : (shown v.machine).files ≡ map file_named c.entries = ap (λ (t : Table). t.files) same.table in
+    let finds = ap (λ (fs : List TableFile). is_some (find (tables.has_name name) fs)) files ∙ found name c.entries in
+    let many = ap (λ (fs : List TableFile). length fs) files ∙ same_length c.entries in
+    let size = ap (λ (g : Geometry). g.page_size) same.geometry in
+    let change : refusal_of v.machine (request.File name) q
+    ≡ file_told false (is_some (entry_of c name)) v.session.geometry.page_size (length c.entries) (length v.session.notes) (length v.session.meta.working) (free_in v.session Page) false (free v.machine Segment) =
+    told (free v.machine Segment) some finds size many (ap length same.notes) same.touched same.free_pages (below_zero (free v.machine Segment)) in
+    change
+    ∙ ap (λ (o : Option Refusal). option_or (when (is_some (entry_of c name)) refusal.FileExists) (option_or (when (nat_le ((v.session.geometry.page_size - 32) / 48) (length c.entries)) refusal.FilesFull) (option_or (long_txn v.session 2) o)))
+    (one_less (full_pages v.session 2))
+
+abbrev unfile_told : Bool → Bool → Bool → ℕ → ℕ → Bool → Bool → ℕ → ℕ → Option Refusal
+unfile_told none absent full updates touched wanting_pages wanting pages segs =
+    option_or (when none refusal.NoTxn)
+    (option_or (when absent refusal.NoFile)
+    (option_or (when full refusal.NotEmpty)
+    (option_or (when (nat_le updates_most updates || nat_lt touched_most (touched + 2)) (refusal.LongTxn updates touched))
+    (option_or (option_or (when wanting_pages (refusal.Full Page 0 pages)) (option_or (when wanting (refusal.Full Segment 0 segs)) None)) None))))
+
+untold : {none none' absent absent' full full' : Bool} {updates updates' touched touched' : ℕ} {wanting_pages wanting_pages' wanting wanting' : Bool} (pages segs : ℕ)
+    → none ≡ none' → absent ≡ absent' → full ≡ full' → updates ≡ updates' → touched ≡ touched' → wanting_pages ≡ wanting_pages' → wanting ≡ wanting'
+    → unfile_told none absent full updates touched wanting_pages wanting pages segs ≡ unfile_told none' absent' full' updates' touched' wanting_pages' wanting' pages segs
+untold pages segs a b c d e f g = cc (a, b, c, d, e, f, g)
+
+pub unfile_refused : (v : View SessionState) (c : Catalog) (name : List ℕ) (q : Pick) → SameCounts v c → AreRootless c.entries → v.session.opened ≡ true
+    → refusal_of v.machine (request.Unfile name) q ≡ unfile_refusal v.session c name
+unfile_refused v c name q same rootless opened =
+    let some = none_is_false v.machine.working (same.is_open ∙ opened) in
+    let files : (shown v.machine).files ≡ map file_named c.entries = ap (λ (t : Table). t.files) same.table in
+    let absent = ap (λ (fs : List TableFile). is_none (find (tables.has_name name) fs)) files ∙ missing name c.entries in
+    let empty = ap (λ (fs : List TableFile). has_objects (find (tables.has_name name) fs)) files ∙ none_within name c.entries ∙ sym (no_root name c.entries rootless) in
+    let change : refusal_of v.machine (request.Unfile name) q
+    ≡ unfile_told false (is_none (entry_of c name)) (has_pages (entry_of c name)) (length v.session.notes) (length v.session.meta.working) false false (free v.machine Page) (free v.machine Segment) =
+    untold (free v.machine Page) (free v.machine Segment) some absent empty (ap length same.notes) same.touched (below_zero (free v.machine Page)) (below_zero (free v.machine Segment)) in
+    change
+
+-- ---- of the commands that open or end a transaction
+
+pub open_refused : (v : View SessionState) (q : Pick) → SameOpen v → v.session.opened ≡ true → refusal_of v.machine request.Begin q ≡ Some refusal.TxnOpen
+open_refused v q same opened = let is : is_some v.machine.working ≡ true = same ∙ opened in rw is refl
+
+pub spent_refused : (v : View SessionState) (q : Pick) → SameOpen v → v.session.opened ≡ false → v.machine.committed.last ≡ 2 ^ 64 - 1 → refusal_of v.machine request.Begin q ≡ Some refusal.IdsSpent
+spent_refused v q same closed last =
+    let is : is_some v.machine.working ≡ false = same ∙ closed in
+    let spent = eq-eqb v.machine.committed.last (2 ^ 64 - 1) last in
+    rw (is, spent) refl
+
+pub begin_accepted : (v : View SessionState) (q : Pick) → SameOpen v → v.session.opened ≡ false → (v.machine.committed.last ≡ 2 ^ 64 - 1 → ⊥) → refusal_of v.machine request.Begin q ≡ None
+begin_accepted v q same closed last =
+    let is : is_some v.machine.working ≡ false = same ∙ closed in
+    let spent : eqb v.machine.committed.last (2 ^ 64 - 1) ≡ false = differ v.machine.committed.last last in
+    rw (is, spent) refl
+  where
+    differ : (n : ℕ) → (n ≡ 2 ^ 64 - 1 → ⊥) → eqb n (2 ^ 64 - 1) ≡ false
+    differ n isnt = (elim (eqb n (2 ^ 64 - 1)) as (λ b. eqb n (2 ^ 64 - 1) ≡ b → b ≡ false) [ true ↦ λ is. absurd (isnt (eqb-true n (2 ^ 64 - 1) is)) | false ↦ λ is. refl ]) refl
+
+none_is_true : (o : Option Table) → is_some o ≡ false → is_none o ≡ true
+none_is_true None is = refl
+none_is_true (Some t) is = absurd (cc)
+
+pub closed_refused : (m : Machine) (rest : Option Refusal) → is_some m.working ≡ false → option_or (no_txn m) rest ≡ Some refusal.NoTxn
+closed_refused m rest closed = rw (none_is_true m.working closed) refl
+
+pub checkpoint_refused : (v : View SessionState) (q : Pick) → SameOpen v → v.session.opened ≡ true → refusal_of v.machine request.Checkpoint q ≡ Some refusal.TxnOpen
+checkpoint_refused v q same opened = let is : is_some v.machine.working ≡ true = same ∙ opened in rw is refl
+
+pub checkpoint_accepted : (v : View SessionState) (q : Pick) → SameOpen v → v.session.opened ≡ false → refusal_of v.machine request.Checkpoint q ≡ None
+checkpoint_accepted v q same closed = let is : is_some v.machine.working ≡ false = same ∙ closed in rw is refl
+
+pub commit_accepted : (v : View SessionState) (q : Pick) → SameOpen v → v.session.opened ≡ true → refusal_of v.machine request.Commit q ≡ None
+commit_accepted v q same opened = rw (none_is_false v.machine.working (same ∙ opened)) refl
+
+pub abort_accepted : (v : View SessionState) (q : Pick) → SameOpen v → v.session.opened ≡ true → refusal_of v.machine request.Abort q ≡ None
+abort_accepted v q same opened = rw (none_is_false v.machine.working (same ∙ opened)) refl

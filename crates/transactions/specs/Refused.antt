@@ -1,0 +1,46 @@
+-- Why a command is refused, as a session tells it from its catalog and its counts.
+use Rattle.std.specs.Prelude.{ℕ, ◌+◌, ◌-◌, List, [], ◌∷◌, length, Bool, false, ◌||◌, nat_le, nat_lt, Option, Some, None, is_some, is_none, find}
+use Rattle.ex_base.specs.declared.names.Area.{Area}
+use Rattle.ex_base.specs.declared.names.Area.TheVariants.{Page}
+use Rattle.ex_base.specs.Sizes.{files_most, units}
+use Rattle.page_alloc.specs.UnitSet.{free_count, used_at}
+use Rattle.object_files.specs.Catalog.{Catalog, FileEntry}
+use Rattle.object_files.specs.Edits.{has_name}
+use Rattle.table_model.specs.declared.reply.Refusal.{Refusal}
+use Rattle.table_model.specs.declared.reply.Refusal.TheVariants as refusal
+use Rattle.table_model.specs.Machines.{updates_most, touched_most}
+use Rattle.table_model.specs.Refusals.{when, first}
+use Rattle.transactions.specs.Sessions.{SessionState}
+
+-- the units of an area that are not in use
+abbrev pub free_in : SessionState → Area → ℕ
+free_in s area = free_count s.units.geometry (used_at s.units) area
+
+-- those that are
+abbrev pub used_of : SessionState → Area → ℕ
+used_of s area = units s.geometry area - free_in s area
+
+-- the update may touch n pages more
+abbrev pub long_txn : SessionState → ℕ → Option Refusal
+long_txn s n = when (nat_le updates_most (length s.notes) || nat_lt touched_most (length s.meta.working + n)) (refusal.LongTxn (length s.notes) (length s.meta.working))
+
+-- the update may take n pages
+abbrev pub full_pages : SessionState → ℕ → Option Refusal
+full_pages s n = when (nat_lt (free_in s Page) n) (refusal.Full Page n (free_in s Page))
+
+abbrev pub entry_of : Catalog → List ℕ → Option FileEntry
+entry_of c name = find (has_name name) c.entries
+
+-- the file has pages, and so objects
+abbrev pub has_pages : Option FileEntry → Bool
+has_pages None = false
+has_pages (Some e) = is_some e.root
+
+-- of `file`, in an open transaction
+abbrev pub file_refusal : SessionState → Catalog → List ℕ → Option Refusal
+file_refusal s c name =
+    first (when (is_some (entry_of c name)) refusal.FileExists ∷ when (nat_le (files_most s.geometry) (length c.entries)) refusal.FilesFull ∷ long_txn s 2 ∷ full_pages s 2 ∷ [])
+
+-- of `unfile`, in an open transaction
+abbrev pub unfile_refusal : SessionState → Catalog → List ℕ → Option Refusal
+unfile_refusal s c name = first (when (is_none (entry_of c name)) refusal.NoFile ∷ when (has_pages (entry_of c name)) refusal.NotEmpty ∷ long_txn s 2 ∷ [])

@@ -1,0 +1,60 @@
+//! A transaction is opened, and one is given up.
+ghost use Rattle.std.specs.Prelude.{◌≡◌, ◌≤◌, true, false};
+ghost use Rattle.ex_base.specs.Sizes.{volume_bytes};
+ghost use Rattle.table_model.specs.Machines.{kept};
+
+use super::Session;
+use super::catalog::view_of;
+use disk_model::Host;
+use session_views::Stop;
+use std::alloc::Global;
+use table_model::{BoundName, Refusal, Reply};
+
+/// Unbinds the names that the open transaction bound.
+fn unbind_marked(names: &mut Vec<BoundName>)
+    ensures { names.new.items ≡ kept names.old.items }
+{
+    names.retain(|name| !name.marked);
+}
+
+impl Session {
+    ghost use Rattle.table_model.specs.Requests as request;
+    ghost use Rattle.transactions.specs.Sessions.{aborted};
+    ghost use Rattle.transactions.specs.Steps.{StepsQuietly};
+
+    /// Opens a transaction: the working catalog is the committed one, and no update is noted.
+    pub(super) fn begin<H: Host>(&mut self, alloc: Global, host: &mut H) -> Result<Reply, Stop>
+        requires room { volume_bytes self.old.geometry ≤ (H.outside host.old).size }
+        ensures { StepsQuietly (H.outside host.old) (H.outside host.new) self.old self.new request.Begin result }
+    {
+        if self.opened {
+            return Ok(Reply::No(Refusal::TxnOpen));
+        }
+        let page = self.catalog(alloc, host)?;
+        let last = view_of(&page).last_txn();
+        if last == u64::MAX {
+            return Ok(Reply::No(Refusal::IdsSpent));
+        }
+        if self.meta.start(alloc, &page).is_err() {
+            return Err(Stop::Memory);
+        }
+        self.notes.clear();
+        self.opened = true;
+        Ok(Reply::Begin { number: last + 1 })
+    }
+
+    /// Gives the open transaction up: its working pages are dropped, and the names that it bound are unbound.
+    pub(super) fn abort(&mut self) -> Reply
+        ensures refused { self.old.opened ≡ false → (result ≡ Reply.No Refusal.NoTxn) × (self.new ≡ self.old) }
+        ensures aborted { self.old.opened ≡ true → (result ≡ Reply.Abort) × (self.new ≡ aborted self.old) }
+    {
+        if !self.opened {
+            return Reply::No(Refusal::NoTxn);
+        }
+        self.meta.undo();
+        unbind_marked(&mut self.names);
+        self.notes.clear();
+        self.opened = false;
+        Reply::Abort
+    }
+}

@@ -1,0 +1,131 @@
+//! Files are made and removed.
+ghost use Rattle.std.specs.Prelude.{◌≡◌, ◌≤◌, ◌<◌, ◌+◌, ◌-◌, ◌*◌, ◌^◌, IsTrue, Contains, length, map, OnOk};
+ghost use Rattle.ex_base.specs.Sizes.{volume_bytes};
+ghost use Rattle.object_files.specs.Catalog.{CatalogOf, IsName, name_of};
+ghost use Rattle.object_files.specs.Edits.{IsCatalogPage, entries_on, with_entries, entry_inserted, new_file, without_name};
+ghost use Rattle.object_files.specs.Reads.{catalog_on};
+ghost use Rattle.table_model.specs.Machines.{updates_most, touched_most};
+ghost use Rattle.table_model.specs.Words.{is_name};
+
+use super::catalog::view_of;
+use super::{CATALOG, Session};
+use disk_model::Host;
+use ex_base::{Oid, OpNote, PageNo};
+use object_files::{add_file, remove_file};
+use session_views::Stop;
+use std::alloc::{AllocError, Global};
+use table_model::{FILE_MADE, FILE_REMOVED, Name, Refusal, Reply};
+
+/// No version: the note of a file names none.
+const NO_OID: Oid = Oid {
+    page: PageNo(0),
+    slot: 0,
+    unique: 0,
+};
+
+/// Adds a file without pages to a copy of the catalog.
+fn put_file(page: &mut Vec<u8>, name: &[u8]) -> u32
+    requires page { IsCatalogPage page.old.items }
+    requires name { IsName name.now }
+    requires unused { ¬ Contains (map name_of (entries_on page.old.items)) name.now }
+    requires room { 32 + 48 * (length (entries_on page.old.items) + 1) ≤ length page.old.items }
+    ensures added { CatalogOf page.new.items (with_entries (catalog_on page.old.items) (entry_inserted (new_file name.now result) (entries_on page.old.items))) }
+    ensures len { length page.new.items ≡ length page.old.items }
+{
+    add_file(page, name)
+}
+
+/// Removes a file from a copy of the catalog.
+fn take_file(page: &mut Vec<u8>, name: &[u8])
+    requires page { IsCatalogPage page.old.items }
+    requires file { Contains (map name_of (entries_on page.old.items)) name.now }
+    ensures removed { CatalogOf page.new.items (with_entries (catalog_on page.old.items) (without_name name.now (entries_on page.old.items))) }
+    ensures len { length page.new.items ≡ length page.old.items }
+{
+    remove_file(page, name);
+}
+
+impl Session {
+    ghost use Rattle.table_model.specs.Requests as request;
+    ghost use Rattle.transactions.specs.Sessions.{updated};
+    ghost use Rattle.transactions.specs.Steps.{StepsQuietly};
+
+    /// Makes an empty file.
+    pub(super) fn file<H: Host>(
+        &mut self,
+        alloc: Global,
+        host: &mut H,
+        name: &[u8],
+    ) -> Result<Reply, Stop>
+        requires room { volume_bytes self.old.geometry ≤ (H.outside host.old).size }
+        requires name { IsTrue (is_name name.now) }
+        ensures { StepsQuietly (H.outside host.old) (H.outside host.new) self.old self.new (request.File name.now) result }
+    {
+        if !self.opened {
+            return Ok(Reply::No(Refusal::NoTxn));
+        }
+        let mut page = self.catalog(alloc, host)?;
+        if let Some(why) = self.refuses_file(&view_of(&page), name) {
+            return Ok(Reply::No(why));
+        }
+        let _file_no = put_file(&mut page, name);
+        if self.update(alloc, &page, FILE_MADE).is_err() {
+            return Err(Stop::Memory);
+        }
+        match Name::of_bytes(alloc, name) {
+            Ok(name) => Ok(Reply::File { name }),
+            Err(_) => Err(Stop::Memory),
+        }
+    }
+
+    /// Removes a file without objects.
+    pub(super) fn unfile<H: Host>(
+        &mut self,
+        alloc: Global,
+        host: &mut H,
+        name: &[u8],
+    ) -> Result<Reply, Stop>
+        requires room { volume_bytes self.old.geometry ≤ (H.outside host.old).size }
+        requires name { IsTrue (is_name name.now) }
+        ensures { StepsQuietly (H.outside host.old) (H.outside host.new) self.old self.new (request.Unfile name.now) result }
+    {
+        if !self.opened {
+            return Ok(Reply::No(Refusal::NoTxn));
+        }
+        let mut page = self.catalog(alloc, host)?;
+        if let Some(why) = self.refuses_unfile(&view_of(&page), name) {
+            return Ok(Reply::No(why));
+        }
+        take_file(&mut page, name);
+        if self.update(alloc, &page, FILE_REMOVED).is_err() {
+            return Err(Stop::Memory);
+        }
+        match Name::of_bytes(alloc, name) {
+            Ok(name) => Ok(Reply::Unfile { name }),
+            Err(_) => Err(Stop::Memory),
+        }
+    }
+
+    /// The page becomes the working catalog, and an update of this kind, of no version, is noted.
+    fn update(&mut self, alloc: Global, catalog: &[u8], kind: u8) -> Result<(), AllocError>
+        requires catalog { IsCatalogPage catalog.now }
+        requires whole { length catalog.now ≡ self.old.geometry.page_size }
+        requires number { (catalog_on catalog.now).last < 2 ^ 64 - 1 }
+        requires updates { length self.old.notes < updates_most }
+        requires touched { length self.old.meta.working < touched_most }
+        requires some_kind { 1 ≤ kind }
+        requires kind { kind ≤ 10 }
+        ensures done { OnOk result (self.new ≡ updated self.old catalog.now kind) }
+        ensures log { self.new.log ≡ self.old.log }
+        ensures down { self.new.down ≡ self.old.down }
+    {
+        self.meta.edit(alloc, CATALOG, catalog)?;
+        self.notes.push(OpNote {
+            kind,
+            oid: NO_OID,
+            first: 0,
+            second: 0,
+        })?;
+        Ok(())
+    }
+}
