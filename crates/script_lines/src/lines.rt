@@ -1,6 +1,6 @@
 //! The lines of a script.
 
-ghost use Rattle.std.specs.Prelude.{◌≡◌, ◌+◌, [], List, ℕ, None, IfOk, OnOk, OnErr};
+ghost use Rattle.std.specs.Prelude.{◌≡◌, ◌<◌, ◌+◌, [], List, ℕ, None, IfOk, IfSome, OnOk, OnErr};
 ghost use Rattle.std.specs.Borrow.{sem};
 ghost use Rattle.disk_model.specs.Outside.{Rose, SourceOnly};
 ghost use Rattle.script_lines.specs.Remains.{Draws, IfTold, Moves};
@@ -49,6 +49,7 @@ impl Lines {
         ensures drawn { OnOk result (Draws (to_take self.old) (S.outside source.old).left (to_take self.new) (S.outside source.new).left) }
         ensures drawn_too_much { result ≡ Err LineFault.TooMuch → Draws (to_take self.old) (S.outside source.old).left (to_take self.new) (S.outside source.new).left }
         ensures none { OnErr result (current self.new ≡ None) }
+        ensures fewer { OnOk result (IfSome (current self.new) (λ line. counted self.new < counted self.old)) }
     {
         self.shown = Shown::end();
         self.shown = self.window.next(source)?;

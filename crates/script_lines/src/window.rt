@@ -1,6 +1,6 @@
 //! A buffer that takes a script from its source in large pieces.
 
-ghost use Rattle.std.specs.Prelude.{◌≡◌, ◌≤◌, ◌<◌, ◌+◌, ◌-◌, ◌++◌, [], List, ℕ, Some, None, true, false, take, drop, length, vec_len, IfOk, IfErr, OnOk, OnErr, MatchOption, slice_index};
+ghost use Rattle.std.specs.Prelude.{◌≡◌, ◌≤◌, ◌<◌, ◌+◌, ◌-◌, ◌++◌, [], List, ℕ, Some, None, true, false, take, drop, length, vec_len, IfOk, IfErr, IfSome, OnOk, OnErr, MatchOption, slice_index};
 ghost use Rattle.std.specs.List.{position};
 ghost use Rattle.disk_model.specs.Outside.{Rose, SourceOnly};
 ghost use Rattle.script_lines.specs.Lines.{line_feed, without_return};
@@ -241,6 +241,7 @@ impl Window {
         requires { Finds (held self.old) self.old.allowed (Found.Feed at) }
         ensures takes { (behind : List ℕ) → Takes self.old.allowed (held self.old ++ behind) (shown_in self.new.buffer.items result) self.new.allowed (held self.new ++ behind) }
         ensures may { may_take self.new ≡ may_take self.old }
+        ensures fewer { self.new.allowed < self.old.allowed }
     {
         let from = self.start;
         let to = from + trimmed(&self.buffer[from..from + at]);
@@ -259,6 +260,7 @@ impl Window {
         ensures takes { Takes self.old.allowed (held self.old) (shown_in self.new.buffer.items result) self.new.allowed (held self.new) }
         ensures none { held self.new ≡ [] }
         ensures may { may_take self.new ≡ may_take self.old }
+        ensures fewer { IfSome (shown_in self.new.buffer.items result) (λ line. self.new.allowed < self.old.allowed) }
     {
         let from = self.start;
         let to = self.end;
@@ -281,6 +283,7 @@ impl Window {
         ensures clear { result ≡ Err LineFault.TooMuch → IfTold (held self.old) (S.outside source.old).left (IsClear self.old.allowed) }
         ensures drawn { OnOk result (Draws (may_take self.old) (S.outside source.old).left (may_take self.new) (S.outside source.new).left) }
         ensures drawn_clear { result ≡ Err LineFault.TooMuch → Draws (may_take self.old) (S.outside source.old).left (may_take self.new) (S.outside source.new).left }
+        ensures no_more { OnOk result (self.new.allowed ≤ self.old.allowed) }
     {
         'skipped: loop {
             match self.gather(source)? {
@@ -307,6 +310,7 @@ impl Window {
         ensures clear { result ≡ Err LineFault.TooMuch → IfTold (held self.old) (S.outside source.old).left (IsClear self.old.allowed) }
         ensures drawn { OnOk result (Draws (may_take self.old) (S.outside source.old).left (may_take self.new) (S.outside source.new).left) }
         ensures drawn_clear { result ≡ Err LineFault.TooMuch → Draws (may_take self.old) (S.outside source.old).left (may_take self.new) (S.outside source.new).left }
+        ensures fewer { IfOk result (λ shown. IfSome (shown_in self.new.buffer.items shown) (λ line. self.new.allowed < self.old.allowed)) }
     {
         match self.gather(source)? {
             Some(Found::TooMuch) => Err(LineFault::TooMuch),

@@ -62,6 +62,7 @@ skipped-preserved g c =
     let D : ℕ → Type 0 = λ k. Draws (may_take first) left k is in
     record {
       only = source_trans c.skipped.invariant.only c.in_ok-gather.ensures.only;
+      no_more = omega (arith, c.skipped.invariant.no_more, c.in_ok-gather.ensures.allowed, c.pass-in-Some-Full.ensures.allowed);
       drops = drops_full (held first) left (held s) (g.S.World.outside c.skipped.source).left p is
           first.allowed s.allowed c.skipped.invariant.drops c.in_ok-gather.ensures.script
           found.0 m.allowed (omega (arith, c.pass-in-Some-Full.ensures.allowed, c.in_ok-gather.ensures.allowed)) (held m)
