@@ -2,15 +2,21 @@
 use Rattle.std.proofs.Common.{◌≡◌, ◌≤◌, ◌<◌, ◌+◌, ◌*◌, ℕ, zero, suc, Bool, true, false, cond, not, List, [], ◌∷◌, length, All, Option, Some, is_some, nat_eq, refl, sym, ap, subst, ◌∙◌, arith, inl, inr, ⊎_elim, ◌⊎◌, eq-eqb}
 use Rattle.std.proofs.Math.Nat.{mul-le-mul_right, suc-mul, add-mul}
 use Rattle.std.proofs.lemmas.Bool.{cases_lt}
-use Rattle.std.proofs.lemmas.List.Elements.{All-nil, All-cons, All-head, All-tail, All-map, All-weaker, All-filter}
+use Rattle.std.proofs.lemmas.List.Elements.{All-nil, All-cons, All-head, All-tail, All-map, All-set, All-weaker, All-filter}
 use Rattle.ex_base.specs.Bytes.{Apart}
 use Rattle.disk_model.specs.Outside.{Outside, Goes}
 use Rattle.disk_model.specs.Calls.{Tears}
 use Rattle.disk_model.specs.Runs.{told_value, some_same}
-use Rattle.buffer_groups.specs.Frames.{Frames, Lends, without, forgotten, page_of}
+use Rattle.std.specs.Map.{lookup}
+use Rattle.buffer_groups.specs.Frames.{Frames, Lends, without, with_room, forgotten, page_of}
 use Rattle.buffer_groups.proofs.FrameLists.{length-mapped}
 use Rattle.buffer_groups.proofs.Kept.{part_apart, sizes_forgotten}
-use Rattle.tree_store.specs.Stored.{unit_forgotten}
+use Rattle.buffer_groups.specs.Groups.{GroupBrought, GroupNotBrought}
+use Rattle.buffer_groups.specs.Frames.{Brought, NotBrought}
+use Rattle.buffer_groups.proofs.FrameLists.{All-with_room}
+use Rattle.buffer_groups.proofs.GroupLists.{at_index}
+use Rattle.ex_base.specs.Area.{catalog_no}
+use Rattle.tree_store.specs.Stored.{AreFromCatalog, unit_forgotten}
 
 -- ---- groups that forgot the pages of a unit
 
@@ -21,6 +27,40 @@ unit_forgotten_len p (suc n) gs = length-mapped (forgotten (p + n)) (unit_forgot
 pub unit_forgotten_sizes : (p n size : ℕ) (gs : List Frames) → All (λ (f : Frames). f.page_size ≡ size) gs → All (λ (f : Frames). f.page_size ≡ size) (unit_forgotten p n gs)
 unit_forgotten_sizes p zero size gs sizes = sizes
 unit_forgotten_sizes p (suc n) size gs sizes = sizes_forgotten (p + n) size (unit_forgotten p n gs) (unit_forgotten_sizes p n size gs sizes)
+
+-- ---- no frame is of the superblock or the log
+
+abbrev IsFromCatalog : Frames → Type 0
+IsFromCatalog f = All (λ (e : ℕ × List ℕ). catalog_no ≤ e.0) f.entries
+
+without_behind : (page : ℕ) (f : Frames) → IsFromCatalog f → IsFromCatalog (forgotten page f)
+without_behind page f all = All-filter (λ (e : ℕ × List ℕ). not (nat_eq page e.0)) (λ (e : ℕ × List ℕ). catalog_no ≤ e.0) f.entries all
+
+pub unit_forgotten_behind : (p n : ℕ) (gs : List Frames) → AreFromCatalog gs → AreFromCatalog (unit_forgotten p n gs)
+unit_forgotten_behind p zero gs all = all
+unit_forgotten_behind p (suc n) gs all =
+    All-map IsFromCatalog (forgotten (p + n)) (unit_forgotten p n gs)
+    (All-weaker IsFromCatalog (λ f. IsFromCatalog (forgotten (p + n) f)) (without_behind (p + n)) (unit_forgotten p n gs) (unit_forgotten_behind p n gs all))
+
+pub frame_brought : (disk : Option (List ℕ)) (f h : Frames) (page : ℕ) (bytes : List ℕ) → catalog_no ≤ page → Brought disk f h page bytes → IsFromCatalog f → IsFromCatalog h
+frame_brought disk f h page bytes le brought all =
+    let P = λ (e : ℕ × List ℕ). catalog_no ≤ e.0 in
+    rw brought.frames (All-cons P (page, bytes) _ le
+    (elim (is_some (lookup (nat_eq page) f.entries)) as (λ b. All P (cond b (without page f.entries) (with_room f.policy f.cap f.entries))) [
+      | true ↦ without_behind page f all
+      | false ↦ All-with_room P f.policy f.cap f.entries all
+    ]))
+
+pub frame_not_brought : (f h : Frames) (page : ℕ) → NotBrought f h page → IsFromCatalog f → IsFromCatalog h
+frame_not_brought f h page none all = rw none.frames (All-with_room (λ (e : ℕ × List ℕ). catalog_no ≤ e.0) f.policy f.cap f.entries all)
+
+pub groups_brought : (disk : Option (List ℕ)) (gs hs : List Frames) (index page : ℕ) → index < length gs → catalog_no ≤ page → GroupBrought disk gs hs index page → AreFromCatalog gs → AreFromCatalog hs
+groups_brought disk gs hs index page lt le brought all =
+    rw brought.groups (All-set IsFromCatalog gs index brought.after (frame_brought disk brought.before brought.after page brought.bytes le brought.brought (at_index IsFromCatalog gs index brought.before brought.at lt all)) all)
+
+pub groups_not_brought : (gs hs : List Frames) (index page : ℕ) → index < length gs → GroupNotBrought gs hs index page → AreFromCatalog gs → AreFromCatalog hs
+groups_not_brought gs hs index page lt none all =
+    rw none.groups (All-set IsFromCatalog gs index none.after (frame_not_brought none.before none.after page none.unchanged (at_index IsFromCatalog gs index none.before none.at lt all)) all)
 
 forgotten_lends : (disk : Option (List ℕ)) (page : ℕ) (f : Frames) → Lends disk f → Lends disk (forgotten page f)
 forgotten_lends disk page f lends = λ held is. All-filter (λ (e : ℕ × List ℕ). not (nat_eq page e.0)) (λ e. e.1 ≡ page_of held f.page_size e.0) f.entries (lends held is)

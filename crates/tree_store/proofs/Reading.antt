@@ -15,7 +15,7 @@ use Rattle.buffer_groups.specs.Groups.{GroupsKeep}
 use Rattle.buffer_groups.proofs.FrameLists.{frame_bytes}
 use Rattle.buffer_groups.proofs.GroupLists.{at_index}
 use Rattle.page_alloc.specs.UnitSet.{UnitSet, used_at}
-use Rattle.tree_store.specs.Stored.{Fits, Tells, Frees, InRest, NoUnit, unit_bytes}
+use Rattle.tree_store.specs.Stored.{AreFromCatalog, Fits, Tells, Frees, InRest, NoUnit, unit_bytes}
 use Rattle.tree_store.proofs.Places.{page_len}
 
 told_along : (a b : Outside) (f h : List Frames) → ReadsOnly a b → GroupsKeep a.disk f h → Tells a f → Tells b h
@@ -26,18 +26,19 @@ told_along a b f h only keeps told =
       subst (λ (o : Option (List ℕ)). All (Lends o) h) (sym same) (keeps.lends told.2),
     )
 
-fits_along : (g : Geometry) (m n : ℕ) (a : Option (List ℕ)) (f h : List Frames) (i : ℕ) (u : UnitSet) → n ≡ m → GroupsKeep a f h → Fits g m f i u → Fits g n h i u
-fits_along g m n a f h i u same keeps fits = record {
+fits_along : (g : Geometry) (m n : ℕ) (a : Option (List ℕ)) (f h : List Frames) (i : ℕ) (u : UnitSet) → n ≡ m → GroupsKeep a f h → (AreFromCatalog f → AreFromCatalog h) → Fits g m f i u → Fits g n h i u
+fits_along g m n a f h i u same keeps behind fits = record {
   group = omega (arith, keeps.len, fits.group);
   disk = omega (arith, same, fits.disk);
   frames = keeps.sizes g.page_size fits.frames;
+  behind = behind fits.behind;
   counted = fits.counted;
 }
 
 pub read_leads : {D : Type 0} (outside : D → Outside) (d e : MutBor D) (u : MutBor UnitSet) (f h : MutBor (List Frames)) (i : ℕ) (a : Geometry)
-    → e.ghost_name ≡ d.ghost_name → h.ghost_name ≡ f.ghost_name → ReadsOnly (outside d.now) (outside e.now) → GroupsKeep (outside d.now).disk f.now h.now
+    → e.ghost_name ≡ d.ghost_name → h.ghost_name ≡ f.ghost_name → ReadsOnly (outside d.now) (outside e.now) → GroupsKeep (outside d.now).disk f.now h.now → (AreFromCatalog f.now → AreFromCatalog h.now)
     → Frees outside NoUnit d e u u f h i i a a
-read_leads outside d e u f h i a disk groups only keeps = record {
+read_leads outside d e u f h i a disk groups only keeps behind = record {
   disk = disk;
   units = refl;
   frames = groups;
@@ -45,7 +46,7 @@ read_leads outside d e u f h i a disk groups only keeps = record {
   geometry = refl;
   used = λ p is stays. is;
   changes = changes_nothing (InRest a (used_at u.now) NoUnit) only.nothing;
-  fits = fits_along a (outside d.now).size (outside e.now).size (outside d.now).disk f.now h.now i u.now only.nothing.only.goes.size keeps;
+  fits = fits_along a (outside d.now).size (outside e.now).size (outside d.now).disk f.now h.now i u.now only.nothing.only.goes.size keeps behind;
   told = told_along (outside d.now) (outside e.now) f.now h.now only keeps;
 }
 

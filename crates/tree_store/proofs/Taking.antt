@@ -15,7 +15,7 @@ use Rattle.disk_model.specs.Runs.{told_value, honest_on}
 use Rattle.buffer_groups.specs.Frames.{Frames, Lends}
 use Rattle.buffer_groups.proofs.Kept.{part_apart}
 use Rattle.page_alloc.specs.UnitSet.{UnitSet, used_at, refs_at, updated, free_count}
-use Rattle.tree_store.specs.Stored.{Fits, Tells, Frees, InRest, IsCounted, NoUnit, unit_bytes, unit_len}
+use Rattle.tree_store.specs.Stored.{AreFromCatalog, Fits, Tells, Frees, InRest, IsCounted, NoUnit, unit_bytes, unit_len}
 use Rattle.tree_store.proofs.Places.{lowest_area, part_of_part, units_apart}
 
 true_false : {x : Bool} → x ≡ true → x ≡ false → ⊥
@@ -78,11 +78,12 @@ taken_told : (a b : Outside) (f h : List Frames) → Goes a b → (IsTrue a.hone
 taken_told a b f h goes lends told = (honest_on goes told.0, goes.disk_told ∙ told.1, lends told.0 told.2)
 
 taken_fits : (a b : Outside) (g : Geometry) (f h : List Frames) (i : ℕ) (u v : UnitSet) → Goes a b → (IsCounted g u → IsCounted g v) → length h ≡ length f → All (λ (x : Frames). x.page_size ≡ g.page_size) h
-    → Fits g a.size f i u → Fits g b.size h i v
-taken_fits a b g f h i u v goes counted long sizes fits = record {
+    → (AreFromCatalog f → AreFromCatalog h) → Fits g a.size f i u → Fits g b.size h i v
+taken_fits a b g f h i u v goes counted long sizes behind fits = record {
   group = omega (arith, long, fits.group);
   disk = omega (arith, goes.size, fits.disk);
   frames = sizes;
+  behind = behind fits.behind;
   counted = counted fits.counted;
 }
 
@@ -91,9 +92,9 @@ pub taken_leads : {D : Type 0} (outside : D → Outside) (d e : MutBor D) (u v :
     → used_at v.now ≡ updated (used_at u.now) p true → (IsCounted g u.now → IsCounted g v.now) → IsUnit g p → used_at u.now p ≡ false → n ≤ unit_len g p
     → ChangesWithin (InRange (p * g.page_size) n) (outside d.now) (outside e.now)
     → length h.now ≡ length f.now → All (λ (x : Frames). x.page_size ≡ g.page_size) h.now
-    → (IsTrue (outside d.now).honest → All (Lends (outside d.now).disk) f.now → All (Lends (outside e.now).disk) h.now)
+    → (IsTrue (outside d.now).honest → All (Lends (outside d.now).disk) f.now → All (Lends (outside e.now).disk) h.now) → (AreFromCatalog f.now → AreFromCatalog h.now)
     → Frees outside NoUnit d e u v f h i i g g
-taken_leads outside d e u v f h i g p n disk units frames used counted unit free room changes long sizes lends = record {
+taken_leads outside d e u v f h i g p n disk units frames used counted unit free room changes long sizes lends behind = record {
   disk = disk;
   units = units;
   frames = frames;
@@ -101,7 +102,7 @@ taken_leads outside d e u v f h i g p n disk units frames used counted unit free
   geometry = refl;
   used = λ q is stays. grows (used_at u.now) (used_at v.now) p used free q is;
   changes = changes_wider (InRange (p * g.page_size) n) (InRest g (used_at u.now) NoUnit) changes (in_rest g (used_at u.now) NoUnit p n unit free room);
-  fits = taken_fits (outside d.now) (outside e.now) g f.now h.now i u.now v.now changes.only.goes counted long sizes;
+  fits = taken_fits (outside d.now) (outside e.now) g f.now h.now i u.now v.now changes.only.goes counted long sizes behind;
   told = taken_told (outside d.now) (outside e.now) f.now h.now changes.only.goes lends;
 }
 
@@ -117,7 +118,7 @@ same_free g u v area before after used =
 -- ---- the units' counts alone
 
 same_fits : (g : Geometry) (size : ℕ) (f : List Frames) (i : ℕ) (u v : UnitSet) → (IsCounted g u → IsCounted g v) → Fits g size f i u → Fits g size f i v
-same_fits g size f i u v counted fits = record { group = fits.group; disk = fits.disk; frames = fits.frames; counted = counted fits.counted }
+same_fits g size f i u v counted fits = record { group = fits.group; disk = fits.disk; frames = fits.frames; behind = fits.behind; counted = counted fits.counted }
 
 -- nothing but the units changes, and of the used ones none becomes free but those of the set
 pub counts_frees : {D : Type 0} (outside : D → Outside) (freed : ℕ → Type 0) (d : MutBor D) (u v : MutBor UnitSet) (f : MutBor (List Frames)) (i : ℕ) (g : Geometry)

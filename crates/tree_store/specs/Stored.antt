@@ -3,7 +3,7 @@ use Rattle.std.specs.Prelude.{◌≡◌, ◌≤◌, ◌<◌, ◌+◌, ◌*◌, �
 use Rattle.std.proofs.Common.{◌∙◌, subst}
 use Rattle.std.specs.Borrow.{MutBor}
 use Rattle.ex_base.specs.declared.geometry.Geometry.{Geometry}
-use Rattle.ex_base.specs.Area.{IsUnit, area_end}
+use Rattle.ex_base.specs.Area.{IsUnit, area_end, catalog_no}
 use Rattle.ex_base.specs.Bytes.{part}
 use Rattle.ex_base.specs.Ports.{refs_most}
 use Rattle.ex_base.specs.Sizes.{leaf_bytes, volume_bytes}
@@ -41,11 +41,16 @@ pub record IsCounted (g : Geometry) (units : UnitSet) : Type 0 where
   pub named : (p : ℕ) → used_at units p ≡ true → IsUnit g p
   pub few : (p : ℕ) → refs_at units p ≤ refs_most
 
--- The parts are of one geometry, and the disk has room for its volume.
+-- Each frame is of the catalog's page or of one behind it.
+abbrev pub AreFromCatalog : List Frames → Type 0
+AreFromCatalog groups = All (λ (f : Frames). All (λ (e : ℕ × List ℕ). catalog_no ≤ e.0) f.entries) groups
+
+-- The parts are of one geometry, the disk has room for its volume, and no frame is of the superblock or the log.
 pub record Fits (g : Geometry) (disk_size : ℕ) (groups : List Frames) (index : ℕ) (units : UnitSet) : Type 0 where
   pub group : index < length groups
   pub disk : volume_bytes g ≤ disk_size
   pub frames : All (λ (f : Frames). f.page_size ≡ g.page_size) groups
+  pub behind : AreFromCatalog groups
   pub counted : IsCounted g units
 
 -- the disk is honest and tells its bytes, and each frame lends them

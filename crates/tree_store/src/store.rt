@@ -145,6 +145,15 @@ impl<'a, D: Disk> Ground for Store<'a, D> {
 }
 
 impl<'a, D: Disk> Blocks for Store<'a, D> {
+    ghost use Rattle.std.specs.Prelude.{◌≢◌, true, IfOk};
+    ghost use Rattle.ex_base.specs.Area.{IsUnit};
+    ghost use Rattle.ex_base.specs.Ports.{HasCause, IsDamage, TakesUnit, IsLowest, CountsNames, GivesUnit};
+    ghost use Rattle.ex_base.specs.declared.names.Area.TheVariants.{Page, Segment};
+    ghost use Rattle.page_alloc.specs.UnitSet.{used_at, refs_at};
+    ghost use Rattle.tree_store.specs.Names.{names_on};
+    ghost use Rattle.tree_store.specs.Stored.{Fits, unit_bytes};
+    ghost use Rattle.ex_base.specs.Sizes.{leaf_bytes};
+
     fn geometry(&self) -> Geometry {
         self.geometry
     }
@@ -172,7 +181,22 @@ impl<'a, D: Disk> Blocks for Store<'a, D> {
         }
     }
 
-    fn new_node(&mut self, bytes: &[u8]) -> Result<PageNo, PortFault> {
+    fn new_node(&mut self, bytes: &[u8]) -> Result<PageNo, PortFault>
+        requires ready { Fits self.old.geometry (D.outside self.old.disk.now).size self.old.groups.now self.old.index self.old.units.now }
+        requires free { 1 ≤ ⟦<Store<'a, D> as Ground>⟧.free self.old Page }
+        requires page { length bytes.now ≡ self.old.geometry.page_size }
+        ensures taken { IfOk result (λ page. TakesUnit ⟦<Store<'a, D> as Ground>⟧ self.old self.new Page page.0 bytes.now) }
+        ensures others { IfOk result (λ page. (p : ℕ) → IsUnit self.old.geometry p → p ≢ page.0
+            → unit_bytes self.new.geometry (D.outside self.new.disk.now).disk p ≡ unit_bytes self.old.geometry (D.outside self.old.disk.now).disk p) }
+        ensures whole { IfOk result (λ page. ⟦<Store<'a, D> as Ground>⟧.tells self.old → unit_bytes self.new.geometry (D.outside self.new.disk.now).disk page.0 ≡ bytes.now) }
+        ensures lowest { IfOk result (λ page. IsLowest self.old.geometry (used_at self.old.units.now) Page page.0) }
+        ensures references { OnOk result (CountsNames ⟦<Store<'a, D> as Ground>⟧ self.old self.new (names_on self.old.geometry bytes.now)) }
+        ensures pages { OnOk result (⟦<Store<'a, D> as Ground>⟧.free self.new Page + 1 ≡ ⟦<Store<'a, D> as Ground>⟧.free self.old Page) }
+        ensures leaves { OnOk result (⟦<Store<'a, D> as Ground>⟧.free self.new Segment ≡ ⟦<Store<'a, D> as Ground>⟧.free self.old Segment) }
+        ensures no_damage { IfErr result (λ fault. IsDamage fault → ⊥) }
+        ensures leads { ⟦<Store<'a, D> as Ground>⟧.leads self.old self.new }
+        ensures cause { HasCause (D.outside self.old.disk.now).disk_faults (D.outside self.new.disk.now).disk_faults result }
+    {
         count_names(self.units, &self.geometry, bytes);
         let page = self.units.take(Area::Page);
         write_unit(
@@ -186,7 +210,22 @@ impl<'a, D: Disk> Blocks for Store<'a, D> {
         Ok(page)
     }
 
-    fn new_leaf(&mut self, bytes: &[u8]) -> Result<PageNo, PortFault> {
+    fn new_leaf(&mut self, bytes: &[u8]) -> Result<PageNo, PortFault>
+        requires ready { Fits self.old.geometry (D.outside self.old.disk.now).size self.old.groups.now self.old.index self.old.units.now }
+        requires free { 1 ≤ ⟦<Store<'a, D> as Ground>⟧.free self.old Segment }
+        requires some { 1 ≤ length bytes.now }
+        requires fits { length bytes.now ≤ leaf_bytes self.old.geometry }
+        ensures taken { IfOk result (λ page. TakesUnit ⟦<Store<'a, D> as Ground>⟧ self.old self.new Segment page.0 bytes.now) }
+        ensures others { IfOk result (λ page. (p : ℕ) → IsUnit self.old.geometry p → p ≢ page.0
+            → unit_bytes self.new.geometry (D.outside self.new.disk.now).disk p ≡ unit_bytes self.old.geometry (D.outside self.old.disk.now).disk p) }
+        ensures lowest { IfOk result (λ page. IsLowest self.old.geometry (used_at self.old.units.now) Segment page.0) }
+        ensures references { OnOk result (refs_at self.new.units.now ≡ refs_at self.old.units.now) }
+        ensures pages { OnOk result (⟦<Store<'a, D> as Ground>⟧.free self.new Page ≡ ⟦<Store<'a, D> as Ground>⟧.free self.old Page) }
+        ensures leaves { OnOk result (⟦<Store<'a, D> as Ground>⟧.free self.new Segment + 1 ≡ ⟦<Store<'a, D> as Ground>⟧.free self.old Segment) }
+        ensures no_damage { IfErr result (λ fault. IsDamage fault → ⊥) }
+        ensures leads { ⟦<Store<'a, D> as Ground>⟧.leads self.old self.new }
+        ensures cause { HasCause (D.outside self.old.disk.now).disk_faults (D.outside self.new.disk.now).disk_faults result }
+    {
         let page = self.units.take(Area::Segment);
         write_unit(
             self.disk,
@@ -207,7 +246,14 @@ impl<'a, D: Disk> Blocks for Store<'a, D> {
         self.units.drop_ref(page)
     }
 
-    fn give_unit(&mut self, page: PageNo) {
+    fn give_unit(&mut self, page: PageNo)
+        requires ready { Fits self.old.geometry (D.outside self.old.disk.now).size self.old.groups.now self.old.index self.old.units.now }
+        requires unit { IsUnit self.old.geometry page.0 }
+        requires used { used_at self.old.units.now page.0 ≡ true }
+        requires unnamed { refs_at self.old.units.now page.0 ≡ 0 }
+        ensures given { GivesUnit ⟦<Store<'a, D> as Ground>⟧ self.old self.new page.0 }
+        ensures disk { self.new.disk.now ≡ self.old.disk.now }
+    {
         self.units.give(page)
     }
 }

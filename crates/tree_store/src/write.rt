@@ -5,7 +5,7 @@ ghost use Rattle.disk_model.specs.Calls.{Wrote};
 ghost use Rattle.disk_model.specs.Changes.{ChangesWithin, InRange};
 ghost use Rattle.ex_base.specs.Ports.{HasCause, IsDamage};
 ghost use Rattle.buffer_groups.specs.Frames.{Frames, Lends};
-ghost use Rattle.tree_store.specs.Stored.{unit_forgotten};
+ghost use Rattle.tree_store.specs.Stored.{AreFromCatalog, unit_forgotten};
 
 use buffer_groups::Groups;
 use disk_model::Disk;
@@ -28,6 +28,7 @@ pub fn write_unit<D: Disk>(
     ensures lends { IsTrue (D.outside disk.old).honest → All (Lends (D.outside disk.old).disk) groups.old → All (Lends (D.outside disk.new).disk) groups.new }
     ensures len { length groups.new ≡ length groups.old }
     ensures sizes { All (λ (f : Frames). f.page_size ≡ size) groups.new }
+    ensures behind { AreFromCatalog groups.old → AreFromCatalog groups.new }
     ensures changes { ChangesWithin (InRange (page.0 * size) (length bytes.now)) (D.outside disk.old) (D.outside disk.new) }
     ensures no_damage { IfErr result (λ fault. IsDamage fault → ⊥) }
     ensures cause { HasCause (D.outside disk.old).disk_faults (D.outside disk.new).disk_faults result }

@@ -1,5 +1,5 @@
 use Rattle.std.proofs.Common.{length}
-use Rattle.tree_store.proofs.Forgetting.{unit_forgotten_len, unit_forgotten_sizes, unit_written}
+use Rattle.tree_store.proofs.Forgetting.{unit_forgotten_behind, unit_forgotten_len, unit_forgotten_sizes, unit_written}
 use Rattle.tree_store.proofs.write.write_unit.Goals as goal
 
 pub returns-in-Ok-clause-lends : goal.returns-in-Ok-clause-lends
@@ -11,6 +11,12 @@ returns-in-Ok-clause-len g c = rw c.forget_unit.ensures (unit_forgotten_len c.ar
 
 pub returns-in-Ok-clause-sizes : goal.returns-in-Ok-clause-sizes
 returns-in-Ok-clause-sizes g c = rw c.forget_unit.ensures (unit_forgotten_sizes c.args.page.0 c.args.pages c.args.size c.args.groups.now c.requires.sizes)
+
+pub returns-in-Ok-clause-behind : goal.returns-in-Ok-clause-behind
+returns-in-Ok-clause-behind g c = λ all. rw c.forget_unit.ensures (unit_forgotten_behind c.args.page.0 c.args.pages c.args.groups.now all)
+
+pub returns-in-Err-clause-behind : goal.returns-in-Err-clause-behind
+returns-in-Err-clause-behind g c = λ all. rw c.forget_unit.ensures (unit_forgotten_behind c.args.page.0 c.args.pages c.args.groups.now all)
 
 pub returns-in-Err-clause-lends : goal.returns-in-Err-clause-lends
 returns-in-Err-clause-lends g c = λ honest all. rw c.forget_unit.ensures

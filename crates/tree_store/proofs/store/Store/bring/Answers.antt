@@ -1,5 +1,6 @@
 use Rattle.std.proofs.Common.{refl, ap}
 use Rattle.tree_store.specs.Stored.{unit_bytes}
+use Rattle.tree_store.proofs.Forgetting.{groups_brought, groups_not_brought}
 use Rattle.tree_store.proofs.Reading.{range_at, read_leads}
 use Rattle.tree_store.proofs.store.Store.bring.Goals as goal
 
@@ -19,7 +20,8 @@ returns-in_err-bring-clause-kept g c =
       refs = refl;
       held = refl;
       free = refl;
-      leads = read_leads g.D.World.outside s.disk _ s.units s.groups _ s.index s.geometry refl refl brought.only brought.keeps;
+      leads = read_leads g.D.World.outside s.disk _ s.units s.groups _ s.index s.geometry refl refl brought.only brought.keeps
+          (groups_not_brought s.groups.now _ s.index c.args.page.0 c.requires.ready.group c.in_err-bring.ensures.err);
     }
 
 pub returns-clause-kept : goal.returns-clause-kept
@@ -33,5 +35,6 @@ returns-clause-kept g c =
       refs = refl;
       held = refl;
       free = refl;
-      leads = read_leads g.D.World.outside s.disk _ s.units s.groups _ s.index s.geometry refl refl brought.only brought.keeps;
+      leads = read_leads g.D.World.outside s.disk _ s.units s.groups _ s.index s.geometry refl refl brought.only brought.keeps
+          (groups_brought (g.D.World.outside s.disk.now).disk s.groups.now _ s.index c.args.page.0 c.requires.ready.group c.requires.page.0 c.in_ok-bring.ensures.ok);
     }

@@ -5,8 +5,8 @@ use Rattle.page_alloc.specs.UnitSet.{used_at, refs_at}
 use Rattle.tree_store.proofs.Taking.{counts_frees, given_counted, updated_here, updated_other, updated_same}
 use Rattle.tree_store.proofs.store.StoreBlocks.give_unit.Goals as goal
 
-pub returns : goal.returns
-returns g c =
+pub returns-clause-given : goal.returns-clause-given
+returns-clause-given g c =
     let s = c.args.self.now in
     let page = c.args.page.0 in
     let given = c.give.ensures in

@@ -40,7 +40,7 @@ returns-in_err-write_unit-clause-leads g c =
     let room : length c.args.bytes.now ≤ unit_len s.geometry p = omega (arith, c.requires.page, page_len s.geometry p area) in
     let counted = taken_counted s.geometry c.count_names.new.units c.take-page.new.self p named.counted unit took.geometry took.used took.refs in
     taken_leads g.D.World.outside s.disk _ s.units _ s.groups _ s.index s.geometry p (length c.args.bytes.now) refl refl refl used (λ before. counted) unit free room
-    c.write_unit.ensures.changes c.write_unit.ensures.len c.write_unit.ensures.sizes c.write_unit.ensures.lends
+    c.write_unit.ensures.changes c.write_unit.ensures.len c.write_unit.ensures.sizes c.write_unit.ensures.lends c.write_unit.ensures.behind
 
 pub returns-clause-leads : goal.returns-clause-leads
 returns-clause-leads g c =
@@ -55,7 +55,7 @@ returns-clause-leads g c =
     let room : length c.args.bytes.now ≤ unit_len s.geometry p = omega (arith, c.requires.page, page_len s.geometry p area) in
     let counted = taken_counted s.geometry c.count_names.new.units c.take-page.new.self p named.counted unit took.geometry took.used took.refs in
     taken_leads g.D.World.outside s.disk _ s.units _ s.groups _ s.index s.geometry p (length c.args.bytes.now) refl refl refl used (λ before. counted) unit free room
-    c.write_unit.ensures.changes c.write_unit.ensures.len c.write_unit.ensures.sizes c.write_unit.ensures.lends
+    c.write_unit.ensures.changes c.write_unit.ensures.len c.write_unit.ensures.sizes c.write_unit.ensures.lends c.write_unit.ensures.behind
 
 pub returns-clause-taken : goal.returns-clause-taken
 returns-clause-taken g c =
@@ -94,3 +94,21 @@ returns-clause-whole g c = λ told.
     let is = g.D.World.outside c.write_unit.new.disk in
     let fits = node_fits s.geometry p (length c.args.bytes.now) was.size area c.requires.page c.requires.ready.disk in
     taken_whole was is s.geometry p c.args.bytes.now told.1 c.in_ok-write_unit.ensures.written (page_len s.geometry p area ∙ sym c.requires.page) fits (g.D.World.is_world s.disk.now)
+
+pub returns-clause-others : goal.returns-clause-others
+returns-clause-others g c =
+    let s = c.args.self.now in
+    let p = c.take-page.result.0 in
+    let took = c.take-page.ensures in
+    let named = c.count_names.ensures in
+    let area = taken_area s.geometry c.count_names.new.units Page p named.counted.geometry took.lowest in
+    let unit = area_unit s.geometry Page p area in
+    let used : used_at c.take-page.new.self ≡ updated (used_at s.units.now) p true = took.used ∙ ap (λ (f : ℕ → Bool). updated f p true) named.used in
+    let free : used_at s.units.now p ≡ false = ap (λ (f : ℕ → Bool). f p) (sym named.used) ∙ took.lowest.free in
+    let room : length c.args.bytes.now ≤ unit_len s.geometry p = omega (arith, c.requires.page, page_len s.geometry p area) in
+    let counted = taken_counted s.geometry c.count_names.new.units c.take-page.new.self p named.counted unit took.geometry took.used took.refs in
+    let was = g.D.World.outside s.disk.now in
+    let is = g.D.World.outside c.write_unit.new.disk in
+    let fits = node_fits s.geometry p (length c.args.bytes.now) was.size area c.requires.page c.requires.ready.disk in
+    let world = g.D.World.is_world s.disk.now in
+    λ q other differ. other_unit was is s.geometry p q c.args.bytes.now was.disk refl c.write_unit.ensures.changes.only.goes c.in_ok-write_unit.ensures.written unit other differ room fits world

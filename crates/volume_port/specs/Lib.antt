@@ -1,0 +1,3 @@
+pub mod Logged
+pub mod Ported
+pub mod Stays

@@ -1,0 +1,15 @@
+//! The port of a session: tree pages and logged pages over a disk. A session's commands on objects reach the volume through it alone, so what it
+//! promises of the committed pages holds of each of them.
+#![tactic(auto)]
+
+mod blocks;
+mod ground;
+mod law;
+mod logged;
+mod pages;
+mod port;
+mod reading;
+
+pub use law::committed_pages_stay;
+pub use logged::LoggedPages;
+pub use port::VolumePort;

@@ -1,0 +1,92 @@
+//! Which logged pages a session has.
+ghost use Rattle.std.specs.Prelude.{◌≡◌, ◌<◌, ℕ, true, false, length, slice_set, eqb, IfOk};
+ghost use Rattle.ex_base.specs.Area.{area_end, catalog_no};
+
+use ex_base::{Geometry, PageNo};
+use std::alloc::{AllocError, Global};
+use std::marker::Model;
+
+/// The page of the catalog, the first one of the page area.
+const CATALOG: u32 = 257;
+
+/// Which logged pages the working state has, and which of them the open transaction took. Contracts see two lists of flags, by page number.
+#[derive(Drop)]
+pub struct LoggedPages {
+    held: Vec<bool>,
+    taken: Vec<bool>,
+}
+
+impl Model for LoggedPages {
+    ghost use Rattle.std.specs.Prelude.{◌≡◌, length};
+    ghost use Rattle.volume_port.specs.Logged.{LoggedSet};
+
+    ghost Value = { LoggedSet };
+
+    ghost view = { λ p. record { held = p.held.items; taken = p.taken.items } };
+}
+
+impl LoggedPages {
+    ghost use Rattle.volume_port.specs.Logged.{is_held, is_taken};
+
+    /// The pages of a fresh volume: the catalog's page alone is there, and none was taken.
+    pub fn make(alloc: Global, geometry: &Geometry) -> Result<LoggedPages, AllocError>
+        ensures held { IfOk result (λ s. (p : ℕ) → is_held s p ≡ eqb p catalog_no) }
+        ensures taken { IfOk result (λ s. (p : ℕ) → is_taken s p ≡ false) }
+        ensures held_len { IfOk result (λ s. length s.held ≡ area_end geometry.now) }
+        ensures taken_len { IfOk result (λ s. length s.taken ≡ area_end geometry.now) }
+    {
+        let pages = (CATALOG + geometry.pages) as usize;
+        let mut held = vec![in alloc; false; pages]?;
+        held[CATALOG as usize] = true;
+        Ok(LoggedPages {
+            held,
+            taken: vec![in alloc; false; pages]?,
+        })
+    }
+
+    /// Whether the working state has a page.
+    pub fn holds(&self, page: PageNo) -> bool
+        requires { page.0 < length self.now.held }
+        ensures { result ≡ is_held self.now page.0 }
+    {
+        self.held[page.0 as usize]
+    }
+
+    /// Whether the transaction took a page.
+    pub fn took(&self, page: PageNo) -> bool
+        requires { page.0 < length self.now.taken }
+        ensures { result ≡ is_taken self.now page.0 }
+    {
+        self.taken[page.0 as usize]
+    }
+
+    /// The working state has a page, which the transaction did not take. An opening says so of each page of a file.
+    pub fn adopt(&mut self, page: PageNo)
+        requires held { page.0 < length self.old.held }
+        requires taken { page.0 < length self.old.taken }
+        ensures { self.new ≡ record { held = slice_set self.old.held page.0 true; taken = slice_set self.old.taken page.0 false } }
+    {
+        self.held[page.0 as usize] = true;
+        self.taken[page.0 as usize] = false;
+    }
+
+    /// The transaction takes a page.
+    pub fn take(&mut self, page: PageNo)
+        requires held { page.0 < length self.old.held }
+        requires taken { page.0 < length self.old.taken }
+        ensures { self.new ≡ record { held = slice_set self.old.held page.0 true; taken = slice_set self.old.taken page.0 true } }
+    {
+        self.held[page.0 as usize] = true;
+        self.taken[page.0 as usize] = true;
+    }
+
+    /// A page is given back.
+    pub fn give(&mut self, page: PageNo)
+        requires held { page.0 < length self.old.held }
+        requires taken { page.0 < length self.old.taken }
+        ensures { self.new ≡ record { held = slice_set self.old.held page.0 false; taken = slice_set self.old.taken page.0 false } }
+    {
+        self.held[page.0 as usize] = false;
+        self.taken[page.0 as usize] = false;
+    }
+}

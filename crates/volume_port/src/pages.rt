@@ -1,0 +1,126 @@
+//! Logged pages.
+ghost use Rattle.std.specs.Prelude.{◌≡◌, ◌≢◌, ◌≤◌, ◌+◌, ℕ, true, false, length, nat_eq, OnOk, IfOk, IfErr, Some, None};
+ghost use Rattle.std.specs.Map.{lookup};
+ghost use Rattle.ex_base.specs.Area.{InPageArea, catalog_no};
+ghost use Rattle.ex_base.specs.Ports.{Keeps, HasCause, IsDamage, IsLowest, TakesPage, GivesPage};
+ghost use Rattle.ex_base.specs.declared.names.Area.TheVariants.{Page, Segment};
+ghost use Rattle.page_alloc.specs.UnitSet.{used_at, refs_at, free_count};
+
+use crate::port::VolumePort;
+use crate::reading::read_page;
+use disk_model::Disk;
+use ex_base::{Area, Ground, PageNo, Pages, PortFault, Volume};
+use page_alloc::Units;
+use std::alloc::Global;
+
+/// The page of the catalog, the first one of the page area.
+const CATALOG: u32 = 257;
+
+impl<'a, D: Disk> VolumePort<'a, D> {
+    // Copies a page, as the transaction has it, into the room.
+    fn fill(&mut self, alloc: Global, page: PageNo) -> Result<(), PortFault>
+        requires ready { ⟦<VolumePort<'a, D> as Ground>⟧.ready self.old }
+        requires page { InPageArea self.old.store.geometry page.0 }
+        ensures bytes { OnOk result (⟦<VolumePort<'a, D> as Ground>⟧.tells self.old → self.new.room.now ≡ ⟦<VolumePort<'a, D> as Ground>⟧.image self.old page.0) }
+        ensures kept { Keeps ⟦<VolumePort<'a, D> as Ground>⟧ self.old self.new }
+        ensures no_damage { IfErr result (λ fault. IsDamage fault → ⊥) }
+        ensures cause { HasCause (⟦<VolumePort<'a, D> as Ground>⟧.faults self.old) (⟦<VolumePort<'a, D> as Ground>⟧.faults self.new) result }
+    {
+        read_page(&mut self.store, self.meta, alloc, page, self.room)
+    }
+
+    // The bytes in the room.
+    fn filled(&self) -> &[u8]
+        ensures { result.now ≡ self.now.room.now }
+    {
+        self.room
+    }
+}
+
+// Frees a page that the transaction took, where it is used and no node names it.
+fn free_taken(units: &mut Units, page: PageNo, taken: bool)
+    requires { InPageArea units.old.geometry page.0 }
+    ensures freed { taken ≡ true → refs_at units.old page.0 ≡ 0 → used_at units.new page.0 ≡ false }
+    ensures kept { taken ≡ false → units.new ≡ units.old }
+    ensures named { refs_at units.old page.0 ≢ 0 → units.new ≡ units.old }
+    ensures others { (p : ℕ) → p ≢ page.0 → used_at units.new p ≡ used_at units.old p }
+    ensures no_more { (p : ℕ) → used_at units.new p ≡ true → used_at units.old p ≡ true }
+    ensures refs { refs_at units.new ≡ refs_at units.old }
+    ensures geometry { units.new.geometry ≡ units.old.geometry }
+    ensures pages { free_count units.old.geometry (used_at units.old) Page ≤ free_count units.new.geometry (used_at units.new) Page }
+    ensures leaves { free_count units.new.geometry (used_at units.new) Segment ≡ free_count units.old.geometry (used_at units.old) Segment }
+{
+    if taken && units.is_used(page) && units.refs(page) == 0 {
+        units.give(page);
+    }
+}
+
+impl<'a, D: Disk> Pages for VolumePort<'a, D> {
+    ghost use Rattle.volume_port.specs.Logged.{is_taken};
+
+    fn page_size(&self) -> u32 {
+        self.store.geometry.page_size
+    }
+
+    fn in_area(&self, page: PageNo) -> bool {
+        CATALOG <= page.0 && page.0 - CATALOG < self.store.geometry.pages
+    }
+
+    fn get(&mut self, alloc: Global, page: PageNo) -> Result<&[u8], PortFault> {
+        self.fill(alloc, page)?;
+        Ok(self.filled())
+    }
+
+    // A page that the working state does not have is not changed.
+    fn put(&mut self, alloc: Global, page: PageNo, image: &[u8]) -> Result<(), PortFault> {
+        if !self.pages.holds(page) {
+            return Err(PortFault::Memory);
+        }
+        Ok(self.meta.edit(alloc, page, image)?)
+    }
+
+    // A page that the working state has is free only where it was given back as a unit; none is taken then.
+    fn take_page(&mut self, alloc: Global, image: &[u8]) -> Result<PageNo, PortFault>
+        requires ready { ⟦<VolumePort<'a, D> as Ground>⟧.ready self.old }
+        requires free { 1 ≤ ⟦<VolumePort<'a, D> as Ground>⟧.free self.old Page }
+        requires len { length image.now ≡ self.old.store.geometry.page_size }
+        ensures taken { IfOk result (λ page. TakesPage ⟦<VolumePort<'a, D> as Ground>⟧ self.old self.new page.0 image.now) }
+        ensures lowest { IfOk result (λ page. IsLowest self.old.store.geometry (used_at self.old.store.units.now) Page page.0) }
+        ensures noted { IfOk result (λ page. is_taken self.new.pages.now page.0 ≡ true) }
+        ensures pages { OnOk result (⟦<VolumePort<'a, D> as Ground>⟧.free self.new Page + 1 ≡ ⟦<VolumePort<'a, D> as Ground>⟧.free self.old Page) }
+        ensures leaves { OnOk result (⟦<VolumePort<'a, D> as Ground>⟧.free self.new Segment ≡ ⟦<VolumePort<'a, D> as Ground>⟧.free self.old Segment) }
+        ensures no_damage { IfErr result (λ fault. IsDamage fault → ⊥) }
+        ensures leads { ⟦<VolumePort<'a, D> as Ground>⟧.leads self.old self.new }
+        ensures cause { HasCause (⟦<VolumePort<'a, D> as Ground>⟧.faults self.old) (⟦<VolumePort<'a, D> as Ground>⟧.faults self.new) result }
+    {
+        let page = self.store.units.take(Area::Page);
+        if self.pages.holds(page) {
+            return Err(PortFault::Memory);
+        }
+        self.meta.edit(alloc, page, image)?;
+        self.pages.take(page);
+        Ok(page)
+    }
+
+    fn give_page(&mut self, _alloc: Global, page: PageNo) -> Result<(), PortFault>
+        requires ready { ⟦<VolumePort<'a, D> as Ground>⟧.ready self.old }
+        requires page { InPageArea self.old.store.geometry page.0 }
+        requires other { page.0 ≢ catalog_no }
+        ensures given { OnOk result (GivesPage ⟦<VolumePort<'a, D> as Ground>⟧ self.old self.new page.0) }
+        ensures noted { OnOk result (lookup (nat_eq page.0) self.new.meta.now.working ≡ Some None) }
+        ensures freed { OnOk result (is_taken self.old.pages.now page.0 ≡ true → refs_at self.old.store.units.now page.0 ≡ 0
+            → used_at self.new.store.units.now page.0 ≡ false) }
+        ensures kept { OnOk result (is_taken self.old.pages.now page.0 ≡ false → self.new.store.units.now ≡ self.old.store.units.now) }
+        ensures no_damage { IfErr result (λ fault. IsDamage fault → ⊥) }
+        ensures leads { ⟦<VolumePort<'a, D> as Ground>⟧.leads self.old self.new }
+        ensures cause { HasCause (⟦<VolumePort<'a, D> as Ground>⟧.faults self.old) (⟦<VolumePort<'a, D> as Ground>⟧.faults self.new) result }
+    {
+        self.meta.gone(page)?;
+        let taken = self.pages.took(page);
+        free_taken(self.store.units, page, taken);
+        self.pages.give(page);
+        Ok(())
+    }
+}
+
+impl<'a, D: Disk> Volume for VolumePort<'a, D> {}
