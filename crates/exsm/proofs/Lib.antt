@@ -1,2 +1,0 @@
-mod Grammar
-mod Making

@@ -1,5 +1,0 @@
-pub mod Status
-pub mod Numerals
-pub mod Words
-pub mod EmptyVolume
-pub mod Format

@@ -1,48 +1,9 @@
 //! exsm, a storage manager: keeps storage objects on a volume file.
 #![tactic(auto)]
 
-mod format;
-mod run;
-mod status;
-#[cfg(test)]
-mod tests;
-mod words;
-
-use file_host::FileHost;
-use run::run;
-use status::Status;
+use exsm_run::run_program;
 use std::process::ExitCode;
-use std::{env, io};
-use words::volume_of;
-
-// The words of the command line, without the program's name.
-fn words_of(rt: &HostRuntime) -> io::Result<Vec<String>> {
-    let mut words = Vec::new(rt.alloc());
-    for word in env::args(rt)?.skip(1) {
-        words.push(word)?;
-    }
-    Ok(words)
-}
-
-// Runs the command line on the file that it speaks of.
-fn run_words(rt: &HostRuntime, words: &[String]) -> Status {
-    let Ok(target) = volume_of(rt.alloc(), words) else {
-        return Status::Memory;
-    };
-    let path = target.and_then(|t| words.get(t.volume)).map(|w| w.as_str());
-    let size = target.and_then(|t| t.make).map(|g| g.volume_bytes());
-    let mut host = FileHost::open(rt, path, size, rt.stdin(), rt.stdout());
-    run(rt.alloc(), words, &mut host)
-}
 
 fn main(rt: HostRuntime) -> ExitCode {
-    let status = match words_of(&rt) {
-        Ok(words) => run_words(&rt, &words),
-        Err(_) => Status::Usage,
-    };
-    let code = status.code();
-    if code != 0 {
-        let _ = eprintln!(rt; "exsm: status {code} {status}");
-    }
-    ExitCode::from(code)
+    run_program(rt)
 }

@@ -1,0 +1,4 @@
+mod Ending
+mod Grammar
+mod Making
+mod Opened

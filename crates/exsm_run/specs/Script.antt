@@ -1,0 +1,81 @@
+-- How a run of a script ends.
+use Rattle.std.specs.Prelude.{◌≡◌, ◌≤◌, ℕ, List, length, Option, Some, None, ⊤}
+use Rattle.disk_model.specs.Outside.{Outside, RestsOn, Rose}
+use Rattle.table_model.specs.declared.table.Table.{Table}
+use Rattle.session_views.specs.View.{Meaning}
+use Rattle.runs.specs.declared.stopped.Stopped.{Stopped}
+use Rattle.runs.specs.declared.stopped.Stopped.TheVariants as stopped
+use Rattle.runs.specs.Headline.{Headline}
+use Rattle.volume_model.specs.Parts.{StandsFor}
+use Rattle.exsm_run.specs.declared.status.Status.{Status}
+use Rattle.exsm_run.specs.declared.status.Status.TheVariants.{Done, Usage, ScriptFault, OutputFault, DiskFault, BadVolume, Memory, Damaged, AlreadyVolume, TooSmall, ScriptLong}
+
+-- the most bytes of a script that count
+abbrev pub script_most : ℕ
+script_most = 1099511627776
+
+-- The status of a run that ended so: at the end of its script (None), or by a stop. A session that was just opened is never down; such a stop would
+-- be answered as want of memory.
+abbrev pub status_of : Option Stopped → Status
+status_of None = Done
+status_of (Some stopped.Script) = ScriptFault
+status_of (Some stopped.Output) = OutputFault
+status_of (Some stopped.Disk) = DiskFault
+status_of (Some stopped.Memory) = Memory
+status_of (Some (stopped.BadVolume part)) = BadVolume part
+status_of (Some (stopped.Damaged page want got)) = Damaged page want got
+status_of (Some stopped.ScriptLong) = ScriptLong script_most
+status_of (Some stopped.Down) = Memory
+
+-- The run ended with this status, and this is what it did.
+pub record Ran {S : Type 0} (M : Meaning S) (table : Table) (was : List ℕ) (before after : Outside) (status : Status) : Type 0 where
+  pub ending : Option Stopped
+  pub is : status ≡ status_of ending
+  pub headline : Headline M table was script_most before after ending
+
+-- the statuses of a run that took no line: the disk holds no volume, or could not be read, or no memory was there
+abbrev pub IsOpeningStatus : Status → Type 0
+IsOpeningStatus Done = ⊥
+IsOpeningStatus Usage = ⊥
+IsOpeningStatus ScriptFault = ⊥
+IsOpeningStatus OutputFault = ⊥
+IsOpeningStatus DiskFault = ⊤
+IsOpeningStatus (BadVolume part) = ⊤
+IsOpeningStatus Memory = ⊤
+IsOpeningStatus (Damaged page want got) = ⊥
+IsOpeningStatus AlreadyVolume = ⊥
+IsOpeningStatus (TooSmall have need) = ⊥
+IsOpeningStatus (ScriptLong max) = ⊥
+
+-- the statuses of a run on a volume
+abbrev pub IsRunStatus : Status → Type 0
+IsRunStatus Done = ⊤
+IsRunStatus Usage = ⊥
+IsRunStatus ScriptFault = ⊤
+IsRunStatus OutputFault = ⊤
+IsRunStatus DiskFault = ⊤
+IsRunStatus (BadVolume part) = ⊥
+IsRunStatus Memory = ⊤
+IsRunStatus (Damaged page want got) = ⊥
+IsRunStatus AlreadyVolume = ⊥
+IsRunStatus (TooSmall have need) = ⊥
+IsRunStatus (ScriptLong max) = ⊤
+
+-- The premises of a run: an honest disk holds an image of this table, nothing is pending, and the sink tells what it was sent.
+pub record IsOnVolume (entry : Outside) (table : Table) (was : List ℕ) : Type 0 where
+  pub image : List ℕ
+  pub rests : RestsOn entry image
+  pub stands : StandsFor image table
+  pub sent : entry.sent ≡ Some was
+
+-- What a run needs to reach the end of its script: a volume, a script that isn't too long, and no fault of the outside.
+pub record MayRun (before after : Outside) : Type 0 where
+  pub table : Table
+  pub was : List ℕ
+  pub on : IsOnVolume before table was
+  pub script : List ℕ
+  pub left : before.left ≡ Some script
+  pub within : length script ≤ script_most
+  pub no_read_fault : Rose before.read_faults after.read_faults → ⊥
+  pub no_output_fault : Rose before.write_faults after.write_faults → ⊥
+  pub no_disk_fault : Rose before.disk_faults after.disk_faults → ⊥
