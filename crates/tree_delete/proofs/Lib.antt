@@ -11,3 +11,5 @@ mod OpenLaws
 mod RowLaws
 mod TreeLaws
 mod TopLaws
+pub mod Ends
+mod Beside

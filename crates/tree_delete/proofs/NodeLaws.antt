@@ -16,7 +16,9 @@ use Rattle.tree_model.proofs.SameUnits.{split_each}
 use Rattle.tree_rows.specs.declared.rows.Part.{Part}
 use Rattle.tree_rows.specs.Rows.{row_size, row_bytes, row_shape, row_units, AreTrees, IsCounted, IsRowOn, parts_of}
 use Rattle.ex_base.specs.declared.faults.PortFault.{PortFault}
-use Rattle.tree_rows.specs.Damage.{IsWalkFault, NamesNode}
+use Rattle.tree_rows.specs.Damage.{IsSoundWay, IsWalkFault, NamesNode}
+use Rattle.ex_base.specs.Area.{NamesLeaf}
+use Rattle.tree_rows.proofs.Ways.{way_append, way_back, way_front, way_inner, way_move, way_past}
 use Rattle.tree_rows.proofs.Blame.{walk_below}
 use Rattle.tree_delete.proofs.Faults.{walk_nowhere, walk_either}
 use Rattle.tree_rows.proofs.Parts.{below_fit}
@@ -25,6 +27,8 @@ use Rattle.tree_steps.specs.Made.{AreUsed, Has, Holds}
 use Rattle.tree_steps.proofs.Over.{bytes_app, units_app}
 use Rattle.tree_delete.specs.declared.cut.Cut.{Cut}
 use Rattle.tree_delete.specs.Cuts.{all_of, IsCutAt, IsCutOf, AreHalves, HaveHalves, AreChildren, IsOpened, IsBelow}
+use Rattle.tree_delete.specs.Beside.{AreNodesAt, children_on}
+use Rattle.tree_delete.proofs.Beside.{children_app, node_one}
 use Rattle.tree_delete.proofs.CutLaws.{size_app, in_either, in_first, in_second, each_cut, size_cut, units_cut, bytes_cut}
 use Rattle.tree_delete.proofs.RootSteps.{has_each}
 use Rattle.tree_delete.proofs.Growing.{holds_split, shape_app}
@@ -138,6 +142,8 @@ module _ {S : Type 0} (g : ground.Ghosts S) where
     pub counted : AreChildren (g.geometry old) level least (take i row) all
     pub opened : g.tells old → (l : ℕ) → level ≡ suc l → Holds g old (suc l) (take i row) → IsOpened g old l (take i row) all
     pub walk : g.tells old → (fault : PortFault) → IsWalkFault (g.geometry old) (g.unit old) (level - 1) (g.geometry old).fan all fault → IsWalkFault (g.geometry old) (g.unit old) level least row fault
+    pub way : g.tells old → (f t : ℕ) → IsSoundWay (g.geometry old) (g.unit old) (NamesLeaf (g.geometry old)) (level - 1) (g.geometry old).fan all f t → IsSoundWay (g.geometry old) (g.unit old) (NamesLeaf (g.geometry old)) level least (take i row) f t
+    pub nodes : g.tells old → AreNodesAt (g.geometry old) (g.unit old) level least (take i row) × (all ≡ children_on (g.unit old) (take i row))
 
   keeps_refl : (s : S) → Keeps g s s
   keeps_refl s = record { units = refl; images = refl; used = refl; refs = refl; held = refl; free = refl; leads = g.leads_refl s }
@@ -148,6 +154,8 @@ module _ {S : Type 0} (g : ground.Ghosts S) where
     counted = record { sum = refl; some = tt; fits = λ _. tt; few = omega arith; enough = omega arith };
     opened = λ told l same h. record { holds = record { trees = tt; used = tt }; bytes = refl; units = λ p has. has; halves = λ all. tt };
     walk = λ told fault h. walk_nowhere (g.geometry s) (g.unit s) (level - 1) level (g.geometry s).fan least row fault h;
+    way = λ told f t h. way_past (g.geometry s) (g.unit s) (NamesLeaf (g.geometry s)) level least [] f t (omega arith);
+    nodes = λ told. (tt, refl);
   }
 
   one_more : (geo : Geometry) (level least : ℕ) (xs all children : List Part) (part : Part) → 1 ≤ level → IsCounted geo level part.size least children → AreChildren geo level least xs all → AreChildren geo level least (xs ++ (part ∷ [])) (all ++ children)
@@ -191,6 +199,28 @@ module _ {S : Type 0} (g : ground.Ghosts S) where
               | inl x ↦ h.walk told fault x
               | inr y ↦ walk_below (g.geometry old) (g.unit old) level least i row children fault (λ none. omega arith) lt (subst (λ (k : Geometry). NamesNode k (get_or row i no_part).page.0) geo area) on here.filled y
             ];
+        way = λ told f t w.
+            let on : IsRowOn (g.geometry old) (g.unit old (get_or row i no_part).page.0) level (get_or row i no_part).size children =
+            subst (λ (geo : Geometry). IsRowOn geo (g.unit old (get_or row i no_part).page.0) level (get_or row i no_part).size children) geo
+            (subst (λ (u : Units). IsRowOn (g.geometry now) (u (get_or row i no_part).page.0) level (get_or row i no_part).size children) h.kept.units (found (g.leads_told old now h.kept.leads told))) in
+            let here : IsCounted (g.geometry old) level (get_or row i no_part).size least children = subst (λ (k : Geometry). IsCounted k level (get_or row i no_part).size least children) geo counted in
+            let both = subst (λ xs. IsSoundWay (g.geometry old) (g.unit old) (NamesLeaf (g.geometry old)) (level - 1) (g.geometry old).fan xs f t) is w in
+            subst (λ xs. IsSoundWay (g.geometry old) (g.unit old) (NamesLeaf (g.geometry old)) level least xs f t) (sym more)
+            (way_append (g.geometry old) (g.unit old) (NamesLeaf (g.geometry old)) level least (take i row) (get_or row i no_part ∷ []) f t
+            (h.way told f t (way_front (g.geometry old) (g.unit old) (NamesLeaf (g.geometry old)) (level - 1) (g.geometry old).fan all children f t both))
+            (λ far. way_inner (g.geometry old) (g.unit old) (NamesLeaf (g.geometry old)) level least (get_or row i no_part) children (f - row_size (take i row)) (t - row_size (take i row)) (λ none. omega arith) (subst (λ (k : Geometry). NamesNode k (get_or row i no_part).page.0) geo area) on here.filled
+            (λ inside. way_move (g.geometry old) (g.unit old) (NamesLeaf (g.geometry old)) (level - 1) (g.geometry old).fan children (f - row_size all) (t - row_size all) (f - row_size (take i row)) (t - row_size (take i row)) (omega (arith, h.counted.sum)) (omega (arith, h.counted.sum))
+            (way_back (g.geometry old) (g.unit old) (NamesLeaf (g.geometry old)) (level - 1) (g.geometry old).fan all children f t (omega (arith, h.counted.sum, far)) both))));
+        nodes = λ told.
+            let on : IsRowOn (g.geometry old) (g.unit old (get_or row i no_part).page.0) level (get_or row i no_part).size children =
+            subst (λ (geo : Geometry). IsRowOn geo (g.unit old (get_or row i no_part).page.0) level (get_or row i no_part).size children) geo
+            (subst (λ (u : Units). IsRowOn (g.geometry now) (u (get_or row i no_part).page.0) level (get_or row i no_part).size children) h.kept.units (found (g.leads_told old now h.kept.leads told))) in
+            let here : IsCounted (g.geometry old) level (get_or row i no_part).size least children = subst (λ (k : Geometry). IsCounted k level (get_or row i no_part).size least children) geo counted in
+            let one = node_one (g.geometry old) (g.unit old) level least (get_or row i no_part) children (subst (λ (k : Geometry). NamesNode k (get_or row i no_part).page.0) geo area) on here.filled in (
+              subst (AreNodesAt (g.geometry old) (g.unit old) level least) (sym more) (each-append _ (take i row) (get_or row i no_part ∷ []) (h.nodes told).0 (one.0, tt)),
+              is ∙ ap (λ (xs : List Part). xs ++ children) (h.nodes told).1 ∙ ap (λ (xs : List Part). children_on (g.unit old) (take i row) ++ xs) one.1
+                  ∙ sym (children_app (g.unit old) (take i row) (get_or row i no_part ∷ [])) ∙ ap (children_on (g.unit old)) (sym more),
+            );
       }
 
   -- ---- the cut through the children

@@ -78,6 +78,12 @@ pub some_rest : (row : List Part) → 1 ≤ row_size row → 1 ≤ length row
 some_rest [] some = absurd (omega arith)
 some_rest (part ∷ row) some = omega arith
 
+-- there are enough for them
+pub roots_free : (fan count free : ℕ) → 2 ≤ fan → count ≤ 2 * most_pairs fan + 4 → 8 ≤ free → count + fan ≤ fan * free + 2
+roots_free fan count free wide few enough =
+    let product : fan * 8 ≤ fan * free = mul-le-mul_left fan enough in
+    omega arith
+
 -- and few are taken
 pub roots_seven : (fan count before after : ℕ) → 2 ≤ fan → 1 ≤ count → count ≤ 2 * most_pairs fan + 4 → (count ≡ 1 → after ≡ before) → (2 ≤ count → fan * before + 2 ≤ count + fan + fan * after) → before ≤ after + 7
 roots_seven fan count before after wide some few lone more = elim (cases_lt count 2) [

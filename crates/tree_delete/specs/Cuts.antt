@@ -9,6 +9,7 @@ use Rattle.count_nodes.specs.Split.{most_pairs}
 use Rattle.tree_model.specs.Shape.{Subtree, IsHalfFull}
 use Rattle.tree_model.specs.Trees.{Units}
 use Rattle.tree_rows.specs.declared.rows.Part.{Part}
+use Rattle.tree_rows.specs.Damage.{IsSoundEnd}
 use Rattle.tree_rows.specs.Rows.{FitLeaves, row_bytes, row_shape, row_size, row_units}
 use Rattle.tree_steps.specs.Made.{Has, Holds}
 use Rattle.tree_steps.specs.Built.{AreSome}
@@ -46,6 +47,10 @@ pub record IsCutOf (row : List Part) (at len : ℕ) (cut : Cut) : Type 0 where
   pub inside : cut.at + cut.len ≤ row_size cut.run.items
   pub through : (gone ≡ []) ⊎ ((cut.at ≤ row_size lead) × (row_size lead ≤ cut.at + cut.len))
   pub few : length cut.run.items ≤ 2
+
+-- the ways down to both ends of the range are sound
+abbrev pub HasSoundEnds : Geometry → Units → ℕ → ℕ → Cut → Type 0
+HasSoundEnds g units level least cut = IsSoundEnd g units level least cut.run.items cut.at × IsSoundEnd g units level least cut.run.items (cut.at + cut.len)
 
 -- each tree is one that may stand below a root: a leaf that is half full, a node with at least the fan
 abbrev pub AreHalves : Geometry → (l : ℕ) → List (Subtree l) → Type 0

@@ -1,12 +1,13 @@
 // A cut through a row of leaves.
-ghost use Rattle.std.specs.Prelude.{◌≡◌, ℕ, IfErr, ◌≤◌, ◌<◌, ◌+◌, ◌-◌, ◌*◌, ◌^◌, length, IfOk, OnOk};
+ghost use Rattle.std.specs.Prelude.{◌≡◌, ℕ, IfErr, ◌≤◌, ◌<◌, ◌+◌, ◌-◌, ◌*◌, ◌/◌, ◌^◌, length, IfOk, OnOk};
 ghost use Rattle.ex_base.specs.Ports.{HasCause};
 ghost use Rattle.ex_base.specs.Sizes.{leaf_bytes};
 ghost use Rattle.ex_base.specs.declared.names.Area.TheVariants.{Page, Segment};
 ghost use Rattle.tree_rows.specs.Damage.{IsWalkFault};
 ghost use Rattle.tree_rows.specs.Rows.{row_size};
 ghost use Rattle.tree_steps.specs.Made.{Extends, Holds};
-ghost use Rattle.tree_delete.specs.Cuts.{all_of, sides, IsCutAt};
+ghost use Rattle.tree_delete.specs.Cuts.{all_of, sides, IsCutAt, HasSoundEnds};
+ghost use Rattle.tree_delete.specs.Beside.{OpensSound, TakesNear};
 ghost use Rattle.tree_delete.specs.Leaves.{IsWider, AreEven};
 ghost use Rattle.tree_delete.specs.Left.{IsLeftOf, IsLeft, AreRootLeaves};
 
@@ -21,7 +22,8 @@ fn with_leaf(alloc: Global, cut: Cut, full: u64) -> Result<Cut, AllocError>
     requires inside { cut.len ≤ row_size cut.run.items }
     requires limit { row_size (all_of cut) < 2 ^ 32 }
     requires place { cut.at < 2 ^ 32 }
-    ensures { IfOk result (λ wider. IsWider full cut wider) }
+    ensures wider { IfOk result (λ wider. IsWider full cut wider) }
+    ensures near { IfOk result (λ wider. 1 ≤ row_size cut.run.items - cut.len → row_size cut.run.items - cut.len < full / 2 → TakesNear cut wider) }
 {
     let rest = bytes_of(&cut.run) - cut.len;
     if rest == 0 || full / 2 <= rest {
@@ -82,6 +84,8 @@ pub(crate) fn cut_leaves<B: Blocks>(
     ensures leaves { OnOk result (B.free blocks.old Segment ≤ B.free blocks.new Segment + 4) }
     ensures pages { OnOk result (B.free blocks.new Page ≡ B.free blocks.old Page) }
     ensures left { IfOk result (λ made. B.tells blocks.old → Holds B.Ground blocks.old 0 (all_of cut) → IsLeft B.Ground blocks.old blocks.new 0 cut made.items) }
+    ensures way { OnOk result (B.tells blocks.old → HasSoundEnds (B.geometry blocks.old) (B.unit blocks.old) 0 0 cut) }
+    ensures beside { OnOk result (B.tells blocks.old → OpensSound (B.geometry blocks.old) (B.unit blocks.old) 0 0 cut) }
     ensures fault { IfErr result (λ fault. B.tells blocks.old → (least : ℕ) → IsWalkFault (B.geometry blocks.old) (B.unit blocks.old) 0 least (all_of cut) fault) }
     ensures leads { B.leads blocks.old blocks.new }
     ensures cause { HasCause (B.faults blocks.old) (B.faults blocks.new) result }

@@ -1,12 +1,14 @@
 // From a cut through a row of nodes to the cut through their children.
+ghost use Rattle.ex_base.specs.Area.{NamesLeaf};
 ghost use Rattle.std.specs.Prelude.{◌≡◌, ℕ, suc, ◌≤◌, ◌<◌, ◌+◌, ◌-◌, ◌*◌, ◌^◌, length, IfOk, IfErr, OnOk};
 ghost use Rattle.ex_base.specs.Ports.{Keeps, HasCause};
 ghost use Rattle.count_nodes.specs.Split.{most_pairs};
 ghost use Rattle.ex_base.specs.declared.faults.PortFault.{PortFault};
-ghost use Rattle.tree_rows.specs.Damage.{IsWalkFault};
+ghost use Rattle.tree_rows.specs.Damage.{IsWalkFault, IsSoundWay};
 ghost use Rattle.tree_rows.specs.Rows.{row_size};
 ghost use Rattle.tree_steps.specs.Made.{Holds};
-ghost use Rattle.tree_delete.specs.Cuts.{all_of, sides, AreChildren, IsOpened, IsBelow, IsCutAt};
+ghost use Rattle.tree_delete.specs.Beside.{children_on, AreNodesAt, OpensSound};
+ghost use Rattle.tree_delete.specs.Cuts.{all_of, sides, AreChildren, IsOpened, IsBelow, IsCutAt, IsCutOf, HasSoundEnds};
 ghost use Rattle.tree_delete.specs.Opens.{IsOpenedCut, OpensTo};
 
 use crate::cut::{Cut, cut_through, extend, joined};
@@ -34,6 +36,8 @@ fn children_of<B: Blocks>(
     requires level { 1 ≤ level }
     ensures counted { IfOk result (λ below. AreChildren (B.geometry blocks.old) level least row.now below.items) }
     ensures opened { IfOk result (λ below. B.tells blocks.old → (l : ℕ) → level ≡ suc l → Holds B.Ground blocks.old (suc l) row.now → IsOpened B.Ground blocks.old l row.now below.items) }
+    ensures way { IfOk result (λ below. B.tells blocks.old → (first last : ℕ) → IsSoundWay (B.geometry blocks.old) (B.unit blocks.old) (NamesLeaf (B.geometry blocks.old)) (level - 1) (B.geometry blocks.old).fan below.items first last → IsSoundWay (B.geometry blocks.old) (B.unit blocks.old) (NamesLeaf (B.geometry blocks.old)) level least row.now first last) }
+    ensures nodes { IfOk result (λ below. B.tells blocks.old → AreNodesAt (B.geometry blocks.old) (B.unit blocks.old) level least row.now × (below.items ≡ children_on (B.unit blocks.old) row.now)) }
     ensures fault { IfErr result (λ fault. B.tells blocks.old → IsWalkFault (B.geometry blocks.old) (B.unit blocks.old) level least row.now fault) }
     ensures walk { IfOk result (λ below. B.tells blocks.old → (fault : PortFault) → IsWalkFault (B.geometry blocks.old) (B.unit blocks.old) (level - 1) (B.geometry blocks.old).fan below.items fault → IsWalkFault (B.geometry blocks.old) (B.unit blocks.old) level least row.now fault) }
     ensures kept { Keeps B.Ground blocks.old blocks.new }
@@ -63,6 +67,8 @@ pub(crate) fn cut_below<B: Blocks>(
     ensures less { IfOk result (λ below. below.len ≤ cut.now.len) }
     ensures few { IfOk result (λ below. length (all_of below) ≤ 2 * most_pairs (B.geometry blocks.old).fan) }
     ensures below { IfOk result (λ below. B.tells blocks.old → (l : ℕ) → level ≡ suc l → Holds B.Ground blocks.old (suc l) cut.now.run.items → IsBelow B.Ground blocks.old l cut.now.run.items cut.now.at cut.now.len below) }
+    ensures way { IfOk result (λ below. B.tells blocks.old → HasSoundEnds (B.geometry blocks.old) (B.unit blocks.old) (level - 1) (B.geometry blocks.old).fan below → HasSoundEnds (B.geometry blocks.old) (B.unit blocks.old) level least cut.now) }
+    ensures nodes { IfOk result (λ below. B.tells blocks.old → AreNodesAt (B.geometry blocks.old) (B.unit blocks.old) level least cut.now.run.items × IsCutOf (children_on (B.unit blocks.old) cut.now.run.items) cut.now.at cut.now.len below) }
     ensures fault { IfErr result (λ fault. B.tells blocks.old → IsWalkFault (B.geometry blocks.old) (B.unit blocks.old) level least cut.now.run.items fault) }
     ensures walk { IfOk result (λ below. B.tells blocks.old → (fault : PortFault) → IsWalkFault (B.geometry blocks.old) (B.unit blocks.old) (level - 1) (B.geometry blocks.old).fan (all_of below) fault → IsWalkFault (B.geometry blocks.old) (B.unit blocks.old) level least cut.now.run.items fault) }
     ensures kept { Keeps B.Ground blocks.old blocks.new }
@@ -85,6 +91,8 @@ pub(crate) fn open<B: Blocks>(
     requires sides { 1 ≤ sides cut }
     ensures counted { IfOk result (λ opened. OpensTo (B.geometry blocks.old) level cut opened) }
     ensures opened { IfOk result (λ opened. B.tells blocks.old → (l : ℕ) → level ≡ suc l → Holds B.Ground blocks.old (suc l) (all_of cut) → IsOpenedCut B.Ground blocks.old l cut opened) }
+    ensures way { IfOk result (λ opened. B.tells blocks.old → HasSoundEnds (B.geometry blocks.old) (B.unit blocks.old) (level - 1) (B.geometry blocks.old).fan opened.below → HasSoundEnds (B.geometry blocks.old) (B.unit blocks.old) level (B.geometry blocks.old).fan cut) }
+    ensures beside { IfOk result (λ opened. B.tells blocks.old → OpensSound (B.geometry blocks.old) (B.unit blocks.old) (level - 1) (B.geometry blocks.old).fan opened.below → OpensSound (B.geometry blocks.old) (B.unit blocks.old) level (B.geometry blocks.old).fan cut) }
     ensures fault { IfErr result (λ fault. B.tells blocks.old → IsWalkFault (B.geometry blocks.old) (B.unit blocks.old) level (B.geometry blocks.old).fan (all_of cut) fault) }
     ensures walk { IfOk result (λ opened. B.tells blocks.old → (fault : PortFault) → IsWalkFault (B.geometry blocks.old) (B.unit blocks.old) (level - 1) (B.geometry blocks.old).fan (all_of opened.below) fault → IsWalkFault (B.geometry blocks.old) (B.unit blocks.old) level (B.geometry blocks.old).fan (all_of cut) fault) }
     ensures kept { Keeps B.Ground blocks.old blocks.new }

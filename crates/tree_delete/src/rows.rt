@@ -8,7 +8,8 @@ ghost use Rattle.tree_rows.specs.Damage.{IsWalkFault};
 ghost use Rattle.tree_rows.specs.Rows.{row_size, row_shape, row_units};
 ghost use Rattle.tree_steps.specs.Made.{Extends, Holds};
 ghost use Rattle.tree_steps.specs.Built.{AreSome};
-ghost use Rattle.tree_delete.specs.Cuts.{all_of, sides, cut_bytes, IsCutAt, AreHalves, HaveHalves};
+ghost use Rattle.tree_delete.specs.Beside.{OpensSound};
+ghost use Rattle.tree_delete.specs.Cuts.{all_of, sides, cut_bytes, IsCutAt, AreHalves, HaveHalves, HasSoundEnds};
 ghost use Rattle.tree_delete.specs.Left.{IsLeftOf, IsLeft, AreRootLeaves, IsTrimmed};
 
 use crate::cut::{Cut, joined};
@@ -39,6 +40,8 @@ fn cut_row<B: Blocks>(
     ensures leaves { OnOk result (B.free blocks.old Segment ≤ B.free blocks.new Segment + 4) }
     ensures pages { OnOk result (B.free blocks.old Page ≤ B.free blocks.new Page + 4 * level) }
     ensures left { IfOk result (λ made. B.tells blocks.old → (l : ℕ) → level ≡ l → Holds B.Ground blocks.old l (all_of cut) → IsLeft B.Ground blocks.old blocks.new l cut made.items) }
+    ensures way { OnOk result (B.tells blocks.old → (least : ℕ) → (1 ≤ level → least ≡ (B.geometry blocks.old).fan) → HasSoundEnds (B.geometry blocks.old) (B.unit blocks.old) level least cut) }
+    ensures beside { OnOk result (B.tells blocks.old → (least : ℕ) → (1 ≤ level → least ≡ (B.geometry blocks.old).fan) → OpensSound (B.geometry blocks.old) (B.unit blocks.old) level least cut) }
     ensures fault { IfErr result (λ fault. B.tells blocks.old → (least : ℕ) → (1 ≤ level → least ≡ (B.geometry blocks.old).fan) → IsWalkFault (B.geometry blocks.old) (B.unit blocks.old) level least (all_of cut) fault) }
     ensures leads { B.leads blocks.old blocks.new }
     ensures cause { HasCause (B.faults blocks.old) (B.faults blocks.new) result }
@@ -84,6 +87,8 @@ pub(crate) fn cut_tree<B: Blocks>(
         → (1 ≤ sides cut → AreHalves (B.geometry blocks.old) l (row_shape (B.unit blocks.old) l (all_of cut)))
         → HaveHalves (B.geometry blocks.old) l (row_shape (B.unit blocks.old) l cut.run.items)
         → (m : ℕ) → made.0 ≡ m → IsTrimmed B.Ground blocks.old blocks.new (row_units (B.unit blocks.old) l (all_of cut)) (cut_bytes (B.unit blocks.old) l cut) m made.1.items) }
+    ensures way { OnOk result (B.tells blocks.old → HasSoundEnds (B.geometry blocks.old) (B.unit blocks.old) level least cut) }
+    ensures beside { OnOk result (B.tells blocks.old → OpensSound (B.geometry blocks.old) (B.unit blocks.old) level least cut) }
     ensures fault { IfErr result (λ fault. B.tells blocks.old → IsWalkFault (B.geometry blocks.old) (B.unit blocks.old) level least (all_of cut) fault) }
     ensures leads { B.leads blocks.old blocks.new }
     ensures cause { HasCause (B.faults blocks.old) (B.faults blocks.new) result }

@@ -1,14 +1,15 @@
 // Deletes of whole trees.
-ghost use Rattle.std.specs.Prelude.{◌≡◌, IfErr, ℕ, List, ◌≤◌, ◌<◌, ◌+◌, ◌-◌, ◌*◌, ◌^◌, ◌∷◌, [], length, IfOk, OnOk, Ok};
+ghost use Rattle.std.specs.Prelude.{◌≡◌, IfErr, ℕ, List, ◌≤◌, ◌<◌, ◌+◌, ◌-◌, ◌*◌, ◌^◌, ◌∷◌, [], length, IfOk, OnOk, Ok, ◌⊎◌};
 ghost use Rattle.ex_base.specs.Edits.{deleted};
 ghost use Rattle.ex_base.specs.Ports.{HasCause, IsDamage};
 ghost use Rattle.ex_base.specs.Sizes.{leaf_bytes};
 ghost use Rattle.ex_base.specs.declared.names.Area.TheVariants.{Page, Segment};
 ghost use Rattle.tree_model.specs.Trees.{RootSpells, root_units};
-ghost use Rattle.tree_rows.specs.Damage.{IsWalkFault, IsRootFault, IsWhole};
+ghost use Rattle.tree_rows.specs.Damage.{IsWalkFault, IsRootFault, IsWhole, IsSoundEnd, root_row};
 ghost use Rattle.tree_steps.specs.Made.{Extends, AreUsed};
 ghost use Rattle.tree_insert.specs.Grown.{Turned};
 ghost use Rattle.tree_insert.specs.Roots.{IsRootFor};
+ghost use Rattle.tree_delete.specs.Beside.{IsSoundBeside};
 ghost use Rattle.tree_delete.specs.Need.{need_leaves, need_pages};
 ghost use Rattle.tree_delete.specs.Trees.{IsCutTree, TreeSpells};
 
@@ -49,6 +50,8 @@ fn without<B: Blocks>(
     ensures size { IfOk result (λ made. made.size + len ≡ tree.size) }
     ensures extends { OnOk result (Extends B.Ground blocks.old blocks.new) }
     ensures edited { IfOk result (λ made. B.tells blocks.old → (l : ℕ) → height ≡ l → TreeSpells B.Ground blocks.old l tree → IsCutTree B.Ground blocks.old blocks.new l tree pos len made) }
+    ensures way { OnOk result (B.tells blocks.old → (end : ℕ) → (end ≡ pos) ⊎ (end ≡ pos + len) → IsSoundEnd (B.geometry blocks.old) (B.unit blocks.old) height 2 (tree ∷ []) end) }
+    ensures beside { OnOk result (B.tells blocks.old → IsSoundBeside (B.geometry blocks.old) (B.unit blocks.old) height 2 [] (tree ∷ []) [] pos len) }
     ensures fault { IfErr result (λ fault. B.tells blocks.old → IsWalkFault (B.geometry blocks.old) (B.unit blocks.old) height 2 (tree ∷ []) fault) }
     ensures leaves { OnOk result (B.free blocks.old Segment ≤ B.free blocks.new Segment + need_leaves) }
     ensures pages { OnOk result (B.free blocks.old Page ≤ B.free blocks.new Page + need_pages height) }
@@ -94,6 +97,8 @@ pub fn delete<B: Blocks>(
         → Turned B.Ground blocks.old blocks.new (root_units (B.unit blocks.old) root.now) (root_units (B.unit blocks.new) made)) }
     ensures leaves { OnOk result (B.free blocks.old Segment ≤ B.free blocks.new Segment + need_leaves) }
     ensures pages { OnOk result (B.free blocks.old Page ≤ B.free blocks.new Page + need_pages root.now.height) }
+    ensures way { OnOk result (B.tells blocks.old → 1 ≤ len → len < root.now.size → (end : ℕ) → (end ≡ pos) ⊎ (end ≡ pos + len) → IsSoundEnd (B.geometry blocks.old) (B.unit blocks.old) root.now.height 2 (root_row root.now) end) }
+    ensures beside { OnOk result (B.tells blocks.old → 1 ≤ len → len < root.now.size → IsSoundBeside (B.geometry blocks.old) (B.unit blocks.old) root.now.height 2 [] (root_row root.now) [] pos len) }
     ensures fault { IfErr result (λ fault. B.tells blocks.old → IsRootFault (B.geometry blocks.old) (B.unit blocks.old) root.now fault) }
     ensures sound { IfErr result (λ fault. B.tells blocks.old → IsWhole (B.geometry blocks.old) (B.unit blocks.old) root.now → IsDamage fault → ⊥) }
     ensures leads { B.leads blocks.old blocks.new }

@@ -12,10 +12,12 @@ use Rattle.tree_model.specs.Shape.{Nested, joined, leaves_of}
 use Rattle.tree_model.specs.Trees.{Units, RootNamed, RootSized, RootSpells, root_shape, root_shape_at, shape_on}
 use Rattle.tree_model.proofs.SameUnits.{split_each}
 use Rattle.tree_rows.specs.declared.rows.Part.{Part}
+use Rattle.tree_rows.specs.Damage.{AnyPage, IsSoundWay}
 use Rattle.tree_rows.specs.Rows.{AreTrees, IsRowOn, row_shape, row_size}
+use Rattle.tree_rows.proofs.Ways.{way_append, way_kept, way_past}
 use Rattle.tree_rows.proofs.Reading.{keeps_on, row_trees}
 use Rattle.tree_insert.specs.declared.lengths.Counted.{Counted}
-use Rattle.tree_insert.specs.Counts.{AreBounded, AreCounted}
+use Rattle.tree_insert.specs.Counts.{AreBounded, AreCounted, AreSound}
 use Rattle.tree_insert.proofs.Growing.{shape_app}
 use Rattle.tree_insert.proofs.NodeStep.{around_row, shape_below}
 use Rattle.tree_insert.proofs.PlaceLaws.{no_part, read_size, size-front}
@@ -51,6 +53,8 @@ module _ {S : Type 0} (g : ground.Ghosts S) where
     pub bounded : AreBounded after
     pub most : leaves ≤ row_size (take i row)
     pub known : g.tells old → AreCounted (g.geometry old) (g.unit old) before → AreCounted (g.geometry old) (g.unit old) after
+    pub ways : g.tells old → AreSound (g.geometry old) (g.unit old) before → AreSound (g.geometry old) (g.unit old) after
+    pub way : g.tells old → AreSound (g.geometry old) (g.unit old) before → (byte : ℕ) → IsSoundWay (g.geometry old) (g.unit old) AnyPage (level - 1) (g.geometry old).fan (take i row) byte byte
     pub count : g.tells old → AreCounted (g.geometry old) (g.unit old) before → (l : ℕ) → level - 1 ≡ l → AreTrees (g.geometry old) (g.unit old) l row → leaves ≡ length (leaves_in (g.unit old) l (take i row))
 
   pub count_start : (old now : S) (known : ℕ → Option Counted) (level : ℕ) (row : List Part) → Keeps g old now → AreBounded known → CountSoFar old now known known level row 0 0
@@ -59,8 +63,16 @@ module _ {S : Type 0} (g : ground.Ghosts S) where
     bounded = bounded;
     most = omega arith;
     known = λ told h. h;
+    ways = λ told h. h;
+    way = λ told h byte. way_past (g.geometry old) (g.unit old) AnyPage (level - 1) (g.geometry old).fan [] byte byte (omega arith);
     count = λ told h l same trees. refl;
   }
+
+  sound_at : (a b : S) (known : ℕ → Option Counted) → Keeps g a b → AreSound (g.geometry a) (g.unit a) known → AreSound (g.geometry b) (g.unit b) known
+  sound_at a b known k h = subst (λ geo. AreSound geo (g.unit b) known) (sym (g.leads_geometry a b k.leads)) (subst (λ u. AreSound (g.geometry a) u known) (sym k.units) h)
+
+  sound_back : (a b : S) (known : ℕ → Option Counted) → Keeps g a b → AreSound (g.geometry b) (g.unit b) known → AreSound (g.geometry a) (g.unit a) known
+  sound_back a b known k h = subst (λ u. AreSound (g.geometry a) u known) k.units (subst (λ geo. AreSound geo (g.unit b) known) (g.leads_geometry a b k.leads) h)
 
   counted_at : (a b : S) (known : ℕ → Option Counted) → Keeps g a b → AreCounted (g.geometry a) (g.unit a) known → AreCounted (g.geometry b) (g.unit b) known
   counted_at a b known k h = subst (λ geo. AreCounted geo (g.unit b) known) (sym (g.leads_geometry a b k.leads)) (subst (λ u. AreCounted (g.geometry a) u known) (sym k.units) h)
@@ -68,15 +80,25 @@ module _ {S : Type 0} (g : ground.Ghosts S) where
   counted_back : (a b : S) (known : ℕ → Option Counted) → Keeps g a b → AreCounted (g.geometry b) (g.unit b) known → AreCounted (g.geometry a) (g.unit a) known
   counted_back a b known k h = subst (λ u. AreCounted (g.geometry a) u known) k.units (subst (λ geo. AreCounted geo (g.unit b) known) (g.leads_geometry a b k.leads) h)
 
-  pub count_more : (old now new : S) (before mid after : ℕ → Option Counted) (level : ℕ) (row : List Part) (i leaves more : ℕ) → i < length row → CountSoFar old now before mid level row i leaves → Keeps g now new → AreBounded after → more ≤ (get_or row i no_part).size
+  pub count_more : (old now new : S) (before mid after : ℕ → Option Counted) (level fan : ℕ) (row : List Part) (i leaves more : ℕ) → fan ≡ (g.geometry old).fan → i < length row → CountSoFar old now before mid level row i leaves → Keeps g now new → AreBounded after → more ≤ (get_or row i no_part).size
       → (g.tells now → AreCounted (g.geometry now) (g.unit now) mid → AreCounted (g.geometry now) (g.unit now) after)
       → (g.tells now → AreCounted (g.geometry now) (g.unit now) mid → (l : ℕ) → level - 1 ≡ l → AreTrees (g.geometry now) (g.unit now) l (get_or row i no_part ∷ []) → more ≡ length (joined l (shape_on (g.unit now) l (get_or row i no_part).page.0 (get_or row i no_part).size)))
+      → (g.tells now → (g.geometry now).fan ≤ fan → AreSound (g.geometry now) (g.unit now) mid → AreSound (g.geometry now) (g.unit now) after)
+      → (g.tells now → fan ≤ (g.geometry now).fan → AreSound (g.geometry now) (g.unit now) mid → (byte : ℕ) → IsSoundWay (g.geometry now) (g.unit now) AnyPage (level - 1) fan (get_or row i no_part ∷ []) byte byte)
       → CountSoFar old new before after level row (i + 1) (leaves + more)
-  count_more old now new before mid after level row i leaves more lt h k bounded most known count = record {
+  count_more old now new before mid after level fan row i leaves more fan_is lt h k bounded most known count ways way = record {
     kept = keeps_on g old now new h.kept k;
     bounded = bounded;
     most = omega (arith, h.most, size-front row i lt, read_size row i lt);
     known = λ told start. counted_back old now after h.kept (known (g.leads_told old now h.kept.leads told) (counted_at old now mid h.kept (h.known told start)));
+    ways = λ told start.
+        sound_back old now after h.kept (ways (g.leads_told old now h.kept.leads told) (omega (arith, fan_is, ap (λ geo. geo.fan) (g.leads_geometry old now h.kept.leads))) (sound_at old now mid h.kept (h.ways told start)));
+    way = λ told start byte.
+        subst (λ r. IsSoundWay (g.geometry old) (g.unit old) AnyPage (level - 1) (g.geometry old).fan r byte byte) (sym (take_more row i no_part lt))
+        (way_append (g.geometry old) (g.unit old) AnyPage (level - 1) (g.geometry old).fan (take i row) (get_or row i no_part ∷ []) byte byte (h.way told start byte)
+        (λ far. subst (λ n. IsSoundWay (g.geometry old) (g.unit old) AnyPage (level - 1) n (get_or row i no_part ∷ []) (byte - row_size (take i row)) (byte - row_size (take i row))) fan_is
+        (way_kept g (λ geo. AnyPage) old now (level - 1) fan (get_or row i no_part ∷ []) (byte - row_size (take i row)) (byte - row_size (take i row)) h.kept
+        (λ told_now. way told_now (omega (arith, fan_is, ap (λ geo. geo.fan) (g.leads_geometry old now h.kept.leads))) (sound_at old now mid h.kept (h.ways told start)) (byte - row_size (take i row))) told)));
     count = λ told start l same trees.
         let here : AreTrees (g.geometry now) (g.unit now) l (get_or row i no_part ∷ []) =
         subst (λ geo. AreTrees geo (g.unit now) l (get_or row i no_part ∷ [])) (sym (g.leads_geometry old now h.kept.leads)) (subst (λ u. AreTrees (g.geometry old) u l (get_or row i no_part ∷ [])) (sym h.kept.units) (tree_of (g.geometry old) (g.unit old) l row i lt trees)) in
@@ -172,6 +194,16 @@ counted_put geo u old new p c at others counted here q d there = elim (cases_Boo
       subst (λ (r : ℕ). (l : ℕ) → d.level ≡ l → AreTrees geo u l (record { size = d.size; page = record { 0 = r } } ∷ []) → d.leaves ≡ length (joined l (shape_on u l r d.size))) same
       (subst (λ (x : Counted). (l : ℕ) → x.level ≡ l → AreTrees geo u l (record { size = x.size; page = record { 0 = p } } ∷ []) → x.leaves ≡ length (joined l (shape_on u l p x.size))) (bounded_at new p q c d same at there) here)
   | inr apart ↦ counted q d (sym (others q apart) ∙ there)
+]
+
+pub sound_put : (geo : Geometry) (u : Units) (old new : ℕ → Option Counted) (p : ℕ) (c : Counted) → new p ≡ Some c → ((q : ℕ) → nat_eq p q ≡ false → new q ≡ old q) → AreSound geo u old
+    → ((byte : ℕ) → IsSoundWay geo u AnyPage c.level geo.fan (record { size = c.size; page = record { 0 = p } } ∷ []) byte byte) → AreSound geo u new
+sound_put geo u old new p c at others sound here q d there = elim (cases_Bool (nat_eq p q)) [
+  | inl taken ↦
+      let same : p ≡ q = grind (arith, nat_tests) in
+      subst (λ (r : ℕ). (byte : ℕ) → IsSoundWay geo u AnyPage d.level geo.fan (record { size = d.size; page = record { 0 = r } } ∷ []) byte byte) same
+      (subst (λ (x : Counted). (byte : ℕ) → IsSoundWay geo u AnyPage x.level geo.fan (record { size = x.size; page = record { 0 = p } } ∷ []) byte byte) (bounded_at new p q c d same at there) here)
+  | inr apart ↦ sound q d (sym (others q apart) ∙ there)
 ]
 
 -- ---- the tree of a root

@@ -16,3 +16,4 @@ mod Results
 mod Faults
 mod Counting
 pub mod RootEdit
+pub mod SoundWays

@@ -1,5 +1,5 @@
 -- New leaves with other bytes over a range of a run of leaves.
-use Rattle.std.proofs.Common.{◌≡◌, ℕ, zero, suc, ◌+◌, ◌-◌, ◌*◌, ◌/◌, ◌<◌, ◌≤◌, min, List, [], ◌∷◌, ◌++◌, length, take, drop, get_or, refl, sym, ap, subst, ◌∙◌, arith, inl, inr, take_all, true, true≢false, append_assoc}
+use Rattle.std.proofs.Common.{◌≡◌, ◌⊎◌, ℕ, zero, suc, ◌+◌, ◌-◌, ◌*◌, ◌/◌, ◌<◌, ◌≤◌, min, List, [], ◌∷◌, ◌++◌, length, take, drop, get_or, refl, sym, ap, subst, ◌∙◌, arith, inl, inr, take_all, true, true≢false, append_assoc}
 use Rattle.std.specs.Prelude.{IsTrue}
 use Rattle.std.specs.List.{AllByRecursion}
 use Rattle.std.proofs.lemmas.Bool.{cases_lt}
@@ -17,11 +17,14 @@ use Rattle.ex_base.specs.declared.ground.Ground as ground
 use Rattle.ex_base.proofs.Rows.{each-append}
 use Rattle.ex_base.proofs.Spread.{plain}
 use Rattle.tree_rows.specs.declared.rows.Part.{Part}
+use Rattle.tree_rows.specs.Damage.{IsSoundEnd, IsSoundWay}
 use Rattle.tree_rows.specs.Rows.{row_size, row_bytes, row_shape, AreHalfFull}
+use Rattle.tree_rows.proofs.Ways.{way_append, way_fewer, way_past}
+use Rattle.tree_model.specs.Trees.{Units}
 use Rattle.tree_steps.specs.Built.{AreSome}
 use Rattle.tree_steps.specs.Made.{Extends, Spent, Holds, IsTaken, Took, pages_of, sizes_of, changed}
 use Rattle.tree_steps.proofs.Kept.{row_extends, holds_on}
-use Rattle.tree_steps.proofs.Laid.{extends_refl, extends_on, spent_none, spent_on, leaves_kept, row_length, each_same, has_left, has_right}
+use Rattle.tree_steps.proofs.Laid.{extends_refl, extends_on, spent_none, spent_on, leaves_kept, leaves_way, row_length, each_same, has_left, has_right}
 use Rattle.tree_steps.proofs.Over.{bytes_app}
 use Rattle.tree_insert.specs.Grown.{Grew}
 use Rattle.tree_insert.specs.Replaced.{IsTouched, AreLeaves, touched_leaves}
@@ -130,6 +133,19 @@ few_leaves geo (part ∷ next ∷ run) pos n h touched =
     let least : length run ≤ 2 * n / leaf_bytes geo = le-div (length run) (2 * n) (leaf_bytes geo) (omega (arith, leaf_some geo)) (omega arith) in
     omega arith
 
+-- a leaf that keeps a byte beside an end of the range
+leaf_end : (geo : Geometry) (u : Units) (leaf : Part) (start pos n at done cut end : ℕ) → IsPiece start leaf.size pos n at done cut → (end ≡ pos) ⊎ (end ≡ pos + n) → 1 ≤ end → start ≤ end - 1 → (front : ℕ) → start ≡ front
+    → ((byte : ℕ) → byte < leaf.size → (byte < at) ⊎ (at + cut ≤ byte) → IsSoundWay geo u (NamesLeaf geo) 0 0 (leaf ∷ []) byte byte) → IsSoundWay geo u (NamesLeaf geo) 0 0 (leaf ∷ []) (end - 1 - front) (end - front)
+leaf_end geo u leaf start pos n at done cut end h which some far front front_is ways = elim (cases_lt (end - front) leaf.size) [
+  | inr past ↦ way_past geo u (NamesLeaf geo) 0 0 (leaf ∷ []) (end - 1 - front) (end - front) (omega arith)
+  | inl inside ↦ elim which [
+    | inl is ↦ way_fewer geo u (NamesLeaf geo) 0 0 (leaf ∷ []) (end - 1 - front) (end - 1 - front) (end - 1 - front) (end - front) refl (omega arith) (omega arith)
+        (ways (end - 1 - front) (omega arith) (inl (omega (arith, h.at_is))))
+    | inr is ↦ way_fewer geo u (NamesLeaf geo) 0 0 (leaf ∷ []) (end - front) (end - front) (end - 1 - front) (end - front) refl (omega arith) (omega arith)
+        (ways (end - front) (omega arith) (inr (omega (arith, h.at_is, h.done_is, h.cut_is))))
+  ]
+]
+
 -- ---- the loop over the leaves
 
 module _ {S : Type 0} (g : ground.Ghosts S) where
@@ -149,6 +165,7 @@ module _ {S : Type 0} (g : ground.Ghosts S) where
     pub named : AllByRecursion (λ (part : Part). NamesLeaf (g.geometry old) part.page.0) made
     pub took : Took g old now (pages_of made)
     pub spent : Spent g old now i 0
+    pub ends : g.tells old → (end : ℕ) → (end ≡ pos) ⊎ (end ≡ pos + length given) → IsSoundEnd (g.geometry old) (g.unit old) 0 0 (take i run) end
     pub bytes : g.tells old → Holds g old 0 run → row_bytes (g.unit now) 0 made ≡ take start (written (row_bytes (g.unit old) 0 run) pos given)
 
   pub replaced_start : (a : S) (run : List Part) (pos : ℕ) (given : List ℕ) → ReplacedSoFar a a run pos given 0 0 []
@@ -159,6 +176,7 @@ module _ {S : Type 0} (g : ground.Ghosts S) where
     named = tt;
     took = record { each = tt; all = λ p h. absurd (true≢false (sym h.1 ∙ h.0)) };
     spent = spent_none g a;
+    ends = λ told end which some. tt;
     bytes = λ told holds. refl;
   }
 
@@ -166,8 +184,9 @@ module _ {S : Type 0} (g : ground.Ghosts S) where
       → ReplacedSoFar old now run pos given i start made → IsPiece start (get_or run i no_part).size pos (length given) at done cut
       → Extends g now new → Spent g now new 1 0 → sizes_of fresh ≡ (get_or run i no_part).size ∷ [] → AllByRecursion (λ (part : Part). NamesLeaf (g.geometry now) part.page.0) fresh → Took g now new (pages_of fresh)
       → (g.tells now → Holds g now 0 (get_or run i no_part ∷ []) → row_bytes (g.unit new) 0 fresh ≡ changed (row_bytes (g.unit now) 0 (get_or run i no_part ∷ [])) at cut (take cut (drop done given)))
+      → (g.tells now → (byte : ℕ) → byte < row_size (get_or run i no_part ∷ []) → (byte < at) ⊎ (at + cut ≤ byte) → IsSoundWay (g.geometry now) (g.unit now) (NamesLeaf (g.geometry now)) 0 0 (get_or run i no_part ∷ []) byte byte)
       → after ≡ made ++ fresh → ReplacedSoFar old new run pos given (i + 1) (start + (get_or run i no_part).size) after
-  replaced_more old now new run pos given i start at done cut made after fresh ready lt touched h piece y spent sizes named took bytes after_is =
+  replaced_more old now new run pos given i start at done cut made after fresh ready lt touched h piece y spent sizes named took bytes ways after_is =
       let part : Part = get_or run i no_part in
       let up : take (i + 1) run ≡ take i run ++ (get_or run i no_part ∷ []) = take_more run i no_part lt in
       record {
@@ -179,6 +198,11 @@ module _ {S : Type 0} (g : ground.Ghosts S) where
             (each-append _ made fresh h.named (subst (λ geo. AllByRecursion (λ (q : Part). NamesLeaf geo q.page.0) fresh) (g.leads_geometry old now h.extends.leads) named));
         took = subst (Took g old new) (sym (ap pages_of after_is ∙ map-append (λ (q : Part). q.page.0) made fresh)) (took_on old now new (pages_of made) (pages_of fresh) h.extends y h.took took);
         spent = spent_on g old now new i 0 1 0 h.spent spent;
+        ends = λ told end which some.
+            subst (λ r. IsSoundWay (g.geometry old) (g.unit old) (NamesLeaf (g.geometry old)) 0 0 r (end - 1) end) (sym up)
+            (way_append (g.geometry old) (g.unit old) (NamesLeaf (g.geometry old)) 0 0 (take i run) (get_or run i no_part ∷ []) (end - 1) end (h.ends told end which some)
+            (λ far. leaf_end (g.geometry old) (g.unit old) (get_or run i no_part) start pos (length given) at done cut end piece which some (omega (arith, h.start_is, far)) (row_size (take i run)) h.start_is
+            (λ byte inside kept. leaves_way g old now (get_or run i no_part ∷ []) byte byte h.extends.leads (λ told_now. ways told_now byte (omega (arith, inside)) kept) told)));
         bytes = λ told holds.
             let told_now = g.leads_told old now h.extends.leads told in
             let split = around_row run i lt in

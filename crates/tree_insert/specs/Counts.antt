@@ -3,6 +3,7 @@ use Rattle.std.specs.Prelude.{◌≡◌, ◌≤◌, ℕ, [], ◌∷◌, length, 
 use Rattle.ex_base.specs.declared.geometry.Geometry.{Geometry}
 use Rattle.tree_model.specs.Shape.{joined}
 use Rattle.tree_model.specs.Trees.{Units, shape_on}
+use Rattle.tree_rows.specs.Damage.{AnyPage, IsSoundWay}
 use Rattle.tree_rows.specs.Rows.{AreTrees}
 use Rattle.tree_insert.specs.declared.lengths.Counted.{Counted}
 
@@ -13,3 +14,7 @@ AreBounded known = (p : ℕ) (c : Counted) → known p ≡ Some c → c.leaves �
 -- each node that is a tree of the level and the size that it was counted with has as many leaves
 abbrev pub AreCounted : Geometry → Units → (ℕ → Option Counted) → Type 0
 AreCounted g units known = (p : ℕ) (c : Counted) → known p ≡ Some c → (l : ℕ) → c.level ≡ l → AreTrees g units l (record { size = c.size; page = record { 0 = p } } ∷ []) → c.leaves ≡ length (joined l (shape_on units l p c.size))
+
+-- each node that was counted, and each node below it, is what names it
+abbrev pub AreSound : Geometry → Units → (ℕ → Option Counted) → Type 0
+AreSound g units known = (p : ℕ) (c : Counted) → known p ≡ Some c → (byte : ℕ) → IsSoundWay g units AnyPage c.level g.fan (record { size = c.size; page = record { 0 = p } } ∷ []) byte byte

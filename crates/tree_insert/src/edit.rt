@@ -1,4 +1,5 @@
 // Appends and inserts of whole trees.
+ghost use Rattle.ex_base.specs.Area.{NamesLeaf};
 ghost use Rattle.std.specs.Prelude.{◌≡◌, ℕ, List, [], ◌∷◌, ◌≤◌, ◌<◌, ◌+◌, ◌-◌, ◌*◌, ◌^◌, length, OnOk, IfOk, IfErr, Ok};
 ghost use Rattle.ex_base.specs.Edits.{inserted, appended};
 ghost use Rattle.ex_base.specs.Ports.{HasCause, IsDamage};
@@ -7,7 +8,7 @@ ghost use Rattle.ex_base.specs.declared.names.Area.TheVariants.{Page, Segment};
 ghost use Rattle.leaf_segments.specs.Layout.{first_lengths};
 ghost use Rattle.tree_model.specs.Shape.{ins_shape, app_shape};
 ghost use Rattle.tree_model.specs.Trees.{RootSpells, root_shape, root_units, shape_on};
-ghost use Rattle.tree_rows.specs.Damage.{IsWalkFault, IsRootFault, IsWhole};
+ghost use Rattle.tree_rows.specs.Damage.{IsWalkFault, IsRootFault, IsWhole, IsSoundWay, IsSoundRoot};
 ghost use Rattle.tree_rows.specs.Rows.{row_size, row_bytes};
 ghost use Rattle.tree_steps.specs.Made.{Extends, Holds, AreUsed};
 ghost use Rattle.tree_steps.specs.Built.{AreSome};
@@ -83,6 +84,7 @@ fn grow_root<B: Blocks>(
     ensures grew { IfOk result (λ made. B.tells blocks.old → (l : ℕ) → height ≡ l → Holds B.Ground blocks.old l (tree ∷ [])
         → Grew B.Ground blocks.old blocks.new l (tree ∷ []) made.items (inserted (row_bytes (B.unit blocks.old) l (tree ∷ [])) pos given.now)
         (parts_by growth (B.geometry blocks.old).fan (leaf_bytes (B.geometry blocks.old)) (length given.now) l (shape_on (B.unit blocks.old) l tree.page.0 tree.size) pos)) }
+    ensures way { OnOk result (B.tells blocks.old → IsSoundWay (B.geometry blocks.old) (B.unit blocks.old) (NamesLeaf (B.geometry blocks.old)) height 2 (tree ∷ []) (pos - 1) (pos - 1)) }
     ensures fault { IfErr result (λ fault. B.tells blocks.old → IsWalkFault (B.geometry blocks.old) (B.unit blocks.old) height 2 (tree ∷ []) fault) }
     ensures leads { B.leads blocks.old blocks.new }
     ensures cause { HasCause (B.faults blocks.old) (B.faults blocks.new) result }
@@ -132,6 +134,7 @@ fn new_parts<B: Blocks>(
     ensures paid { IfOk result (λ made. (B.geometry blocks.old).fan * B.free blocks.old Page + length made.items ≤ need_leaves (leaf_bytes (B.geometry blocks.old)) (counted (B.geometry blocks.old) root.now.page (length given.now)) + root.now.height * (2 * (B.geometry blocks.old).fan) + (B.geometry blocks.old).fan * B.free blocks.new Page) }
     ensures grew { IfOk result (λ made. B.tells blocks.old → (bytes : List ℕ) → RootSpells (B.geometry blocks.old) (B.unit blocks.old) root.now bytes → AreUsed (B.used blocks.old) (root_units (B.unit blocks.old) root.now)
         → (l : ℕ) → root.now.height ≡ l → GrewRoot B.Ground blocks.old blocks.new growth l root.now made.items bytes pos given.now) }
+    ensures way { OnOk result (B.tells blocks.old → IsSoundRoot (B.geometry blocks.old) (B.unit blocks.old) (NamesLeaf (B.geometry blocks.old)) root.now (pos - 1) (pos - 1)) }
     ensures fault { IfErr result (λ fault. B.tells blocks.old → IsRootFault (B.geometry blocks.old) (B.unit blocks.old) root.now fault) }
     ensures leads { B.leads blocks.old blocks.new }
     ensures cause { HasCause (B.faults blocks.old) (B.faults blocks.new) result }
@@ -168,6 +171,7 @@ fn grow<B: Blocks>(
         → IsEdited B.Ground blocks.old blocks.new growth root.now made bytes pos given.now) }
     ensures leaves { OnOk result (B.free blocks.old Segment ≤ B.free blocks.new Segment + need_leaves (leaf_bytes (B.geometry blocks.old)) (counted (B.geometry blocks.old) root.now.page (length given.now))) }
     ensures pages { OnOk result (B.free blocks.old Page ≤ B.free blocks.new Page + need_pages (B.geometry blocks.old).fan (leaf_bytes (B.geometry blocks.old)) (counted (B.geometry blocks.old) root.now.page (length given.now)) root.now.height) }
+    ensures way { OnOk result (B.tells blocks.old → IsSoundRoot (B.geometry blocks.old) (B.unit blocks.old) (NamesLeaf (B.geometry blocks.old)) root.now (pos - 1) (pos - 1)) }
     ensures fault { IfErr result (λ fault. B.tells blocks.old → IsRootFault (B.geometry blocks.old) (B.unit blocks.old) root.now fault) }
     ensures leads { B.leads blocks.old blocks.new }
     ensures cause { HasCause (B.faults blocks.old) (B.faults blocks.new) result }
@@ -205,6 +209,7 @@ pub fn append<B: Blocks>(
         → Turned B.Ground blocks.old blocks.new (root_units (B.unit blocks.old) root.now) (root_units (B.unit blocks.new) made)) }
     ensures leaves { OnOk result (B.free blocks.old Segment ≤ B.free blocks.new Segment + need_leaves (leaf_bytes (B.geometry blocks.old)) (counted (B.geometry blocks.old) root.now.page (length given.now))) }
     ensures pages { OnOk result (B.free blocks.old Page ≤ B.free blocks.new Page + need_pages (B.geometry blocks.old).fan (leaf_bytes (B.geometry blocks.old)) (counted (B.geometry blocks.old) root.now.page (length given.now)) root.now.height) }
+    ensures way { OnOk result (B.tells blocks.old → 1 ≤ length given.now → IsSoundRoot (B.geometry blocks.old) (B.unit blocks.old) (NamesLeaf (B.geometry blocks.old)) root.now (root.now.size - 1) (root.now.size - 1)) }
     ensures fault { IfErr result (λ fault. B.tells blocks.old → IsRootFault (B.geometry blocks.old) (B.unit blocks.old) root.now fault) }
     ensures sound { IfErr result (λ fault. B.tells blocks.old → IsWhole (B.geometry blocks.old) (B.unit blocks.old) root.now → IsDamage fault → ⊥) }
     ensures leads { B.leads blocks.old blocks.new }
@@ -244,6 +249,7 @@ pub fn insert<B: Blocks>(
         → Turned B.Ground blocks.old blocks.new (root_units (B.unit blocks.old) root.now) (root_units (B.unit blocks.new) made)) }
     ensures leaves { OnOk result (B.free blocks.old Segment ≤ B.free blocks.new Segment + need_leaves (leaf_bytes (B.geometry blocks.old)) (length given.now)) }
     ensures pages { OnOk result (B.free blocks.old Page ≤ B.free blocks.new Page + need_pages (B.geometry blocks.old).fan (leaf_bytes (B.geometry blocks.old)) (length given.now) root.now.height) }
+    ensures way { OnOk result (B.tells blocks.old → 1 ≤ length given.now → IsSoundRoot (B.geometry blocks.old) (B.unit blocks.old) (NamesLeaf (B.geometry blocks.old)) root.now (pos - 1) (pos - 1)) }
     ensures fault { IfErr result (λ fault. B.tells blocks.old → IsRootFault (B.geometry blocks.old) (B.unit blocks.old) root.now fault) }
     ensures sound { IfErr result (λ fault. B.tells blocks.old → IsWhole (B.geometry blocks.old) (B.unit blocks.old) root.now → IsDamage fault → ⊥) }
     ensures leads { B.leads blocks.old blocks.new }

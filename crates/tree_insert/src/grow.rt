@@ -1,11 +1,12 @@
 // Growing a row: down one path, and new leaves and nodes on the way back.
-ghost use Rattle.std.specs.Prelude.{◌≡◌, ℕ, [], ◌∷◌, ◌≤◌, ◌<◌, ◌+◌, ◌*◌, ◌^◌, length, OnOk, IfOk, IfErr};
+ghost use Rattle.ex_base.specs.Area.{NamesLeaf};
+ghost use Rattle.std.specs.Prelude.{◌≡◌, ℕ, [], ◌∷◌, ◌≤◌, ◌<◌, ◌+◌, ◌*◌, ◌^◌, length, OnOk, IfOk, IfErr, ◌-◌};
 ghost use Rattle.ex_base.specs.Edits.{inserted};
 ghost use Rattle.ex_base.specs.Ports.{HasCause};
 ghost use Rattle.ex_base.specs.Sizes.{leaf_bytes};
 ghost use Rattle.ex_base.specs.declared.names.Area.TheVariants.{Page, Segment};
 ghost use Rattle.tree_model.specs.Trees.{shape_on};
-ghost use Rattle.tree_rows.specs.Damage.{IsWalkFault};
+ghost use Rattle.tree_rows.specs.Damage.{IsWalkFault, IsSoundWay};
 ghost use Rattle.tree_rows.specs.Rows.{row_size, row_bytes, row_shape, FitLeaves};
 ghost use Rattle.tree_steps.specs.Made.{Extends, Holds};
 ghost use Rattle.tree_steps.specs.Built.{AreSome};
@@ -47,6 +48,7 @@ pub(crate) fn grow_leaves<B: Blocks>(
     ensures grew { IfOk result (λ made. B.tells blocks.old → Holds B.Ground blocks.old 0 row.now
         → Grew B.Ground blocks.old blocks.new 0 row.now made.items (inserted (row_bytes (B.unit blocks.old) 0 row.now) pos given.now)
         (row_by growth (B.geometry blocks.old).fan (leaf_bytes (B.geometry blocks.old)) (length given.now) 0 (row_shape (B.unit blocks.old) 0 row.now) pos)) }
+    ensures way { OnOk result (B.tells blocks.old → IsSoundWay (B.geometry blocks.old) (B.unit blocks.old) (NamesLeaf (B.geometry blocks.old)) 0 0 row.now (pos - 1) (pos - 1)) }
     ensures fault { IfErr result (λ fault. B.tells blocks.old → IsWalkFault (B.geometry blocks.old) (B.unit blocks.old) 0 0 row.now fault) }
     ensures leads { B.leads blocks.old blocks.new }
     ensures cause { HasCause (B.faults blocks.old) (B.faults blocks.new) result }
@@ -91,6 +93,7 @@ pub(crate) fn grow_row<B: Blocks>(
     ensures grew { IfOk result (λ made. B.tells blocks.old → (l : ℕ) → level ≡ l → Holds B.Ground blocks.old l row.now
         → Grew B.Ground blocks.old blocks.new l row.now made.items (inserted (row_bytes (B.unit blocks.old) l row.now) pos given.now)
         (row_by growth (B.geometry blocks.old).fan (leaf_bytes (B.geometry blocks.old)) (length given.now) l (row_shape (B.unit blocks.old) l row.now) pos)) }
+    ensures way { OnOk result (B.tells blocks.old → IsSoundWay (B.geometry blocks.old) (B.unit blocks.old) (NamesLeaf (B.geometry blocks.old)) level (B.geometry blocks.old).fan row.now (pos - 1) (pos - 1)) }
     ensures fault { IfErr result (λ fault. B.tells blocks.old → IsWalkFault (B.geometry blocks.old) (B.unit blocks.old) level (B.geometry blocks.old).fan row.now fault) }
     ensures leads { B.leads blocks.old blocks.new }
     ensures cause { HasCause (B.faults blocks.old) (B.faults blocks.new) result }

@@ -4,9 +4,9 @@ ghost use Rattle.std.specs.HashMap.{get};
 ghost use Rattle.ex_base.specs.Ports.{Keeps, HasCause, IsDamage};
 ghost use Rattle.tree_model.specs.Shape.{joined, leaves_of};
 ghost use Rattle.tree_model.specs.Trees.{RootSpells, root_shape, shape_on};
-ghost use Rattle.tree_rows.specs.Damage.{IsWalkFault, IsRootFault, IsWhole};
+ghost use Rattle.tree_rows.specs.Damage.{IsWalkFault, IsRootFault, IsWhole, AnyPage, IsSoundWay, IsSoundRoot};
 ghost use Rattle.tree_rows.specs.Rows.{AreTrees};
-ghost use Rattle.tree_insert.specs.Counts.{AreBounded, AreCounted};
+ghost use Rattle.tree_insert.specs.Counts.{AreBounded, AreCounted, AreSound};
 ghost use Rattle.tree_insert.specs.Roots.{IsRootFor};
 
 use crate::root_read::ROOT_LEAST;
@@ -41,6 +41,8 @@ fn count_leaves<B: Blocks>(
     ensures known { OnOk result (B.tells blocks.old → AreCounted (B.geometry blocks.old) (B.unit blocks.old) (get nat_eq known.old) → AreCounted (B.geometry blocks.old) (B.unit blocks.old) (get nat_eq known.new)) }
     ensures count { IfOk result (λ leaves. B.tells blocks.old → AreCounted (B.geometry blocks.old) (B.unit blocks.old) (get nat_eq known.old) → (l : ℕ) → level ≡ l → AreTrees (B.geometry blocks.old) (B.unit blocks.old) l (tree ∷ [])
         → leaves ≡ length (joined l (shape_on (B.unit blocks.old) l tree.page.0 tree.size))) }
+    ensures ways { OnOk result (B.tells blocks.old → (B.geometry blocks.old).fan ≤ least → AreSound (B.geometry blocks.old) (B.unit blocks.old) (get nat_eq known.old) → AreSound (B.geometry blocks.old) (B.unit blocks.old) (get nat_eq known.new)) }
+    ensures way { OnOk result (B.tells blocks.old → least ≤ (B.geometry blocks.old).fan → AreSound (B.geometry blocks.old) (B.unit blocks.old) (get nat_eq known.old) → (byte : ℕ) → IsSoundWay (B.geometry blocks.old) (B.unit blocks.old) AnyPage level least (tree ∷ []) byte byte) }
     ensures fault { IfErr result (λ fault. B.tells blocks.old → IsWalkFault (B.geometry blocks.old) (B.unit blocks.old) level least (tree ∷ []) fault) }
     ensures kept { Keeps B.Ground blocks.old blocks.new }
     ensures cause { HasCause (B.faults blocks.old) (B.faults blocks.new) result }
@@ -118,6 +120,7 @@ pub fn leaf_lengths<B: Blocks>(
     ensures count { IfOk result (λ leaves. B.tells blocks.old → (bytes : List ℕ) → RootSpells (B.geometry blocks.old) (B.unit blocks.old) root.now bytes → leaves ≡ length (leaves_of (root_shape (B.unit blocks.old) root.now))) }
     ensures lengths { OnOk result (B.tells blocks.old → (bytes : List ℕ) → RootSpells (B.geometry blocks.old) (B.unit blocks.old) root.now bytes
         → first.new ≡ take (length first.old) (leaves_of (root_shape (B.unit blocks.old) root.now)) ++ drop (length (leaves_of (root_shape (B.unit blocks.old) root.now))) first.old) }
+    ensures way { OnOk result (B.tells blocks.old → (byte : ℕ) → IsSoundRoot (B.geometry blocks.old) (B.unit blocks.old) AnyPage root.now byte byte) }
     ensures fault { IfErr result (λ fault. B.tells blocks.old → IsRootFault (B.geometry blocks.old) (B.unit blocks.old) root.now fault) }
     ensures sound { IfErr result (λ fault. B.tells blocks.old → IsWhole (B.geometry blocks.old) (B.unit blocks.old) root.now → IsDamage fault → ⊥) }
     ensures kept { Keeps B.Ground blocks.old blocks.new }

@@ -1,12 +1,12 @@
 // Replacing bytes: new leaves of the same lengths, and new nodes over them with as many children as before.
-ghost use Rattle.std.specs.Prelude.{◌≡◌, ℕ, suc, ◌≤◌, ◌<◌, ◌+◌, ◌-◌, ◌*◌, ◌^◌, List, length, take, drop, OnOk, IfOk, IfErr, Ok};
+ghost use Rattle.std.specs.Prelude.{◌≡◌, ℕ, suc, ◌≤◌, ◌<◌, ◌+◌, ◌-◌, ◌*◌, ◌^◌, List, length, take, drop, OnOk, IfOk, IfErr, Ok, ◌⊎◌};
 ghost use Rattle.std.specs.List.{AllByRecursion};
 ghost use Rattle.ex_base.specs.Edits.{replaced};
 ghost use Rattle.ex_base.specs.Ports.{Keeps, HasCause, IsDamage};
 ghost use Rattle.ex_base.specs.Sizes.{leaf_bytes};
 ghost use Rattle.ex_base.specs.declared.names.Area.TheVariants.{Page, Segment};
 ghost use Rattle.tree_model.specs.Trees.{RootSpells, root_shape, root_units};
-ghost use Rattle.tree_rows.specs.Damage.{NamesNode, IsWalkFault, IsRootFault, IsWhole};
+ghost use Rattle.tree_rows.specs.Damage.{NamesNode, IsWalkFault, IsRootFault, IsWhole, AnyPage, IsSoundWay, IsSoundEnd, IsSoundRoot, root_row};
 ghost use Rattle.tree_rows.specs.Rows.{row_size, row_bytes, row_shape, IsCounted, IsRowOn};
 ghost use Rattle.tree_steps.specs.Built.{AreSome};
 ghost use Rattle.tree_steps.specs.Made.{Extends, Holds, AreUsed};
@@ -103,6 +103,7 @@ fn replace_leaves<B: Blocks>(
     ensures pages { OnOk result (B.free blocks.new Page ≡ B.free blocks.old Page) }
     ensures grew { IfOk result (λ made. B.tells blocks.old → Holds B.Ground blocks.old 0 run.now
         → Grew B.Ground blocks.old blocks.new 0 run.now made.items (replaced (row_bytes (B.unit blocks.old) 0 run.now) pos given.now) (row_shape (B.unit blocks.old) 0 run.now)) }
+    ensures ends { OnOk result (B.tells blocks.old → (end : ℕ) → (end ≡ pos) ⊎ (end ≡ pos + length given.now) → IsSoundEnd (B.geometry blocks.old) (B.unit blocks.old) 0 0 run.now end) }
     ensures fault { IfErr result (λ fault. B.tells blocks.old → IsWalkFault (B.geometry blocks.old) (B.unit blocks.old) 0 0 run.now fault) }
     ensures leads { B.leads blocks.old blocks.new }
     ensures cause { HasCause (B.faults blocks.old) (B.faults blocks.new) result }
@@ -154,6 +155,8 @@ fn replace_run<B: Blocks>(
     ensures spent { OnOk result (IsSpent (B.geometry blocks.old).fan (touched_leaves (leaf_bytes (B.geometry blocks.old)) (length given.now)) level (B.free blocks.old Page) (B.free blocks.new Page) (length run.now)) }
     ensures grew { IfOk result (λ made. B.tells blocks.old → (l : ℕ) → level ≡ l → Holds B.Ground blocks.old l run.now
         → Grew B.Ground blocks.old blocks.new l run.now made.items (replaced (row_bytes (B.unit blocks.old) l run.now) pos given.now) (row_shape (B.unit blocks.old) l run.now)) }
+    ensures way { OnOk result (B.tells blocks.old → (byte : ℕ) → pos ≤ byte → byte < pos + length given.now → IsSoundWay (B.geometry blocks.old) (B.unit blocks.old) AnyPage level least run.now byte byte) }
+    ensures ends { OnOk result (B.tells blocks.old → (end : ℕ) → (end ≡ pos) ⊎ (end ≡ pos + length given.now) → IsSoundEnd (B.geometry blocks.old) (B.unit blocks.old) level least run.now end) }
     ensures fault { IfErr result (λ fault. B.tells blocks.old → IsWalkFault (B.geometry blocks.old) (B.unit blocks.old) level least run.now fault) }
     ensures leads { B.leads blocks.old blocks.new }
     ensures cause { HasCause (B.faults blocks.old) (B.faults blocks.new) result }
@@ -207,6 +210,8 @@ pub fn replace<B: Blocks>(
         → Turned B.Ground blocks.old blocks.new (root_units (B.unit blocks.old) root.now) (root_units (B.unit blocks.new) made)) }
     ensures leaves { OnOk result (B.free blocks.old Segment ≤ B.free blocks.new Segment + touched_leaves (leaf_bytes (B.geometry blocks.old)) (length given.now)) }
     ensures pages { OnOk result (B.free blocks.old Page ≤ B.free blocks.new Page + touched_pages (B.geometry blocks.old).fan (leaf_bytes (B.geometry blocks.old)) (length given.now) root.now.height) }
+    ensures way { OnOk result (B.tells blocks.old → (byte : ℕ) → pos ≤ byte → byte < pos + length given.now → IsSoundRoot (B.geometry blocks.old) (B.unit blocks.old) AnyPage root.now byte byte) }
+    ensures ends { OnOk result (B.tells blocks.old → 1 ≤ length given.now → (end : ℕ) → (end ≡ pos) ⊎ (end ≡ pos + length given.now) → IsSoundEnd (B.geometry blocks.old) (B.unit blocks.old) root.now.height 2 (root_row root.now) end) }
     ensures fault { IfErr result (λ fault. B.tells blocks.old → IsRootFault (B.geometry blocks.old) (B.unit blocks.old) root.now fault) }
     ensures sound { IfErr result (λ fault. B.tells blocks.old → IsWhole (B.geometry blocks.old) (B.unit blocks.old) root.now → IsDamage fault → ⊥) }
     ensures leads { B.leads blocks.old blocks.new }

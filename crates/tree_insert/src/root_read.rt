@@ -1,9 +1,10 @@
 // Reading what a root spells.
-ghost use Rattle.std.specs.Prelude.{◌≡◌, ◌↔◌, ℕ, List, ◌≤◌, ◌+◌, length, IsTrue, OnOk, IfErr};
+ghost use Rattle.ex_base.specs.Area.{NamesLeaf};
+ghost use Rattle.std.specs.Prelude.{◌≡◌, ◌↔◌, ℕ, List, ◌≤◌, ◌+◌, length, IsTrue, OnOk, IfErr, ◌<◌};
 ghost use Rattle.ex_base.specs.Bytes.{bytes_at};
 ghost use Rattle.ex_base.specs.Ports.{Keeps, HasCause, IsDamage};
 ghost use Rattle.tree_model.specs.Trees.{RootSpells};
-ghost use Rattle.tree_rows.specs.Damage.{IsRootFault, IsWhole};
+ghost use Rattle.tree_rows.specs.Damage.{IsRootFault, IsWhole, IsSoundRoot};
 ghost use Rattle.tree_insert.specs.Roots.{IsRootFor};
 
 use ex_base::{Blocks, Geometry, PortFault, Root};
@@ -45,6 +46,7 @@ pub fn read<B: Blocks>(
     requires range { pos + length out.old ≤ root.now.size }
     ensures bytes { OnOk result (B.tells blocks.old → (bytes : List ℕ) → RootSpells (B.geometry blocks.old) (B.unit blocks.old) root.now bytes
         → out.new ≡ bytes_at bytes pos (length out.old)) }
+    ensures way { OnOk result (B.tells blocks.old → (byte : ℕ) → pos ≤ byte → byte < pos + length out.old → IsSoundRoot (B.geometry blocks.old) (B.unit blocks.old) (NamesLeaf (B.geometry blocks.old)) root.now byte byte) }
     ensures fault { IfErr result (λ fault. B.tells blocks.old → IsRootFault (B.geometry blocks.old) (B.unit blocks.old) root.now fault) }
     ensures sound { IfErr result (λ fault. B.tells blocks.old → IsWhole (B.geometry blocks.old) (B.unit blocks.old) root.now → IsDamage fault → ⊥) }
     ensures kept { Keeps B.Ground blocks.old blocks.new }

@@ -17,9 +17,10 @@ use Rattle.ex_base.specs.declared.ground.Ground as ground
 use Rattle.tree_model.specs.Trees.{Units, bytes_on}
 use Rattle.tree_model.proofs.TreeLaws.{length-bytes_on, AreWhole}
 use Rattle.tree_rows.specs.declared.rows.Part.{Part}
+use Rattle.tree_rows.specs.Damage.{IsSoundWay}
 use Rattle.tree_rows.specs.Rows.{row_bytes, row_size, row_units, AreTrees}
 use Rattle.tree_rows.proofs.Reading.{two_parts, part_behind, written_twice, left_over, later, part_of_front}
-use Rattle.tree_steps.specs.Made.{Extends, Spent, AreUsed, Holds, Has, IsTaken, Took, pages_of, sizes_of, changed}
+use Rattle.tree_steps.specs.Made.{Extends, Spent, AreUsed, Holds, Has, IsTaken, Took, Stays, pages_of, sizes_of, changed}
 
 -- ---- states that keep the used units
 
@@ -127,6 +128,7 @@ pub record LaidSoFar {S : Type 0} (g : ground.Ghosts S) (old now : S) (run : Lis
   pub named : AllByRecursion (λ (part : Part). NamesLeaf (g.geometry old) part.page.0) row
   pub took : Took g old now (pages_of row)
   pub spent : Spent g old now i 0
+  pub way : g.tells old → (byte new : ℕ) → Stays at cut (length given) byte new → new < done → IsSoundWay (g.geometry old) (g.unit old) (NamesLeaf (g.geometry old)) 0 0 run byte byte
   pub bytes : g.tells old → Holds g old 0 run → row_bytes (g.unit now) 0 row ≡ take done (changed (row_bytes (g.unit old) 0 run) at cut given)
 
 -- ---- filling one leaf
@@ -137,6 +139,25 @@ pub fill_rest : (given old out p q : List ℕ) (n m behind from inside : ℕ) �
 fill_rest given old out p q n m behind from inside n_is m_is behind_is len first second =
     filled_twice given (drop from old) out p q n inside (n_is ∙ ap (min (length out)) m_is) len first
     (second ∙ ap (take (later n p out)) (sym (drop-drop behind from old)) ∙ ap (λ k. take (later n p out) (drop k (drop from old))) behind_is)
+
+pub behind_in : (out p : List ℕ) (n m behind from inside given byte : ℕ) → n ≡ min (length out) m → m ≡ given - inside → behind ≡ inside - given → length p ≡ length (take n out)
+    → from ≤ byte → byte - from + given < inside + length out → byte < from + behind + later n p out
+behind_in out p n m behind from inside given byte n_is m_is behind_is len above high =
+    let front : length (take n out) ≡ n = length-take-le n out (omega arith) in
+    omega (arith, left_over out p n (omega arith) (len ∙ front))
+
+-- a byte that stays is read before the given ones or behind them
+pub fill_way : (P : Type 0) (out p : List ℕ) (n m inside at cut done given byte place : ℕ) → n ≡ min (length out) m → m ≡ at - done → inside ≡ done - at → length p ≡ length (take n out)
+    → Stays at cut given byte place → done ≤ place → place < done + length out
+    → (done ≤ byte → byte < done + length (take n out) → P)
+    → (at + cut ≤ byte → inside ≤ byte - (at + cut) + given → byte - (at + cut) + given < inside + later n p out → P) → P
+fill_way P out p n m inside at cut done given byte place n_is m_is inside_is len stays low high before behind =
+    let front : length (take n out) ≡ n = length-take-le n out (omega arith) in
+    let rest = left_over out p n (omega arith) (len ∙ front) in
+    elim stays [
+      | inl early ↦ before (omega (arith, early.1)) (omega (arith, front, early.0, early.1))
+      | inr far ↦ behind far.0 (omega (arith, far.0, far.1)) (omega (arith, rest, far.0, far.1))
+    ]
 
 pub fill_front : (given old out p q : List ℕ) (n m inside at cut done : ℕ) → n ≡ min (length out) m → m ≡ at - done → inside ≡ done - at → at ≤ length old
     → length p ≡ length (take n out) → p ≡ take (length (take n out)) (drop done old) → q ≡ take (later n p out) (drop inside (given ++ drop (at + cut) old))
@@ -153,6 +174,11 @@ same_bytes g a b l row k = ap (λ (u : Units). row_bytes u l row) k.units
 
 pub same_trees : {S : Type 0} (g : ground.Ghosts S) (a b : S) (l : ℕ) (row : List Part) → Keeps g a b → AreTrees (g.geometry a) (g.unit a) l row → AreTrees (g.geometry b) (g.unit b) l row
 same_trees g a b l row k trees = rw (g.leads_geometry a b k.leads, k.units) trees
+
+-- A way over leaves speaks of no unit's content, so it is one of any earlier state.
+pub leaves_way : {S : Type 0} (g : ground.Ghosts S) (a b : S) (run : List Part) (f t : ℕ) → g.leads a b → (g.tells b → IsSoundWay (g.geometry b) (g.unit b) (NamesLeaf (g.geometry b)) 0 0 run f t)
+    → g.tells a → IsSoundWay (g.geometry a) (g.unit a) (NamesLeaf (g.geometry a)) 0 0 run f t
+leaves_way g a b run f t leads later told = subst (λ geo. IsSoundWay geo (g.unit b) (NamesLeaf geo) 0 0 run f t) (g.leads_geometry a b leads) (later (g.leads_told a b leads told))
 
 -- ---- one leaf more
 
@@ -220,6 +246,7 @@ laid_start g a run at cut given lengths = record {
   named = tt;
   took = record { each = tt; all = λ p h. absurd (true≢false (sym h.1 ∙ h.0)) };
   spent = spent_none g a;
+  way = λ told byte new stays before. absurd (omega (arith, before));
   bytes = λ told holds. refl;
 }
 
@@ -227,9 +254,10 @@ pub laid_step : {S : Type 0} (g : ground.Ghosts S) (old now mid new : S) (run : 
     → i < length lengths → get_or lengths i 0 ≤ length buffer → LaidSoFar g old now run at cut given lengths i row done → Keeps g now mid → g.leads mid new
     → TakesUnit g mid new Segment page (take (get_or lengths i 0) (out ++ drop (get_or lengths i 0) buffer)) → g.free new Page ≡ g.free mid Page → g.free new Segment + 1 ≡ g.free mid Segment → length out ≡ length (take (get_or lengths i 0) buffer)
     → (g.tells now → AreTrees (g.geometry now) (g.unit now) 0 run → out ≡ take (length (take (get_or lengths i 0) buffer)) (drop done (changed (row_bytes (g.unit now) 0 run) at cut given)))
+    → (g.tells now → (byte place : ℕ) → Stays at cut (length given) byte place → done ≤ place → place < done + length (take (get_or lengths i 0) buffer) → IsSoundWay (g.geometry now) (g.unit now) (NamesLeaf (g.geometry now)) 0 0 run byte byte)
     → after ≡ row ++ (record { size = get_or lengths i 0; page = record { 0 = page } } ∷ [])
     → LaidSoFar g old new run at cut given lengths (i + 1) after (done + get_or lengths i 0)
-laid_step {S} g old now mid new run at cut given lengths i row after done page buffer out lt fits h k leads t pages leaves len read after_is =
+laid_step {S} g old now mid new run at cut given lengths i row after done page buffer out lt fits h k leads t pages leaves len read ways after_is =
     let size : ℕ = get_or lengths i 0 in
     let part : Part = record { size = get_or lengths i 0; page = record { 0 = page } } in
     let step : Extends g now new = extends_on g now mid new (extends_kept g now mid k) (extends_taken g mid new Segment page (take (get_or lengths i 0) (out ++ drop (get_or lengths i 0) buffer)) leads t) in
@@ -247,6 +275,10 @@ laid_step {S} g old now mid new run at cut given lengths i row after done page b
         of_pages = omega (arith, h.spent.of_pages, pages, ap (λ (f : Area → ℕ). f Page) k.free);
       };
       took = subst (Took g old new) (sym (ap pages_of after_is ∙ map-append (λ (q : Part). q.page.0) row (part ∷ []))) (took_more g old now mid new (pages_of row) Segment page (take (get_or lengths i 0) (out ++ drop (get_or lengths i 0) buffer)) h.extends k leads t h.took);
+      way = λ told byte place stays before. elim (cases_lt place done) [
+        | inl early ↦ h.way told byte place stays early
+        | inr here ↦ leaves_way g old now run byte byte h.extends.leads (λ told_now. ways told_now byte place stays here (omega (arith, before, length-take-le (get_or lengths i 0) buffer fits))) told
+      ];
       bytes = λ told holds.
           let told_now = g.leads_told old now h.extends.leads told in
           let told_mid = g.leads_told now mid k.leads told_now in
@@ -275,6 +307,18 @@ laid_all g old now run at cut given lengths i row done ready fits sum end h told
     let none : drop i lengths ≡ [] = drop_all i lengths end in
     h.bytes told holds ∙ take_all done (changed (row_bytes (g.unit old) 0 run) at cut given)
     (omega (arith, h.sum, ap (sum_of plain) none, length-changed (row_bytes (g.unit old) 0 run) at cut given (omega arith)))
+
+-- each leaf that keeps a byte
+pub laid_way : {S : Type 0} (g : ground.Ghosts S) (old now : S) (run : List Part) (at cut : ℕ) (given lengths : List ℕ) (i : ℕ) (row : List Part) (done : ℕ)
+    → at + cut ≤ row_size run → sum_of plain lengths ≡ row_size run - cut + length given → length lengths ≤ i → LaidSoFar g old now run at cut given lengths i row done
+    → g.tells old → (byte : ℕ) → byte < row_size run → (byte < at) ⊎ (at + cut ≤ byte) → IsSoundWay (g.geometry old) (g.unit old) (NamesLeaf (g.geometry old)) 0 0 run byte byte
+laid_way g old now run at cut given lengths i row done fits sum end h told byte inside kept =
+    let none : drop i lengths ≡ [] = drop_all i lengths end in
+    let all : done ≡ row_size run - cut + length given = omega (arith, h.sum, sum, ap (sum_of plain) none) in
+    elim kept [
+      | inl before ↦ h.way told byte byte (inl (before, refl)) (omega (arith, all, before))
+      | inr behind ↦ h.way told byte (byte - cut + length given) (inr (behind, refl)) (omega (arith, all, behind))
+    ]
 
 pub each_at : {A : Type 0} (P : A → Type 0) (xs : List A) (i : ℕ) (d : A) → AllByRecursion P xs → i < length xs → P (get_or xs i d)
 each_at P [] i d all lt = absurd (omega arith)

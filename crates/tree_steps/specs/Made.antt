@@ -1,5 +1,5 @@
 -- What the steps of an edit leave.
-use Rattle.std.specs.Prelude.{◌≡◌, ◌⊎◌, ℕ, ◌+◌, List, [], ◌∷◌, ◌++◌, map, take, drop, Bool, true, false}
+use Rattle.std.specs.Prelude.{◌≡◌, ◌⊎◌, ℕ, ◌+◌, ◌-◌, ◌<◌, ◌≤◌, List, [], ◌∷◌, ◌++◌, map, take, drop, Bool, true, false}
 use Rattle.std.specs.List.{AllByRecursion}
 use Rattle.ex_base.specs.declared.names.Area.TheVariants.{Page, Segment}
 use Rattle.ex_base.specs.declared.ground.Ground as ground
@@ -50,3 +50,7 @@ sizes_of row = map (λ part. part.size) row
 -- the bytes with others in the place of some of them
 abbrev pub changed : List ℕ → ℕ → ℕ → List ℕ → List ℕ
 changed old at cut given = take at old ++ (given ++ drop (at + cut) old)
+
+-- a byte that stays where `cut` bytes from a position on give way to `given` others, and where it comes to stand
+abbrev pub Stays : ℕ → ℕ → ℕ → ℕ → ℕ → Type 0
+Stays at cut given byte new = ((byte < at) × (new ≡ byte)) ⊎ ((at + cut ≤ byte) × (new ≡ byte - cut + given))

@@ -1,14 +1,14 @@
 // The step over leaves: a run of leaves in a row gives way to others.
-ghost use Rattle.std.specs.Prelude.{◌≡◌, ◌≤◌, ◌<◌, ◌+◌, ◌-◌, ◌^◌, ◌++◌, length, take, drop, OnOk, IfOk, IfErr};
+ghost use Rattle.std.specs.Prelude.{◌≡◌, ◌⊎◌, ◌≤◌, ◌<◌, ◌+◌, ◌-◌, ◌^◌, ◌++◌, ℕ, length, take, drop, OnOk, IfOk, IfErr};
 ghost use Rattle.std.specs.List.{AllByRecursion};
 ghost use Rattle.ex_base.specs.Area.{NamesLeaf};
 ghost use Rattle.ex_base.specs.Even.{sum_of};
 ghost use Rattle.ex_base.specs.Sizes.{leaf_bytes};
 ghost use Rattle.ex_base.specs.Ports.{Keeps, HasCause};
-ghost use Rattle.tree_rows.specs.Damage.{IsWalkFault};
+ghost use Rattle.tree_rows.specs.Damage.{IsSoundWay, IsWalkFault};
 ghost use Rattle.tree_rows.specs.Rows.{row_size, row_bytes, AreTrees, FitLeaves};
 ghost use Rattle.ex_base.specs.declared.names.Area.TheVariants.{Segment};
-ghost use Rattle.tree_steps.specs.Made.{Extends, Spent, Holds, Took, pages_of, sizes_of, changed};
+ghost use Rattle.tree_steps.specs.Made.{Extends, Spent, Holds, Took, Stays, pages_of, sizes_of, changed};
 
 use ex_base::{Blocks, PortFault};
 use std::alloc::Global;
@@ -54,6 +54,7 @@ fn fill_behind<B: Blocks>(
     ensures bytes { OnOk result (B.tells blocks.old
         → AreTrees (B.geometry blocks.old) (B.unit blocks.old) 0 run.now
         → out.new ≡ take (length out.old) (drop inside (given.now ++ drop from (row_bytes (B.unit blocks.old) 0 run.now)))) }
+    ensures way { OnOk result (B.tells blocks.old → (byte : ℕ) → from ≤ byte → inside ≤ byte - from + length given.now → byte - from + length given.now < inside + length out.old → IsSoundWay (B.geometry blocks.old) (B.unit blocks.old) (NamesLeaf (B.geometry blocks.old)) 0 0 run.now byte byte) }
     ensures fault { IfErr result (λ fault. B.tells blocks.old → IsWalkFault (B.geometry blocks.old) (B.unit blocks.old) 0 0 run.now fault) }
     ensures kept { Keeps B.Ground blocks.old blocks.new }
     ensures cause { HasCause (B.faults blocks.old) (B.faults blocks.new) result }
@@ -91,6 +92,7 @@ fn fill<B: Blocks>(
     ensures bytes { OnOk result (B.tells blocks.old
         → AreTrees (B.geometry blocks.old) (B.unit blocks.old) 0 run.now
         → out.new ≡ take (length out.old) (drop at (changed (row_bytes (B.unit blocks.old) 0 run.now) change.at change.cut given.now))) }
+    ensures way { OnOk result (B.tells blocks.old → (byte new : ℕ) → Stays change.at change.cut (length given.now) byte new → at ≤ new → new < at + length out.old → IsSoundWay (B.geometry blocks.old) (B.unit blocks.old) (NamesLeaf (B.geometry blocks.old)) 0 0 run.now byte byte) }
     ensures fault { IfErr result (λ fault. B.tells blocks.old → IsWalkFault (B.geometry blocks.old) (B.unit blocks.old) 0 0 run.now fault) }
     ensures kept { Keeps B.Ground blocks.old blocks.new }
     ensures cause { HasCause (B.faults blocks.old) (B.faults blocks.new) result }
@@ -135,6 +137,7 @@ pub fn write_leaves<B: Blocks>(
     ensures spent { OnOk result (Spent B.Ground blocks.old blocks.new (length lengths.now) 0) }
     ensures bytes { IfOk result (λ row. B.tells blocks.old → Holds B.Ground blocks.old 0 run.now
         → row_bytes (B.unit blocks.new) 0 row.items ≡ changed (row_bytes (B.unit blocks.old) 0 run.now) change.at change.cut given.now) }
+    ensures way { OnOk result (B.tells blocks.old → (byte : ℕ) → byte < row_size run.now → (byte < change.at) ⊎ (change.at + change.cut ≤ byte) → IsSoundWay (B.geometry blocks.old) (B.unit blocks.old) (NamesLeaf (B.geometry blocks.old)) 0 0 run.now byte byte) }
     ensures fault { IfErr result (λ fault. B.tells blocks.old → IsWalkFault (B.geometry blocks.old) (B.unit blocks.old) 0 0 run.now fault) }
     ensures leads { B.leads blocks.old blocks.new }
     ensures cause { HasCause (B.faults blocks.old) (B.faults blocks.new) result }

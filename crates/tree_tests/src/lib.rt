@@ -2,4 +2,6 @@
 #![tactic(auto)]
 
 #[cfg(test)]
+mod crafted;
+#[cfg(test)]
 mod tests;

@@ -1,4 +1,4 @@
-use ex_base::{Area, Blocks, Geometry, Root};
+use ex_base::{Area, Blocks, Geometry, PortFault, Root};
 use memory_ports::MemoryVolume;
 use std::alloc::Global;
 use std::process::Abort;
@@ -14,10 +14,10 @@ const NO_TREE: Root = Root {
 };
 
 /// The most bytes of an object.
-const SIZE_MOST: u64 = u32::MAX as u64;
+pub(crate) const SIZE_MOST: u64 = u32::MAX as u64;
 
 /// The most leaf lengths that a row names.
-const LENGTHS_MOST: usize = 6;
+pub(crate) const LENGTHS_MOST: usize = 6;
 
 /// The bytes that an edit of a random walk is given at most.
 const GIVEN_MOST: u64 = 600;
@@ -182,13 +182,13 @@ struct Object {
 }
 
 /// New bytes at a position of a tree, or at its end. None where the need isn't free.
-fn grown<B: Blocks>(
+pub(crate) fn grown<B: Blocks>(
     blocks: &mut B,
     alloc: Global,
     root: &Root,
     pos: Option<u64>,
     given: &[u8],
-) -> Result<Option<Root>, Fail>
+) -> Result<Option<Result<Root, PortFault>>, Fail>
     requires { B.ready blocks.old }
     ensures { B.leads blocks.old blocks.new }
 {
@@ -203,22 +203,22 @@ fn grown<B: Blocks>(
         return Ok(None);
     }
     let Some(pos) = pos else {
-        return Ok(Some(append(blocks, alloc, root, given)?));
+        return Ok(Some(append(blocks, alloc, root, given)));
     };
     if pos > root.size {
         return Err("no position")?;
     }
-    Ok(Some(insert(blocks, alloc, root, pos, given)?))
+    Ok(Some(insert(blocks, alloc, root, pos, given)))
 }
 
 /// Other bytes from a position of a tree on. None where the need isn't free.
-fn replaced<B: Blocks>(
+pub(crate) fn replaced<B: Blocks>(
     blocks: &mut B,
     alloc: Global,
     root: &Root,
     pos: u64,
     given: &[u8],
-) -> Result<Option<Root>, Fail>
+) -> Result<Option<Result<Root, PortFault>>, Fail>
     requires { B.ready blocks.old }
     ensures { B.leads blocks.old blocks.new }
 {
@@ -232,17 +232,17 @@ fn replaced<B: Blocks>(
     if leaves > blocks.free(Area::Segment) as u64 || pages > blocks.free(Area::Page) as u64 {
         return Ok(None);
     }
-    Ok(Some(replace(blocks, alloc, root, pos, given)?))
+    Ok(Some(replace(blocks, alloc, root, pos, given)))
 }
 
 /// The tree without so many bytes from a position on. None where the need isn't free.
-fn shortened<B: Blocks>(
+pub(crate) fn shortened<B: Blocks>(
     blocks: &mut B,
     alloc: Global,
     root: &Root,
     pos: u64,
     len: u64,
-) -> Result<Option<Root>, Fail>
+) -> Result<Option<Result<Root, PortFault>>, Fail>
     requires { B.ready blocks.old }
     ensures { B.leads blocks.old blocks.new }
 {
@@ -254,7 +254,7 @@ fn shortened<B: Blocks>(
     if 4 > blocks.free(Area::Segment) || pages > blocks.free(Area::Page) as u64 {
         return Ok(None);
     }
-    Ok(Some(delete(blocks, alloc, root, pos, len)?))
+    Ok(Some(delete(blocks, alloc, root, pos, len)))
 }
 
 /// The list without so many from a position on.
@@ -310,7 +310,7 @@ fn edited<B: Blocks>(
     let Some(made) = made else {
         return Ok(false);
     };
-    object.root = made;
+    object.root = made?;
     match edit {
         Edit::Append => object.bytes.extend_from_slice(given)?,
         Edit::Insert(pos) => {
@@ -341,7 +341,7 @@ fn spells<B: Blocks>(blocks: &mut B, alloc: Global, root: &Root, bytes: &[u8]) -
 }
 
 /// The number of a root's leaves, and the lengths of the first ones.
-fn leaves_of<B: Blocks>(
+pub(crate) fn leaves_of<B: Blocks>(
     blocks: &mut B,
     alloc: Global,
     root: &Root,

@@ -1,7 +1,10 @@
-use Rattle.std.proofs.Common.{arith, ◌≡◌, [], sym, subst}
+use Rattle.std.proofs.Common.{arith, take_all, ◌≡◌, [], sym, subst}
 use Rattle.tree_rows.proofs.Blame.{walk_back, walk_node}
+use Rattle.ex_base.specs.Area.{NamesLeaf}
+use Rattle.tree_rows.specs.Damage.{IsSoundWay}
 use Rattle.tree_delete.proofs.Results.{err_on}
 use Rattle.tree_delete.proofs.NodeLaws.{OpenedSoFar, opened_start, opened_more}
+use Rattle.tree_delete.specs.Beside.{AreNodesAt, children_on}
 use Rattle.tree_delete.proofs.nodes.children_of.Goals as goal
 
 pub loop-part-init : goal.loop-part-init
@@ -19,3 +22,11 @@ returns-in_err-children-clause-fault g c =
     err_on c.from_residual.result _ c.in_err-children.field-0.0 c.from_residual.ensures.1
     (walk_back g.B.Ground c.args.blocks.now c.loop-part.blocks c.args.level c.args.least c.args.row.now c.in_err-children.field-0.0 c.loop-part.invariant.kept
     (λ told. walk_node (g.B.Ground.geometry c.loop-part.blocks) (g.B.Ground.unit c.loop-part.blocks) c.args.level c.args.least c.loop-part.part-index c.args.row.now c.in_err-children.field-0.0 (λ none. omega (arith, none, c.requires.level)) c.loop-part-test.true (c.in_err-children.ensures.fault told)))
+
+pub returns-clause-way : goal.returns-clause-way
+returns-clause-way g c = λ told f t way.
+    subst (λ r. IsSoundWay (g.B.Ground.geometry c.args.blocks.now) (g.B.Ground.unit c.args.blocks.now) (NamesLeaf (g.B.Ground.geometry c.args.blocks.now)) c.args.level c.args.least r f t) (take_all c.loop-part.part-index c.args.row.now (omega arith)) (c.loop-part.invariant.way told f t way)
+
+pub returns-clause-nodes : goal.returns-clause-nodes
+returns-clause-nodes g c = λ told.
+    subst (λ r. AreNodesAt (g.B.Ground.geometry c.args.blocks.now) (g.B.Ground.unit c.args.blocks.now) c.args.level c.args.least r × (c.loop-part.all.items ≡ children_on (g.B.Ground.unit c.args.blocks.now) r)) (take_all c.loop-part.part-index c.args.row.now (omega arith)) (c.loop-part.invariant.nodes told)

@@ -1,4 +1,4 @@
-use Rattle.std.proofs.Common.{◌-◌, ◌*◌, ◌≤◌, suc, length, ap, sym, subst, arith}
+use Rattle.std.proofs.Common.{◌∙◌, ◌+◌, ◌-◌, ◌*◌, ◌≤◌, suc, length, ap, sym, subst, arith}
 use Rattle.std.proofs.Math.Nat.{mul-le-mul_right}
 use Rattle.count_nodes.specs.Split.{most_pairs}
 use Rattle.tree_rows.specs.Rows.{row_size}
@@ -6,9 +6,12 @@ use Rattle.tree_steps.specs.Made.{Holds}
 use Rattle.tree_delete.specs.Cuts.{IsOpened, IsCutOf}
 use Rattle.tree_delete.proofs.CutLaws.{size_cut, length_cut}
 use Rattle.tree_delete.proofs.LeafLaws.{run_most}
-use Rattle.tree_rows.specs.Damage.{IsWalkFault}
+use Rattle.tree_rows.specs.Damage.{IsSoundWay, IsWalkFault}
+use Rattle.ex_base.specs.Area.{NamesLeaf}
+use Rattle.tree_delete.proofs.Ends.{ends_of_cut}
 use Rattle.tree_delete.proofs.Faults.{walk_cut}
 use Rattle.tree_delete.proofs.NodeLaws.{below_at, below_is}
+use Rattle.tree_delete.specs.Beside.{AreNodesAt, children_on}
 use Rattle.tree_delete.proofs.nodes.cut_below.Goals as goal
 
 pub cut_through-requires-clause-limit : goal.cut_through-requires-clause-limit
@@ -42,3 +45,19 @@ returns-clause-walk g c = λ told fault h.
     (c.in_ok-row.ensures.walk told fault
     (walk_cut (g.B.Ground.geometry c.args.blocks.now) (g.B.Ground.unit c.args.blocks.now) (c.args.level - 1) (g.B.Ground.geometry c.args.blocks.now).fan c.in_ok-row.row.items c.args.cut.now.at c.args.cut.now.len c.in_ok-cut_through.field-0 fault
     (subst (λ r. IsCutOf r c.args.cut.now.at c.args.cut.now.len c.in_ok-cut_through.field-0) c.deref-2.ensures.value c.in_ok-cut_through.ensures) h))
+
+pub returns-clause-way : goal.returns-clause-way
+returns-clause-way g c = λ told ends.
+    let cut = subst (λ r. IsCutOf r c.args.cut.now.at c.args.cut.now.len c.in_ok-cut_through.field-0) c.deref-2.ensures.value c.in_ok-cut_through.ensures in
+    let both = ends_of_cut (g.B.Ground.geometry c.args.blocks.now) (g.B.Ground.unit c.args.blocks.now) (c.args.level - 1) (g.B.Ground.geometry c.args.blocks.now).fan c.in_ok-row.row.items c.args.cut.now.at c.args.cut.now.len c.in_ok-cut_through.field-0 cut ends in (
+      λ some. subst (λ r. IsSoundWay (g.B.Ground.geometry c.args.blocks.now) (g.B.Ground.unit c.args.blocks.now) (NamesLeaf (g.B.Ground.geometry c.args.blocks.now)) c.args.level c.args.least r (c.args.cut.now.at - 1) c.args.cut.now.at) c.deref.ensures.value (c.in_ok-row.ensures.way told (c.args.cut.now.at - 1) c.args.cut.now.at (both.0 some)),
+      λ some. subst (λ r. IsSoundWay (g.B.Ground.geometry c.args.blocks.now) (g.B.Ground.unit c.args.blocks.now) (NamesLeaf (g.B.Ground.geometry c.args.blocks.now)) c.args.level c.args.least r (c.args.cut.now.at + c.args.cut.now.len - 1) (c.args.cut.now.at + c.args.cut.now.len)) c.deref.ensures.value (c.in_ok-row.ensures.way told (c.args.cut.now.at + c.args.cut.now.len - 1) (c.args.cut.now.at + c.args.cut.now.len) (both.1 some)),
+    )
+
+pub returns-clause-nodes : goal.returns-clause-nodes
+returns-clause-nodes g c = λ told.
+    let nodes = c.in_ok-row.ensures.nodes told in (
+      subst (AreNodesAt (g.B.Ground.geometry c.args.blocks.now) (g.B.Ground.unit c.args.blocks.now) c.args.level c.args.least) c.deref.ensures.value nodes.0,
+      subst (λ r. IsCutOf r c.args.cut.now.at c.args.cut.now.len c.in_ok-cut_through.field-0) (nodes.1 ∙ ap (children_on (g.B.Ground.unit c.args.blocks.now)) c.deref.ensures.value)
+          (subst (λ r. IsCutOf r c.args.cut.now.at c.args.cut.now.len c.in_ok-cut_through.field-0) c.deref-2.ensures.value c.in_ok-cut_through.ensures),
+    )

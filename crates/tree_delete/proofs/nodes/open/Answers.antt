@@ -1,17 +1,20 @@
-use Rattle.std.proofs.Common.{inl, inr, ◌-◌, ◌≤◌, suc, List, [], ◌∷◌, ◌++◌, length, ap, sym, subst, ◌∙◌, arith}
+use Rattle.std.proofs.Common.{true≢false, inl, inr, ◌-◌, ◌≤◌, suc, List, [], ◌∷◌, ◌++◌, length, ap, sym, subst, ◌∙◌, arith}
 use Rattle.std.proofs.lemmas.List.{append-nil}
 use Rattle.ex_base.specs.declared.geometry.Geometry.{Geometry}
 use Rattle.tree_rows.specs.declared.rows.Part.{Part}
 use Rattle.tree_steps.specs.Made.{Holds}
-use Rattle.tree_delete.specs.Cuts.{all_of, AreChildren}
+use Rattle.tree_delete.specs.Cuts.{all_of, AreChildren, HasSoundEnds}
 use Rattle.tree_delete.proofs.Growing.{holds_split}
 use Rattle.tree_delete.proofs.LeafLaws.{first_gone}
 use Rattle.tree_delete.proofs.NodeLaws.{holds_kept, opened_back}
-use Rattle.tree_rows.specs.Damage.{IsWalkFault}
+use Rattle.tree_rows.specs.Damage.{IsNodeAt, IsWalkFault}
 use Rattle.tree_rows.proofs.Blame.{walk_back}
 use Rattle.tree_delete.proofs.Faults.{walk_run, walk_either, walks_back, walk_near_left, walk_near_right}
 use Rattle.tree_delete.proofs.Results.{err_on}
 use Rattle.tree_delete.proofs.OpenLaws.{all_left, all_right, opens_here, opens_left, opens_right, opened_here, opened_left, opened_right}
+use Rattle.std.specs.Vec.{vec_len}
+use Rattle.tree_delete.specs.Beside.{enough, widens_before, widens_behind, AreNodesAt, IsSoundBeside}
+use Rattle.tree_delete.proofs.Beside.{beside_up, nodes_back, none_there}
 use Rattle.tree_delete.proofs.nodes.open.Goals as goal
 
 pub returns-then-fan-len-clause-counted : goal.returns-then-fan-len-clause-counted
@@ -118,3 +121,47 @@ returns-in_err-row-2-clause-fault g c =
     (λ told. walk_near_right (g.B.Ground.geometry c.args.blocks.now) (g.B.Ground.unit c.args.blocks.now) c.args.level (g.B.Ground.geometry c.args.blocks.now).fan c.args.cut c.remove-near.new.self.items c.remove-near.result c.in_err-row-2.field-0.0 right
     (subst (λ k. IsWalkFault (g.B.Ground.geometry c.args.blocks.now) (g.B.Ground.unit c.args.blocks.now) c.args.level k (c.remove-near.result ∷ []) c.in_err-row-2.field-0.0) (ap (λ (k : Geometry). k.fan) c.geometry-fan.ensures)
     (walk_back g.B.Ground c.args.blocks.now c.cut_below.new.blocks c.args.level c.geometry-fan.result.fan (c.remove-near.result ∷ []) c.in_err-row-2.field-0.0 c.in_ok-below.ensures.kept c.in_err-row-2.ensures.fault told)))
+
+pub returns-then-fan-len-clause-way : goal.returns-then-fan-len-clause-way
+returns-then-fan-len-clause-way g c = λ told ends. subst (λ k. HasSoundEnds (g.B.Ground.geometry c.args.blocks.now) (g.B.Ground.unit c.args.blocks.now) c.args.level k c.args.cut) (ap (λ (k : Geometry). k.fan) c.geometry-fan.ensures) (c.in_ok-below.ensures.way told ends)
+
+pub returns-in-Some-clause-way : goal.returns-in-Some-clause-way
+returns-in-Some-clause-way g c = λ told ends. subst (λ k. HasSoundEnds (g.B.Ground.geometry c.args.blocks.now) (g.B.Ground.unit c.args.blocks.now) c.args.level k c.args.cut) (ap (λ (k : Geometry). k.fan) c.geometry-fan.ensures) (c.in_ok-below.ensures.way told ends)
+
+pub returns-clause-way : goal.returns-clause-way
+returns-clause-way g c = λ told ends. subst (λ k. HasSoundEnds (g.B.Ground.geometry c.args.blocks.now) (g.B.Ground.unit c.args.blocks.now) c.args.level k c.args.cut) (ap (λ (k : Geometry). k.fan) c.geometry-fan.ensures) (c.in_ok-below.ensures.way told ends)
+
+pub returns-then-fan-len-clause-beside : goal.returns-then-fan-len-clause-beside
+returns-then-fan-len-clause-beside g c = λ told opens.
+    let nodes = c.in_ok-below.ensures.nodes told in
+    beside_up (g.B.Ground.geometry c.args.blocks.now) (g.B.Ground.unit c.args.blocks.now) c.args.level (g.B.Ground.geometry c.args.blocks.now).fan c.args.cut c.in_ok-below.below c.requires.level
+    (subst (λ k. AreNodesAt (g.B.Ground.geometry c.args.blocks.now) (g.B.Ground.unit c.args.blocks.now) c.args.level k c.args.cut.run.items) (ap (λ (k : Geometry). k.fan) c.geometry-fan.ensures) nodes.0) nodes.1
+    (enough (omega (arith, c.if-fan-len.true, c.len.ensures, c.len-2.ensures, c.in_ok-below.below.left.ok.0, c.in_ok-below.below.right.ok.0, ap (λ (k : Geometry). k.fan) c.geometry-fan.ensures)) opens)
+
+pub returns-in-Some-clause-beside : goal.returns-in-Some-clause-beside
+returns-in-Some-clause-beside g c = λ told opens.
+    let nodes = c.in_ok-below.ensures.nodes told in
+    let near = nodes_back g.B.Ground c.args.blocks.now c.cut_below.new.blocks c.args.level c.geometry-fan.result.fan (c.in-Some.near ∷ []) c.in_ok-row.row.items c.in_ok-below.ensures.kept c.in_ok-row.ensures.nodes told in
+    let node : IsNodeAt (g.B.Ground.geometry c.args.blocks.now) (g.B.Ground.unit c.args.blocks.now) c.args.level c.in-Some.near.size (g.B.Ground.geometry c.args.blocks.now).fan c.in-Some.near.page.0 =
+    subst (λ k. IsNodeAt (g.B.Ground.geometry c.args.blocks.now) (g.B.Ground.unit c.args.blocks.now) c.args.level c.in-Some.near.size k c.in-Some.near.page.0) (ap (λ (k : Geometry). k.fan) c.geometry-fan.ensures) near.0.0 in
+    beside_up (g.B.Ground.geometry c.args.blocks.now) (g.B.Ground.unit c.args.blocks.now) c.args.level (g.B.Ground.geometry c.args.blocks.now).fan c.args.cut c.in_ok-below.below c.requires.level
+    (subst (λ k. AreNodesAt (g.B.Ground.geometry c.args.blocks.now) (g.B.Ground.unit c.args.blocks.now) c.args.level k c.args.cut.run.items) (ap (λ (k : Geometry). k.fan) c.geometry-fan.ensures) nodes.0) nodes.1
+    (widens_before c.pop.new.self.items c.in-Some.near c.in-Some.ensures.items node
+    (subst (λ lefts. IsSoundBeside (g.B.Ground.geometry c.args.blocks.now) (g.B.Ground.unit c.args.blocks.now) (c.args.level - 1) (g.B.Ground.geometry c.args.blocks.now).fan lefts c.in_ok-below.below.run.items c.in_ok-below.below.right.items c.in_ok-below.below.at c.in_ok-below.below.len)
+    (c.in_ok-joined.ensures ∙ ap (λ (xs : List Part). xs ++ (c.deref-in-Some.result.now ++ [])) c.deref.ensures.value ∙ ap (λ (xs : List Part). c.in_ok-row.row.items ++ (xs ++ [])) c.deref-in-Some.ensures.value ∙ ap (λ (xs : List Part). c.in_ok-row.row.items ++ xs) (append-nil c.in_ok-below.below.left.items) ∙ ap (λ (xs : List Part). xs ++ c.in_ok-below.below.left.items) near.1)
+    opens))
+
+pub returns-clause-beside : goal.returns-clause-beside
+returns-clause-beside g c = λ told opens.
+    let nodes = c.in_ok-below.ensures.nodes told in
+    let some : 1 ≤ length c.args.cut.right.items = omega (arith, c.remove-near.ensures.len, c.args.cut.right.ok.0) in
+    let right = first_gone c.args.cut.right.items c.remove-near.new.self.items c.remove-near.result some c.remove-near.ensures.value c.remove-near.ensures.items in
+    let near = nodes_back g.B.Ground c.args.blocks.now c.cut_below.new.blocks c.args.level c.geometry-fan.result.fan (c.remove-near.result ∷ []) c.in_ok-row-2.row.items c.in_ok-below.ensures.kept c.in_ok-row-2.ensures.nodes told in
+    let node : IsNodeAt (g.B.Ground.geometry c.args.blocks.now) (g.B.Ground.unit c.args.blocks.now) c.args.level c.remove-near.result.size (g.B.Ground.geometry c.args.blocks.now).fan c.remove-near.result.page.0 =
+    subst (λ k. IsNodeAt (g.B.Ground.geometry c.args.blocks.now) (g.B.Ground.unit c.args.blocks.now) c.args.level c.remove-near.result.size k c.remove-near.result.page.0) (ap (λ (k : Geometry). k.fan) c.geometry-fan.ensures) near.0.0 in
+    beside_up (g.B.Ground.geometry c.args.blocks.now) (g.B.Ground.unit c.args.blocks.now) c.args.level (g.B.Ground.geometry c.args.blocks.now).fan c.args.cut c.in_ok-below.below c.requires.level
+    (subst (λ k. AreNodesAt (g.B.Ground.geometry c.args.blocks.now) (g.B.Ground.unit c.args.blocks.now) c.args.level k c.args.cut.run.items) (ap (λ (k : Geometry). k.fan) c.geometry-fan.ensures) nodes.0) nodes.1
+    (widens_behind c.remove-near.result c.remove-near.new.self.items (none_there (vec_len c.args.cut.left) c.args.cut.left.items (omega (arith, c.args.cut.left.ok.0)) (λ more. true≢false (sym (c.in_default.ensures.variant.1 more)))) right node
+    (subst (λ rights. IsSoundBeside (g.B.Ground.geometry c.args.blocks.now) (g.B.Ground.unit c.args.blocks.now) (c.args.level - 1) (g.B.Ground.geometry c.args.blocks.now).fan c.in_ok-below.below.left.items c.in_ok-below.below.run.items rights c.in_ok-below.below.at c.in_ok-below.below.len)
+    (c.in_ok-joined-2.ensures ∙ ap (λ (xs : List Part). xs ++ (c.deref-3.result.now ++ [])) c.deref-2.ensures.value ∙ ap (λ (xs : List Part). c.in_ok-below.below.right.items ++ (xs ++ [])) c.deref-3.ensures.value ∙ ap (λ (xs : List Part). c.in_ok-below.below.right.items ++ xs) (append-nil c.in_ok-row-2.row.items ∙ near.1))
+    opens))

@@ -10,12 +10,16 @@ use Rattle.count_nodes.specs.Split.{nodes_for}
 use Rattle.tree_rows.specs.declared.rows.Part.{Part}
 use Rattle.tree_rows.specs.Rows.{row_size}
 use Rattle.tree_steps.proofs.Laid.{extends_on, extends_kept}
-use Rattle.tree_delete.specs.Cuts.{all_of, sides, IsCutAt}
+use Rattle.tree_delete.specs.Cuts.{all_of, sides, HasSoundEnds, IsCutAt}
 use Rattle.tree_delete.proofs.Paid.{some_node}
+use Rattle.tree_rows.proofs.Reading.{on_ok}
+use Rattle.tree_delete.proofs.Ends.{ends_kept, ends_low, ends_nowhere}
 use Rattle.tree_delete.proofs.Results.{if_ok_on, ok_of, err_on}
 use Rattle.tree_rows.specs.Damage.{IsWalkFault}
 use Rattle.tree_rows.proofs.Blame.{walk_back}
-use Rattle.tree_delete.proofs.RowLaws.{left_at, whole_left, tree_left, node_left_of, page_le, made_few}
+use Rattle.tree_delete.proofs.RowLaws.{empty_row, no_size, left_at, whole_left, tree_left, node_left_of, page_le, made_few}
+use Rattle.tree_delete.specs.Beside.{OpensSound}
+use Rattle.tree_delete.proofs.Beside.{beside_low, beside_nowhere, opens_kept}
 use Rattle.tree_delete.proofs.rows.+cut_row.Goals as goal
 
 pub returns-then-level-eq0-clause-left : goal.returns-then-level-eq0-clause-left
@@ -110,3 +114,33 @@ returns-in_err-kept-clause-fault g t c =
     (c.in_ok-left.ensures.walk told c.in_err-kept.field-0.0
     (walk_back g.B.Ground c.args.blocks.now c.open.new.blocks (c.args.level - 1) (g.B.Ground.geometry c.args.blocks.now).fan (all_of c.in_ok-left.field-0.below) c.in_err-kept.field-0.0 c.in_ok-left.ensures.kept
     (λ told_b. c.in_err-kept.ensures.fault told_b (g.B.Ground.geometry c.args.blocks.now).fan (λ some. ap (λ (k : Geometry). k.fan) (sym (g.B.Ground.leads_geometry c.args.blocks.now c.open.new.blocks c.in_ok-left.ensures.kept.leads)))) told)))
+
+pub returns-then-level-eq0-clause-way : goal.returns-then-level-eq0-clause-way
+returns-then-level-eq0-clause-way g t c =
+    on_ok c.cut_leaves.result _ _ (λ way told least only. ends_low (g.B.Ground.geometry c.args.blocks.now) (g.B.Ground.unit c.args.blocks.now) c.args.level 0 least c.args.cut c.if-level-eq0.true (way told)) c.cut_leaves.ensures.way
+
+pub returns-then-is_empty-clause-way : goal.returns-then-is_empty-clause-way
+returns-then-is_empty-clause-way g t c = λ told least only.
+    ends_nowhere (g.B.Ground.geometry c.args.blocks.now) (g.B.Ground.unit c.args.blocks.now) c.args.level least c.args.cut (no_size c.args.cut.run.items (omega (arith, eqb-true (vec_len c.args.cut.run) 0 (sym c.if-is_empty.ensures), c.args.cut.run.ok.0)))
+
+pub returns-clause-way : goal.returns-clause-way
+returns-clause-way g t c = λ told least only.
+    subst (λ k. HasSoundEnds (g.B.Ground.geometry c.args.blocks.now) (g.B.Ground.unit c.args.blocks.now) c.args.level k c.args.cut) (sym (only (omega (arith, c.if-level-eq0.false))))
+    (c.in_ok-left.ensures.way told
+    (ends_kept g.B.Ground c.args.blocks.now c.open.new.blocks (c.args.level - 1) (g.B.Ground.geometry c.args.blocks.now).fan c.in_ok-left.field-0.below c.in_ok-left.ensures.kept
+    (λ told_b. c.in_ok-kept.ensures.way told_b (g.B.Ground.geometry c.args.blocks.now).fan (λ some. ap (λ (k : Geometry). k.fan) (sym (g.B.Ground.leads_geometry c.args.blocks.now c.open.new.blocks c.in_ok-left.ensures.kept.leads)))) told))
+
+pub returns-then-level-eq0-clause-beside : goal.returns-then-level-eq0-clause-beside
+returns-then-level-eq0-clause-beside g t c =
+    on_ok c.cut_leaves.result _ _ (λ beside told least only. beside_low (g.B.Ground.geometry c.args.blocks.now) (g.B.Ground.unit c.args.blocks.now) c.args.level 0 least c.args.cut c.if-level-eq0.true (beside told)) c.cut_leaves.ensures.beside
+
+pub returns-then-is_empty-clause-beside : goal.returns-then-is_empty-clause-beside
+returns-then-is_empty-clause-beside g t c = λ told least only.
+    beside_nowhere (g.B.Ground.geometry c.args.blocks.now) (g.B.Ground.unit c.args.blocks.now) c.args.level least c.args.cut (omega (arith, c.if-level-eq0.false)) (empty_row c.args.cut.run.items (omega (arith, eqb-true (vec_len c.args.cut.run) 0 (sym c.if-is_empty.ensures), c.args.cut.run.ok.0)))
+
+pub returns-clause-beside : goal.returns-clause-beside
+returns-clause-beside g t c = λ told least only.
+    subst (λ k. OpensSound (g.B.Ground.geometry c.args.blocks.now) (g.B.Ground.unit c.args.blocks.now) c.args.level k c.args.cut) (sym (only (omega (arith, c.if-level-eq0.false))))
+    (c.in_ok-left.ensures.beside told
+    (opens_kept g.B.Ground c.args.blocks.now c.open.new.blocks (c.args.level - 1) (g.B.Ground.geometry c.args.blocks.now).fan c.in_ok-left.field-0.below c.in_ok-left.ensures.kept
+    (λ told_b. c.in_ok-kept.ensures.beside told_b (g.B.Ground.geometry c.args.blocks.now).fan (λ some. ap (λ (k : Geometry). k.fan) (sym (g.B.Ground.leads_geometry c.args.blocks.now c.open.new.blocks c.in_ok-left.ensures.kept.leads)))) told))

@@ -1,16 +1,21 @@
-use Rattle.std.proofs.Common.{◌∙◌, ap, subst, ◌-◌, arith, ◌≡◌, length, inl, inr}
+use Rattle.std.proofs.Common.{◌∙◌, ap, subst, ◌≤◌, ◌+◌, ◌*◌, ◌-◌, arith, ◌≡◌, length, inl, inr}
 use Rattle.std.specs.Vec.{vec_len}
 use Rattle.tree_steps.proofs.Laid.{extends_on, extends_kept}
 use Rattle.tree_delete.proofs.OpenLaws.{three_sizes}
+use Rattle.count_nodes.specs.Split.{most_pairs}
+use Rattle.tree_rows.proofs.Reading.{on_ok}
+use Rattle.tree_delete.proofs.Ends.{ends_kept}
 use Rattle.tree_delete.proofs.Results.{if_ok_on, on_ok_on, ok_of, on_of, err_on}
-use Rattle.tree_delete.proofs.RowLaws.{no_size, no_len, some_len}
+use Rattle.tree_delete.proofs.RowLaws.{empty_row, no_size, no_len, some_len}
 use Rattle.ex_base.specs.declared.geometry.Geometry.{Geometry}
 use Rattle.tree_rows.specs.Damage.{IsWalkFault}
 use Rattle.tree_rows.proofs.Blame.{if_err_on, walk_back}
-use Rattle.tree_delete.specs.Cuts.{all_of}
+use Rattle.tree_delete.specs.Cuts.{all_of, HasSoundEnds}
 use Rattle.tree_delete.proofs.Faults.{walk_run}
 use Rattle.tree_delete.proofs.TreeLaws.{trimmed_here, trimmed_below}
 use Rattle.tree_delete.proofs.rows.+cut_tree.Goals.{then-level-eq0-via-then-level-eq0, then-level-eq0-via-else-level-eq0+then-not-is_empty, then-level-eq0-via-else-level-eq0+else-not-is_empty+then-not-is_empty-2}
+use Rattle.tree_delete.specs.Beside.{alone, OpensSound}
+use Rattle.tree_delete.proofs.Beside.{beside_up, opens_kept}
 use Rattle.tree_delete.proofs.rows.+cut_tree.Goals as goal
 
 pub returns-then-level-eq0-clause-trimmed : goal.returns-then-level-eq0-clause-trimmed
@@ -58,3 +63,42 @@ returns-clause-fault g t c =
     (walk_back g.B.Ground c.args.blocks.now c.cut_below.new.blocks (c.args.level - 1) (g.B.Ground.geometry c.args.blocks.now).fan (all_of c.in_ok-below.below) f c.in_ok-below.ensures.kept
     (λ told_b. subst (λ k. IsWalkFault (g.B.Ground.geometry c.cut_below.new.blocks) (g.B.Ground.unit c.cut_below.new.blocks) (c.args.level - 1) k (all_of c.in_ok-below.below) f)
     (ap (λ (k : Geometry). k.fan) (c.geometry-fan.ensures ∙ g.B.Ground.leads_geometry c.args.blocks.now c.cut_below.new.blocks c.in_ok-below.ensures.kept.leads)) (h told_b)) told))) c.cut_tree.ensures.fault
+
+pub returns-then-level-eq0-clause-way : goal.returns-then-level-eq0-clause-way
+returns-then-level-eq0-clause-way g t c = λ told.
+    c.in_ok-row.ensures.way told c.args.least (λ high. c.requires.least (elim c.then-level-eq0.branch [
+      | then-level-eq0-via-then-level-eq0 w ↦ absurd (omega (arith, w.if-level-eq0.true, high))
+      | then-level-eq0-via-else-level-eq0+then-not-is_empty w ↦ omega (arith, some_len (vec_len c.args.cut.left) c.args.cut.left.items (omega (arith, c.args.cut.left.ok.0)) w.if-not-is_empty.ensures)
+      | then-level-eq0-via-else-level-eq0+else-not-is_empty+then-not-is_empty-2 w ↦ omega (arith, some_len (vec_len c.args.cut.right) c.args.cut.right.items (omega (arith, c.args.cut.right.ok.0)) w.if-not-is_empty-2.ensures)
+    ]))
+
+pub returns-clause-way : goal.returns-clause-way
+returns-clause-way g t c =
+    on_ok c.cut_tree.result _ _ (λ way told. c.in_ok-below.ensures.way told
+    (ends_kept g.B.Ground c.args.blocks.now c.cut_below.new.blocks (c.args.level - 1) (g.B.Ground.geometry c.args.blocks.now).fan c.in_ok-below.below c.in_ok-below.ensures.kept
+    (λ told_b. subst (λ k. HasSoundEnds (g.B.Ground.geometry c.cut_below.new.blocks) (g.B.Ground.unit c.cut_below.new.blocks) (c.args.level - 1) k c.in_ok-below.below)
+    (ap (λ (k : Geometry). k.fan) (c.geometry-fan.ensures ∙ g.B.Ground.leads_geometry c.args.blocks.now c.cut_below.new.blocks c.in_ok-below.ensures.kept.leads)) (way told_b)) told)) c.cut_tree.ensures.way
+
+pub returns-clause-few : goal.returns-clause-few
+returns-clause-few g t c =
+    if_ok_on c.cut_tree.result _ (λ made is. subst (λ (k : Geometry). length made.1.items ≤ 2 * most_pairs k.fan + 4) (g.B.Ground.leads_geometry c.args.blocks.now c.cut_below.new.blocks c.in_ok-below.ensures.kept.leads) (ok_of c.cut_tree.result made _ is c.cut_tree.ensures.few))
+
+pub returns-then-level-eq0-clause-beside : goal.returns-then-level-eq0-clause-beside
+returns-then-level-eq0-clause-beside g t c = λ told.
+    c.in_ok-row.ensures.beside told c.args.least (λ high. c.requires.least (elim c.then-level-eq0.branch [
+      | then-level-eq0-via-then-level-eq0 w ↦ absurd (omega (arith, w.if-level-eq0.true, high))
+      | then-level-eq0-via-else-level-eq0+then-not-is_empty w ↦ omega (arith, some_len (vec_len c.args.cut.left) c.args.cut.left.items (omega (arith, c.args.cut.left.ok.0)) w.if-not-is_empty.ensures)
+      | then-level-eq0-via-else-level-eq0+else-not-is_empty+then-not-is_empty-2 w ↦ omega (arith, some_len (vec_len c.args.cut.right) c.args.cut.right.items (omega (arith, c.args.cut.right.ok.0)) w.if-not-is_empty-2.ensures)
+    ]))
+
+pub returns-clause-beside : goal.returns-clause-beside
+returns-clause-beside g t c =
+    let left = empty_row c.args.cut.left.items (no_len (vec_len c.args.cut.left) c.args.cut.left.items (omega (arith, c.args.cut.left.ok.0)) c.if-not-is_empty.ensures) in
+    let right = empty_row c.args.cut.right.items (no_len (vec_len c.args.cut.right) c.args.cut.right.items (omega (arith, c.args.cut.right.ok.0)) c.if-not-is_empty-2.ensures) in
+    on_ok c.cut_tree.result _ _ (λ beside told.
+    let nodes = c.in_ok-below.ensures.nodes told in
+    beside_up (g.B.Ground.geometry c.args.blocks.now) (g.B.Ground.unit c.args.blocks.now) c.args.level c.args.least c.args.cut c.in_ok-below.below (omega (arith, c.if-level-eq0.false)) nodes.0 nodes.1
+    (alone left right
+    (opens_kept g.B.Ground c.args.blocks.now c.cut_below.new.blocks (c.args.level - 1) (g.B.Ground.geometry c.args.blocks.now).fan c.in_ok-below.below c.in_ok-below.ensures.kept
+    (λ told_b. subst (λ k. OpensSound (g.B.Ground.geometry c.cut_below.new.blocks) (g.B.Ground.unit c.cut_below.new.blocks) (c.args.level - 1) k c.in_ok-below.below)
+    (ap (λ (k : Geometry). k.fan) (c.geometry-fan.ensures ∙ g.B.Ground.leads_geometry c.args.blocks.now c.cut_below.new.blocks c.in_ok-below.ensures.kept.leads)) (beside told_b)) told))) c.cut_tree.ensures.beside

@@ -1,8 +1,9 @@
-use Rattle.std.proofs.Common.{arith, List, ◌≤◌, ◌<◌, ◌+◌, ◌*◌, ◌^◌, ap, sym, subst, refl, length}
+use Rattle.std.proofs.Common.{[], ◌∷◌, inl, inr, arith, List, ◌≤◌, ◌<◌, ◌+◌, ◌*◌, ◌^◌, ap, sym, subst, refl, length}
 use Rattle.ex_base.specs.declared.geometry.Geometry.{Geometry}
 use Rattle.ex_base.specs.declared.names.Area.TheVariants.{Page}
 use Rattle.count_nodes.specs.Split.{most_pairs}
 use Rattle.tree_rows.specs.declared.rows.Part.{Part}
+use Rattle.tree_rows.specs.Damage.{IsSoundEnd}
 use Rattle.tree_rows.specs.Rows.{row_size}
 use Rattle.tree_steps.specs.Made.{Holds}
 use Rattle.tree_steps.proofs.Laid.{extends_on}
@@ -10,7 +11,8 @@ use Rattle.tree_insert.specs.Grown.{IsRooted}
 use Rattle.tree_delete.specs.declared.cut.Cut.{Cut}
 use Rattle.tree_delete.proofs.Paid.{rise_first}
 use Rattle.tree_delete.proofs.Results.{if_ok_on, on_ok_on, ok_of, on_of}
-use Rattle.tree_delete.proofs.TopLaws.{few_sizes, some_rest, roots_seven, root_of, tree_cut, tree_have}
+use Rattle.tree_delete.proofs.TopLaws.{few_sizes, some_rest, roots_free, roots_seven, root_of, tree_cut, tree_have}
+use Rattle.tree_delete.specs.Beside.{IsSoundBeside}
 use Rattle.tree_delete.proofs.tree.without.Goals as goal
 
 pub rooted-requires-clause-rise : goal.rooted-requires-clause-rise
@@ -47,3 +49,26 @@ returns-clause-edited g c =
     c.new.ensures.items c.in_ok-joined.ensures c.new-2.ensures.items refl refl c.in_ok-level.ensures.extends (on_of c.rooted.result made _ is c.rooted.ensures.extends) some spells trimmed
     (λ held. subst (λ r. IsRooted g.B.Ground c.cut_tree.new.blocks c.rooted.new.blocks c.in_ok-level.level r made) c.deref.ensures.value
     (ok_of c.rooted.result made _ is c.rooted.ensures.rooted told_b c.in_ok-level.level refl (subst (Holds g.B.Ground c.cut_tree.new.blocks c.in_ok-level.level) (sym c.deref.ensures.value) held))))
+
+pub returns-clause-way : goal.returns-clause-way
+returns-clause-way g c =
+    on_ok_on c.rooted.result _ (λ made is told end which.
+    let ends = c.in_ok-level.ensures.way told in
+    subst (λ r. IsSoundEnd (g.B.Ground.geometry c.args.blocks.now) (g.B.Ground.unit c.args.blocks.now) c.args.height 2 r end) c.in_ok-joined.ensures (elim which [
+      | inl at ↦ subst (λ k. IsSoundEnd (g.B.Ground.geometry c.args.blocks.now) (g.B.Ground.unit c.args.blocks.now) c.args.height 2 c.in_ok-joined.field-0.items k) (sym at) ends.0
+      | inr at ↦ subst (λ k. IsSoundEnd (g.B.Ground.geometry c.args.blocks.now) (g.B.Ground.unit c.args.blocks.now) c.args.height 2 c.in_ok-joined.field-0.items k) (sym at) ends.1
+    ]))
+
+pub rooted-requires-clause-free : goal.rooted-requires-clause-free
+rooted-requires-clause-free g c = λ two.
+    let geo = g.B.Ground.leads_geometry c.args.blocks.now c.cut_tree.new.blocks c.in_ok-level.ensures.extends.leads in
+    let few : length c.deref.result.now ≤ 2 * most_pairs (g.B.Ground.geometry c.cut_tree.new.blocks).fan + 4 =
+    subst (λ (k : Geometry). length c.deref.result.now ≤ 2 * most_pairs k.fan + 4) (sym geo) (omega (arith, ap length c.deref.ensures.value, c.in_ok-level.ensures.few)) in
+    roots_free (g.B.Ground.geometry c.cut_tree.new.blocks).fan (length c.deref.result.now) (g.B.Ground.free c.cut_tree.new.blocks Page) (omega (arith, (g.B.Ground.geometry c.cut_tree.new.blocks).two)) few (omega (arith, c.in_ok-level.ensures.pages, c.requires.pages))
+
+pub returns-clause-beside : goal.returns-clause-beside
+returns-clause-beside g c =
+    on_ok_on c.rooted.result _ (λ made is told.
+    subst (λ r. IsSoundBeside (g.B.Ground.geometry c.args.blocks.now) (g.B.Ground.unit c.args.blocks.now) c.args.height 2 r (c.args.tree ∷ []) [] c.args.pos c.args.len) c.new.ensures.items
+    (subst (λ r. IsSoundBeside (g.B.Ground.geometry c.args.blocks.now) (g.B.Ground.unit c.args.blocks.now) c.args.height 2 c.new.result.items r [] c.args.pos c.args.len) c.in_ok-joined.ensures
+    (subst (λ r. IsSoundBeside (g.B.Ground.geometry c.args.blocks.now) (g.B.Ground.unit c.args.blocks.now) c.args.height 2 c.new.result.items c.in_ok-joined.field-0.items r c.args.pos c.args.len) c.new-2.ensures.items (c.in_ok-level.ensures.beside told))))

@@ -46,3 +46,6 @@ returns-clause-edited g c =
     let roots : Holds g.B.Ground c.new_parts.new.blocks c.args.root.now.height c.in_ok-row.row.items → IsRooted g.B.Ground c.new_parts.new.blocks c.rooted.new.blocks c.args.root.now.height c.in_ok-row.row.items made =
     subst (λ (r : List Part). Holds g.B.Ground c.new_parts.new.blocks c.args.root.now.height r → IsRooted g.B.Ground c.new_parts.new.blocks c.rooted.new.blocks c.args.root.now.height r made) c.deref.ensures.value (ok_of c.rooted.result made _ is c.rooted.ensures.rooted told_m c.args.root.now.height refl) in
     edited g.B.Ground c.args.blocks.now c.new_parts.new.blocks c.rooted.new.blocks c.args.growth c.args.root.now.height c.args.root.now made c.in_ok-row.row.items bytes c.args.pos c.args.given.now row.extends (on_of c.rooted.result made _ is c.rooted.ensures.extends) spells (row.grew told bytes spells used c.args.root.now.height refl) roots)
+
+pub returns-clause-way : goal.returns-clause-way
+returns-clause-way g c = on_ok_on c.rooted.result _ (λ made is told. c.in_ok-row.ensures.way told)

@@ -1,4 +1,4 @@
-use Rattle.std.proofs.Common.{arith, ℕ, List, ◌≡◌, ◌≤◌, ◌+◌, ◌-◌, ◌*◌, ◌∙◌, ap, sym, subst, refl, suc, length}
+use Rattle.std.proofs.Common.{arith, [], ◌∷◌, ℕ, List, ◌≡◌, ◌≤◌, ◌+◌, ◌-◌, ◌*◌, ◌∙◌, ap, sym, subst, refl, suc, length}
 use Rattle.std.proofs.lemmas.List.{length-take-le}
 use Rattle.ex_base.specs.Edits.{inserted}
 use Rattle.ex_base.specs.declared.geometry.Geometry.{Geometry}
@@ -17,6 +17,10 @@ use Rattle.tree_insert.specs.Growth.{IsSpot, row_by}
 use Rattle.tree_insert.specs.Need.{need_leaves}
 use Rattle.tree_insert.proofs.Paid.{some_node, level_up, node_free, node_paid}
 use Rattle.tree_insert.proofs.PaidRows.{page_le, paid_at}
+use Rattle.ex_base.specs.Area.{NamesLeaf}
+use Rattle.tree_rows.specs.Damage.{IsSoundWay}
+use Rattle.tree_rows.proofs.Reading.{on_ok}
+use Rattle.tree_rows.proofs.Ways.{way_kept, way_low, way_one}
 use Rattle.tree_insert.proofs.Results.{if_ok_on, on_ok_on, ok_of, on_of, cause_on}
 use Rattle.tree_insert.proofs.RootGrow.{lone_grew, root_grew}
 use Rattle.tree_insert.proofs.edit.grow_root.Goals as goal
@@ -146,3 +150,14 @@ returns-clause-grew g c =
     subst (λ (r : List Part). (m : ℕ) → c.args.height ≡ suc m → Holds g.B.Ground c.grow_row.new.blocks m r → Built g.B.Ground c.nodes_over.new.blocks m (even_lens (g.B.Ground.geometry c.grow_row.new.blocks).fan (length r)) r made.items) c.deref-2.ensures.value (ok_of c.nodes_over.result made _ is c.nodes_over.ensures.built told_c) in
     root_grew g.B.Ground c.args.blocks.now c.row_of.new.blocks c.grow_row.new.blocks c.nodes_over.new.blocks c.args.growth (g.B.Ground.geometry c.args.blocks.now).fan (leaf_bytes (g.B.Ground.geometry c.args.blocks.now)) c.args.height l c.args.tree c.in_ok-below.below.items c.in_ok-grown.grown.items made.items c.args.pos c.args.given.now
     same c.if-height-eq0.false kept c.in_ok-grown.ensures.extends (on_of c.nodes_over.result made _ is c.nodes_over.ensures.extends) refl (c.in_ok-below.ensures.found told) grew (ok_of c.nodes_over.result made _ is c.nodes_over.ensures.took) built holds)
+
+pub returns-then-height-eq0-clause-way : goal.returns-then-height-eq0-clause-way
+returns-then-height-eq0-clause-way g c =
+    on_ok c.grow_leaves.result _ _ (λ way told. way_low (g.B.Ground.geometry c.args.blocks.now) (g.B.Ground.unit c.args.blocks.now) (NamesLeaf (g.B.Ground.geometry c.args.blocks.now)) c.args.height 0 2 (c.args.tree ∷ []) (c.args.pos - 1) (c.args.pos - 1) c.if-height-eq0.true (way told)) c.grow_leaves.ensures.way
+
+pub returns-clause-way : goal.returns-clause-way
+returns-clause-way g c = on_ok_on c.nodes_over.result _ (λ made is told.
+    way_one (g.B.Ground.geometry c.args.blocks.now) (g.B.Ground.unit c.args.blocks.now) (NamesLeaf (g.B.Ground.geometry c.args.blocks.now)) c.args.height 2 c.args.tree c.in_ok-below.below.items (c.args.pos - 1) (c.args.pos - 1) c.if-height-eq0.false c.in_ok-below.ensures.area (c.in_ok-below.ensures.found told) c.in_ok-below.ensures.counted.filled
+    (way_kept g.B.Ground NamesLeaf c.args.blocks.now c.row_of.new.blocks (c.args.height - 1) (g.B.Ground.geometry c.args.blocks.now).fan c.in_ok-below.below.items (c.args.pos - 1) (c.args.pos - 1) c.in_ok-below.ensures.kept
+    (λ later. subst (λ k. IsSoundWay (g.B.Ground.geometry c.row_of.new.blocks) (g.B.Ground.unit c.row_of.new.blocks) (NamesLeaf (g.B.Ground.geometry c.row_of.new.blocks)) (c.args.height - 1) k c.in_ok-below.below.items (c.args.pos - 1) (c.args.pos - 1)) (ap (λ (geo : Geometry). geo.fan) (g.B.Ground.leads_geometry c.args.blocks.now c.row_of.new.blocks c.in_ok-below.ensures.kept.leads))
+    (subst (λ r. IsSoundWay (g.B.Ground.geometry c.row_of.new.blocks) (g.B.Ground.unit c.row_of.new.blocks) (NamesLeaf (g.B.Ground.geometry c.row_of.new.blocks)) (c.args.height - 1) (g.B.Ground.geometry c.row_of.new.blocks).fan r (c.args.pos - 1) (c.args.pos - 1)) c.deref.ensures.value (c.in_ok-grown.ensures.way later))) told))

@@ -4,6 +4,7 @@ use Rattle.ex_base.specs.Sizes.{leaf_bytes}
 use Rattle.tree_insert.specs.declared.layout.Growth.TheVariants.{Insert}
 use Rattle.tree_insert.proofs.Results.{if_ok_on, on_ok_on, ok_of, on_of}
 use Rattle.tree_insert.proofs.RootEdit.{root_stays, nothing_changes, nothing_turned, leaves_most, pages_most}
+use Rattle.tree_rows.proofs.Reading.{on_ok}
 use Rattle.tree_rows.proofs.Blame.{if_err_on}
 use Rattle.tree_rows.proofs.Sound.{sound_root}
 use Rattle.tree_insert.proofs.edit.insert.Goals as goal
@@ -47,3 +48,6 @@ returns-clause-old g c =
 
 pub returns-clause-sound : goal.returns-clause-sound
 returns-clause-sound g c = if_err_on c.grow.result _ _ (λ f h told whole. sound_root (g.B.Ground.geometry c.args.blocks.now) (g.B.Ground.unit c.args.blocks.now) c.args.root.now f whole (h told)) c.grow.ensures.fault
+
+pub returns-clause-way : goal.returns-clause-way
+returns-clause-way g c = on_ok c.grow.result _ _ (λ way told some. way told) c.grow.ensures.way

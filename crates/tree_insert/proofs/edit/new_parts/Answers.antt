@@ -1,8 +1,11 @@
-use Rattle.std.proofs.Common.{rules, ◌≡◌, None, ap, sym, subst}
+use Rattle.std.proofs.Common.{rules, ◌-◌, ◌≡◌, None, ap, sym, subst}
 use Rattle.tree_model.specs.Trees.{RootSpells, root_units}
 use Rattle.tree_steps.specs.Made.{AreUsed}
 use Rattle.tree_insert.specs.Edited.{GrewRoot}
-use Rattle.tree_insert.proofs.Results.{if_ok_on, ok_of}
+use Rattle.tree_insert.proofs.Results.{if_ok_on, on_ok_on, ok_of}
+use Rattle.ex_base.specs.Area.{NamesLeaf}
+use Rattle.tree_rows.proofs.Reading.{on_ok}
+use Rattle.tree_insert.proofs.SoundWays.{root_way, no_root_way}
 use Rattle.tree_insert.proofs.RootEdit.{root_of, tree_root, first_root, none_start}
 use Rattle.tree_insert.proofs.edit.new_parts.Goals as goal
 
@@ -21,3 +24,11 @@ returns-clause-grew g c =
     (sym (ap (λ p. root_of c.args.root.now.height p c.args.root.now.size) c.in-Some.is))
     (λ spells_now used_now. tree_root g.B.Ground c.args.blocks.now c.grow_root.new.blocks c.args.growth l c.args.root.now.height c.args.root.now.size c.in-Some.page made.items bytes c.args.pos c.args.given.now same c.requires.given spells_now used_now
     (λ held. ok_of c.grow_root.result made _ is c.grow_root.ensures.grew told l same held)) spells used)
+
+pub returns-in_default-clause-way : goal.returns-in_default-clause-way
+returns-in_default-clause-way g c =
+    let none : c.args.root.now.page ≡ None = search rules in
+    on_ok_on c.first_leaves.result _ (λ made is told. no_root_way (g.B.Ground.geometry c.args.blocks.now) (g.B.Ground.unit c.args.blocks.now) (NamesLeaf (g.B.Ground.geometry c.args.blocks.now)) c.args.root.now (c.args.pos - 1) (c.args.pos - 1) none)
+
+pub returns-clause-way : goal.returns-clause-way
+returns-clause-way g c = on_ok c.grow_root.result _ _ (λ way told. root_way (g.B.Ground.geometry c.args.blocks.now) (g.B.Ground.unit c.args.blocks.now) (NamesLeaf (g.B.Ground.geometry c.args.blocks.now)) c.args.root.now c.in-Some.page (c.args.pos - 1) (c.args.pos - 1) c.in-Some.is (way told)) c.grow_root.ensures.way

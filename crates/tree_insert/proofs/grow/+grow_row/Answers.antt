@@ -7,7 +7,7 @@ use Rattle.ex_base.specs.declared.names.Area.TheVariants.{Page, Segment}
 use Rattle.ex_base.specs.Sizes.{leaf_bytes}
 use Rattle.count_nodes.specs.Split.{nodes_for}
 use Rattle.tree_rows.specs.declared.rows.Part.{Part}
-use Rattle.tree_rows.specs.Damage.{IsNodeFault, IsWalkFault}
+use Rattle.tree_rows.specs.Damage.{IsNodeFault, IsSoundWay, IsWalkFault}
 use Rattle.tree_rows.proofs.Blame.{walk_back, walk_node, walk_below}
 use Rattle.tree_rows.specs.Rows.{IsFilled, row_size, row_bytes, row_shape, FitLeaves}
 use Rattle.tree_rows.proofs.Parts.{narrow, below_fit}
@@ -22,6 +22,10 @@ use Rattle.tree_insert.proofs.Paid.{some_node, level_up, node_free, node_paid}
 use Rattle.tree_insert.proofs.PaidRows.{page_le, paid_at}
 use Rattle.tree_insert.proofs.NodeStep.{spot_below, tree_grown, tree_count, tree_grew}
 use Rattle.tree_insert.proofs.PlaceLaws.{no_part}
+use Rattle.ex_base.specs.Area.{NamesLeaf}
+use Rattle.tree_rows.proofs.Reading.{on_ok}
+use Rattle.tree_rows.proofs.Ways.{way_kept, way_low, way_one}
+use Rattle.tree_insert.proofs.SoundWays.{place_way}
 use Rattle.tree_insert.proofs.Results.{err_on}
 use Rattle.tree_insert.proofs.grow.+grow_row.Goals as goal
 
@@ -162,3 +166,15 @@ returns-in_err-grown-clause-fault g t c =
     (walk_back g.B.Ground c.args.blocks.now c.row_of.new.blocks (c.args.level - 1) (g.B.Ground.geometry c.args.blocks.now).fan c.in_ok-below.below.items c.in_err-grown.field-0.0 c.in_ok-below.ensures.kept
     (λ later. subst (λ r. IsWalkFault (g.B.Ground.geometry c.row_of.new.blocks) (g.B.Ground.unit c.row_of.new.blocks) (c.args.level - 1) (g.B.Ground.geometry c.args.blocks.now).fan r c.in_err-grown.field-0.0) c.deref.ensures.value
     (subst (λ (x : Geometry). IsWalkFault (g.B.Ground.geometry c.row_of.new.blocks) (g.B.Ground.unit c.row_of.new.blocks) (c.args.level - 1) x.fan c.deref.result.now c.in_err-grown.field-0.0) (g.B.Ground.leads_geometry c.args.blocks.now c.row_of.new.blocks c.in_ok-below.ensures.kept.leads) (c.in_err-grown.ensures.fault later))) told))
+
+pub returns-then-level-eq0-clause-way : goal.returns-then-level-eq0-clause-way
+returns-then-level-eq0-clause-way g t c =
+    on_ok c.grow_leaves.result _ _ (λ way told. way_low (g.B.Ground.geometry c.args.blocks.now) (g.B.Ground.unit c.args.blocks.now) (NamesLeaf (g.B.Ground.geometry c.args.blocks.now)) c.args.level 0 (g.B.Ground.geometry c.args.blocks.now).fan c.args.row.now (c.args.pos - 1) (c.args.pos - 1) c.if-level-eq0.true (way told)) c.grow_leaves.ensures.way
+
+pub returns-clause-way : goal.returns-clause-way
+returns-clause-way g t c = λ told.
+    place_way (g.B.Ground.geometry c.args.blocks.now) (g.B.Ground.unit c.args.blocks.now) (NamesLeaf (g.B.Ground.geometry c.args.blocks.now)) c.args.level (g.B.Ground.geometry c.args.blocks.now).fan c.args.row.now c.args.pos c.tree_at-index.result.0 c.tree_at-index.result.1 c.requires.sizes c.tree_at-index.ensures
+    (way_one (g.B.Ground.geometry c.args.blocks.now) (g.B.Ground.unit c.args.blocks.now) (NamesLeaf (g.B.Ground.geometry c.args.blocks.now)) c.args.level (g.B.Ground.geometry c.args.blocks.now).fan (get_or c.args.row.now c.tree_at-index.result.0 no_part) c.in_ok-below.below.items (c.tree_at-index.result.1 - 1) (c.tree_at-index.result.1 - 1) c.if-level-eq0.false c.in_ok-below.ensures.area (c.in_ok-below.ensures.found told) (subst (λ k. IsFilled (g.B.Ground.geometry c.args.blocks.now) c.args.level k c.in_ok-below.below.items) (ap (λ (geo : Geometry). geo.fan) c.geometry-geometry.ensures) c.in_ok-below.ensures.counted.filled)
+    (way_kept g.B.Ground NamesLeaf c.args.blocks.now c.row_of.new.blocks (c.args.level - 1) (g.B.Ground.geometry c.args.blocks.now).fan c.in_ok-below.below.items (c.tree_at-index.result.1 - 1) (c.tree_at-index.result.1 - 1) c.in_ok-below.ensures.kept
+    (λ later. subst (λ k. IsSoundWay (g.B.Ground.geometry c.row_of.new.blocks) (g.B.Ground.unit c.row_of.new.blocks) (NamesLeaf (g.B.Ground.geometry c.row_of.new.blocks)) (c.args.level - 1) k c.in_ok-below.below.items (c.tree_at-index.result.1 - 1) (c.tree_at-index.result.1 - 1)) (ap (λ (geo : Geometry). geo.fan) (g.B.Ground.leads_geometry c.args.blocks.now c.row_of.new.blocks c.in_ok-below.ensures.kept.leads))
+    (subst (λ r. IsSoundWay (g.B.Ground.geometry c.row_of.new.blocks) (g.B.Ground.unit c.row_of.new.blocks) (NamesLeaf (g.B.Ground.geometry c.row_of.new.blocks)) (c.args.level - 1) (g.B.Ground.geometry c.row_of.new.blocks).fan r (c.tree_at-index.result.1 - 1) (c.tree_at-index.result.1 - 1)) c.deref.ensures.value (c.in_ok-grown.ensures.way later))) told))

@@ -1,4 +1,4 @@
-use Rattle.std.proofs.Common.{arith, ◌≡◌, ◌≤◌, ◌+◌, ◌-◌, ◌/◌, ◌++◌, ◌∙◌, ap, sym, subst, refl, length, take, drop}
+use Rattle.std.proofs.Common.{arith, inl, inr, ◌≡◌, ◌≤◌, ◌+◌, ◌-◌, ◌/◌, ◌++◌, ◌∙◌, ap, sym, subst, refl, length, take, drop}
 use Rattle.std.specs.List.{AllByRecursion}
 use Rattle.ex_base.specs.Even.{sum_of}
 use Rattle.ex_base.proofs.Spread.{plain, Between}
@@ -13,6 +13,9 @@ use Rattle.tree_insert.specs.Growth.{row_by}
 use Rattle.ex_base.specs.Edits.{inserted}
 use Rattle.tree_insert.specs.Places.{last_of, first_of, size_at}
 use Rattle.tree_insert.proofs.LeafStep.{leaf_step, leaf_some, left_there, right_there, step_count, step_grown, leaves_grew}
+use Rattle.ex_base.specs.Area.{NamesLeaf}
+use Rattle.std.proofs.lemmas.Bool.{cases_lt}
+use Rattle.tree_insert.proofs.SoundWays.{leaves_way_at}
 use Rattle.tree_insert.proofs.Results.{err_on}
 use Rattle.tree_insert.proofs.grow.grow_leaves.Goals as goal
 
@@ -118,3 +121,12 @@ returns-in_err-made-clause-fault g c =
     err_on c.from_residual-in_err-made.result _ c.in_err-made.field-0.0 c.from_residual-in_err-made.ensures.1
     (λ told. walk_part (g.B.Ground.geometry c.args.blocks.now) (g.B.Ground.unit c.args.blocks.now) 0 0 c.run_of-run.result.first (c.run_of-run.result.end - c.run_of-run.result.first) c.args.row.now c.in_err-made.field-0.0
     (subst (λ r. IsWalkFault (g.B.Ground.geometry c.args.blocks.now) (g.B.Ground.unit c.args.blocks.now) 0 0 r c.in_err-made.field-0.0) c.piece-old.ensures (c.in_err-made.ensures.fault told)))
+
+pub returns-clause-way : goal.returns-clause-way
+returns-clause-way g c = λ told.
+    leaves_way_at (g.B.Ground.geometry c.args.blocks.now) (g.B.Ground.unit c.args.blocks.now) (NamesLeaf (g.B.Ground.geometry c.args.blocks.now)) c.args.row.now c.piece-old.result.now c.args.pos c.tree_at-index.result.0 c.tree_at-index.result.1 c.run_of-run.result.first c.run_of-run.result.end c.requires.sizes c.tree_at-index.ensures
+    (omega (arith, c.run_of-run.ensures.first)) (omega (arith, c.run_of-run.ensures.end)) c.run_of-run.ensures.inside c.piece-old.ensures
+    (λ byte inside. c.in_ok-made.ensures.way told byte inside (elim (cases_lt byte c.run_of-run.result.at) [
+      | inl before ↦ inl before
+      | inr behind ↦ inr (omega arith)
+    ]))

@@ -1,7 +1,10 @@
 use Rattle.std.proofs.Common.{rules, arith, [], ◌∷◌, ◌++◌, ◌≡◌, ◌∙◌, Option, Some, None, ap, sym, subst, refl, length, take, drop, nat_eq}
 use Rattle.std.specs.HashMap.{get}
 use Rattle.ex_base.specs.declared.names.PageNo.{PageNo}
-use Rattle.tree_rows.specs.Damage.{IsWalkFault, root_row_at}
+use Rattle.tree_rows.specs.Damage.{AnyPage, IsWalkFault, root_row_at}
+use Rattle.tree_rows.proofs.Reading.{on_ok}
+use Rattle.tree_rows.proofs.Ways.{way_kept}
+use Rattle.tree_insert.proofs.SoundWays.{root_way}
 use Rattle.tree_rows.proofs.Blame.{if_err_on, walk_back}
 use Rattle.tree_rows.proofs.Sound.{sound_root}
 use Rattle.tree_model.specs.Shape.{joined, leaves_of}
@@ -38,3 +41,10 @@ returns-clause-lengths g c =
     let front : c.copy_from_slice.new.self ≡ take (length c.args.first.now) (leaves_of (root_shape (g.B.Ground.unit c.args.blocks.now) c.args.root.now)) =
     copied ∙ listed ∙ ap (λ xs. take (length c.args.first.now) (xs ++ (joined c.args.root.now.height (shape_on (g.B.Ground.unit c.args.blocks.now) c.args.root.now.height c.in-Some.page.0 c.args.root.now.size)))) c.new-lengths.ensures.items ∙ ap (take (length c.args.first.now)) (sym (root_leaves (g.B.Ground.unit c.args.blocks.now) c.args.root.now c.in-Some.page c.in-Some.is)) in
     subst (λ k. c.copy_from_slice.new.self ++ drop k c.args.first.now ≡ take (length c.args.first.now) (leaves_of (root_shape (g.B.Ground.unit c.args.blocks.now) c.args.root.now)) ++ drop (length (leaves_of (root_shape (g.B.Ground.unit c.args.blocks.now) c.args.root.now))) c.args.first.now) count (front_filled (leaves_of (root_shape (g.B.Ground.unit c.args.blocks.now) c.args.root.now)) c.args.first.now c.copy_from_slice.new.self front))
+
+pub returns-clause-way : goal.returns-clause-way
+returns-clause-way g c =
+    on_ok c.count_leaves.result _ _ (λ way told byte.
+    root_way (g.B.Ground.geometry c.args.blocks.now) (g.B.Ground.unit c.args.blocks.now) AnyPage c.args.root.now c.in-Some.page byte byte c.in-Some.is
+    (way_kept g.B.Ground (λ geo. AnyPage) c.args.blocks.now c.first_lengths.new.blocks c.args.root.now.height 2 (record { size = c.args.root.now.size; page = c.in-Some.page } ∷ []) byte byte c.in_ok-first_lengths.ensures.kept
+    (λ later. way later (g.B.Ground.geometry c.first_lengths.new.blocks).two (λ p x there. let none : get nat_eq c.new-known.result p ≡ None = search rules in let clash : Some x ≡ None = sym there ∙ none in absurd cc) byte) told)) c.count_leaves.ensures.way

@@ -8,7 +8,7 @@ use Rattle.ex_base.specs.declared.names.Area.TheVariants.{Page, Segment}
 use Rattle.ex_base.proofs.Spread.{Between}
 use Rattle.count_nodes.specs.Split.{most_pairs}
 use Rattle.tree_rows.specs.declared.rows.Part.{Part}
-use Rattle.tree_rows.specs.Damage.{IsWalkFault}
+use Rattle.tree_rows.specs.Damage.{AnyPage, IsSoundEnd, IsSoundWay, IsWalkFault}
 use Rattle.tree_rows.specs.Rows.{row_size, row_bytes, row_shape}
 use Rattle.tree_steps.specs.Built.{AreSome, Built, IsCut}
 use Rattle.tree_steps.specs.Made.{Holds}
@@ -20,6 +20,10 @@ use Rattle.tree_insert.proofs.PaidRows.{page_le}
 use Rattle.tree_insert.proofs.Paid.{level_up}
 use Rattle.tree_insert.proofs.ReplacedLeaves.{few_leaves}
 use Rattle.tree_insert.proofs.ReplacedRuns.{run_replaced, same_row, touched_count, touched_sum, touched_some, touched_leaves_fit, spent_at, few_up, enough_nodes, nodes_spent, walk_touched}
+use Rattle.ex_base.specs.Area.{NamesLeaf}
+use Rattle.tree_rows.proofs.Reading.{on_ok}
+use Rattle.tree_rows.proofs.Ways.{way_any, way_kept, way_low}
+use Rattle.tree_insert.proofs.SoundWays.{run_way, touched_end, touched_way}
 use Rattle.tree_insert.proofs.Results.{if_ok_on, on_ok_on, ok_of, on_of, cause_on, err_on}
 use Rattle.tree_insert.proofs.overwrite.+replace_run.Goals as goal
 
@@ -135,3 +139,27 @@ returns-clause-grew g t c =
     (subst (λ (r : List Part). (m : ℕ) → c.args.level ≡ suc m → Holds g.B.Ground c.replace_run.new.blocks m r → Built g.B.Ground c.nodes_by.new.blocks m c.deref-6.result.now r made.items) c.deref-5.ensures.value (ok_of c.nodes_by.result made _ is c.nodes_by.ensures.built told_c)) in
     run_replaced g.B.Ground c.args.blocks.now c.row_below.new.blocks c.replace_run.new.blocks c.nodes_by.new.blocks c.args.level l c.args.run.now c.in_ok-below.below.row.items c.in_ok-below.below.lens.items c.args.pos c.span_of-span.result.first c.span_of-span.result.end c.span_of-span.result.at c.args.given.now c.in_ok-made.made.items c.in_ok-row.row.items made.items
     c.requires.ready told same c.if-level-eq0.false c.in_ok-below.ensures.kept c.in_ok-made.ensures.extends (on_of c.nodes_by.result made _ is c.nodes_by.ensures.extends) (c.in_ok-below.ensures.found told) holds (subst (λ r. IsSpan r c.args.pos (length c.args.given.now) c.span_of-span.result.first c.span_of-span.result.end c.span_of-span.result.at) c.deref.ensures.value c.span_of-span.ensures) grew (ok_of c.nodes_by.result made _ is c.nodes_by.ensures.took) built (c.in_ok-row.ensures ∙ ap (λ r. (take c.span_of-span.result.first r ++ c.deref-4.result.now) ++ drop c.span_of-span.result.end r) c.deref-3.ensures.value ∙ ap (λ m. (take c.span_of-span.result.first c.in_ok-below.below.row.items ++ m) ++ drop c.span_of-span.result.end c.in_ok-below.below.row.items) c.deref-4.ensures.value))
+
+pub returns-then-level-eq0-clause-way : goal.returns-then-level-eq0-clause-way
+returns-then-level-eq0-clause-way g t c =
+    on_ok_on c.replace_leaves.result _ (λ made is told byte low high. way_any (g.B.Ground.geometry c.args.blocks.now) (g.B.Ground.unit c.args.blocks.now) AnyPage c.args.level c.args.least c.args.run.now byte byte c.if-level-eq0.true (λ p. tt))
+
+pub returns-then-level-eq0-clause-ends : goal.returns-then-level-eq0-clause-ends
+returns-then-level-eq0-clause-ends g t c =
+    on_ok c.replace_leaves.result _ _ (λ ends told end which some. way_low (g.B.Ground.geometry c.args.blocks.now) (g.B.Ground.unit c.args.blocks.now) (NamesLeaf (g.B.Ground.geometry c.args.blocks.now)) c.args.level 0 c.args.least c.args.run.now (end - 1) end c.if-level-eq0.true (ends told end which some)) c.replace_leaves.ensures.ends
+
+pub returns-clause-way : goal.returns-clause-way
+returns-clause-way g t c = on_ok_on c.nodes_by.result _ (λ made is told byte low high.
+    run_way (g.B.Ground.geometry c.args.blocks.now) (g.B.Ground.unit c.args.blocks.now) AnyPage c.args.level c.args.least c.args.run.now c.in_ok-below.below.lens.items c.in_ok-below.below.row.items byte byte c.if-level-eq0.false c.in_ok-below.ensures.counted (c.in_ok-below.ensures.found told) c.in_ok-below.ensures.area
+    (touched_way (g.B.Ground.geometry c.args.blocks.now) (g.B.Ground.unit c.args.blocks.now) AnyPage (c.args.level - 1) (g.B.Ground.geometry c.args.blocks.now).fan c.in_ok-below.below.row.items c.args.pos (length c.args.given.now) c.span_of-span.result.first c.span_of-span.result.end c.span_of-span.result.at byte (subst (λ r. IsSpan r c.args.pos (length c.args.given.now) c.span_of-span.result.first c.span_of-span.result.end c.span_of-span.result.at) c.deref.ensures.value c.span_of-span.ensures) low high
+    (λ b from to. way_kept g.B.Ground (λ geo. AnyPage) c.args.blocks.now c.row_below.new.blocks (c.args.level - 1) (g.B.Ground.geometry c.args.blocks.now).fan (take (c.span_of-span.result.end - c.span_of-span.result.first) (drop c.span_of-span.result.first c.in_ok-below.below.row.items)) b b c.in_ok-below.ensures.kept
+    (λ later. subst (λ r. IsSoundWay (g.B.Ground.geometry c.row_below.new.blocks) (g.B.Ground.unit c.row_below.new.blocks) AnyPage (c.args.level - 1) (g.B.Ground.geometry c.args.blocks.now).fan r b b) (c.piece-touched.ensures ∙ ap (λ r. take (c.span_of-span.result.end - c.span_of-span.result.first) (drop c.span_of-span.result.first r)) c.deref-2.ensures.value)
+    (subst (λ (x : Geometry). IsSoundWay (g.B.Ground.geometry c.row_below.new.blocks) (g.B.Ground.unit c.row_below.new.blocks) AnyPage (c.args.level - 1) x.fan c.piece-touched.result.now b b) c.geometry-geometry.ensures (c.in_ok-made.ensures.way later b from to))) told)))
+
+pub returns-clause-ends : goal.returns-clause-ends
+returns-clause-ends g t c = on_ok_on c.nodes_by.result _ (λ made is told end which some.
+    run_way (g.B.Ground.geometry c.args.blocks.now) (g.B.Ground.unit c.args.blocks.now) (NamesLeaf (g.B.Ground.geometry c.args.blocks.now)) c.args.level c.args.least c.args.run.now c.in_ok-below.below.lens.items c.in_ok-below.below.row.items (end - 1) end c.if-level-eq0.false c.in_ok-below.ensures.counted (c.in_ok-below.ensures.found told) c.in_ok-below.ensures.area
+    (touched_end (g.B.Ground.geometry c.args.blocks.now) (g.B.Ground.unit c.args.blocks.now) (c.args.level - 1) (g.B.Ground.geometry c.args.blocks.now).fan c.in_ok-below.below.row.items c.args.pos (length c.args.given.now) c.span_of-span.result.first c.span_of-span.result.end c.span_of-span.result.at end c.requires.given (subst (λ r. IsSpan r c.args.pos (length c.args.given.now) c.span_of-span.result.first c.span_of-span.result.end c.span_of-span.result.at) c.deref.ensures.value c.span_of-span.ensures) which
+    (λ b here one. way_kept g.B.Ground NamesLeaf c.args.blocks.now c.row_below.new.blocks (c.args.level - 1) (g.B.Ground.geometry c.args.blocks.now).fan (take (c.span_of-span.result.end - c.span_of-span.result.first) (drop c.span_of-span.result.first c.in_ok-below.below.row.items)) (b - 1) b c.in_ok-below.ensures.kept
+    (λ later. subst (λ r. IsSoundEnd (g.B.Ground.geometry c.row_below.new.blocks) (g.B.Ground.unit c.row_below.new.blocks) (c.args.level - 1) (g.B.Ground.geometry c.args.blocks.now).fan r b) (c.piece-touched.ensures ∙ ap (λ r. take (c.span_of-span.result.end - c.span_of-span.result.first) (drop c.span_of-span.result.first r)) c.deref-2.ensures.value)
+    (subst (λ (x : Geometry). IsSoundEnd (g.B.Ground.geometry c.row_below.new.blocks) (g.B.Ground.unit c.row_below.new.blocks) (c.args.level - 1) x.fan c.piece-touched.result.now b) c.geometry-geometry.ensures (c.in_ok-made.ensures.ends later b here)) one) told) some))

@@ -3,9 +3,11 @@ use Rattle.ex_base.specs.Sizes.{leaf_bytes}
 use Rattle.ex_base.specs.declared.names.Area.TheVariants.{Page}
 use Rattle.ex_base.specs.declared.names.PageNo.{PageNo}
 use Rattle.tree_model.specs.Trees.{root_units}
-use Rattle.tree_rows.specs.Damage.{IsWalkFault, root_row_at}
+use Rattle.tree_rows.specs.Damage.{AnyPage, IsWalkFault, root_row_at}
 use Rattle.tree_rows.proofs.Sound.{sound_root}
 use Rattle.tree_insert.specs.Replaced.{touched_leaves}
+use Rattle.ex_base.specs.Area.{NamesLeaf}
+use Rattle.tree_insert.proofs.SoundWays.{root_way}
 use Rattle.tree_insert.proofs.Results.{err_on}
 use Rattle.tree_insert.proofs.ReplacedRuns.{enough_touched, taken_touched, spells_nothing}
 use Rattle.tree_insert.proofs.RootEdit.{root_stays, nothing_turned}
@@ -37,3 +39,9 @@ pub returns-clause-pages : goal.returns-clause-pages
 returns-clause-pages g c =
     taken_touched ((g.B.Ground.geometry c.args.blocks.now).fan - 1) (touched_leaves (leaf_bytes (g.B.Ground.geometry c.args.blocks.now)) (length c.args.given.now)) c.args.root.now.height (g.B.Ground.free c.args.blocks.now Page) (g.B.Ground.free c.replace_run.new.blocks Page)
     (omega (arith, (g.B.Ground.geometry c.args.blocks.now).two)) (omega (arith, c.in_ok-made.ensures.spent))
+
+pub returns-clause-way : goal.returns-clause-way
+returns-clause-way g c = λ told byte low high. root_way (g.B.Ground.geometry c.args.blocks.now) (g.B.Ground.unit c.args.blocks.now) AnyPage c.args.root.now c.in-Some.page byte byte c.in-Some.is (c.in_ok-made.ensures.way told byte low high)
+
+pub returns-clause-ends : goal.returns-clause-ends
+returns-clause-ends g c = λ told many end which some. root_way (g.B.Ground.geometry c.args.blocks.now) (g.B.Ground.unit c.args.blocks.now) (NamesLeaf (g.B.Ground.geometry c.args.blocks.now)) c.args.root.now c.in-Some.page (end - 1) end c.in-Some.is (c.in_ok-made.ensures.ends told end which some)

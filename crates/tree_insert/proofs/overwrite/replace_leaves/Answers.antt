@@ -1,4 +1,5 @@
-use Rattle.std.proofs.Common.{arith, [], ◌∷◌, ◌≡◌, ◌+◌, ◌-◌, ◌∙◌, ◌++◌, ap, subst, take, drop, length, get_or}
+use Rattle.std.proofs.Common.{arith, [], ◌∷◌, ◌≡◌, ◌+◌, ◌-◌, ◌∙◌, ◌++◌, ap, subst, take, drop, length, get_or, take_all}
+use Rattle.tree_rows.specs.Damage.{IsSoundEnd}
 use Rattle.tree_rows.specs.Rows.{row_bytes}
 use Rattle.tree_steps.specs.Made.{Holds, changed}
 use Rattle.tree_steps.proofs.Kept.{leaves_back}
@@ -55,6 +56,7 @@ loop-leaf-preserved g c =
     (subst (λ k. g.B.Ground.tells c.loop-leaf.blocks → Holds g.B.Ground c.loop-leaf.blocks 0 (get_or c.args.run.now c.loop-leaf.leaf-index no_part ∷ [])
     → row_bytes (g.B.Ground.unit c.write_leaves.new.blocks) 0 c.in_ok-new.new.items ≡ changed (row_bytes (g.B.Ground.unit c.loop-leaf.blocks) 0 (get_or c.args.run.now c.loop-leaf.leaf-index no_part ∷ [])) c.saturating_sub-at.result c.min-cut.result (take k (drop c.saturating_sub-done.result c.args.given.now)))
     {x = c.saturating_sub-done.result + c.min-cut.result - c.saturating_sub-done.result} {y = c.min-cut.result} (omega arith) c.in_ok-new.ensures.bytes)
+    c.in_ok-new.ensures.way
     (c.in_ok-extend_from_slice.ensures.items ∙ ap (λ r. c.loop-leaf.made.items ++ r) c.deref.ensures.value)
 
 pub returns-clause-sum : goal.returns-clause-sum
@@ -73,3 +75,7 @@ returns-clause-leaves g c =
 pub returns-clause-grew : goal.returns-clause-grew
 returns-clause-grew g c =
     replaced_all g.B.Ground c.args.blocks.now c.loop-leaf.blocks c.args.run.now c.args.pos c.args.given.now c.loop-leaf.leaf-index c.loop-leaf.start c.loop-leaf.made.items c.requires.ready (omega arith) c.requires.sizes c.requires.leaves c.requires.touched c.loop-leaf.invariant
+
+pub returns-clause-ends : goal.returns-clause-ends
+returns-clause-ends g c = λ told end which.
+    subst (λ r. IsSoundEnd (g.B.Ground.geometry c.args.blocks.now) (g.B.Ground.unit c.args.blocks.now) 0 0 r end) (take_all c.loop-leaf.leaf-index c.args.run.now (omega arith)) (c.loop-leaf.invariant.ends told end which)

@@ -1,13 +1,13 @@
 use Rattle.std.proofs.Common.{length, ◌≤◌, ℕ, arith, rules, get_or}
 use Rattle.tree_steps.proofs.Kept.{leaves_back}
-use Rattle.tree_steps.proofs.Laid.{laid_step, laid_all, each_at}
+use Rattle.tree_steps.proofs.Laid.{laid_step, laid_all, laid_way, each_at}
 use Rattle.tree_steps.proofs.leaves.write_leaves.Goals as goal
 
 pub loop-size-preserved : goal.loop-size-preserved
 loop-size-preserved g c =
     let fits : get_or c.args.lengths.now c.loop-size.size-index 0 ≤ length c.loop-size.buffer = omega (arith, c.loop-size.auto.buffer, (each_at (λ (n : ℕ). (1 ≤ n) × (n ≤ length c.args.buffer.now)) c.args.lengths.now c.loop-size.size-index 0 c.requires.lengths c.loop-size-test.true).1) in
     laid_step g.B.Ground c.args.blocks.now c.loop-size.blocks c.fill.new.blocks c.new_leaf.new.self c.args.run.now c.args.change.at c.args.change.cut c.args.given.now c.args.lengths.now c.loop-size.size-index c.loop-size.row.items c.put.new.items.items c.loop-size.at c.in_ok-page.page.0 c.loop-size.buffer c.fill.new.out
-    c.loop-size-test.true fits c.loop-size.invariant c.in_ok-fill.ensures.kept c.in_ok-page.ensures.leads c.in_ok-page.ensures.taken c.in_ok-page.ensures.pages c.in_ok-page.ensures.leaves (search rules) c.in_ok-fill.ensures.bytes c.in_ok-put.ensures
+    c.loop-size-test.true fits c.loop-size.invariant c.in_ok-fill.ensures.kept c.in_ok-page.ensures.leads c.in_ok-page.ensures.taken c.in_ok-page.ensures.pages c.in_ok-page.ensures.leaves (search rules) c.in_ok-fill.ensures.bytes c.in_ok-fill.ensures.way c.in_ok-put.ensures
 
 pub returns-clause-bytes : goal.returns-clause-bytes
 returns-clause-bytes g c =
@@ -22,3 +22,8 @@ returns-in_err-fill-clause-fault g c =
 pub returns-in_err-put-clause-leads : goal.returns-in_err-put-clause-leads
 returns-in_err-put-clause-leads g c =
     g.B.Ground.leads_trans c.args.blocks.now c.loop-size.blocks c.new_leaf.new.self c.loop-size.invariant.extends.leads (g.B.Ground.leads_trans c.loop-size.blocks c.fill.new.blocks c.new_leaf.new.self c.in_ok-fill.ensures.kept.leads c.in_ok-page.ensures.leads)
+
+pub returns-clause-way : goal.returns-clause-way
+returns-clause-way g c =
+    laid_way g.B.Ground c.args.blocks.now c.loop-size.blocks c.args.run.now c.args.change.at c.args.change.cut c.args.given.now c.args.lengths.now c.loop-size.size-index c.loop-size.row.items c.loop-size.at
+    c.requires.change c.requires.sum (omega (arith, c.loop-size-test.false)) c.loop-size.invariant
