@@ -3,7 +3,7 @@ use Rattle.std.proofs.Common.{◌≡◌, ◌≤◌, ◌<◌, ◌+◌, ◌*◌, �
 use Rattle.std.specs.List.{flat_map, AllByRecursion}
 use Rattle.index_pages.specs.declared.Entry.{Entry}
 use Rattle.index_pages.specs.IndexPage.{EntriesOf, IsIndexPage, HasEntryFields, RiseFrom, entries_on, index_page, most_entries}
-use Rattle.index_pages.proofs.PageLaws.{spelled_reads, written_reads, page_length}
+use Rattle.index_pages.proofs.PageLaws.{spelled_reads, written_reads}
 use Rattle.std.proofs.lemmas.List.{take-append-drop}
 use Rattle.ex_base.specs.declared.ground.Ground as ground
 use Rattle.ex_base.specs.Sizes.{least_page, most_page}

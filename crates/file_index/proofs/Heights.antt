@@ -1,5 +1,5 @@
 -- How high an index can be: six levels would need more pages of the file than there are.
-use Rattle.std.proofs.Common.{◌≡◌, ◌≤◌, ◌<◌, ◌+◌, ◌*◌, ◌/◌, ℕ, zero, suc, List, [], ◌∷◌, ◌++◌, length, Option, Some, None, suc-mul, suc-add, ap, arith, lit≤, subst, ◌-◌, ◌⊎◌, inl, inr, nat_le, true, false, refl}
+use Rattle.std.proofs.Common.{◌≡◌, ◌≤◌, ◌<◌, ◌+◌, ◌*◌, ◌/◌, ℕ, zero, suc, List, [], ◌∷◌, length, Option, Some, None, suc-mul, suc-add, ap, arith, lit≤, subst, ◌-◌, ◌⊎◌, inl, inr, nat_le, true, false, refl}
 use Rattle.std.specs.List.{flat_map, AllByRecursion}
 use Rattle.std.proofs.lemmas.List.{length-append}
 use Rattle.std.proofs.lemmas.Nat.{mul-le}

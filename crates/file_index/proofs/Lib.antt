@@ -1,4 +1,6 @@
 pub mod Naming
+pub mod Blame
+pub mod Ways
 pub mod Under
 pub mod Picking
 pub mod Descent

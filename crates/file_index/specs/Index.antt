@@ -85,6 +85,11 @@ abbrev pub HasRoot : ℕ → Option PageNo → Type 0
 HasRoot level None = level ≡ 0
 HasRoot level (Some page) = Unit {0}
 
+-- the root, where there is one, may be a page of a file
+abbrev pub HasPlacedRoot : Geometry → Option PageNo → Type 0
+HasPlacedRoot g None = Unit {0}
+HasPlacedRoot g (Some page) = IsFilesPage g page.0
+
 abbrev pub IsRoot : Geometry → ℕ → (ℕ → List ℕ) → ℕ → Option PageNo → Type 0
 IsRoot g file_no image level None = level ≡ 0
 IsRoot g file_no image level (Some page) = IsUnder g file_no image level None page.0

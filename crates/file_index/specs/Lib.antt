@@ -1,4 +1,5 @@
 pub mod Changes
+pub mod Damage
 pub mod Edits
 pub mod Index
 pub mod Least

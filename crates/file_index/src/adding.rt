@@ -1,15 +1,18 @@
 //! A page put into the index of a file.
 ghost use Rattle.std.specs.Prelude.{◌≡◌, ◌≤◌, ◌<◌, ◌+◌, ◌-◌, ◌∷◌, [], ℕ, false, length, IfOk, IfErr, OnOk};
 ghost use Rattle.ex_base.specs.declared.names.Area.TheVariants.{Page};
-ghost use Rattle.ex_base.specs.Ports.{Cause, HasCause, IsDamage};
+ghost use Rattle.ex_base.specs.Area.{catalog_no};
+ghost use Rattle.ex_base.specs.Ports.{HasCause, IsDamage};
 ghost use Rattle.index_pages.specs.IndexPage.{most_entries};
-ghost use Rattle.file_index.specs.Index.{IsFilesPage, HasRoot};
+ghost use Rattle.file_index.specs.declared.Index.{Index};
+ghost use Rattle.file_index.specs.Index.{IsFilesPage, HasRoot, HasPlacedRoot};
 ghost use Rattle.file_index.specs.Nodes.{PutsLeaf, leaves_of, IsRootOver};
 ghost use Rattle.file_index.specs.Edits.{IsRow, Becomes, HasIndex, EditsIndex, GrowsTo, put_in};
+ghost use Rattle.file_index.specs.Damage.{IsWayUnder, IsFaultUnder, HasWay, IsIndexFault};
 
-use crate::named::{Named, no_index_page};
+use crate::named::Named;
 use crate::nodes::{entries_at, page_buffer, take_index};
-use crate::rows::{place_of, replace_one};
+use crate::rows::{entry_over, place_of, replace_one};
 use crate::storing::store;
 use crate::{Index, MOST_LEVEL};
 use ex_base::{PageNo, Pages, PortFault};
@@ -63,6 +66,9 @@ fn add_among<P: Pages>(
     ensures more { OnOk result ((length entries.old.items ≤ length entries.new.items) × (length entries.new.items ≤ length entries.old.items + 1)) }
     ensures free { OnOk result (P.free pages.old Page + 1 ≤ P.free pages.new Page + level) }
     ensures sound { IfErr result (λ fault. IsDamage fault → P.tells pages.old → IsRow P.Ground pages.old file_no (level - 1) entries.old.items → ⊥) }
+    ensures fault { IfErr result (λ fault. P.tells pages.old → IsFaultUnder (P.geometry pages.old) (P.image pages.old) file_no key (level - 1) entries.old.items fault) }
+    ensures way { OnOk result (P.tells pages.old → IsWayUnder (P.geometry pages.old) (P.image pages.old) file_no key (level - 1) entries.old.items) }
+    ensures catalog { OnOk result (P.image pages.new catalog_no ≡ P.image pages.old catalog_no) }
     ensures leads { P.leads pages.old pages.new }
     ensures cause { HasCause (P.faults pages.old) (P.faults pages.new) result }
 {
@@ -116,8 +122,10 @@ fn add_second<P: Pages>(
     ensures adds { IfOk result (λ added. P.tells pages.old → IsFilesPage (P.geometry pages.old) key.0 → HasIndex P.Ground pages.old index.now
         → EditsIndex P.Ground pages.old pages.new (put_in key.0) index.now added) }
     ensures grows { IfOk result (λ added. GrowsTo index.now added) }
+    ensures placed { IfOk result (λ added. IsFilesPage (P.geometry pages.old) key.0 → HasPlacedRoot (P.geometry pages.old) added.root) }
     ensures free { OnOk result (P.free pages.old Page ≤ P.free pages.new Page + 1) }
     ensures no_damage { IfErr result (λ fault. IsDamage fault → ⊥) }
+    ensures catalog { OnOk result (P.image pages.new catalog_no ≡ P.image pages.old catalog_no) }
     ensures leads { P.leads pages.old pages.new }
     ensures cause { HasCause (P.faults pages.old) (P.faults pages.new) result }
 {
@@ -147,7 +155,9 @@ fn take_root<P: Pages>(
     requires buffer { length buffer.old ≡ (P.geometry pages.old).page_size }
     ensures made { IfOk result (λ made. IsRootOver P.Ground pages.old pages.new level file_no top.now made) }
     ensures level { IfOk result (λ made. (made.level ≡ level) × (made.file_no ≡ file_no) × HasRoot made.level made.root) }
+    ensures placed { IfOk result (λ made. HasPlacedRoot (P.geometry pages.old) made.root) }
     ensures free { OnOk result (P.free pages.new Page + 1 ≡ P.free pages.old Page) }
+    ensures catalog { OnOk result (P.image pages.new catalog_no ≡ P.image pages.old catalog_no) }
     ensures leads { P.leads pages.old pages.new }
     ensures no_damage { IfErr result (λ fault. IsDamage fault → ⊥) }
     ensures cause { HasCause (P.faults pages.old) (P.faults pages.new) result }
@@ -193,16 +203,22 @@ fn add_below<P: Pages>(
     ensures adds { IfOk result (λ added. P.tells pages.old → IsFilesPage (P.geometry pages.old) key.0 → HasIndex P.Ground pages.old index.now
         → EditsIndex P.Ground pages.old pages.new (put_in key.0) index.now added) }
     ensures grows { IfOk result (λ added. GrowsTo index.now added) }
+    ensures placed { IfOk result (λ added. IsFilesPage (P.geometry pages.old) key.0 → HasPlacedRoot (P.geometry pages.old) added.root) }
     ensures free { OnOk result (P.free pages.old Page ≤ P.free pages.new Page + (index.now.level + 1)) }
     ensures sound { IfErr result (λ fault. IsDamage fault → P.tells pages.old → HasIndex P.Ground pages.old index.now → ⊥) }
+    ensures fault { IfErr result (λ fault. P.tells pages.old → IsIndexFault (P.geometry pages.old) (P.image pages.old) index.now key.0 fault) }
+    ensures way { OnOk result (P.tells pages.old → HasWay (P.geometry pages.old) (P.image pages.old) index.now key.0) }
+    ensures catalog { OnOk result (P.image pages.new catalog_no ≡ P.image pages.old catalog_no) }
     ensures leads { P.leads pages.old pages.new }
     ensures cause { HasCause (P.faults pages.old) (P.faults pages.new) result }
 {
+    let level = index.level;
+    let file_no = index.file_no;
     let named = Named {
         page: root,
-        level: index.level,
+        level,
         least: None,
-        file_no: index.file_no,
+        file_no,
     };
     let mut buffer = match page_buffer(pages, alloc) {
         Ok(buffer) => buffer,
@@ -215,8 +231,8 @@ fn add_below<P: Pages>(
     match add_among(
         pages,
         alloc,
-        named.level,
-        named.file_no,
+        level,
+        file_no,
         &mut entries,
         key.0,
         &mut buffer,
@@ -230,37 +246,18 @@ fn add_below<P: Pages>(
         Ok(Some(second)) => second,
         Err(fault) => return Err(fault),
     };
-    let first = Entry {
-        key: entries[0].key,
-        page: root,
-    };
-    let top = [first, second];
-    take_root(
-        pages,
-        alloc,
-        named.level + 1,
-        named.file_no,
-        &top,
-        &mut buffer,
-    )
+    let top = [entry_over(root, &entries), second];
+    take_root(pages, alloc, level + 1, file_no, &top, &mut buffer)
 }
 
-/// The fault of a root that has too many entries for its level.
-fn too_high(index: &Index, root: PageNo) -> PortFault
-    ensures damage { IsDamage result }
-    ensures cause { (before now : ℕ) → Cause before now result }
-{
-    no_index_page(&Named {
-        page: root,
-        level: index.level,
-        least: None,
-        file_no: index.file_no,
-    })
-}
+/// A whole index has at most five levels, so that putting a page into one is never refused for its height.
+pub fn a_whole_index_has_at_most_five_levels<P: Pages>()
+    ensures { (s : P) (index : Index) → HasIndex P.Ground s index → index.level ≤ 5 }
+{}
 
 /// Puts a page into the index of its file. A page that the index has stays there. An index page that would get too many entries becomes two, of which
-/// the left one has the greater half. The index gets a level more where its root becomes two pages; a level above 5 is that of no whole index, and is
-/// told as damage of the root.
+/// the left one has the greater half. The index gets a level more where its root becomes two pages. No whole index gets a level above 5; where one would,
+/// the answer is want of memory, since no page that was read is other than what names it.
 pub fn add<P: Pages>(
     pages: &mut P,
     alloc: Global,
@@ -274,9 +271,13 @@ pub fn add<P: Pages>(
     ensures adds { IfOk result (λ added. P.tells pages.old → IsFilesPage (P.geometry pages.old) key.0 → HasIndex P.Ground pages.old index.now
         → EditsIndex P.Ground pages.old pages.new (put_in key.0) index.now added) }
     ensures grows { IfOk result (λ added. GrowsTo index.now added) }
+    ensures placed { IfOk result (λ added. IsFilesPage (P.geometry pages.old) key.0 → HasPlacedRoot (P.geometry pages.old) added.root) }
     ensures level { IfOk result (λ added. added.level ≤ 5) }
     ensures free { OnOk result (P.free pages.old Page ≤ P.free pages.new Page + (index.now.level + 1)) }
     ensures sound { IfErr result (λ fault. IsDamage fault → P.tells pages.old → IsFilesPage (P.geometry pages.old) key.0 → HasIndex P.Ground pages.old index.now → ⊥) }
+    ensures fault { IfErr result (λ fault. P.tells pages.old → IsIndexFault (P.geometry pages.old) (P.image pages.old) index.now key.0 fault) }
+    ensures way { OnOk result (P.tells pages.old → HasWay (P.geometry pages.old) (P.image pages.old) index.now key.0) }
+    ensures catalog { OnOk result (P.image pages.new catalog_no ≡ P.image pages.old catalog_no) }
     ensures leads { P.leads pages.old pages.new }
     ensures cause { HasCause (P.faults pages.old) (P.faults pages.new) result }
 {
@@ -293,7 +294,7 @@ pub fn add<P: Pages>(
     match add_below(pages, alloc, index, root, key) {
         Ok(added) => {
             if added.level > MOST_LEVEL {
-                return Err(too_high(index, root));
+                return Err(PortFault::Memory);
             }
             Ok(added)
         }

@@ -4,6 +4,7 @@ ghost use Rattle.ex_base.specs.Ports.{Keeps, HasCause, IsDamage};
 ghost use Rattle.index_pages.specs.IndexPage.{entries_on};
 ghost use Rattle.file_index.specs.Index.{IsFilesPage, IsNamed, IsUnder, Rises, keys_under, keys_of, IsIndex, HasRoot};
 ghost use Rattle.file_index.specs.Least.{pick, first_from, IsLeastFrom, IsAtLeast};
+ghost use Rattle.file_index.specs.Damage.{IsPageFault, IsNamedAt, IsWay, IsWayFault, HasWay, IsIndexFault, found_under, found_in};
 
 use crate::named::{Named, checked, no_index_page};
 use crate::step::{Step, pick};
@@ -24,6 +25,9 @@ fn step_at<P: Pages>(
     ensures above { IfOk result (λ step. IsAtLeast key next → IsAtLeast key step.next) }
     ensures sound { IfErr result (λ fault. IsDamage fault → P.tells pages.old → IsFilesPage (P.geometry pages.old) named.now.page.0
         → IsNamed (P.geometry pages.old).page_size (P.image pages.old named.now.page.0) named.now.level named.now.file_no named.now.least → ⊥) }
+    ensures fault { IfErr result (λ fault. P.tells pages.old
+        → IsPageFault (P.geometry pages.old) (P.image pages.old named.now.page.0) named.now.level named.now.file_no named.now.least named.now.page.0 fault) }
+    ensures way { OnOk result (P.tells pages.old → IsNamedAt (P.geometry pages.old) (P.image pages.old) named.now.level named.now.file_no named.now.least named.now.page.0) }
     ensures kept { Keeps P.Ground pages.old pages.new }
     ensures cause { HasCause (P.faults pages.old) (P.faults pages.new) result }
 {
@@ -54,6 +58,9 @@ fn least_below<P: Pages>(
     ensures above { IfOk result (λ least. IsAtLeast key least) }
     ensures sound { IfErr result (λ fault. IsDamage fault → P.tells pages.old
         → IsUnder (P.geometry pages.old) named.file_no (P.image pages.old) named.level named.least named.page.0 → ⊥) }
+    ensures fault { IfErr result (λ fault. P.tells pages.old → IsWayFault (P.geometry pages.old) (P.image pages.old) named.file_no key named.level named.least named.page.0 fault) }
+    ensures way { OnOk result (P.tells pages.old → IsWay (P.geometry pages.old) (P.image pages.old) named.file_no key named.level named.least named.page.0) }
+    ensures found { IfOk result (λ least. P.tells pages.old → least ≡ found_under (P.image pages.old) key named.level named.page.0 next) }
     ensures kept { Keeps P.Ground pages.old pages.new }
     ensures cause { HasCause (P.faults pages.old) (P.faults pages.new) result }
 {
@@ -93,6 +100,9 @@ pub fn at_least<P: Pages>(
     ensures above { IfOk result (λ least. IsAtLeast key.0 least) }
     ensures sound { IfErr result (λ fault. IsDamage fault → P.tells pages.old
         → IsIndex (P.geometry pages.old) (P.image pages.old) index.now.file_no index.now.level index.now.root → ⊥) }
+    ensures fault { IfErr result (λ fault. P.tells pages.old → IsIndexFault (P.geometry pages.old) (P.image pages.old) index.now key.0 fault) }
+    ensures way { OnOk result (P.tells pages.old → HasWay (P.geometry pages.old) (P.image pages.old) index.now key.0) }
+    ensures found { IfOk result (λ least. P.tells pages.old → least ≡ found_in (P.image pages.old) index.now key.0) }
     ensures kept { Keeps P.Ground pages.old pages.new }
     ensures cause { HasCause (P.faults pages.old) (P.faults pages.new) result }
 {

@@ -12,7 +12,7 @@ mod spreading;
 mod step;
 mod storing;
 
-pub use adding::add;
+pub use adding::{a_whole_index_has_at_most_five_levels, add};
 use ex_base::PageNo;
 pub use least::at_least;
 pub use removing::remove;

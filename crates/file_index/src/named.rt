@@ -2,7 +2,10 @@
 ghost use Rattle.std.specs.Prelude.{◌≡◌, ◌≢◌, ◌≤◌, ℕ, length, IfOk, IfErr};
 ghost use Rattle.ex_base.specs.Ports.{IsDamage, Cause, HasCause};
 ghost use Rattle.index_pages.specs.IndexPage.{indexed_on, most_entries};
-ghost use Rattle.file_index.specs.Index.{IsNamed, least_entries, seen, key_seen};
+ghost use Rattle.ex_base.specs.declared.geometry.Geometry.{Geometry};
+ghost use Rattle.ex_base.specs.declared.faults.PortFault.TheVariants.{Damaged};
+ghost use Rattle.file_index.specs.Index.{IsFilesPage, IsNamed, least_entries, seen, key_seen};
+ghost use Rattle.file_index.specs.Damage.{nothing_seen, IsPageFault};
 
 use ex_base::{PageNo, PortFault, Seen};
 use index_pages::view::IndexView;
@@ -71,6 +74,7 @@ fn key_seen(least: Option<u32>, key: u32) -> Option<u32>
 
 /// The fault of a page that is no index page of its file with an allowed number of entries.
 pub fn no_index_page(named: &Named) -> PortFault
+    ensures is { result ≡ Damaged named.now.page (seen named.now.level named.now.least) nothing_seen }
     ensures damage { IsDamage result }
     ensures cause { (before now : ℕ) → Cause before now result }
 {
@@ -91,6 +95,8 @@ pub fn checked<'a>(page: &'a [u8], named: &Named) -> Result<IndexView<'a>, PortF
     ensures view { IfOk result (λ view. view ≡ indexed_on page.now) }
     ensures ok { IfOk result (λ view. IsNamed (length page.now) page.now named.now.level named.now.file_no named.now.least) }
     ensures err { IfErr result (λ fault. IsNamed (length page.now) page.now named.now.level named.now.file_no named.now.least → ⊥) }
+    ensures fault { IfErr result (λ fault. (g : Geometry) → g.page_size ≡ length page.now → IsFilesPage g named.now.page.0
+        → IsPageFault g page.now named.now.level named.now.file_no named.now.least named.now.page.0 fault) }
     ensures damage { (before now : ℕ) → HasCause before now result }
 {
     let Some(view) = IndexView::of(page) else {

@@ -1,11 +1,13 @@
 //! Index pages read and written over any port.
 ghost use Rattle.std.specs.Prelude.{◌≡◌, ◌≤◌, ◌<◌, ◌+◌, ◌-◌, [], ◌∷◌, ℕ, length, IfOk, IfErr, OnOk};
 ghost use Rattle.ex_base.specs.declared.names.Area.TheVariants.{Page};
+ghost use Rattle.ex_base.specs.Area.{catalog_no};
 ghost use Rattle.ex_base.specs.Ports.{Keeps, HasCause, IsDamage};
 ghost use Rattle.index_pages.specs.IndexPage.{entries_on, most_entries};
 ghost use Rattle.file_index.specs.Index.{IsFilesPage, IsNamed, least_entries};
 ghost use Rattle.file_index.specs.Changes.{Changes};
 ghost use Rattle.file_index.specs.Nodes.{IsWritten};
+ghost use Rattle.file_index.specs.Damage.{IsPageFault};
 
 use crate::CATALOG_NO;
 use crate::named::{Named, checked, no_index_page};
@@ -41,6 +43,8 @@ pub fn entries_at<P: Pages>(
     ensures area { OnOk result (IsFilesPage (P.geometry pages.old) named.now.page.0) }
     ensures sound { IfErr result (λ fault. IsDamage fault → P.tells pages.old → IsFilesPage (P.geometry pages.old) named.now.page.0
         → IsNamed (P.geometry pages.old).page_size (P.image pages.old named.now.page.0) named.now.level named.now.file_no named.now.least → ⊥) }
+    ensures fault { IfErr result (λ fault. P.tells pages.old
+        → IsPageFault (P.geometry pages.old) (P.image pages.old named.now.page.0) named.now.level named.now.file_no named.now.least named.now.page.0 fault) }
     ensures kept { Keeps P.Ground pages.old pages.new }
     ensures cause { HasCause (P.faults pages.old) (P.faults pages.new) result }
 {
@@ -74,6 +78,7 @@ pub fn put_index<P: Pages>(
     ensures written { OnOk result (P.tells pages.old → IsWritten P.Ground pages.new named.now.page.0 named.now.level named.now.file_no entries.now) }
     ensures changes { OnOk result (Changes P.Ground pages.old pages.new (named.now.page.0 ∷ []) (named.now.page.0 ∷ [])) }
     ensures free { OnOk result (P.free pages.new ≡ P.free pages.old) }
+    ensures catalog { OnOk result (P.image pages.new catalog_no ≡ P.image pages.old catalog_no) }
     ensures leads { P.leads pages.old pages.new }
     ensures no_damage { IfErr result (λ fault. IsDamage fault → ⊥) }
     ensures cause { HasCause (P.faults pages.old) (P.faults pages.new) result }
@@ -101,7 +106,9 @@ pub fn take_index<P: Pages>(
     requires buffer { length buffer.old ≡ (P.geometry pages.old).page_size }
     ensures written { IfOk result (λ page. P.tells pages.old → IsWritten P.Ground pages.new page.0 level file_no entries.now) }
     ensures changes { IfOk result (λ page. Changes P.Ground pages.old pages.new [] (page.0 ∷ [])) }
+    ensures area { IfOk result (λ page. IsFilesPage (P.geometry pages.old) page.0) }
     ensures free { OnOk result (P.free pages.new Page + 1 ≡ P.free pages.old Page) }
+    ensures catalog { OnOk result (P.image pages.new catalog_no ≡ P.image pages.old catalog_no) }
     ensures leads { P.leads pages.old pages.new }
     ensures no_damage { IfErr result (λ fault. IsDamage fault → ⊥) }
     ensures cause { HasCause (P.faults pages.old) (P.faults pages.new) result }

@@ -1,12 +1,14 @@
 //! A page taken out of the index of a file.
-ghost use Rattle.std.specs.Prelude.{◌≡◌, ◌≢◌, ◌≤◌, ◌<◌, ◌+◌, ◌-◌, ◌*◌, ◌/◌, ◌∷◌, ◌++◌, [], ℕ, true, false, length, take, drop, slice_index_or, IfOk, IfErr, OnOk};
+ghost use Rattle.std.specs.Prelude.{◌≡◌, ◌⊎◌, ◌≢◌, ◌≤◌, ◌<◌, ◌+◌, ◌-◌, ◌*◌, ◌/◌, ◌∷◌, ◌++◌, [], ℕ, true, false, length, take, drop, slice_index_or, IfOk, IfErr, OnOk};
 ghost use Rattle.ex_base.specs.declared.names.Area.TheVariants.{Page};
+ghost use Rattle.ex_base.specs.Area.{catalog_no};
 ghost use Rattle.ex_base.specs.Ports.{HasCause, IsDamage};
 ghost use Rattle.index_pages.specs.IndexPage.{most_entries};
 ghost use Rattle.file_index.specs.Changes.{Changes};
 ghost use Rattle.file_index.specs.Index.{IsFilesPage, HasRoot};
 ghost use Rattle.file_index.specs.Nodes.{IsWritten, RemovesLeaf, first_key};
 ghost use Rattle.file_index.specs.Edits.{IsRow, Becomes, HasIndex, EditsIndex, ShrinksTo, take_out};
+ghost use Rattle.file_index.specs.Damage.{IsWayUnder, IsFaultUnder, IsBesideUnder, HasWay, IsRemovalFault};
 
 use crate::Index;
 use crate::named::{Named, most_entries};
@@ -51,6 +53,7 @@ fn write_child<P: Pages>(
     ensures items { OnOk result (entries.new.items ≡ take at entries.old.items ++ ((record { key = first_key below.now; page = named.now.page } ∷ []) ++ drop (at + 1) entries.old.items)) }
     ensures same { IfOk result (λ changed. changed ≡ false → named.now.least ≡ Some (first_key below.now)) }
     ensures free { OnOk result (P.free pages.new ≡ P.free pages.old) }
+    ensures catalog { OnOk result (P.image pages.new catalog_no ≡ P.image pages.old catalog_no) }
     ensures leads { P.leads pages.old pages.new }
     ensures no_damage { IfErr result (λ fault. IsDamage fault → ⊥) }
     ensures cause { HasCause (P.faults pages.old) (P.faults pages.new) result }
@@ -90,6 +93,11 @@ fn remove_among<P: Pages>(
     ensures fewer { OnOk result ((length entries.new.items ≤ length entries.old.items) × (length entries.old.items ≤ length entries.new.items + 1)) }
     ensures free { OnOk result (P.free pages.old Page ≤ P.free pages.new Page) }
     ensures sound { IfErr result (λ fault. IsDamage fault → P.tells pages.old → IsRow P.Ground pages.old file_no (level - 1) entries.old.items → ⊥) }
+    ensures fault { IfErr result (λ fault. P.tells pages.old
+        → IsFaultUnder (P.geometry pages.old) (P.image pages.old) file_no key (level - 1) entries.old.items fault
+        ⊎ IsBesideUnder (P.geometry pages.old) (P.image pages.old) (P.image pages.new) file_no key (level - 1) entries.old.items fault) }
+    ensures way { OnOk result (P.tells pages.old → IsWayUnder (P.geometry pages.old) (P.image pages.old) file_no key (level - 1) entries.old.items) }
+    ensures catalog { OnOk result (P.image pages.new catalog_no ≡ P.image pages.old catalog_no) }
     ensures leads { P.leads pages.old pages.new }
     ensures cause { HasCause (P.faults pages.old) (P.faults pages.new) result }
 {
@@ -149,6 +157,9 @@ fn remove_below<P: Pages>(
     ensures shrinks { IfOk result (λ left. ShrinksTo index.now left) }
     ensures free { OnOk result (P.free pages.old Page ≤ P.free pages.new Page) }
     ensures sound { IfErr result (λ fault. IsDamage fault → P.tells pages.old → HasIndex P.Ground pages.old index.now → ⊥) }
+    ensures fault { IfErr result (λ fault. P.tells pages.old → IsRemovalFault (P.geometry pages.old) (P.image pages.old) (P.image pages.new) index.now key.0 fault) }
+    ensures way { OnOk result (P.tells pages.old → HasWay (P.geometry pages.old) (P.image pages.old) index.now key.0) }
+    ensures catalog { OnOk result (P.image pages.new catalog_no ≡ P.image pages.old catalog_no) }
     ensures leads { P.leads pages.old pages.new }
     ensures cause { HasCause (P.faults pages.old) (P.faults pages.new) result }
 {
@@ -208,6 +219,9 @@ pub fn remove<P: Pages>(
     ensures shrinks { IfOk result (λ left. ShrinksTo index.now left) }
     ensures free { OnOk result (P.free pages.old Page ≤ P.free pages.new Page) }
     ensures sound { IfErr result (λ fault. IsDamage fault → P.tells pages.old → HasIndex P.Ground pages.old index.now → ⊥) }
+    ensures fault { IfErr result (λ fault. P.tells pages.old → IsRemovalFault (P.geometry pages.old) (P.image pages.old) (P.image pages.new) index.now key.0 fault) }
+    ensures way { OnOk result (P.tells pages.old → HasWay (P.geometry pages.old) (P.image pages.old) index.now key.0) }
+    ensures catalog { OnOk result (P.image pages.new catalog_no ≡ P.image pages.old catalog_no) }
     ensures leads { P.leads pages.old pages.new }
     ensures cause { HasCause (P.faults pages.old) (P.faults pages.new) result }
 {

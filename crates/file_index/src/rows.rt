@@ -1,15 +1,17 @@
 //! Entries side by side, edited at a place.
 ghost use Rattle.std.specs.Prelude.{◌≡◌, ◌≤◌, ◌<◌, ◌+◌, ◌∷◌, ◌++◌, ℕ, length, take, drop, IfErr, OnOk};
 ghost use Rattle.ex_base.specs.Ports.{IsDamage, HasCause};
-ghost use Rattle.file_index.specs.Nodes.{IsPlace, entries_of};
+ghost use Rattle.file_index.specs.Nodes.{IsPlace, entries_of, first_key};
+ghost use Rattle.file_index.specs.Damage.{place_in};
 
-use ex_base::PortFault;
+use ex_base::{PageNo, PortFault};
 use index_pages::Entry;
 
 /// The last entry whose key is not above the key, else the first one.
 pub fn place_of(entries: &[Entry], key: u32) -> usize
     requires { 1 ≤ length entries.now }
-    ensures { IsPlace key entries.now result }
+    ensures place { IsPlace key entries.now result }
+    ensures is { result ≡ place_in key entries.now }
 {
     let mut at = 0;
     while at + 1 < entries.len() {
@@ -19,6 +21,18 @@ pub fn place_of(entries: &[Entry], key: u32) -> usize
         at += 1;
     }
     at
+}
+
+/// The entry of a page that has these entries.
+pub fn entry_over(page: PageNo, entries: &[Entry]) -> Entry
+    requires { 1 ≤ length entries.now }
+    ensures page { result.page ≡ page }
+    ensures key { result.key ≡ first_key entries.now }
+{
+    Entry {
+        key: entries[0].key,
+        page,
+    }
 }
 
 /// Puts an entry, and where there is one a second behind it, in place of an entry.

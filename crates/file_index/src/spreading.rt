@@ -1,10 +1,12 @@
 //! The entries of two pages side by side, spread evenly over both or put onto one.
 ghost use Rattle.std.specs.Prelude.{◌≡◌, ◌≢◌, ◌≤◌, ◌<◌, ◌+◌, ◌*◌, ◌/◌, ◌∷◌, [], ℕ, true, length, IfOk, IfErr, OnOk};
 ghost use Rattle.ex_base.specs.declared.names.Area.TheVariants.{Page};
+ghost use Rattle.ex_base.specs.Area.{catalog_no};
 ghost use Rattle.ex_base.specs.Ports.{HasCause, IsDamage};
 ghost use Rattle.index_pages.specs.IndexPage.{entries_on, most_entries};
 ghost use Rattle.file_index.specs.Changes.{Changes};
 ghost use Rattle.file_index.specs.Index.{IsFilesPage, IsNamed};
+ghost use Rattle.file_index.specs.Damage.{IsPageFault};
 ghost use Rattle.file_index.specs.Nodes.{Stored, heads, entries_of, first_key, joined, beside_of, thin_of};
 
 use crate::named::{Named, most_entries};
@@ -66,6 +68,7 @@ fn even_out<P: Pages>(
     ensures changes { IfOk result (λ second. P.held pages.old right.now.page.0 ≡ true
         → Changes P.Ground pages.old pages.new (left.now.page.0 ∷ right.now.page.0 ∷ []) (left.now.page.0 ∷ heads (entries_of second))) }
     ensures free { OnOk result (P.free pages.old Page ≤ P.free pages.new Page) }
+    ensures catalog { OnOk result (P.image pages.new catalog_no ≡ P.image pages.old catalog_no) }
     ensures leads { P.leads pages.old pages.new }
     ensures no_damage { IfErr result (λ fault. IsDamage fault → ⊥) }
     ensures cause { HasCause (P.faults pages.old) (P.faults pages.new) result }
@@ -109,6 +112,9 @@ pub fn spread<P: Pages>(
     ensures free { OnOk result (P.free pages.old Page ≤ P.free pages.new Page) }
     ensures sound { IfErr result (λ fault. IsDamage fault → P.tells pages.old → IsFilesPage (P.geometry pages.old) (beside_of pair.now).page.0
         → IsNamed (P.geometry pages.old).page_size (P.image pages.old (beside_of pair.now).page.0) pair.now.level pair.now.file_no (Some (beside_of pair.now).key) → ⊥) }
+    ensures fault { IfErr result (λ fault. P.tells pages.old
+        → IsPageFault (P.geometry pages.old) (P.image pages.new (beside_of pair.now).page.0) pair.now.level pair.now.file_no (Some (beside_of pair.now).key) (beside_of pair.now).page.0 fault) }
+    ensures catalog { OnOk result (P.image pages.new catalog_no ≡ P.image pages.old catalog_no) }
     ensures leads { P.leads pages.old pages.new }
     ensures cause { HasCause (P.faults pages.old) (P.faults pages.new) result }
 {

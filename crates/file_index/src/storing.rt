@@ -1,6 +1,7 @@
 //! Entries written over one page or two.
 ghost use Rattle.std.specs.Prelude.{◌≡◌, ◌≢◌, ◌≤◌, ◌<◌, ◌+◌, ◌*◌, ◌∷◌, [], true, length, IfOk, IfErr, OnOk};
 ghost use Rattle.ex_base.specs.declared.names.Area.TheVariants.{Page};
+ghost use Rattle.ex_base.specs.Area.{catalog_no};
 ghost use Rattle.ex_base.specs.Ports.{HasCause, IsDamage};
 ghost use Rattle.index_pages.specs.IndexPage.{most_entries};
 ghost use Rattle.file_index.specs.Index.{IsFilesPage};
@@ -38,6 +39,7 @@ pub fn store<P: Pages>(
     ensures stored { IfOk result (λ second. P.tells pages.old → P.held pages.old named.now.page.0 ≡ true → Stored P.Ground pages.new named.now.page.0 named.now.level named.now.file_no entries.now second) }
     ensures changes { IfOk result (λ second. Changes P.Ground pages.old pages.new (named.now.page.0 ∷ []) (named.now.page.0 ∷ heads (entries_of second))) }
     ensures free { OnOk result (P.free pages.old Page ≤ P.free pages.new Page + 1) }
+    ensures catalog { OnOk result (P.image pages.new catalog_no ≡ P.image pages.old catalog_no) }
     ensures leads { P.leads pages.old pages.new }
     ensures no_damage { IfErr result (λ fault. IsDamage fault → ⊥) }
     ensures cause { HasCause (P.faults pages.old) (P.faults pages.new) result }

@@ -1,10 +1,13 @@
-use Rattle.std.proofs.Common.{◌≡◌, ◌-◌, suc, List, subst, sym, refl, arith}
+use Rattle.std.proofs.Common.{◌≡◌, ◌≢◌, ◌<◌, ◌-◌, suc, List, Some, length, subst, sym, ap, ◌∙◌, refl, arith}
 use Rattle.index_pages.specs.declared.Entry.{Entry}
 use Rattle.ex_base.specs.declared.geometry.Geometry.{Geometry}
 use Rattle.ex_base.specs.Sizes.{least_page}
 use Rattle.file_index.specs.Index.{IsFilesPage}
 use Rattle.file_index.specs.Edits.{put_in}
 use Rattle.file_index.specs.Nodes.{IsPlace, Stored}
+use Rattle.file_index.specs.Damage.{place_in, IsWay, IsWayFault}
+use Rattle.file_index.proofs.Blame.{way_here}
+use Rattle.file_index.proofs.Ways.{child_at, page_way, page_fault}
 use Rattle.file_index.proofs.Descent.{on_ok}
 use Rattle.file_index.proofs.Lists.{put_local}
 use Rattle.file_index.proofs.Descending.{never_read, row_below, stays_below, held_below, written_below, first_key_is}
@@ -15,7 +18,7 @@ pub returns-then-level-eq1-clause-adds : goal.returns-then-level-eq1-clause-adds
 returns-then-level-eq1-clause-adds g t c =
     on_ok c.add_leaf.result _ _ (λ changed puts told files row.
     leaf_added g.P.Ground c.args.pages.now c.args.file_no (c.args.level - 1) c.args.key c.place_of-at.result c.index-child.result.now c.args.entries.now.items c.add_leaf.new.entries.items changed
-    (omega (arith, c.if-level-eq1.true)) (subst (λ (l : List Entry). IsPlace c.args.key l c.place_of-at.result) c.deref.ensures.value c.place_of-at.ensures) c.index-child.ensures puts files row) c.add_leaf.ensures.added
+    (omega (arith, c.if-level-eq1.true)) (subst (λ (l : List Entry). IsPlace c.args.key l c.place_of-at.result) c.deref.ensures.value c.place_of-at.ensures.place) c.index-child.ensures puts files row) c.add_leaf.ensures.added
 
 pub returns-then-level-eq1-clause-cause : goal.returns-then-level-eq1-clause-cause
 returns-then-level-eq1-clause-cause g t c = c.add_leaf.ensures.cause _ _
@@ -23,20 +26,20 @@ returns-then-level-eq1-clause-cause g t c = c.add_leaf.ensures.cause _ _
 pub returns-in-Err-clause-sound : goal.returns-in-Err-clause-sound
 returns-in-Err-clause-sound g t c = λ damage told row.
     let step : suc (c.args.level - 1 - 1) ≡ c.args.level - 1 = omega (arith, c.requires.level, c.if-level-eq1.false) in
-    never_read g.P.Ground c.args.pages.now c.args.file_no (c.args.level - 1) (c.args.level - 1 - 1) c.args.key c.args.entries.now.items c.place_of-at.result c.index-child.result.now step (subst (λ (l : List Entry). IsPlace c.args.key l c.place_of-at.result) c.deref.ensures.value c.place_of-at.ensures) c.index-child.ensures
+    never_read g.P.Ground c.args.pages.now c.args.file_no (c.args.level - 1) (c.args.level - 1 - 1) c.args.key c.args.entries.now.items c.place_of-at.result c.index-child.result.now step (subst (λ (l : List Entry). IsPlace c.args.key l c.place_of-at.result) c.deref.ensures.value c.place_of-at.ensures.place) c.index-child.ensures
     (c.in-Err.ensures.sound damage told) row
 
 pub returns-in-Err-add_among-clause-sound : goal.returns-in-Err-add_among-clause-sound
 returns-in-Err-add_among-clause-sound g t c = λ damage told row.
     let step : suc (c.args.level - 1 - 1) ≡ c.args.level - 1 = omega (arith, c.requires.level, c.if-level-eq1.false) in
     c.in-Err-add_among.ensures.sound damage (g.P.Ground.leads_told c.args.pages.now c.entries_at.new.pages c.entries_at.ensures.kept.leads told)
-    (row_below g.P.Ground c.args.pages.now c.args.file_no (c.args.level - 1) (c.args.level - 1 - 1) c.args.key c.args.entries.now.items c.place_of-at.result c.index-child.result.now step (subst (λ (l : List Entry). IsPlace c.args.key l c.place_of-at.result) c.deref.ensures.value c.place_of-at.ensures) c.index-child.ensures
+    (row_below g.P.Ground c.args.pages.now c.args.file_no (c.args.level - 1) (c.args.level - 1 - 1) c.args.key c.args.entries.now.items c.place_of-at.result c.index-child.result.now step (subst (λ (l : List Entry). IsPlace c.args.key l c.place_of-at.result) c.deref.ensures.value c.place_of-at.ensures.place) c.index-child.ensures
     c.entries_at.new.pages c.in-Ok.below.items c.entries_at.ensures.kept (c.in-Ok.ensures.entries told) row)
 
 pub returns-in-Ok-false-clause-adds : goal.returns-in-Ok-false-clause-adds
 returns-in-Ok-false-clause-adds g t c = λ told files row.
     let step : suc (c.args.level - 1 - 1) ≡ c.args.level - 1 = omega (arith, c.requires.level, c.if-level-eq1.false) in
-    let place = (subst (λ (l : List Entry). IsPlace c.args.key l c.place_of-at.result) c.deref.ensures.value c.place_of-at.ensures) in
+    let place = (subst (λ (l : List Entry). IsPlace c.args.key l c.place_of-at.result) c.deref.ensures.value c.place_of-at.ensures.place) in
     let leads = c.entries_at.ensures.kept.leads in
     let told_b = g.P.Ground.leads_told c.args.pages.now c.entries_at.new.pages leads told in
     let files_b = subst (λ (y : Geometry). IsFilesPage y c.args.key) (sym (g.P.Ground.leads_geometry c.args.pages.now c.entries_at.new.pages leads)) files in
@@ -49,7 +52,7 @@ returns-in-Ok-false-clause-adds g t c = λ told files row.
 pub returns-in-Ok-replace_one-clause-adds : goal.returns-in-Ok-replace_one-clause-adds
 returns-in-Ok-replace_one-clause-adds g t c = λ told files row.
     let step : suc (c.args.level - 1 - 1) ≡ c.args.level - 1 = omega (arith, c.requires.level, c.if-level-eq1.false) in
-    let place = (subst (λ (l : List Entry). IsPlace c.args.key l c.place_of-at.result) c.deref.ensures.value c.place_of-at.ensures) in
+    let place = (subst (λ (l : List Entry). IsPlace c.args.key l c.place_of-at.result) c.deref.ensures.value c.place_of-at.ensures.place) in
     let leads = c.entries_at.ensures.kept.leads in
     let told_b = g.P.Ground.leads_told c.args.pages.now c.entries_at.new.pages leads told in
     let told_c = g.P.Ground.leads_told c.entries_at.new.pages c.add_among.new.pages c.add_among.ensures.leads told_b in
@@ -67,3 +70,38 @@ returns-in-Ok-replace_one-clause-adds g t c = λ told files row.
 
 pub returns-clause-cause : goal.returns-clause-cause
 returns-clause-cause g t c = c.in-Err-replace_one.ensures.cause _ _
+
+pub returns-in-Ok-false-clause-way : goal.returns-in-Ok-false-clause-way
+returns-in-Ok-false-clause-way g t c =
+    let above : c.args.level - 1 ≢ 0 = λ none. omega (arith, c.requires.level, c.if-level-eq1.false) in
+    let child = child_at c.args.key c.args.entries.now.items c.place_of-at.result c.index-child.result.now (c.place_of-at.ensures.is ∙ ap (place_in c.args.key) c.deref.ensures.value)
+    (subst (λ (l : List Entry). c.place_of-at.result < length l) c.deref.ensures.value c.place_of-at.ensures.place.inside) c.index-child.ensures in
+    λ told. subst (λ (e : Entry). IsWay (g.P.Ground.geometry c.args.pages.now) (g.P.Ground.image c.args.pages.now) c.args.file_no c.args.key (c.args.level - 1) (Some e.key) e.page.0) child
+    (page_way g.P.Ground c.args.pages.now c.entries_at.new.pages c.args.file_no (c.args.level - 1) (Some c.index-child.result.now.key) c.index-child.result.now.page.0 c.args.key c.in-Ok.below.items above c.entries_at.ensures.kept c.in-Ok.ensures.entries
+    (λ told_a. record { area = c.in-Ok.ensures.area; named = c.in-Ok.ensures.named told_a }) c.in-Ok-false.ensures.way told)
+
+pub returns-in-Ok-replace_one-clause-way : goal.returns-in-Ok-replace_one-clause-way
+returns-in-Ok-replace_one-clause-way g t c =
+    let above : c.args.level - 1 ≢ 0 = λ none. omega (arith, c.requires.level, c.if-level-eq1.false) in
+    let child = child_at c.args.key c.args.entries.now.items c.place_of-at.result c.index-child.result.now (c.place_of-at.ensures.is ∙ ap (place_in c.args.key) c.deref.ensures.value)
+    (subst (λ (l : List Entry). c.place_of-at.result < length l) c.deref.ensures.value c.place_of-at.ensures.place.inside) c.index-child.ensures in
+    λ told. subst (λ (e : Entry). IsWay (g.P.Ground.geometry c.args.pages.now) (g.P.Ground.image c.args.pages.now) c.args.file_no c.args.key (c.args.level - 1) (Some e.key) e.page.0) child
+    (page_way g.P.Ground c.args.pages.now c.entries_at.new.pages c.args.file_no (c.args.level - 1) (Some c.index-child.result.now.key) c.index-child.result.now.page.0 c.args.key c.in-Ok.below.items above c.entries_at.ensures.kept c.in-Ok.ensures.entries
+    (λ told_a. record { area = c.in-Ok.ensures.area; named = c.in-Ok.ensures.named told_a }) c.in-Ok-true.ensures.way told)
+
+pub returns-in-Err-clause-fault : goal.returns-in-Err-clause-fault
+returns-in-Err-clause-fault g t c =
+    let above : c.args.level - 1 ≢ 0 = λ none. omega (arith, c.requires.level, c.if-level-eq1.false) in
+    let child = child_at c.args.key c.args.entries.now.items c.place_of-at.result c.index-child.result.now (c.place_of-at.ensures.is ∙ ap (place_in c.args.key) c.deref.ensures.value)
+    (subst (λ (l : List Entry). c.place_of-at.result < length l) c.deref.ensures.value c.place_of-at.ensures.place.inside) c.index-child.ensures in
+    λ told. subst (λ (e : Entry). IsWayFault (g.P.Ground.geometry c.args.pages.now) (g.P.Ground.image c.args.pages.now) c.args.file_no c.args.key (c.args.level - 1) (Some e.key) e.page.0 c.in-Err.fault) child
+    (way_here (g.P.Ground.geometry c.args.pages.now) (g.P.Ground.image c.args.pages.now) c.args.file_no c.args.key (c.args.level - 1) (Some c.index-child.result.now.key) c.index-child.result.now.page.0 c.in-Err.fault above (c.in-Err.ensures.fault told))
+
+pub returns-in-Err-add_among-clause-fault : goal.returns-in-Err-add_among-clause-fault
+returns-in-Err-add_among-clause-fault g t c =
+    let above : c.args.level - 1 ≢ 0 = λ none. omega (arith, c.requires.level, c.if-level-eq1.false) in
+    let child = child_at c.args.key c.args.entries.now.items c.place_of-at.result c.index-child.result.now (c.place_of-at.ensures.is ∙ ap (place_in c.args.key) c.deref.ensures.value)
+    (subst (λ (l : List Entry). c.place_of-at.result < length l) c.deref.ensures.value c.place_of-at.ensures.place.inside) c.index-child.ensures in
+    λ told. subst (λ (e : Entry). IsWayFault (g.P.Ground.geometry c.args.pages.now) (g.P.Ground.image c.args.pages.now) c.args.file_no c.args.key (c.args.level - 1) (Some e.key) e.page.0 c.in-Err-add_among.fault) child
+    (page_fault g.P.Ground c.args.pages.now c.entries_at.new.pages c.args.file_no (c.args.level - 1) (Some c.index-child.result.now.key) c.index-child.result.now.page.0 c.args.key c.in-Ok.below.items above c.entries_at.ensures.kept c.in-Ok.ensures.entries
+    (λ told_a. record { area = c.in-Ok.ensures.area; named = c.in-Ok.ensures.named told_a }) c.in-Err-add_among.fault c.in-Err-add_among.ensures.fault told)

@@ -1,14 +1,16 @@
-use Rattle.std.proofs.Common.{◌≡◌, ◌-◌, suc, List, [], ◌∷◌, Option, subst, sym, refl, arith}
+use Rattle.std.proofs.Common.{◌≡◌, ◌≢◌, None, ◌-◌, suc, List, [], ◌∷◌, Option, subst, sym, ap, ◌∙◌, arith}
 use Rattle.ex_base.specs.declared.geometry.Geometry.{Geometry}
+use Rattle.ex_base.specs.declared.names.PageNo.{PageNo}
 use Rattle.index_pages.specs.declared.Entry.{Entry}
 use Rattle.file_index.specs.Index.{IsFilesPage}
 use Rattle.file_index.specs.declared.Index.{Index}
 use Rattle.file_index.specs.Edits.{EditsIndex, put_in}
-use Rattle.file_index.proofs.Descent.{if_ok}
-use Rattle.file_index.specs.Nodes.{Stored, heads, entries_of}
+use Rattle.file_index.proofs.Blame.{way_here}
+use Rattle.file_index.proofs.Ways.{page_way, page_fault, root_way, root_fault}
+use Rattle.file_index.proofs.Descent.{if_ok, on_ok}
+use Rattle.file_index.specs.Nodes.{Stored, heads, entries_of, first_key}
 use Rattle.file_index.specs.Changes.{Changes}
 use Rattle.file_index.proofs.Tops.{row_top, held_top, same_top, written_top, raised_top}
-use Rattle.file_index.proofs.Descending.{first_key_is}
 use Rattle.file_index.proofs.adding.add_below.Goals as goal
 
 pub returns-in-Err-clause-cause : goal.returns-in-Err-clause-cause
@@ -69,7 +71,41 @@ returns-clause-adds g c = if_ok c.take_root.result _ _ (λ added made told files
     (subst (λ (l : List Entry). Stored g.P.Ground c.store.new.pages c.args.root.0 c.args.index.now.level c.args.index.now.file_no l c.in-Ok-Some.field-0) c.deref.ensures.value (c.in-Ok-Some.ensures.stored told_c held))) in
     subst (λ (i : Index). EditsIndex g.P.Ground c.args.pages.now c.take_root.new.pages (put_in c.args.key.0) c.args.index.now i) (sym made.is)
     (raised_top g.P.Ground c.args.pages.now c.args.index.now c.args.root (c.args.index.now.level - 1) c.requires.root step has c.entries_at.new.pages c.in-Ok-entries_at.entries.items c.entries_at.ensures.kept read c.add_among.new.pages (put_in c.args.key.0) c.add_among.new.entries.items becomes c.store.new.pages c.take_root.new.pages
-    (record { key = c.index.result.now.key; page = c.args.root }) c.in-Ok-Some.second made.page
+    c.entry_over.result c.in-Ok-Some.second made.page
     (subst (λ (s : Option Entry). Changes g.P.Ground c.add_among.new.pages c.store.new.pages (c.args.root.0 ∷ []) (c.args.root.0 ∷ heads (entries_of s))) c.in-Ok-Some.field-0-is c.in-Ok-Some.ensures.changes)
-    some refl (first_key_is c.add_among.new.entries.items c.index.result.now (omega (arith, c.in-Ok-entries_at.ensures.few, c.in-Ok-true.ensures.more)) c.index.ensures)
+    some (ap (λ (p : PageNo). p.0) c.entry_over.ensures.page) (c.entry_over.ensures.key ∙ ap first_key c.deref-2.ensures.value)
     made.changes (made.written told_d))) c.take_root.ensures.made
+
+pub returns-in-Ok-false-clause-way : goal.returns-in-Ok-false-clause-way
+returns-in-Ok-false-clause-way g c =
+    let above : c.args.index.now.level ≢ 0 = λ none. omega (arith, c.requires.level) in
+    λ told. root_way (g.P.Ground.geometry c.args.pages.now) (g.P.Ground.image c.args.pages.now) c.args.index.now.file_no c.args.key.0 c.args.index.now.level c.args.index.now.root c.args.root c.requires.root
+    (page_way g.P.Ground c.args.pages.now c.entries_at.new.pages c.args.index.now.file_no c.args.index.now.level None c.args.root.0 c.args.key.0 c.in-Ok-entries_at.entries.items above c.entries_at.ensures.kept c.in-Ok-entries_at.ensures.entries
+    (λ told_a. record { area = c.in-Ok-entries_at.ensures.area; named = c.in-Ok-entries_at.ensures.named told_a }) c.in-Ok-false.ensures.way told)
+
+pub returns-in-Ok-None-clause-way : goal.returns-in-Ok-None-clause-way
+returns-in-Ok-None-clause-way g c =
+    let above : c.args.index.now.level ≢ 0 = λ none. omega (arith, c.requires.level) in
+    λ told. root_way (g.P.Ground.geometry c.args.pages.now) (g.P.Ground.image c.args.pages.now) c.args.index.now.file_no c.args.key.0 c.args.index.now.level c.args.index.now.root c.args.root c.requires.root
+    (page_way g.P.Ground c.args.pages.now c.entries_at.new.pages c.args.index.now.file_no c.args.index.now.level None c.args.root.0 c.args.key.0 c.in-Ok-entries_at.entries.items above c.entries_at.ensures.kept c.in-Ok-entries_at.ensures.entries
+    (λ told_a. record { area = c.in-Ok-entries_at.ensures.area; named = c.in-Ok-entries_at.ensures.named told_a }) c.in-Ok-true.ensures.way told)
+
+pub returns-clause-way : goal.returns-clause-way
+returns-clause-way g c =
+    let above : c.args.index.now.level ≢ 0 = λ none. omega (arith, c.requires.level) in
+    on_ok c.take_root.result _ _ (λ made is told. root_way (g.P.Ground.geometry c.args.pages.now) (g.P.Ground.image c.args.pages.now) c.args.index.now.file_no c.args.key.0 c.args.index.now.level c.args.index.now.root c.args.root c.requires.root
+    (page_way g.P.Ground c.args.pages.now c.entries_at.new.pages c.args.index.now.file_no c.args.index.now.level None c.args.root.0 c.args.key.0 c.in-Ok-entries_at.entries.items above c.entries_at.ensures.kept c.in-Ok-entries_at.ensures.entries
+    (λ told_a. record { area = c.in-Ok-entries_at.ensures.area; named = c.in-Ok-entries_at.ensures.named told_a }) c.in-Ok-true.ensures.way told)) c.take_root.ensures.made
+
+pub returns-in-Err-entries_at-clause-fault : goal.returns-in-Err-entries_at-clause-fault
+returns-in-Err-entries_at-clause-fault g c =
+    let above : c.args.index.now.level ≢ 0 = λ none. omega (arith, c.requires.level) in
+    λ told. root_fault (g.P.Ground.geometry c.args.pages.now) (g.P.Ground.image c.args.pages.now) c.args.index.now.file_no c.args.key.0 c.args.index.now.level c.args.index.now.root c.args.root c.requires.root c.in-Err-entries_at.fault
+    (way_here (g.P.Ground.geometry c.args.pages.now) (g.P.Ground.image c.args.pages.now) c.args.index.now.file_no c.args.key.0 c.args.index.now.level None c.args.root.0 c.in-Err-entries_at.fault above (c.in-Err-entries_at.ensures.fault told))
+
+pub returns-in-Err-add_among-clause-fault : goal.returns-in-Err-add_among-clause-fault
+returns-in-Err-add_among-clause-fault g c =
+    let above : c.args.index.now.level ≢ 0 = λ none. omega (arith, c.requires.level) in
+    λ told. root_fault (g.P.Ground.geometry c.args.pages.now) (g.P.Ground.image c.args.pages.now) c.args.index.now.file_no c.args.key.0 c.args.index.now.level c.args.index.now.root c.args.root c.requires.root c.in-Err-add_among.fault
+    (page_fault g.P.Ground c.args.pages.now c.entries_at.new.pages c.args.index.now.file_no c.args.index.now.level None c.args.root.0 c.args.key.0 c.in-Ok-entries_at.entries.items above c.entries_at.ensures.kept c.in-Ok-entries_at.ensures.entries
+    (λ told_a. record { area = c.in-Ok-entries_at.ensures.area; named = c.in-Ok-entries_at.ensures.named told_a }) c.in-Err-add_among.fault c.in-Err-add_among.ensures.fault told)

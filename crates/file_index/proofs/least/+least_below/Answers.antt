@@ -1,4 +1,6 @@
 use Rattle.file_index.proofs.Descent.{if_ok, if_err, sound_here, sound_below, least_below_is}
+use Rattle.file_index.proofs.Blame.{way_here}
+use Rattle.file_index.proofs.Ways.{on_same, fault_down, way_down, found_down}
 use Rattle.file_index.proofs.least.+least_below.Goals as goal
 
 pub returns-clause-least : goal.returns-clause-least
@@ -14,3 +16,22 @@ returns-clause-sound g t c =
 pub returns-in-Err-clause-sound : goal.returns-in-Err-clause-sound
 returns-in-Err-clause-sound g t c = λ damage told.
     sound_here g.P.Ground c.args.pages.now c.args.named.file_no c.args.named.level c.args.named.least c.args.named.page.0 c.if-named-eq0.false (c.in-Err.ensures.sound damage told)
+
+pub returns-in-Err-clause-fault : goal.returns-in-Err-clause-fault
+returns-in-Err-clause-fault g t c = λ told.
+    way_here (g.P.Ground.geometry c.args.pages.now) (g.P.Ground.image c.args.pages.now) c.args.named.file_no c.args.key c.args.named.level c.args.named.least c.args.named.page.0 c.in-Err.fault c.if-named-eq0.false (c.in-Err.ensures.fault told)
+
+pub returns-clause-fault : goal.returns-clause-fault
+returns-clause-fault g t c =
+    if_err c.least_below.result _ _ (λ fault below. fault_down g.P.Ground c.args.pages.now c.step_at.new.pages c.args.named.file_no c.args.named.level c.args.named.least c.args.named.page.0 c.args.key c.args.next c.in-Ok.step
+    fault c.if-named-eq0.false c.step_at.ensures.kept c.in-Ok.ensures.step c.in-Ok.ensures.way below) c.least_below.ensures.fault
+
+pub returns-clause-way : goal.returns-clause-way
+returns-clause-way g t c =
+    on_same c.least_below.result _ _ (λ below. way_down g.P.Ground c.args.pages.now c.step_at.new.pages c.args.named.file_no c.args.named.level c.args.named.least c.args.named.page.0 c.args.key c.args.next c.in-Ok.step
+    c.if-named-eq0.false c.step_at.ensures.kept c.in-Ok.ensures.step c.in-Ok.ensures.way below) c.least_below.ensures.way
+
+pub returns-clause-found : goal.returns-clause-found
+returns-clause-found g t c =
+    if_ok c.least_below.result _ _ (λ answer below. found_down g.P.Ground c.args.pages.now c.step_at.new.pages c.args.named.file_no c.args.named.level c.args.named.least c.args.named.page.0 c.args.key c.args.next c.in-Ok.step
+    answer c.if-named-eq0.false c.step_at.ensures.kept c.in-Ok.ensures.step below) c.least_below.ensures.found

@@ -1,9 +1,13 @@
-use Rattle.std.proofs.Common.{◌≡◌, ◌+◌, ◌-◌, suc, List, take, drop, None, subst, sym, ap, ◌∙◌, refl, arith}
-use Rattle.std.specs.Prelude.{◌==◌}
+use Rattle.std.proofs.Common.{◌≡◌, ◌≢◌, ◌<◌, Some, length, inl, inr, ◌+◌, ◌-◌, suc, List, take, drop, None, subst, sym, ap, ◌∙◌, refl, arith}
+use Rattle.std.specs.Prelude.{◌==◌, if◌then◌else◌}
+use Rattle.ex_base.specs.declared.geometry.Geometry.{Geometry}
 use Rattle.index_pages.specs.declared.Entry.{Entry}
 use Rattle.index_pages.specs.IndexPage.{entries_on}
 use Rattle.file_index.specs.Edits.{take_out}
 use Rattle.file_index.specs.Nodes.{IsPlace, IsWritten, first_key}
+use Rattle.file_index.specs.Damage.{place_in, beside_in, IsWay, IsWayFault, IsEntryFault}
+use Rattle.file_index.proofs.Blame.{way_here}
+use Rattle.file_index.proofs.Ways.{on_same, child_at, beside_at, page_way, page_removal, under_removal, entry_fault}
 use Rattle.file_index.proofs.Descent.{on_three}
 use Rattle.file_index.proofs.Lists.{out_local}
 use Rattle.file_index.proofs.Descending.{never_read, row_below, stays_below, written_below}
@@ -14,18 +18,18 @@ use Rattle.file_index.proofs.removing.+remove_among.Goals as goal
 pub returns-then-level-eq1-clause-removes : goal.returns-then-level-eq1-clause-removes
 returns-then-level-eq1-clause-removes g t c = λ told row.
     leaf_removed g.P.Ground c.args.pages.now c.args.file_no (c.args.level - 1) c.args.key c.place_of-at.result c.index-child.result.now c.args.entries.now.items c.remove_leaf.new.entries.items c.remove_leaf.result
-    (omega (arith, c.if-level-eq1.true)) (subst (λ (l : List Entry). IsPlace c.args.key l c.place_of-at.result) c.deref.ensures.value c.place_of-at.ensures) c.index-child.ensures c.remove_leaf.ensures row
+    (omega (arith, c.if-level-eq1.true)) (subst (λ (l : List Entry). IsPlace c.args.key l c.place_of-at.result) c.deref.ensures.value c.place_of-at.ensures.place) c.index-child.ensures c.remove_leaf.ensures row
 
 pub returns-in-Err-clause-sound : goal.returns-in-Err-clause-sound
 returns-in-Err-clause-sound g t c = λ damage told row.
     let step : suc (c.args.level - 1 - 1) ≡ c.args.level - 1 = omega (arith, c.requires.level, c.if-level-eq1.false) in
-    let place = (subst (λ (l : List Entry). IsPlace c.args.key l c.place_of-at.result) c.deref.ensures.value c.place_of-at.ensures) in
+    let place = (subst (λ (l : List Entry). IsPlace c.args.key l c.place_of-at.result) c.deref.ensures.value c.place_of-at.ensures.place) in
     never_read g.P.Ground c.args.pages.now c.args.file_no (c.args.level - 1) (c.args.level - 1 - 1) c.args.key c.args.entries.now.items c.place_of-at.result c.index-child.result.now step place c.index-child.ensures (c.in-Err.ensures.sound damage told) row
 
 pub returns-in-Err-remove_among-clause-sound : goal.returns-in-Err-remove_among-clause-sound
 returns-in-Err-remove_among-clause-sound g t c = λ damage told row.
     let step : suc (c.args.level - 1 - 1) ≡ c.args.level - 1 = omega (arith, c.requires.level, c.if-level-eq1.false) in
-    let place = (subst (λ (l : List Entry). IsPlace c.args.key l c.place_of-at.result) c.deref.ensures.value c.place_of-at.ensures) in
+    let place = (subst (λ (l : List Entry). IsPlace c.args.key l c.place_of-at.result) c.deref.ensures.value c.place_of-at.ensures.place) in
     let told_b = g.P.Ground.leads_told c.args.pages.now c.entries_at.new.pages c.entries_at.ensures.kept.leads told in
     let read = c.in-Ok.ensures.entries told in
     let below_row = row_below g.P.Ground c.args.pages.now c.args.file_no (c.args.level - 1) (c.args.level - 1 - 1) c.args.key c.args.entries.now.items c.place_of-at.result c.index-child.result.now step place c.index-child.ensures c.entries_at.new.pages c.in-Ok.below.items c.entries_at.ensures.kept read row in
@@ -34,7 +38,7 @@ returns-in-Err-remove_among-clause-sound g t c = λ damage told row.
 pub returns-in-Ok-false-clause-removes : goal.returns-in-Ok-false-clause-removes
 returns-in-Ok-false-clause-removes g t c = λ told row.
     let step : suc (c.args.level - 1 - 1) ≡ c.args.level - 1 = omega (arith, c.requires.level, c.if-level-eq1.false) in
-    let place = (subst (λ (l : List Entry). IsPlace c.args.key l c.place_of-at.result) c.deref.ensures.value c.place_of-at.ensures) in
+    let place = (subst (λ (l : List Entry). IsPlace c.args.key l c.place_of-at.result) c.deref.ensures.value c.place_of-at.ensures.place) in
     let told_b = g.P.Ground.leads_told c.args.pages.now c.entries_at.new.pages c.entries_at.ensures.kept.leads told in
     let read = c.in-Ok.ensures.entries told in
     let below_row = row_below g.P.Ground c.args.pages.now c.args.file_no (c.args.level - 1) (c.args.level - 1 - 1) c.args.key c.args.entries.now.items c.place_of-at.result c.index-child.result.now step place c.index-child.ensures c.entries_at.new.pages c.in-Ok.below.items c.entries_at.ensures.kept read row in
@@ -45,7 +49,7 @@ pub returns-then-len-most_entries-clause-removes : goal.returns-then-len-most_en
 returns-then-len-most_entries-clause-removes g t c =
     on_three c.write_child.result _ _ _ _ c.write_child.ensures.written c.write_child.ensures.changes c.write_child.ensures.items (λ written changes items told row.
     let step : suc (c.args.level - 1 - 1) ≡ c.args.level - 1 = omega (arith, c.requires.level, c.if-level-eq1.false) in
-    let place = (subst (λ (l : List Entry). IsPlace c.args.key l c.place_of-at.result) c.deref.ensures.value c.place_of-at.ensures) in
+    let place = (subst (λ (l : List Entry). IsPlace c.args.key l c.place_of-at.result) c.deref.ensures.value c.place_of-at.ensures.place) in
     let told_b = g.P.Ground.leads_told c.args.pages.now c.entries_at.new.pages c.entries_at.ensures.kept.leads told in
     let read = c.in-Ok.ensures.entries told in
     let below_row = row_below g.P.Ground c.args.pages.now c.args.file_no (c.args.level - 1) (c.args.level - 1 - 1) c.args.key c.args.entries.now.items c.place_of-at.result c.index-child.result.now step place c.index-child.ensures c.entries_at.new.pages c.in-Ok.below.items c.entries_at.ensures.kept read row in
@@ -60,7 +64,7 @@ returns-then-len-most_entries-clause-removes g t c =
 pub returns-in-Ok-spread-clause-removes : goal.returns-in-Ok-spread-clause-removes
 returns-in-Ok-spread-clause-removes g t c = λ told row.
     let step : suc (c.args.level - 1 - 1) ≡ c.args.level - 1 = omega (arith, c.requires.level, c.if-level-eq1.false) in
-    let place = (subst (λ (l : List Entry). IsPlace c.args.key l c.place_of-at.result) c.deref.ensures.value c.place_of-at.ensures) in
+    let place = (subst (λ (l : List Entry). IsPlace c.args.key l c.place_of-at.result) c.deref.ensures.value c.place_of-at.ensures.place) in
     let told_b = g.P.Ground.leads_told c.args.pages.now c.entries_at.new.pages c.entries_at.ensures.kept.leads told in
     let read = c.in-Ok.ensures.entries told in
     let below_row = row_below g.P.Ground c.args.pages.now c.args.file_no (c.args.level - 1) (c.args.level - 1 - 1) c.args.key c.args.entries.now.items c.place_of-at.result c.index-child.result.now step place c.index-child.ensures c.entries_at.new.pages c.in-Ok.below.items c.entries_at.ensures.kept read row in
@@ -91,7 +95,7 @@ returns-in-Ok-spread-clause-leads g t c =
 pub returns-in-Err-spread-clause-sound : goal.returns-in-Err-spread-clause-sound
 returns-in-Err-spread-clause-sound g t c = λ damage told row.
     let step : suc (c.args.level - 1 - 1) ≡ c.args.level - 1 = omega (arith, c.requires.level, c.if-level-eq1.false) in
-    let place = (subst (λ (l : List Entry). IsPlace c.args.key l c.place_of-at.result) c.deref.ensures.value c.place_of-at.ensures) in
+    let place = (subst (λ (l : List Entry). IsPlace c.args.key l c.place_of-at.result) c.deref.ensures.value c.place_of-at.ensures.place) in
     let told_b = g.P.Ground.leads_told c.args.pages.now c.entries_at.new.pages c.entries_at.ensures.kept.leads told in
     let read = c.in-Ok.ensures.entries told in
     let below_row = row_below g.P.Ground c.args.pages.now c.args.file_no (c.args.level - 1) (c.args.level - 1 - 1) c.args.key c.args.entries.now.items c.place_of-at.result c.index-child.result.now step place c.index-child.ensures c.entries_at.new.pages c.in-Ok.below.items c.entries_at.ensures.kept read row in
@@ -103,3 +107,61 @@ returns-in-Err-spread-clause-sound g t c = λ damage told row.
     still_named g.P.Ground c.args.pages.now c.args.file_no (c.args.level - 1 - 1) c.args.key (record { left = c.index.result.now; right = c.index-2.result.now; thin_is_left = c.place_of-at.result == 0; level = c.args.level - 1; file_no = c.args.file_no }) (c.args.level - 1)
     (take c.saturating_sub-first.result c.args.entries.now.items) (drop (c.saturating_sub-first.result + 2) c.args.entries.now.items) c.args.entries.now.items step known.split.is row known.lacks
     c.entries_at.new.pages c.remove_among.new.pages c.in-Ok.below.items c.remove_among.new.entries.items c.entries_at.ensures.kept thin_read becomes (c.in-Err-spread.ensures.sound damage told_c)
+
+pub returns-in-Ok-false-clause-way : goal.returns-in-Ok-false-clause-way
+returns-in-Ok-false-clause-way g t c =
+    let above : c.args.level - 1 ≢ 0 = λ none. omega (arith, c.requires.level, c.if-level-eq1.false) in
+    let child = child_at c.args.key c.args.entries.now.items c.place_of-at.result c.index-child.result.now (c.place_of-at.ensures.is ∙ ap (place_in c.args.key) c.deref.ensures.value)
+    (subst (λ (l : List Entry). c.place_of-at.result < length l) c.deref.ensures.value c.place_of-at.ensures.place.inside) c.index-child.ensures in
+    λ told. subst (λ (e : Entry). IsWay (g.P.Ground.geometry c.args.pages.now) (g.P.Ground.image c.args.pages.now) c.args.file_no c.args.key (c.args.level - 1) (Some e.key) e.page.0) child
+    (page_way g.P.Ground c.args.pages.now c.entries_at.new.pages c.args.file_no (c.args.level - 1) (Some c.index-child.result.now.key) c.index-child.result.now.page.0 c.args.key c.in-Ok.below.items above c.entries_at.ensures.kept c.in-Ok.ensures.entries
+    (λ told_a. record { area = c.in-Ok.ensures.area; named = c.in-Ok.ensures.named told_a }) c.in-Ok-false.ensures.way told)
+
+pub returns-then-len-most_entries-clause-way : goal.returns-then-len-most_entries-clause-way
+returns-then-len-most_entries-clause-way g t c =
+    let above : c.args.level - 1 ≢ 0 = λ none. omega (arith, c.requires.level, c.if-level-eq1.false) in
+    let child = child_at c.args.key c.args.entries.now.items c.place_of-at.result c.index-child.result.now (c.place_of-at.ensures.is ∙ ap (place_in c.args.key) c.deref.ensures.value)
+    (subst (λ (l : List Entry). c.place_of-at.result < length l) c.deref.ensures.value c.place_of-at.ensures.place.inside) c.index-child.ensures in
+    on_same c.write_child.result _ _ (λ written told. subst (λ (e : Entry). IsWay (g.P.Ground.geometry c.args.pages.now) (g.P.Ground.image c.args.pages.now) c.args.file_no c.args.key (c.args.level - 1) (Some e.key) e.page.0) child
+    (page_way g.P.Ground c.args.pages.now c.entries_at.new.pages c.args.file_no (c.args.level - 1) (Some c.index-child.result.now.key) c.index-child.result.now.page.0 c.args.key c.in-Ok.below.items above c.entries_at.ensures.kept c.in-Ok.ensures.entries
+    (λ told_a. record { area = c.in-Ok.ensures.area; named = c.in-Ok.ensures.named told_a }) c.in-Ok-true.ensures.way told)) c.write_child.ensures.written
+
+pub returns-in-Ok-spread-clause-way : goal.returns-in-Ok-spread-clause-way
+returns-in-Ok-spread-clause-way g t c =
+    let above : c.args.level - 1 ≢ 0 = λ none. omega (arith, c.requires.level, c.if-level-eq1.false) in
+    let child = child_at c.args.key c.args.entries.now.items c.place_of-at.result c.index-child.result.now (c.place_of-at.ensures.is ∙ ap (place_in c.args.key) c.deref.ensures.value)
+    (subst (λ (l : List Entry). c.place_of-at.result < length l) c.deref.ensures.value c.place_of-at.ensures.place.inside) c.index-child.ensures in
+    λ told. subst (λ (e : Entry). IsWay (g.P.Ground.geometry c.args.pages.now) (g.P.Ground.image c.args.pages.now) c.args.file_no c.args.key (c.args.level - 1) (Some e.key) e.page.0) child
+    (page_way g.P.Ground c.args.pages.now c.entries_at.new.pages c.args.file_no (c.args.level - 1) (Some c.index-child.result.now.key) c.index-child.result.now.page.0 c.args.key c.in-Ok.below.items above c.entries_at.ensures.kept c.in-Ok.ensures.entries
+    (λ told_a. record { area = c.in-Ok.ensures.area; named = c.in-Ok.ensures.named told_a }) c.in-Ok-true.ensures.way told)
+
+pub returns-in-Err-clause-fault : goal.returns-in-Err-clause-fault
+returns-in-Err-clause-fault g t c =
+    let above : c.args.level - 1 ≢ 0 = λ none. omega (arith, c.requires.level, c.if-level-eq1.false) in
+    let child = child_at c.args.key c.args.entries.now.items c.place_of-at.result c.index-child.result.now (c.place_of-at.ensures.is ∙ ap (place_in c.args.key) c.deref.ensures.value)
+    (subst (λ (l : List Entry). c.place_of-at.result < length l) c.deref.ensures.value c.place_of-at.ensures.place.inside) c.index-child.ensures in
+    λ told. inl (subst (λ (e : Entry). IsWayFault (g.P.Ground.geometry c.args.pages.now) (g.P.Ground.image c.args.pages.now) c.args.file_no c.args.key (c.args.level - 1) (Some e.key) e.page.0 c.in-Err.fault) child
+    (way_here (g.P.Ground.geometry c.args.pages.now) (g.P.Ground.image c.args.pages.now) c.args.file_no c.args.key (c.args.level - 1) (Some c.index-child.result.now.key) c.index-child.result.now.page.0 c.in-Err.fault above (c.in-Err.ensures.fault told)))
+
+pub returns-in-Err-remove_among-clause-fault : goal.returns-in-Err-remove_among-clause-fault
+returns-in-Err-remove_among-clause-fault g t c =
+    let above : c.args.level - 1 ≢ 0 = λ none. omega (arith, c.requires.level, c.if-level-eq1.false) in
+    let child = child_at c.args.key c.args.entries.now.items c.place_of-at.result c.index-child.result.now (c.place_of-at.ensures.is ∙ ap (place_in c.args.key) c.deref.ensures.value)
+    (subst (λ (l : List Entry). c.place_of-at.result < length l) c.deref.ensures.value c.place_of-at.ensures.place.inside) c.index-child.ensures in
+    λ told. under_removal (g.P.Ground.geometry c.args.pages.now) (g.P.Ground.image c.args.pages.now) (g.P.Ground.image c.remove_among.new.pages) c.args.file_no c.args.key (c.args.level - 1) c.args.entries.now.items c.index-child.result.now c.in-Err-remove_among.fault child
+    (page_removal g.P.Ground c.args.pages.now c.entries_at.new.pages c.args.file_no (c.args.level - 1) (Some c.index-child.result.now.key) c.index-child.result.now.page.0 c.args.key c.in-Ok.below.items above c.entries_at.ensures.kept c.in-Ok.ensures.entries
+    (λ told_a. record { area = c.in-Ok.ensures.area; named = c.in-Ok.ensures.named told_a }) (g.P.Ground.image c.remove_among.new.pages) c.in-Err-remove_among.fault c.in-Err-remove_among.ensures.fault told)
+
+pub returns-in-Err-spread-clause-fault : goal.returns-in-Err-spread-clause-fault
+returns-in-Err-spread-clause-fault g t c =
+    let above : c.args.level - 1 ≢ 0 = λ none. omega (arith, c.requires.level, c.if-level-eq1.false) in
+    let place = c.place_of-at.ensures.is ∙ ap (place_in c.args.key) c.deref.ensures.value in
+    let inside : c.place_of-at.result < length c.args.entries.now.items = subst (λ (l : List Entry). c.place_of-at.result < length l) c.deref.ensures.value c.place_of-at.ensures.place.inside in
+    let beside = beside_at c.args.key c.args.entries.now.items c.place_of-at.result c.saturating_sub-first.result c.index.result.now c.index-2.result.now place (omega (arith, c.saturating_sub-first.ensures)) (omega (arith, c.saturating_sub-first.ensures, c.requires.some, inside)) c.index.ensures c.index-2.ensures in
+    λ told.
+    let told_b = g.P.Ground.leads_told c.args.pages.now c.entries_at.new.pages c.entries_at.ensures.kept.leads told in
+    let told_c = g.P.Ground.leads_told c.entries_at.new.pages c.remove_among.new.pages c.remove_among.ensures.leads told_b in
+    let leads = g.P.Ground.leads_trans c.args.pages.now c.entries_at.new.pages c.remove_among.new.pages c.entries_at.ensures.kept.leads c.remove_among.ensures.leads in
+    inr (inl (subst (λ (y : Geometry). IsEntryFault y (g.P.Ground.image c.spread.new.pages) c.args.file_no (c.args.level - 1) (beside_in c.args.key c.args.entries.now.items) c.in-Err-spread.fault) (g.P.Ground.leads_geometry c.args.pages.now c.remove_among.new.pages leads)
+    (subst (λ (e : Entry). IsEntryFault (g.P.Ground.geometry c.remove_among.new.pages) (g.P.Ground.image c.spread.new.pages) c.args.file_no (c.args.level - 1) e c.in-Err-spread.fault) beside
+    (entry_fault (g.P.Ground.geometry c.remove_among.new.pages) (g.P.Ground.image c.spread.new.pages) c.args.file_no (c.args.level - 1) (if c.place_of-at.result == 0 then c.index-2.result.now else c.index.result.now) c.in-Err-spread.fault above (c.in-Err-spread.ensures.fault told_c)))))

@@ -1,7 +1,9 @@
-use Rattle.std.proofs.Common.{◌≡◌, ◌-◌, suc, List, subst, arith}
+use Rattle.std.proofs.Common.{◌≡◌, ◌≢◌, None, inl, ◌-◌, suc, List, subst, arith}
 use Rattle.index_pages.specs.declared.Entry.{Entry}
 use Rattle.file_index.specs.Edits.{take_out}
 use Rattle.file_index.specs.Nodes.{IsWritten}
+use Rattle.file_index.proofs.Blame.{way_here}
+use Rattle.file_index.proofs.Ways.{page_way, page_removal, root_way, root_fault, root_removal}
 use Rattle.file_index.proofs.Tops.{row_top, same_top, written_top, lowered_top, single}
 use Rattle.file_index.proofs.removing.remove_below.Goals as goal
 
@@ -45,3 +47,37 @@ returns-clause-removes g c = λ told has.
     let becomes = c.in-Ok-true.ensures.removes told_b row in
     lowered_top g.P.Ground c.args.pages.now c.args.index.now c.args.root (c.args.index.now.level - 1) c.requires.root step has c.entries_at.new.pages c.in-Ok-entries_at.entries.items c.entries_at.ensures.kept read c.remove_among.new.pages (take_out c.args.key.0) c.remove_among.new.entries.items becomes c.give_page.new.self c.index.result.now
     (single c.remove_among.new.entries.items c.index.result.now (omega (arith, c.if-len-gt1.false, c.in-Ok-true.ensures.fewer, c.in-Ok-entries_at.ensures.few)) c.index.ensures) c.in_ok-give_page.ensures.given c.give_page.ensures.leads
+
+pub returns-in-Ok-false-clause-way : goal.returns-in-Ok-false-clause-way
+returns-in-Ok-false-clause-way g c =
+    let above : c.args.index.now.level ≢ 0 = λ none. omega (arith, c.requires.level) in
+    λ told. root_way (g.P.Ground.geometry c.args.pages.now) (g.P.Ground.image c.args.pages.now) c.args.index.now.file_no c.args.key.0 c.args.index.now.level c.args.index.now.root c.args.root c.requires.root
+    (page_way g.P.Ground c.args.pages.now c.entries_at.new.pages c.args.index.now.file_no c.args.index.now.level None c.args.root.0 c.args.key.0 c.in-Ok-entries_at.entries.items above c.entries_at.ensures.kept c.in-Ok-entries_at.ensures.entries
+    (λ told_a. record { area = c.in-Ok-entries_at.ensures.area; named = c.in-Ok-entries_at.ensures.named told_a }) c.in-Ok-false.ensures.way told)
+
+pub returns-then-len-gt1-clause-way : goal.returns-then-len-gt1-clause-way
+returns-then-len-gt1-clause-way g c =
+    let above : c.args.index.now.level ≢ 0 = λ none. omega (arith, c.requires.level) in
+    λ told. root_way (g.P.Ground.geometry c.args.pages.now) (g.P.Ground.image c.args.pages.now) c.args.index.now.file_no c.args.key.0 c.args.index.now.level c.args.index.now.root c.args.root c.requires.root
+    (page_way g.P.Ground c.args.pages.now c.entries_at.new.pages c.args.index.now.file_no c.args.index.now.level None c.args.root.0 c.args.key.0 c.in-Ok-entries_at.entries.items above c.entries_at.ensures.kept c.in-Ok-entries_at.ensures.entries
+    (λ told_a. record { area = c.in-Ok-entries_at.ensures.area; named = c.in-Ok-entries_at.ensures.named told_a }) c.in-Ok-true.ensures.way told)
+
+pub returns-clause-way : goal.returns-clause-way
+returns-clause-way g c =
+    let above : c.args.index.now.level ≢ 0 = λ none. omega (arith, c.requires.level) in
+    λ told. root_way (g.P.Ground.geometry c.args.pages.now) (g.P.Ground.image c.args.pages.now) c.args.index.now.file_no c.args.key.0 c.args.index.now.level c.args.index.now.root c.args.root c.requires.root
+    (page_way g.P.Ground c.args.pages.now c.entries_at.new.pages c.args.index.now.file_no c.args.index.now.level None c.args.root.0 c.args.key.0 c.in-Ok-entries_at.entries.items above c.entries_at.ensures.kept c.in-Ok-entries_at.ensures.entries
+    (λ told_a. record { area = c.in-Ok-entries_at.ensures.area; named = c.in-Ok-entries_at.ensures.named told_a }) c.in-Ok-true.ensures.way told)
+
+pub returns-in-Err-entries_at-clause-fault : goal.returns-in-Err-entries_at-clause-fault
+returns-in-Err-entries_at-clause-fault g c =
+    let above : c.args.index.now.level ≢ 0 = λ none. omega (arith, c.requires.level) in
+    λ told. inl (root_fault (g.P.Ground.geometry c.args.pages.now) (g.P.Ground.image c.args.pages.now) c.args.index.now.file_no c.args.key.0 c.args.index.now.level c.args.index.now.root c.args.root c.requires.root c.in-Err-entries_at.fault
+    (way_here (g.P.Ground.geometry c.args.pages.now) (g.P.Ground.image c.args.pages.now) c.args.index.now.file_no c.args.key.0 c.args.index.now.level None c.args.root.0 c.in-Err-entries_at.fault above (c.in-Err-entries_at.ensures.fault told)))
+
+pub returns-in-Err-remove_among-clause-fault : goal.returns-in-Err-remove_among-clause-fault
+returns-in-Err-remove_among-clause-fault g c =
+    let above : c.args.index.now.level ≢ 0 = λ none. omega (arith, c.requires.level) in
+    λ told. root_removal (g.P.Ground.geometry c.args.pages.now) (g.P.Ground.image c.args.pages.now) c.args.index.now.file_no c.args.key.0 c.args.index.now.level c.args.index.now.root c.args.root c.requires.root (g.P.Ground.image c.remove_among.new.pages) c.in-Err-remove_among.fault
+    (page_removal g.P.Ground c.args.pages.now c.entries_at.new.pages c.args.index.now.file_no c.args.index.now.level None c.args.root.0 c.args.key.0 c.in-Ok-entries_at.entries.items above c.entries_at.ensures.kept c.in-Ok-entries_at.ensures.entries
+    (λ told_a. record { area = c.in-Ok-entries_at.ensures.area; named = c.in-Ok-entries_at.ensures.named told_a }) (g.P.Ground.image c.remove_among.new.pages) c.in-Err-remove_among.fault c.in-Err-remove_among.ensures.fault told)

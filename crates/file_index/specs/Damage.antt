@@ -1,0 +1,157 @@
+-- What a fault says of an index page that isn't what names it, and which pages the way to a key leads through.
+use Rattle.std.specs.Prelude.{◌≡◌, ◌≢◌, ◌⊎◌, ◌≤◌, ℕ, zero, suc, List, [], ◌∷◌, length, Option, Some, None, nat_lt, if◌then◌else◌, slice_index_or, ⊤}
+use Rattle.ex_base.specs.declared.faults.Seen.{Seen}
+use Rattle.ex_base.specs.declared.faults.PortFault.{PortFault}
+use Rattle.ex_base.specs.declared.faults.PortFault.TheVariants.{Disk, Memory, Damaged}
+use Rattle.ex_base.specs.declared.geometry.Geometry.{Geometry}
+use Rattle.ex_base.specs.declared.names.PageNo.{PageNo}
+use Rattle.ex_base.specs.Ports.{IsDamage}
+use Rattle.index_pages.specs.declared.Entry.{Entry}
+use Rattle.index_pages.specs.IndexPage.{EntriesOf, level_on, entries_on}
+use Rattle.file_index.specs.declared.Index.{Index}
+use Rattle.file_index.specs.Index.{IsFilesPage, IsNamed, least_entries, seen, key_seen}
+use Rattle.file_index.specs.Least.{page_no, pick}
+use Rattle.file_index.specs.Nodes.{first_key}
+
+-- a page that isn't read, or that isn't what it should be
+abbrev pub nothing_seen : Seen
+nothing_seen = record { kind = 0; level = 0; total = 0 }
+
+-- what an index page shows to what names it: its level and its least key, 0 where a root is named
+abbrev pub shown_on : List ℕ → Option ℕ → Seen
+shown_on bytes least = seen (level_on bytes) (key_seen least (first_key (entries_on bytes)))
+
+-- The bytes are those of an index page of the file, with a number of entries that is allowed.
+pub record IsOfIndex (size : ℕ) (bytes : List ℕ) (file_no : ℕ) (least : Option ℕ) : Type 0 where
+  pub spelled : EntriesOf bytes (level_on bytes) file_no (entries_on bytes)
+  pub enough : least_entries size least ≤ length (entries_on bytes)
+
+-- What is seen of a page with these bytes, where it isn't the index page of this level, file and least key. It lies where no page of a file lies, and
+-- isn't read; or it is outside the grammar, of another file, or has a number of entries that isn't allowed; or it is another one of the file.
+pub data IsMisread (g : Geometry) (bytes : List ℕ) (level file_no : ℕ) (least : Option ℕ) (page : ℕ) (got : Seen) : Type 0 where
+  elsewhere : (IsFilesPage g page → ⊥) → got ≡ nothing_seen → IsMisread g bytes level file_no least page got
+  outside : IsFilesPage g page → (IsOfIndex g.page_size bytes file_no least → ⊥) → got ≡ nothing_seen → IsMisread g bytes level file_no least page got
+  other : IsFilesPage g page → IsOfIndex g.page_size bytes file_no least → got ≡ shown_on bytes least → got ≢ seen level least → IsMisread g bytes level file_no least page got
+
+-- the fault is the port's own, or tells that this page with these bytes isn't the index page that names it
+abbrev pub IsPageFault : Geometry → List ℕ → ℕ → ℕ → Option ℕ → ℕ → PortFault → Type 0
+IsPageFault g bytes level file_no least page Disk = ⊤
+IsPageFault g bytes level file_no least page Memory = ⊤
+IsPageFault g bytes level file_no least page (Damaged at want got) = (at.0 ≡ page) × (want ≡ seen level least) × IsMisread g bytes level file_no least page got
+
+-- The page is the index page that names it: it lies where a page of a file may lie, and is of this level, file and least key.
+pub record IsNamedAt (g : Geometry) (image : ℕ → List ℕ) (level file_no : ℕ) (least : Option ℕ) (page : ℕ) : Type 0 where
+  pub area : IsFilesPage g page
+  pub named : IsNamed g.page_size (image page) level file_no least
+
+-- ---- the way to a key
+
+-- the place of the entry that a key leads to: of the last one whose key is not above the key, else of the first one
+abbrev pub place_in : ℕ → List Entry → ℕ
+place_in key [] = 0
+place_in key (entry ∷ []) = 0
+place_in key (entry ∷ after ∷ entries) = if nat_lt key after.key then 0 else suc (place_in key (after ∷ entries))
+
+abbrev pub no_entry : Entry
+no_entry = record { key = 0; page = page_no 0 }
+
+-- the entry at a place
+abbrev pub entry_in : List Entry → ℕ → Entry
+entry_in entries at = slice_index_or entries at no_entry
+
+-- the entry that a key leads to
+abbrev pub child_in : ℕ → List Entry → Entry
+child_in key entries = entry_in entries (place_in key entries)
+
+-- Each index page on the way to a key, from a page of a level down, is what names it.
+abbrev pub IsWay : Geometry → (ℕ → List ℕ) → ℕ → ℕ → ℕ → Option ℕ → ℕ → Type 0
+IsWay g image file_no key zero least page = Unit {0}
+IsWay g image file_no key (suc level) least page =
+    IsNamedAt g image (suc level) file_no least page
+    × IsWay g image file_no key level (Some (child_in key (entries_on (image page))).key) (child_in key (entries_on (image page))).page.0
+
+-- The fault is the port's own, or tells of an index page on the way to a key, below pages that are what names them.
+abbrev pub IsWayFault : Geometry → (ℕ → List ℕ) → ℕ → ℕ → ℕ → Option ℕ → ℕ → PortFault → Type 0
+IsWayFault g image file_no key level least page Disk = ⊤
+IsWayFault g image file_no key level least page Memory = ⊤
+IsWayFault g image file_no key zero least page (Damaged at want got) = ⊥
+IsWayFault g image file_no key (suc level) least page (Damaged at want got) =
+    IsPageFault g (image page) (suc level) file_no least page (Damaged at want got)
+    ⊎ (IsNamedAt g image (suc level) file_no least page
+    × IsWayFault g image file_no key level (Some (child_in key (entries_on (image page))).key) (child_in key (entries_on (image page))).page.0 (Damaged at want got))
+
+-- the same from the entries of an index page on, which name pages of a level
+abbrev pub IsWayUnder : Geometry → (ℕ → List ℕ) → ℕ → ℕ → ℕ → List Entry → Type 0
+IsWayUnder g image file_no key level entries = IsWay g image file_no key level (Some (child_in key entries).key) (child_in key entries).page.0
+
+abbrev pub IsFaultUnder : Geometry → (ℕ → List ℕ) → ℕ → ℕ → ℕ → List Entry → PortFault → Type 0
+IsFaultUnder g image file_no key level entries fault = IsWayFault g image file_no key level (Some (child_in key entries).key) (child_in key entries).page.0 fault
+
+-- the same from the root of an index on, where it has one
+abbrev pub IsWayFrom : Geometry → (ℕ → List ℕ) → ℕ → ℕ → ℕ → Option PageNo → Type 0
+IsWayFrom g image file_no key level None = Unit {0}
+IsWayFrom g image file_no key level (Some page) = IsWay g image file_no key level None page.0
+
+abbrev pub IsFaultFrom : Geometry → (ℕ → List ℕ) → ℕ → ℕ → ℕ → Option PageNo → PortFault → Type 0
+IsFaultFrom g image file_no key level None fault = ¬ IsDamage fault
+IsFaultFrom g image file_no key level (Some page) fault = IsWayFault g image file_no key level None page.0 fault
+
+abbrev pub HasWay : Geometry → (ℕ → List ℕ) → Index → ℕ → Type 0
+HasWay g image index key = IsWayFrom g image index.file_no key index.level index.root
+
+abbrev pub IsIndexFault : Geometry → (ℕ → List ℕ) → Index → ℕ → PortFault → Type 0
+IsIndexFault g image index key fault = IsFaultFrom g image index.file_no key index.level index.root fault
+
+-- ---- what the way finds
+
+-- the page at the end of the way to a key where it isn't below the key, else the page behind all that the way leads to
+abbrev pub found_under : (ℕ → List ℕ) → ℕ → ℕ → ℕ → Option PageNo → Option PageNo
+found_under image key zero page next = if nat_lt page key then next else Some (page_no page)
+found_under image key (suc level) page next = found_under image key level (pick (entries_on (image page)) key next).child.page.0 (pick (entries_on (image page)) key next).next
+
+abbrev pub found_from : (ℕ → List ℕ) → ℕ → ℕ → Option PageNo → Option PageNo
+found_from image key level None = None
+found_from image key level (Some page) = found_under image key level page.0 None
+
+-- the page that an index names as its least one from a key on
+abbrev pub found_in : (ℕ → List ℕ) → Index → ℕ → Option PageNo
+found_in image index key = found_from image key index.level index.root
+
+-- ---- beside the way
+
+-- the place beside a place: the one before it, beside the first one the second
+abbrev pub place_beside : ℕ → ℕ
+place_beside zero = 1
+place_beside (suc at) = at
+
+-- the entry beside the one that a key leads to
+abbrev pub beside_in : ℕ → List Entry → Entry
+beside_in key entries = entry_in entries (place_beside (place_in key entries))
+
+-- The fault tells that the index page which an entry names isn't what the entry says; at level 0 there is none.
+abbrev pub IsEntryFault : Geometry → (ℕ → List ℕ) → ℕ → ℕ → Entry → PortFault → Type 0
+IsEntryFault g image file_no zero entry fault = ⊥
+IsEntryFault g image file_no (suc level) entry fault = IsPageFault g (image entry.page.0) (suc level) file_no (Some entry.key) entry.page.0 fault
+
+-- The fault tells of an index page that stands beside one on the way to a key, as it is when it is read (`now`), below pages that are what names them.
+abbrev pub IsBesideFault : Geometry → (ℕ → List ℕ) → (ℕ → List ℕ) → ℕ → ℕ → ℕ → Option ℕ → ℕ → PortFault → Type 0
+IsBesideFault g image now file_no key zero least page fault = ⊥
+IsBesideFault g image now file_no key (suc level) least page fault =
+    IsNamedAt g image (suc level) file_no least page
+    × (IsEntryFault g now file_no level (beside_in key (entries_on (image page))) fault
+    ⊎ IsBesideFault g image now file_no key level (Some (child_in key (entries_on (image page))).key) (child_in key (entries_on (image page))).page.0 fault)
+
+-- the same from the entries of an index page on
+abbrev pub IsBesideUnder : Geometry → (ℕ → List ℕ) → (ℕ → List ℕ) → ℕ → ℕ → ℕ → List Entry → PortFault → Type 0
+IsBesideUnder g image now file_no key level entries fault =
+    IsEntryFault g now file_no level (beside_in key entries) fault
+    ⊎ IsBesideFault g image now file_no key level (Some (child_in key entries).key) (child_in key entries).page.0 fault
+
+-- the same from the root of an index on
+abbrev pub IsBesideFrom : Geometry → (ℕ → List ℕ) → (ℕ → List ℕ) → ℕ → ℕ → ℕ → Option PageNo → PortFault → Type 0
+IsBesideFrom g image now file_no key level None fault = ⊥
+IsBesideFrom g image now file_no key level (Some page) fault = IsBesideFault g image now file_no key level None page.0 fault
+
+-- What a removal tells: a fault on the way to the key, or of a page beside it. A page beside the way is read only once the pages below it are written.
+abbrev pub IsRemovalFault : Geometry → (ℕ → List ℕ) → (ℕ → List ℕ) → Index → ℕ → PortFault → Type 0
+IsRemovalFault g image now index key fault = IsIndexFault g image index key fault ⊎ IsBesideFrom g image now index.file_no key index.level index.root fault
