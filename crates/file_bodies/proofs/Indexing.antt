@@ -11,7 +11,7 @@ use Rattle.slotted_pages.specs.FilePage.{FilePage, SlotsOf}
 use Rattle.slotted_pages.specs.Edits.{slots_of}
 use Rattle.file_index.specs.declared.Index.{Index}
 use Rattle.file_index.specs.Changes.{Changes, count_of}
-use Rattle.file_index.specs.Index.{IsFilesPage, IsIndex, pages_of}
+use Rattle.file_index.specs.Index.{IsFilesPage, HasPlacedRoot, IsIndex, pages_of}
 use Rattle.file_index.specs.Edits.{HasIndex, EditsIndex, put_in}
 use Rattle.file_index.proofs.Counts.{times-append, count_most, count_is, is_counted, take_changes, changes_trans, changes_more, times_apart, same_or_not}
 use Rattle.object_files.specs.Catalog.{Catalog, CatalogOf}
@@ -20,7 +20,7 @@ use Rattle.object_files.specs.Edits.{IsCatalogPage}
 use Rattle.object_files.proofs.CatalogLaws.{catalog_read}
 use Rattle.file_bodies.specs.Bodies.{Row, place_at, bodies_on, bodies_of, bodies_from, pages_in, EditsRow}
 use Rattle.file_bodies.specs.Files.{index_in, index_at, with_index, IsPageOf, HasFile, EditsFile, all_pages}
-use Rattle.file_bodies.specs.Indexes.{HasPlacedRoot, SetsIndex}
+use Rattle.file_bodies.specs.Indexes.{SetsIndex}
 use Rattle.file_bodies.proofs.Entries.{is_catalog, in_indexed}
 use Rattle.file_bodies.proofs.Pages.{is_page, number_is, slots_are}
 use Rattle.file_bodies.proofs.Moving.{Moved, moved, lies, index_apart, once_of, has_index}

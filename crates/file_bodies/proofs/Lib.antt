@@ -1,3 +1,4 @@
+pub mod Blame
 pub mod Pages
 pub mod Entries
 pub mod Rows

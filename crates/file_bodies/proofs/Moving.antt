@@ -104,6 +104,17 @@ module _ {S : Type 0} (g : ground.Ghosts S) where
     others = subst (λ (f : ℕ → List ℕ). (page : ℕ) → page ≢ place.page.0 → Contains (pages_in (g.image c) after) page → Contains (pages_in f before) page × (g.image c page ≡ f page)) kept.images e.others;
   }
 
+  pub kept_put : (a b c : S) (page : ℕ) (content : List ℕ) → Keeps g a b → PutsImage g b c page content → PutsImage g a c page content
+  kept_put a b c page content kept put = record {
+    image = λ told. put.image (g.leads_told a b kept.leads told);
+    images = λ p differ. put.images p differ ∙ ap (λ (f : ℕ → List ℕ). f p) kept.images;
+    units = put.units ∙ kept.units;
+    used = put.used ∙ kept.used;
+    refs = put.refs ∙ kept.refs;
+    held = put.held ∙ kept.held;
+    free = put.free ∙ kept.free;
+  }
+
   -- ---- one page of the file is written
 
   module _ (a b : S) (index : Index) (p : ℕ) (content : List ℕ) (file : HasFile g a index) (named : 1 ≤ times p (pages_in (g.image a) index)) (put : PutsImage g a b p content) (told : g.tells a) (leads : g.leads a b) where

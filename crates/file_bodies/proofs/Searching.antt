@@ -14,6 +14,7 @@ use Rattle.file_bodies.specs.Bodies.{pages_in}
 use Rattle.file_bodies.specs.Files.{HasFile, IsPageOf}
 use Rattle.file_bodies.specs.Places.{slot_for, NoRoom}
 use Rattle.file_bodies.specs.Placing.{NoneFrom}
+use Rattle.file_bodies.specs.Damage.{IsLook}
 use Rattle.file_bodies.proofs.Moving.{kept_file}
 use Rattle.file_bodies.proofs.Following.{page_sound}
 
@@ -58,9 +59,10 @@ module _ {S : Type 0} (g : ground.Ghosts S) where
     pub kept : Keeps g start now
     pub reached : from ≤ key
     pub passed : g.tells start → HasFile g start index → NoRoom g start index len from key
+    pub looked : g.tells start → (end : Option PageNo) → IsLook (g.geometry start) (g.image start) index key end → IsLook (g.geometry start) (g.image start) index from end
 
   pub search_starts : (a : S) (index : Index) (len from : ℕ) → SearchedTo a a index len from from
-  search_starts a index len from = record { kept = keeps_refl a; reached = omega arith; passed = λ told file page named low high. absurd (omega arith) }
+  search_starts a index len from = record { kept = keeps_refl a; reached = omega arith; passed = λ told file page named low high. absurd (omega arith); looked = λ told end more. more }
 
   module _ (a b : S) (index : Index) (len from key : ℕ) (to : SearchedTo a b index len from key) (told : g.tells a) (file : HasFile g a index) where
     pub file_now : HasFile g b index

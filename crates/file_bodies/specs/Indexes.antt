@@ -1,12 +1,10 @@
 -- An index as the catalog may hold it.
-use Rattle.std.specs.Prelude.{◌≡◌, ◌≤◌, ◌∷◌, [], ℕ, Option, Some, None}
-use Rattle.ex_base.specs.declared.geometry.Geometry.{Geometry}
+use Rattle.std.specs.Prelude.{◌≡◌, ◌≤◌, ◌∷◌, [], ℕ}
 use Rattle.ex_base.specs.declared.ground.Ground as ground
-use Rattle.ex_base.specs.declared.names.PageNo.{PageNo}
 use Rattle.ex_base.specs.Area.{catalog_no}
 use Rattle.file_index.specs.declared.Index.{Index}
 use Rattle.file_index.specs.Changes.{Changes}
-use Rattle.file_index.specs.Index.{HasRoot, IsFilesPage}
+use Rattle.file_index.specs.Index.{HasRoot}
 use Rattle.object_files.specs.Catalog.{CatalogOf}
 use Rattle.object_files.specs.Reads.{catalog_on}
 use Rattle.file_bodies.specs.Files.{with_index}
@@ -16,11 +14,6 @@ pub record IsUsable (file_no : ℕ) (index : Index) : Type 0 where
   pub same_file : index.file_no ≡ file_no
   pub level : index.level ≤ 5
   pub root : HasRoot index.level index.root
-
--- the root, where there is one, may be a page of a file
-abbrev pub HasPlacedRoot : Geometry → Option PageNo → Type 0
-HasPlacedRoot g None = Unit {0}
-HasPlacedRoot g (Some page) = IsFilesPage g page.0
 
 -- The catalog gets an index in the entry of its file, and no other page changes.
 pub record SetsIndex {S : Type 0} (g : ground.Ghosts S) (old new : S) (index : Index) : Type 0 where

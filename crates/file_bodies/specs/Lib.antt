@@ -1,4 +1,5 @@
 pub mod Bodies
+pub mod Damage
 pub mod Files
 pub mod Indexes
 pub mod Places

@@ -3,12 +3,16 @@ ghost use Rattle.std.specs.Prelude.{◌≡◌, ◌≤◌, ◌<◌, ◌∷◌, []
 ghost use Rattle.ex_base.specs.Area.{catalog_no};
 ghost use Rattle.ex_base.specs.Ports.{Keeps, Cause, HasCause, IsDamage};
 ghost use Rattle.file_index.specs.Changes.{Changes};
-ghost use Rattle.file_index.specs.Index.{HasRoot, IsFilesPage};
+ghost use Rattle.ex_base.specs.declared.geometry.Geometry.{Geometry};
+ghost use Rattle.ex_base.specs.declared.faults.PortFault.TheVariants.{Damaged};
+ghost use Rattle.file_index.specs.Index.{HasRoot, HasPlacedRoot, IsFilesPage};
+ghost use Rattle.file_index.specs.Damage.{nothing_seen};
 ghost use Rattle.object_files.specs.Catalog.{CatalogOf};
 ghost use Rattle.object_files.specs.Reads.{catalog_on};
 ghost use Rattle.object_files.specs.Edits.{IsCatalogPage, numbers_on};
 ghost use Rattle.file_bodies.specs.Files.{index_in, index_at, with_index};
-ghost use Rattle.file_bodies.specs.Indexes.{IsUsable, HasPlacedRoot, SetsIndex};
+ghost use Rattle.file_bodies.specs.Indexes.{IsUsable, SetsIndex};
+ghost use Rattle.file_bodies.specs.Damage.{catalog_seen, root_seen, ListsFile, IsCatalogFault, IsFileFault, IsRootFault};
 
 use crate::page::page_seen;
 use crate::{CATALOG, CATALOG_SEEN, INDEX_SEEN, UNKNOWN_SEEN};
@@ -19,7 +23,7 @@ use std::alloc::Global;
 
 /// What a page shows that is not what it should be.
 pub fn unknown() -> Seen
-    ensures { result.kind ≡ 0 }
+    ensures { result ≡ nothing_seen }
 {
     Seen {
         kind: UNKNOWN_SEEN,
@@ -30,6 +34,7 @@ pub fn unknown() -> Seen
 
 /// The fault of a catalog that is outside of its grammar or has no file with the number.
 pub fn no_catalog() -> PortFault
+    ensures is { result ≡ Damaged (record { 0 = catalog_no }) catalog_seen nothing_seen }
     ensures damage { IsDamage result }
     ensures cause { (before now : ℕ) → Cause before now result }
 {
@@ -71,6 +76,8 @@ pub fn find_index<P: Pages>(
     ensures found { IfOk result (λ found. P.tells pages.old → found ≡ index_at (P.image pages.old) file_no) }
     ensures usable { IfOk result (λ found. IfSome found (IsUsable file_no)) }
     ensures sound { IfErr result (λ fault. IsDamage fault → P.tells pages.old → IsCatalogPage (P.image pages.old catalog_no) → ⊥) }
+    ensures fault { IfErr result (λ fault. P.tells pages.old → IsCatalogFault (P.image pages.old catalog_no) fault) }
+    ensures whole { OnOk result (P.tells pages.old → IsCatalogPage (P.image pages.old catalog_no)) }
     ensures kept { Keeps P.Ground pages.old pages.new }
     ensures cause { HasCause (P.faults pages.old) (P.faults pages.new) result }
 {
@@ -87,6 +94,8 @@ pub fn index_of<P: Pages>(pages: &mut P, alloc: Global, file_no: u32) -> Result<
     ensures found { IfOk result (λ index. P.tells pages.old → index_at (P.image pages.old) file_no ≡ Some index) }
     ensures usable { IfOk result (IsUsable file_no) }
     ensures sound { IfErr result (λ fault. IsDamage fault → P.tells pages.old → IsCatalogPage (P.image pages.old catalog_no) → (index : Index) → index_at (P.image pages.old) file_no ≡ Some index → ⊥) }
+    ensures fault { IfErr result (λ fault. P.tells pages.old → IsFileFault (P.image pages.old catalog_no) file_no fault) }
+    ensures lists { IfOk result (λ index. P.tells pages.old → ListsFile (P.image pages.old catalog_no) file_no index) }
     ensures kept { Keeps P.Ground pages.old pages.new }
     ensures cause { HasCause (P.faults pages.old) (P.faults pages.new) result }
 {
@@ -110,7 +119,7 @@ fn has_file(page: &[u8], file_no: u32) -> bool
 }
 
 /// Whether the root of an index, where it has one, may be a page of a file.
-fn has_placed_root<P: Pages>(pages: &P, index: &Index) -> bool
+pub fn has_placed_root<P: Pages>(pages: &P, index: &Index) -> bool
     requires { P.ready pages.now }
     ensures placed { IsTrue result → HasPlacedRoot (P.geometry pages.now) index.now.root }
     ensures other { result ≡ false → HasPlacedRoot (P.geometry pages.now) index.now.root → ⊥ }
@@ -123,7 +132,7 @@ fn has_placed_root<P: Pages>(pages: &P, index: &Index) -> bool
 
 /// What the root of an index shows: it is an index page, at level 0 a page of the file.
 fn root_seen(index: &Index) -> Seen
-    ensures { 1 ≤ result.kind }
+    ensures { result ≡ root_seen index.now.level index.now.file_no }
 {
     if index.level == 0 {
         return page_seen(index.file_no);
@@ -136,7 +145,8 @@ fn root_seen(index: &Index) -> Seen
 }
 
 /// The fault of an index whose root lies where no page of a file lies.
-fn no_root(index: &Index) -> PortFault
+pub fn no_root(index: &Index) -> PortFault
+    ensures fault { (g : Geometry) → (HasPlacedRoot g index.now.root → ⊥) → IsRootFault g index.now result }
     ensures damage { IsDamage result }
     ensures cause { (before now : ℕ) → Cause before now result }
 {
@@ -156,17 +166,16 @@ fn write_index<P: Pages>(
 ) -> Result<(), PortFault>
     requires ready { P.ready pages.old }
     requires usable { IsUsable index.now.file_no index.now }
+    requires placed { HasPlacedRoot (P.geometry pages.old) index.now.root }
     requires buffer { length buffer.old ≡ (P.geometry pages.old).page_size }
     ensures sets { OnOk result (P.tells pages.old → SetsIndex P.Ground pages.old pages.new index.now) }
     ensures free { OnOk result (P.free pages.new ≡ P.free pages.old) }
     ensures sound { IfErr result (λ fault. IsDamage fault → P.tells pages.old → HasPlacedRoot (P.geometry pages.old) index.now.root → IsCatalogPage (P.image pages.old catalog_no)
         → (was : Index) → index_at (P.image pages.old) index.now.file_no ≡ Some was → ⊥) }
+    ensures fault { IfErr result (λ fault. P.tells pages.old → IsFileFault (P.image pages.old catalog_no) index.now.file_no fault) }
     ensures leads { P.leads pages.old pages.new }
     ensures cause { HasCause (P.faults pages.old) (P.faults pages.new) result }
 {
-    if !has_placed_root(pages, index) {
-        return Err(no_root(index));
-    }
     buffer.copy_from_slice(pages.get(alloc, CATALOG)?);
     if !has_file(buffer, index.file_no) {
         return Err(no_catalog());
@@ -185,11 +194,13 @@ pub fn change_index<P: Pages>(
 ) -> Result<(), PortFault>
     requires ready { P.ready pages.old }
     requires usable { IsUsable old.now.file_no new.now }
+    requires placed { HasPlacedRoot (P.geometry pages.old) new.now.root }
     requires buffer { length buffer.old ≡ (P.geometry pages.old).page_size }
     ensures sets { OnOk result (P.tells pages.old → IsCatalogPage (P.image pages.old catalog_no) → index_at (P.image pages.old) old.now.file_no ≡ Some old.now → SetsIndex P.Ground pages.old pages.new new.now) }
     ensures free { OnOk result (P.free pages.new ≡ P.free pages.old) }
     ensures sound { IfErr result (λ fault. IsDamage fault → P.tells pages.old → HasPlacedRoot (P.geometry pages.old) new.now.root → IsCatalogPage (P.image pages.old catalog_no)
         → index_at (P.image pages.old) old.now.file_no ≡ Some old.now → ⊥) }
+    ensures fault { IfErr result (λ fault. P.tells pages.old → IsFileFault (P.image pages.old catalog_no) old.now.file_no fault) }
     ensures leads { P.leads pages.old pages.new }
     ensures cause { HasCause (P.faults pages.old) (P.faults pages.new) result }
 {

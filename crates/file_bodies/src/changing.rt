@@ -1,10 +1,11 @@
 //! A body that is changed in its place.
-ghost use Rattle.std.specs.Prelude.{◌≡◌, ◌≤◌, ◌+◌, ◌↔◌, ℕ, List, length, IfOk, IfErr, IsTrue, IsFalse, Some};
-ghost use Rattle.ex_base.specs.Ports.{Keeps, HasCause, IsDamage};
+ghost use Rattle.std.specs.Prelude.{◌≡◌, ◌≤◌, ◌+◌, ◌↔◌, ℕ, List, length, IfOk, IfErr, OnOk, IsTrue, IsFalse, Some};
+ghost use Rattle.ex_base.specs.Ports.{Keeps, HasCause, IsDamage, PutsImage};
 ghost use Rattle.slotted_pages.specs.FilePage.{room_of};
 ghost use Rattle.slotted_pages.specs.Edits.{slots_of};
 ghost use Rattle.file_index.specs.declared.Index.{Index};
 ghost use Rattle.file_bodies.specs.Files.{HasBody, EditsFile};
+ghost use Rattle.file_bodies.specs.Damage.{HasRecordAt, IsPlaceFault};
 
 use crate::page::{load_body_page, page_buffer};
 use ex_base::{Pages, Place, PortFault};
@@ -26,9 +27,13 @@ fn change_on_page<P: Pages>(
         → IsTrue done ↔ (length body.now ≤ length was + room_of (P.geometry pages.old).page_size (slots_of (P.image pages.old place.page.0)))) }
     ensures changed { IfOk result (λ done. IsTrue done → P.tells pages.old → (index : Index) → (was : List ℕ) → HasBody P.Ground pages.old index place was
         → EditsFile P.Ground pages.old pages.new index index place (Some was) (Some body.now)) }
+    ensures len { OnOk result (P.tells pages.old → length (P.image pages.old place.page.0) ≡ (P.geometry pages.old).page_size) }
+    ensures put { IfOk result (λ done. IsTrue done → (content : List ℕ) × PutsImage P.Ground pages.old pages.new place.page.0 content) }
     ensures kept { IfOk result (λ done. IsFalse done → Keeps P.Ground pages.old pages.new) }
     ensures free { IfOk result (λ done. P.free pages.new ≡ P.free pages.old) }
     ensures sound { IfErr result (λ fault. IsDamage fault → P.tells pages.old → (index : Index) → (was : List ℕ) → HasBody P.Ground pages.old index place was → ⊥) }
+    ensures fault { IfErr result (λ fault. P.tells pages.old → IsPlaceFault (P.geometry pages.old) (P.image pages.old place.page.0) place fault) }
+    ensures has { OnOk result (P.tells pages.old → HasRecordAt (P.geometry pages.old) (P.image pages.old place.page.0) place) }
     ensures leads { P.leads pages.old pages.new }
     ensures cause { HasCause (P.faults pages.old) (P.faults pages.new) result }
 {
@@ -58,9 +63,13 @@ pub fn change_body<P: Pages>(
         → IsTrue done ↔ (length body.now ≤ length was + room_of (P.geometry pages.old).page_size (slots_of (P.image pages.old place.page.0)))) }
     ensures changed { IfOk result (λ done. IsTrue done → P.tells pages.old → (index : Index) → (was : List ℕ) → HasBody P.Ground pages.old index place was
         → EditsFile P.Ground pages.old pages.new index index place (Some was) (Some body.now)) }
+    ensures len { OnOk result (P.tells pages.old → length (P.image pages.old place.page.0) ≡ (P.geometry pages.old).page_size) }
+    ensures put { IfOk result (λ done. IsTrue done → (content : List ℕ) × PutsImage P.Ground pages.old pages.new place.page.0 content) }
     ensures kept { IfOk result (λ done. IsFalse done → Keeps P.Ground pages.old pages.new) }
     ensures free { IfOk result (λ done. P.free pages.new ≡ P.free pages.old) }
     ensures sound { IfErr result (λ fault. IsDamage fault → P.tells pages.old → (index : Index) → (was : List ℕ) → HasBody P.Ground pages.old index place was → ⊥) }
+    ensures fault { IfErr result (λ fault. P.tells pages.old → IsPlaceFault (P.geometry pages.old) (P.image pages.old place.page.0) place fault) }
+    ensures has { OnOk result (P.tells pages.old → HasRecordAt (P.geometry pages.old) (P.image pages.old place.page.0) place) }
     ensures leads { P.leads pages.old pages.new }
     ensures cause { HasCause (P.faults pages.old) (P.faults pages.new) result }
 {

@@ -7,6 +7,10 @@ ghost use Rattle.slotted_pages.specs.Reads.{page_on, viewed_on, IsPage};
 ghost use Rattle.slotted_pages.specs.Edits.{slots_of};
 ghost use Rattle.file_bodies.specs.Places.{IsFirstLive};
 ghost use Rattle.file_bodies.specs.Files.{IsPageOf, IsLive};
+ghost use Rattle.ex_base.specs.declared.geometry.Geometry.{Geometry};
+ghost use Rattle.ex_base.specs.declared.faults.PortFault.TheVariants.{Damaged};
+ghost use Rattle.file_index.specs.Damage.{nothing_seen};
+ghost use Rattle.file_bodies.specs.Damage.{page_seen, record_seen, HasRecordAt, IsFilePageFault, IsPlaceFault};
 
 use crate::catalog::unknown;
 use crate::{CATALOG, FILE_PAGE_SEEN, RECORD_SEEN};
@@ -29,7 +33,7 @@ pub fn page_buffer<P: Pages>(pages: &P, alloc: Global) -> Result<Vec<u8>, PortFa
 
 /// What a page of a file shows.
 pub fn page_seen(file_no: u32) -> Seen
-    ensures { result ≡ record { kind = 3; level = 0; total = file_no } }
+    ensures { result ≡ page_seen file_no }
 {
     Seen {
         kind: FILE_PAGE_SEEN,
@@ -40,6 +44,7 @@ pub fn page_seen(file_no: u32) -> Seen
 
 /// The fault of a page that is no page of a file with bodies.
 fn no_page(page: PageNo, file_no: u32) -> PortFault
+    ensures is { result ≡ Damaged page (page_seen file_no) nothing_seen }
     ensures damage { IsDamage result }
     ensures cause { (before now : ℕ) → Cause before now result }
 {
@@ -52,6 +57,7 @@ fn no_page(page: PageNo, file_no: u32) -> PortFault
 
 /// The fault of a place without a body.
 fn no_body(place: Place) -> PortFault
+    ensures is { result ≡ Damaged place.page (record_seen place.slot) nothing_seen }
     ensures damage { IsDamage result }
     ensures cause { (before now : ℕ) → Cause before now result }
 {
@@ -71,6 +77,7 @@ fn page_checked(bytes: &[u8], page: PageNo, file_no: u32) -> Result<SlottedView<
     ensures ok { OnOk result (IsPageOf file_no bytes.now) }
     ensures view { IfOk result (λ view. view ≡ viewed_on bytes.now) }
     ensures err { IfErr result (λ fault. IsPageOf file_no bytes.now → ⊥) }
+    ensures fault { IfErr result (λ fault. (g : Geometry) → IsFilesPage g page.0 → IsFilePageFault g bytes.now file_no page.0 fault) }
     ensures cause { (before now : ℕ) → HasCause before now result }
 {
     let Some(view) = SlottedView::of(bytes) else {
@@ -113,6 +120,8 @@ pub fn load_page<P: Pages>(
     ensures of { OnOk result (IsPageOf file_no out.new) }
     ensures area { OnOk result (IsFilesPage (P.geometry pages.old) page.0) }
     ensures sound { IfErr result (λ fault. IsDamage fault → P.tells pages.old → IsFilesPage (P.geometry pages.old) page.0 → IsPageOf file_no (P.image pages.old page.0) → ⊥) }
+    ensures fault { IfErr result (λ fault. P.tells pages.old → IsFilePageFault (P.geometry pages.old) (P.image pages.old page.0) file_no page.0 fault) }
+    ensures page { OnOk result (P.tells pages.old → IsPageOf file_no (P.image pages.old page.0)) }
     ensures kept { Keeps P.Ground pages.old pages.new }
     ensures cause { HasCause (P.faults pages.old) (P.faults pages.new) result }
 {
@@ -132,6 +141,7 @@ fn body_checked(bytes: &[u8], place: Place) -> Result<u32, PortFault>
     ensures file { IfOk result (λ file_no. (page_on bytes.now).file_no ≡ file_no) }
     ensures live { OnOk result (IsLive bytes.now place.slot) }
     ensures err { IfErr result (λ fault. IsPage bytes.now → IsLive bytes.now place.slot → ⊥) }
+    ensures fault { IfErr result (λ fault. (g : Geometry) → IsPlaceFault g bytes.now place fault) }
     ensures damage { (before now : ℕ) → HasCause before now result }
 {
     let Some(view) = SlottedView::of(bytes) else {
@@ -158,6 +168,8 @@ pub fn load_body_page<P: Pages>(
     ensures live { OnOk result (IsLive out.new place.slot) }
     ensures area { OnOk result (IsFilesPage (P.geometry pages.old) place.page.0) }
     ensures sound { IfErr result (λ fault. IsDamage fault → P.tells pages.old → IsFilesPage (P.geometry pages.old) place.page.0 → IsPage (P.image pages.old place.page.0) → IsLive (P.image pages.old place.page.0) place.slot → ⊥) }
+    ensures fault { IfErr result (λ fault. P.tells pages.old → IsPlaceFault (P.geometry pages.old) (P.image pages.old place.page.0) place fault) }
+    ensures has { OnOk result (P.tells pages.old → HasRecordAt (P.geometry pages.old) (P.image pages.old place.page.0) place) }
     ensures kept { Keeps P.Ground pages.old pages.new }
     ensures cause { HasCause (P.faults pages.old) (P.faults pages.new) result }
 {
@@ -194,6 +206,8 @@ pub fn live_slot<P: Pages>(
     ensures none { IfOk result (λ found. IfNone found (P.tells pages.old → (k : ℕ) → from ≤ k → slice_index_or (slots_of (P.image pages.old page.0)) k None ≡ None)) }
     ensures area { OnOk result (IsFilesPage (P.geometry pages.old) page.0) }
     ensures sound { IfErr result (λ fault. IsDamage fault → P.tells pages.old → IsFilesPage (P.geometry pages.old) page.0 → IsPageOf file_no (P.image pages.old page.0) → ⊥) }
+    ensures fault { IfErr result (λ fault. P.tells pages.old → IsFilePageFault (P.geometry pages.old) (P.image pages.old page.0) file_no page.0 fault) }
+    ensures page { OnOk result (P.tells pages.old → IsPageOf file_no (P.image pages.old page.0)) }
     ensures kept { Keeps P.Ground pages.old pages.new }
     ensures cause { HasCause (P.faults pages.old) (P.faults pages.new) result }
 {

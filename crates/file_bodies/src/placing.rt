@@ -1,5 +1,5 @@
 //! A body that is put into a file.
-ghost use Rattle.std.specs.Prelude.{◌≡◌, ◌≤◌, ◌+◌, ℕ, length, IfOk, IfErr, IfSome, IfNone, OnOk};
+ghost use Rattle.std.specs.Prelude.{◌≡◌, ◌≤◌, ◌+◌, ℕ, length, None, IfOk, IfErr, IfSome, IfNone, OnOk};
 ghost use Rattle.ex_base.specs.declared.names.Area.TheVariants.{Page};
 ghost use Rattle.ex_base.specs.Ports.{Keeps, HasCause, IsDamage};
 ghost use Rattle.file_index.specs.declared.Index.{Index};
@@ -8,6 +8,7 @@ ghost use Rattle.file_bodies.specs.Files.{HasFile, EditsFile};
 ghost use Rattle.file_bodies.specs.declared.placing.Room.{Room};
 ghost use Rattle.ex_base.specs.declared.names.Place.{Place};
 ghost use Rattle.slotted_pages.specs.FilePage.{Slot};
+ghost use Rattle.file_bodies.specs.Damage.{IsLook, IsLookFault, IsPlacing, IsPlacingFault, page_in, IsListedFault, HasListed};
 ghost use Rattle.file_bodies.specs.Indexes.{IsUsable};
 ghost use Rattle.file_bodies.specs.Places.{IsRoom, NoRoom, PlacesBody};
 ghost use Rattle.file_bodies.specs.Placing.{IsPlaced, NoneFrom, start_of, lowered_to};
@@ -84,6 +85,8 @@ fn put_in_room<P: Pages>(
     ensures area { IfOk result (λ found. IfSome found (λ place. IsFilesPage (P.geometry pages.old) place.page.0)) }
     ensures none { IfOk result (λ found. IfNone found (P.tells pages.old → HasFile P.Ground pages.old index.now → NoneFrom P.Ground pages.old index.now (length body.now) from)) }
     ensures sound { IfErr result (λ fault. IsDamage fault → P.tells pages.old → HasFile P.Ground pages.old index.now → ⊥) }
+    ensures fault { IfErr result (λ fault. P.tells pages.old → IsLookFault (P.geometry pages.old) (P.image pages.old) index.now from fault) }
+    ensures way { IfOk result (λ found. P.tells pages.old → IsLook (P.geometry pages.old) (P.image pages.old) index.now from (page_in found)) }
     ensures kept { Keeps P.Ground pages.old pages.new }
     ensures cause { HasCause (P.faults pages.old) (P.faults pages.new) result }
 {
@@ -124,6 +127,9 @@ fn put_on_new_page<P: Pages>(
         → PlacesBody P.Ground pages.old pages.new index.now place body.now) }
     ensures free { OnOk result (P.free pages.old Page ≤ P.free pages.new Page + 7) }
     ensures sound { IfErr result (λ fault. IsDamage fault → P.tells pages.old → HasFile P.Ground pages.old index.now → ⊥) }
+    ensures fault { IfErr result (λ fault. P.tells pages.old → (from : ℕ) → IsPlacingFault (P.geometry pages.old) (P.image pages.old) index.now from fault) }
+    ensures way { IfOk result (λ place. P.tells pages.old → (from : ℕ) → IsLook (P.geometry pages.old) (P.image pages.old) index.now from None
+        → IsPlacing (P.geometry pages.old) (P.image pages.old) index.now from place.page) }
     ensures leads { P.leads pages.old pages.new }
     ensures cause { HasCause (P.faults pages.old) (P.faults pages.new) result }
 {
@@ -162,6 +168,8 @@ fn place_by<P: Pages>(
         → PlacesBody P.Ground pages.old pages.new index.now place body.now) }
     ensures free { OnOk result (P.free pages.old Page ≤ P.free pages.new Page + 7) }
     ensures sound { IfErr result (λ fault. IsDamage fault → P.tells pages.old → HasFile P.Ground pages.old index.now → ⊥) }
+    ensures fault { IfErr result (λ fault. P.tells pages.old → IsPlacingFault (P.geometry pages.old) (P.image pages.old) index.now from fault) }
+    ensures way { IfOk result (λ place. P.tells pages.old → IsPlacing (P.geometry pages.old) (P.image pages.old) index.now from place.page) }
     ensures leads { P.leads pages.old pages.new }
     ensures cause { HasCause (P.faults pages.old) (P.faults pages.new) result }
 {
@@ -193,6 +201,8 @@ fn place_from<P: Pages>(
         → PlacesBody P.Ground pages.old pages.new index.now place body.now) }
     ensures free { OnOk result (P.free pages.old Page ≤ P.free pages.new Page + 7) }
     ensures sound { IfErr result (λ fault. IsDamage fault → P.tells pages.old → HasFile P.Ground pages.old index.now → ⊥) }
+    ensures fault { IfErr result (λ fault. P.tells pages.old → IsPlacingFault (P.geometry pages.old) (P.image pages.old) index.now from fault) }
+    ensures way { IfOk result (λ place. P.tells pages.old → IsPlacing (P.geometry pages.old) (P.image pages.old) index.now from place.page) }
     ensures leads { P.leads pages.old pages.new }
     ensures cause { HasCause (P.faults pages.old) (P.faults pages.new) result }
 {
@@ -219,6 +229,10 @@ pub fn place_body<P: Pages>(
     ensures room { IfOk result (λ place. room.new ≡ record { file_no = room.old.file_no; from = place.page; len = length body.now }) }
     ensures free { OnOk result (P.free pages.old Page ≤ P.free pages.new Page + 7) }
     ensures sound { IfErr result (λ fault. IsDamage fault → P.tells pages.old → (index : Index) → HasFile P.Ground pages.old index → index.file_no ≡ room.old.file_no → ⊥) }
+    ensures fault { IfErr result (λ fault. P.tells pages.old → IsListedFault (P.image pages.old) room.old.file_no
+        (λ index. IsPlacingFault (P.geometry pages.old) (P.image pages.old) index (start_of room.old (length body.now)) fault) fault) }
+    ensures way { IfOk result (λ place. P.tells pages.old → HasListed (P.image pages.old) room.old.file_no
+        (λ index. IsPlacing (P.geometry pages.old) (P.image pages.old) index (start_of room.old (length body.now)) place.page)) }
     ensures leads { P.leads pages.old pages.new }
     ensures cause { HasCause (P.faults pages.old) (P.faults pages.new) result }
 {

@@ -1,5 +1,5 @@
 //! Bodies read, and the places of a file in order.
-ghost use Rattle.std.specs.Prelude.{◌≡◌, ◌≤◌, ◌<◌, ◌+◌, ℕ, List, length, Contains, IfOk, IfErr, IfSome, IfNone, IsTrue, false, ◌≢◌, MatchOption, Some};
+ghost use Rattle.std.specs.Prelude.{◌≡◌, ◌≤◌, ◌<◌, ◌+◌, ℕ, List, length, Contains, IfOk, IfErr, OnOk, IfSome, IfNone, IsTrue, false, ◌≢◌, MatchOption, Some};
 ghost use Rattle.std.specs.Borrow.{sem};
 ghost use Rattle.ex_base.specs.Ports.{Rests, Keeps, HasCause, IsDamage};
 ghost use Rattle.slotted_pages.specs.Reads.{page_on, IsPage};
@@ -7,6 +7,8 @@ ghost use Rattle.file_index.specs.declared.Index.{Index};
 ghost use Rattle.file_index.specs.Index.{IsFilesPage};
 ghost use Rattle.file_bodies.specs.Bodies.{bodies_of, pages_in, InPlaceOrder};
 ghost use Rattle.file_bodies.specs.Files.{HasFile, HasFiles, HasBody, IsOfFile, HasSomeBody};
+ghost use Rattle.file_index.specs.Damage.{HasWay, IsIndexFault};
+ghost use Rattle.file_bodies.specs.Damage.{IsBelonging, IsBelongingFault, IsLook, IsLookFault, IsListedFault, HasListed, page_from, page_in};
 ghost use Rattle.file_bodies.specs.Indexes.{IsUsable};
 ghost use Rattle.file_bodies.specs.Places.{IsNext, FirstFrom};
 
@@ -49,6 +51,8 @@ fn names<P: Pages>(
     ensures yes { IfOk result (λ named. IsTrue named → P.tells pages.old → HasFile P.Ground pages.old index.now → Contains (pages_in (P.image pages.old) index.now) page.0) }
     ensures no { IfOk result (λ named. named ≡ false → P.tells pages.old → HasFile P.Ground pages.old index.now → Contains (pages_in (P.image pages.old) index.now) page.0 → ⊥) }
     ensures sound { IfErr result (λ fault. IsDamage fault → P.tells pages.old → HasFile P.Ground pages.old index.now → ⊥) }
+    ensures fault { IfErr result (λ fault. P.tells pages.old → IsIndexFault (P.geometry pages.old) (P.image pages.old) index.now page.0 fault) }
+    ensures way { OnOk result (P.tells pages.old → HasWay (P.geometry pages.old) (P.image pages.old) index.now page.0) }
     ensures kept { Keeps P.Ground pages.old pages.new }
     ensures cause { HasCause (P.faults pages.old) (P.faults pages.new) result }
 {
@@ -66,6 +70,8 @@ fn is_of_file<P: Pages>(pages: &mut P, alloc: Global, page: PageNo) -> Result<bo
     ensures no { IfOk result (λ of. of ≡ false → P.tells pages.old → IsOfFile P.Ground pages.old page.0 → ⊥) }
     ensures area { IfOk result (λ of. IsTrue of → IsFilesPage (P.geometry pages.old) page.0) }
     ensures sound { IfErr result (λ fault. IsDamage fault → P.tells pages.old → HasFiles P.Ground pages.old → ⊥) }
+    ensures fault { IfErr result (λ fault. P.tells pages.old → IsBelongingFault (P.geometry pages.old) (P.image pages.old) page.0 fault) }
+    ensures way { OnOk result (P.tells pages.old → IsBelonging (P.geometry pages.old) (P.image pages.old) page.0) }
     ensures kept { Keeps P.Ground pages.old pages.new }
     ensures cause { HasCause (P.faults pages.old) (P.faults pages.new) result }
 {
@@ -92,6 +98,9 @@ pub fn body_at<P: Pages>(
     ensures found { IfOk result (λ found. P.tells pages.old → HasFiles P.Ground pages.old
         → MatchOption found ((body : List ℕ) → HasSomeBody P.Ground pages.old place body → ⊥) (λ body. HasSomeBody P.Ground pages.old place body.now)) }
     ensures sound { IfErr result (λ fault. IsDamage fault → P.tells pages.old → HasFiles P.Ground pages.old → ⊥) }
+    ensures fault { IfErr result (λ fault. P.tells pages.old → IsBelongingFault (P.geometry pages.old) (P.image pages.old) place.page.0 fault) }
+    ensures way { OnOk result (P.tells pages.old → IsBelonging (P.geometry pages.old) (P.image pages.old) place.page.0) }
+    ensures page { OnOk result (P.tells pages.old → (index : Index) (body : List ℕ) → HasBody P.Ground pages.old index place body → length (P.image pages.old place.page.0) ≡ (P.geometry pages.old).page_size) }
     ensures* after { sem 𝓛 (Rests P.row pages.entry (λ new. Keeps P.Ground pages.old new × HasCause (P.faults pages.old) (P.faults new) result)) }
 {
     match is_of_file(pages, alloc, place.page) {
@@ -115,6 +124,8 @@ fn first_from<P: Pages>(
     requires usable { IsUsable index.now.file_no index.now }
     ensures first { IfOk result (λ found. P.tells pages.old → HasFile P.Ground pages.old index.now → FirstFrom (bodies_of (P.image pages.old) index.now) key slot found) }
     ensures sound { IfErr result (λ fault. IsDamage fault → P.tells pages.old → HasFile P.Ground pages.old index.now → ⊥) }
+    ensures fault { IfErr result (λ fault. P.tells pages.old → IsLookFault (P.geometry pages.old) (P.image pages.old) index.now key fault) }
+    ensures way { IfOk result (λ found. P.tells pages.old → IsLook (P.geometry pages.old) (P.image pages.old) index.now key (page_in found)) }
     ensures kept { Keeps P.Ground pages.old pages.new }
     ensures cause { HasCause (P.faults pages.old) (P.faults pages.new) result }
 {
@@ -150,6 +161,10 @@ pub fn next_place<P: Pages>(
     requires { P.ready pages.old }
     ensures next { IfOk result (λ next. P.tells pages.old → (index : Index) → HasFile P.Ground pages.old index → index.file_no ≡ file_no → IsNext (bodies_of (P.image pages.old) index) after next) }
     ensures sound { IfErr result (λ fault. IsDamage fault → P.tells pages.old → (index : Index) → HasFile P.Ground pages.old index → index.file_no ≡ file_no → ⊥) }
+    ensures fault { IfErr result (λ fault. P.tells pages.old
+        → IsListedFault (P.image pages.old) file_no (λ index. IsLookFault (P.geometry pages.old) (P.image pages.old) index (page_from after) fault) fault) }
+    ensures way { IfOk result (λ next. P.tells pages.old
+        → HasListed (P.image pages.old) file_no (λ index. IsLook (P.geometry pages.old) (P.image pages.old) index (page_from after) (page_in next))) }
     ensures kept { Keeps P.Ground pages.old pages.new }
     ensures cause { HasCause (P.faults pages.old) (P.faults pages.new) result }
 {

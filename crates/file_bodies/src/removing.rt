@@ -8,8 +8,11 @@ ghost use Rattle.file_bodies.specs.Bodies.{pages_in};
 ghost use Rattle.file_bodies.specs.Files.{HasFile, HasBody};
 ghost use Rattle.file_bodies.specs.Places.{RemovesBody};
 ghost use Rattle.file_bodies.specs.Removing.{LeavesFile};
+ghost use Rattle.slotted_pages.specs.Reads.{page_on};
+ghost use Rattle.file_index.specs.Damage.{HasWay};
+ghost use Rattle.file_bodies.specs.Damage.{HasRecordAt, IsLastOn, IsTakingFault, IsLeavingFault, IsListedFault, HasListed};
 
-use crate::catalog::{change_index, index_of};
+use crate::catalog::{change_index, has_placed_root, index_of, no_root};
 use crate::page::{has_slots, load_body_page, page_buffer};
 use ex_base::{PageNo, Pages, Place, PortFault};
 use file_index::remove;
@@ -31,6 +34,9 @@ fn drop_page<P: Pages>(
         → Contains (pages_in (P.image pages.old) index) page.0 → LeavesFile P.Ground pages.old pages.new index page.0) }
     ensures free { OnOk result (P.free pages.old Page ≤ P.free pages.new Page) }
     ensures sound { IfErr result (λ fault. IsDamage fault → P.tells pages.old → (index : Index) → HasFile P.Ground pages.old index → index.file_no ≡ file_no → ⊥) }
+    ensures fault { IfErr result (λ fault. P.tells pages.old → IsListedFault (P.image pages.old) file_no
+        (λ index. IsLeavingFault (P.geometry pages.old) (P.image pages.old) (P.image pages.new) index page.0 fault) fault) }
+    ensures way { OnOk result (P.tells pages.old → HasListed (P.image pages.old) file_no (λ index. HasWay (P.geometry pages.old) (P.image pages.old) index page.0)) }
     ensures leads { P.leads pages.old pages.new }
     ensures cause { HasCause (P.faults pages.old) (P.faults pages.new) result }
 {
@@ -42,6 +48,9 @@ fn drop_page<P: Pages>(
         Ok(left) => left,
         Err(fault) => return Err(fault),
     };
+    if !has_placed_root(pages, &left) {
+        return Err(no_root(&left));
+    }
     match change_index(pages, alloc, &index, &left, buffer) {
         Ok(()) => {}
         Err(fault) => return Err(fault),
@@ -61,6 +70,10 @@ fn remove_by<P: Pages>(
     ensures removes { OnOk result (P.tells pages.old → (index : Index) → (body : List ℕ) → HasBody P.Ground pages.old index place body → RemovesBody P.Ground pages.old pages.new index place body) }
     ensures free { OnOk result (P.free pages.old Page ≤ P.free pages.new Page) }
     ensures sound { IfErr result (λ fault. IsDamage fault → P.tells pages.old → (index : Index) → (body : List ℕ) → HasBody P.Ground pages.old index place body → ⊥) }
+    ensures fault { IfErr result (λ fault. P.tells pages.old → IsTakingFault (P.geometry pages.old) (P.image pages.old) (P.image pages.new) place fault) }
+    ensures has { OnOk result (P.tells pages.old → HasRecordAt (P.geometry pages.old) (P.image pages.old place.page.0) place) }
+    ensures way { OnOk result (P.tells pages.old → IsLastOn (P.image pages.old place.page.0) place.slot → HasListed (P.image pages.old) (page_on (P.image pages.old place.page.0)).file_no
+        (λ index. HasWay (P.geometry pages.old) (P.image pages.old) index place.page.0)) }
     ensures leads { P.leads pages.old pages.new }
     ensures cause { HasCause (P.faults pages.old) (P.faults pages.new) result }
 {
@@ -85,6 +98,10 @@ pub fn remove_from_file<P: Pages>(
     ensures removes { OnOk result (P.tells pages.old → (index : Index) → (body : List ℕ) → HasBody P.Ground pages.old index place body → RemovesBody P.Ground pages.old pages.new index place body) }
     ensures free { OnOk result (P.free pages.old Page ≤ P.free pages.new Page) }
     ensures sound { IfErr result (λ fault. IsDamage fault → P.tells pages.old → (index : Index) → (body : List ℕ) → HasBody P.Ground pages.old index place body → ⊥) }
+    ensures fault { IfErr result (λ fault. P.tells pages.old → IsTakingFault (P.geometry pages.old) (P.image pages.old) (P.image pages.new) place fault) }
+    ensures has { OnOk result (P.tells pages.old → HasRecordAt (P.geometry pages.old) (P.image pages.old place.page.0) place) }
+    ensures way { OnOk result (P.tells pages.old → IsLastOn (P.image pages.old place.page.0) place.slot → HasListed (P.image pages.old) (page_on (P.image pages.old place.page.0)).file_no
+        (λ index. HasWay (P.geometry pages.old) (P.image pages.old) index place.page.0)) }
     ensures leads { P.leads pages.old pages.new }
     ensures cause { HasCause (P.faults pages.old) (P.faults pages.new) result }
 {

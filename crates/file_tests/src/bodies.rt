@@ -9,18 +9,18 @@ use std::process::Abort;
 use std::test::Fail;
 
 /// The number of the file, the first that a catalog gives.
-const FILE: u32 = 1;
+pub(crate) const FILE: u32 = 1;
 
 /// The bytes of the pages of the volumes.
-const PAGE: usize = 512;
+pub(crate) const PAGE: usize = 512;
 
 /// The catalog's page.
-const CATALOG: PageNo = PageNo(257);
+pub(crate) const CATALOG: PageNo = PageNo(257);
 
 /// A body of one byte again and again, and where it stands.
 #[derive(Clone, Copy)]
-struct Row {
-    place: Place,
+pub(crate) struct Row {
+    pub(crate) place: Place,
     len: usize,
     fill: u8,
 }
@@ -40,7 +40,7 @@ fn with_file(page: &mut [u8])
 }
 
 /// Writes a catalog with one file.
-fn write_catalog<V: Volume>(volume: &mut V, alloc: Global) -> Result<(), Fail>
+pub(crate) fn write_catalog<V: Volume>(volume: &mut V, alloc: Global) -> Result<(), Fail>
     requires { V.ready volume.old }
     ensures { V.leads volume.old volume.new }
 {
@@ -53,7 +53,8 @@ fn write_catalog<V: Volume>(volume: &mut V, alloc: Global) -> Result<(), Fail>
     Ok(())
 }
 
-fn put<V: Volume>(
+/// Puts a body of one byte again and again.
+pub(crate) fn put<V: Volume>(
     volume: &mut V,
     alloc: Global,
     room: &mut Room,

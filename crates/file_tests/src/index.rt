@@ -9,17 +9,17 @@ use std::process::Abort;
 use std::test::Fail;
 
 /// The first page that a file may have.
-const FIRST_PAGE: u32 = 258;
+pub(crate) const FIRST_PAGE: u32 = 258;
 
 /// The index of a file without pages.
-const NO_PAGES: Index = Index {
+pub(crate) const NO_PAGES: Index = Index {
     root: None,
     level: 0,
     file_no: 7,
 };
 
 /// Whether the calls take the index.
-fn fits(index: &Index) -> bool
+pub(crate) fn fits(index: &Index) -> bool
     ensures level { IsTrue result → index.now.level ≤ 5 }
     ensures root { IsTrue result → HasRoot index.now.level index.now.root }
 {
@@ -29,7 +29,13 @@ fn fits(index: &Index) -> bool
     }
 }
 
-fn put<V: Volume>(volume: &mut V, alloc: Global, index: &mut Index, key: u32) -> Result<(), Fail>
+/// Adds a page.
+pub(crate) fn put<V: Volume>(
+    volume: &mut V,
+    alloc: Global,
+    index: &mut Index,
+    key: u32,
+) -> Result<(), Fail>
     requires { V.ready volume.old }
     ensures { V.leads volume.old volume.new }
 {

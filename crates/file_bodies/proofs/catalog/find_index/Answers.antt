@@ -1,7 +1,7 @@
-use Rattle.std.proofs.Common.{ℕ, List, sym, ap, ◌∙◌}
-use Rattle.object_files.specs.Edits.{entries_on}
+use Rattle.std.proofs.Common.{ℕ, List, sym, subst, ap, ◌∙◌}
+use Rattle.object_files.specs.Edits.{IsCatalogPage, entries_on}
 use Rattle.file_bodies.specs.Files.{index_in}
-use Rattle.file_bodies.proofs.Entries.{entries_are, usable_if}
+use Rattle.file_bodies.proofs.Entries.{is_catalog, entries_are, usable_if}
 use Rattle.file_bodies.proofs.catalog.find_index.Goals as goal
 
 pub returns-in-Some-clause-found : goal.returns-in-Some-clause-found
@@ -14,3 +14,6 @@ returns-in-Some-clause-usable g c = usable_if c.args.file_no c.in-Some.view.entr
 
 pub returns-in-None-clause-cause : goal.returns-in-None-clause-cause
 returns-in-None-clause-cause g c = c.no_catalog.ensures.cause _ _
+
+pub returns-in-Some-clause-whole : goal.returns-in-Some-clause-whole
+returns-in-Some-clause-whole g c = λ told. subst (λ (t : List ℕ). IsCatalogPage t) (c.in_ok-page.ensures.bytes told) (is_catalog c.in_ok-page.page.now c.in-Some.view c.in-Some.ensures.found)

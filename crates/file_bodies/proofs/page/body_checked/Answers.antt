@@ -1,5 +1,6 @@
 use Rattle.std.proofs.Common.{◌∙◌, sym}
 use Rattle.file_bodies.proofs.Pages.{is_page, number_is, live_is, not_live}
+use Rattle.file_bodies.proofs.Blame.{blames_place}
 use Rattle.file_bodies.proofs.page.body_checked.Goals as goal
 
 pub returns-in-None-clause-err : goal.returns-in-None-clause-err
@@ -13,3 +14,6 @@ returns-in-Some-body-clause-file c = number_is c.args.bytes.now c.in-Some.view.p
 
 pub returns-in-Some-body-clause-live : goal.returns-in-Some-body-clause-live
 returns-in-Some-body-clause-live c = live_is c.args.bytes.now c.in-Some.view.page c.args.place.slot _ c.in-Some.ensures.found.1 c.in-Some-body.ensures
+
+pub returns-in-None-clause-fault : goal.returns-in-None-clause-fault
+returns-in-None-clause-fault c = λ g. blames_place g c.args.bytes.now c.args.place c.no_body-in-None.result (λ has. not_live c.args.bytes.now c.in-Some.view.page c.args.place.slot c.in-Some.ensures.found.1 c.in-None.ensures has.live) c.no_body-in-None.ensures.is

@@ -1,5 +1,7 @@
 use Rattle.std.proofs.Common.{sym, ap, ◌∙◌, arith, length}
-use Rattle.file_bodies.proofs.Pages.{slots_are, number_is, viewed_is, page_is_of}
+use Rattle.file_bodies.proofs.Pages.{is_page, slots_are, number_is, viewed_is, page_is_of}
+use Rattle.file_bodies.specs.Damage.{page_seen}
+use Rattle.file_bodies.proofs.Blame.{blames_page, blames_foreign}
 use Rattle.file_bodies.proofs.page.page_checked.Goals as goal
 
 pub returns-then-slots-eq0-clause-err : goal.returns-then-slots-eq0-clause-err
@@ -13,3 +15,15 @@ returns-clause-ok c = page_is_of c.args.bytes.now c.in-Some.view.page c.args.fil
 
 pub returns-clause-view : goal.returns-clause-view
 returns-clause-view c = viewed_is c.args.bytes.now c.in-Some.view c.in-Some.ensures.found.0 c.in-Some.ensures.found.1
+
+pub returns-then-slots-eq0-clause-fault : goal.returns-then-slots-eq0-clause-fault
+returns-then-slots-eq0-clause-fault c = λ g area.
+    blames_page g c.args.bytes.now c.args.file_no c.args.page c.no_page-then-slots-eq0.result area
+    (λ has. absurd (omega (arith, has.some, ap length (slots_are c.args.bytes.now c.in-Some.view.page c.in-Some.ensures.found.1)))) c.no_page-then-slots-eq0.ensures.is
+
+pub returns-then-found-file_no-clause-fault : goal.returns-then-found-file_no-clause-fault
+returns-then-found-file_no-clause-fault c = λ g area.
+    let number = number_is c.args.bytes.now c.in-Some.view.page c.in-Some.ensures.found.1 in
+    blames_foreign g c.args.bytes.now c.args.file_no c.args.page c.page_seen.result c.page_seen-then-found-file_no.result area
+    (record { spelled = is_page c.args.bytes.now c.in-Some.view.page c.in-Some.ensures.found.1; some = omega (arith, ap length (slots_are c.args.bytes.now c.in-Some.view.page c.in-Some.ensures.found.1), c.slots.ensures, c.if-slots-eq0.false) })
+    (λ same. c.if-found-file_no.true (c.file_no-found.ensures ∙ sym number ∙ same)) c.page_seen.ensures (c.page_seen-then-found-file_no.ensures ∙ ap page_seen (c.file_no-found.ensures ∙ sym number))

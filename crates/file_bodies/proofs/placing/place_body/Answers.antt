@@ -4,6 +4,8 @@ use Rattle.file_bodies.specs.Places.{NoRoom, PlacesBody}
 use Rattle.file_bodies.specs.Placing.{start_of}
 use Rattle.file_bodies.proofs.Belonging.{the_index, found_file}
 use Rattle.file_bodies.proofs.Placed.{kept_places, none_kept, room_serves}
+use Rattle.file_bodies.specs.Damage.{listed, IsPlacing, IsPlacingFault}
+use Rattle.file_bodies.proofs.Blame.{carried}
 use Rattle.file_bodies.proofs.placing.place_body.Goals as goal
 
 pub returns-in-Ok-place_from-clause-placed : goal.returns-in-Ok-place_from-clause-placed
@@ -25,3 +27,17 @@ returns-in-Err-place_from-clause-sound g c = λ damage told index file number.
     let kept = c.index_of.ensures.kept in
     let told_b = g.P.Ground.leads_told c.args.pages.now c.index_of.new.pages kept.leads told in
     c.in-Err-place_from.ensures.sound damage told_b (found_file g.P.Ground c.args.pages.now c.index_of.new.pages index c.in-Ok.index c.args.room.now.file_no file number (c.in-Ok.ensures.found told) kept)
+
+pub returns-in-Err-place_from-clause-fault : goal.returns-in-Err-place_from-clause-fault
+returns-in-Err-place_from-clause-fault g c = λ told.
+    listed c.in-Ok.index (c.in-Ok.ensures.lists told)
+    (carried g.P.Ground c.args.pages.now c.index_of.new.pages (λ y u. IsPlacingFault y u c.in-Ok.index (start_of c.args.room.now (length c.args.body.now)) c.in-Err-place_from.fault) c.index_of.ensures.kept
+    (λ told_b. subst (λ (n : ℕ). IsPlacingFault (g.P.Ground.geometry c.index_of.new.pages) (g.P.Ground.image c.index_of.new.pages) c.in-Ok.index n c.in-Err-place_from.fault) c.start-from.ensures (c.in-Err-place_from.ensures.fault told_b)) told)
+
+pub returns-in-Ok-place_from-clause-way : goal.returns-in-Ok-place_from-clause-way
+returns-in-Ok-place_from-clause-way g c = λ told. record {
+  index = c.in-Ok.index;
+  lists = c.in-Ok.ensures.lists told;
+  holds = carried g.P.Ground c.args.pages.now c.index_of.new.pages (λ y u. IsPlacing y u c.in-Ok.index (start_of c.args.room.now (length c.args.body.now)) c.in-Ok-place_from.place.page) c.index_of.ensures.kept
+      (λ told_b. subst (λ (n : ℕ). IsPlacing (g.P.Ground.geometry c.index_of.new.pages) (g.P.Ground.image c.index_of.new.pages) c.in-Ok.index n c.in-Ok-place_from.place.page) c.start-from.ensures (c.in-Ok-place_from.ensures.way told_b)) told;
+}

@@ -1,9 +1,12 @@
-use Rattle.std.proofs.Common.{◌≡◌, ◌≤◌, refl, ℕ, length, sym, ◌∙◌, subst, List, Some, None, arith}
+use Rattle.std.proofs.Common.{◌≡◌, ◌≤◌, ◌+◌, refl, ℕ, length, sym, ◌∙◌, subst, List, Some, None, arith}
 use Rattle.slotted_pages.specs.FilePage.{SlotsOf}
 use Rattle.slotted_pages.specs.Reads.{page_on}
 use Rattle.slotted_pages.specs.Edits.{slots_of, with_slot, with_slots}
 use Rattle.file_index.specs.Least.{IsAtLeast}
 use Rattle.file_bodies.proofs.Searching.{keeps_trans, file_now, told_now, none_left, passed_to, passed_page, page_named, load_sound, slot_read}
+use Rattle.file_index.specs.Damage.{IsIndexFault}
+use Rattle.file_bodies.specs.Damage.{lost_way, IsLook, IsLookFault}
+use Rattle.file_bodies.proofs.Blame.{carried, moved_on, look_from, look_ends, look_here, look_on, look_blames}
 use Rattle.file_bodies.proofs.placing.put_in_room.Goals as goal
 
 pub returns-in-Ok-None-clause-none : goal.returns-in-Ok-None-clause-none
@@ -54,4 +57,30 @@ searched-preserved g c =
           let size : length c.load_page.new.out ≡ (g.P.Ground.geometry c.args.pages.now).page_size = omega (arith, c.load_page.auto.out, c.searched.auto.image, c.requires.image) in
           passed_page g.P.Ground c.args.pages.now c.searched.pages c.args.index.now (length c.args.body.now) c.args.from c.searched.key c.searched.invariant told file c.in-Ok-Some.page c.in-Ok-Some.field-0 c.in-Ok-Some.field-0-is least
           (sym (slot_read g.P.Ground c.args.pages.now c.at_least.new.pages c.in-Ok-Some.page.0 (length c.args.body.now) c.load_page.new.out None kept_c read size (sym c.in-None.is ∙ c.insert_body.ensures.place)));
+      looked = λ told end more.
+          c.searched.invariant.looked told end (carried g.P.Ground c.args.pages.now c.searched.pages (λ y u. IsLook y u c.args.index.now c.searched.key end) c.searched.invariant.kept
+          (look_on g.P.Ground c.searched.pages c.at_least.new.pages c.args.index.now c.searched.key c.in-Ok-Some.field-0 c.at_least.ensures.kept c.in-Ok-Some.ensures.way c.in-Ok-Some.ensures.found c.in-Ok-Some.page c.in-Ok-Some.field-0-is
+          c.in-Ok.ensures.area c.in-Ok.ensures.page end (moved_on g.P.Ground c.args.pages.now c.searched.pages c.args.index.now (c.in-Ok-Some.page.0 + 1) end c.searched.invariant.kept more)) told);
     }
+
+pub returns-in-Ok-None-clause-way : goal.returns-in-Ok-None-clause-way
+returns-in-Ok-None-clause-way g c = λ told.
+    c.searched.invariant.looked told None (carried g.P.Ground c.args.pages.now c.searched.pages (λ y u. IsLook y u c.args.index.now c.searched.key None) c.searched.invariant.kept
+    (look_ends g.P.Ground c.searched.pages c.at_least.new.pages c.args.index.now c.searched.key c.in-Ok-None.field-0 c.at_least.ensures.kept c.in-Ok-None.ensures.way c.in-Ok-None.ensures.found c.in-Ok-None.field-0-is) told)
+
+pub returns-in-Err-clause-fault : goal.returns-in-Err-clause-fault
+returns-in-Err-clause-fault g c = λ told.
+    lost_way c.searched.key c.searched.invariant.reached (carried g.P.Ground c.args.pages.now c.searched.pages (λ y u. IsIndexFault y u c.args.index.now c.searched.key c.in-Err.fault) c.searched.invariant.kept c.in-Err.ensures.fault told)
+
+pub returns-in-Err-load_page-clause-fault : goal.returns-in-Err-load_page-clause-fault
+returns-in-Err-load_page-clause-fault g c = λ told.
+    look_from (g.P.Ground.geometry c.args.pages.now) (g.P.Ground.image c.args.pages.now) c.args.index.now c.args.from c.searched.key c.in-Err-load_page.fault c.searched.invariant.reached
+    (carried g.P.Ground c.args.pages.now c.searched.pages (λ y u. IsLookFault y u c.args.index.now c.searched.key c.in-Err-load_page.fault) c.searched.invariant.kept
+    (look_blames g.P.Ground c.searched.pages c.at_least.new.pages c.args.index.now c.searched.key c.in-Ok-Some.field-0 c.at_least.ensures.kept c.in-Ok-Some.ensures.way c.in-Ok-Some.ensures.found c.in-Ok-Some.page c.in-Ok-Some.field-0-is
+    c.in-Err-load_page.fault c.in-Err-load_page.ensures.fault) told)
+
+pub returns-in-Some-clause-way : goal.returns-in-Some-clause-way
+returns-in-Some-clause-way g c = λ told.
+    c.searched.invariant.looked told (Some c.in-Ok-Some.page) (carried g.P.Ground c.args.pages.now c.searched.pages (λ y u. IsLook y u c.args.index.now c.searched.key (Some c.in-Ok-Some.page)) c.searched.invariant.kept
+    (look_here g.P.Ground c.searched.pages c.at_least.new.pages c.args.index.now c.searched.key c.in-Ok-Some.field-0 c.at_least.ensures.kept c.in-Ok-Some.ensures.way c.in-Ok-Some.ensures.found c.in-Ok-Some.page c.in-Ok-Some.field-0-is
+    c.in-Ok.ensures.area c.in-Ok.ensures.page) told)

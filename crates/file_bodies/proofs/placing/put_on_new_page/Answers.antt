@@ -1,7 +1,10 @@
-use Rattle.std.proofs.Common.{◌≡◌, length, arith}
+use Rattle.std.proofs.Common.{◌≡◌, subst, length, arith}
 use Rattle.file_bodies.proofs.Pages.{is_page}
 use Rattle.file_bodies.proofs.Indexing.{root_placed, taken_index, taken_lies}
 use Rattle.file_bodies.proofs.Fresh.{first_placed, fresh_placed, still_catalog, still_entry}
+use Rattle.ex_base.specs.declared.geometry.Geometry.{Geometry}
+use Rattle.file_index.specs.Damage.{HasWay, IsIndexFault}
+use Rattle.file_bodies.specs.Damage.{adding, fresh}
 use Rattle.file_bodies.proofs.placing.put_on_new_page.Goals as goal
 
 pub insert_body-requires-clause-page : goal.insert_body-requires-clause-page
@@ -41,3 +44,15 @@ returns-in-Err-change_index-clause-sound g c = λ damage told file.
     let whole = still_catalog g.P.Ground c.args.pages.now c.take_page.new.self c.add.new.pages c.args.index.now c.in-Ok-add.added c.in-Ok.page.0 c.insert_body.new.image file taken told c.take_page.ensures.leads c.in-Ok.ensures.leaves edits in
     let entry = still_entry g.P.Ground c.args.pages.now c.take_page.new.self c.add.new.pages c.args.index.now c.in-Ok-add.added c.in-Ok.page.0 c.insert_body.new.image file taken told c.take_page.ensures.leads c.in-Ok.ensures.leaves edits in
     c.in-Err-change_index.ensures.sound damage told_c (root_placed (g.P.Ground.geometry c.add.new.pages) (g.P.Ground.image c.add.new.pages) c.in-Ok-add.added.file_no c.in-Ok-add.added.level c.in-Ok-add.added.root edits.index.whole) whole entry
+
+pub returns-in-Err-add-clause-fault : goal.returns-in-Err-add-clause-fault
+returns-in-Err-add-clause-fault g c = λ told from.
+    let told_b = g.P.Ground.leads_told c.args.pages.now c.take_page.new.self c.take_page.ensures.leads told in
+    adding c.in-Ok.page.0 (g.P.Ground.image c.take_page.new.self) (λ p other. c.in-Ok.ensures.taken.images p other)
+    (subst (λ (y : Geometry). IsIndexFault y (g.P.Ground.image c.take_page.new.self) c.args.index.now c.in-Ok.page.0 c.in-Err-add.fault) (g.P.Ground.leads_geometry c.args.pages.now c.take_page.new.self c.take_page.ensures.leads) (c.in-Err-add.ensures.fault told_b))
+
+pub returns-in-Ok-change_index-clause-way : goal.returns-in-Ok-change_index-clause-way
+returns-in-Ok-change_index-clause-way g c = λ told from look.
+    let told_b = g.P.Ground.leads_told c.args.pages.now c.take_page.new.self c.take_page.ensures.leads told in
+    fresh look (g.P.Ground.image c.take_page.new.self) (λ p other. c.in-Ok.ensures.taken.images p other)
+    (subst (λ (y : Geometry). HasWay y (g.P.Ground.image c.take_page.new.self) c.args.index.now c.in-Ok.page.0) (g.P.Ground.leads_geometry c.args.pages.now c.take_page.new.self c.take_page.ensures.leads) (c.in-Ok-add.ensures.way told_b))

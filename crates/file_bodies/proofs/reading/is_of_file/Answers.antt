@@ -1,5 +1,6 @@
 use Rattle.file_bodies.proofs.Pages.{at_none, at_some, if_ok, if_err}
 use Rattle.file_bodies.proofs.Belonging.{of_lies, of_page, of_yes, of_no, file_c}
+use Rattle.file_bodies.proofs.Blame.{belonging_fault}
 use Rattle.file_bodies.proofs.reading.is_of_file.Goals as goal
 
 pub returns-in-Ok-None-clause-no : goal.returns-in-Ok-None-clause-no
@@ -26,3 +27,8 @@ returns-clause-sound g c = if_err c.names.result _ _ (λ fault never damage told
     let told_c = g.P.Ground.leads_told c.file_at.new.pages c.find_index.new.pages c.find_index.ensures.kept.leads told_b in
     let number = (at_some c.in-Ok-Some.field-0 c.in-Ok-Some.file_no _ c.in-Ok-Some.field-0-is c.in-Ok-Some.ensures.some told).1 in
     never damage told_c (file_c g.P.Ground c.args.pages.now c.file_at.new.pages c.find_index.new.pages c.args.page.0 c.in-Ok-Some.file_no c.file_at.ensures.kept c.find_index.ensures.kept number c.in-Ok-Some-find_index.index c.in-Ok-Some-find_index.field-0 c.in-Ok-Some-find_index.field-0-is (c.in-Ok-Some-find_index.ensures.found told_b) files)) c.names.ensures.sound
+
+pub returns-clause-fault : goal.returns-clause-fault
+returns-clause-fault g c = if_err c.names.result _ _ (λ fault h told.
+    belonging_fault g.P.Ground c.args.pages.now c.file_at.new.pages c.find_index.new.pages c.args.page.0 c.in-Ok-Some.file_no c.in-Ok-Some-find_index.index c.in-Ok-Some-find_index.field-0 fault c.file_at.ensures.kept c.find_index.ensures.kept
+    (at_some c.in-Ok-Some.field-0 c.in-Ok-Some.file_no _ c.in-Ok-Some.field-0-is c.in-Ok-Some.ensures.some) c.in-Ok-Some-find_index.field-0-is c.in-Ok-Some-find_index.ensures.found c.in-Ok-Some-find_index.ensures.whole h told) c.names.ensures.fault

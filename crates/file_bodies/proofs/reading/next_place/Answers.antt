@@ -4,6 +4,8 @@ use Rattle.file_bodies.specs.Bodies.{bodies_of}
 use Rattle.file_bodies.specs.Places.{IsNext}
 use Rattle.file_bodies.proofs.Pages.{if_ok, if_err}
 use Rattle.file_bodies.proofs.Belonging.{found_file, found_rows}
+use Rattle.file_bodies.specs.Damage.{listed, IsLookFault, page_from}
+use Rattle.file_bodies.proofs.Blame.{carried}
 use Rattle.file_bodies.proofs.reading.next_place.Goals as goal
 
 pub returns-in-None-clause-next : goal.returns-in-None-clause-next
@@ -29,3 +31,15 @@ pub returns-in-Some-clause-sound : goal.returns-in-Some-clause-sound
 returns-in-Some-clause-sound g c = if_err c.first_from-in-Some.result _ _ (λ fault never damage told index file number.
     let told_b = g.P.Ground.leads_told c.args.pages.now c.index_of.new.pages c.index_of.ensures.kept.leads told in
     never damage told_b (found_file g.P.Ground c.args.pages.now c.index_of.new.pages index c.in-Ok.index c.args.file_no file number (c.in-Ok.ensures.found told) c.index_of.ensures.kept)) c.first_from-in-Some.ensures.sound
+
+pub returns-in-None-clause-fault : goal.returns-in-None-clause-fault
+returns-in-None-clause-fault g c = if_err c.first_from.result _ _ (λ fault h told.
+    listed c.in-Ok.index (c.in-Ok.ensures.lists told)
+    (subst (λ (o : Option Place). IsLookFault (g.P.Ground.geometry c.args.pages.now) (g.P.Ground.image c.args.pages.now) c.in-Ok.index (page_from o) fault) (sym c.in-None.is)
+    (carried g.P.Ground c.args.pages.now c.index_of.new.pages (λ y u. IsLookFault y u c.in-Ok.index 0 fault) c.index_of.ensures.kept h told))) c.first_from.ensures.fault
+
+pub returns-in-Some-clause-fault : goal.returns-in-Some-clause-fault
+returns-in-Some-clause-fault g c = if_err c.first_from-in-Some.result _ _ (λ fault h told.
+    listed c.in-Ok.index (c.in-Ok.ensures.lists told)
+    (subst (λ (o : Option Place). IsLookFault (g.P.Ground.geometry c.args.pages.now) (g.P.Ground.image c.args.pages.now) c.in-Ok.index (page_from o) fault) (sym c.in-Some.is)
+    (carried g.P.Ground c.args.pages.now c.index_of.new.pages (λ y u. IsLookFault y u c.in-Ok.index c.in-Some.place.page.0 fault) c.index_of.ensures.kept h told))) c.first_from-in-Some.ensures.fault

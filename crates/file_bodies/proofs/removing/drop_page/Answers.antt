@@ -10,6 +10,11 @@ use Rattle.file_bodies.proofs.Moving.{has_index}
 use Rattle.file_bodies.proofs.Belonging.{the_index, found_file}
 use Rattle.file_bodies.proofs.Indexing.{root_placed, reindexed, still_whole, still_index}
 use Rattle.file_bodies.proofs.Leaving.{left, kept_leaves}
+use Rattle.ex_base.specs.declared.geometry.Geometry.{Geometry}
+use Rattle.file_index.specs.Index.{HasPlacedRoot}
+use Rattle.file_index.specs.Damage.{IsRemovalFault}
+use Rattle.file_bodies.specs.Damage.{listed, removing, bad_root}
+use Rattle.file_bodies.proofs.Blame.{carried}
 use Rattle.file_bodies.proofs.removing.drop_page.Goals as goal
 
 pub returns-in-Err-remove-clause-sound : goal.returns-in-Err-remove-clause-sound
@@ -50,3 +55,28 @@ returns-clause-leaves g c = on_ok c.give_page.result _ _ (λ given told index fi
     (kept_leaves g.P.Ground c.args.pages.now c.index_of.new.pages c.give_page.new.self c.in-Ok.index c.args.page.0 kept
     (left g.P.Ground c.index_of.new.pages c.change_index.new.pages c.give_page.new.self c.in-Ok.index c.in-Ok-remove.left c.args.page.0 here
     (contains_times c.args.page.0 (pages_in (g.P.Ground.image c.index_of.new.pages) c.in-Ok.index) named_b) r given c.give_page.ensures.leads))) c.give_page.ensures.given
+
+pub returns-in-Err-remove-clause-fault : goal.returns-in-Err-remove-clause-fault
+returns-in-Err-remove-clause-fault g c = λ told.
+    listed c.in-Ok.index (c.in-Ok.ensures.lists told)
+    (removing (carried g.P.Ground c.args.pages.now c.index_of.new.pages (λ y u. IsRemovalFault y u (g.P.Ground.image c.remove.new.pages) c.in-Ok.index c.args.page.0 c.in-Err-remove.fault) c.index_of.ensures.kept c.in-Err-remove.ensures.fault told))
+
+pub returns-then-not-has_placed_root-clause-sound : goal.returns-then-not-has_placed_root-clause-sound
+returns-then-not-has_placed_root-clause-sound g c = λ damage told index file number.
+    let kept = c.index_of.ensures.kept in
+    let told_b = g.P.Ground.leads_told c.args.pages.now c.index_of.new.pages kept.leads told in
+    let here = found_file g.P.Ground c.args.pages.now c.index_of.new.pages index c.in-Ok.index c.args.file_no file number (c.in-Ok.ensures.found told) kept in
+    let edits = c.in-Ok-remove.ensures.removes told_b (has_index g.P.Ground c.index_of.new.pages c.in-Ok.index here) in
+    c.has_placed_root.ensures.other c.if-not-has_placed_root.true
+    (root_placed (g.P.Ground.geometry c.remove.new.pages) (g.P.Ground.image c.remove.new.pages) c.in-Ok-remove.left.file_no c.in-Ok-remove.left.level c.in-Ok-remove.left.root edits.index.whole)
+
+pub returns-then-not-has_placed_root-clause-fault : goal.returns-then-not-has_placed_root-clause-fault
+returns-then-not-has_placed_root-clause-fault g c = λ told.
+    let leads = g.P.Ground.leads_trans c.args.pages.now c.index_of.new.pages c.remove.new.pages c.index_of.ensures.kept.leads c.remove.ensures.leads in
+    listed c.in-Ok.index (c.in-Ok.ensures.lists told)
+    (bad_root c.in-Ok-remove.left c.in-Ok-remove.ensures.shrinks.same_file c.in-Ok-remove.ensures.shrinks.no_more
+    (c.no_root.ensures.fault (g.P.Ground.geometry c.args.pages.now) (λ placed. c.has_placed_root.ensures.other c.if-not-has_placed_root.true
+    (subst (λ (y : Geometry). HasPlacedRoot y c.in-Ok-remove.left.root) (sym (g.P.Ground.leads_geometry c.args.pages.now c.remove.new.pages leads)) placed))))
+
+pub returns-then-not-has_placed_root-clause-cause : goal.returns-then-not-has_placed_root-clause-cause
+returns-then-not-has_placed_root-clause-cause g c = c.no_root.ensures.cause _ _

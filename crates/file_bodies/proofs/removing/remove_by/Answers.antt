@@ -1,4 +1,4 @@
-use Rattle.std.proofs.Common.{◌≡◌, ℕ, List, [], None, subst, sym, ap, ◌∙◌}
+use Rattle.std.proofs.Common.{◌≡◌, ℕ, List, [], length, arith, None, subst, sym, ap, ◌∙◌}
 use Rattle.std.specs.Prelude.{Contains}
 use Rattle.slotted_pages.specs.Reads.{page_on}
 use Rattle.slotted_pages.specs.Edits.{slots_of, with_slot, with_slots, trimmed}
@@ -8,6 +8,9 @@ use Rattle.file_bodies.proofs.Rows.{contains_times}
 use Rattle.file_bodies.proofs.Moving.{kept_file}
 use Rattle.file_bodies.proofs.Slots.{page_of, body_sound, body_removed}
 use Rattle.file_bodies.proofs.Leaving.{left_edits, kept_leaves}
+use Rattle.file_index.specs.Damage.{HasWay}
+use Rattle.file_bodies.specs.Damage.{leaving, IsListedFault, IsLeavingFault, HasListed}
+use Rattle.file_bodies.proofs.Blame.{carried}
 use Rattle.file_bodies.proofs.removing.remove_by.Goals as goal
 
 pub returns-in-Err-clause-sound : goal.returns-in-Err-clause-sound
@@ -45,3 +48,24 @@ returns-clause-sound g c = if_err c.drop_page.result _ _ (λ fault never damage 
     let at = contains_times c.args.place.page.0 (pages_in (g.P.Ground.image c.args.pages.now) index) has.named in
     let number : index.file_no ≡ c.in-Ok.file_no = sym (page_of g.P.Ground c.args.pages.now index c.args.place.page.0 has.file at).number ∙ ap (λ (t : List ℕ). (page_on t).file_no) (sym read) ∙ c.in-Ok.ensures.file in
     never damage told_b index (kept_file g.P.Ground c.args.pages.now c.load_body_page.new.pages index kept has.file) number) c.drop_page.ensures.sound
+
+pub returns-clause-fault : goal.returns-clause-fault
+returns-clause-fault g c = if_err c.drop_page.result _ _ (λ fault h told.
+    let read = c.in-Ok.ensures.bytes told in
+    let number : c.in-Ok.file_no ≡ (page_on (g.P.Ground.image c.args.pages.now c.args.place.page.0)).file_no = sym c.in-Ok.ensures.file ∙ ap (λ (t : List ℕ). (page_on t).file_no) read in
+    leaving (c.in-Ok.ensures.has told)
+    (subst (λ (n : ℕ). IsListedFault (g.P.Ground.image c.args.pages.now) n (λ index. IsLeavingFault (g.P.Ground.geometry c.args.pages.now) (g.P.Ground.image c.args.pages.now) (g.P.Ground.image c.drop_page.new.pages) index c.args.place.page.0 fault) fault) number
+    (carried g.P.Ground c.args.pages.now c.load_body_page.new.pages (λ y u. IsListedFault u c.in-Ok.file_no (λ index. IsLeavingFault y u (g.P.Ground.image c.drop_page.new.pages) index c.args.place.page.0 fault) fault) c.load_body_page.ensures.kept h told))) c.drop_page.ensures.fault
+
+pub returns-then-has_slots-clause-way : goal.returns-then-has_slots-clause-way
+returns-then-has_slots-clause-way g c = on_ok c.put.result _ _ (λ put told last.
+    let empty : trimmed (with_slot (slots_of c.load_body_page.new.out) c.args.place.slot None) ≡ [] = subst (λ (t : List ℕ). trimmed (with_slot (slots_of t) c.args.place.slot None) ≡ []) (sym (c.in-Ok.ensures.bytes told)) last in
+    let none = slots_are c.remove_body.new.image (with_slots (page_on c.load_body_page.new.out) (trimmed (with_slot (slots_of c.load_body_page.new.out) c.args.place.slot None))) c.remove_body.ensures ∙ empty in
+    absurd (omega (arith, c.has_slots.ensures.some c.if-has_slots.true, ap length none))) c.put.ensures.put
+
+pub returns-clause-way : goal.returns-clause-way
+returns-clause-way g c = on_ok c.drop_page.result _ _ (λ h told last.
+    let read = c.in-Ok.ensures.bytes told in
+    let number : c.in-Ok.file_no ≡ (page_on (g.P.Ground.image c.args.pages.now c.args.place.page.0)).file_no = sym c.in-Ok.ensures.file ∙ ap (λ (t : List ℕ). (page_on t).file_no) read in
+    subst (λ (n : ℕ). HasListed (g.P.Ground.image c.args.pages.now) n (λ index. HasWay (g.P.Ground.geometry c.args.pages.now) (g.P.Ground.image c.args.pages.now) index c.args.place.page.0)) number
+    (carried g.P.Ground c.args.pages.now c.load_body_page.new.pages (λ y u. HasListed u c.in-Ok.file_no (λ index. HasWay y u index c.args.place.page.0)) c.load_body_page.ensures.kept h told)) c.drop_page.ensures.way
