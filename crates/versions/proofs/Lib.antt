@@ -1,0 +1,10 @@
+pub mod Results
+pub mod Records
+pub mod Roots
+pub mod Standing
+pub mod FileRows
+pub mod Puts
+pub mod Needed
+pub mod Becoming
+pub mod RowsListed
+pub mod Listed

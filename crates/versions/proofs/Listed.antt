@@ -1,0 +1,65 @@
+-- How far the rows of a file are listed.
+use Rattle.std.proofs.Common.{◌≡◌, ◌≤◌, ◌+◌, ℕ, List, [], ◌++◌, Option, Some, None, refl, sym, subst}
+use Rattle.ex_base.specs.declared.ground.Ground as ground
+use Rattle.ex_base.specs.declared.names.Oid.{Oid}
+use Rattle.ex_base.specs.declared.names.Place.{Place}
+use Rattle.ex_base.specs.Ports.{Keeps}
+use Rattle.object_records.specs.Record.{Record, BodyOf}
+use Rattle.object_records.specs.Reads.{record_on}
+use Rattle.file_index.specs.declared.Index.{Index}
+use Rattle.file_bodies.specs.Bodies.{Row, bodies_of}
+use Rattle.file_bodies.specs.Files.{HasFile, HasFiles, HasBody}
+use Rattle.file_bodies.specs.Places.{IsFirstFrom, FirstFrom, IsNext}
+use Rattle.file_bodies.proofs.Moving.{kept_file}
+use Rattle.file_bodies.proofs.Ordered.{ordered}
+use Rattle.versions.specs.Listed.{oids_in, oids_of, rank_of, start_rank, AreReadable}
+use Rattle.versions.proofs.FileRows.{InRows, in_mid, row_stands}
+use Rattle.versions.proofs.RowsListed.{IsShort, IsListed, key_of, slot_of, none_listed, next_listed, all_listed, next_rank, at_mid}
+
+-- the first row from there on, as the record says it
+next_first : (rows : List Row) (after : Option Place) (place : Place) → IsNext rows after (Some place) → IsFirstFrom rows (key_of after) (slot_of after) place
+next_first rows None place next = next
+next_first rows (Some p) place next = next
+
+none_next : (rows : List Row) (after : Option Place) → IsNext rows after None → FirstFrom rows (key_of after) (slot_of after) None
+none_next rows None next = next
+none_next rows (Some p) next = next
+
+module _ {S : Type 0} (g : ground.Ghosts S) where
+  -- Up to a place the rows of the file are listed, in a state with the same meanings.
+  pub record ListedTo (a b : S) (file_no : ℕ) (after : Option Place) (oids : List Oid) : Type 0 where
+    pub kept : Keeps g a b
+    pub short : IsShort after
+    pub listed : g.tells a → HasFiles g a → (index : Index) → HasFile g a index → index.file_no ≡ file_no → IsListed (bodies_of (g.image a) index) (key_of after) (slot_of after) oids
+
+  pub listed_none : (a : S) (file_no : ℕ) → ListedTo a a file_no None []
+  listed_none a file_no = record { kept = record { units = refl; images = refl; used = refl; refs = refl; held = refl; free = refl; leads = g.leads_refl a }; short = tt; listed = λ told files index file is. none_listed (bodies_of (g.image a) index) }
+
+  module _ (a b : S) (file_no : ℕ) (after : Option Place) (oids : List Oid) (to : ListedTo a b file_no after oids) (told : g.tells a) (files : HasFiles g a) (index : Index) (file : HasFile g a index) (is : index.file_no ≡ file_no) where
+    pub told_b : g.tells b
+    told_b = g.leads_told a b to.kept.leads told
+
+    pub file_b : HasFile g b index
+    file_b = kept_file g a b index to.kept file
+
+    same_rows : (o : Option Place) → IsNext (bodies_of (g.image b) index) after o → IsNext (bodies_of (g.image a) index) after o
+    same_rows o = subst (λ (f : ℕ → List ℕ). IsNext (bodies_of f index) after o) to.kept.images
+
+    pub done : IsNext (bodies_of (g.image b) index) after None → oids ≡ oids_of (bodies_of (g.image a) index)
+    done next = all_listed (bodies_of (g.image a) index) (key_of after) (slot_of after) oids (to.listed told files index file is) (none_next (bodies_of (g.image a) index) after (same_rows None next))
+
+    module _ (place : Place) (next : IsNext (bodies_of (g.image b) index) after (Some place)) where
+      pub first : IsFirstFrom (bodies_of (g.image a) index) (key_of after) (slot_of after) place
+      first = next_first (bodies_of (g.image a) index) after place (same_rows (Some place) next)
+
+      pub stands : HasBody g a index place first.body
+      stands = row_stands g a index place first.body file (subst (λ (rows : List Row). InRows rows (place, first.body)) (sym first.is) (in_mid first.front first.back (place, first.body)))
+
+      pub rises : start_rank after ≤ rank_of place
+      rises = next_rank after place to.short first.reached
+
+      pub readable : AreReadable (bodies_of (g.image a) index) → (r : Record) × BodyOf first.body r
+      readable all = at_mid (λ (row : Row). (r : Record) × BodyOf row.1 r) first.front (place, first.body) first.back (subst AreReadable first.is all)
+
+      pub one_more : IsListed (bodies_of (g.image a) index) place.page.0 (place.slot + 1) (oids ++ oids_in place (record_on first.body).head)
+      one_more = next_listed (bodies_of (g.image a) index) (key_of after) (slot_of after) oids place first (ordered g a index file) (to.listed told files index file is)

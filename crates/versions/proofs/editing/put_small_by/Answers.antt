@@ -1,0 +1,16 @@
+use Rattle.versions.proofs.Results.{if_ok_both}
+use Rattle.versions.proofs.Puts.{small_fits}
+use Rattle.versions.proofs.editing.put_small_by.Goals as goal
+
+pub write_small-requires-clause-fits : goal.write_small-requires-clause-fits
+write_small-requires-clause-fits g c = small_fits c.args.head.now c.args.bytes.now c.requires.head c.requires.short
+
+pub returns-clause-put : goal.returns-clause-put
+returns-clause-put g c = if_ok_both c.change_body.result _ _ _ (λ done changed put t told index was has. record {
+  body = c.write_small.new.out;
+  spelled = c.write_small.ensures;
+  edit = changed t told index was has;
+  image = (put t).0;
+  put = (put t).1;
+  leads = c.change_body.ensures.leads;
+}) c.change_body.ensures.changed c.change_body.ensures.put

@@ -1,0 +1,38 @@
+-- The free units that an edit of a version asks for, of which it takes at most so many.
+use Rattle.std.specs.Prelude.{ℕ, ◌+◌, ◌*◌, ◌/◌, ◌-◌, ◌==◌, if◌then◌else◌}
+use Rattle.ex_base.specs.Sizes.{leaf_bytes}
+use Rattle.ex_base.specs.declared.geometry.Geometry.{Geometry}
+use Rattle.ex_base.specs.declared.names.Area.{Area}
+use Rattle.ex_base.specs.declared.names.Area.TheVariants.{Page, Segment}
+use Rattle.object_records.specs.Record.{Content, Small, Large}
+use Rattle.versions.specs.Versions.{Change, Inserts, Appends, Replaces, Deletes, count_of}
+
+-- the height of its tree, 0 for a small version
+abbrev pub height_in : Content → ℕ
+height_in (Small bytes) = 0
+height_in (Large root) = root.height
+
+-- of an insert or an append of n bytes into a tree of height h
+abbrev pub growth_need : Geometry → ℕ → ℕ → Area → ℕ
+growth_need g n h Segment = n / leaf_bytes g + 5
+growth_need g n h Page = (n / leaf_bytes g + 5) / g.fan + 4 * (h + 3)
+
+-- of a replace of n bytes
+abbrev pub replace_need : Geometry → ℕ → ℕ → Area → ℕ
+replace_need g n h Segment = 2 * n / leaf_bytes g + 3
+replace_need g n h Page = (2 * n / leaf_bytes g + 3) / (g.fan - 1) + 4 * (h + 1)
+
+-- of a delete
+abbrev pub delete_need : ℕ → Area → ℕ
+delete_need h Segment = 4
+delete_need h Page = 8 * (h + 2)
+
+-- of an edit of a version that is large or becomes large; one of no bytes needs nothing
+abbrev pub most_need : Geometry → Change → ℕ → Area → ℕ
+most_need g (Inserts pos given) h area = growth_need g (count_of (Inserts pos given)) h area
+most_need g (Appends given) h area = growth_need g (count_of (Appends given)) h area
+most_need g (Replaces pos given) h area = replace_need g (count_of (Replaces pos given)) h area
+most_need g (Deletes pos len) h area = delete_need h area
+
+abbrev pub edit_need : Geometry → Change → Content → Area → ℕ
+edit_need g change content area = if count_of change == 0 then 0 else most_need g change (height_in content) area

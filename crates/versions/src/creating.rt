@@ -1,0 +1,51 @@
+//! A new object.
+ghost use Rattle.std.specs.Prelude.{◌≡◌, ◌≤◌, ◌+◌, ℕ, List, IfOk, IfErr, OnOk};
+ghost use Rattle.ex_base.specs.Ports.{HasCause, IsDamage};
+ghost use Rattle.ex_base.specs.declared.names.Area.TheVariants.{Page};
+ghost use Rattle.object_records.specs.Record.{BodyOf};
+ghost use Rattle.file_index.specs.declared.Index.{Index};
+ghost use Rattle.file_bodies.specs.Files.{HasFile};
+ghost use Rattle.file_bodies.specs.Places.{IsRoom};
+ghost use Rattle.versions.specs.Versions.{CreatesVersion};
+
+use crate::LARGE_LEN;
+use ex_base::{Oid, PortFault, Volume};
+use file_bodies::{Room, place_body};
+use object_records::{Head, State, write_small};
+use std::alloc::Global;
+
+/// Puts the record of a new object into the file of `room`: a small version without bytes, under a number that no version has had. It takes at most 7 pages.
+pub fn create<V: Volume>(
+    volume: &mut V,
+    alloc: Global,
+    room: &mut Room,
+    unique: u64,
+) -> Result<Oid, PortFault>
+    requires ready { V.ready volume.old }
+    requires free { 7 ≤ V.free volume.old Page }
+    ensures created { IfOk result (λ oid. V.tells volume.old → (index : Index) → HasFile V.Ground volume.old index → index.file_no ≡ room.old.file_no → IsRoom V.Ground volume.old index room.old
+        → CreatesVersion V.Ground volume.old volume.new index oid) }
+    ensures number { IfOk result (λ oid. oid.unique ≡ unique) }
+    ensures room { IfOk result (λ oid. room.new ≡ record { file_no = room.old.file_no; from = oid.page; len = 36 }) }
+    ensures pages { OnOk result (V.free volume.old Page ≤ V.free volume.new Page + 7) }
+    ensures sound { IfErr result (λ fault. IsDamage fault → V.tells volume.old → (index : Index) → HasFile V.Ground volume.old index → index.file_no ≡ room.old.file_no → ⊥) }
+    ensures leads { V.leads volume.old volume.new }
+    ensures cause { HasCause (V.faults volume.old) (V.faults volume.new) result }
+{
+    let head = Head {
+        state: State::Current,
+        unique,
+        older: None,
+        newer: None,
+    };
+    let mut body = [0u8; LARGE_LEN];
+    write_small(&head, &[], &mut body);
+    match place_body(volume, alloc, room, &body) {
+        Ok(place) => Ok(Oid {
+            page: place.page,
+            slot: place.slot,
+            unique,
+        }),
+        Err(fault) => Err(fault),
+    }
+}

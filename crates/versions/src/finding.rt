@@ -1,0 +1,170 @@
+//! What is told of the version that an OID names, and its bytes.
+ghost use Rattle.std.specs.Prelude.{◌≡◌, ◌↔◌, IsTrue, ◌≤◌, ◌+◌, ℕ, List, length, [], ◌<◌, IfOk, IfErr, IfSome, IfNone, OnOk, Some, None};
+ghost use Rattle.ex_base.specs.Bytes.{bytes_at};
+ghost use Rattle.ex_base.specs.Ports.{Keeps, HasCause, IsDamage};
+ghost use Rattle.object_records.specs.Record.{Content, Record, BodyOf, IsRecord};
+ghost use Rattle.object_records.specs.Reads.{small_record};
+ghost use Rattle.object_records.specs.declared.Head.{Head};
+ghost use Rattle.file_index.specs.declared.Index.{Index};
+ghost use Rattle.file_bodies.specs.Files.{HasFiles, HasBody};
+ghost use Rattle.tree_insert.specs.Roots.{IsRootFor};
+ghost use Rattle.versions.specs.Versions.{HasRecord, HoldsVersion, Stands, place_of};
+ghost use Rattle.versions.specs.Found.{IsReadable, IsRecordBody, IsTold, found_of};
+
+use crate::recorded::{no_record, no_root, place_of};
+use ex_base::{Geometry, Oid, Place, PortFault, Root, Volume};
+use file_bodies::body_at;
+use object_records::{Head, Payload, RecordView};
+use std::alloc::Global;
+use tree_insert::{is_root_for, read};
+
+/// What is told of a version.
+#[derive(Clone, Copy, Debug, PartialEq, Eq)]
+pub struct Found {
+    pub head: Head,
+    /// Its bytes.
+    pub size: u64,
+    /// The root of its tree, none for a small version.
+    pub root: Option<Root>,
+}
+
+/// What a record tells, none where it has another unique number than the OID.
+fn told_of(body: &[u8], geometry: &Geometry, oid: &Oid) -> Result<Option<Found>, PortFault>
+    ensures some { IfOk result (λ found. IfSome found (λ found. IsTold geometry.now oid.now.unique body.now found)) }
+    ensures none { IfOk result (λ found. IfNone found ((is : Record) → BodyOf body.now is → is.head.unique ≡ oid.now.unique → ⊥)) }
+    ensures sound { IfErr result (λ fault. IsRecordBody geometry.now body.now → ⊥) }
+    ensures cause { (before now : ℕ) → HasCause before now result }
+{
+    let Some(view) = RecordView::of(body) else {
+        return Err(no_record(place_of(oid)));
+    };
+    let head = view.head();
+    if head.unique != oid.unique {
+        return Ok(None);
+    }
+    match view.payload() {
+        Payload::Small(bytes) => Ok(Some(Found {
+            head,
+            size: bytes.len() as u64,
+            root: None,
+        })),
+        Payload::Large(root) => {
+            if !is_root_for(geometry, &root) {
+                return Err(no_root(oid.page, &root));
+            }
+            Ok(Some(Found {
+                head,
+                size: root.size,
+                root: Some(root),
+            }))
+        }
+    }
+}
+
+/// What is told of the version that an OID names. None exactly where no record with its unique number stands where it leads.
+pub fn find<V: Volume>(volume: &mut V, alloc: Global, oid: &Oid) -> Result<Option<Found>, PortFault>
+    requires { V.ready volume.old }
+    ensures stands { IfOk result (λ found. IfSome found (λ _. V.tells volume.old → HasFiles V.Ground volume.old → Stands V.Ground volume.old oid.now)) }
+    ensures told { IfOk result (λ found. V.tells volume.old → HasFiles V.Ground volume.old → (index : Index) (is : Record) → HasRecord V.Ground volume.old index oid.now is → found ≡ Some (found_of is)) }
+    ensures size { IfOk result (λ found. V.tells volume.old → HasFiles V.Ground volume.old → (index : Index) (content : Content) (bytes : List ℕ) → HoldsVersion V.Ground volume.old index oid.now content bytes
+        → IfSome found (λ found. found.size ≡ length bytes)) }
+    ensures head { IfOk result (λ found. IfSome found (λ found. IsRecord (small_record found.head []))) }
+    ensures small { IfOk result (λ found. IfSome found (λ found. found.root ≡ None → found.size < 65536)) }
+    ensures root { IfOk result (λ found. IfSome found (λ found. IfSome found.root (λ root. IsRootFor (V.geometry volume.old) root))) }
+    ensures large { IfOk result (λ found. IfSome found (λ found. IfSome found.root (λ root. found.size ≡ root.size))) }
+    ensures sound { IfErr result (λ fault. IsDamage fault → V.tells volume.old → HasFiles V.Ground volume.old → IsReadable V.Ground volume.old (place_of oid.now) → ⊥) }
+    ensures kept { Keeps V.Ground volume.old volume.new }
+    ensures cause { HasCause (V.faults volume.old) (V.faults volume.new) result }
+{
+    let geometry = volume.geometry();
+    match body_at(volume, alloc, place_of(oid)) {
+        Ok(Some(body)) => told_of(body, &geometry, oid),
+        Ok(None) => Ok(None),
+        Err(fault) => Err(fault),
+    }
+}
+
+/// Copies a part of a small version's bytes out of its record.
+fn copy_small(body: &[u8], place: Place, pos: u64, out: &mut [u8]) -> Result<(), PortFault>
+    ensures bytes { OnOk result ((head : Head) (bytes : List ℕ) → BodyOf body.now (small_record head bytes) → (pos + length out.old ≤ length bytes) × (out.new ≡ bytes_at bytes pos (length out.old))) }
+    ensures len { length out.new ≡ length out.old }
+    ensures sound { IfErr result (λ fault. (head : Head) (bytes : List ℕ) → BodyOf body.now (small_record head bytes) → pos + length out.old ≤ length bytes → ⊥) }
+    ensures cause { (before now : ℕ) → HasCause before now result }
+{
+    let Some(view) = RecordView::of(body) else {
+        return Err(no_record(place));
+    };
+    let Payload::Small(bytes) = view.payload() else {
+        return Err(no_record(place));
+    };
+    if out.len() > bytes.len() || pos > (bytes.len() - out.len()) as u64 {
+        return Err(no_record(place));
+    }
+    let from = pos as usize;
+    out.copy_from_slice(&bytes[from..from + out.len()]);
+    Ok(())
+}
+
+/// Reads a part of a small version's bytes.
+pub(crate) fn read_small<V: Volume>(
+    volume: &mut V,
+    alloc: Global,
+    place: Place,
+    pos: u64,
+    out: &mut [u8],
+) -> Result<(), PortFault>
+    requires { V.ready volume.old }
+    ensures bytes { OnOk result (V.tells volume.old → HasFiles V.Ground volume.old → (index : Index) (body : List ℕ) (head : Head) (bytes : List ℕ) → HasBody V.Ground volume.old index place body → BodyOf body (small_record head bytes)
+        → (pos + length out.old ≤ length bytes) × (out.new ≡ bytes_at bytes pos (length out.old))) }
+    ensures page { OnOk result (V.tells volume.old → (index : Index) (body : List ℕ) → HasBody V.Ground volume.old index place body → length (V.image volume.old place.page.0) ≡ (V.geometry volume.old).page_size) }
+    ensures len { length out.new ≡ length out.old }
+    ensures sound { IfErr result (λ fault. IsDamage fault → V.tells volume.old → HasFiles V.Ground volume.old → (index : Index) (body : List ℕ) (head : Head) (bytes : List ℕ) → HasBody V.Ground volume.old index place body → BodyOf body (small_record head bytes)
+        → pos + length out.old ≤ length bytes → ⊥) }
+    ensures kept { Keeps V.Ground volume.old volume.new }
+    ensures cause { HasCause (V.faults volume.old) (V.faults volume.new) result }
+{
+    match body_at(volume, alloc, place) {
+        Ok(Some(body)) => copy_small(body, place, pos, out),
+        Ok(None) => Err(no_record(place)),
+        Err(fault) => Err(fault),
+    }
+}
+
+/// Whether so many bytes from a position on lie inside an object of a size.
+fn is_inside(pos: u64, len: usize, size: u64) -> bool
+    ensures { IsTrue result ↔ (pos + len ≤ size) }
+{
+    let len = len as u64;
+    len <= size && pos <= size - len
+}
+
+/// Reads the bytes of a version from a position on, as many as `out` holds.
+pub fn read_at<V: Volume>(
+    volume: &mut V,
+    alloc: Global,
+    oid: &Oid,
+    pos: u64,
+    out: &mut [u8],
+) -> Result<(), PortFault>
+    requires { V.ready volume.old }
+    ensures stands { OnOk result (V.tells volume.old → HasFiles V.Ground volume.old → Stands V.Ground volume.old oid.now) }
+    ensures bytes { OnOk result (V.tells volume.old → HasFiles V.Ground volume.old → (index : Index) (content : Content) (bytes : List ℕ) → HoldsVersion V.Ground volume.old index oid.now content bytes
+        → (pos + length out.old ≤ length bytes) × (out.new ≡ bytes_at bytes pos (length out.old))) }
+    ensures sound { IfErr result (λ fault. IsDamage fault → V.tells volume.old → HasFiles V.Ground volume.old → (index : Index) (content : Content) (bytes : List ℕ) → HoldsVersion V.Ground volume.old index oid.now content bytes
+        → pos + length out.old ≤ length bytes → ⊥) }
+    ensures kept { Keeps V.Ground volume.old volume.new }
+    ensures cause { HasCause (V.faults volume.old) (V.faults volume.new) result }
+{
+    let found = match find(volume, alloc, oid) {
+        Ok(Some(found)) => found,
+        Ok(None) => return Err(no_record(place_of(oid))),
+        Err(fault) => return Err(fault),
+    };
+    if !is_inside(pos, out.len(), found.size) {
+        return Err(no_record(place_of(oid)));
+    }
+    match found.root {
+        None => read_small(volume, alloc, place_of(oid), pos, out),
+        Some(root) => read(volume, alloc, &root, pos, out),
+    }
+}
