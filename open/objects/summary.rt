@@ -1,0 +1,103 @@
+//! What a session shows, summed up.
+ghost use Rattle.std.specs.Prelude.{◌≡◌};
+
+use super::Session;
+use super::catalog::view_of;
+use disk_model::Host;
+use ex_base::Area;
+use session_views::Stop;
+use std::alloc::Global;
+
+/// What the table that a session shows has, and the units in use: the working table while a transaction is open, else the committed one.
+#[derive(Clone, Copy, Debug, PartialEq, Eq)]
+pub struct Summary {
+    /// The number of the last committed transaction.
+    pub last: u64,
+    /// The files of the table.
+    pub files: u32,
+    /// The objects of its files.
+    pub objects: u64,
+    /// The versions of its objects.
+    pub versions: u64,
+    /// The units of the page area in use.
+    pub pages: u32,
+    /// Those of the segment area.
+    pub segs: u32,
+}
+
+impl Session {
+    ghost use Rattle.std.specs.Prelude.{◌≢◌, ◌⊎◌, Ok, Err, IfOk, OnOk, OnErr, true, false};
+    ghost use Rattle.ex_base.specs.declared.faults.Seen.{Seen};
+    ghost use Rattle.ex_base.specs.declared.names.PageNo.{PageNo};
+    ghost use Rattle.disk_model.specs.Outside.{ReadsOnly, Rose};
+    ghost use Rattle.session_views.specs.declared.engine.Stop.{Stop};
+    ghost use Rattle.session_views.specs.View.{View, ShowsNow};
+    ghost use Rattle.transactions.specs.Sessions.{SessionState};
+    ghost use Rattle.transactions.specs.Catalogs.{IsDamaged, catalog_bytes};
+    ghost use Rattle.transactions.specs.Steps.{OnlyFrames};
+    ghost use Rattle.transactions.specs.Meant.{meant};
+    ghost use Rattle.transactions.specs.Summaries.{IsSummary, SumsUp};
+
+    // Sums up, in a session that met no fault.
+    fn sum_up<H: Host>(&mut self, alloc: Global, host: &mut H) -> Result<Summary, Stop>
+        ensures { SumsUp (H.outside host.old) (H.outside host.new) self.old self.new result }
+    {
+        // A disk that is smaller than the volume isn't the one that the session was opened on.
+        if host.size() < self.geometry.volume_bytes() {
+            return Err(Stop::Memory);
+        }
+        let page = self.catalog(alloc, host)?;
+        let catalog = view_of(&page);
+        Ok(Summary {
+            last: catalog.last_txn(),
+            files: catalog.len(),
+            // No file has an object yet.
+            objects: 0,
+            versions: 0,
+            pages: self.used(Area::Page),
+            segs: self.used(Area::Segment),
+        })
+    }
+
+    /// Sums up what the session shows. The disk is read at most.
+    pub fn summary<H: Host>(&mut self, alloc: Global, host: &mut H) -> Result<Summary, Stop>
+        ensures only { ReadsOnly (H.outside host.old) (H.outside host.new) }
+        ensures disk { result ≡ Err Stop.Disk → Rose (H.outside host.old).disk_faults (H.outside host.new).disk_faults }
+        ensures damaged { (page : PageNo) (want got : Seen) → result ≡ Err (Stop.Damaged page want got) → want ≢ got }
+
+        // Where a view shows, it is the summary of the machine that the view shows,
+        ensures sums { (before : View SessionState) → before.session ≡ self.old → ShowsNow meant (H.outside host.old) before
+            → IfOk result (IsSummary before.machine) }
+
+        // which goes on to be shown, by the session as it is then.
+        ensures shows { (before : View SessionState) → before.session ≡ self.old → ShowsNow meant (H.outside host.old) before
+            → OnOk result (ShowsNow meant (H.outside host.new) (record before { session = self.new })) }
+
+        // Where it shows, nothing but a fault of the disk or want of memory stops it.
+        ensures sound { (before : View SessionState) (stop : Stop) → before.session ≡ self.old → ShowsNow meant (H.outside host.old) before
+            → result ≡ Err stop → (stop ≡ Stop.Disk) ⊎ (stop ≡ Stop.Memory) }
+
+        // The session stays what it was but for its frames, and but that a fault puts it down.
+        ensures frames { OnOk result (OnlyFrames (H.outside host.old) (H.outside host.new) self.old self.new) }
+        ensures kept { self.new ≡ record self.old { groups = self.new.groups; down = self.new.down } }
+
+        // Only a catalog that is outside of its grammar is damaged.
+        ensures catalog { (page : PageNo) (want got : Seen) → result ≡ Err (Stop.Damaged page want got)
+            → IsDamaged (H.outside host.old) self.old.groups (catalog_bytes self.old) page want got }
+
+        // After a fault it answers that the session is down, and calls nothing, as every step does; before one it doesn't.
+        ensures is_down { self.old.down ≡ true → (result ≡ Err Stop.Down) × (host.new ≡ host.old) × (self.new ≡ self.old) }
+        ensures was_down { result ≡ Err Stop.Down → self.old.down ≡ true }
+        ensures goes_down { OnErr result (self.new.down ≡ true) }
+        ensures stays_up { OnOk result (self.new.down ≡ false) }
+    {
+        if self.down {
+            return Err(Stop::Down);
+        }
+        let summary = self.sum_up(alloc, host);
+        if summary.is_err() {
+            self.down = true;
+        }
+        summary
+    }
+}
