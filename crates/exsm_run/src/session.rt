@@ -50,19 +50,16 @@ impl Opener for VolumeSession {
             meta,
             units,
             groups,
-            pages,
         } = opened;
         let parts = Parts {
             geometry,
             log,
             meta,
-            pages,
             units,
             groups,
         };
-        match Session::make(alloc, parts) {
-            Ok(session) => Ok(VolumeSession { session }),
-            Err(_) => Err(OpenFault::Memory),
-        }
+        Ok(VolumeSession {
+            session: Session::make(alloc, parts),
+        })
     }
 }

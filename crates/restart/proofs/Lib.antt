@@ -1,12 +1,7 @@
 pub mod Adopted
-pub mod Adopting
 pub mod BadParts
+pub mod BareVolumes
 pub mod Superblocks
-pub mod UnitsNamed
-pub mod PortKept
-pub mod PortShows
-pub mod FileRecords
-pub mod FilesTested
+pub mod Rootless
 pub mod LastRecord
 pub mod Opened
-pub mod Permuted

@@ -1,3 +1,2 @@
 pub mod Adopting
-pub mod Content
 pub mod Opening

@@ -13,7 +13,7 @@ use Rattle.table_model.specs.declared.reply.Reply.TheVariants as reply
 use Rattle.table_model.specs.declared.reply.Refusal.TheVariants as refusal
 use Rattle.table_model.specs.Requests.{Request, request_of}
 use Rattle.table_model.specs.Requests as request
-use Rattle.transactions.specs.Sessions.{SessionState, IsSession, TakenBack, aborted}
+use Rattle.transactions.specs.Sessions.{SessionState, IsSession, aborted}
 use Rattle.transactions.specs.Catalogs.{IsDamaged, FramesLend, catalog_bytes}
 use Rattle.object_files.specs.Catalog.{CatalogOf}
 use Rattle.transactions.specs.Meant.{meant}
@@ -30,12 +30,12 @@ pub no_step : {a : Outside} (s : SessionState) (r : Request) → IsWorld a → S
 no_step {a} s r world = quietly r (Err stop.Memory) world (quiet_stop r stop.Memory (reads_refl a) refl refl tt)
 
 -- an abort, whether a transaction is open or not
-pub any_abort : {a : Outside} (old new : SessionState) (told : Reply) → IsSession old → (old.opened ≡ false → (told ≡ reply.No refusal.NoTxn) × (new ≡ old)) → (old.opened ≡ true → (told ≡ reply.Abort) × (new ≡ aborted old new.pages new.units))
-    → (old.opened ≡ true → TakenBack old.meta.working old.kept old.pages new.pages old.units new.units) → StepsQuietly a a old new request.Abort (Ok told)
-any_abort {a} old new told is closed opened back = (elim old.opened as (λ b. old.opened ≡ b → StepsQuietly a a old new request.Abort (Ok told)) [
+pub any_abort : {a : Outside} (old new : SessionState) (told : Reply) → IsSession old → (old.opened ≡ false → (told ≡ reply.No refusal.NoTxn) × (new ≡ old)) → (old.opened ≡ true → (told ≡ reply.Abort) × (new ≡ aborted old))
+    → StepsQuietly a a old new request.Abort (Ok told)
+any_abort {a} old new told is closed opened = (elim old.opened as (λ b. old.opened ≡ b → StepsQuietly a a old new request.Abort (Ok told)) [
   | true ↦ λ yes_open.
       let done = opened yes_open in
-      subst (λ (t : Reply). StepsQuietly a a old new request.Abort (Ok t)) (sym done.0) (abort_quietly old new new.pages new.units is yes_open (back yes_open) (sym done.1))
+      subst (λ (t : Reply). StepsQuietly a a old new request.Abort (Ok t)) (sym done.0) (abort_quietly old new is yes_open (sym done.1))
   | false ↦ λ not_open.
       let done = closed not_open in
       subst (λ (t : Reply). StepsQuietly a a old new request.Abort (Ok t)) (sym done.0)

@@ -1,10 +1,4 @@
-pub mod Volumes
-pub mod Bridge
-pub mod Finding
-pub mod OutOfRange
-pub mod Naming
-pub mod Listing
-pub mod Summing
+pub mod NoObjects
 pub mod Showing
 pub mod Frames
 pub mod Quiet
@@ -19,18 +13,4 @@ pub mod Committing
 pub mod Marks
 pub mod Writing
 pub mod Dispatch
-mod Settling
-mod KeptOff
-mod Tracking
-mod Filed
-mod Ending
-mod Unfiled
-mod Ported
-mod Updating
-mod Removing
-mod Moving
-mod Holding
-mod Moved
-pub mod Beside
-pub mod Picking
-pub mod EditRefusals
+pub mod Summing

@@ -2,12 +2,7 @@
 mod begin;
 mod catalog;
 mod commit;
-mod edits;
-mod moving;
-mod needs;
-mod objects;
 mod refuse;
-mod settle;
 mod summary;
 mod tell;
 mod updates;
@@ -19,11 +14,10 @@ use meta_pages::Meta;
 use op_log::OpLog;
 use page_alloc::Units;
 use session_views::{Engine, Stop};
-use std::alloc::{AllocError, Global};
+use std::alloc::Global;
 use std::marker::Model;
 pub use summary::Summary;
 use table_model::{BoundName, Command, Reply};
-use volume_port::LoggedPages;
 
 /// The page of the catalog.
 const CATALOG: PageNo = PageNo(257);
@@ -31,14 +25,12 @@ const CATALOG: PageNo = PageNo(257);
 /// The index of `main` among the groups. Logged pages are read through it.
 const MAIN: u32 = 0;
 
-/// What a session is made of: its volume's sizes, and the log, the logged pages with their images, the units and the groups of frames as an opening
-/// found them.
+/// What a session is made of: its volume's sizes, and the log, the logged pages, the units and the groups of frames as an opening found them.
 #[derive(Drop)]
 pub struct Parts {
     pub geometry: Geometry,
     pub log: OpLog,
     pub meta: Meta,
-    pub pages: LoggedPages,
     pub units: Units,
     pub groups: Groups,
 }
@@ -49,14 +41,8 @@ pub struct Session {
     geometry: Geometry,
     log: OpLog,
     meta: Meta,
-    // the logged pages of the working state
-    pages: LoggedPages,
-    // whether the committed state has a logged page, by its number
-    kept: Vec<bool>,
     units: Units,
     groups: Groups,
-    // one page, which the port lends
-    room: Vec<u8>,
     // of the open transaction's updates
     notes: Vec<OpNote>,
     names: Vec<BoundName>,
@@ -71,16 +57,13 @@ impl Model for Session {
 
     ghost Value = { SessionState };
 
-    ghost view = { λ s. record { geometry = s.geometry; log = s.log; meta = s.meta; pages = s.pages; kept = s.kept.items; units = s.units; groups = s.groups; room = s.room.items; notes = s.notes.items; names = s.names.items; opened = s.opened; down = s.down } };
+    ghost view = { λ s. record { geometry = s.geometry; log = s.log; meta = s.meta; units = s.units; groups = s.groups; notes = s.notes.items; names = s.names.items; opened = s.opened; down = s.down } };
 
-    ghost invariant = { λ s. IsSession (record { geometry = s.geometry; log = s.log; meta = s.meta; pages = s.pages; kept = s.kept.items; units = s.units; groups = s.groups; room = s.room.items; notes = s.notes.items; names = s.names.items; opened = s.opened; down = s.down }) };
+    ghost invariant = { λ s. IsSession (record { geometry = s.geometry; log = s.log; meta = s.meta; units = s.units; groups = s.groups; notes = s.notes.items; names = s.names.items; opened = s.opened; down = s.down }) };
 }
 
 impl Session {
-    ghost use Rattle.std.specs.Prelude.{◌≡◌, ◌<◌, ℕ, [], length, All, Ok, OnOk, IfOk, IsTrue, true, false};
-    ghost use Rattle.ex_base.specs.Area.{area_end, catalog_no};
-    ghost use Rattle.tree_store.specs.Stored.{IsCounted};
-    ghost use Rattle.volume_port.specs.Logged.{is_held, is_taken};
+    ghost use Rattle.std.specs.Prelude.{◌≡◌, ◌<◌, [], length, All, Ok, OnOk, IsTrue, true};
     ghost use Rattle.buffer_groups.specs.Frames.{Frames};
     ghost use Rattle.table_model.specs.Built.{is_built};
     ghost use Rattle.table_model.specs.Requests.{request_of, is_request};
@@ -93,46 +76,36 @@ impl Session {
     ghost use Rattle.transactions.specs.Sessions.{SessionState, fresh_session};
 
     /// A session over these parts, with no transaction, no scan and no bound name. The parts are of one geometry, `main` is among the groups, no page
-    /// is touched or taken, the catalog is among the logged pages, each committed image has its place in the log, and no frame is of a page of the log.
-    pub fn make(alloc: Global, parts: Parts) -> Result<Session, AllocError>
+    /// is touched, each committed image has its place in the log, and no frame is of a page of the log.
+    pub fn make(alloc: Global, parts: Parts) -> Session
         requires log { parts.log.geometry ≡ parts.geometry }
         requires meta { parts.meta.geometry ≡ parts.geometry }
-        requires units { IsCounted parts.geometry parts.units }
-        requires held { length parts.pages.held ≡ area_end parts.geometry }
-        requires taken { length parts.pages.taken ≡ area_end parts.geometry }
-        requires catalog { is_held parts.pages catalog_no ≡ true }
-        requires none_taken { (page : ℕ) → is_taken parts.pages page ≡ false }
+        requires units { parts.units.geometry ≡ parts.geometry }
         requires groups { All (λ (f : Frames). f.page_size ≡ parts.geometry.page_size) parts.groups }
         requires main { 0 < length parts.groups }
         requires untouched { parts.meta.working ≡ [] }
         requires logged { IsLogged parts.log parts.meta }
         requires behind { AreBehindLog parts.groups }
-        ensures { IfOk result (λ s. s ≡ fresh_session parts.geometry parts.log parts.meta parts.pages parts.units parts.groups) }
+        ensures { result ≡ fresh_session parts.geometry parts.log parts.meta parts.units parts.groups }
     {
         let Parts {
             geometry,
             log,
             meta,
-            pages,
             units,
             groups,
         } = parts;
-        let kept = pages.held().to_vec(alloc)?;
-        let room = vec![in alloc; 0u8; geometry.page_size as usize]?;
-        Ok(Session {
+        Session {
             geometry,
             log,
             meta,
-            pages,
-            kept,
             units,
             groups,
-            room,
             notes: Vec::new(alloc),
             names: Vec::new(alloc),
             opened: false,
             down: false,
-        })
+        }
     }
 
     // Steps on a command, in a session that met no fault.

@@ -13,7 +13,7 @@ use Rattle.tree_rows.specs.declared.rows.Part.{Part}
 use Rattle.tree_rows.specs.Damage.{IsNodeAt, IsSoundWay, NamesNode}
 use Rattle.count_nodes.specs.Node.{pairs_on}
 use Rattle.tree_rows.specs.Rows.{IsFilled, IsRowOn, parts_of, row_size}
-use Rattle.tree_rows.proofs.Ways.{way_back, way_front, way_move}
+use Rattle.tree_rows.proofs.Ways.{way_back}
 use Rattle.tree_steps.specs.Built.{AreSome}
 use Rattle.tree_delete.specs.declared.cut.Cut.{Cut}
 use Rattle.tree_delete.specs.Cuts.{all_of, IsCutOf}
@@ -62,38 +62,23 @@ module _ (geo : Geometry) (u : Units) where
       let one : suc l - 1 ≡ l = omega arith in
       inr (nodes, (below, of, subst (λ k. Widens geo u (suc l) cut.left.items cut.right.items below (λ lefts rights. IsSoundBeside geo u k geo.fan lefts below.run.items rights below.at below.len)) one w))
 
-  -- the leaves that are read
-  pub beside_leaf : (cut wider : Cut) → AreSome (all_of cut) → cut.at + cut.len ≤ row_size cut.run.items → TakesNear (leaf_bytes geo) cut wider → wider.len ≡ cut.len
+  -- the leaf beside a run of leaves, all of which is read
+  pub beside_leaf : (cut wider : Cut) → AreSome (all_of cut) → cut.at + cut.len ≤ row_size cut.run.items → (1 ≤ row_size cut.run.items - cut.len → row_size cut.run.items - cut.len < leaf_bytes geo / 2 → TakesNear cut wider)
       → ((byte : ℕ) → byte < row_size wider.run.items → (byte < wider.at) ⊎ (wider.at + wider.len ≤ byte) → IsSoundWay geo u (NamesLeaf geo) 0 0 wider.run.items byte byte) → OpensSound geo u 0 0 cut
-  beside_leaf cut wider some inside (takes_none alone run at) len ways = (
-    λ byte lt out. subst (λ r. IsSoundWay geo u (NamesLeaf geo) 0 0 r byte byte) run (ways byte (omega (arith, lt, ap row_size run)) (elim out [
-      | inl low ↦ inl (omega (arith, at, low))
-      | inr high ↦ inr (omega (arith, at, len, high))
-    ])),
-    λ one few. nowhere (alone one few).0 (alone one few).1,
-  )
-  beside_leaf cut wider some inside (takes_before front part left run at) len ways =
-      let parts = split_each (λ (part : Part). 1 ≤ part.size) cut.left.items (cut.run.items ++ cut.right.items) some in
-      let sized = (split_each (λ (part : Part). 1 ≤ part.size) front (part ∷ []) (subst AreSome left parts.0)).1.0 in
-      let way : IsSoundWay geo u (NamesLeaf geo) 0 0 (part ∷ cut.run.items) 0 0 = subst (λ r. IsSoundWay geo u (NamesLeaf geo) 0 0 r 0 0) run (ways 0 (omega (arith, ap row_size run, sized)) (inl (omega (arith, at, sized)))) in (
-        λ byte lt out. way_move geo u (NamesLeaf geo) 0 0 cut.run.items (part.size + byte - part.size) (part.size + byte - part.size) byte byte (omega arith) (omega arith)
-            ((subst (λ r. IsSoundWay geo u (NamesLeaf geo) 0 0 r (part.size + byte) (part.size + byte)) run (ways (part.size + byte) (omega (arith, lt, ap row_size run)) (elim out [
-              | inl low ↦ inl (omega (arith, at, low))
-              | inr high ↦ inr (omega (arith, at, len, high))
-            ]))).1 (omega arith)),
-        λ one few. before front part left (way.0 (omega (arith, sized))),
-      )
-  beside_leaf cut wider some inside (takes_behind part back left right run at) len ways =
-      let parts = split_each (λ (part : Part). 1 ≤ part.size) cut.left.items (cut.run.items ++ cut.right.items) some in
-      let sized = (subst AreSome right (split_each (λ (part : Part). 1 ≤ part.size) cut.run.items cut.right.items parts.1).1).0 in
-      let size : row_size wider.run.items ≡ row_size cut.run.items + part.size = omega (arith, ap row_size run, size_app cut.run.items (part ∷ [])) in
-      let way : IsSoundWay geo u (NamesLeaf geo) 0 0 (cut.run.items ++ (part ∷ [])) (row_size cut.run.items) (row_size cut.run.items) =
-      subst (λ r. IsSoundWay geo u (NamesLeaf geo) 0 0 r (row_size cut.run.items) (row_size cut.run.items)) run
-      (ways (row_size cut.run.items) (omega (arith, size, sized)) (inr (omega (arith, at, len, inside)))) in (
-        λ byte lt out. way_front geo u (NamesLeaf geo) 0 0 cut.run.items (part ∷ []) byte byte
-            (subst (λ r. IsSoundWay geo u (NamesLeaf geo) 0 0 r byte byte) run (ways byte (omega (arith, lt, size)) (elim out [
-              | inl low ↦ inl (omega (arith, at, low))
-              | inr high ↦ inr (omega (arith, at, len, high))
-            ]))),
-        λ one few. behind part back left right ((way_back geo u (NamesLeaf geo) 0 0 cut.run.items (part ∷ []) (row_size cut.run.items) (row_size cut.run.items) (omega arith) way).0 (omega (arith, sized))),
-      )
+  beside_leaf cut wider some inside takes ways = λ one few. near (takes one few)
+    where
+      parts : AreSome cut.left.items × AreSome (cut.run.items ++ cut.right.items)
+      parts = split_each (λ (part : Part). 1 ≤ part.size) cut.left.items (cut.run.items ++ cut.right.items) some
+
+      near : TakesNear cut wider → AtNear (λ part. NamesLeaf geo part.page.0) cut.left.items cut.right.items
+      near (takes_none left right) = nowhere left right
+      near (takes_before front part left run at) =
+          let sized = (split_each (λ (part : Part). 1 ≤ part.size) front (part ∷ []) (subst AreSome left parts.0)).1.0 in
+          let way : IsSoundWay geo u (NamesLeaf geo) 0 0 (part ∷ cut.run.items) 0 0 = subst (λ r. IsSoundWay geo u (NamesLeaf geo) 0 0 r 0 0) run (ways 0 (omega (arith, ap row_size run, sized)) (inl (omega (arith, at, sized)))) in
+          before front part left (way.0 (omega (arith, sized)))
+      near (takes_behind part back left right run at len) =
+          let sized = (subst AreSome right (split_each (λ (part : Part). 1 ≤ part.size) cut.run.items cut.right.items parts.1).1).0 in
+          let way : IsSoundWay geo u (NamesLeaf geo) 0 0 (cut.run.items ++ (part ∷ [])) (row_size cut.run.items) (row_size cut.run.items) =
+          subst (λ r. IsSoundWay geo u (NamesLeaf geo) 0 0 r (row_size cut.run.items) (row_size cut.run.items)) run
+          (ways (row_size cut.run.items) (omega (arith, ap row_size run, size_app cut.run.items (part ∷ []), sized)) (inr (omega (arith, at, len, inside)))) in
+          behind part back left right ((way_back geo u (NamesLeaf geo) 0 0 cut.run.items (part ∷ []) (row_size cut.run.items) (row_size cut.run.items) (omega arith) way).0 (omega (arith, sized)))

@@ -7,7 +7,7 @@ use Rattle.ex_base.specs.Sizes.{leaf_bytes}
 use Rattle.count_nodes.specs.Node.{pairs_on}
 use Rattle.tree_model.specs.Trees.{Units}
 use Rattle.tree_rows.specs.declared.rows.Part.{Part}
-use Rattle.tree_rows.specs.Damage.{IsNodeAt, IsSoundWay}
+use Rattle.tree_rows.specs.Damage.{IsNodeAt}
 use Rattle.tree_rows.specs.Rows.{parts_of, row_size}
 use Rattle.tree_delete.specs.declared.cut.Cut.{Cut}
 use Rattle.tree_delete.specs.Cuts.{sides, IsCutOf}
@@ -37,11 +37,10 @@ pub data Widens (g : Geometry) (units : Units) (level : ℕ) (left right : List 
       → P below.left.items (below.right.items ++ children_on units (near ∷ [])) → Widens g units level left right below P
 
 -- Each tree that a delete opens is what names it, from a row of trees of this level down, of which the range takes a part of the run alone: the nodes of
--- the run, the node beside them where too few of their children stay, each leaf of which a byte stays in the last run, and the leaf beside that run where
--- less than half a leaf is left of it. Below the nodes the same holds of their children.
+-- the run, the node beside them where too few of their children stay, and the leaf beside the last run where too little of that is left. Below them the
+-- same holds of their children.
 abbrev pub IsSoundBeside : Geometry → Units → ℕ → ℕ → List Part → List Part → List Part → ℕ → ℕ → Type 0
-IsSoundBeside g units zero least left run right at len = ((byte : ℕ) → byte < row_size run → (byte < at) ⊎ (at + len ≤ byte) → IsSoundWay g units (NamesLeaf g) 0 0 run byte byte)
-    × (1 ≤ row_size run - len → row_size run - len < leaf_bytes g / 2 → AtNear (λ part. NamesLeaf g part.page.0) left right)
+IsSoundBeside g units zero least left run right at len = 1 ≤ row_size run - len → row_size run - len < leaf_bytes g / 2 → AtNear (λ part. NamesLeaf g part.page.0) left right
 IsSoundBeside g units (suc l) least left run right at len = (run ≡ []) ⊎ (AreNodesAt g units (suc l) least run
     × ((below : Cut) × IsCutOf (children_on units run) at len below
     × Widens g units (suc l) left right below (λ lefts rights. IsSoundBeside g units l g.fan lefts below.run.items rights below.at below.len)))
@@ -50,9 +49,8 @@ IsSoundBeside g units (suc l) least left run right at len = (run ≡ []) ⊎ (Ar
 abbrev pub OpensSound : Geometry → Units → ℕ → ℕ → Cut → Type 0
 OpensSound g units level least cut = IsSoundBeside g units level least cut.left.items cut.run.items cut.right.items cut.at cut.len
 
--- The same cut, or the cut with the leaf beside its run among those that are written anew: so where what is left of the run is less than half a leaf and
--- a leaf stands beside it.
-pub data TakesNear (full : ℕ) (cut wider : Cut) : Type 0 where
-  takes_none : (1 ≤ row_size cut.run.items - cut.len → row_size cut.run.items - cut.len < full / 2 → (cut.left.items ≡ []) × (cut.right.items ≡ [])) → wider.run.items ≡ cut.run.items → wider.at ≡ cut.at → TakesNear full cut wider
-  takes_before : (front : List Part) (near : Part) → cut.left.items ≡ front ++ (near ∷ []) → wider.run.items ≡ near ∷ cut.run.items → wider.at ≡ cut.at + near.size → TakesNear full cut wider
-  takes_behind : (near : Part) (back : List Part) → cut.left.items ≡ [] → cut.right.items ≡ near ∷ back → wider.run.items ≡ cut.run.items ++ (near ∷ []) → wider.at ≡ cut.at → TakesNear full cut wider
+-- The cut with the leaf beside its run, where there is one, among those that are written anew.
+pub data TakesNear (cut wider : Cut) : Type 0 where
+  takes_none : cut.left.items ≡ [] → cut.right.items ≡ [] → TakesNear cut wider
+  takes_before : (front : List Part) (near : Part) → cut.left.items ≡ front ++ (near ∷ []) → wider.run.items ≡ near ∷ cut.run.items → wider.at ≡ cut.at + near.size → TakesNear cut wider
+  takes_behind : (near : Part) (back : List Part) → cut.left.items ≡ [] → cut.right.items ≡ near ∷ back → wider.run.items ≡ cut.run.items ++ (near ∷ []) → wider.at ≡ cut.at → wider.len ≡ cut.len → TakesNear cut wider

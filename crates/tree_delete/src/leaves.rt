@@ -1,5 +1,5 @@
 // A cut through a row of leaves.
-ghost use Rattle.std.specs.Prelude.{◌≡◌, ℕ, IfErr, ◌≤◌, ◌<◌, ◌+◌, ◌-◌, ◌*◌, ◌^◌, length, IfOk, OnOk};
+ghost use Rattle.std.specs.Prelude.{◌≡◌, ℕ, IfErr, ◌≤◌, ◌<◌, ◌+◌, ◌-◌, ◌*◌, ◌/◌, ◌^◌, length, IfOk, OnOk};
 ghost use Rattle.ex_base.specs.Ports.{HasCause};
 ghost use Rattle.ex_base.specs.Sizes.{leaf_bytes};
 ghost use Rattle.ex_base.specs.declared.names.Area.TheVariants.{Page, Segment};
@@ -23,7 +23,7 @@ fn with_leaf(alloc: Global, cut: Cut, full: u64) -> Result<Cut, AllocError>
     requires limit { row_size (all_of cut) < 2 ^ 32 }
     requires place { cut.at < 2 ^ 32 }
     ensures wider { IfOk result (λ wider. IsWider full cut wider) }
-    ensures near { IfOk result (λ wider. TakesNear full cut wider) }
+    ensures near { IfOk result (λ wider. 1 ≤ row_size cut.run.items - cut.len → row_size cut.run.items - cut.len < full / 2 → TakesNear cut wider) }
 {
     let rest = bytes_of(&cut.run) - cut.len;
     if rest == 0 || full / 2 <= rest {

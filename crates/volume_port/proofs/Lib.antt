@@ -1,5 +1,4 @@
 pub mod Homes
 pub mod Moving
 pub mod WorkingRows
-pub mod ReadingAlone
 pub mod Staying

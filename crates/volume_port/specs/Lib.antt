@@ -1,4 +1,3 @@
 pub mod Logged
 pub mod Ported
-pub mod Reading
 pub mod Stays

@@ -1,4 +1,4 @@
-use Rattle.std.proofs.Common.{arith, ℕ, ◌⊎◌, ◌+◌, ◌<◌, ap, refl, sym, subst, ◌∙◌, ◌-◌, ◌≤◌, ◌++◌, List, length}
+use Rattle.std.proofs.Common.{◌/◌, arith, ℕ, ◌⊎◌, ◌+◌, ◌<◌, ap, refl, sym, subst, ◌∙◌, ◌-◌, ◌≤◌, ◌++◌, List, length}
 use Rattle.std.specs.List.{AllByRecursion}
 use Rattle.ex_base.specs.Edits.{deleted}
 use Rattle.ex_base.specs.Sizes.{leaf_bytes}
@@ -78,5 +78,5 @@ returns-clause-way g c = λ told.
 pub returns-clause-beside : goal.returns-clause-beside
 returns-clause-beside g c = λ told.
     beside_leaf (g.B.Ground.geometry c.args.blocks.now) (g.B.Ground.unit c.args.blocks.now) c.args.cut c.in_ok-cut.cut c.requires.cut_at.some c.requires.cut_at.inside
-    (subst (λ k. TakesNear k c.args.cut c.in_ok-cut.cut) c.requires.buffer c.in_ok-cut.ensures.near) c.in_ok-cut.ensures.wider.less
+    (subst (λ k. 1 ≤ row_size c.args.cut.run.items - c.args.cut.len → row_size c.args.cut.run.items - c.args.cut.len < k / 2 → TakesNear c.args.cut c.in_ok-cut.cut) c.requires.buffer c.in_ok-cut.ensures.near)
     (subst (λ r. (byte : ℕ) → byte < row_size r → (byte < c.in_ok-cut.cut.at) ⊎ (c.in_ok-cut.cut.at + c.in_ok-cut.cut.len ≤ byte) → IsSoundWay (g.B.Ground.geometry c.args.blocks.now) (g.B.Ground.unit c.args.blocks.now) (NamesLeaf (g.B.Ground.geometry c.args.blocks.now)) 0 0 r byte byte) c.deref-2.ensures.value (c.in_ok-made.ensures.way told))

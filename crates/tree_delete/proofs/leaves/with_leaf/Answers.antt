@@ -4,7 +4,6 @@ use Rattle.tree_rows.specs.declared.rows.Part.{Part}
 use Rattle.tree_rows.specs.Rows.{row_size}
 use Rattle.tree_delete.specs.Beside.{takes_none, takes_before, takes_behind}
 use Rattle.std.specs.Vec.{vec_len}
-use Rattle.tree_delete.proofs.RowLaws.{empty_row, no_len}
 use Rattle.tree_delete.proofs.Beside.{none_there}
 use Rattle.tree_delete.proofs.LeafLaws.{wider_same, wider_left, wider_right, run_most, left_most, last_size, first_gone}
 use Rattle.tree_delete.proofs.leaves.with_leaf.Goals.{then-rest-eq0-via-then-rest-eq0, then-rest-eq0-via-else-rest-eq0+then-full-rest}
@@ -39,23 +38,18 @@ returns-clause-wider c =
     (λ none. c.if-rest-eq0.false (omega (arith, c.bytes_of.ensures, ap row_size c.deref.ensures.value))) (omega (arith, c.if-full-rest.false, c.bytes_of.ensures, ap row_size c.deref.ensures.value))
 
 pub returns-then-rest-eq0-clause-near : goal.returns-then-rest-eq0-clause-near
-returns-then-rest-eq0-clause-near c = takes_none (λ some less. absurd (elim c.then-rest-eq0.branch [
+returns-then-rest-eq0-clause-near c = λ some less. absurd (elim c.then-rest-eq0.branch [
   | then-rest-eq0-via-then-rest-eq0 w ↦ omega (arith, some, w.if-rest-eq0.true, c.bytes_of.ensures, ap row_size c.deref.ensures.value)
   | then-rest-eq0-via-else-rest-eq0+then-full-rest w ↦ omega (arith, less, w.if-full-rest.true, c.bytes_of.ensures, ap row_size c.deref.ensures.value)
-])) refl refl
+])
 
 pub returns-in-Some-clause-near : goal.returns-in-Some-clause-near
-returns-in-Some-clause-near c =
+returns-in-Some-clause-near c = λ some less.
     takes_before c.pop.new.self.items c.in-Some.near c.in-Some.ensures.items (c.in_ok-joined.ensures ∙ ap (λ (xs : List Part). (c.in-Some.near ∷ []) ++ (xs ++ [])) c.deref-in-Some.ensures.value ∙ ap (λ (xs : List Part). c.in-Some.near ∷ xs) (append-nil c.args.cut.run.items)) refl
 
 pub returns-clause-near : goal.returns-clause-near
-returns-clause-near c =
+returns-clause-near c = λ some less.
     let one : 1 ≤ length c.args.cut.right.items = omega (arith, c.remove-near.ensures.len, c.args.cut.right.ok.0) in
     takes_behind c.remove-near.result c.remove-near.new.self.items (none_there (vec_len c.args.cut.left) c.args.cut.left.items (omega (arith, c.args.cut.left.ok.0)) (λ more. true≢false (sym (c.in_default.ensures.variant.1 more))))
     (first_gone c.args.cut.right.items c.remove-near.new.self.items c.remove-near.result one c.remove-near.ensures.value c.remove-near.ensures.items)
-    (c.in_ok-joined-2.ensures ∙ ap (λ (xs : List Part). xs ++ ((c.remove-near.result ∷ []) ++ [])) c.deref-2.ensures.value) refl
-
-pub returns-then-is_empty-clause-near : goal.returns-then-is_empty-clause-near
-returns-then-is_empty-clause-near c =
-    takes_none (λ some less. (none_there (vec_len c.args.cut.left) c.args.cut.left.items (omega (arith, c.args.cut.left.ok.0)) (λ more. true≢false (sym (c.in_default.ensures.variant.1 more))),
-    empty_row c.args.cut.right.items (no_len (vec_len c.args.cut.right) c.args.cut.right.items (omega (arith, c.args.cut.right.ok.0)) c.if-is_empty.ensures))) refl refl
+    (c.in_ok-joined-2.ensures ∙ ap (λ (xs : List Part). xs ++ ((c.remove-near.result ∷ []) ++ [])) c.deref-2.ensures.value) refl refl

@@ -1,4 +1,4 @@
-use Rattle.std.proofs.Common.{◌+◌, ◌-◌, ◌*◌, ◌≤◌, suc, length, ap, sym, subst, arith}
+use Rattle.std.proofs.Common.{◌∙◌, ◌+◌, ◌-◌, ◌*◌, ◌≤◌, suc, length, ap, sym, subst, arith}
 use Rattle.std.proofs.Math.Nat.{mul-le-mul_right}
 use Rattle.count_nodes.specs.Split.{most_pairs}
 use Rattle.tree_rows.specs.Rows.{row_size}
@@ -58,7 +58,6 @@ pub returns-clause-nodes : goal.returns-clause-nodes
 returns-clause-nodes g c = λ told.
     let nodes = c.in_ok-row.ensures.nodes told in (
       subst (AreNodesAt (g.B.Ground.geometry c.args.blocks.now) (g.B.Ground.unit c.args.blocks.now) c.args.level c.args.least) c.deref.ensures.value nodes.0,
-      subst (λ r. IsCutOf (children_on (g.B.Ground.unit c.args.blocks.now) r) c.args.cut.now.at c.args.cut.now.len c.in_ok-cut_through.field-0) c.deref.ensures.value
-          (subst (λ r. IsCutOf r c.args.cut.now.at c.args.cut.now.len c.in_ok-cut_through.field-0) nodes.1
-          (subst (λ r. IsCutOf r c.args.cut.now.at c.args.cut.now.len c.in_ok-cut_through.field-0) c.deref-2.ensures.value c.in_ok-cut_through.ensures)),
+      subst (λ r. IsCutOf r c.args.cut.now.at c.args.cut.now.len c.in_ok-cut_through.field-0) (nodes.1 ∙ ap (children_on (g.B.Ground.unit c.args.blocks.now)) c.deref.ensures.value)
+          (subst (λ r. IsCutOf r c.args.cut.now.at c.args.cut.now.len c.in_ok-cut_through.field-0) c.deref-2.ensures.value c.in_ok-cut_through.ensures),
     )

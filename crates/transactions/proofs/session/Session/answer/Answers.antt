@@ -24,7 +24,7 @@ returns-in-Unfile-clause-steps g c = as_step (request_of c.args.command.now) (re
 pub returns-in-Abort-clause-steps : goal.returns-in-Abort-clause-steps
 returns-in-Abort-clause-steps g c =
     as_step (request_of c.args.command.now) request.Abort (Ok c.abort.result) (ap request_of c.in-Abort.is) (g.H.World.is_world c.args.host.now)
-    (any_abort c.args.self.now c.abort.new.self c.abort.result (seen c.self.view_is c.self.invariant) c.abort.ensures.refused c.abort.ensures.aborted c.abort.ensures.taken_back)
+    (any_abort c.args.self.now c.abort.new.self c.abort.result (seen c.self.view_is c.self.invariant) c.abort.ensures.refused c.abort.ensures.aborted)
 
 pub returns-in-Log-clause-steps : goal.returns-in-Log-clause-steps
 returns-in-Log-clause-steps g c =

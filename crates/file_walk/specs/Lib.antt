@@ -1,5 +1,0 @@
-pub mod Walk
-pub mod Parts
-pub mod Indexes
-pub mod Records
-pub mod Numbers

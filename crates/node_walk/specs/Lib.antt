@@ -1,2 +1,0 @@
-pub mod TreesNamed
-pub mod Walk

@@ -1,3 +1,0 @@
-pub mod Ported
-pub mod Shown
-pub mod Edits
