@@ -1,23 +1,23 @@
 -- What a volume reaches lies behind the log, and an image that has it stands for the volume's table.
-use Rattle.std.proofs.Common.{◌≡◌, ◌≤◌, ℕ, zero, suc, List, [], ◌∷◌, ◌++◌, Option, Some, None, sym, subst, ⊎_elim, arith}
+use Rattle.std.proofs.Common.{◌≡◌, ◌≢◌, ◌≤◌, ℕ, zero, suc, List, [], ◌∷◌, ◌++◌, Option, Some, None, sym, subst, ⊎_elim, arith}
 use Rattle.std.specs.Prelude.{Contains}
 use Rattle.std.specs.List.{flat_map, AllByRecursion}
 use Rattle.lru.proofs.Splits.{Contains-cons, Contains-nil}
 use Rattle.ex_base.specs.declared.geometry.Geometry.{Geometry}
 use Rattle.ex_base.specs.declared.names.PageNo.{PageNo}
 use Rattle.ex_base.specs.declared.names.Root.{Root}
-use Rattle.ex_base.specs.Area.{catalog_no}
+use Rattle.ex_base.specs.Area.{InPageArea, catalog_no}
 use Rattle.op_log.specs.declared.record.LogRecord.{LogRecord}
 use Rattle.op_log.specs.Log.{SaysLog}
 use Rattle.count_nodes.specs.declared.Pair.{Pair}
 use Rattle.count_nodes.specs.Node.{pairs_on}
 use Rattle.tree_model.specs.Trees.{Units, IsNamed, RootNamed, units_on, root_units, root_units_at}
 use Rattle.tree_model.proofs.SameUnits.{Kept}
-use Rattle.object_files.specs.Catalog.{FileEntry}
+use Rattle.volume_model.proofs.FilePages.{file_pages_are}
 use Rattle.volume_model.specs.CrashImage.{each_contained}
 use Rattle.volume_model.specs.Parts.{HasIndex, HoldsOf, IsLastOf, SuperOf, Decodes, StandsFor, content_parts}
 use Rattle.volume_model.specs.SameVolume.{kept_from_reach, parts_kept, table_kept}
-use Rattle.volume_model.specs.Volume.{FileContent, Volume, file_pages, roots_in, stored_in, reach_of, table_of, units_after}
+use Rattle.volume_model.specs.Volume.{Volume, file_pages, roots_in, stored_in, reach_of, table_of, units_after}
 use Rattle.std.specs.List.{AllZip}
 
 -- ---- behind the log
@@ -49,11 +49,8 @@ root_behind : (g : Geometry) (units : Units) (height : ℕ) (page : Option PageN
 root_behind g units height None named = tt
 root_behind g units height (Some page) named = tree_behind g units height page.0 named
 
-files_behind : (entries : List FileEntry) (files : List FileContent) → AllZip HasIndex entries files → Behind (flat_map (λ (file : FileContent). file.numbers) files)
-files_behind [] [] h = tt
-files_behind [] (file ∷ files) h = absurd h
-files_behind (entry ∷ entries) [] h = absurd h
-files_behind (entry ∷ entries) (file ∷ files) h = behind_both file.numbers (flat_map (λ (f : FileContent). f.numbers) files) (subst Behind (sym h.0.none) tt) (files_behind entries files h.1)
+files_behind : (g : Geometry) (units : Units) (v : Volume) → AllZip (HasIndex g units) v.catalog.entries v.files → Behind (file_pages v)
+files_behind g units v h = each_as (λ (page : ℕ). InPageArea g page × (page ≢ catalog_no)) (λ (page : ℕ). catalog_no ≤ page) (file_pages v) (λ page is. is.0.0) (file_pages_are g units v h)
 
 contained_is : {A : Type 0} (P : A → Type 0) (xs : List A) (x : A) → AllByRecursion P xs → Contains xs x → P x
 contained_is P [] x h at = absurd (Contains-nil x at)
@@ -63,7 +60,7 @@ pub reach_behind : (g : Geometry) (units : Units) (v : Volume) (page : ℕ) → 
 reach_behind g units v page (catalog, (file, (filled, (body, (node, rest))))) at =
     let trees = each_as (λ (root : Root). RootNamed g units root.height root.page) (λ (root : Root). Behind (root_units units root)) (roots_in (stored_in v)) (λ root n. root_behind g units root.height root.page n) node.named in
     contained_is (λ (u : ℕ). catalog_no ≤ u) (reach_of units v) page
-    (behind_both (catalog_no ∷ file_pages v) (flat_map (root_units units) (roots_in (stored_in v))) (omega arith, files_behind v.catalog.entries v.files file.0) (behind_flat (root_units units) (roots_in (stored_in v)) trees)) at
+    (behind_both (catalog_no ∷ file_pages v) (flat_map (root_units units) (roots_in (stored_in v))) (omega arith, files_behind g units v file.0) (behind_flat (root_units units) (roots_in (stored_in v)) trees)) at
 
 -- ---- what an image stands for
 

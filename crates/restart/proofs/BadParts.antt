@@ -1,22 +1,22 @@
 -- Which part of a disk fails first.
-use Rattle.std.proofs.Common.{◌≡◌, ⊎_elim, ℕ, List, [], ◌∷◌, Option, refl, sym, ap, subst, ◌∙◌, arith}
-use Rattle.std.specs.List.{AllByRecursion, AllZip}
+use Rattle.std.proofs.Common.{◌≡◌, ◌∷◌, ℕ, List, [], refl, sym, ap, subst, ◌∙◌, arith}
 use Rattle.ex_base.specs.declared.geometry.Geometry.{Geometry}
 use Rattle.ex_base.specs.Area.{catalog_no, log_at}
-use Rattle.object_files.specs.Catalog.{Catalog, CatalogOf, FileEntry, fresh_catalog}
+use Rattle.object_files.specs.Catalog.{Catalog, CatalogOf, fresh_catalog}
 use Rattle.op_log.specs.declared.record.LogRecord.{LogRecord}
 use Rattle.op_log.specs.AfterLog.{after_log}
 use Rattle.op_log.specs.Decoding.{last_number}
 use Rattle.op_log.specs.Log.{SaysLog}
 use Rattle.op_log.proofs.OneList.{one_list}
 use Rattle.session_views.specs.declared.Part.{Part}
-use Rattle.session_views.specs.declared.Part.TheVariants.{Super, Log, Catalog as CatalogPart, File}
+use Rattle.session_views.specs.declared.Part.TheVariants.{Super, Log, Catalog as CatalogPart, File, Page, Body, Node, Balance, Unique}
 use Rattle.commits.proofs.Places.{unit_page}
 use Rattle.volume_model.proofs.OneReading.{one_catalog}
 use Rattle.volume_model.proofs.OneVolume.{one_geometry}
-use Rattle.volume_model.specs.Parts.{HasIndex, IsLastOf, SuperOf, FirstBad}
-use Rattle.volume_model.specs.Volume.{Decoded, FileContent, units_of}
-use Rattle.restart.specs.Opening.{IsBadCatalog, IsRootless, LastIs, bare_volume}
+use Rattle.volume_model.specs.Parts.{Decodes, FirstBad, HoldsOf, IsLastOf, SuperOf}
+use Rattle.volume_model.specs.Volume.{Decoded, FileContent, units_after, units_of}
+use Rattle.restart.specs.Content.{FilesHold, IsFirstBad, volume_of}
+use Rattle.restart.specs.Opening.{HasCatalog, LastIs}
 
 -- ---- the last number
 
@@ -32,8 +32,8 @@ last_is (r ∷ next ∷ rs) n is = last_is (next ∷ rs) n is
 
 -- ---- what decodes so far
 
-abbrev pub decoded_as : Geometry → List LogRecord → Catalog → Decoded
-decoded_as g records c = record { geometry = g; records = records; volume = bare_volume c }
+abbrev pub decoded_as : Geometry → List LogRecord → Catalog → List FileContent → Decoded
+decoded_as g records c files = record { geometry = g; records = records; volume = volume_of c files }
 
 -- the catalog's page is the one after the log
 pub catalog_page : (d : Decoded) (image : List ℕ) → units_of d image catalog_no ≡ after_log d.geometry d.records image catalog_no
@@ -57,58 +57,89 @@ some_geometry = record {
 }
 
 pub super_bad : (image : List ℕ) → ((g : Geometry) → SuperOf image g → ⊥) → FirstBad image Super
-super_bad image none = record { earlier = (decoded_as some_geometry [] fresh_catalog, tt); fails = λ h. none h.0.geometry h.1.0 }
+super_bad image none = record { earlier = (decoded_as some_geometry [] fresh_catalog [], tt); fails = λ h. none h.0.geometry h.1.0 }
 
 pub log_bad : (image : List ℕ) (g : Geometry) → SuperOf image g → ((records : List LogRecord) → SaysLog g records image → ⊥) → FirstBad image Log
 log_bad image g super none = record {
-  earlier = (decoded_as g [] fresh_catalog, (super, tt));
+  earlier = (decoded_as g [] fresh_catalog [], (super, tt));
   fails = λ h. none h.0.records (subst (λ (k : Geometry). SaysLog k h.0.records image) (one_geometry image h.0.geometry g h.1.0 super) h.1.1.0);
 }
 
+-- ---- behind the log
+
 module _ (image : List ℕ) (g : Geometry) (records : List LogRecord) (super : SuperOf image g) (says : SaysLog g records image) where
+  abbrev page : List ℕ
+  page = after_log g records image catalog_no
+
   -- whatever decodes so far has this geometry, these records and this catalog page
-  same_page : (d : Decoded) → SuperOf image d.geometry → SaysLog d.geometry d.records image → (after_log d.geometry d.records image catalog_no ≡ after_log g records image catalog_no) × (d.records ≡ records)
+  same_page : (d : Decoded) → SuperOf image d.geometry → SaysLog d.geometry d.records image → (d.geometry ≡ g) × (d.records ≡ records) × (after_log d.geometry d.records image catalog_no ≡ page)
   same_page d super' says' =
       let geometry = one_geometry image d.geometry g super' super in
       let list = one_list g (log_at g image) d.records records (subst (λ (k : Geometry). SaysLog k d.records image) geometry says') says in
-      (ap (λ (k : Geometry). after_log k d.records image catalog_no) geometry ∙ ap (λ (rs : List LogRecord). after_log g rs image catalog_no) list, list)
+      (geometry, list, ap (λ (k : Geometry). after_log k d.records image catalog_no) geometry ∙ ap (λ (rs : List LogRecord). after_log g rs image catalog_no) list)
 
-  pub catalog_bad : ((c : Catalog) → CatalogOf (after_log g records image catalog_no) c → LastIs (last_number records) c.last → ⊥) → FirstBad image CatalogPart
+  -- and its catalog is one of that page, with the last number
+  its_catalog : (d : Decoded) → SuperOf image d.geometry → SaysLog d.geometry d.records image → HoldsOf d.geometry d.records (units_of d image) d.volume CatalogPart → HasCatalog page (last_number records) d.volume.catalog
+  its_catalog d super' says' catalog =
+      let same = same_page d super' says' in
+      record {
+        spelled = subst (λ (bytes : List ℕ). CatalogOf bytes d.volume.catalog) (catalog_page d image ∙ same.2) catalog.0;
+        number = subst (λ (rs : List LogRecord). LastIs (last_number rs) d.volume.catalog.last) same.1 (last_is d.records d.volume.catalog.last catalog.1);
+      }
+
+  pub catalog_bad : ((c : Catalog) → HasCatalog page (last_number records) c → ⊥) → FirstBad image CatalogPart
   catalog_bad none = record {
-    earlier = (decoded_as g records fresh_catalog, (super, (says, tt)));
-    fails = λ h.
-        let same = same_page h.0 h.1.0 h.1.1.0 in
-        let catalog = h.1.1.1.0 in
-        none h.0.volume.catalog (subst (λ (page : List ℕ). CatalogOf page h.0.volume.catalog) (catalog_page h.0 image ∙ same.0) catalog.0)
-        (subst (λ (rs : List LogRecord). LastIs (last_number rs) h.0.volume.catalog.last) same.1 (last_is h.0.records h.0.volume.catalog.last catalog.1));
+    earlier = (decoded_as g records fresh_catalog [], (super, (says, tt)));
+    fails = λ h. none h.0.volume.catalog (its_catalog h.0 h.1.0 h.1.1.0 h.1.1.1.0);
   }
 
-  rootless : (entries : List FileEntry) (files : List FileContent) → AllZip HasIndex entries files → AllByRecursion IsRootless entries
-  rootless [] files h = tt
-  rootless (entry ∷ entries) [] h = absurd h
-  rootless (entry ∷ entries) (file ∷ files) h = (h.0.no_root, rootless entries files h.1)
+  module _ (c : Catalog) (here : HasCatalog page (last_number records) c) where
+    abbrev units : ℕ → List ℕ
+    units = units_after g records image
 
-  pub file_bad : (c : Catalog) → CatalogOf (after_log g records image catalog_no) c → LastIs (last_number records) c.last → (AllByRecursion IsRootless c.entries → ⊥) → FirstBad image File
-  file_bad c spelled last roots = record {
-    earlier = (decoded_as g records c, (super, (says, ((subst (λ (page : List ℕ). CatalogOf page c) (sym (catalog_page (decoded_as g records c) image)) spelled, last_of records c.last last), tt))));
-    fails = λ h.
-        let same = same_page h.0 h.1.0 h.1.1.0 in
-        let catalog = h.1.1.1.0 in
-        let file = h.1.1.1.1.0 in
-        let is : h.0.volume.catalog ≡ c = one_catalog (after_log g records image catalog_no) h.0.volume.catalog c (subst (λ (page : List ℕ). CatalogOf page h.0.volume.catalog) (catalog_page h.0 image ∙ same.0) catalog.0) spelled in
-        roots (subst (λ (k : Catalog). AllByRecursion IsRootless k.entries) is (rootless h.0.volume.catalog.entries h.0.volume.files file.0));
-  }
+    catalog : (files : List FileContent) → HoldsOf g records units (volume_of c files) CatalogPart
+    catalog files = (subst (λ (bytes : List ℕ). CatalogOf bytes c) (sym (catalog_page (decoded_as g records c files) image)) here.spelled, last_of records c.last here.number)
 
--- ---- answers
+    -- whatever decodes up to the catalog has these units and this catalog
+    same_content : (n : ℕ) (d : Decoded) → SuperOf image d.geometry → SaysLog d.geometry d.records image → HoldsOf d.geometry d.records (units_of d image) d.volume CatalogPart
+        → FilesHold d.geometry (units_of d image) d.volume.catalog n d.volume.files → FilesHold g units c n d.volume.files
+    same_content n d super' says' catalog' hold =
+        let same = same_page d super' says' in
+        let is : d.volume.catalog ≡ c = one_catalog page d.volume.catalog c (its_catalog d super' says' catalog').spelled here.spelled in
+        subst (λ (k : Catalog). FilesHold g units k n d.volume.files) is
+        (subst (λ (rs : List LogRecord). FilesHold g (units_after g rs image) d.volume.catalog n d.volume.files) same.1
+        (subst (λ (h : Geometry). FilesHold h (units_after h d.records image) d.volume.catalog n d.volume.files) same.0 hold))
 
--- what is wrong with the catalog's page is the first part that fails
-pub catalog_fails : (image : List ℕ) (g : Geometry) (records : List LogRecord) (page : List ℕ) (last : Option ℕ) (part : Part) → SuperOf image g → SaysLog g records image → page ≡ after_log g records image catalog_no → last ≡ last_number records
-    → IsBadCatalog page last part → FirstBad image part
-catalog_fails image g records page last part super says is number bad = ⊎_elim
-    (λ (no_catalog : (part ≡ CatalogPart) × ((c : Catalog) → CatalogOf page c → LastIs last c.last → ⊥)).
-    subst (FirstBad image) (sym no_catalog.0)
-    (catalog_bad image g records super says (λ c spelled here. no_catalog.1 c (subst (λ (p : List ℕ). CatalogOf p c) (sym is) spelled) (subst (λ (n : Option ℕ). LastIs n c.last) (sym number) here))))
-    (λ (has_pages : (part ≡ File) × (c : Catalog) × CatalogOf page c × LastIs last c.last × (AllByRecursion IsRootless c.entries → ⊥)).
-    subst (FirstBad image) (sym has_pages.0)
-    (file_bad image g records super says has_pages.1 (subst (λ (p : List ℕ). CatalogOf p has_pages.1) is has_pages.2) (subst (λ (n : Option ℕ). LastIs n has_pages.1.last) number has_pages.3) has_pages.4))
-    bad
+    -- the first part behind the catalog that fails is the first one of all
+    pub content_bad : (part : Part) → IsFirstBad g units c part → FirstBad image part
+    content_bad Super bad = absurd (bad.fails bad.files tt)
+    content_bad Log bad = absurd (bad.fails bad.files tt)
+    content_bad CatalogPart bad = absurd (bad.fails bad.files tt)
+    content_bad File bad = record {
+      earlier = (decoded_as g records c bad.files, (super, (says, (catalog bad.files, bad.earlier))));
+      fails = λ h. bad.fails h.0.volume.files (same_content 1 h.0 h.1.0 h.1.1.0 h.1.1.1.0 h.1.1.1.1);
+    }
+    content_bad Page bad = record {
+      earlier = (decoded_as g records c bad.files, (super, (says, (catalog bad.files, bad.earlier))));
+      fails = λ h. bad.fails h.0.volume.files (same_content 2 h.0 h.1.0 h.1.1.0 h.1.1.1.0 h.1.1.1.1);
+    }
+    content_bad Body bad = record {
+      earlier = (decoded_as g records c bad.files, (super, (says, (catalog bad.files, bad.earlier))));
+      fails = λ h. bad.fails h.0.volume.files (same_content 3 h.0 h.1.0 h.1.1.0 h.1.1.1.0 h.1.1.1.1);
+    }
+    content_bad Node bad = record {
+      earlier = (decoded_as g records c bad.files, (super, (says, (catalog bad.files, bad.earlier))));
+      fails = λ h. bad.fails h.0.volume.files (same_content 4 h.0 h.1.0 h.1.1.0 h.1.1.1.0 h.1.1.1.1);
+    }
+    content_bad Balance bad = record {
+      earlier = (decoded_as g records c bad.files, (super, (says, (catalog bad.files, bad.earlier))));
+      fails = λ h. bad.fails h.0.volume.files (same_content 5 h.0 h.1.0 h.1.1.0 h.1.1.1.0 h.1.1.1.1);
+    }
+    content_bad Unique bad = record {
+      earlier = (decoded_as g records c bad.files, (super, (says, (catalog bad.files, bad.earlier))));
+      fails = λ h. bad.fails h.0.volume.files (same_content 6 h.0 h.1.0 h.1.1.0 h.1.1.1.0 h.1.1.1.1);
+    }
+
+    -- where none fails, the disk decodes
+    pub whole : (files : List FileContent) → FilesHold g units c 6 files → Decodes image (decoded_as g records c files)
+    whole files hold = (super, (says, (catalog files, hold)))

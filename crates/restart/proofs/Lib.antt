@@ -1,7 +1,12 @@
 pub mod Adopted
+pub mod Adopting
 pub mod BadParts
-pub mod BareVolumes
 pub mod Superblocks
-pub mod Rootless
+pub mod UnitsNamed
+pub mod PortKept
+pub mod PortShows
+pub mod FileRecords
+pub mod FilesTested
 pub mod LastRecord
 pub mod Opened
+pub mod Permuted

@@ -1,5 +1,8 @@
 -- A volume that was read, and then opened.
-use Rattle.std.proofs.Common.{◌≡◌, ◌≤◌, ◌<◌, ℕ, inl, inr, ⊎_elim, List, [], ◌∷◌, length, Option, Some, IsTrue, unwrap_or, refl, sym, ap, subst, ◌∙◌, arith}
+use Rattle.std.proofs.Common.{◌≡◌, ◌≤◌, ◌<◌, ◌↔◌, ℕ, Bool, true, inl, inr, ⊎_elim, List, [], ◌∷◌, length, nat_eq, Option, Some, IsTrue, unwrap_or, refl, sym, ap, subst, ◌∙◌, arith}
+use Rattle.std.specs.Prelude.{Contains}
+use Rattle.std.specs.List.{AllByRecursion}
+use Rattle.std.specs.Map.{lookup}
 use Rattle.std.proofs.lemmas.Bool.{cases_lt}
 use Rattle.std.proofs.lemmas.List.{nil_from_length}
 use Rattle.ex_base.specs.declared.geometry.Geometry.{Geometry}
@@ -8,21 +11,28 @@ use Rattle.buffer_groups.specs.Frames.{Frames}
 use Rattle.disk_model.specs.Outside.{Outside, IsWorld, Leaves, WritesNothing}
 use Rattle.disk_model.specs.Runs.{honest_on, leaves_start, leaves_quiet, leaves_trans, leaves_wider}
 use Rattle.meta_pages.specs.Homes.{homes_forgotten}
-use Rattle.meta_pages.specs.Overlays.{Overlays, committed_image}
+use Rattle.meta_pages.specs.Overlays.{Overlays, committed_image, image_at, over}
 use Rattle.object_files.specs.Catalog.{Catalog}
 use Rattle.op_log.specs.declared.record.LogRecord.{LogRecord}
 use Rattle.op_log.specs.AfterLog.{after_log, logged}
 use Rattle.op_log.specs.Decoding.{last_number}
 use Rattle.op_log.specs.Log.{SaysLog, log_end}
 use Rattle.op_log.specs.State.{LogState}
+use Rattle.page_alloc.specs.UnitSet.{used_at}
 use Rattle.commits.proofs.Closing.{settled_agrees}
-use Rattle.volume_model.specs.Committed.{Checkpointed, Committed, StandsForVolume}
-use Rattle.volume_model.specs.Parts.{SuperOf, StandsFor}
-use Rattle.volume_model.specs.Volume.{Decoded, table_of, units_of}
-use Rattle.restart.proofs.BadParts.{decoded_as}
-use Rattle.restart.proofs.BareVolumes.{bare_decodes}
+use Rattle.commits.proofs.Reached.{reach_behind, without_last}
+use Rattle.volume_model.specs.Committed.{Checkpointed, Committed, SameAfterLog, StandsForVolume, with_records}
+use Rattle.volume_model.specs.CrashImage.{each_contained}
+use Rattle.volume_model.specs.FreshView.{KnowsUnits}
+use Rattle.volume_model.specs.Parts.{Decodes, HoldsOf, StandsFor, SuperOf, content_parts}
+use Rattle.volume_model.specs.SameVolume.{reach_kept}
+use Rattle.volume_model.specs.Volume.{Decoded, file_pages, reach_of, table_of, units_after, units_of}
+use Rattle.volume_port.specs.Logged.{is_held}
+use Rattle.restart.proofs.BadParts.{decoded_as, whole}
 use Rattle.restart.proofs.LastRecord.{no_rows}
-use Rattle.restart.specs.Opening.{IsBare, OpenedOn, OpensAs, ReadsAs, empty_main}
+use Rattle.restart.specs.declared.content.Reached.{Reached}
+use Rattle.restart.specs.Content.{FilesReached, volume_of}
+use Rattle.restart.specs.Opening.{HasCatalog, OpenedOn, OpensAs, ReadsAs, empty_main}
 
 -- the page that was read is the one after the log
 pub page_after_log : (g : Geometry) (image : List ℕ) (records : List LogRecord) (m : Overlays) (page : List ℕ) → ((p : ℕ) → committed_image m p ≡ logged records p)
@@ -35,19 +45,32 @@ log_of g end count = record { geometry = g; end = end; count = count }
 pub same_log : (g : Geometry) {x y m n : ℕ} → x ≡ y → m ≡ n → log_of g x m ≡ log_of g y n
 same_log g ends count = cc (ends, count)
 
-pub reads_as : (image : List ℕ) (g g' : Geometry) (records : List LogRecord) (page : List ℕ) (last : Option ℕ) (m m' : Overlays) (log : LogState) → SuperOf image g → SaysLog g records image → page ≡ after_log g records image catalog_no
-    → last ≡ last_number records → ((c : Catalog) × IsBare page last c) → ((p : ℕ) → committed_image m p ≡ logged records p) → m' ≡ m → g' ≡ g → log ≡ log_of g (log_end records) (length records)
-    → ReadsAs image g' log m'.committed
-reads_as image g g' records page last m m' log super says is number bare just same_meta same_geometry counts =
-    let c = bare.0 in
-    let here = subst (λ (n : Option ℕ). IsBare (after_log g records image catalog_no) n c) number (subst (λ (p : List ℕ). IsBare p last c) is bare.1) in
-    record {
-      decoded = decoded_as g records c;
-      geometry = sym same_geometry;
-      bare = refl;
-      parts = bare_decodes image g records c super says here;
-      shown = record { just = λ p. ap (λ (o : Overlays). committed_image o p) same_meta ∙ just p; log_is = counts };
-    }
+-- the catalog of the page that was read
+pub catalog_after_log : (g : Geometry) (image : List ℕ) (records : List LogRecord) (page : List ℕ) (last : Option ℕ) (c : Catalog) → page ≡ after_log g records image catalog_no → last ≡ last_number records → HasCatalog page last c
+    → HasCatalog (after_log g records image catalog_no) (last_number records) c
+catalog_after_log g image records page last c is number here = subst (λ (n : Option ℕ). HasCatalog (after_log g records image catalog_no) n c) number (subst (λ (p : List ℕ). HasCatalog p last c) is here)
+
+pub catalog_before_log : (g : Geometry) (image : List ℕ) (records : List LogRecord) (page : List ℕ) (last : Option ℕ) (c : Catalog) → page ≡ after_log g records image catalog_no → last ≡ last_number records
+    → HasCatalog (after_log g records image catalog_no) (last_number records) c → HasCatalog page last c
+catalog_before_log g image records page last c is number here = subst (λ (n : Option ℕ). HasCatalog page n c) (sym number) (subst (λ (p : List ℕ). HasCatalog p (last_number records) c) (sym is) here)
+
+-- where no page was touched, each has its committed image
+pub no_working : (m : Overlays) (page : ℕ) → m.working ≡ [] → image_at m page ≡ committed_image m page
+no_working m page none = ap (λ (rows : List (ℕ × Option (List ℕ))). over (lookup (nat_eq page) rows) (committed_image m page)) none
+
+pub reads_as : (image : List ℕ) (g g' : Geometry) (records : List LogRecord) (c : Catalog) (m m' : Overlays) (log : LogState) (r : Reached) (used held : ℕ → Bool) → SuperOf image g → SaysLog g records image
+    → HasCatalog (after_log g records image catalog_no) (last_number records) c → FilesReached g (units_after g records image) c r → ((p : ℕ) → committed_image m p ≡ logged records p) → m' ≡ m → g' ≡ g
+    → log ≡ log_of g (log_end records) (length records) → used ≡ used_at r.units → held ≡ is_held r.pages → ReadsAs image g' log m'.committed used held
+reads_as image g g' records c m m' log r used held super says here reached just same_meta same_geometry counts same_used same_held = record {
+  decoded = decoded_as g records c reached.files;
+  geometry = sym same_geometry;
+  parts = whole image g records super says c here reached.files reached.holds;
+  shown = record { just = λ p. ap (λ (o : Overlays). committed_image o p) same_meta ∙ just p; log_is = counts };
+  knows = record {
+    units = subst (λ (f : ℕ → Bool). (unit : ℕ) → (f unit ≡ true) ↔ Contains (reach_of (units_after g records image) (volume_of c reached.files)) unit) (sym same_used) reached.used;
+    pages = subst (λ (f : ℕ → Bool). (page : ℕ) → (f page ≡ true) ↔ Contains (catalog_no ∷ file_pages (volume_of c reached.files)) page) (sym same_held) reached.held;
+  };
+}
 
 -- where no record counts, the log ends at its front and no page has an image
 pub none_logged : (g : Geometry) (records : List LogRecord) (m m' : Overlays) (log : LogState) → ((p : ℕ) → committed_image m p ≡ logged records p) → m' ≡ m → log ≡ log_of g (log_end records) (length records) → log.count ≡ 0
@@ -58,6 +81,15 @@ none_logged g records m m' log just same counts none =
       ap (λ (o : Overlays). o.committed) same ∙ no_rows m.committed (λ p. just p ∙ ap (λ (rs : List LogRecord). logged rs p) no_records),
     )
 
+-- ---- what a volume reaches, after a checkpoint
+
+same_reach_after : (d : Decoded) (image later : List ℕ) → AllByRecursion (HoldsOf d.geometry d.records (units_of d image) d.volume) content_parts → SameAfterLog d image [] later
+    → reach_of (units_of (with_records d [] d.volume) later) d.volume ≡ reach_of (units_of d image) d.volume
+same_reach_after d image later content same =
+    let old = units_of d image in
+    let new = units_of (with_records d [] d.volume) later in
+    reach_kept old new d.volume (each_contained (λ u. new u ≡ old u) (reach_of old d.volume) (λ u reached. same.pages u (reach_behind d.geometry old d.volume u (without_last d.geometry d.records old d.volume content) reached)))
+
 -- ---- up to the checkpoint
 
 -- nothing is written until then
@@ -67,9 +99,9 @@ quiet_leaves a b c image world honest one two =
     leaves_quiet Q (leaves_quiet Q (leaves_start a Q world (λ e here. inl here)) honest one) (honest_on one.only.goes honest) two
 
 -- what was read is committed
-pub read_committed : (a b c : Outside) (image : List ℕ) (g : Geometry) (log : LogState) (rows : List (ℕ × List ℕ)) → IsTrue a.honest → a.disk ≡ Some image → WritesNothing a b → (IsTrue a.honest → (d : List ℕ) → a.disk ≡ Some d → (e : List ℕ) → b.images e → e ≡ d)
-    → WritesNothing b c → (reads : ReadsAs image g log rows) → Committed c.images reads.decoded image log rows
-read_committed a b c image g log rows honest holds one settles two reads = record {
+pub read_committed : (a b c : Outside) (image : List ℕ) (g : Geometry) (log : LogState) (rows : List (ℕ × List ℕ)) (used held : ℕ → Bool) → IsTrue a.honest → a.disk ≡ Some image → WritesNothing a b → (IsTrue a.honest → (d : List ℕ) → a.disk ≡ Some d → (e : List ℕ) → b.images e → e ≡ d)
+    → WritesNothing b c → (reads : ReadsAs image g log rows used held) → Committed c.images reads.decoded image log rows
+read_committed a b c image g log rows used held honest holds one settles two reads = record {
   parts = reads.parts;
   durable = settled_agrees reads.decoded image c.images (λ e here. settles honest image holds e (two.back (honest_on one.only.goes honest) e here));
   shown = reads.shown;
@@ -82,17 +114,24 @@ opens_as a b c w image d world honest one two was leaves =
     leaves_trans (OpensAs a.images image) (quiet_leaves a b c image world honest one two)
     (leaves_wider (StandsForVolume d image) (OpensAs a.images image) leaves (λ e stands. inr (inr (record { table = table_of (units_of d image) d.volume; was = was; stands = stands }))))
 
-pub opened_on : (w : Outside) (image : List ℕ) (g : Geometry) (log log' : LogState) (rows rows' : List (ℕ × List ℕ)) (reads : ReadsAs image g log rows)
-    → ((later : List ℕ) × (w.disk ≡ Some later) × Checkpointed reads.decoded image w.images later log' rows') → OpenedOn image g w log' rows'
-opened_on w image g log log' rows rows' reads done = record {
+-- what the volume reaches lies behind the log, where it is what it was
+still_knows : (d : Decoded) (image later : List ℕ) (used held : ℕ → Bool) → Decodes image d → SameAfterLog d image [] later → KnowsUnits d image used held → KnowsUnits (with_records d [] d.volume) later used held
+still_knows d image later used held (super, (log, content)) same knows = record {
+  units = λ unit. subst (λ (us : List ℕ). (used unit ≡ true) ↔ Contains us unit) (sym (same_reach_after d image later content same)) (knows.units unit);
+  pages = knows.pages;
+}
+
+pub opened_on : (w : Outside) (image : List ℕ) (g : Geometry) (log log' : LogState) (rows rows' : List (ℕ × List ℕ)) (used held : ℕ → Bool) (reads : ReadsAs image g log rows used held)
+    → ((later : List ℕ) × (w.disk ≡ Some later) × Checkpointed reads.decoded image w.images later log' rows') → OpenedOn image g w log' rows' used held
+opened_on w image g log log' rows rows' used held reads done = record {
   decoded = reads.decoded;
   disk = done.0;
   geometry = reads.geometry;
-  bare = reads.bare;
   was = reads.parts;
   holds = done.1;
   committed = done.2.committed;
   table = done.2.same.table;
+  knows = still_knows reads.decoded image done.0 used held reads.parts done.2.same reads.knows;
 }
 
 -- ---- the parts

@@ -1,11 +1,11 @@
 //! The catalog of a volume, after its log.
-ghost use Rattle.std.specs.Prelude.{◌≡◌, ◌≤◌, ℕ, List, length, Some, Err, IfOk, OnOk, unwrap_or, IsTrue, ◌↔◌};
+ghost use Rattle.std.specs.Prelude.{◌≡◌, ◌≤◌, ℕ, List, length, Some, Err, IfOk, IfSome, IfNone, unwrap_or, IsTrue, ◌↔◌};
 ghost use Rattle.ex_base.specs.Area.{catalog_no, page_at};
 ghost use Rattle.ex_base.specs.Sizes.{volume_bytes};
 ghost use Rattle.disk_model.specs.Outside.{ReadsOnly, Rose};
 ghost use Rattle.meta_pages.specs.Overlays.{committed_image};
-ghost use Rattle.object_files.specs.Catalog.{Catalog, CatalogOf};
-ghost use Rattle.restart.specs.Opening.{IsBare, IsBadCatalog, LastIs};
+ghost use Rattle.object_files.specs.Catalog.{Catalog};
+ghost use Rattle.restart.specs.Opening.{HasCatalog, LastIs};
 
 use disk_model::Disk;
 use ex_base::{Geometry, PageNo};
@@ -43,25 +43,19 @@ pub fn read_catalog<D: Disk>(
     Ok(page)
 }
 
-/// Whether the page is a catalog with the number of the last record, where there is one, and no file has a page. Files with pages are a later form.
-pub fn test_catalog(page: &[u8], last: Option<u64>) -> Result<(), Part>
-    ensures fine { OnOk result ((c : Catalog) × IsBare page.now last c) }
-    ensures bad { (part : Part) → result ≡ Err part → IsBadCatalog page.now last part }
+/// The catalog on a page, where it has the number of the last record.
+pub fn test_catalog<'p>(page: &'p [u8], last: Option<u64>) -> Option<CatalogView<'p>>
+    ensures found { IfSome result (HasCatalog page.now last) }
+    ensures none { IfNone result ((c : Catalog) → HasCatalog page.now last c → ⊥) }
 {
-    let Some(catalog) = CatalogView::of(page) else {
-        return Err(Part::Catalog);
-    };
+    let catalog = CatalogView::of(page)?;
     if !is_last(last, catalog.last_txn()) {
-        return Err(Part::Catalog);
+        return None;
     }
-    for index in 0..catalog.len() {
-        if catalog.entry(index).root.is_some() {
-            return Err(Part::File);
-        }
-    }
-    Ok(())
+    Some(catalog)
 }
 
+// Whether a number is that of the last record, where there is one.
 fn is_last(last: Option<u64>, txn: u64) -> bool
     ensures { IsTrue result ↔ LastIs last txn }
 {

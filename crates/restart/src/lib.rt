@@ -2,8 +2,11 @@
 #![tactic(auto)]
 
 mod catalog;
+mod content;
 mod geometry;
+mod groups;
 mod opening;
 mod overlay;
+mod walking;
 
 pub use opening::{OpenedParts, open_volume};

@@ -7,13 +7,19 @@ ghost use Rattle.disk_model.specs.Outside.{DiskOnly, ReadsOnly, Leaves, Only, Ro
 ghost use Rattle.op_log.specs.Decoding.{last_number};
 ghost use Rattle.op_log.specs.Log.{SaysLog, log_end};
 ghost use Rattle.op_log.specs.Records.{IsLogRecord};
+ghost use Rattle.page_alloc.specs.UnitSet.{used_at};
 ghost use Rattle.volume_model.specs.Parts.{SuperOf, FirstBad};
+ghost use Rattle.volume_port.specs.Logged.{is_held};
+ghost use Rattle.restart.specs.Content.{IsReached};
 ghost use Rattle.restart.specs.Opening.{AreFresh, AreOpened, OpenedOn, OpensAs, ReadsAs};
 
 use crate::catalog::{read_catalog, test_catalog};
+use crate::content::Reached;
 use crate::geometry::read_geometry;
+use crate::groups::make_groups;
 use crate::overlay::overlay_of;
-use buffer_groups::{Group, Groups, Policy};
+use crate::walking::walk_volume;
+use buffer_groups::Groups;
 use commits::checkpoint;
 use disk_model::Disk;
 use ex_base::Geometry;
@@ -22,12 +28,10 @@ use op_log::{LogFault, LogRecord, LogRecords, OpLog, scan_log};
 use page_alloc::Units;
 use session_views::{OpenFault, Part};
 use std::alloc::{AllocError, Global};
+use volume_port::LoggedPages;
 
-/// The frames of the group `main`.
-const MAIN_FRAMES: u32 = 64;
-
-/// What a session needs of the volume that was opened: no record counts, no page has an image, the catalog's page is the one unit in use, and no frame
-/// is filled.
+/// What a session needs of the volume that was opened: no record counts, no page has an image, the units in use and the logged pages are those that the
+/// volume reaches, and no frame is filled.
 #[derive(Drop)]
 pub struct OpenedParts {
     pub geometry: Geometry,
@@ -35,6 +39,7 @@ pub struct OpenedParts {
     pub meta: Meta,
     pub units: Units,
     pub groups: Groups,
+    pub pages: LoggedPages,
 }
 
 /// Opens the volume on a disk. It begins with a sync, then reads the volume and tests its parts in their order, and where records count it makes a
@@ -47,7 +52,7 @@ pub fn open_volume<D: Disk>(alloc: Global, disk: &mut D) -> Result<OpenedParts, 
 
     // The volume, as it read, stood for a table, and it is committed.
     ensures opened { IfOk result (λ p. (image : List ℕ) → IsTrue (D.outside disk.old).honest → (D.outside disk.old).disk ≡ Some image
-        → OpenedOn image p.geometry (D.outside disk.new) p.log p.meta.committed) }
+        → OpenedOn image p.geometry (D.outside disk.new) p.log p.meta.committed (used_at p.units) (is_held p.pages)) }
 
     // Or it stood for none, and holds what it held.
     ensures bad { (part : Part) → result ≡ Err (OpenFault.BadVolume part) → (image : List ℕ) → (D.outside disk.old).disk ≡ Some image → FirstBad image part }
@@ -78,7 +83,7 @@ fn read_volume<D: Disk>(alloc: Global, disk: &mut D) -> Result<OpenedParts, Open
     ensures fresh { IfOk result AreFresh }
     ensures logged { IfOk result (λ p. p.log.count ≡ 0 → (p.log.end ≡ 0) × (p.meta.committed ≡ [])) }
     ensures room { IfOk result (λ p. volume_bytes p.geometry ≤ (D.outside disk.old).size) }
-    ensures reads { IfOk result (λ p. (image : List ℕ) → (D.outside disk.old).disk ≡ Some image → ReadsAs image p.geometry p.log p.meta.committed) }
+    ensures reads { IfOk result (λ p. (image : List ℕ) → (D.outside disk.old).disk ≡ Some image → ReadsAs image p.geometry p.log p.meta.committed (used_at p.units) (is_held p.pages)) }
     ensures bad { (part : Part) → result ≡ Err (OpenFault.BadVolume part) → (image : List ℕ) → (D.outside disk.old).disk ≡ Some image → FirstBad image part }
 {
     let geometry = match read_geometry(alloc, disk) {
@@ -96,11 +101,17 @@ fn read_volume<D: Disk>(alloc: Global, disk: &mut D) -> Result<OpenedParts, Open
         Ok(page) => page,
         Err(fault) => return Err(fault),
     };
-    if let Err(part) = test_catalog(&page, last_txn(records.as_slice())) {
-        return Err(OpenFault::BadVolume { part });
-    }
+    let Some(catalog) = test_catalog(&page, last_txn(records.as_slice())) else {
+        return Err(OpenFault::BadVolume {
+            part: Part::Catalog,
+        });
+    };
+    let reached = match walk_volume(alloc, disk, &geometry, &meta, &catalog) {
+        Ok(reached) => reached,
+        Err(fault) => return Err(fault),
+    };
     let count = records.as_slice().len() as u32;
-    match make_parts(alloc, &geometry, meta, records.end(), count) {
+    match make_parts(alloc, &geometry, meta, records.end(), count, reached) {
         Ok(parts) => Ok(parts),
         Err(_) => Err(OpenFault::Memory),
     }
@@ -138,33 +149,36 @@ fn last_txn(records: &[LogRecord]) -> Option<u64>
     }
 }
 
-// The parts of a session over a log of this end and so many records.
+// The parts of a session over a log of this end and so many records, with what was reached.
 fn make_parts(
     alloc: Global,
     geometry: &Geometry,
     meta: Meta,
     end: u32,
     count: u32,
+    reached: Reached,
 ) -> Result<OpenedParts, AllocError>
     requires inside { end < log_size geometry.now }
     requires count { count ≤ end }
     requires geometry { meta.geometry ≡ geometry.now }
     requires working { meta.working ≡ [] }
+    requires reached { IsReached geometry.now reached }
     ensures fresh { IfOk result AreFresh }
     ensures geometry { IfOk result (λ p. p.geometry ≡ geometry.now) }
     ensures meta { IfOk result (λ p. p.meta ≡ meta) }
     ensures log { IfOk result (λ p. p.log ≡ record { geometry = geometry.now; end = end; count = count }) }
+    ensures units { IfOk result (λ p. p.units ≡ reached.units) }
+    ensures pages { IfOk result (λ p. p.pages ≡ reached.pages) }
 {
     let mut log = OpLog::make(alloc, geometry)?;
     log.adopt(end, count);
-    let units = Units::make(alloc, geometry)?;
-    let main = Group::make(alloc, MAIN_FRAMES, geometry.page_size, Policy::Lru)?;
-    let groups = Groups::make(alloc, main)?;
+    let groups = make_groups(alloc, geometry)?;
     Ok(OpenedParts {
         geometry: *geometry,
         log,
         meta,
-        units,
+        units: reached.units,
         groups,
+        pages: reached.pages,
     })
 }

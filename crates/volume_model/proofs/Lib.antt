@@ -1,9 +1,10 @@
 pub mod AtMostOne
+pub mod FilePages
 pub mod FirstParts
 pub mod FreshVolume
 pub mod OneListOfLines
 pub mod OneReading
 pub mod OneVolume
-pub mod BareTable
-pub mod FreshSession
+pub mod RulesOfTable
+pub mod WholeUnits
 pub mod OpenedView

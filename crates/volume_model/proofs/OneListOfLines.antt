@@ -18,21 +18,21 @@ use Rattle.volume_model.specs.Volume.{Stored, Line, FileContent, line_records, l
 
 -- ---- membership
 
-abbrev In : {A : Type 0} → A → List A → Type 0
+abbrev pub In : {A : Type 0} → A → List A → Type 0
 In x [] = ⊥
 In x (y ∷ ys) = (x ≡ y) ⊎ In x ys
 
-in_contains : {A : Type 0} (x : A) (xs : List A) → Contains xs x → In x xs
+pub in_contains : {A : Type 0} (x : A) (xs : List A) → Contains xs x → In x xs
 in_contains x [] (k, lt, e) = absurd (omega arith)
 in_contains x (y ∷ ys) (zero, lt, e) = inl (sym e)
 in_contains x (y ∷ ys) (suc k, lt, e) = inr (in_contains x ys (k, omega arith, e))
 
-contains_in : {A : Type 0} (x : A) (xs : List A) → In x xs → Contains xs x
+pub contains_in : {A : Type 0} (x : A) (xs : List A) → In x xs → Contains xs x
 contains_in x [] h = absurd h
 contains_in x (y ∷ ys) (inl e) = (0, omega arith, sym e)
 contains_in x (y ∷ ys) (inr h) = let rest = contains_in x ys h in (suc rest.0, omega (arith, rest.1), rest.2)
 
-in_either : {A : Type 0} (x : A) (xs ys : List A) → In x (xs ++ ys) → In x xs ⊎ In x ys
+pub in_either : {A : Type 0} (x : A) (xs ys : List A) → In x (xs ++ ys) → In x xs ⊎ In x ys
 in_either x [] ys h = inr h
 in_either x (y ∷ xs) ys (inl e) = inl (inl e)
 in_either x (y ∷ xs) ys (inr h) = elim (in_either x xs ys h) [ inl k ↦ inl (inr k) | inr k ↦ inr k ]
@@ -46,7 +46,7 @@ in_right : {A : Type 0} (x : A) (xs ys : List A) → In x ys → In x (xs ++ ys)
 in_right x [] ys h = h
 in_right x (y ∷ xs) ys h = inr (in_right x xs ys h)
 
-from_flat : {A B : Type 0} (f : A → List B) (y : B) (xs : List A) → In y (flat_map f xs) → (x : A) × In x xs × In y (f x)
+pub from_flat : {A B : Type 0} (f : A → List B) (y : B) (xs : List A) → In y (flat_map f xs) → (x : A) × In x xs × In y (f x)
 from_flat f y [] h = absurd h
 from_flat f y (x ∷ xs) h = elim (in_either y (f x) (flat_map f xs) h) [
   | inl k ↦ (x, inl refl, k)
@@ -58,7 +58,7 @@ into_flat f y x [] h k = absurd h
 into_flat f y x (z ∷ xs) (inl e) k = in_left y (f z) (flat_map f xs) (subst (λ w. In y (f w)) e k)
 into_flat f y x (z ∷ xs) (inr h) k = in_right y (f z) (flat_map f xs) (into_flat f y x xs h k)
 
-of_each : {A : Type 0} (P : A → Type 0) (x : A) (xs : List A) → AllByRecursion P xs → In x xs → P x
+pub of_each : {A : Type 0} (P : A → Type 0) (x : A) (xs : List A) → AllByRecursion P xs → In x xs → P x
 of_each P x [] each h = absurd h
 of_each P x (y ∷ xs) each (inl e) = subst P (sym e) each.0
 of_each P x (y ∷ xs) each (inr h) = of_each P x xs each.1 h
@@ -91,17 +91,17 @@ same_rising f (x ∷ xs) (y ∷ ys) p q to from =
 
 -- ---- a record by its place
 
-record StoredAt (units : Units) (s : Stored) : Type 0 where
-  page : FilePage
-  slots : SlotsOf (units s.place.page.0) page
-  bytes : List ℕ
-  here : slice_get page.slots s.place.slot ≡ Some (Some bytes)
-  body : BodyOf bytes s.body
+pub record StoredAt (units : Units) (s : Stored) : Type 0 where
+  pub page : FilePage
+  pub slots : SlotsOf (units s.place.page.0) page
+  pub bytes : List ℕ
+  pub here : slice_get page.slots s.place.slot ≡ Some (Some bytes)
+  pub body : BodyOf bytes s.body
 
 abbrev made : Place → Record → Stored
 made place body = record { place = place; body = body }
 
-one_at : (units : Units) (s t : Stored) → StoredAt units s → StoredAt units t → s.place ≡ t.place → s ≡ t
+pub one_at : (units : Units) (s t : Stored) → StoredAt units s → StoredAt units t → s.place ≡ t.place → s ≡ t
 one_at units s t p q place =
     let bytes : units t.place.page.0 ≡ units s.place.page.0 = ap (λ (x : Place). units x.page.0) (sym place) in
     let page : p.page ≡ q.page = one_page (units s.place.page.0) p.page q.page p.slots (subst (λ (b : List ℕ). SlotsOf b q.page) bytes q.slots) in
@@ -195,6 +195,9 @@ stored_from units (row ∷ rows) (s ∷ stored) h k = (
   stored_from units rows stored h.1 k.1,
 )
 
+pub file_at : (units : Units) (entry : FileEntry) (file : FileContent) → HasPages units entry file → HasLines file → AllByRecursion (StoredAt units) file.stored
+file_at units entry file pages lines = stored_from units (bodies_in file) file.stored lines.records (rows_in units entry file.numbers file.pages pages)
+
 -- ---- lines
 
 -- all of a line but its last are frozen
@@ -264,7 +267,7 @@ line_in units a b p q stored at line inside =
 
 pub one_list_of_lines : (units : Units) (entry : FileEntry) (a b : FileContent) → HasPages units entry a → HasLines a → HasLines b → a.stored ≡ b.stored → Rising (map line_number a.lines) → Rising (map line_number b.lines) → a.lines ≡ b.lines
 one_list_of_lines units entry a b pages p q stored ra rb =
-    let at : AllByRecursion (StoredAt units) a.stored = stored_from units (bodies_in a) a.stored p.records (rows_in units entry a.numbers a.pages pages) in
+    let at : AllByRecursion (StoredAt units) a.stored = file_at units entry a pages p in
     same_rising line_number a.lines b.lines ra rb
     (λ line inside. line_in units a b p q stored at line inside)
     (λ line inside. line_in units b a q p (sym stored) (subst (AllByRecursion (StoredAt units)) stored at) line inside)

@@ -99,16 +99,18 @@ one_list_of_records (row ∷ rows) (x ∷ xs) (y ∷ ys) p q =
 -- two files that differ at most in how their records are listed as lines
 pub record SameRecords (a b : FileContent) : Type 0 where
   pub numbers : a.numbers ≡ b.numbers
+  pub index_pages : a.index_pages ≡ b.index_pages
   pub pages : a.pages ≡ b.pages
   pub stored : a.stored ≡ b.stored
 
-pub one_file : (units : Units) (entry : FileEntry) (a b : FileContent) → HasIndex entry a → HasIndex entry b → HasPages units entry a → HasPages units entry b → HasLines a → HasLines b → SameRecords a b
-one_file units entry a b index_a index_b pages_a pages_b lines_a lines_b =
-    let numbers : a.numbers ≡ b.numbers = index_a.none ∙ sym index_b.none in
+pub one_file : (g : Geometry) (units : Units) (entry : FileEntry) (a b : FileContent) → HasIndex g units entry a → HasIndex g units entry b → HasPages units entry a → HasPages units entry b → HasLines a → HasLines b → SameRecords a b
+one_file g units entry a b index_a index_b pages_a pages_b lines_a lines_b =
+    let numbers : a.numbers ≡ b.numbers = index_a.numbers ∙ sym index_b.numbers in
     let pages : a.pages ≡ b.pages = one_list_of_pages units entry a.numbers a.pages b.pages pages_a (subst (λ (c : List ℕ). AllZip (HasPage units entry) c b.pages) (sym numbers) pages_b) in
     let bodies : bodies_in a ≡ bodies_in b = cc (numbers, pages) in
     record {
       numbers = numbers;
+      index_pages = index_a.index_pages ∙ sym index_b.index_pages;
       pages = pages;
       stored = one_list_of_records (bodies_in a) a.stored b.stored lines_a.records (subst (λ (rows : List (Place × List ℕ)). AllZip IsStored rows b.stored) (sym bodies) lines_b.records);
     }

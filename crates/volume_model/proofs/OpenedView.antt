@@ -1,37 +1,113 @@
--- What an opening hands over, where no file has pages: the session shows the table that the volume stood for.
-use Rattle.std.proofs.Common.{◌≡◌, ◌∙◌, ℕ, ◌+◌, ◌*◌, ◌≤◌, List, [], length, refl, sym, ap, arith}
-use Rattle.std.proofs.lemmas.Bool.{lt-ltb}
-use Rattle.std.proofs.Math.Nat.{mul-le-mul_right}
-use Rattle.ex_base.specs.Area.{catalog_no, area_end}
-use Rattle.ex_base.specs.Bytes.{length-part}
-use Rattle.object_files.specs.Catalog.{CatalogOf}
+-- What an opening hands over: the session shows the table that the volume stood for.
+use Rattle.std.proofs.Common.{◌≡◌, ◌∙◌, ⊎_elim, ℕ, zero, suc, ◌≤◌, Bool, true, false, cond, List, [], ◌∷◌, ◌++◌, refl, subst, arith, inr, append-nil}
+use Rattle.std.specs.Prelude.{Contains, IsTrue, bytes_eq}
+use Rattle.std.specs.List.{flat_map}
+use Rattle.std.proofs.lemmas.List.Elements.{All-nil}
+use Rattle.ex_base.specs.declared.geometry.Geometry.{Geometry}
+use Rattle.ex_base.specs.declared.names.Root.{Root}
+use Rattle.ex_base.specs.declared.names.Area.TheVariants.{Page, Segment}
+use Rattle.ex_base.specs.Area.{catalog_no, unit_at}
 use Rattle.op_log.specs.State.{LogState}
+use Rattle.table_model.specs.declared.machine.BoundName.{BoundName}
 use Rattle.table_model.specs.declared.table.Table.{Table}
+use Rattle.table_model.specs.Machines.{start, main, IsMachine, IsScan, IsGroup}
+use Rattle.table_model.specs.Tables.{IsTable}
+use Rattle.table_model.specs.Words.{is_name}
+use Rattle.tree_model.specs.Trees.{Units, root_units}
 use Rattle.volume_model.proofs.AtMostOne.{one_table}
-use Rattle.volume_model.proofs.BareTable.{bare_table_keeps_the_rules}
-use Rattle.volume_model.proofs.FreshSession.{bare_table_of, fresh_shows}
-use Rattle.volume_model.specs.BareTable.{bare_table, bare_volume, OpenedView}
+use Rattle.volume_model.proofs.OneListOfLines.{In, contains_in, from_flat, in_contains, in_either, of_each}
+use Rattle.volume_model.proofs.RulesOfTable.{decodes_with_rules}
 use Rattle.volume_model.specs.Committed.{Committed, with_records}
-use Rattle.volume_model.specs.Parts.{Decodes, StandsFor}
-use Rattle.volume_model.specs.Volume.{Decoded, table_of, units_of}
+use Rattle.volume_model.specs.FreshView.{KnowsUnits, OpenedView, fresh_view}
+use Rattle.volume_model.specs.Parts.{Apart, Decodes, HasNodes, StandsFor}
+use Rattle.volume_model.specs.Shown.{Shows, used_below, used_in}
+use Rattle.volume_model.specs.Volume.{Decoded, Volume, file_pages, reach_of, roots_in, stored_in, table_of, units_of}
 
--- the catalog's page is one page of the disk, where no record counts
-catalog_len : (d : Decoded) (disk : List ℕ) → Decodes disk (with_records d [] d.volume) → length (units_of (with_records d [] d.volume) disk catalog_no) ≡ d.geometry.page_size
-catalog_len d disk (super, rest) =
-    let g = d.geometry in
-    let some = g.some_pages in
-    let is_page = lt-ltb catalog_no (area_end g) (omega (arith, some)) in
-    let inside : 257 * g.page_size + g.page_size ≤ length disk = omega (arith, super.large, mul-le-mul_right {m = 258} {n = 257 + g.pages + g.segs * g.seg_len} g.page_size (omega (arith, some))) in
-    rw is_page (length-part disk (257 * g.page_size) g.page_size inside)
+-- ---- the machine at its start
 
-pub opened_view : {may_leave : List ℕ → Type 0} {image disk : List ℕ} {log : LogState} {table : Table} (d : Decoded) → d.volume ≡ bare_volume d.volume.catalog → Decodes image d → StandsFor image table
-    → Committed may_leave (with_records d [] d.volume) disk log [] → OpenedView may_leave d disk log table
-opened_view {may_leave} {image} {disk} {log} {table} d bare was stands committed =
+at_most_one : (b : Bool) → cond b 1 0 ≤ 1
+at_most_one true = omega arith
+at_most_one false = omega arith
+
+used_most : (used : ℕ → Bool) (at : ℕ → ℕ) (n : ℕ) → used_below used at n ≤ n
+used_most used at zero = omega arith
+used_most used at (suc n) = omega (arith, used_most used at n, at_most_one (used (at n)))
+
+start_keeps : (g : Geometry) (t : Table) (used : ℕ → Bool) → IsTable g t → IsMachine (start g t (used_in g used Page) (used_in g used Segment))
+start_keeps g t used rules = record {
+  committed = rules;
+  working = tt;
+  idle = record { no_updates = refl; untouched = refl; unmarked = All-nil (λ (b : BoundName). b.marked ≡ false) };
+  updates = omega arith;
+  touched = omega arith;
+  pages = used_most used (unit_at g Page) g.pages;
+  segs = used_most used (unit_at g Segment) g.segs;
+  names = All-nil (λ (b : BoundName). IsTrue (is_name b.name));
+  scans = All-nil IsScan;
+  few_scans = omega arith;
+  groups = All-nil IsGroup;
+  few_groups = omega arith;
+  once = λ name. let one = at_most_one (bytes_eq main name) in omega (arith, one);
+}
+
+-- ---- units
+
+-- a list that is joined to itself has what it had
+once : (x : ℕ) (xs : List ℕ) → Contains (xs ++ xs) x → In x xs
+once x xs h = ⊎_elim (λ here. here) (λ later. later) (in_either x xs xs (in_contains x (xs ++ xs) h))
+
+once_more : (x : ℕ) (xs : List ℕ) → Contains (xs ++ xs ++ []) x → In x xs
+once_more x xs h = once x xs (subst (λ (ys : List ℕ). Contains ys x) (append-nil (xs ++ xs)) h)
+
+-- no page of a file lies in a tree
+no_file_page : (g : Geometry) (units : Units) (v : Volume) (page : ℕ) → HasNodes g units v → In page (file_pages v) → In page (flat_map (root_units units) (roots_in (stored_in v))) → ⊥
+no_file_page g units v page nodes inside at =
+    let found = from_flat (root_units units) page (roots_in (stored_in v)) at in
+    let apart = of_each (λ (root : Root). Apart (root_units units root) (catalog_no ∷ file_pages v)) found.0 (roots_in (stored_in v)) nodes.no_file_page found.1 in
+    of_each (λ (unit : ℕ). ¬ Contains (catalog_no ∷ file_pages v) unit) page (root_units units found.0) apart found.2 (contains_in page (catalog_no ∷ file_pages v) (inr inside))
+
+-- ---- the view
+
+nodes_of : {d : Decoded} {disk : List ℕ} → Decodes disk d → HasNodes d.geometry (units_of d disk) d.volume
+nodes_of (super, (log, (catalog, (file, (page, (body, (node, rest))))))) = node
+
+pub fresh_shows : (may_leave : List ℕ → Type 0) (d : Decoded) (disk : List ℕ) (log : LogState) (used held : ℕ → Bool) → Committed may_leave d disk log [] → KnowsUnits d disk used held
+    → Shows may_leave (fresh_view d disk log used held)
+fresh_shows may_leave d disk log used held committed knows = record {
+  decoded = d;
+  working = d.volume;
+  rules = start_keeps d.geometry (table_of (units_of d disk) d.volume) used (decodes_with_rules d disk committed.parts);
+  shared = record { geometry = refl; notes = refl; names = refl; group_rows = refl; open_txn = refl; up = refl };
+  parts = committed.parts;
+  geometry = refl;
+  committed = refl;
+  working_shown = (refl, refl);
+  scans = tt;
+  used = record {
+    reached = λ unit at. (knows.units unit).1 (contains_in unit (reach_of (units_of d disk) d.volume) (once_more unit (reach_of (units_of d disk) d.volume) at));
+    pages = refl;
+    segs = refl;
+    touched = refl;
+  };
+  logged = record { held = knows.pages; kept = knows.pages; taken = λ page never. absurd (cc) };
+  frames = (tt, tt);
+  durable = committed.durable;
+  apart = record {
+    no_tree = λ page has at. no_file_page d.geometry (units_of d disk) d.volume page (nodes_of committed.parts) (once page (file_pages d.volume) has)
+        (once_more page (flat_map (root_units (units_of d disk)) (roots_in (stored_in d.volume))) at);
+    in_order = tt;
+    images = tt;
+    left = λ some page has _. absurd (cc);
+  };
+  overlay = record { just = committed.shown.just; in_order = tt; pages = tt; log = committed.shown.log_is };
+}
+
+pub opened_view : {may_leave : List ℕ → Type 0} {image disk : List ℕ} {log : LogState} {used held : ℕ → Bool} {table : Table} (d : Decoded) → Decodes image d → StandsFor image table
+    → Committed may_leave (with_records d [] d.volume) disk log [] → table_of (units_of (with_records d [] d.volume) disk) d.volume ≡ table_of (units_of d image) d.volume
+    → KnowsUnits (with_records d [] d.volume) disk used held → OpenedView may_leave (with_records d [] d.volume) disk log used held table
+opened_view {may_leave} {image} {disk} {log} {used} {held} {table} d was stands committed stayed knows =
     let stood : StandsFor image (table_of (units_of d image) d.volume) = record { decoded = d; parts = was; same = refl } in
-    let same = one_table image (table_of (units_of d image) d.volume) table stood stands in
-    let is : bare_table d.volume.catalog ≡ table_of (units_of d image) d.volume = sym (ap (table_of (units_of d image)) bare ∙ bare_table_of (units_of d image) d.volume.catalog) in
-    let whole : CatalogOf (units_of (with_records d [] d.volume) disk catalog_no) d.volume.catalog = committed.parts.1.1.0.0 in
     record {
-      shows = fresh_shows may_leave (with_records d [] d.volume) disk d.volume.catalog log (bare_table_keeps_the_rules d.geometry _ d.volume.catalog whole (catalog_len d disk committed.parts)) bare committed;
-      table_is = is ∙ same;
+      shows = fresh_shows may_leave (with_records d [] d.volume) disk log used held committed knows;
+      table_is = stayed ∙ one_table image (table_of (units_of d image) d.volume) table stood stands;
     }

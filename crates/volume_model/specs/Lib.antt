@@ -6,4 +6,4 @@ pub mod Committed
 pub mod SameVolume
 pub mod CrashImage
 pub mod Meaning
-pub mod BareTable
+pub mod FreshView

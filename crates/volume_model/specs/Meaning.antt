@@ -33,6 +33,7 @@ shows_narrower may_leave fewer v inside shows = record {
   working_shown = shows.working_shown;
   scans = shows.scans;
   used = shows.used;
+  logged = shows.logged;
   frames = shows.frames;
   durable = λ image left. shows.durable image (inside image left);
   apart = shows.apart;

@@ -15,6 +15,7 @@ use Rattle.op_log.specs.Log.{LogSpells}
 use Rattle.slotted_pages.specs.FilePage.{FilePage, Slot, SlotsOf}
 use Rattle.object_records.specs.declared.State.TheVariants.{Current, Frozen}
 use Rattle.object_records.specs.Record.{BodyOf}
+use Rattle.file_index.specs.Index.{IsIndex, keys_of, pages_of}
 use Rattle.object_files.specs.Catalog.{FileEntry, CatalogOf}
 use Rattle.tree_model.specs.Shape.{IsBalanced}
 use Rattle.tree_model.specs.Trees.{Units, RootNamed, RootSized, root_shape, root_units}
@@ -40,10 +41,11 @@ IsLastOf (r ∷ next ∷ rs) last = IsLastOf (next ∷ rs) last
 
 -- ---- File
 
--- The file's pages are those that its index names. A file without a root has none; no other file stands yet.
-pub record HasIndex (entry : FileEntry) (file : FileContent) : Type 0 where
-  pub no_root : entry.root ≡ None
-  pub none : file.numbers ≡ []
+-- The file's index is whole, of the level that the entry says, and names the file's pages.
+pub record HasIndex (g : Geometry) (units : Units) (entry : FileEntry) (file : FileContent) : Type 0 where
+  pub whole : IsIndex g units entry.file_no entry.level entry.root
+  pub numbers : file.numbers ≡ keys_of units entry.level entry.root
+  pub index_pages : file.index_pages ≡ pages_of units entry.level entry.root
 
 -- ---- Page
 
@@ -79,10 +81,15 @@ pub record IsLine (line : Line) : Type 0 where
   pub linked : Linked None (line_records line)
   pub numbers : Rising (line_number line ∷ map unique_of line.frozen)
 
+-- An object without frozen versions. No frozen version stands in a volume yet.
+abbrev pub IsUnfrozen : Line → Type 0
+IsUnfrozen line = line.frozen ≡ []
+
 -- Each record is in its grammar, and lies in exactly one line.
 pub record HasLines (file : FileContent) : Type 0 where
   pub records : AllZip IsStored (bodies_in file) file.stored
   pub lines : AllByRecursion IsLine file.lines
+  pub unfrozen : AllByRecursion IsUnfrozen file.lines
   pub each_once : IsPermutation file.stored (flat_map line_records file.lines)
 
 -- ---- Node
@@ -125,7 +132,7 @@ abbrev pub HoldsOf : Geometry → List LogRecord → Units → Volume → Part �
 HoldsOf g records units v Super = Unit {0}
 HoldsOf g records units v Log = Unit {0}
 HoldsOf g records units v Catalog = CatalogOf (units catalog_no) v.catalog × IsLastOf records v.catalog.last
-HoldsOf g records units v File = AllZip HasIndex v.catalog.entries v.files × AllDiffer (file_pages v)
+HoldsOf g records units v File = AllZip (HasIndex g units) v.catalog.entries v.files × AllDiffer (file_pages v)
 HoldsOf g records units v Page = AllZip (HasPages units) v.catalog.entries v.files
 HoldsOf g records units v Body = AllByRecursion HasLines v.files
 HoldsOf g records units v Node = HasNodes g units v

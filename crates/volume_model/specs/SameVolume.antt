@@ -1,5 +1,5 @@
 -- Units that are kept where a volume reaches decode as the same volume, with the same table.
-use Rattle.std.proofs.Common.{◌≡◌, ℕ, List, [], ◌∷◌, ◌++◌, Option, Some, None, refl, sym, ap, subst}
+use Rattle.std.proofs.Common.{◌≡◌, ◌≤◌, ⊎_elim, ℕ, List, [], ◌∷◌, ◌++◌, Option, Some, None, refl, sym, ap, subst, ◌∙◌, arith}
 use Rattle.std.specs.Prelude.{map}
 use Rattle.std.specs.List.{flat_map, AllByRecursion, AllZip, zip}
 use Rattle.std.proofs.lemmas.List.Concat.{flat_map-append}
@@ -7,16 +7,21 @@ use Rattle.ex_base.specs.declared.names.PageNo.{PageNo}
 use Rattle.ex_base.specs.declared.names.Root.{Root}
 use Rattle.ex_base.specs.declared.geometry.Geometry.{Geometry}
 use Rattle.ex_base.specs.Area.{catalog_no}
+use Rattle.ex_base.specs.Order.{Rising}
+use Rattle.ex_base.specs.Ports.{times}
 use Rattle.ex_base.specs.Sizes.{leaf_bytes}
 use Rattle.op_log.specs.declared.record.LogRecord.{LogRecord}
 use Rattle.slotted_pages.specs.FilePage.{FilePage, SlotsOf}
+use Rattle.file_index.specs.Index.{IsRoot, IsIndex, keys_of, pages_of}
+use Rattle.file_index.proofs.Counts.{same_or_not, times_apart}
+use Rattle.file_index.proofs.Frame.{same_under}
 use Rattle.object_files.specs.Catalog.{FileEntry, CatalogOf}
 use Rattle.object_records.specs.Record.{Content, Small, Large}
 use Rattle.tree_model.specs.Shape.{IsBalanced}
 use Rattle.tree_model.specs.Trees.{Units, root_units, root_units_at, root_shape_at, root_bytes_at, RootNamed, RootSized}
 use Rattle.tree_model.proofs.SameUnits.{Kept, split_each, units_same, bytes_same, shape_same, named_same, sized_same}
-use Rattle.volume_model.specs.Parts.{HasPage, HasPages, Apart, AllApart, HasNodes, HasBalance, HoldsOf, content_parts}
-use Rattle.volume_model.specs.Volume.{Stored, Line, FileContent, Volume, line_records, lines_of, stored_in, file_pages, root_in, roots_in, line_units, reach_of, content_in, version_of, object_of, file_of, table_of}
+use Rattle.volume_model.specs.Parts.{HasIndex, HasPage, HasPages, Apart, AllApart, HasNodes, HasBalance, HoldsOf, content_parts}
+use Rattle.volume_model.specs.Volume.{Stored, Line, FileContent, Volume, line_records, lines_of, stored_in, pages_of_file, file_pages, root_in, roots_in, line_units, reach_of, content_in, version_of, object_of, file_of, table_of}
 
 -- ---- lists
 
@@ -121,7 +126,43 @@ files_same old new (entry ∷ entries) (file ∷ files) kept =
     let rest = files_same old new entries files kept.1 in
     cc (here, rest)
 
--- ---- pages
+-- ---- pages of files
+
+kept_each : (old new : Units) (pages : List ℕ) → Kept old new pages → (p : ℕ) → 1 ≤ times p pages → new p ≡ old p
+kept_each old new [] kept p some = absurd (omega (arith, some))
+kept_each old new (q ∷ pages) kept p some = ⊎_elim
+    (λ (same : p ≡ q). subst (λ (u : ℕ). new u ≡ old u) (sym same) kept.0)
+    (λ other. kept_each old new pages kept.1 p (omega (arith, some, times_apart p q pages other)))
+    (same_or_not p q)
+
+-- What an index names depends on its own pages alone.
+pub record SameIndex (g : Geometry) (old new : Units) (file_no level : ℕ) (root : Option PageNo) : Type 0 where
+  pub keys : keys_of new level root ≡ keys_of old level root
+  pub pages : pages_of new level root ≡ pages_of old level root
+  pub whole : IsIndex g old file_no level root → IsIndex g new file_no level root
+
+index_from : (g : Geometry) (old new : Units) (file_no level : ℕ) (root : Option PageNo) → keys_of new level root ≡ keys_of old level root → pages_of new level root ≡ pages_of old level root
+    → (IsRoot g file_no old level root → IsRoot g file_no new level root) → SameIndex g old new file_no level root
+index_from g old new file_no level root keys pages rooted = record {
+  keys = keys;
+  pages = pages;
+  whole = λ h. record {
+    whole = rooted h.whole;
+    rising = subst Rising (sym keys) h.rising;
+    once = subst (λ (us : List ℕ). (p : ℕ) → times p us ≤ 1) (sym pages) h.once;
+  };
+}
+
+pub index_same : (g : Geometry) (old new : Units) (file_no level : ℕ) (root : Option PageNo) → Kept old new (pages_of old level root) → SameIndex g old new file_no level root
+index_same g old new file_no level None kept = index_from g old new file_no level None refl refl (λ h. h)
+index_same g old new file_no level (Some page) kept =
+    let same = same_under g file_no old new level page.0 (kept_each old new (pages_of old level (Some page)) kept) in
+    index_from g old new file_no level (Some page) same.keys same.pages (same.under None)
+
+index_kept : (g : Geometry) (old new : Units) (entry : FileEntry) (file : FileContent) → Kept old new file.index_pages → HasIndex g old entry file → HasIndex g new entry file
+index_kept g old new entry file kept h =
+    let same = index_same g old new entry.file_no entry.level entry.root (subst (Kept old new) h.index_pages kept) in
+    record { whole = same.whole h.whole; numbers = h.numbers ∙ sym same.keys; index_pages = h.index_pages ∙ sym same.pages }
 
 pages_kept : (old new : Units) (entry : FileEntry) (numbers : List ℕ) (pages : List FilePage) → Kept old new numbers → AllZip (HasPage old entry) numbers pages → AllZip (HasPage new entry) numbers pages
 pages_kept old new entry [] [] kept h = tt
@@ -132,9 +173,12 @@ pages_kept old new entry (page ∷ numbers) (p ∷ pages) kept h =
 
 -- ---- the parts
 
+abbrev pub PagesKept : Units → Units → FileContent → Type 0
+PagesKept old new file = Kept old new (pages_of_file file)
+
 pub record IsKept (old new : Units) (v : Volume) : Type 0 where
   pub catalog : new catalog_no ≡ old catalog_no
-  pub numbers : AllByRecursion (λ (file : FileContent). Kept old new file.numbers) v.files
+  pub pages : AllByRecursion (PagesKept old new) v.files
   pub roots : RootsKept old new (roots_in (stored_in v))
 
 pub kept_from_reach : (old new : Units) (v : Volume) → Kept old new (reach_of old v) → IsKept old new v
@@ -142,7 +186,7 @@ kept_from_reach old new v h =
     let both = split_each (λ u. new u ≡ old u) (catalog_no ∷ file_pages v) (flat_map (root_units old) (roots_in (stored_in v))) h in
     record {
       catalog = both.0.0;
-      numbers = parts_of (λ u. new u ≡ old u) (λ (file : FileContent). file.numbers) v.files both.0.1;
+      pages = parts_of (λ u. new u ≡ old u) pages_of_file v.files both.0.1;
       roots = parts_of (λ u. new u ≡ old u) (root_units old) (roots_in (stored_in v)) both.1;
     }
 
@@ -160,9 +204,9 @@ pub parts_kept : (g : Geometry) (records : List LogRecord) (old new : Units) (v 
 parts_kept g records old new v kept (catalog, (file, (page, (body, (node, (balance, (unique, end))))))) = (
   (subst (λ (bytes : List ℕ). CatalogOf bytes v.catalog) (sym kept.catalog) catalog.0, catalog.1),
   (
-    file,
+    (zip_with (PagesKept old new) (HasIndex g old) (HasIndex g new) v.catalog.entries v.files (λ entry f k h. index_kept g old new entry f (split_each (λ u. new u ≡ old u) f.numbers f.index_pages k).1 h) kept.pages file.0, file.1),
     (
-      zip_with (λ (f : FileContent). Kept old new f.numbers) (HasPages old) (HasPages new) v.catalog.entries v.files (λ entry f k h. pages_kept old new entry f.numbers f.pages k h) kept.numbers page,
+      zip_with (PagesKept old new) (HasPages old) (HasPages new) v.catalog.entries v.files (λ entry f k h. pages_kept old new entry f.numbers f.pages (split_each (λ u. new u ≡ old u) f.numbers f.index_pages k).0 h) kept.pages page,
       (
         body,
         (
@@ -183,3 +227,9 @@ table_kept old new v kept =
     let each = parts_of (LineKept old new) (λ (file : FileContent). file.lines) v.files lines in
     let files = files_same old new v.catalog.entries v.files each in
     cc files
+
+-- where what a volume reaches is kept, it reaches the same
+pub reach_kept : (old new : Units) (v : Volume) → Kept old new (reach_of old v) → reach_of new v ≡ reach_of old v
+reach_kept old new v h =
+    ap (λ (us : List ℕ). (catalog_no ∷ file_pages v) ++ us)
+    (flat_same (root_units old) (root_units new) (RootKept old new) (roots_in (stored_in v)) (λ root k. units_of_root old new root.height root.page k) (kept_from_reach old new v h).roots)

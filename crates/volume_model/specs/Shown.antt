@@ -52,6 +52,11 @@ pub record Held : Type 0 where
   -- the frames of `main` and of each group
   pub frames : List (List PageRow)
   pub used : ℕ → Bool
+  -- the logged pages that the working state has, and those that the committed one has
+  pub held : ℕ → Bool
+  pub kept : ℕ → Bool
+  -- of the pages that the working state has, those that the open transaction took
+  pub taken : ℕ → Bool
   -- the committed images that stand in the log
   pub overlay : List PageRow
   pub log : LogState
@@ -123,9 +128,10 @@ used_below used at (suc n) = used_below used at n + (if used (at n) then 1 else 
 abbrev pub used_in : Geometry → (ℕ → Bool) → Area → ℕ
 used_in g used area = used_below used (unit_at g area) (units g area)
 
--- The units in use are exactly those that are reached, and the machine counts them.
+-- Each unit that is reached is in use, and the machine counts those in use. A unit of a tree that lost its last owner may stay in use until the volume
+-- is opened again.
 pub record UsedShown (d : Decoded) (v : View Held) (working : Volume) : Type 0 where
-  pub exact : (unit : ℕ) → (v.session.used unit ≡ true) ↔ Contains (reach_of_view d v working) unit
+  pub reached : (unit : ℕ) → Contains (reach_of_view d v working) unit → v.session.used unit ≡ true
   pub pages : v.machine.pages_used ≡ used_in d.geometry v.session.used Page
   pub segs : v.machine.segs_used ≡ used_in d.geometry v.session.used Segment
   pub touched : v.machine.touched ≡ length v.session.working_pages
@@ -145,6 +151,13 @@ pub record PagesApart (d : Decoded) (v : View Held) (working : Volume) : Type 0 
   pub in_order : Rising (map (λ (row : WorkingRow). row.0) v.session.working_pages)
   pub images : AllByRecursion (IsWorkingPage working) v.session.working_pages
   pub left : IsSome v.machine.working → (page : ℕ) → Contains (file_pages d.volume) page → (¬ Contains (file_pages working) page) → lookup (nat_eq page) v.session.working_pages ≡ Some None
+
+-- The session knows the logged pages of the working volume and of the committed one exactly. A page that the transaction took is none of the committed
+-- volume's, nor of its trees.
+pub record LoggedShown (d : Decoded) (v : View Held) (working : Volume) : Type 0 where
+  pub held : (page : ℕ) → (v.session.held page ≡ true) ↔ Contains (catalog_no ∷ file_pages working) page
+  pub kept : (page : ℕ) → (v.session.kept page ≡ true) ↔ Contains (catalog_no ∷ file_pages d.volume) page
+  pub taken : (page : ℕ) → v.session.taken page ≡ true → (v.session.held page ≡ true) × (¬ Contains (reach_of (units_of d v.disk) d.volume) page)
 
 -- The overlay has just the pages that the log has, with their images; the session's log stands behind the last record.
 pub record OverlayShown (d : Decoded) (v : View Held) : Type 0 where
@@ -174,6 +187,7 @@ pub record Shows (may_leave : List ℕ → Type 0) (v : View Held) : Type 0 wher
   pub working_shown : WorkingShown decoded v working v.machine.working
   pub scans : AllZip (ScanShown decoded.geometry (units_of decoded v.disk)) v.machine.scans v.session.scans
   pub used : UsedShown decoded v working
+  pub logged : LoggedShown decoded v working
   pub frames : AllByRecursion (Lends decoded.geometry v.disk) v.session.frames
   pub durable : (image : List ℕ) → may_leave image → Agrees decoded v.disk image
   pub apart : PagesApart decoded v working

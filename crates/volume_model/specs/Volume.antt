@@ -29,9 +29,11 @@ pub record Line : Type 0 where
   pub frozen : List Stored
   pub current : Stored
 
--- a file: the numbers of its pages, what stands on each, its records in order of place, and its objects
+-- a file: the numbers of its pages with records and of its index pages, what stands on each page with records, its records in order of place, and its
+-- objects
 pub record FileContent : Type 0 where
   pub numbers : List ℕ
+  pub index_pages : List ℕ
   pub pages : List FilePage
   pub stored : List Stored
   pub lines : List Line
@@ -60,9 +62,13 @@ lines_of v = flat_map (λ (file : FileContent). file.lines) v.files
 abbrev pub stored_in : Volume → List Stored
 stored_in v = flat_map line_records (lines_of v)
 
+-- the pages of a file: those with records, and those of its index
+abbrev pub pages_of_file : FileContent → List ℕ
+pages_of_file file = file.numbers ++ file.index_pages
+
 -- the pages of all files
 abbrev pub file_pages : Volume → List ℕ
-file_pages v = flat_map (λ (file : FileContent). file.numbers) v.files
+file_pages v = flat_map pages_of_file v.files
 
 abbrev pub unique_of : Stored → ℕ
 unique_of s = s.body.head.unique

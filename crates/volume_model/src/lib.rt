@@ -2,17 +2,17 @@
 //! leave of it. It has definitions and their laws alone.
 #![tactic(auto)]
 
-ghost use Rattle.std.specs.Prelude.{◌≡◌, ◌≢◌, ℕ, List, [], length, slice_index};
+ghost use Rattle.std.specs.Prelude.{◌≡◌, ◌≢◌, ℕ, Bool, List, [], length, slice_index};
 ghost use Rattle.ex_base.specs.Area.{catalog_no, page_at};
 ghost use Rattle.ex_base.specs.declared.geometry.Geometry.{Geometry};
-ghost use Rattle.object_files.specs.Catalog.{Catalog, CatalogOf, fresh_catalog};
+ghost use Rattle.object_files.specs.Catalog.{CatalogOf, fresh_catalog};
 ghost use Rattle.session_views.specs.declared.Part.{Part};
 ghost use Rattle.table_model.specs.declared.table.Table.{Table};
 ghost use Rattle.table_model.specs.Tables.{empty_table, IsTable};
-ghost use Rattle.volume_model.specs.BareTable.{bare_table, bare_volume, OpenedView};
 ghost use Rattle.volume_model.specs.Committed.{Committed, with_records};
 ghost use Rattle.op_log.specs.State.{LogState};
 ghost use Rattle.volume_model.specs.Durable.{Agrees};
+ghost use Rattle.volume_model.specs.FreshView.{KnowsUnits, OpenedView};
 ghost use Rattle.volume_model.specs.Parts.{Decodes, FirstBad, StandsFor, SuperOf};
 ghost use Rattle.volume_model.specs.Volume.{Decoded, table_of, units_of};
 
@@ -45,14 +45,17 @@ pub fn a_fresh_volume_stands_for_the_empty_table()
         → CatalogOf (page_at g disk catalog_no) fresh_catalog → StandsFor disk empty_table }
 {}
 
-/// The table of a catalog of files without objects keeps the rules of tables.
-pub fn a_catalog_of_empty_files_is_a_table()
-    ensures { (g : Geometry) (page : List ℕ) (catalog : Catalog) → CatalogOf page catalog → length page ≡ g.page_size → IsTable g (bare_table catalog) }
+/// The table that an image stands for keeps the rules of tables.
+pub fn a_volume_stands_for_a_table_with_the_rules()
+    ensures { (g : Geometry) (image : List ℕ) (table : Table) → SuperOf image g → StandsFor image table → IsTable g table }
 {}
 
-/// A session that was just opened shows the table that the volume stood for, where its files have no pages, no record counts any more and nothing is
-/// pending.
+/// A session that was just opened shows the table that the volume stood for: no record counts any more and nothing is pending, the volume's table stayed
+/// as it was, and the session knows which units and logged pages the volume has.
 pub fn an_opened_volume_shows_its_table()
-    ensures { (d : Decoded) (image disk : List ℕ) (log : LogState) (table : Table) → d.volume ≡ bare_volume d.volume.catalog → Decodes image d → StandsFor image table
-        → Committed (λ left. left ≡ disk) (with_records d [] d.volume) disk log [] → OpenedView (λ left. left ≡ disk) d disk log table }
+    ensures { (d : Decoded) (image disk : List ℕ) (log : LogState) (used held : ℕ → Bool) (table : Table) → Decodes image d → StandsFor image table
+        → Committed (λ left. left ≡ disk) (with_records d [] d.volume) disk log []
+        → table_of (units_of (with_records d [] d.volume) disk) d.volume ≡ table_of (units_of d image) d.volume
+        → KnowsUnits (with_records d [] d.volume) disk used held
+        → OpenedView (λ left. left ≡ disk) (with_records d [] d.volume) disk log used held table }
 {}

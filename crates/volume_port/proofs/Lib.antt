@@ -1,4 +1,5 @@
 pub mod Homes
 pub mod Moving
 pub mod WorkingRows
+pub mod ReadingAlone
 pub mod Staying

@@ -15,7 +15,7 @@ use Rattle.page_alloc.specs.UnitSet.{UnitSet, used_at, refs_at, updated}
 use Rattle.tree_store.proofs.Taking.{differ_used, updated_other}
 use Rattle.tree_store.specs.Stored.{IsCounted, NoUnit}
 use Rattle.volume_port.specs.Logged.{LoggedSet, is_held, is_taken}
-use Rattle.volume_port.specs.Ported.{IsReady, IsLoose, Moves, unchanged}
+use Rattle.volume_port.specs.Ported.{IsReady, IsLoose, Moves, IsUntouched, unchanged}
 use Rattle.volume_port.proofs.WorkingRows.{put_here, put_other, put_touches}
 
 pub true_false : {x : Bool} → x ≡ true → x ≡ false → ⊥
@@ -68,6 +68,16 @@ module _ (m n : Overlays) (page : ℕ) (v : Option (List ℕ)) (changed : n ≡ 
   row_touches : (p : ℕ) → IsSome (lookup (nat_eq p) m.working) → IsSome (lookup (nat_eq p) n.working)
   row_touches p is = subst (λ (o : Overlays). IsSome (lookup (nat_eq p) o.working)) (sym changed) (put_touches page v m.working p is)
 
+none_row : {A : Type 0} (v : A) (o : Option A) → o ≡ Some v → o ≡ None → ⊥
+none_row v o is none = cc
+
+-- a page that is there untouched later was so before, where another one changed
+pub untouched_before : (m n : Overlays) (page : ℕ) (v : Option (List ℕ)) (changed : n ≡ record m { working = with_row page v m.working }) (k l : LoggedSet) → ((p : ℕ) → p ≢ page → is_held l p ≡ is_held k p)
+    → (p : ℕ) → IsUntouched n l p → IsUntouched m k p
+untouched_before m n page v changed k l others p (held, row) = ⊎_elim
+    (λ (here : p ≡ page). absurd (none_row v (lookup (nat_eq page) n.working) (row_here m n page v changed) (ap (λ q. lookup (nat_eq q) n.working) (sym here) ∙ row)))
+    (λ (differ : p ≢ page). (sym (others p differ) ∙ held, sym (row_other m n page v changed p differ) ∙ row)) (cases_eq p page)
+
 -- ---- moves
 
 -- the page that is given back, where the transaction took it
@@ -89,6 +99,7 @@ module _ {S : Type 0} (g : ground.Ghosts S) where
         images = is.images;
         gone = is.gone;
         taken = is.taken;
+        there = is.there;
       }
 
   pub store_moves : (freed : ℕ → Type 0) (a b : S) (m : MutBor Overlays) (k : MutBor LoggedSet) (r t : MutBor (List ℕ)) → t.ghost_name ≡ r.ghost_name → length t.now ≡ length r.now
@@ -101,6 +112,7 @@ module _ {S : Type 0} (g : ground.Ghosts S) where
     fixed = λ unit is. record { in_use = used unit is.in_use is.stays; not_taken = is.not_taken; stays = is.stays };
     held = λ page stays is held. used page (is held) stays;
     given_back = λ page known now. unchanged m.now k.now page known now;
+    untouched = λ page is. is;
     committed = refl;
     ready = store_ready freed a b m.now k.now r.now t.now long x;
   }
@@ -121,6 +133,7 @@ module _ {S : Type 0} (g : ground.Ghosts S) where
         (λ (here : p ≡ page). absurd (some_none x (sym (row_here m n page (Some x) changed) ∙ ap (λ q. lookup (nat_eq q) n.working) (sym here) ∙ row)))
         (λ (differ : p ≢ page). is.gone p (sym (row_other m n page (Some x) changed p differ) ∙ row)) (cases_eq p page);
     taken = λ p taken. row_touches m n page (Some x) changed p (is.taken p taken);
+    there = is.there;
   }
 
   pub meta_moves : (a : S) (m n : MutBor Overlays) (k : MutBor LoggedSet) (r : MutBor (List ℕ)) (page : ℕ) (x : List ℕ) → n.ghost_name ≡ m.ghost_name → is_held k.now page ≡ true
@@ -135,18 +148,20 @@ module _ {S : Type 0} (g : ground.Ghosts S) where
     given_back = λ p known now. ⊎_elim
         (λ (here : p ≡ page). absurd (true_false (ap (is_held k.now) here ∙ there) now))
         (λ (differ : p ≢ page). row_other m.now n.now page (Some x) changed p differ ∙ unchanged m.now k.now p known now) (cases_eq p page);
+    untouched = untouched_before m.now n.now page (Some x) changed k.now k.now (λ p differ. refl);
     committed = ap (λ (o : Overlays). o.committed) changed;
     ready = meta_ready a m.now n.now k.now r.now page x there changed;
   }
 
   -- a page was taken, or given back: its flags and its working image were changed
   flags_ready : (freed : ℕ → Type 0) (a b : S) (m n : Overlays) (k l : LoggedSet) (r : List ℕ) (page : ℕ) (v : Option (List ℕ)) (held taken : Bool) → page ≢ catalog_no → page < length k.held
-      → ((x : List ℕ) → v ≡ Some x → held ≡ true) → (v ≡ None → held ≡ false) → g.frees freed a b
+      → ((x : List ℕ) → v ≡ Some x → held ≡ true) → (v ≡ None → held ≡ false) → (taken ≡ true → held ≡ true) → g.frees freed a b
       → n ≡ record m { working = with_row page v m.working } → l ≡ record { held = slice_set k.held page held; taken = slice_set k.taken page taken }
       → IsReady g a m k r → IsReady g b n l r
-  flags_ready freed a b m n k l r page v held taken other inside some none x changed set is =
+  flags_ready freed a b m n k l r page v held taken other inside some none both x changed set is =
       let same = g.frees_geometry freed a b x in
       let flag = held_here k l page held taken set inside in
+      let in_taken : page < length k.taken = subst (λ n. page < n) (is.held_len ∙ sym is.taken_len) inside in
       let row = row_here m n page v changed in
       record {
         ready = g.frees_ready freed a b x is.ready;
@@ -164,6 +179,9 @@ module _ {S : Type 0} (g : ground.Ghosts S) where
         taken = λ p there. ⊎_elim
             (λ (here : p ≡ page). subst (λ q. IsSome (lookup (nat_eq q) n.working)) (sym here) (subst (λ (o : Option (Option (List ℕ))). IsSome o) (sym row) refl))
             (λ (differ : p ≢ page). row_touches m n page v changed p (is.taken p (sym (taken_other k l page held taken set p differ) ∙ there))) (cases_eq p page);
+        there = λ p there. ⊎_elim
+            (λ (here : p ≡ page). ap (is_held l) here ∙ flag ∙ both (sym (taken_here k l page held taken set in_taken) ∙ ap (is_taken l) (sym here) ∙ there))
+            (λ (differ : p ≢ page). held_other k l page held taken set p differ ∙ is.there p (sym (taken_other k l page held taken set p differ) ∙ there)) (cases_eq p page);
       }
 
   pub take_moves : (a b : S) (m n : MutBor Overlays) (k l : MutBor LoggedSet) (r : MutBor (List ℕ)) (page : ℕ) (x : List ℕ) → n.ghost_name ≡ m.ghost_name → l.ghost_name ≡ k.ghost_name → page ≢ catalog_no → page < length k.now.held
@@ -183,8 +201,9 @@ module _ {S : Type 0} (g : ground.Ghosts S) where
     given_back = λ p known now. ⊎_elim
         (λ (here : p ≡ page). absurd (true_false (ap (is_held l.now) here ∙ held_here k.now l.now page true true set inside) now))
         (λ (differ : p ≢ page). row_other m.now n.now page (Some x) changed p differ ∙ unchanged m.now k.now p known (sym (held_other k.now l.now page true true set p differ) ∙ now)) (cases_eq p page);
+    untouched = untouched_before m.now n.now page (Some x) changed k.now l.now (λ p differ. held_other k.now l.now page true true set p differ);
     committed = ap (λ (o : Overlays). o.committed) changed;
-    ready = flags_ready NoUnit a b m.now n.now k.now l.now r.now page (Some x) true true other inside (λ y is. refl) (λ is. absurd (not_none x is)) (g.frees_leads NoUnit a b leads) changed set;
+    ready = flags_ready NoUnit a b m.now n.now k.now l.now r.now page (Some x) true true other inside (λ y is. refl) (λ is. absurd (not_none x is)) (λ is. refl) (g.frees_leads NoUnit a b leads) changed set;
   }
 
   pub give_moves : (a b : S) (m n : MutBor Overlays) (k l : MutBor LoggedSet) (r : MutBor (List ℕ)) (page : ℕ) → n.ghost_name ≡ m.ghost_name → l.ghost_name ≡ k.ghost_name → page ≢ catalog_no
@@ -210,8 +229,9 @@ module _ {S : Type 0} (g : ground.Ghosts S) where
     given_back = λ p known now. ⊎_elim
         (λ (here : p ≡ page). ap (λ q. lookup (nat_eq q) n.now.working) here ∙ row_here m.now n.now page None changed)
         (λ (differ : p ≢ page). row_other m.now n.now page None changed p differ ∙ unchanged m.now k.now p known (sym (held_other k.now l.now page false false set p differ) ∙ now)) (cases_eq p page);
+    untouched = untouched_before m.now n.now page None changed k.now l.now (λ p differ. held_other k.now l.now page false false set p differ);
     committed = ap (λ (o : Overlays). o.committed) changed;
-    ready = flags_ready (IsTakenPage k.now page) a b m.now n.now k.now l.now r.now page None false false other in_held (λ y is. absurd (not_none y (sym is))) (λ is. refl) x changed set;
+    ready = flags_ready (IsTakenPage k.now page) a b m.now n.now k.now l.now r.now page None false false other in_held (λ y is. absurd (not_none y (sym is))) (λ is. refl) (λ is. is) x changed set;
   }
 
 -- ---- the units

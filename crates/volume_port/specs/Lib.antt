@@ -1,3 +1,4 @@
 pub mod Logged
 pub mod Ported
+pub mod Reading
 pub mod Stays

@@ -20,7 +20,7 @@ abbrev pub image_over : Geometry → Overlays → (ℕ → List ℕ) → ℕ →
 image_over g meta unit page = if in_pages g page then unwrap_or (image_at meta page) (unit page) else []
 
 -- The store is ready, and all parts are of its geometry. The working state has the catalog. Of the touched pages it has just those with an image;
--- each page that the transaction took is one of them.
+-- each page that the transaction took is one of them, and is there.
 pub record IsReady {S : Type 0} (g : ground.Ghosts S) (store : S) (meta : Overlays) (pages : LoggedSet) (room : List ℕ) : Type 0 where
   pub ready : g.ready store
   pub overlay : meta.geometry ≡ g.geometry store
@@ -31,6 +31,7 @@ pub record IsReady {S : Type 0} (g : ground.Ghosts S) (store : S) (meta : Overla
   pub images : (page : ℕ) (image : List ℕ) → lookup (nat_eq page) meta.working ≡ Some (Some image) → is_held pages page ≡ true
   pub gone : (page : ℕ) → lookup (nat_eq page) meta.working ≡ Some None → is_held pages page ≡ false
   pub taken : (page : ℕ) → is_taken pages page ≡ true → IsSome (lookup (nat_eq page) meta.working)
+  pub there : (page : ℕ) → is_taken pages page ≡ true → is_held pages page ≡ true
 
 -- The unit is used, the transaction did not take it, and it is not of this set.
 pub record IsFixed (freed : ℕ → Type 0) (used : ℕ → Bool) (pages : LoggedSet) (unit : ℕ) : Type 0 where
@@ -50,9 +51,13 @@ IsUsed used pages page = is_held pages page ≡ true → used page ≡ true
 abbrev pub IsKnown : Overlays → LoggedSet → ℕ → Type 0
 IsKnown meta pages page = (is_held pages page ≡ true) ⊎ (lookup (nat_eq page) meta.working ≡ Some None)
 
+-- the page is there, and the transaction touched it not
+abbrev pub IsUntouched : Overlays → LoggedSet → ℕ → Type 0
+IsUntouched meta pages page = (is_held pages page ≡ true) × (lookup (nat_eq page) meta.working ≡ None)
+
 -- An earlier and a later state of a port, over the same borrowed parts. Each unit that was used, that the transaction had not taken and that is not
 -- of the set is used still, and the transaction has not taken it. On the disk nothing changed but bytes of other units. A page that is there no more
--- is one that the transaction gave back. The committed images are the same.
+-- is one that the transaction gave back, and one that is there untouched was so before. The committed images are the same.
 pub record Moves {S : Type 0} (g : ground.Ghosts S) (freed : ℕ → Type 0) (a b : S) (m n : MutBor Overlays) (k l : MutBor LoggedSet) (r t : MutBor (List ℕ)) : Type 0 where
   pub store : g.frees (IsLoose freed (g.used a) k.now) a b
   pub meta : n.ghost_name ≡ m.ghost_name
@@ -61,6 +66,7 @@ pub record Moves {S : Type 0} (g : ground.Ghosts S) (freed : ℕ → Type 0) (a 
   pub fixed : (unit : ℕ) → IsFixed freed (g.used a) k.now unit → IsFixed freed (g.used b) l.now unit
   pub held : (page : ℕ) → (freed page → ⊥) → IsUsed (g.used a) k.now page → IsUsed (g.used b) l.now page
   pub given_back : (page : ℕ) → IsKnown m.now k.now page → is_held l.now page ≡ false → lookup (nat_eq page) n.now.working ≡ Some None
+  pub untouched : (page : ℕ) → IsUntouched n.now l.now page → IsUntouched m.now k.now page
   pub committed : n.now.committed ≡ m.now.committed
   pub ready : IsReady g a m.now k.now r.now → IsReady g b n.now l.now t.now
 
@@ -89,6 +95,7 @@ module _ {S : Type 0} (g : ground.Ghosts S) where
     fixed = λ unit is. is;
     held = λ page stays is. is;
     given_back = λ page known now. unchanged m.now k.now page known now;
+    untouched = λ page is. is;
     committed = refl;
     ready = λ is. is;
   }
@@ -106,6 +113,7 @@ module _ {S : Type 0} (g : ground.Ghosts S) where
     given_back = λ page known now. ⊎_elim
         (λ there. y.given_back page (inl there) now)
         (λ away. y.given_back page (inr (x.given_back page known away)) now) (cases_Bool (is_held l.now page));
+    untouched = λ page is. x.untouched page (y.untouched page is);
     committed = y.committed ∙ x.committed;
     ready = λ is. y.ready (x.ready is);
   }
@@ -120,6 +128,7 @@ module _ {S : Type 0} (g : ground.Ghosts S) where
     fixed = λ unit is. let later = x.fixed unit (fixed_in_more wider unit is) in record { in_use = later.in_use; not_taken = later.not_taken; stays = is.stays };
     held = λ page stays is. x.held page (λ freed. stays (wider page freed)) is;
     given_back = x.given_back;
+    untouched = x.untouched;
     committed = x.committed;
     ready = x.ready;
   }

@@ -9,7 +9,9 @@ mod logged;
 mod pages;
 mod port;
 mod reading;
+mod reading_port;
 
 pub use law::committed_pages_stay;
 pub use logged::LoggedPages;
 pub use port::VolumePort;
+pub use reading_port::ReadingPort;

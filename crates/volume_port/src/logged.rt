@@ -44,6 +44,13 @@ impl LoggedPages {
         })
     }
 
+    /// Whether the working state has each page, by page number.
+    pub fn held(&self) -> &[bool]
+        ensures { result.now ≡ self.now.held }
+    {
+        self.held.as_slice()
+    }
+
     /// Whether the working state has a page.
     pub fn holds(&self, page: PageNo) -> bool
         requires { page.0 < length self.now.held }

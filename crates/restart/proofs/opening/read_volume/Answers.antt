@@ -2,19 +2,25 @@ use Rattle.std.proofs.Common.{◌≡◌, ℕ, List, length, Some, ◌∙◌, ap,
 use Rattle.ex_base.specs.Area.{catalog_no}
 use Rattle.ex_base.specs.Sizes.{most_page}
 use Rattle.ex_base.specs.declared.geometry.Geometry.{Geometry}
+use Rattle.disk_model.specs.Outside.{ReadsOnly}
 use Rattle.disk_model.specs.Runs.{reads_trans}
+use Rattle.object_files.specs.Catalog.{Catalog}
+use Rattle.page_alloc.specs.UnitSet.{used_at}
+use Rattle.session_views.specs.declared.Part.TheVariants.{Catalog as CatalogPart}
+use Rattle.volume_port.specs.Logged.{is_held}
 use Rattle.op_log.specs.AfterLog.{after_log, logged}
 use Rattle.op_log.specs.declared.record.LogRecord.{LogRecord}
 use Rattle.op_log.specs.Decoding.{last_number}
-use Rattle.meta_pages.specs.Overlays.{committed_image}
-use Rattle.restart.proofs.BadParts.{catalog_fails}
+use Rattle.meta_pages.specs.Overlays.{committed_image, image_at}
+use Rattle.restart.proofs.BadParts.{catalog_bad, content_bad}
 use Rattle.restart.proofs.LastRecord.{count_within}
-use Rattle.restart.proofs.Opened.{none_logged, page_after_log, reads_as, same_log}
+use Rattle.restart.proofs.Opened.{catalog_after_log, catalog_before_log, no_working, none_logged, page_after_log, reads_as, same_log}
 use Rattle.restart.proofs.Superblocks.{fault_of, part_is_bad, same_fault}
 use Rattle.restart.specs.declared.opening.OpenedParts.{OpenedParts}
+use Rattle.restart.specs.Opening.{HasCatalog}
 use Rattle.restart.proofs.opening.read_volume.Given as given
 use Rattle.restart.proofs.opening.read_volume.Goals as goal
-use Rattle.restart.proofs.opening.read_volume.Goals.{After-test_catalog}
+use Rattle.restart.proofs.opening.read_volume.Goals.{After-test_catalog, After-walk_volume}
 
 pub returns-in-Err-clause-bad : goal.returns-in-Err-clause-bad
 returns-in-Err-clause-bad g c part is image holds = c.read_geometry.ensures.bad part (c.in-Err.is ∙ ap (fault_of Geometry) (same_fault OpenedParts c.in-Err.fault _ is)) image holds
@@ -36,22 +42,46 @@ tested g c image holds =
 number : (g : given.Over) (c : After-test_catalog g) → c.last_txn.result ≡ last_number c.in-Ok-read_log.records
 number g c = c.last_txn.ensures ∙ ap last_number c.as_slice-2.ensures
 
-pub returns-in-Err-test_catalog-clause-bad : goal.returns-in-Err-test_catalog-clause-bad
-returns-in-Err-test_catalog-clause-bad g c part is image holds =
-    let after = (goal.at.returns-in-Err-test_catalog-clause-bad g c).After-test_catalog in
-    let p = c.in-Err-test_catalog.part in
-    part_is_bad OpenedParts p part image is
-    (catalog_fails image c.in-Ok.geometry c.in-Ok-read_log.records c.deref.result.now c.last_txn.result p (c.in-Ok.ensures.found image holds)
-    (c.in-Ok-read_log.ensures.records image (c.read_geometry.ensures.only.nothing.disk ∙ holds)) (tested g after image holds) (number g after) (c.test_catalog.ensures.bad p c.in-Err-test_catalog.is))
+-- the page's catalog is the one after the log
+tested_is : (g : given.Over) (c : After-test_catalog g) (image : List ℕ) (k : Catalog) → (g.D.World.outside c.args.disk.now).disk ≡ Some image → HasCatalog c.deref.result.now c.last_txn.result k
+    → HasCatalog (after_log c.in-Ok.geometry c.in-Ok-read_log.records image catalog_no) (last_number c.in-Ok-read_log.records) k
+tested_is g c image k holds here = catalog_after_log c.in-Ok.geometry image c.in-Ok-read_log.records c.deref.result.now c.last_txn.result k (tested g c image holds) (number g c) here
+
+pub returns-in_default-test_catalog-clause-bad : goal.returns-in_default-test_catalog-clause-bad
+returns-in_default-test_catalog-clause-bad g c part is image holds =
+    let after = (goal.at.returns-in_default-test_catalog-clause-bad g c).After-test_catalog in
+    part_is_bad OpenedParts CatalogPart part image is
+    (catalog_bad image c.in-Ok.geometry c.in-Ok-read_log.records (c.in-Ok.ensures.found image holds) (c.in-Ok-read_log.ensures.records image (c.read_geometry.ensures.only.nothing.disk ∙ holds))
+    (λ k here. c.in_default-test_catalog.ensures.none k (catalog_before_log c.in-Ok.geometry image c.in-Ok-read_log.records c.deref.result.now c.last_txn.result k (tested g after image holds) (number g after) here)))
+
+-- what the walks find the pages to be
+shown : (g : given.Over) (c : After-test_catalog g) (page : ℕ) → image_at c.in-Ok-overlay_of.meta page ≡ logged c.in-Ok-read_log.records page
+shown g c page = no_working c.in-Ok-overlay_of.meta page c.in-Ok-overlay_of.ensures.working ∙ just g c page
+
+held : (g : given.Over) (c : After-test_catalog g) (image : List ℕ) → (g.D.World.outside c.args.disk.now).disk ≡ Some image → (g.D.World.outside c.read_catalog.new.disk).disk ≡ Some image
+held g c image holds = c.read_catalog.ensures.only.nothing.disk ∙ (c.read_log.ensures.only.nothing.disk ∙ (c.read_geometry.ensures.only.nothing.disk ∙ holds))
+
+pub returns-in-Err-walk_volume-clause-bad : goal.returns-in-Err-walk_volume-clause-bad
+returns-in-Err-walk_volume-clause-bad g c part is image holds =
+    let after = (goal.at.returns-in-Err-walk_volume-clause-bad g c).After-test_catalog in
+    content_bad image c.in-Ok.geometry c.in-Ok-read_log.records (c.in-Ok.ensures.found image holds) (c.in-Ok-read_log.ensures.records image (c.read_geometry.ensures.only.nothing.disk ∙ holds))
+    c.in-Some.catalog (tested_is g after image c.in-Some.catalog holds c.in-Some.ensures.found) part
+    (c.walk_volume.ensures.bad part image c.in-Ok-read_log.records (c.in-Err-walk_volume.is ∙ ap (fault_of _) (same_fault OpenedParts c.in-Err-walk_volume.fault _ is)) (held g after image holds) (shown g after))
+
+only : (g : given.Over) (c : After-walk_volume g) → ReadsOnly (g.D.World.outside c.args.disk.now) (g.D.World.outside c.walk_volume.new.disk)
+only g c = reads_trans (reads_trans (reads_trans c.read_geometry.ensures.only c.read_log.ensures.only) c.read_catalog.ensures.only) c.walk_volume.ensures.only
+
+pub returns-in-Ok-make_parts-clause-only : goal.returns-in-Ok-make_parts-clause-only
+returns-in-Ok-make_parts-clause-only g c = only g (goal.at.returns-in-Ok-make_parts-clause-only g c).After-walk_volume
+
+pub returns-clause-only : goal.returns-clause-only
+returns-clause-only g c = only g (goal.at.returns-clause-only g c).After-walk_volume
 
 pub overflow_cast-count : goal.overflow_cast-count
 overflow_cast-count g c = omega (arith, ap length c.as_slice-3.ensures, count_within c.in-Ok-read_log.records, c.in-Ok-read_log.ensures.inside, most_page c.in-Ok.geometry)
 
 pub make_parts-requires-clause-count : goal.make_parts-requires-clause-count
 make_parts-requires-clause-count g c = omega (arith, ap length c.as_slice-3.ensures, count_within c.in-Ok-read_log.records, c.end.ensures)
-
-pub returns-in-Ok-make_parts-clause-only : goal.returns-in-Ok-make_parts-clause-only
-returns-in-Ok-make_parts-clause-only g c = reads_trans (reads_trans c.read_geometry.ensures.only c.read_log.ensures.only) c.read_catalog.ensures.only
 
 pub returns-in-Ok-make_parts-clause-logged : goal.returns-in-Ok-make_parts-clause-logged
 returns-in-Ok-make_parts-clause-logged g c =
@@ -62,6 +92,9 @@ returns-in-Ok-make_parts-clause-logged g c =
 pub returns-in-Ok-make_parts-clause-reads : goal.returns-in-Ok-make_parts-clause-reads
 returns-in-Ok-make_parts-clause-reads g c image holds =
     let after = (goal.at.returns-in-Ok-make_parts-clause-reads g c).After-test_catalog in
-    reads_as image c.in-Ok.geometry c.in-Ok-make_parts.parts.geometry c.in-Ok-read_log.records c.deref.result.now c.last_txn.result c.in-Ok-overlay_of.meta c.in-Ok-make_parts.parts.meta c.in-Ok-make_parts.parts.log
-    (c.in-Ok.ensures.found image holds) (c.in-Ok-read_log.ensures.records image (c.read_geometry.ensures.only.nothing.disk ∙ holds)) (tested g after image holds) (number g after)
-    c.in_default-test_catalog.ensures.fine (just g after) c.in-Ok-make_parts.ensures.meta c.in-Ok-make_parts.ensures.geometry (c.in-Ok-make_parts.ensures.log ∙ same_log c.in-Ok.geometry c.end.ensures (ap length c.as_slice-3.ensures))
+    let made = c.in-Ok-make_parts.ensures in
+    let p = c.in-Ok-make_parts.parts in
+    reads_as image c.in-Ok.geometry p.geometry c.in-Ok-read_log.records c.in-Some.catalog c.in-Ok-overlay_of.meta p.meta p.log c.in-Ok-walk_volume.reached (used_at p.units) (is_held p.pages)
+    (c.in-Ok.ensures.found image holds) (c.in-Ok-read_log.ensures.records image (c.read_geometry.ensures.only.nothing.disk ∙ holds)) (tested_is g after image c.in-Some.catalog holds c.in-Some.ensures.found)
+    (c.in-Ok-walk_volume.ensures.holds image c.in-Ok-read_log.records (held g after image holds) (shown g after)) (just g after) made.meta made.geometry
+    (made.log ∙ same_log c.in-Ok.geometry c.end.ensures (ap length c.as_slice-3.ensures)) (ap used_at made.units) (ap is_held made.pages)

@@ -1,0 +1,11 @@
+pub mod Lists
+pub mod Times
+pub mod Units
+pub mod Levels
+pub mod Walking
+pub mod Rows
+pub mod Reading
+pub mod Runs
+pub mod Sorting
+pub mod Contents
+pub mod Parts

@@ -1,0 +1,42 @@
+use Rattle.std.proofs.Common.{◌≡◌, ◌<◌, ◌+◌, ℕ, List, [], ◌∷◌, ◌++◌, length, drop, Some, None, ap, sym, ◌∙◌, arith}
+use Rattle.std.specs.Prelude.{slice_index_or}
+use Rattle.slotted_pages.specs.FilePage.{Slot}
+use Rattle.volume_model.specs.Parts.{bodies_from}
+use Rattle.file_walk.specs.declared.Found.{Found}
+use Rattle.file_walk.proofs.Lists.{drop_at, drop_past}
+use Rattle.file_walk.proofs.Rows.{rows_start, rows_step, rows_end, rows_bad, rows_as, slot_vacant, slot_live, row_at}
+use Rattle.file_walk.proofs.records.add_records.Goals as goal
+
+pub loop-slot-init : goal.loop-slot-init
+loop-slot-init c = rows_start c.args.records.now.items (bodies_from c.args.page.0 0 c.args.view.now.page.slots)
+
+here : (slots : List Slot) (i : ℕ) (s : Slot) → i < length slots → s ≡ slice_index_or slots i None → drop i slots ≡ s ∷ drop (i + 1) slots
+here slots i s lt is = drop_at slots i None lt ∙ ap (λ (t : Slot). t ∷ drop (i + 1) slots) (sym is)
+
+pub loop-slot-preserved-in_default : goal.loop-slot-preserved-in_default
+loop-slot-preserved-in_default c =
+    rows_as c.args.records.now.items c.loop-slot.records.items (bodies_from c.args.page.0 0 c.args.view.now.page.slots) _ _
+    (slot_vacant c.args.page.0 c.loop-slot.slot c.args.view.now.page.slots (here c.args.view.now.page.slots c.loop-slot.slot None (omega (arith, c.loop-slot-test.true, c.slots-slot-end.ensures)) c.in_default.ensures)) c.loop-slot.invariant
+
+pub returns-in-None-clause-bad : goal.returns-in-None-clause-bad
+returns-in-None-clause-bad c = λ e good.
+    let live = slot_live c.args.page.0 c.loop-slot.slot c.in-Some.body.now c.args.view.now.page.slots (here c.args.view.now.page.slots c.loop-slot.slot (Some c.in-Some.body.now) (omega (arith, c.loop-slot-test.true, c.slots-slot-end.ensures)) c.in-Some.ensures) in
+    rows_bad c.args.records.now.items c.loop-slot.records.items (bodies_from c.args.page.0 0 c.args.view.now.page.slots) (row_at c.args.page.0 c.loop-slot.slot c.in-Some.body.now ∷ []) _
+    (rows_as c.args.records.now.items c.loop-slot.records.items (bodies_from c.args.page.0 0 c.args.view.now.page.slots) _ _ live c.loop-slot.invariant)
+    (λ one. c.in-None.ensures.none _ one.0) good
+
+pub loop-slot-preserved : goal.loop-slot-preserved
+loop-slot-preserved c =
+    let live = slot_live c.args.page.0 c.loop-slot.slot c.in-Some.body.now c.args.view.now.page.slots (here c.args.view.now.page.slots c.loop-slot.slot (Some c.in-Some.body.now) (omega (arith, c.loop-slot-test.true, c.slots-slot-end.ensures)) c.in-Some.ensures) in
+    rows_step c.args.records.now.items c.loop-slot.records.items c.push.new.self.items (bodies_from c.args.page.0 0 c.args.view.now.page.slots) (row_at c.args.page.0 c.loop-slot.slot c.in-Some.body.now ∷ []) _
+    (rows_as c.args.records.now.items c.loop-slot.records.items (bodies_from c.args.page.0 0 c.args.view.now.page.slots) _ _ live c.loop-slot.invariant)
+    (record {
+      good = (c.in-Some-found_in.ensures.good, tt);
+      records = c.in_ok-push-in-Some-found_in.ensures.items ∙ ap (λ (f : Found). c.loop-slot.records.items ++ (f ∷ [])) c.in-Some-found_in.ensures.found;
+    })
+
+pub returns-clause-good : goal.returns-clause-good
+returns-clause-good c = λ e.
+    rows_end c.args.records.now.items c.loop-slot.records.items (bodies_from c.args.page.0 0 c.args.view.now.page.slots)
+    (rows_as c.args.records.now.items c.loop-slot.records.items (bodies_from c.args.page.0 0 c.args.view.now.page.slots) _ _
+    (ap (bodies_from c.args.page.0 c.loop-slot.slot) (drop_past c.args.view.now.page.slots c.loop-slot.slot (omega (arith, c.loop-slot-test.false, c.slots-slot-end.ensures)))) c.loop-slot.invariant)

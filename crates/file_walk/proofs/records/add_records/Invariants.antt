@@ -1,0 +1,8 @@
+use Rattle.std.proofs.Common.{drop}
+use Rattle.volume_model.specs.Parts.{bodies_from}
+use Rattle.file_walk.proofs.Rows.{RowsTo}
+use Rattle.file_walk.proofs.records.add_records.Given as goal
+
+-- the records of the slots so far were added
+abbrev pub invariant-loop-slot : goal.invariant-loop-slot
+invariant-loop-slot l = RowsTo l.fn.records.items l.records.items (bodies_from l.page.0 0 l.view.page.slots) (bodies_from l.page.0 l.slot (drop l.slot l.view.page.slots))

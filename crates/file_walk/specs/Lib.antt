@@ -1,0 +1,5 @@
+pub mod Walk
+pub mod Parts
+pub mod Indexes
+pub mod Records
+pub mod Numbers

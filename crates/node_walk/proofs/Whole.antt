@@ -1,0 +1,88 @@
+-- What a walk of a whole tree shows, which begins with no note.
+use Rattle.std.proofs.Common.{◌≡◌, ◌⊎◌, ◌↔◌, ℕ, zero, suc, Bool, true, false, List, [], ◌∷◌, ◌++◌, Some, None, inl, inr, sym, ap, subst, ◌∙◌}
+use Rattle.std.proofs.lemmas.List.{append-nil}
+use Rattle.std.proofs.lemmas.List.Elements.{Contains-append_cases}
+use Rattle.std.specs.Prelude.{Contains}
+use Rattle.std.specs.List.{AllByRecursion}
+use Rattle.ex_base.specs.declared.geometry.Geometry.{Geometry}
+use Rattle.tree_model.specs.Trees.{Units, IsNamed, units_on}
+use Rattle.tree_rows.specs.declared.rows.Part.{Part}
+use Rattle.tree_rows.specs.Rows.{row_units}
+use Rattle.node_walk.specs.declared.nodes.Met.{Met}
+use Rattle.node_walk.specs.declared.least.Least.{Least}
+use Rattle.node_walk.specs.TreesNamed.{AreFree}
+use Rattle.node_walk.specs.Walk.{Notes, IsAt, IsKnown, IsMet, IsNew, HasLeast, IsFull, Walked, level_below, row_at, below_least}
+use Rattle.node_walk.proofs.Lists.{in_none, in_cons, each_from, each_to}
+use Rattle.node_walk.proofs.Levels.{named_at, units_of_parts}
+
+each_both : {A : Type 0} (P Q R : A → Type 0) (xs : List A) → ((x : A) → P x → Q x → R x) → AllByRecursion P xs → AllByRecursion Q xs → AllByRecursion R xs
+each_both P Q R [] f ps qs = tt
+each_both P Q R (x ∷ xs) f ps qs = (f x ps.0 qs.0, each_both P Q R xs f ps.1 qs.1)
+
+module _ (g : Geometry) (u : Units) (height : ℕ) (least : Least) (tree : Part) (used after : ℕ → Bool) (known noted : Notes) (balanced : Bool)
+    (walked : Walked g u height least (tree ∷ []) used known after noted balanced) (unknown : (p : ℕ) → known p ≡ None) where
+  new : (p : ℕ) (met : Met) → noted p ≡ Some met → IsNew g u height (tree ∷ []) used after noted balanced p met
+  new p met is = elim (walked.fresh p met is) [
+    | inl was ↦ let clash : Some met ≡ None = sym was ∙ unknown p in absurd cc
+    | inr fresh ↦ fresh
+  ]
+
+  at : (l page : ℕ) → IsMet noted l page → IsAt g u l page
+  at l page m = subst (λ k. IsAt g u k page) m.2 (walked.notes page m.0 m.1).at
+
+  below : (l page : ℕ) → IsMet noted l page → AllByRecursion (λ (part : Part). IsMet noted (level_below l) part.page.0) (row_at u l page)
+  below l page m = subst (λ k. AllByRecursion (λ (part : Part). IsMet noted (level_below k) part.page.0) (row_at u k page)) m.2 (new page m.0 m.1).below
+
+  asked : balanced ≡ true → (l page : ℕ) → IsMet noted l page → AllByRecursion (HasLeast g u (below_least g) (level_below l)) (row_at u l page)
+  asked t l page m = subst (λ k. AllByRecursion (HasLeast g u (below_least g) (level_below k)) (row_at u k page)) m.2 ((new page m.0 m.1).asked t)
+
+  named_of : (l page : ℕ) → IsMet noted l page → IsNamed g u l page
+  named_of zero page m = at zero page m
+  named_of (suc l) page m = named_at g u (suc l) page (at (suc l) page m) (each_to _ _ (row_at u (suc l) page) (λ part is. named_of l part.page.0 is) (below (suc l) page m))
+
+  row_known : (l p : ℕ) (row : List Part) → ((page : ℕ) → IsMet noted l page → Contains (units_on u l page) p → IsKnown noted p)
+      → AllByRecursion (λ (part : Part). IsMet noted l part.page.0) row → Contains (row_units u l row) p → IsKnown noted p
+  row_known l p [] f all h = absurd (in_none p h)
+  row_known l p (part ∷ row) f all h = elim (Contains-append_cases (units_on u l part.page.0) (row_units u l row) p h) [
+    | inl here ↦ f part.page.0 all.0 here
+    | inr rest ↦ row_known l p row f all.1 rest
+  ]
+
+  known_of : (l page p : ℕ) → IsMet noted l page → Contains (units_on u l page) p → IsKnown noted p
+  known_of zero page p m h = elim (in_cons page [] p h) [
+    | inl same ↦ (m.0, ap noted (sym same) ∙ m.1)
+    | inr none ↦ absurd (in_none p none)
+  ]
+  known_of (suc l) page p m h = elim (in_cons page _ p h) [
+    | inl same ↦ (m.0, ap noted (sym same) ∙ m.1)
+    | inr rest ↦ row_known l p (row_at u (suc l) page) (λ child is inside. known_of l child p is inside) (below (suc l) page m) (subst (λ xs. Contains xs p) (sym (units_of_parts u l 0 _)) rest)
+  ]
+
+  full_of : balanced ≡ true → (some : Least) (l : ℕ) (part : Part) → IsMet noted l part.page.0 → HasLeast g u some l part → IsFull g u some l part
+  full_of t some zero part m has = has
+  full_of t some (suc l) part m has =
+      (has, each_both _ _ _ (row_at u (suc l) part.page.0) (λ child is own. full_of t (below_least g) l child is own) (below (suc l) part.page.0 m) (asked t (suc l) part.page.0 m))
+
+  pub whole_named : IsNamed g u height tree.page.0
+  whole_named = named_of height tree.page.0 walked.met.0
+
+  pub whole_free : AreFree used (units_on u height tree.page.0)
+  whole_free = each_from _ _ (λ p inside. let is = known_of height tree.page.0 p walked.met.0 inside in (new p is.0 is.1).free)
+
+  pub whole_used : (p : ℕ) → (after p ≡ true) ↔ ((used p ≡ true) ⊎ Contains (units_on u height tree.page.0 ++ []) p)
+  whole_used p = (
+    λ taken. elim (walked.used_then p taken) [
+      | inl was ↦ inl was
+      | inr is ↦ inr (new p is.0 is.1).inside
+    ],
+    λ cases. elim cases [
+      | inl was ↦ walked.still_used p was
+      | inr inside ↦ let is = known_of height tree.page.0 p walked.met.0 (subst (λ xs. Contains xs p) (append-nil (units_on u height tree.page.0)) inside) in (new p is.0 is.1).taken
+    ],
+  )
+
+  pub whole_full : balanced ≡ true → IsFull g u least height tree
+  whole_full t = full_of t least height tree walked.met.0 (walked.asked t).0
+
+  pub whole_thin : balanced ≡ false → IsFull g u least height tree → ⊥
+  whole_thin f full = walked.thin f (full, tt)

@@ -1,0 +1,2 @@
+pub mod TreesNamed
+pub mod Walk

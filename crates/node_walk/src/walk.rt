@@ -1,0 +1,197 @@
+// The walk of one tree.
+ghost use Rattle.std.specs.Prelude.{◌≡◌, ◌≤◌, true, false, [], ◌∷◌, Err, OnOk, IfOk, nat_eq};
+ghost use Rattle.std.specs.HashMap.{get};
+ghost use Rattle.ex_base.specs.Area.{IsUnit};
+ghost use Rattle.ex_base.specs.Faults.{Rose};
+ghost use Rattle.ex_base.specs.Ports.{Keeps};
+ghost use Rattle.page_alloc.specs.UnitSet.{used_at};
+ghost use Rattle.tree_model.specs.Trees.{Units as Bytes, IsNamed};
+ghost use Rattle.session_views.specs.declared.part.Part.{Part as VolumePart};
+ghost use Rattle.session_views.specs.declared.part.Part.TheVariants.{Node as NodePart};
+ghost use Rattle.node_walk.specs.TreesNamed.{ShowsPages};
+ghost use Rattle.node_walk.specs.Walk.{AreNoted, IsKnown, IsFirst, Meets, Walked, CanWalk, OnlyUses};
+
+use crate::faults::{BAD_NODE, open_fault};
+use crate::least::{Least, is_asked, least_below};
+use crate::nodes::{LEAF, Met, Node, names_leaf, names_page, read_node};
+use ex_base::{Geometry, PageNo, Pages};
+use page_alloc::Units;
+use session_views::OpenFault;
+use std::alloc::Global;
+use std::collections::HashMap;
+use tree_rows::Part;
+
+/// A leaf that the tree names for the first time.
+fn first_leaf(
+    alloc: Global,
+    geometry: &Geometry,
+    units: &Units,
+    page: PageNo,
+) -> Result<Node, OpenFault>
+    requires units { units.now.geometry ≡ geometry.now }
+    ensures unit { OnOk result (IsUnit geometry.now page.0) }
+    ensures free { OnOk result (used_at units.now page.0 ≡ false) }
+    ensures leaf { IfOk result (λ node. node.below.items ≡ []) }
+    ensures first { IfOk result (λ node. (bytes : Bytes) → IsFirst geometry.now bytes 0 page.0 node.met node.below.items (used_at units.now)) }
+    ensures bad { (part : VolumePart) → result ≡ Err (OpenFault.BadVolume part) → (bytes : Bytes)
+        → (part ≡ NodePart) × (IsNamed geometry.now bytes 0 page.0 → used_at units.now page.0 ≡ true) }
+    ensures disk { result ≡ Err OpenFault.Disk → ⊥ }
+{
+    if !names_leaf(geometry, page) || units.is_used(page) {
+        return Err(BAD_NODE);
+    }
+    Ok(Node {
+        met: LEAF,
+        below: Vec::new(alloc),
+    })
+}
+
+/// A node of a level that the tree names for the first time.
+fn first_node<P: Pages>(
+    pages: &mut P,
+    alloc: Global,
+    geometry: &Geometry,
+    units: &Units,
+    level: u8,
+    page: PageNo,
+) -> Result<Node, OpenFault>
+    requires ready { P.ready pages.old }
+    requires geometry { geometry.now ≡ P.geometry pages.old }
+    requires units { units.now.geometry ≡ geometry.now }
+    requires level { 1 ≤ level }
+    ensures unit { OnOk result (IsUnit geometry.now page.0) }
+    ensures free { OnOk result (used_at units.now page.0 ≡ false) }
+    ensures first { IfOk result (λ node. P.tells pages.old → (bytes : Bytes) → ShowsPages geometry.now (P.image pages.old) bytes
+        → IsFirst geometry.now bytes level page.0 node.met node.below.items (used_at units.now)) }
+    ensures bad { (part : VolumePart) → result ≡ Err (OpenFault.BadVolume part) → P.tells pages.old → (bytes : Bytes) → ShowsPages geometry.now (P.image pages.old) bytes
+        → (part ≡ NodePart) × (IsNamed geometry.now bytes level page.0 → used_at units.now page.0 ≡ true) }
+    ensures kept { Keeps P.Ground pages.old pages.new }
+    ensures disk { result ≡ Err OpenFault.Disk → Rose (P.faults pages.old) (P.faults pages.new) }
+{
+    if !names_page(geometry, page) || units.is_used(page) {
+        return Err(BAD_NODE);
+    }
+    let found = match read_node(pages, alloc, geometry.fan, page) {
+        Ok(found) => found,
+        Err(fault) => return Err(open_fault(fault)),
+    };
+    let Some(node) = found else {
+        return Err(BAD_NODE);
+    };
+    if node.met.level != level {
+        return Err(BAD_NODE);
+    }
+    Ok(node)
+}
+
+/// A unit that the tree names for the first time, where it can be the root of a tree of this level.
+fn first_met<P: Pages>(
+    pages: &mut P,
+    alloc: Global,
+    geometry: &Geometry,
+    units: &Units,
+    level: u8,
+    page: PageNo,
+) -> Result<Node, OpenFault>
+    requires ready { P.ready pages.old }
+    requires geometry { geometry.now ≡ P.geometry pages.old }
+    requires units { units.now.geometry ≡ geometry.now }
+    ensures unit { OnOk result (IsUnit geometry.now page.0) }
+    ensures free { OnOk result (used_at units.now page.0 ≡ false) }
+    ensures leaf { IfOk result (λ node. level ≡ 0 → node.below.items ≡ []) }
+    ensures first { IfOk result (λ node. P.tells pages.old → (bytes : Bytes) → ShowsPages geometry.now (P.image pages.old) bytes
+        → IsFirst geometry.now bytes level page.0 node.met node.below.items (used_at units.now)) }
+    ensures bad { (part : VolumePart) → result ≡ Err (OpenFault.BadVolume part) → P.tells pages.old → (bytes : Bytes) → ShowsPages geometry.now (P.image pages.old) bytes
+        → (part ≡ NodePart) × (IsNamed geometry.now bytes level page.0 → used_at units.now page.0 ≡ true) }
+    ensures kept { Keeps P.Ground pages.old pages.new }
+    ensures disk { result ≡ Err OpenFault.Disk → Rose (P.faults pages.old) (P.faults pages.new) }
+{
+    if level == 0 {
+        return first_leaf(alloc, geometry, units, page);
+    }
+    first_node(pages, alloc, geometry, units, level, page)
+}
+
+/// Meets a unit of a tree. Where the tree named it before nothing is left to be walked below it; else it is in use from now on.
+fn meet<P: Pages>(
+    pages: &mut P,
+    alloc: Global,
+    geometry: &Geometry,
+    units: &mut Units,
+    known: &mut HashMap<u32, Met>,
+    level: u8,
+    page: PageNo,
+) -> Result<Node, OpenFault>
+    requires ready { P.ready pages.old }
+    requires geometry { geometry.now ≡ P.geometry pages.old }
+    requires units { units.old.geometry ≡ geometry.now }
+    ensures leaf { IfOk result (λ node. level ≡ 0 → node.below.items ≡ []) }
+    ensures met { IfOk result (λ node. P.tells pages.old → (bytes : Bytes) → ShowsPages geometry.now (P.image pages.old) bytes
+        → Meets geometry.now bytes level page.0 node.met node.below.items (used_at units.old) (get nat_eq known.old) (used_at units.new) (get nat_eq known.new)) }
+    ensures bad { (part : VolumePart) → result ≡ Err (OpenFault.BadVolume part) → P.tells pages.old → (bytes : Bytes) → ShowsPages geometry.now (P.image pages.old) bytes
+        → AreNoted geometry.now bytes (get nat_eq known.old)
+        → (part ≡ NodePart) × (IsNamed geometry.now bytes level page.0 → (used_at units.old page.0 ≡ true → IsKnown (get nat_eq known.old) page.0) → ⊥) }
+    ensures kept { Keeps P.Ground pages.old pages.new }
+    ensures disk { result ≡ Err OpenFault.Disk → Rose (P.faults pages.old) (P.faults pages.new) }
+    ensures uses { OnlyUses units.old units.new }
+{
+    if let Some(met) = known.get(&page.0).copied() {
+        if met.level != level {
+            return Err(BAD_NODE);
+        }
+        return Ok(Node {
+            met,
+            below: Vec::new(alloc),
+        });
+    }
+    let node = first_met(pages, alloc, geometry, units, level, page)?;
+    units.adopt(page);
+    match known.insert(page.0, node.met) {
+        Ok(_) => Ok(node),
+        Err(_) => Err(OpenFault::Memory),
+    }
+}
+
+/// Walks a tree, and tells whether it is balanced as far as it was not walked before. A node is read once, however often it is named.
+pub(crate) fn walk<P: Pages>(
+    pages: &mut P,
+    alloc: Global,
+    geometry: &Geometry,
+    units: &mut Units,
+    known: &mut HashMap<u32, Met>,
+    level: u8,
+    least: Least,
+    tree: Part,
+) -> Result<bool, OpenFault>
+    requires ready { P.ready pages.old }
+    requires geometry { geometry.now ≡ P.geometry pages.old }
+    requires units { units.old.geometry ≡ geometry.now }
+    ensures walked { IfOk result (λ balanced. P.tells pages.old → (bytes : Bytes) → ShowsPages geometry.now (P.image pages.old) bytes
+        → AreNoted geometry.now bytes (get nat_eq known.old)
+        → Walked geometry.now bytes level least (tree ∷ []) (used_at units.old) (get nat_eq known.old) (used_at units.new) (get nat_eq known.new) balanced) }
+    ensures bad { (part : VolumePart) → result ≡ Err (OpenFault.BadVolume part) → P.tells pages.old → (bytes : Bytes) → ShowsPages geometry.now (P.image pages.old) bytes
+        → AreNoted geometry.now bytes (get nat_eq known.old)
+        → (part ≡ NodePart) × (CanWalk geometry.now bytes (used_at units.old) (get nat_eq known.old) level (tree ∷ []) → ⊥) }
+    ensures kept { Keeps P.Ground pages.old pages.new }
+    ensures disk { result ≡ Err OpenFault.Disk → Rose (P.faults pages.old) (P.faults pages.new) }
+    ensures uses { OnlyUses units.old units.new }
+{
+    let node = meet(pages, alloc, geometry, units, known, level, tree.page)?;
+    let asked = is_asked(geometry, least, node.met, tree.size);
+    let below = least_below(geometry);
+    let mut balanced = true;
+    for child in &node.below {
+        let same = walk(
+            pages,
+            alloc,
+            geometry,
+            units,
+            known,
+            level - 1,
+            below,
+            *child,
+        )?;
+        balanced = balanced && same;
+    }
+    Ok(asked && balanced)
+}

@@ -1,0 +1,111 @@
+-- The meanings of a port for reading alone.
+use Rattle.std.specs.Prelude.{◌≡◌, ◌≤◌, ◌<◌, ℕ, Bool, ◌&&◌, ◌==◌, if◌then◌else◌, List, length, All, refl, IsSome}
+use Rattle.std.proofs.Common.{◌∙◌, sym, subst, ap, arith}
+use Rattle.std.specs.Borrow.{MutBor}
+use Rattle.ex_base.specs.declared.geometry.Geometry.{Geometry}
+use Rattle.ex_base.specs.declared.names.Area.{Area}
+use Rattle.ex_base.specs.declared.names.Area.TheVariants.{Page, Segment}
+use Rattle.ex_base.specs.Area.{catalog_no}
+use Rattle.ex_base.specs.Sizes.{volume_bytes}
+use Rattle.disk_model.specs.Outside.{Outside, ReadsOnly}
+use Rattle.disk_model.specs.Runs.{reads_refl, reads_trans}
+use Rattle.buffer_groups.specs.Frames.{Frames, Lends}
+use Rattle.meta_pages.specs.Overlays.{Overlays}
+use Rattle.tree_store.specs.Stored.{AreFromCatalog}
+use Rattle.volume_port.specs.Logged.{LoggedSet}
+
+-- the disk tells its bytes, and each frame lends them
+abbrev pub TellsBytes : Outside → List Frames → Type 0
+TellsBytes o groups = IsSome o.disk × All (Lends o.disk) groups
+
+-- a port for reading alone tells of no unit as used but that of the catalog,
+abbrev pub is_told_used : Bool → ℕ → Bool
+is_told_used catalog_used page = catalog_used && page == catalog_no
+
+-- of no references but to that,
+abbrev pub refs_told : ℕ → ℕ → ℕ
+refs_told catalog_refs page = if page == catalog_no then catalog_refs else 0
+
+-- and of one free unit in each area, but of none in the page area where the catalog's is used
+abbrev pub free_told : Bool → Area → ℕ
+free_told catalog_used Page = if catalog_used then 0 else 1
+free_told catalog_used Segment = 1
+
+-- The parts are of one geometry, the disk has room for its volume, and no frame is of the superblock or the log.
+pub record CanRead (g : Geometry) (disk_size : ℕ) (groups : List Frames) (index : ℕ) (meta : Overlays) (room : List ℕ) : Type 0 where
+  pub group : index < length groups
+  pub disk : volume_bytes g ≤ disk_size
+  pub frames : All (λ (f : Frames). f.page_size ≡ g.page_size) groups
+  pub behind : AreFromCatalog groups
+  pub overlay : meta.geometry ≡ g
+  pub room_len : length room ≡ g.page_size
+
+-- An earlier and a later state of a port for reading alone, over the same borrowed parts: the disk was read at most, and nothing changed but frames
+-- and the room, which is as long as it was.
+pub record Reads {D : Type 0} (outside : D → Outside) (d e : MutBor D) (f h : MutBor (List Frames)) (r t : MutBor (List ℕ)) (i j : ℕ) (a b : Geometry)
+    (m n : Overlays) (k l : LoggedSet) : Type 0 where
+  pub disk : e.ghost_name ≡ d.ghost_name
+  pub frames : h.ghost_name ≡ f.ghost_name
+  pub room : t.ghost_name ≡ r.ghost_name
+  pub index : j ≡ i
+  pub geometry : b ≡ a
+  pub meta : n ≡ m
+  pub pages : l ≡ k
+  pub only : ReadsOnly (outside d.now) (outside e.now)
+  pub sizes : (size : ℕ) → All (λ (x : Frames). x.page_size ≡ size) f.now → All (λ (x : Frames). x.page_size ≡ size) h.now
+  pub count : length h.now ≡ length f.now
+  pub behind : AreFromCatalog f.now → AreFromCatalog h.now
+  pub told : TellsBytes (outside d.now) f.now → TellsBytes (outside e.now) h.now
+  pub room_len : length t.now ≡ length r.now
+
+module _ {D : Type 0} (outside : D → Outside) where
+  pub reads_same : (d : MutBor D) (f : MutBor (List Frames)) (r : MutBor (List ℕ)) (i : ℕ) (a : Geometry) (m : Overlays) (k : LoggedSet)
+      → Reads outside d d f f r r i i a a m m k k
+  reads_same d f r i a m k = record {
+    disk = refl;
+    frames = refl;
+    room = refl;
+    index = refl;
+    geometry = refl;
+    meta = refl;
+    pages = refl;
+    only = reads_refl (outside d.now);
+    sizes = λ size h. h;
+    count = refl;
+    behind = λ h. h;
+    told = λ h. h;
+    room_len = refl;
+  }
+
+  pub reads_on : (d e x : MutBor D) (f h y : MutBor (List Frames)) (r t u : MutBor (List ℕ)) (i j z : ℕ) (a b c : Geometry) (m n o : Overlays) (k l q : LoggedSet)
+      → Reads outside d e f h r t i j a b m n k l → Reads outside e x h y t u j z b c n o l q → Reads outside d x f y r u i z a c m o k q
+  reads_on d e x f h y r t u i j z a b c m n o k l q one two = record {
+    disk = two.disk ∙ one.disk;
+    frames = two.frames ∙ one.frames;
+    room = two.room ∙ one.room;
+    index = two.index ∙ one.index;
+    geometry = two.geometry ∙ one.geometry;
+    meta = two.meta ∙ one.meta;
+    pages = two.pages ∙ one.pages;
+    only = reads_trans one.only two.only;
+    sizes = λ size is. two.sizes size (one.sizes size is);
+    count = two.count ∙ one.count;
+    behind = λ is. two.behind (one.behind is);
+    told = λ is. two.told (one.told is);
+    room_len = two.room_len ∙ one.room_len;
+  }
+
+  pub reads_ready : (d e : MutBor D) (f h : MutBor (List Frames)) (r t : MutBor (List ℕ)) (i j : ℕ) (a b : Geometry) (m n : Overlays) (k l : LoggedSet)
+      → Reads outside d e f h r t i j a b m n k l → CanRead a (outside d.now).size f.now i m r.now → CanRead b (outside e.now).size h.now j n t.now
+  reads_ready d e f h r t i j a b m n k l x ready =
+      let size : (outside e.now).size ≡ (outside d.now).size = x.only.nothing.only.goes.size in
+      subst (λ (g : Geometry). CanRead g (outside e.now).size h.now j n t.now) (sym x.geometry)
+      (subst (λ (p : ℕ). CanRead a (outside e.now).size h.now p n t.now) (sym x.index)
+      (record {
+        group = omega (arith, ready.group, x.count);
+        disk = omega (arith, ready.disk, size);
+        frames = x.sizes a.page_size ready.frames;
+        behind = x.behind ready.behind;
+        overlay = ap (λ (o : Overlays). o.geometry) x.meta ∙ ready.overlay;
+        room_len = x.room_len ∙ ready.room_len;
+      }))
