@@ -1,0 +1,5 @@
+pub mod Tables
+pub mod Volumes
+pub mod Changed
+pub mod Removed
+pub mod Making

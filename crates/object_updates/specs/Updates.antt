@@ -1,0 +1,78 @@
+-- What an update of objects asks of a volume's table, and the table that it leaves.
+use Rattle.std.specs.Prelude.{◌≡◌, ◌⊎◌, ℕ, false, List, length, Some, Contains, Result, IfOk, IfErr, ⊤}
+use Rattle.ex_base.specs.declared.ground.Ground as ground
+use Rattle.ex_base.specs.declared.faults.PortFault.{PortFault}
+use Rattle.ex_base.specs.declared.names.Oid.{Oid}
+use Rattle.ex_base.specs.Ports.{IsDamage}
+use Rattle.op_log.specs.declared.record.LogRecord.{LogRecord}
+use Rattle.file_index.specs.declared.Index.{Index}
+use Rattle.object_files.specs.Catalog.{FileEntry}
+use Rattle.object_records.specs.Record.{Content}
+use Rattle.table_model.specs.declared.table.Table.{Table}
+use Rattle.table_model.specs.declared.table.Version.{Version}
+use Rattle.table_model.specs.Tables.{version_at, numbered, with_object, with_bytes, without_object}
+use Rattle.versions.specs.Edited.{HasNeed}
+use Rattle.versions.specs.Versions.{AreInUse, Change, HasVersion, InRange, changed, place_of}
+use Rattle.volume_edits.specs.Edits.{trees_of}
+use Rattle.volume_edits.specs.Ported.{IsApart, IsVolume, units_in}
+use Rattle.volume_model.specs.Volume.{Volume, file_pages, table_of}
+
+-- An object without bytes is made in the file of this name and number, under this unique number; a version is changed; an object is removed with its
+-- version.
+pub data TableUpdate : Type 0 where
+  Makes : List ℕ → ℕ → ℕ → TableUpdate
+  Changes : Oid → Change → TableUpdate
+  Removes : Oid → TableUpdate
+
+-- the table after it, where the version that is made, changed or removed has this OID
+abbrev pub updated : TableUpdate → Oid → Table → Table
+updated (Makes name file_no unique) oid t = numbered (with_object oid name t)
+updated (Changes x change) oid t = with_bytes x (changed change) t
+updated (Removes x) oid t = without_object x t
+
+-- the catalog has the file, and the next unique number is this one
+pub record AsksFile (v : Volume) (name : List ℕ) (file_no unique : ℕ) : Type 0 where
+  pub entry : FileEntry
+  pub there : Contains v.catalog.entries entry
+  pub name_is : entry.name ≡ name
+  pub number : entry.file_no ≡ file_no
+  pub next : v.catalog.next_unique ≡ unique
+
+-- the table has the version, and what is changed of it lies inside its bytes
+pub record AsksChange (t : Table) (oid : Oid) (change : Change) : Type 0 where
+  pub version : Version
+  pub is : version_at t oid ≡ Some version
+  pub inside : InRange change (length version.bytes)
+
+-- the table has the version
+pub record AsksVersion (t : Table) (oid : Oid) : Type 0 where
+  pub version : Version
+  pub is : version_at t oid ≡ Some version
+
+-- what the update asks of the volume and of its table
+abbrev pub Asks : TableUpdate → Volume → Table → Type 0
+Asks (Makes name file_no unique) v t = AsksFile v name file_no unique
+Asks (Changes oid change) v t = AsksChange t oid change
+Asks (Removes oid) v t = AsksVersion t oid
+
+-- The units are free that the change of a version may take. The other updates take what they find.
+abbrev pub HasRoom : {S : Type 0} → ground.Ghosts S → S → TableUpdate → Type 0
+HasRoom g s (Makes name file_no unique) = ⊤
+HasRoom g s (Changes oid change) = (index : Index) (content : Content) (bytes : List ℕ) → HasVersion g s index oid content bytes
+    → HasNeed g s (place_of oid) content change (length (changed change bytes))
+HasRoom g s (Removes oid) = ⊤
+
+-- The port's working state becomes a volume with this table. Each of its pages and each unit of its trees is one of before or was free.
+pub record BecomesVolume {S : Type 0} (g : ground.Ghosts S) (old new : S) (records : List LogRecord) (v : Volume) (table : Table) : Type 0 where
+  pub now : Volume
+  pub volume : IsVolume g new records now
+  pub shows : table_of (units_in g new) now ≡ table
+  pub pages : (page : ℕ) → Contains (file_pages now) page → Contains (file_pages v) page ⊎ (g.used old page ≡ false)
+  pub units : (u : ℕ) → Contains (trees_of (units_in g new) now) u → Contains (trees_of (units_in g old) v) u ⊎ (g.used old u ≡ false)
+
+-- What an update does with a volume that has what it asks: the volume becomes one with the updated table, and where the update has its room, no page
+-- of the volume is told to be damaged.
+pub record Updates {S : Type 0} (g : ground.Ghosts S) (old new : S) (u : TableUpdate) (result : Result Oid PortFault) : Type 0 where
+  pub done : IfOk result (λ oid. (records : List LogRecord) (v : Volume) → g.tells old → IsVolume g old records v → Asks u v (table_of (units_in g old) v) → IsApart g new → AreInUse g new
+      → BecomesVolume g old new records v (updated u oid (table_of (units_in g old) v)))
+  pub sound : IfErr result (λ fault. IsDamage fault → (records : List LogRecord) (v : Volume) → g.tells old → IsVolume g old records v → Asks u v (table_of (units_in g old) v) → HasRoom g old u → ⊥)

@@ -1,0 +1,121 @@
+-- What is read of a tree, of a record and of an object stays where their units keep their bytes.
+use Rattle.std.proofs.Common.{◌≡◌, ℕ, zero, suc, List, [], ◌∷◌, ◌++◌, Option, Some, None, refl, sym, ap, subst, ◌∙◌, inl, inr}
+use Rattle.std.specs.Prelude.{map}
+use Rattle.std.specs.List.{flat_map, AllByRecursion, zip}
+use Rattle.std.proofs.lemmas.List.Concat.{flat_map-append}
+use Rattle.ex_base.specs.declared.names.PageNo.{PageNo}
+use Rattle.ex_base.specs.declared.names.Root.{Root}
+use Rattle.ex_base.specs.declared.geometry.Geometry.{Geometry}
+use Rattle.ex_base.specs.Area.{IsUnit}
+use Rattle.ex_base.specs.Sizes.{leaf_bytes}
+use Rattle.count_nodes.specs.declared.Pair.{Pair}
+use Rattle.count_nodes.specs.Node.{pairs_on}
+use Rattle.object_files.specs.Catalog.{FileEntry}
+use Rattle.object_records.specs.Record.{Content, Small, Large}
+use Rattle.tree_model.specs.Shape.{IsBalanced}
+use Rattle.tree_model.specs.Trees.{Units, units_on, IsNamed, root_units, root_units_at, root_shape_at, root_bytes_at, RootNamed, RootSized, RootSpells}
+use Rattle.tree_model.proofs.SameUnits.{Kept, units_same, bytes_same, shape_same, named_same, sized_same}
+use Rattle.volume_model.specs.Parts.{HasBalance}
+use Rattle.volume_model.specs.Volume.{Stored, Line, FileContent, line_records, root_in, roots_in, line_units, content_in, version_of, object_of, file_of}
+use Rattle.volume_edits.proofs.Lists.{each_parts, each_joined, each_as, map_same, flat_same}
+
+-- ---- a tree's units are units of the volume
+
+pub units_placed : (g : Geometry) (units : Units) (l page : ℕ) → IsNamed g units l page → AllByRecursion (IsUnit g) (units_on units l page)
+units_placed g units zero page h = (inr h, tt)
+units_placed g units (suc l) page h = (
+  inl h.0,
+  each_joined (IsUnit g) (λ (pair : Pair). units_on units l pair.page.0) (pairs_on (units page))
+      (each_as (λ (pair : Pair). IsNamed g units l pair.page.0) (λ (pair : Pair). AllByRecursion (IsUnit g) (units_on units l pair.page.0)) (pairs_on (units page)) (λ pair n. units_placed g units l pair.page.0 n) h.2),
+)
+
+pub root_placed : (g : Geometry) (units : Units) (height : ℕ) (page : Option PageNo) → RootNamed g units height page → AllByRecursion (IsUnit g) (root_units_at units height page)
+root_placed g units height None h = tt
+root_placed g units height (Some page) h = units_placed g units height page.0 h
+
+-- ---- roots
+
+abbrev pub RootKept : Units → Units → Root → Type 0
+RootKept old new root = Kept old new (root_units old root)
+
+abbrev pub RootsKept : Units → Units → List Root → Type 0
+RootsKept old new roots = AllByRecursion (RootKept old new) roots
+
+pub units_of_root : (old new : Units) (height : ℕ) (page : Option PageNo) → Kept old new (root_units_at old height page) → root_units_at new height page ≡ root_units_at old height page
+units_of_root old new height None kept = refl
+units_of_root old new height (Some page) kept = units_same old new height page.0 kept
+
+pub bytes_of_root : (old new : Units) (height size : ℕ) (page : Option PageNo) → Kept old new (root_units_at old height page) → root_bytes_at new height size page ≡ root_bytes_at old height size page
+bytes_of_root old new height size None kept = refl
+bytes_of_root old new height size (Some page) kept = bytes_same old new height page.0 size kept
+
+pub shape_of_root : (old new : Units) (height size : ℕ) (page : Option PageNo) → Kept old new (root_units_at old height page) → root_shape_at new height size page ≡ root_shape_at old height size page
+shape_of_root old new height size None kept = refl
+shape_of_root old new height size (Some page) kept = ap (λ shape. Some (height, shape)) (shape_same old new height page.0 size kept)
+
+pub named_root : (g : Geometry) (old new : Units) (height : ℕ) (page : Option PageNo) → Kept old new (root_units_at old height page) → RootNamed g old height page → RootNamed g new height page
+named_root g old new height None kept h = h
+named_root g old new height (Some page) kept h = named_same g old new height page.0 kept h
+
+sized_root : (g : Geometry) (old new : Units) (height size : ℕ) (page : Option PageNo) → Kept old new (root_units_at old height page) → RootSized g old height size page → RootSized g new height size page
+sized_root g old new height size None kept h = h
+sized_root g old new height size (Some page) kept h = sized_same g old new height page.0 size kept h
+
+pub balance_kept : (g : Geometry) (old new : Units) (root : Root) → RootKept old new root → HasBalance g old root → HasBalance g new root
+balance_kept g old new root kept h = record {
+  sized = sized_root g old new root.height root.size root.page kept h.sized;
+  balanced = subst (IsBalanced g.fan (leaf_bytes g)) (sym (shape_of_root old new root.height root.size root.page kept)) h.balanced;
+  limit = h.limit;
+}
+
+-- a root that spells bytes over units that are kept
+pub spelled_root : (g : Geometry) (old new : Units) (root : Root) (bytes : List ℕ) → RootKept old new root → RootSpells g old root bytes → RootSpells g new root bytes
+spelled_root g old new root bytes kept h = record {
+  named = named_root g old new root.height root.page kept h.named;
+  sized = sized_root g old new root.height root.size root.page kept h.sized;
+  balanced = subst (IsBalanced g.fan (leaf_bytes g)) (sym (shape_of_root old new root.height root.size root.page kept)) h.balanced;
+  spelled = h.spelled ∙ sym (bytes_of_root old new root.height root.size root.page kept);
+}
+
+-- ---- records and lines
+
+abbrev pub LineKept : Units → Units → Line → Type 0
+LineKept old new line = RootsKept old new (roots_in (line_records line))
+
+pub line_units_same : (old new : Units) (line : Line) → LineKept old new line → line_units new line ≡ line_units old line
+line_units_same old new line kept = flat_same (root_units old) (root_units new) (RootKept old new) (roots_in (line_records line)) (λ root k. units_of_root old new root.height root.page k) kept
+
+pub content_same : (old new : Units) (content : Content) → RootsKept old new (root_in content) → content_in new content ≡ content_in old content
+content_same old new (Small bytes) kept = refl
+content_same old new (Large root) kept = bytes_of_root old new root.height root.size root.page kept.0
+
+pub version_same : (old new : Units) (s : Stored) → RootsKept old new (root_in s.body.content) → version_of new s ≡ version_of old s
+version_same old new s kept = let content = content_same old new s.body.content kept in cc content
+
+pub object_same : (old new : Units) (line : Line) → LineKept old new line → object_of new line ≡ object_of old line
+object_same old new line kept =
+    let each = each_parts (RootKept old new) (λ (s : Stored). root_in s.body.content) (line_records line) kept in
+    let versions : map (version_of new) (line_records line) ≡ map (version_of old) (line_records line) = map_same (version_of old) (version_of new) (λ s. RootsKept old new (root_in s.body.content)) (line_records line) (λ s k. version_same old new s k) each in
+    cc versions
+
+pub objects_same : (old new : Units) (lines : List Line) → AllByRecursion (LineKept old new) lines → map (object_of new) lines ≡ map (object_of old) lines
+objects_same old new lines kept = map_same (object_of old) (object_of new) (LineKept old new) lines (λ line k. object_same old new line k) kept
+
+pub file_same : (old new : Units) (entry : FileEntry) (file : FileContent) → AllByRecursion (LineKept old new) file.lines → file_of new (entry, file) ≡ file_of old (entry, file)
+file_same old new entry file kept = let objects = objects_same old new file.lines kept in cc objects
+
+pub files_same : (old new : Units) (entries : List FileEntry) (files : List FileContent) → AllByRecursion (λ (file : FileContent). AllByRecursion (LineKept old new) file.lines) files → map (file_of new) (zip entries files) ≡ map (file_of old) (zip entries files)
+files_same old new [] files kept = refl
+files_same old new (entry ∷ entries) [] kept = refl
+files_same old new (entry ∷ entries) (file ∷ files) kept =
+    let here = file_same old new entry file kept.0 in
+    let rest = files_same old new entries files kept.1 in
+    cc (here, rest)
+
+-- the roots of lines, line by line
+pub roots_of_lines : (P : Root → Type 0) (lines : List Line) → AllByRecursion P (roots_in (flat_map line_records lines)) → AllByRecursion (λ (line : Line). AllByRecursion P (roots_in (line_records line))) lines
+roots_of_lines P lines h = each_parts P (λ (line : Line). roots_in (line_records line)) lines (subst (AllByRecursion P) (joined lines) h)
+  where
+    joined : (ls : List Line) → roots_in (flat_map line_records ls) ≡ flat_map (λ (line : Line). roots_in (line_records line)) ls
+    joined [] = refl
+    joined (l ∷ ls) = flat_map-append (λ (s : Stored). root_in s.body.content) (line_records l) (flat_map line_records ls) ∙ ap (λ t. roots_in (line_records l) ++ t) (joined ls)

@@ -1,0 +1,280 @@
+-- Lists: membership, counts, and one item among others.
+use Rattle.std.proofs.Common.{◌≡◌, ◌≢◌, ℕ, zero, suc, ◌+◌, ◌<◌, ◌≤◌, List, [], ◌∷◌, ◌++◌, map, refl, sym, ap, subst, ◌∙◌, arith, inl, inr, ◌⊎◌}
+use Rattle.std.specs.Prelude.{Contains}
+use Rattle.std.specs.List.{flat_map, AllByRecursion, AllZip, zip}
+use Rattle.std.specs.List.Sorted.{IsPermutation}
+use Rattle.std.proofs.lemmas.List.Sorted.{Contains-permutation, IsPermutation-sym, IsPermutation-trans, IsPermutation-cons, IsPermutation-middle, IsPermutation-refl}
+use Rattle.std.proofs.lemmas.List.{map-append}
+use Rattle.std.proofs.lemmas.List.Concat.{flat_map-append}
+use Rattle.ex_base.specs.Order.{Rising, AllDiffer}
+use Rattle.ex_base.specs.Ports.{times}
+use Rattle.ex_base.proofs.Rows.{each-append}
+use Rattle.file_index.proofs.Counts.{times-append, times_here, times_apart, same_or_not}
+use Rattle.tree_model.proofs.SameUnits.{split_each}
+
+-- ---- membership
+
+abbrev pub In : {A : Type 0} → A → List A → Type 0
+In x [] = ⊥
+In x (y ∷ ys) = (x ≡ y) ⊎ In x ys
+
+pub in_contains : {A : Type 0} (x : A) (xs : List A) → Contains xs x → In x xs
+in_contains x [] (k, lt, e) = absurd (omega arith)
+in_contains x (y ∷ ys) (zero, lt, e) = inl (sym e)
+in_contains x (y ∷ ys) (suc k, lt, e) = inr (in_contains x ys (k, omega arith, e))
+
+pub contains_in : {A : Type 0} (x : A) (xs : List A) → In x xs → Contains xs x
+contains_in x [] h = absurd h
+contains_in x (y ∷ ys) (inl e) = (0, omega arith, sym e)
+contains_in x (y ∷ ys) (inr h) = let rest = contains_in x ys h in (suc rest.0, omega (arith, rest.1), rest.2)
+
+pub in_either : {A : Type 0} (x : A) (xs ys : List A) → In x (xs ++ ys) → In x xs ⊎ In x ys
+in_either x [] ys h = inr h
+in_either x (y ∷ xs) ys (inl e) = inl (inl e)
+in_either x (y ∷ xs) ys (inr h) = elim (in_either x xs ys h) [ inl k ↦ inl (inr k) | inr k ↦ inr k ]
+
+pub in_left : {A : Type 0} (x : A) (xs ys : List A) → In x xs → In x (xs ++ ys)
+in_left x [] ys h = absurd h
+in_left x (y ∷ xs) ys (inl e) = inl e
+in_left x (y ∷ xs) ys (inr h) = inr (in_left x xs ys h)
+
+pub in_right : {A : Type 0} (x : A) (xs ys : List A) → In x ys → In x (xs ++ ys)
+in_right x [] ys h = h
+in_right x (y ∷ xs) ys h = inr (in_right x xs ys h)
+
+pub from_flat : {A B : Type 0} (f : A → List B) (y : B) (xs : List A) → In y (flat_map f xs) → (x : A) × In x xs × In y (f x)
+from_flat f y [] h = absurd h
+from_flat f y (x ∷ xs) h = elim (in_either y (f x) (flat_map f xs) h) [
+  | inl k ↦ (x, inl refl, k)
+  | inr k ↦ let rest = from_flat f y xs k in (rest.0, inr rest.1, rest.2)
+]
+
+pub into_flat : {A B : Type 0} (f : A → List B) (y : B) (x : A) (xs : List A) → In x xs → In y (f x) → In y (flat_map f xs)
+into_flat f y x [] h k = absurd h
+into_flat f y x (z ∷ xs) (inl e) k = in_left y (f z) (flat_map f xs) (subst (λ w. In y (f w)) e k)
+into_flat f y x (z ∷ xs) (inr h) k = in_right y (f z) (flat_map f xs) (into_flat f y x xs h k)
+
+pub of_each : {A : Type 0} (P : A → Type 0) (x : A) (xs : List A) → AllByRecursion P xs → In x xs → P x
+of_each P x [] each h = absurd h
+of_each P x (y ∷ xs) each (inl e) = subst P (sym e) each.0
+of_each P x (y ∷ xs) each (inr h) = of_each P x xs each.1 h
+
+pub each_from : {A : Type 0} (P : A → Type 0) (xs : List A) → ((x : A) → In x xs → P x) → AllByRecursion P xs
+each_from P [] h = tt
+each_from P (x ∷ xs) h = (h x (inl refl), each_from P xs (λ y k. h y (inr k)))
+
+pub in_times : (x : ℕ) (xs : List ℕ) → In x xs → 1 ≤ times x xs
+in_times x [] h = absurd h
+in_times x (y ∷ xs) (inl e) = omega (arith, times_here x y xs e)
+in_times x (y ∷ xs) (inr h) = elim (same_or_not x y) [
+  | inl same ↦ omega (arith, times_here x y xs same)
+  | inr differ ↦ omega (arith, times_apart x y xs differ, in_times x xs h)
+]
+
+pub times_in : (x : ℕ) (xs : List ℕ) → 1 ≤ times x xs → In x xs
+times_in x [] h = absurd (omega arith)
+times_in x (y ∷ xs) h = elim (same_or_not x y) [
+  | inl same ↦ inl same
+  | inr differ ↦ inr (times_in x xs (omega (arith, times_apart x y xs differ)))
+]
+
+-- ---- what holds of each item
+
+pub each_with : {A : Type 0} (P Q R : A → Type 0) (xs : List A) → ((x : A) → P x → Q x → R x) → AllByRecursion P xs → AllByRecursion Q xs → AllByRecursion R xs
+each_with P Q R [] f p q = tt
+each_with P Q R (x ∷ xs) f p q = (f x p.0 q.0, each_with P Q R xs f p.1 q.1)
+
+pub each_as : {A : Type 0} (P Q : A → Type 0) (xs : List A) → ((x : A) → P x → Q x) → AllByRecursion P xs → AllByRecursion Q xs
+each_as P Q [] f p = tt
+each_as P Q (x ∷ xs) f p = (f x p.0, each_as P Q xs f p.1)
+
+pub each_parts : {A B : Type 0} (P : B → Type 0) (f : A → List B) (xs : List A) → AllByRecursion P (flat_map f xs) → AllByRecursion (λ x. AllByRecursion P (f x)) xs
+each_parts P f [] h = tt
+each_parts P f (x ∷ xs) h = let both = split_each P (f x) (flat_map f xs) h in (both.0, each_parts P f xs both.1)
+
+pub each_joined : {A B : Type 0} (P : B → Type 0) (f : A → List B) (xs : List A) → AllByRecursion (λ x. AllByRecursion P (f x)) xs → AllByRecursion P (flat_map f xs)
+each_joined P f [] h = tt
+each_joined P f (x ∷ xs) h = each-append P (f x) (flat_map f xs) h.0 (each_joined P f xs h.1)
+
+pub each_mapped : {A B : Type 0} (P : B → Type 0) (f : A → B) (xs : List A) → AllByRecursion (λ x. P (f x)) xs → AllByRecursion P (map f xs)
+each_mapped P f [] h = tt
+each_mapped P f (x ∷ xs) h = (h.0, each_mapped P f xs h.1)
+
+-- the three parts of a list
+pub each_around : {A : Type 0} (P : A → Type 0) (xs ys zs : List A) → AllByRecursion P (xs ++ (ys ++ zs)) → AllByRecursion P xs × AllByRecursion P ys × AllByRecursion P zs
+each_around P xs ys zs h = let one = split_each P xs (ys ++ zs) h in let two = split_each P ys zs one.1 in (one.0, two.0, two.1)
+
+pub each_between : {A : Type 0} (P : A → Type 0) (xs ys zs : List A) → AllByRecursion P xs → AllByRecursion P ys → AllByRecursion P zs → AllByRecursion P (xs ++ (ys ++ zs))
+each_between P xs ys zs p q r = each-append P xs (ys ++ zs) p (each-append P ys zs q r)
+
+pub map_same : {A B : Type 0} (f g : A → B) (K : A → Type 0) (xs : List A) → ((x : A) → K x → g x ≡ f x) → AllByRecursion K xs → map g xs ≡ map f xs
+map_same f g K [] same k = refl
+map_same f g K (x ∷ xs) same k = let here = same x k.0 in let rest = map_same f g K xs same k.1 in cc (here, rest)
+
+pub flat_same : {A B : Type 0} (f g : A → List B) (K : A → Type 0) (xs : List A) → ((x : A) → K x → g x ≡ f x) → AllByRecursion K xs → flat_map g xs ≡ flat_map f xs
+flat_same f g K [] same k = refl
+flat_same f g K (x ∷ xs) same k = let here = same x k.0 in let rest = flat_same f g K xs same k.1 in cc (here, rest)
+
+pub map_around : {A B : Type 0} (f : A → B) (xs ys zs : List A) → map f (xs ++ (ys ++ zs)) ≡ map f xs ++ (map f ys ++ map f zs)
+map_around {B = B} f xs ys zs = map-append f xs (ys ++ zs) ∙ ap (λ (t : List B). map f xs ++ t) (map-append f ys zs)
+
+pub flat_around : {A B : Type 0} (f : A → List B) (xs ys zs : List A) → flat_map f (xs ++ (ys ++ zs)) ≡ flat_map f xs ++ (flat_map f ys ++ flat_map f zs)
+flat_around {B = B} f xs ys zs = flat_map-append f xs (ys ++ zs) ∙ ap (λ (t : List B). flat_map f xs ++ t) (flat_map-append f ys zs)
+
+pub times_around : (n : ℕ) (xs ys zs : List ℕ) → times n (xs ++ (ys ++ zs)) ≡ times n xs + (times n ys + times n zs)
+times_around n xs ys zs = omega (arith, times-append n xs (ys ++ zs), times-append n ys zs)
+
+-- ---- two lists side by side
+
+abbrev pub Paired : {A B : Type 0} → List A → List B → Type 0
+Paired {A} {B} xs ys = AllZip (λ (x : A) (y : B). Unit {0}) xs ys
+
+pub zip_split : {A B : Type 0} (R : A → B → Type 0) (xs ys : List A) (us vs : List B) → Paired xs us → AllZip R (xs ++ ys) (us ++ vs) → AllZip R xs us × AllZip R ys vs
+zip_split R [] ys [] vs p h = (tt, h)
+zip_split R [] ys (u ∷ us) vs p h = absurd p
+zip_split R (x ∷ xs) ys [] vs p h = absurd p
+zip_split R (x ∷ xs) ys (u ∷ us) vs p h = let rest = zip_split R xs ys us vs p.1 h.1 in ((h.0, rest.0), rest.1)
+
+pub zip_joined : {A B : Type 0} (R : A → B → Type 0) (xs ys : List A) (us vs : List B) → AllZip R xs us → AllZip R ys vs → AllZip R (xs ++ ys) (us ++ vs)
+zip_joined R [] ys [] vs p q = q
+zip_joined R [] ys (u ∷ us) vs p q = absurd p
+zip_joined R (x ∷ xs) ys [] vs p q = absurd p
+zip_joined R (x ∷ xs) ys (u ∷ us) vs p q = (p.0, zip_joined R xs ys us vs p.1 q)
+
+pub zip_append : {A B : Type 0} (xs ys : List A) (us vs : List B) → Paired xs us → zip (xs ++ ys) (us ++ vs) ≡ zip xs us ++ zip ys vs
+zip_append [] ys [] vs p = refl
+zip_append [] ys (u ∷ us) vs p = absurd p
+zip_append (x ∷ xs) ys [] vs p = absurd p
+zip_append (x ∷ xs) ys (u ∷ us) vs p = let rest = zip_append xs ys us vs p.1 in cc rest
+
+pub zip_as : {A B : Type 0} (P R : A → B → Type 0) (xs : List A) (ys : List B) → ((x : A) (y : B) → P x y → R x y) → AllZip P xs ys → AllZip R xs ys
+zip_as P R [] [] f p = tt
+zip_as P R [] (y ∷ ys) f p = p
+zip_as P R (x ∷ xs) [] f p = p
+zip_as P R (x ∷ xs) (y ∷ ys) f p = (f x y p.0, zip_as P R xs ys f p.1)
+
+pub zip_with : {A B : Type 0} (K : B → Type 0) (P R : A → B → Type 0) (xs : List A) (ys : List B) → ((x : A) (y : B) → K y → P x y → R x y) → AllByRecursion K ys → AllZip P xs ys → AllZip R xs ys
+zip_with K P R [] [] f k p = tt
+zip_with K P R [] (y ∷ ys) f k p = p
+zip_with K P R (x ∷ xs) [] f k p = p
+zip_with K P R (x ∷ xs) (y ∷ ys) f k p = (f x y k.0 p.0, zip_with K P R xs ys f k.1 p.1)
+
+-- ---- lists whose numbers differ
+
+pub differ_once : (xs : List ℕ) → AllDiffer xs → (n : ℕ) → times n xs ≤ 1
+differ_once [] h n = omega arith
+differ_once (x ∷ xs) h n = elim (same_or_not n x) [
+  | inl same ↦
+      let none : times n xs ≡ 0 = absent n xs (λ c. h.0 (subst (Contains xs) same c)) in
+      omega (arith, times_here n x xs same)
+  | inr differ ↦ omega (arith, times_apart n x xs differ, differ_once xs h.1 n)
+]
+  where
+    none_or_some : (m : ℕ) → (m ≡ 0) ⊎ (1 ≤ m)
+    none_or_some zero = inl refl
+    none_or_some (suc m) = inr (omega arith)
+
+    absent : (m : ℕ) (ys : List ℕ) → (Contains ys m → ⊥) → times m ys ≡ 0
+    absent m ys lacks = elim (none_or_some (times m ys)) [ inl z ↦ z | inr some ↦ absurd (lacks (contains_in m ys (times_in m ys some))) ]
+
+pub once_differ : (xs : List ℕ) → ((n : ℕ) → times n xs ≤ 1) → AllDiffer xs
+once_differ [] h = tt
+once_differ (x ∷ xs) h = (
+  (λ c. absurd (omega (arith, h x, times_here x x xs refl, in_times x xs (in_contains x xs c)))),
+  once_differ xs (λ n. omega (arith, h n)),
+)
+
+-- ---- two lists of the same items
+
+abbrev pub Keyed : {A : Type 0} → (A → ℕ) → List A → Type 0
+Keyed key xs = AllDiffer (map key xs)
+
+in_mapped : {A : Type 0} (key : A → ℕ) (x : A) (xs : List A) → In x xs → In (key x) (map key xs)
+in_mapped key x [] h = absurd h
+in_mapped key x (y ∷ xs) (inl e) = inl (ap key e)
+in_mapped key x (y ∷ xs) (inr h) = inr (in_mapped key x xs h)
+
+pub cut_at : {A : Type 0} (x : A) (xs : List A) → In x xs → (front : List A) × (back : List A) × (xs ≡ front ++ (x ∷ back))
+cut_at x [] h = absurd h
+cut_at x (y ∷ xs) (inl e) = ([], xs, ap (λ z. z ∷ xs) (sym e))
+cut_at x (y ∷ xs) (inr h) = let rest = cut_at x xs h in (y ∷ rest.0, rest.1, ap (λ t. y ∷ t) rest.2)
+
+-- an item before or behind another one
+pub in_rest : {A : Type 0} (z x : A) (xs ys : List A) → In z (xs ++ ys) → In z (xs ++ (x ∷ ys))
+in_rest z x xs ys h = elim (in_either z xs ys h) [ inl k ↦ in_left z xs (x ∷ ys) k | inr k ↦ in_right z xs (x ∷ ys) (inr k) ]
+
+pub out_rest : {A : Type 0} (z x : A) (xs ys : List A) → In z (xs ++ (x ∷ ys)) → (z ≡ x) ⊎ In z (xs ++ ys)
+out_rest z x xs ys h = elim (in_either z xs (x ∷ ys) h) [
+  | inl k ↦ inr (in_left z xs ys k)
+  | inr k ↦ elim k [ inl e ↦ inl e | inr m ↦ inr (in_right z xs ys m) ]
+]
+
+-- an item of the rest has another number
+pub key_differs : {A : Type 0} (key : A → ℕ) (z x : A) (xs ys : List A) → Keyed key (xs ++ (x ∷ ys)) → In z (xs ++ ys) → key z ≢ key x
+key_differs key z x xs ys keyed h same =
+    let once = differ_once (map key (xs ++ (x ∷ ys))) keyed (key x) in
+    let count : times (key x) (map key (xs ++ (x ∷ ys))) ≡ times (key x) (map key xs) + (times (key x) (key x ∷ []) + times (key x) (map key ys)) = ap (times (key x)) (map_around key xs (x ∷ []) ys) ∙ times_around (key x) (map key xs) (key x ∷ []) (map key ys) in
+    let own = times_here (key x) (key x) [] refl in
+    let both : In (key z) (map key xs ++ map key ys) = subst (λ t. In (key z) t) (map-append key xs ys) (in_mapped key z (xs ++ ys) h) in
+    let some = in_times (key x) (map key xs ++ map key ys) (subst (λ n. In n (map key xs ++ map key ys)) same both) in
+    omega (arith, once, count, own, some, times-append (key x) (map key xs) (map key ys))
+
+pub keyed_less : {A : Type 0} (key : A → ℕ) (x : A) (xs ys : List A) → AllDiffer (map key (xs ++ (x ∷ ys))) → AllDiffer (map key (xs ++ ys))
+keyed_less key x xs ys keyed = once_differ (map key (xs ++ ys)) (λ n.
+    let once = differ_once (map key (xs ++ (x ∷ ys))) keyed n in
+    let count : times n (map key (xs ++ (x ∷ ys))) ≡ times n (map key xs) + (times n (key x ∷ []) + times n (map key ys)) = ap (times n) (map_around key xs (x ∷ []) ys) ∙ times_around n (map key xs) (key x ∷ []) (map key ys) in
+    let less : times n (map key (xs ++ ys)) ≡ times n (map key xs) + times n (map key ys) = ap (times n) (map-append key xs ys) ∙ times-append n (map key xs) (map key ys) in
+    omega (arith, once, count, less))
+
+permuted : {A : Type 0} (key : A → ℕ) (xs ys : List A) → Keyed key xs → Keyed key ys → ((z : A) → In z xs → In z ys) → ((z : A) → In z ys → In z xs) → IsPermutation xs ys
+permuted key [] [] p q to from = IsPermutation-refl []
+permuted key [] (y ∷ ys) p q to from = absurd (from y (inl refl))
+permuted key (x ∷ xs) ys p q to from =
+    let cut = cut_at x ys (to x (inl refl)) in
+    let keyed : Keyed key (cut.0 ++ (x ∷ cut.1)) = subst (Keyed key) cut.2 q in
+    let rest = permuted key xs (cut.0 ++ cut.1) p.1 (keyed_less key x cut.0 cut.1 keyed)
+    (λ z h. elim (out_rest z x cut.0 cut.1 (subst (In z) cut.2 (to z (inr h)))) [
+      | inl e ↦ absurd (p.0 (contains_in (key x) (map key xs) (subst (λ n. In n (map key xs)) (ap key e) (in_mapped key z xs h))))
+      | inr k ↦ k
+    ])
+    (λ z h. elim (from z (subst (In z) (sym cut.2) (in_rest z x cut.0 cut.1 h))) [
+      | inl e ↦ absurd (key_differs key z x cut.0 cut.1 keyed h (ap key e))
+      | inr k ↦ k
+    ]) in
+    subst (IsPermutation (x ∷ xs)) (sym cut.2) (IsPermutation-trans (x ∷ xs) (x ∷ (cut.0 ++ cut.1)) (cut.0 ++ (x ∷ cut.1)) (IsPermutation-cons x xs (cut.0 ++ cut.1) rest) (IsPermutation-sym (cut.0 ++ (x ∷ cut.1)) (x ∷ (cut.0 ++ cut.1)) (IsPermutation-middle cut.0 x cut.1)))
+
+-- the same item leaves two lists
+pub permuted_less : {A : Type 0} (key : A → ℕ) (x : A) (xs ys us vs : List A) → AllDiffer (map key (xs ++ (x ∷ ys))) → AllDiffer (map key (us ++ (x ∷ vs))) → IsPermutation (xs ++ (x ∷ ys)) (us ++ (x ∷ vs)) → IsPermutation (xs ++ ys) (us ++ vs)
+permuted_less {A = A} key x xs ys us vs p q h =
+    permuted key (xs ++ ys) (us ++ vs) (keyed_less key x xs ys p) (keyed_less key x us vs q)
+    (λ z k. moved z xs ys us vs p (in_rest z x xs ys k) k (λ c. Contains-permutation (xs ++ (x ∷ ys)) (us ++ (x ∷ vs)) z h c))
+    (λ z k. moved z us vs xs ys q (in_rest z x us vs k) k (λ c. Contains-permutation (us ++ (x ∷ vs)) (xs ++ (x ∷ ys)) z (IsPermutation-sym (xs ++ (x ∷ ys)) (us ++ (x ∷ vs)) h) c))
+  where
+    moved : (z : A) (ks bs cs ds : List A) → Keyed key (ks ++ (x ∷ bs)) → In z (ks ++ (x ∷ bs)) → In z (ks ++ bs) → (Contains (ks ++ (x ∷ bs)) z → Contains (cs ++ (x ∷ ds)) z) → In z (cs ++ ds)
+    moved z ks bs cs ds keyed inside k go = elim (out_rest z x cs ds (in_contains z (cs ++ (x ∷ ds)) (go (contains_in z (ks ++ (x ∷ bs)) inside)))) [
+      | inl e ↦ absurd (key_differs key z x ks bs keyed k (ap key e))
+      | inr m ↦ m
+    ]
+
+-- the same item comes into two lists
+pub permuted_more : {A : Type 0} (x : A) (xs ys us vs : List A) → IsPermutation (xs ++ ys) (us ++ vs) → IsPermutation (xs ++ (x ∷ ys)) (us ++ (x ∷ vs))
+permuted_more x xs ys us vs h =
+    IsPermutation-trans (xs ++ (x ∷ ys)) (x ∷ (xs ++ ys)) (us ++ (x ∷ vs)) (IsPermutation-middle xs x ys)
+    (IsPermutation-trans (x ∷ (xs ++ ys)) (x ∷ (us ++ vs)) (us ++ (x ∷ vs)) (IsPermutation-cons x (xs ++ ys) (us ++ vs) h) (IsPermutation-sym (us ++ (x ∷ vs)) (x ∷ (us ++ vs)) (IsPermutation-middle us x vs)))
+
+-- ---- rising numbers
+
+rising_tail : (x : ℕ) (xs : List ℕ) → Rising (x ∷ xs) → Rising xs
+rising_tail x [] h = tt
+rising_tail x (y ∷ xs) h = h.1
+
+pub rising_less : (xs : List ℕ) (y : ℕ) (zs : List ℕ) → Rising (xs ++ (y ∷ zs)) → Rising (xs ++ zs)
+rising_less [] y zs h = rising_tail y zs h
+rising_less (x ∷ []) y [] h = tt
+rising_less (x ∷ []) y (z ∷ zs) h = (omega (arith, h.0, h.1.0), h.1.1)
+rising_less (x ∷ w ∷ xs) y zs h = (h.0, rising_less (w ∷ xs) y zs h.1)
+
+pub rising_more : (xs : List ℕ) (y : ℕ) → Rising xs → AllByRecursion (λ x. x < y) xs → Rising (xs ++ (y ∷ []))
+rising_more [] y h below = tt
+rising_more (x ∷ []) y h below = (below.0, tt)
+rising_more (x ∷ w ∷ xs) y h below = (h.0, rising_more (w ∷ xs) y h.1 below.1)

@@ -1,0 +1,74 @@
+-- What the calls on versions make of a volume.
+use Rattle.std.specs.Prelude.{◌≡◌, ◌⊎◌, ℕ, false, List, None, Contains}
+use Rattle.std.specs.List.{flat_map}
+use Rattle.ex_base.specs.declared.ground.Ground as ground
+use Rattle.ex_base.specs.declared.names.Oid.{Oid}
+use Rattle.ex_base.specs.Area.{catalog_no}
+use Rattle.ex_base.specs.Ports.{PutsImage}
+use Rattle.op_log.specs.declared.record.LogRecord.{LogRecord}
+use Rattle.file_index.specs.declared.Index.{Index}
+use Rattle.file_bodies.specs.Files.{with_index}
+use Rattle.object_files.specs.Catalog.{FileEntry, Catalog, CatalogOf}
+use Rattle.tree_model.specs.Trees.{Units, root_units}
+use Rattle.table_model.specs.declared.table.Table.{Table}
+use Rattle.table_model.specs.Tables.{with_bytes}
+use Rattle.volume_model.specs.Volume.{Volume, lines_of, file_pages, reach_of, roots_in, stored_in, table_of}
+use Rattle.volume_edits.specs.Ported.{IsVolume, units_in}
+
+-- the units of all trees of a volume
+abbrev pub trees_of : Units → Volume → List ℕ
+trees_of units v = flat_map (root_units units) (roots_in (stored_in v))
+
+-- The port's working state becomes a volume whose table has other bytes in one version, the units of whose tree were these before and are those
+-- after. It has the same catalog and the same pages, and each unit of its trees is one of before or was free. It reaches no unit of before that the
+-- version's new tree lacks.
+pub record ChangesVolume {S : Type 0} (g : ground.Ghosts S) (old new : S) (records : List LogRecord) (v : Volume) (oid : Oid) (bytes before after : List ℕ) : Type 0 where
+  pub now : Volume
+  pub volume : IsVolume g new records now
+  pub table : table_of (units_in g new) now ≡ with_bytes oid (λ was. bytes) (table_of (units_in g old) v)
+  pub catalog : now.catalog ≡ v.catalog
+  pub pages : file_pages now ≡ file_pages v
+  pub units : (u : ℕ) → Contains (trees_of (units_in g new) now) u → Contains (trees_of (units_in g old) v) u ⊎ (g.used old u ≡ false)
+  pub left : (u : ℕ) → Contains before u → ¬ Contains after u → ¬ Contains (reach_of (units_in g new) now) u
+
+-- The port's working state becomes a volume with this table. In its catalog at most the index of one file is another one, each of its pages is one of
+-- before or was free, and each unit of its trees is one of before. It reaches none of the units of a tree that was given up.
+pub record MovesVolume {S : Type 0} (g : ground.Ghosts S) (old new : S) (records : List LogRecord) (v : Volume) (given_up : List ℕ) (table : Table) : Type 0 where
+  pub now : Volume
+  pub volume : IsVolume g new records now
+  pub shows : table_of (units_in g new) now ≡ table
+  pub after : Index
+  pub catalog : now.catalog ≡ with_index v.catalog after
+  pub pages : (page : ℕ) → Contains (file_pages now) page → Contains (file_pages v) page ⊎ (g.used old page ≡ false)
+  pub units : (u : ℕ) → Contains (trees_of (units_in g new) now) u → Contains (trees_of (units_in g old) v) u
+  pub left : (u : ℕ) → Contains given_up u → ¬ Contains (reach_of (units_in g new) now) u
+
+-- The page of the catalog is written, and has this catalog from now on.
+pub record WritesCatalog {S : Type 0} (g : ground.Ghosts S) (old new : S) (catalog : Catalog) : Type 0 where
+  pub image : List ℕ
+  pub puts : PutsImage g old new catalog_no image
+  pub spelled : CatalogOf image catalog
+  pub told : g.tells old
+  pub geometry : g.geometry new ≡ g.geometry old
+
+-- The port's working state becomes a volume with this catalog and this table, of the same objects, on the same pages and over the same
+-- units.
+pub record RecatalogsVolume {S : Type 0} (g : ground.Ghosts S) (old new : S) (records : List LogRecord) (v : Volume) (catalog : Catalog) (table : Table) : Type 0 where
+  pub now : Volume
+  pub volume : IsVolume g new records now
+  pub shows : table_of (units_in g new) now ≡ table
+  pub has : now.catalog ≡ catalog
+  pub objects : lines_of now ≡ lines_of v
+  pub pages : file_pages now ≡ file_pages v
+  pub units : trees_of (units_in g new) now ≡ trees_of (units_in g old) v
+
+-- another next unique number
+abbrev pub catalog_numbered : ℕ → Catalog → Catalog
+catalog_numbered n c = record c { next_unique = n }
+
+abbrev pub table_numbered : ℕ → Table → Table
+table_numbered n t = record t { next_unique = n }
+
+-- an entry of the file with a name has no root
+abbrev pub IsRootless : List ℕ → FileEntry → Type 0
+IsRootless name e = e.name ≡ name → e.root ≡ None

@@ -1,0 +1,3 @@
+pub mod Ported
+pub mod Shown
+pub mod Edits
