@@ -1,10 +1,13 @@
 -- A session that was opened shows its volume.
-use Rattle.std.proofs.Common.{◌≡◌, ◌∙◌, ⊎_elim, inl, inr, ℕ, List, [], ◌∷◌, map, refl, sym, ap, subst, IsTrue, Result, Err}
+use Rattle.std.proofs.Common.{◌≡◌, ◌∙◌, ⊎_elim, inl, inr, ℕ, List, [], ◌∷◌, map, refl, sym, ap, subst, IsTrue, Bool, false, Result, Err}
+use mathlib.Core.Path.{fun_ext}
 use Rattle.ex_base.specs.declared.geometry.Geometry.{Geometry}
+use Rattle.ex_base.specs.declared.names.Area.TheVariants.{Page, Segment}
 use Rattle.disk_model.specs.Outside.{Outside, Leaves}
 use Rattle.disk_model.specs.Runs.{leaves_wider}
 use Rattle.buffer_groups.specs.Frames.{Frames}
 use Rattle.op_log.specs.State.{LogState}
+use Rattle.page_alloc.specs.UnitSet.{used_at}
 use Rattle.restart.specs.declared.opening.OpenedParts.{OpenedParts}
 use Rattle.restart.specs.Opening.{AreOpened, OpenedOn, OpensAs, StandsForSame}
 use Rattle.session_views.specs.View.{View}
@@ -14,41 +17,49 @@ use Rattle.table_model.specs.declared.machine.Machine.{Machine}
 use Rattle.table_model.specs.Machines.{start}
 use Rattle.transactions.specs.Meant.{meant}
 use Rattle.transactions.specs.Sessions.{SessionState, fresh_session, held}
+use Rattle.tree_model.specs.Trees.{Units}
 use Rattle.volume_model.proofs.OpenedView.{opened_view}
-use Rattle.volume_model.specs.BareTable.{bare_table, fresh_held, fresh_view}
 use Rattle.volume_model.specs.Committed.{Committed, with_records}
+use Rattle.volume_model.specs.FreshView.{OpenedView, fresh_held, fresh_view}
 use Rattle.volume_model.specs.Parts.{StandsFor}
-use Rattle.volume_model.specs.Shown.{Held, PageRow, Shows}
-use Rattle.volume_model.specs.Volume.{table_of, units_of}
+use Rattle.volume_model.specs.Shown.{Held, PageRow, Shows, used_in}
+use Rattle.volume_model.specs.Volume.{Decoded, table_of, units_of}
+use Rattle.volume_port.specs.Logged.{is_held, is_taken}
 
 abbrev opened_session : OpenedParts → SessionState
-opened_session p = fresh_session p.geometry p.log p.meta p.units p.groups
+opened_session p = fresh_session p.geometry p.log p.meta p.pages p.units p.groups
 
 -- what the session holds is what a fresh one does
-held_is : (p : OpenedParts) → AreOpened p → held (opened_session p) ≡ fresh_held p.geometry p.log []
+held_is : (p : OpenedParts) → AreOpened p → held (opened_session p) ≡ fresh_held p.geometry p.log (used_at p.units) (is_held p.pages)
 held_is p opened =
     let frames : map (λ (f : Frames). f.entries) p.groups ≡ [] ∷ [] = ap (map (λ (f : Frames). f.entries)) opened.fresh.groups in
-    let used = opened.fresh.used in
     let working = opened.fresh.working in
+    let taken : is_taken p.pages ≡ (λ _. false) = fun_ext opened.fresh.reached.taken in
     let overlay = opened.images in
-    cc (frames, used, working, overlay)
+    cc (frames, working, taken, overlay)
 
-pub shows_opened : {w : Outside} (p : OpenedParts) (image : List ℕ) (table : Table) → AreOpened p → IsTrue w.honest → OpenedOn image p.geometry w p.log p.meta.committed → StandsFor image table
+pub shows_opened : {w : Outside} (p : OpenedParts) (image : List ℕ) (table : Table) → AreOpened p → IsTrue w.honest
+    → OpenedOn image p.geometry w p.log p.meta.committed (used_at p.units) (is_held p.pages) → StandsFor image table
     → Opened meant table (opened_session p) w
 shows_opened {w} p image table parts honest on stands =
     let d = on.decoded in
-    let committed : Committed w.images (with_records d [] d.volume) on.disk p.log [] = subst (λ (rows : List PageRow). Committed w.images (with_records d [] d.volume) on.disk p.log rows) parts.images on.committed in
-    let view = opened_view d on.bare on.was stands committed in
-    let machine : Machine = start d.geometry (bare_table d.volume.catalog) 1 0 in
-    let same : record { machine = machine; session = held (opened_session p); disk = on.disk } ≡ fresh_view (with_records d [] d.volume) on.disk d.volume.catalog p.log =
-    ap (λ (h : Held). the_view machine h on.disk) (held_is p parts ∙ ap (λ (g : Geometry). fresh_held g p.log []) (sym on.geometry)) in
+    let later = with_records d [] d.volume in
+    let used = used_at p.units in
+    let committed : Committed w.images later on.disk p.log [] = subst (λ (rows : List PageRow). Committed w.images later on.disk p.log rows) parts.images on.committed in
+    let opened : OpenedView w.images later on.disk p.log used (is_held p.pages) table = opened_view d on.was stands committed on.table on.knows in
+    let machine = machine_of d (units_of later on.disk) used in
+    let same : record { machine = machine; session = held (opened_session p); disk = on.disk } ≡ fresh_view later on.disk p.log used (is_held p.pages) =
+    ap (λ (h : Held). the_view machine h on.disk) (held_is p parts ∙ ap (λ (g : Geometry). fresh_held g p.log used (is_held p.pages)) (sym on.geometry)) in
     record {
       view = record { machine = machine; session = opened_session p; disk = on.disk };
       is = refl;
-      starts = record { is = ap (λ (t : Table). start d.geometry t 1 0) view.table_is };
-      shows = record { honest = honest; holds = on.holds; shows = subst (Shows w.images) (sym same) view.shows };
+      starts = record { is = ap (λ (t : Table). start d.geometry t (used_in d.geometry used Page) (used_in d.geometry used Segment)) opened.table_is };
+      shows = record { honest = honest; holds = on.holds; shows = subst (Shows w.images) (sym same) opened.shows };
     }
   where
+    machine_of : Decoded → Units → (ℕ → Bool) → Machine
+    machine_of d units used = start d.geometry (table_of units d.volume) (used_in d.geometry used Page) (used_in d.geometry used Segment)
+
     the_view : Machine → Held → List ℕ → View Held
     the_view machine h disk = record { machine = machine; session = h; disk = disk }
 
@@ -56,7 +67,8 @@ pub err_same : {T E : Type 0} {x y : E} (a b : Result T E) → a ≡ Err x → b
 err_same a b one two same = cc (one, two, same)
 
 -- the volume stood for a table
-pub stood : {image : List ℕ} {g : Geometry} {w : Outside} {log : LogState} {overlay : List PageRow} → OpenedOn image g w log overlay → (table : Table) × StandsFor image table
+pub stood : {image : List ℕ} {g : Geometry} {w : Outside} {log : LogState} {overlay : List PageRow} {used has : ℕ → Bool} → OpenedOn image g w log overlay used has
+    → (table : Table) × StandsFor image table
 stood {image} on = (table_of (units_of on.decoded image) on.decoded.volume, record { decoded = on.decoded; parts = on.was; same = refl })
 
 pub leaves_opening : {a b : Outside} (image : List ℕ) → Leaves a b (OpensAs a.images image) → Leaves a b (StandsOpening meant a.images image)

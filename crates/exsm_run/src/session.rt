@@ -50,16 +50,19 @@ impl Opener for VolumeSession {
             meta,
             units,
             groups,
+            pages,
         } = opened;
         let parts = Parts {
             geometry,
             log,
             meta,
+            pages,
             units,
             groups,
         };
-        Ok(VolumeSession {
-            session: Session::make(alloc, parts),
-        })
+        match Session::make(alloc, parts) {
+            Ok(session) => Ok(VolumeSession { session }),
+            Err(_) => Err(OpenFault::Memory),
+        }
     }
 }

@@ -7,7 +7,7 @@ use crate::command::Command;
 
 /// Whether the command is one of the product's yet. A line that spells another one is refused as no command.
 ///
-/// To build `List`, say, is to answer `true` for it here, and in the definition that the contract cites.
+/// To build `Digest`, say, is to answer `true` for it here, and in the definition that the contract cites.
 pub fn is_built(command: &Command) -> bool
     ensures { result ≡ is_built (request_of command.now) }
 {
@@ -20,19 +20,15 @@ pub fn is_built(command: &Command) -> bool
         | Command::Files
         | Command::Space => true,
         Command::File { .. } | Command::Unfile { .. } => true,
-        Command::List { .. } | Command::Create { .. } => false,
-        Command::Destroy { .. }
-        | Command::Size { .. }
-        | Command::Stat { .. }
-        | Command::Digest { .. }
-        | Command::Versions { .. }
-        | Command::DropVersion { .. } => false,
+        Command::List { .. } | Command::Create { .. } => true,
+        Command::Destroy { .. } | Command::Size { .. } | Command::Stat { .. } => true,
+        Command::Digest { .. } | Command::Versions { .. } | Command::DropVersion { .. } => false,
         Command::Read { .. }
         | Command::Insert { .. }
         | Command::Append { .. }
         | Command::Replace { .. }
-        | Command::Delete { .. }
-        | Command::Freeze { .. } => false,
+        | Command::Delete { .. } => true,
+        Command::Freeze { .. } => false,
         Command::Group { .. }
         | Command::Scan { .. }
         | Command::Next { .. }

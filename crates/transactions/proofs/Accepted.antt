@@ -1,6 +1,6 @@
 -- Accepted commands that write nothing.
-use Rattle.std.proofs.Common.{◌≡◌, ◌≢◌, ◌∙◌, ℕ, ◌+◌, ◌-◌, ◌^◌, true, false, List, [], ◌∷◌, ◌++◌, length, map, All, Option, Some, None, is_some, nat_eq, Ok, refl, sym, ap, subst, inl, arith}
-use Rattle.std.specs.Prelude.{IsTrue, unwrap_or}
+use Rattle.std.proofs.Common.{◌≡◌, ◌≢◌, ◌∙◌, ℕ, ◌+◌, ◌-◌, ◌^◌, true, false, List, [], ◌∷◌, ◌++◌, length, map, All, Option, Some, None, is_some, nat_eq, Ok, ⊎_elim, refl, sym, ap, subst, inl, arith}
+use Rattle.std.specs.Prelude.{IsTrue, unwrap_or, Contains}
 use Rattle.std.specs.Map.{lookup}
 use Rattle.std.proofs.lemmas.List.{length-map}
 use Rattle.ex_base.specs.declared.geometry.Geometry.{Geometry}
@@ -12,8 +12,8 @@ use Rattle.ex_base.specs.Order.{Rising}
 use Rattle.disk_model.specs.Outside.{Outside, ReadsOnly}
 use Rattle.buffer_groups.specs.Frames.{Frames}
 use Rattle.meta_pages.specs.Rows.{with_row}
-use Rattle.page_alloc.specs.UnitSet.{free_count, used_at}
-use Rattle.object_files.specs.Catalog.{Catalog, CatalogOf, FileEntry, name_of}
+use Rattle.page_alloc.specs.UnitSet.{UnitSet, free_count, used_at}
+use Rattle.object_files.specs.Catalog.{Catalog, CatalogOf, name_of}
 use Rattle.object_files.specs.Edits as edits
 use Rattle.object_files.specs.Reads.{catalog_on}
 use Rattle.table_model.specs.declared.machine.Machine.{Machine}
@@ -35,19 +35,33 @@ use Rattle.table_model.proofs.StepsKeep.{steps_keep}
 use Rattle.table_model.proofs.Stepping.{accepted}
 use Rattle.session_views.specs.View.{View, ShowsNow, Stepped}
 use Rattle.volume_model.proofs.OneReading.{one_catalog}
-use Rattle.volume_model.specs.Shown.{Shared, WorkingRow, WorkingShown, IsWorkingPage, used_in}
+use Rattle.volume_model.specs.Shown.{Shared, WorkingRow, WorkingShown, IsWorkingPage, used_in, working_units}
 use Rattle.volume_model.specs.Parts.{IsLastOf}
-use Rattle.volume_model.specs.Volume.{file_pages}
-use Rattle.transactions.specs.Sessions.{SessionState, held, IsSession, begun, aborted, updated}
+use Rattle.volume_model.specs.Volume.{Stored, Volume, file_pages, stored_in, roots_in, table_of, units_of}
+use Rattle.transactions.specs.Sessions.{SessionState, held, IsSession, TakenBack, begun, aborted, updated}
 use Rattle.transactions.specs.Catalogs.{FramesLend, catalog_bytes}
 use Rattle.transactions.specs.Meant.{meant, pick_of, held_view}
-use Rattle.transactions.specs.Refused.{used_of, file_refusal, unfile_refusal}
+use Rattle.transactions.specs.Refused.{used_of, file_refusal, unfile_refusal, entry_of, has_pages}
+use Rattle.table_model.specs.Refusals.{has_objects}
+use Rattle.table_model.specs.Tables as tables
+use Rattle.std.specs.Prelude.{find}
+use Rattle.transactions.proofs.Files.{no_pages_there}
+use Rattle.transactions.proofs.Unfiled.{volume_without, all_of, not_empty_as, gone_of, pages_without, stored_without, others_without, table_without_file}
 use Rattle.transactions.specs.Steps.{OnlyFrames, StepsQuietly}
-use Rattle.transactions.proofs.NoObjects.{plain, file_named, table_with, AreRootless, plain_pages}
-use Rattle.transactions.proofs.Showing.{view_of, KeepsVolume, WorksAs, shows_after, shows_catalog, reads_catalog, committed_plain, session_geometry}
+use Rattle.volume_model.specs.Parts.{HasIndex}
+use Rattle.transactions.proofs.Volumes.{names_shown, parts_same, table_same, trees_same_units, idle_of, shown_parts}
+use Rattle.transactions.proofs.KeptOff.{Others, others_kept, trees_off, table_off}
+use Rattle.transactions.proofs.Filed.{volume_with, pages_with, stored_with, others_with, table_with_file}
+use Rattle.transactions.proofs.Ending.{fewer_used, shows_aborted}
+use Rattle.volume_port.specs.Logged.{LoggedSet}
+use Rattle.volume_port.proofs.WorkingRows.{put_other}
+use Rattle.std.proofs.lemmas.Bool.{cases_eq}
+use Rattle.std.specs.List.{flat_map}
+use Rattle.tree_model.specs.Trees.{root_units}
+use Rattle.transactions.proofs.Showing.{view_of, KeepsVolume, WorksAs, trees_in, shows_after, shows_catalog, reads_catalog, working_catalog, session_geometry}
 use Rattle.transactions.proofs.Quiet.{AreSizes, refused_at_once, quiet_refusal, nothing_changed, shown_lends, later_frames, left_before, now_after, same_view, with_groups}
 use Rattle.transactions.proofs.Refusing.{same_counts, begin_accepted, spent_refused, abort_accepted, file_refused, unfile_refused, free_left}
-use Rattle.transactions.proofs.Working.{lookup_put, firsts_put, each_put, images_of_catalog, open_shown, files_inserted, files_without, rootless_inserted, rootless_without}
+use Rattle.transactions.proofs.Working.{lookup_put, firsts_put, each_put, images_of_files, working_image, same_off, begun_units}
 
 -- ---- any accepted command that takes no unit
 
@@ -63,18 +77,18 @@ pub record LaterFrames (a b : Outside) (old : SessionState) (groups : List Frame
   pub later : All (λ (f : Frames). f.page_size ≡ old.geometry.page_size) groups
   pub lends : FramesLend a old → FramesLend a (record old { groups = groups })
 
-pub stepped_by : {a b : Outside} {before : View SessionState} (now : ShowsNow meant a before) (r : Request) (told : Reply) (m : Machine) (s new : SessionState) (c : Catalog) → s ≡ new
+pub stepped_by : {a b : Outside} {before : View SessionState} (now : ShowsNow meant a before) (r : Request) (told : Reply) (m : Machine) (s new : SessionState) (w : Volume) → s ≡ new
     → LaterFrames a b before.session s.groups → IsTrue (is_request r)
     → Step before.machine r (pick_of (held_view before) r (view_of m (held s) before.disk)) told m
-    → KeepsVolume (held_view before) m (held s) → Shared (view_of m (held s) before.disk) → WorksAs now.shows.decoded (view_of m (held s) before.disk) c → Stepped meant before r told new b
-stepped_by {a} {b} {before} now r told m s new c same frames form step keeps shared works =
+    → KeepsVolume (held_view before) m (held s) → Shared (view_of m (held s) before.disk) → WorksAs now.shows.decoded (held_view before) (view_of m (held s) before.disk) now.shows.working w → Stepped meant before r told new b
+stepped_by {a} {b} {before} now r told m s new w same frames form step keeps shared works =
     let q = pick_of (held_view before) r (view_of m (held s) before.disk) in
     let rules = steps_keep before.machine r q told m now.shows.rules form step in
     let shown_frames = later_frames now s.groups frames.sizes frames.later frames.lends in
     record {
       after = record { machine = m; session = s; disk = before.disk };
       is = same;
-      shows = now_after frames.reads now refl (shows_after m (held s) c now.shows (left_before frames.reads now) keeps shared rules shown_frames works);
+      shows = now_after frames.reads now refl (shows_after m (held s) w now.shows (left_before frames.reads now) keeps shared rules shown_frames works);
       step = step;
     }
 
@@ -104,10 +118,16 @@ pub begin_steps : {a b : Outside} {before : View SessionState} (now : ShowsNow m
     → Stepped meant before request.Begin (reply.Begin ((catalog_on page).last + 1)) new b
 begin_steps {a} {b} {before} now new groups page same frames closed reads lends room =
     let m = before.machine in
-    let c = now.shows.working.catalog in
+    let d = now.shows.decoded in
+    let old = before.session.meta.working in
+    let rows = (catalog_no, Some page) ∷ [] in
     let shown = shows_catalog now.shows in
     let on = shown_on now page reads lends in
-    let table : m.committed ≡ table_with c = sym (closed_shown m (now.shows.shared.open_txn ∙ closed)) ∙ shown.table in
+    let idle = idle_of d (held_view before) now.shows.working m.working (now.shows.shared.open_txn ∙ closed) now.shows.working_shown in
+    let image : page ≡ units_of d before.disk catalog_no =
+    reads.read before.disk now.holds lends ∙ sym (working_catalog d (held_view before) now.shows.overlay (session_geometry now.shows)) ∙ ap (λ (rs : List WorkingRow). working_units d before.disk rs catalog_no) idle.0 in
+    let units = begun_units d before.disk page image in
+    let table : m.committed ≡ table_of (working_units d before.disk old) now.shows.working = sym (closed_shown m (now.shows.shared.open_txn ∙ closed)) ∙ shown.table in
     let number : m.committed.last ≡ (catalog_on page).last = ap (λ (t : Table). t.last) table ∙ ap (λ (c : Catalog). c.last) (sym on) in
     let s = begun (record before.session { groups = groups }) page in
     let after : Machine = record m { working = Some m.committed; notes = []; touched = 1 } in
@@ -115,33 +135,48 @@ begin_steps {a} {b} {before} now new groups page same frames closed reads lends 
     let step : Step m request.Begin q (reply.Begin ((catalog_on page).last + 1)) after =
     took_place m after request.Begin q (reply.Begin ((catalog_on page).last + 1)) (begin_accepted before q now.shows.shared.open_txn closed (λ is. room (sym number ∙ is)))
     (ap (λ (n : ℕ). reply.Begin (n + 1)) (sym number)) refl (tt, λ none. absurd (cc)) in
-    stepped_by now request.Begin (reply.Begin ((catalog_on page).last + 1)) after s new c same frames refl step
-    (record { geometry = refl; committed = refl; machine_scans = refl; pages = refl; segs = refl; scans = refl; used = refl; overlay = refl; log = refl })
+    stepped_by now request.Begin (reply.Begin ((catalog_on page).last + 1)) after s new d.volume same frames refl step
+    (record { geometry = refl; committed = refl; machine_scans = refl; pages = refl; segs = refl; scans = refl; used = refl; held = refl; kept = refl; taken = refl; overlay = refl; log = refl })
     (record { geometry = now.shows.shared.geometry; notes = refl; names = now.shows.shared.names; group_rows = now.shows.shared.group_rows; open_txn = refl; up = now.shows.shared.up })
     (record {
-      working = open_shown now.shows.decoded (view_of after (held s) before.disk) c page m.committed refl (subst (λ (c : Catalog). CatalogOf page c) on reads.catalog) shown.rootless shown.last table;
+      working = record {
+        parts = parts_same d.geometry d.records (units_of d before.disk) (working_units d before.disk rows) d.volume units now.shows.parts.1.1;
+        same = now.shows.committed ∙ sym (table_same (units_of d before.disk) (working_units d before.disk rows) d.volume units);
+      };
       touched = refl;
       in_order = tt;
       images = (λ some. inl refl, tt);
+      pages = ap file_pages (sym idle.1);
+      trees = trees_same_units (units_of d before.disk) (working_units d before.disk rows) d.volume units
+          ∙ ap (λ (rs : List WorkingRow). trees_in (working_units d before.disk rs) d.volume) (sym idle.0)
+          ∙ ap (λ (w : Volume). trees_in (working_units d before.disk old) w) (sym idle.1);
+      left = λ some number has none. absurd (none (subst (λ (w : Volume). Contains (file_pages w) number) (sym idle.1) has));
     })
 
 -- ---- abort
 
-pub abort_steps : {a b : Outside} {before : View SessionState} (now : ShowsNow meant a before) (new : SessionState) → aborted before.session ≡ new
-    → LaterFrames a b before.session before.session.groups → before.session.opened ≡ true → Stepped meant before request.Abort reply.Abort new b
-abort_steps {a} {b} {before} now new same frames opened =
+pub abort_steps : {a b : Outside} {before : View SessionState} (now : ShowsNow meant a before) (new : SessionState) (pages : LoggedSet) (units : UnitSet) → aborted before.session pages units ≡ new
+    → LaterFrames a b before.session before.session.groups → IsSession before.session → before.session.opened ≡ true → TakenBack before.session.meta.working before.session.kept before.session.pages pages before.session.units units
+    → Stepped meant before request.Abort reply.Abort new b
+abort_steps {a} {b} {before} now new pages units same frames session opened back =
     let m = before.machine in
-    let whole = committed_plain now.shows in
-    let c = now.shows.decoded.volume.catalog in
-    let s = aborted before.session in
-    let after : Machine = record m { names = kept m.names; working = None; notes = []; touched = 0 } in
+    let g = now.shows.decoded.geometry in
+    let s = aborted before.session pages units in
+    let after : Machine = record m { names = kept m.names; working = None; notes = []; touched = 0; pages_used = used_in g (used_at units) Page; segs_used = used_in g (used_at units) Segment } in
     let q = pick_of (held_view before) request.Abort (view_of after (held s) before.disk) in
+    let fewer = fewer_used now.shows session units back.units in
     let step : Step m request.Abort q reply.Abort after =
-    took_place m after request.Abort q reply.Abort (abort_accepted before q now.shows.shared.open_txn opened) refl refl (record { pages = omega arith; segs = omega arith }, λ none. absurd (cc)) in
-    stepped_by now request.Abort reply.Abort after s new c same frames refl step
-    (record { geometry = refl; committed = refl; machine_scans = refl; pages = refl; segs = refl; scans = refl; used = refl; overlay = refl; log = refl })
-    (record { geometry = now.shows.shared.geometry; notes = refl; names = ap kept now.shows.shared.names; group_rows = now.shows.shared.group_rows; open_txn = refl; up = now.shows.shared.up })
-    (record { working = (refl, sym whole.is); touched = refl; in_order = tt; images = tt })
+    took_place m after request.Abort q reply.Abort (abort_accepted before q now.shows.shared.open_txn opened) refl refl (record { pages = fewer.pages; segs = fewer.segs }, λ none. absurd (cc)) in
+    let rules = steps_keep m request.Abort q reply.Abort after now.shows.rules refl step in
+    let shown_frames = later_frames now s.groups frames.sizes frames.later frames.lends in
+    record {
+      after = record { machine = after; session = s; disk = before.disk };
+      is = same;
+      shows = now_after frames.reads now refl (shows_aborted now.shows after pages units (left_before frames.reads now) session back
+          (record { geometry = now.shows.shared.geometry; notes = refl; names = ap kept now.shows.shared.names; group_rows = now.shows.shared.group_rows; open_txn = refl; up = now.shows.shared.up })
+          rules shown_frames refl refl refl refl refl refl refl);
+      step = step;
+    }
 
 -- ---- file and unfile
 
@@ -150,26 +185,52 @@ pub record HasImage (s : SessionState) : Type 0 where
   pub image : List ℕ
   pub there : lookup (nat_eq catalog_no) s.meta.working ≡ Some (Some image)
 
-update_works : {a : Outside} {before : View SessionState} (now : ShowsNow meant a before) (groups : List Frames) (page : List ℕ) (kind : ℕ) (c : Catalog) (m : Machine) (table : Table)
-    → HasImage before.session → CatalogOf page c → AreRootless c.entries → c.last ≡ now.shows.working.catalog.last → table ≡ table_with c → m.working ≡ Some table → m.touched ≡ before.machine.touched
-    → WorksAs now.shows.decoded (view_of m (held (updated (record before.session { groups = groups }) page kind)) before.disk) c
-update_works {a} {before} now groups page kind c m table has catalog rootless last same working touched =
+update_works : {a : Outside} {before : View SessionState} (now : ShowsNow meant a before) (groups : List Frames) (page : List ℕ) (kind : ℕ) (w : Volume) (m : Machine) (table : Table)
+    → HasImage before.session → before.session.opened ≡ true → CatalogOf page w.catalog → w.catalog.last ≡ now.shows.working.catalog.last
+    → file_pages w ≡ file_pages now.shows.working → stored_in w ≡ stored_in now.shows.working
+    → (Others now.shows.decoded.geometry now.shows.decoded.records (working_units now.shows.decoded before.disk (with_row catalog_no (Some page) before.session.meta.working)) now.shows.working
+    → Others now.shows.decoded.geometry now.shows.decoded.records (working_units now.shows.decoded before.disk (with_row catalog_no (Some page) before.session.meta.working)) w)
+    → table ≡ table_of (working_units now.shows.decoded before.disk (with_row catalog_no (Some page) before.session.meta.working)) w → m.working ≡ Some table → m.touched ≡ before.machine.touched
+    → WorksAs now.shows.decoded (held_view before) (view_of m (held (updated (record before.session { groups = groups }) page kind)) before.disk) now.shows.working w
+update_works {a} {before} now groups page kind w m table has opened catalog last files stored others same working touched =
     let d = now.shows.decoded in
     let rows = before.session.meta.working in
+    let later = with_row catalog_no (Some page) rows in
     let v = view_of m (held (updated (record before.session { groups = groups }) page kind)) before.disk in
     let shown = shows_catalog now.shows in
-    let none : file_pages now.shows.working ≡ [] = ap file_pages shown.plain_is ∙ plain_pages now.shows.working.catalog in
     let firsts = firsts_put catalog_no (Some page) (Some has.image) rows now.shows.apart.in_order has.there in
+    let off = same_off d before.disk page rows in
+    let was = (shown_parts now.shows).1 in
+    let units = working_units d before.disk later in
     record {
-      working = subst (λ (o : Option Table). WorkingShown d v (plain c) o) (sym working)
-          (open_shown d v c page table (lookup_put catalog_no (Some page) rows) catalog rootless (subst (λ (n : ℕ). IsLastOf d.records n) (sym last) shown.last) same);
+      working = subst (λ (o : Option Table). WorkingShown d v w o) (sym working)
+          (record {
+            parts = (
+              (subst (λ (bytes : List ℕ). CatalogOf bytes w.catalog) (sym (working_image d v page (lookup_put catalog_no (Some page) rows))) catalog, subst (λ (n : ℕ). IsLastOf d.records n) (sym last) shown.last),
+              others (others_kept d.geometry d.records d.records (working_units d before.disk rows) units now.shows.working off was),
+            );
+            same = same;
+          });
       touched = touched ∙ now.shows.used.touched ∙ sym (same_count rows firsts);
       in_order = subst Rising (sym firsts) now.shows.apart.in_order;
-      images = each_put (IsWorkingPage (plain c)) catalog_no (Some page) rows (λ some. inl refl) (images_of_catalog now.shows.working c rows none now.shows.apart.images);
+      images = each_put (IsWorkingPage w) catalog_no (Some page) rows (λ some. inl refl) (images_of_files now.shows.working w rows files now.shows.apart.images);
+      pages = files;
+      trees = ap (λ (ss : List Stored). flat_map (root_units units) (roots_in ss)) stored ∙ trees_off d.geometry d.records (working_units d before.disk rows) units now.shows.working off was;
+      left = λ some number file none. left number file none;
     }
   where
     same_count : (rows : List WorkingRow) → map (λ (row : WorkingRow). row.0) (with_row catalog_no (Some page) rows) ≡ map (λ (row : WorkingRow). row.0) rows → length (with_row catalog_no (Some page) rows) ≡ length rows
     same_count rows firsts = sym (length-map (with_row catalog_no (Some page) rows) (λ (row : WorkingRow). row.0)) ∙ ap length firsts ∙ length-map rows (λ (row : WorkingRow). row.0)
+
+    image_gone : (x : List ℕ) → Some (Some x) ≡ Some None → ⊥
+    image_gone x e = cc
+
+    left : (number : ℕ) → Contains (file_pages now.shows.decoded.volume) number → (¬ Contains (file_pages now.shows.working) number) → lookup (nat_eq number) (with_row catalog_no (Some page) before.session.meta.working) ≡ Some None
+    left number file none =
+        let gone = now.shows.apart.left (now.shows.shared.open_txn ∙ opened) number file none in
+        ⊎_elim
+        (λ (same : number ≡ catalog_no). absurd (image_gone has.image (sym has.there ∙ ap (λ (q : ℕ). lookup (nat_eq q) before.session.meta.working) (sym same) ∙ gone)))
+        (λ (differ : number ≢ catalog_no). put_other catalog_no (Some page) before.session.meta.working number (λ e. differ (sym e)) ∙ gone) (cases_eq number catalog_no)
 
 pub file_steps : {a b : Outside} {before : View SessionState} (now : ShowsNow meant a before) (new : SessionState) (groups : List Frames) (page image name : List ℕ) (file_no : ℕ) → updated (record before.session { groups = groups }) image 1 ≡ new
     → LaterFrames a b before.session groups → before.session.opened ≡ true → before.session.units.geometry ≡ before.session.geometry → HasImage before.session → ReadsCatalog a before.session page → FramesLend a before.session
@@ -181,22 +242,28 @@ file_steps {a} {b} {before} now new groups page image name file_no same frames o
     let shown_now = shows_catalog now.shows in
     let on = shown_on now page reads lends in
     let old = now.shows.working.catalog in
-    let c : Catalog = edits.with_entries old (edits.entry_inserted (edits.new_file name file_no) old.entries) in
+    let d = now.shows.decoded in
+    let rows = before.session.meta.working in
+    let later = working_units d before.disk (with_row catalog_no (Some image) rows) in
+    let w = volume_with name file_no now.shows.working in
+    let was = (shown_parts now.shows).1 in
+    let off = same_off d before.disk image rows in
     let s = updated (record before.session { groups = groups }) image 1 in
     let after : Machine = record m { working = Some (with_file name (shown m)); notes = m.notes ++ note 1 no_oid 0 0 ∷ [] } in
     let q = pick_of (held_view before) (request.File name) (view_of after (held s) before.disk) in
     let counts = same_counts now.shows units in
-    let table : with_file name (shown m) ≡ table_with c =
-    ap (λ (t : Table). with_file name t) shown_now.table ∙ ap (λ (files : List TableFile). record (table_with old) { files = files }) (sym (files_inserted name file_no old.entries)) in
+    let kept_others = others_kept d.geometry d.records d.records (working_units d before.disk rows) later now.shows.working off was in
+    let table : with_file name (shown m) ≡ table_of later w =
+    ap (λ (t : Table). with_file name t) (shown_now.table ∙ sym (table_off d.geometry d.records (working_units d before.disk rows) later now.shows.working off was)) ∙ sym (table_with_file d.geometry d.records later name file_no now.shows.working kept_others) in
     let refuses : refusal_of m (request.File name) q ≡ None = file_refused before old name q counts opened ∙ ap (λ (c : Catalog). file_refusal before.session c name) (sym on) ∙ none in
     let step : Step m (request.File name) q (reply.File name) after =
     took_place m after (request.File name) q (reply.File name) refuses refl refl (tt, λ _. record { pages = omega arith; segs = omega arith; touched = omega arith }) in
-    stepped_by now (request.File name) (reply.File name) after s new c same frames form step
-    (record { geometry = refl; committed = refl; machine_scans = refl; pages = refl; segs = refl; scans = refl; used = refl; overlay = refl; log = refl })
+    stepped_by now (request.File name) (reply.File name) after s new w same frames form step
+    (record { geometry = refl; committed = refl; machine_scans = refl; pages = refl; segs = refl; scans = refl; used = refl; held = refl; kept = refl; taken = refl; overlay = refl; log = refl })
     (record { geometry = now.shows.shared.geometry; notes = ap (λ (notes : List OpNote). notes ++ note 1 no_oid 0 0 ∷ []) now.shows.shared.notes; names = now.shows.shared.names; group_rows = now.shows.shared.group_rows; open_txn = sym opened; up = now.shows.shared.up })
-    (update_works now groups image 1 c after (with_file name (shown m)) has
+    (update_works now groups image 1 w after (with_file name (shown m)) has opened
     (subst (λ (o : Catalog). CatalogOf image (edits.with_entries o (edits.entry_inserted (edits.new_file name file_no) o.entries))) on catalog)
-    (rootless_inserted name file_no old.entries shown_now.rootless) refl table refl refl)
+    refl (pages_with name file_no now.shows.working) (stored_with name file_no now.shows.working) (λ others. others_with d.geometry d.records later name file_no now.shows.working others) table refl refl)
 
 pub unfile_steps : {a b : Outside} {before : View SessionState} (now : ShowsNow meant a before) (new : SessionState) (groups : List Frames) (page image name : List ℕ) → updated (record before.session { groups = groups }) image 2 ≡ new
     → LaterFrames a b before.session groups → before.session.opened ≡ true → before.session.units.geometry ≡ before.session.geometry → HasImage before.session → ReadsCatalog a before.session page → FramesLend a before.session
@@ -208,22 +275,33 @@ unfile_steps {a} {b} {before} now new groups page image name same frames opened 
     let shown_now = shows_catalog now.shows in
     let on = shown_on now page reads lends in
     let old = now.shows.working.catalog in
-    let c : Catalog = edits.with_entries old (edits.without_name name old.entries) in
+    let d = now.shows.decoded in
+    let rows = before.session.meta.working in
+    let now_units = working_units d before.disk rows in
+    let later = working_units d before.disk (with_row catalog_no (Some image) rows) in
+    let w = volume_without name now.shows.working in
+    let was = (shown_parts now.shows).1 in
+    let all = all_of d.geometry now_units old.entries now.shows.working.files was.0.0 was.1.0 was.1.1.0 in
+    let off = same_off d before.disk image rows in
     let s = updated (record before.session { groups = groups }) image 2 in
     let after : Machine = record m { working = Some (without_file name (shown m)); notes = m.notes ++ note 2 no_oid 0 0 ∷ [] } in
     let q = pick_of (held_view before) (request.Unfile name) (view_of after (held s) before.disk) in
     let counts = same_counts now.shows units in
-    let table : without_file name (shown m) ≡ table_with c =
-    ap (λ (t : Table). without_file name t) shown_now.table ∙ ap (λ (files : List TableFile). record (table_with old) { files = files }) (sym (files_without name old.entries)) in
-    let refuses : refusal_of m (request.Unfile name) q ≡ None = unfile_refused before old name q counts shown_now.rootless opened ∙ ap (λ (c : Catalog). unfile_refusal before.session c name) (sym on) ∙ none in
+    let none_here : unfile_refusal before.session old name ≡ None = ap (λ (c : Catalog). unfile_refusal before.session c name) (sym on) ∙ none in
+    let gone = gone_of d.geometry now_units name old.entries now.shows.working.files shown_now.catalog.fits.sorted (no_pages_there before.session old name (sym none_here)) all in
+    let kept_others = others_kept d.geometry d.records d.records now_units later now.shows.working off was in
+    let table : without_file name (shown m) ≡ table_of later w =
+    ap (λ (t : Table). without_file name t) (shown_now.table ∙ sym (table_off d.geometry d.records now_units later now.shows.working off was)) ∙ sym (table_without_file d.geometry d.records later name now.shows.working kept_others) in
+    let empty = ap (λ (t : Table). has_objects (find (tables.has_name name) t.files)) shown_now.table ∙ not_empty_as d.geometry now_units name old.entries now.shows.working.files all in
+    let refuses : refusal_of m (request.Unfile name) q ≡ None = unfile_refused before old name q counts empty opened ∙ none_here in
     let step : Step m (request.Unfile name) q (reply.Unfile name) after =
     took_place m after (request.Unfile name) q (reply.Unfile name) refuses refl refl (tt, λ _. record { pages = omega arith; segs = omega arith; touched = omega arith }) in
-    stepped_by now (request.Unfile name) (reply.Unfile name) after s new c same frames form step
-    (record { geometry = refl; committed = refl; machine_scans = refl; pages = refl; segs = refl; scans = refl; used = refl; overlay = refl; log = refl })
+    stepped_by now (request.Unfile name) (reply.Unfile name) after s new w same frames form step
+    (record { geometry = refl; committed = refl; machine_scans = refl; pages = refl; segs = refl; scans = refl; used = refl; held = refl; kept = refl; taken = refl; overlay = refl; log = refl })
     (record { geometry = now.shows.shared.geometry; notes = ap (λ (notes : List OpNote). notes ++ note 2 no_oid 0 0 ∷ []) now.shows.shared.notes; names = now.shows.shared.names; group_rows = now.shows.shared.group_rows; open_txn = sym opened; up = now.shows.shared.up })
-    (update_works now groups image 2 c after (without_file name (shown m)) has
+    (update_works now groups image 2 w after (without_file name (shown m)) has opened
     (subst (λ (o : Catalog). CatalogOf image (edits.with_entries o (edits.without_name name o.entries))) on catalog)
-    (rootless_without name old.entries shown_now.rootless) refl table refl refl)
+    refl (pages_without name now.shows.working gone) (stored_without name now.shows.working gone) (λ others. others_without name now.shows.working gone d.geometry d.records later others) table refl refl)
 
 -- ---- each accepted command as a quiet step
 
@@ -261,14 +339,16 @@ begin_spent {a} {b} old mid page last is only closed reads number spent =
     let open_txn = now.shows.shared.open_txn in
     let shut = ap (λ (s : SessionState). s.opened) from ∙ closed in
     let on = shown_on now page (subst (λ (s : SessionState). ReadsCatalog a s page) (sym from) reads) (shown_lends now session.sizes) in
-    let table = sym (closed_shown before.machine (open_txn ∙ shut)) ∙ (shows_catalog now.shows).table in
+    let table : before.machine.committed ≡ table_of (working_units now.shows.decoded before.disk before.session.meta.working) now.shows.working = sym (closed_shown before.machine (open_txn ∙ shut)) ∙ (shows_catalog now.shows).table in
     spent_refused before q open_txn shut (ap (λ (t : Table). t.last) table ∙ ap (λ (c : Catalog). c.last) (sym on) ∙ sym number ∙ spent))
 
-pub abort_quietly : {a : Outside} (old new : SessionState) → IsSession old → old.opened ≡ true → aborted old ≡ new → StepsQuietly a a old new request.Abort (Ok reply.Abort)
-abort_quietly {a} old new is opened same =
+pub abort_quietly : {a : Outside} (old new : SessionState) (pages : LoggedSet) (units : UnitSet) → IsSession old → old.opened ≡ true → TakenBack old.meta.working old.kept old.pages pages old.units units → aborted old pages units ≡ new
+    → StepsQuietly a a old new request.Abort (Ok reply.Abort)
+abort_quietly {a} old new pages units is opened back same =
     accepted_quietly old old new request.Abort reply.Abort (nothing_changed a old) (ap (λ (s : SessionState). s.log) (sym same)) (ap (λ (s : SessionState). s.down) (sym same)) (λ why told. absurd (cc))
     (λ before from now.
-    abort_steps now new (ap (λ (s : SessionState). aborted s) from ∙ same) (subst (λ (s : SessionState). LaterFrames a a s s.groups) (sym from) (later_of old old is (nothing_changed a old))) (ap (λ (s : SessionState). s.opened) from ∙ opened))
+    abort_steps now new pages units (ap (λ (s : SessionState). aborted s pages units) from ∙ same) (subst (λ (s : SessionState). LaterFrames a a s s.groups) (sym from) (later_of old old is (nothing_changed a old)))
+    (subst IsSession (sym from) is) (ap (λ (s : SessionState). s.opened) from ∙ opened) (subst (λ (s : SessionState). TakenBack s.meta.working s.kept s.pages pages s.units units) (sym from) back))
 
 work_image : (s : SessionState) → IsSession s → s.opened ≡ true → HasImage s
 work_image s is opened = let work = is.work opened in record { image = work.image; there = work.there }
@@ -283,7 +363,7 @@ file_quietly {a} {b} old mid new page image name file_no is only opened reads fo
     let at = ap (λ (s : SessionState). updated s image 1) (ap (λ (s : SessionState). record s { groups = mid.groups }) from ∙ sym only.same) ∙ same in
     let refuses = ap (λ (s : SessionState). file_refusal s (catalog_on page) name) (ap (λ (s : SessionState). record s { groups = mid.groups }) from ∙ sym only.same) ∙ none in
     file_steps now new mid.groups page image name file_no at (subst (λ (s : SessionState). LaterFrames a b s mid.groups) (sym from) (later_of old mid is only)) (ap (λ (s : SessionState). s.opened) from ∙ opened)
-    session.units (work_image before.session session (ap (λ (s : SessionState). s.opened) from ∙ opened)) (subst (λ (s : SessionState). ReadsCatalog a s page) (sym from) reads) (shown_lends now session.sizes) form refuses catalog)
+    session.units.geometry (work_image before.session session (ap (λ (s : SessionState). s.opened) from ∙ opened)) (subst (λ (s : SessionState). ReadsCatalog a s page) (sym from) reads) (shown_lends now session.sizes) form refuses catalog)
 
 pub file_no : {a b : Outside} (old mid : SessionState) (page name : List ℕ) (why : Refusal) (c : Catalog) → IsSession old → OnlyFrames a b old mid → old.opened ≡ true → ReadsCatalog a old page → c ≡ catalog_on page
     → Some why ≡ file_refusal mid c name → StepsQuietly a b old mid (request.File name) (Ok (reply.No why))
@@ -292,10 +372,18 @@ file_no {a} {b} old mid page name why c is only opened reads same refuses =
     (λ before from now q.
     let session = subst IsSession (sym from) is in
     let on = shown_on now page (subst (λ (s : SessionState). ReadsCatalog a s page) (sym from) reads) (shown_lends now session.sizes) in
-    file_refused before now.shows.working.catalog name q (same_counts now.shows session.units) (ap (λ (s : SessionState). s.opened) from ∙ opened)
+    file_refused before now.shows.working.catalog name q (same_counts now.shows session.units.geometry) (ap (λ (s : SessionState). s.opened) from ∙ opened)
     ∙ ap (λ (c : Catalog). file_refusal before.session c name) (sym on ∙ sym same)
     ∙ ap (λ (s : SessionState). file_refusal s c name) (ap (λ (s : SessionState). record s { groups = mid.groups }) from ∙ sym only.same)
     ∙ sym refuses)
+
+not_empty_shown : {a : Outside} {before : View SessionState} (now : ShowsNow meant a before) (name : List ℕ) → has_objects (find (tables.has_name name) (shown before.machine).files) ≡ has_pages (entry_of now.shows.working.catalog name)
+not_empty_shown {a} {before} now name =
+    let d = now.shows.decoded in
+    let units = working_units d before.disk before.session.meta.working in
+    let was = (shown_parts now.shows).1 in
+    ap (λ (t : Table). has_objects (find (tables.has_name name) t.files)) (shows_catalog now.shows).table
+    ∙ not_empty_as d.geometry units name now.shows.working.catalog.entries now.shows.working.files (all_of d.geometry units now.shows.working.catalog.entries now.shows.working.files was.0.0 was.1.0 was.1.1.0)
 
 pub unfile_no : {a b : Outside} (old mid : SessionState) (page name : List ℕ) (why : Refusal) (c : Catalog) → IsSession old → OnlyFrames a b old mid → old.opened ≡ true → ReadsCatalog a old page → c ≡ catalog_on page
     → Some why ≡ unfile_refusal mid c name → StepsQuietly a b old mid (request.Unfile name) (Ok (reply.No why))
@@ -304,7 +392,7 @@ unfile_no {a} {b} old mid page name why c is only opened reads same refuses =
     (λ before from now q.
     let session = subst IsSession (sym from) is in
     let on = shown_on now page (subst (λ (s : SessionState). ReadsCatalog a s page) (sym from) reads) (shown_lends now session.sizes) in
-    unfile_refused before now.shows.working.catalog name q (same_counts now.shows session.units) (shows_catalog now.shows).rootless (ap (λ (s : SessionState). s.opened) from ∙ opened)
+    unfile_refused before now.shows.working.catalog name q (same_counts now.shows session.units.geometry) (not_empty_shown now name) (ap (λ (s : SessionState). s.opened) from ∙ opened)
     ∙ ap (λ (c : Catalog). unfile_refusal before.session c name) (sym on ∙ sym same)
     ∙ ap (λ (s : SessionState). unfile_refusal s c name) (ap (λ (s : SessionState). record s { groups = mid.groups }) from ∙ sym only.same)
     ∙ sym refuses)
@@ -313,6 +401,14 @@ pub no_open_txn : {a : Outside} (s : SessionState) (r : Request) → IsSession s
     → StepsQuietly a a s s r (Ok (reply.No refusal.NoTxn))
 no_open_txn {a} s r is closed refuses =
     refused_at_once s r refusal.NoTxn is (λ before from now q. refuses before.machine q (now.shows.shared.open_txn ∙ ap (λ (s : SessionState). s.opened) from ∙ closed))
+
+-- as the code comes to it
+pub file_told : {a b : Outside} {old mid new : SessionState} {page read edited name copy : List ℕ} {c : Catalog} (file_no : ℕ) → c ≡ catalog_on page → None ≡ file_refusal mid c name → read ≡ edited → copy ≡ name → new ≡ updated mid read 1
+    → CatalogOf edited (edits.with_entries (catalog_on page) (edits.entry_inserted (edits.new_file name file_no) (catalog_on page).entries))
+    → IsSession old → OnlyFrames a b old mid → old.opened ≡ true → ReadsCatalog a old page → IsTrue (is_name name) → StepsQuietly a b old new (request.File name) (Ok (reply.File copy))
+file_told {a} {b} {old} {mid} {new} {page} {read} {edited} {name} {copy} {c} file_no view none same told done catalog is only opened reads form =
+    subst (λ (n : List ℕ). StepsQuietly a b old new (request.File name) (Ok (reply.File n))) (sym told)
+    (file_quietly old mid new page edited name file_no is only opened reads form (ap (λ (k : Catalog). file_refusal mid k name) (sym view) ∙ sym none) catalog (ap (λ (l : List ℕ). updated mid l 1) (sym same) ∙ sym done))
 
 pub unfile_quietly : {a b : Outside} (old mid new : SessionState) (page image name : List ℕ) → IsSession old → OnlyFrames a b old mid → old.opened ≡ true → ReadsCatalog a old page → IsTrue (is_name name)
     → unfile_refusal mid (catalog_on page) name ≡ None → CatalogOf image (edits.with_entries (catalog_on page) (edits.without_name name (catalog_on page).entries))
@@ -324,15 +420,7 @@ unfile_quietly {a} {b} old mid new page image name is only opened reads form non
     let at = ap (λ (s : SessionState). updated s image 2) (ap (λ (s : SessionState). record s { groups = mid.groups }) from ∙ sym only.same) ∙ same in
     let refuses = ap (λ (s : SessionState). unfile_refusal s (catalog_on page) name) (ap (λ (s : SessionState). record s { groups = mid.groups }) from ∙ sym only.same) ∙ none in
     unfile_steps now new mid.groups page image name at (subst (λ (s : SessionState). LaterFrames a b s mid.groups) (sym from) (later_of old mid is only)) (ap (λ (s : SessionState). s.opened) from ∙ opened)
-    session.units (work_image before.session session (ap (λ (s : SessionState). s.opened) from ∙ opened)) (subst (λ (s : SessionState). ReadsCatalog a s page) (sym from) reads) (shown_lends now session.sizes) form refuses catalog)
-
--- as the code comes to it
-pub file_told : {a b : Outside} {old mid new : SessionState} {page read edited name copy : List ℕ} {c : Catalog} (file_no : ℕ) → c ≡ catalog_on page → None ≡ file_refusal mid c name → read ≡ edited → copy ≡ name → new ≡ updated mid read 1
-    → CatalogOf edited (edits.with_entries (catalog_on page) (edits.entry_inserted (edits.new_file name file_no) (catalog_on page).entries))
-    → IsSession old → OnlyFrames a b old mid → old.opened ≡ true → ReadsCatalog a old page → IsTrue (is_name name) → StepsQuietly a b old new (request.File name) (Ok (reply.File copy))
-file_told {a} {b} {old} {mid} {new} {page} {read} {edited} {name} {copy} {c} file_no view none same told done catalog is only opened reads form =
-    subst (λ (n : List ℕ). StepsQuietly a b old new (request.File name) (Ok (reply.File n))) (sym told)
-    (file_quietly old mid new page edited name file_no is only opened reads form (ap (λ (k : Catalog). file_refusal mid k name) (sym view) ∙ sym none) catalog (ap (λ (l : List ℕ). updated mid l 1) (sym same) ∙ sym done))
+    session.units.geometry (work_image before.session session (ap (λ (s : SessionState). s.opened) from ∙ opened)) (subst (λ (s : SessionState). ReadsCatalog a s page) (sym from) reads) (shown_lends now session.sizes) form refuses catalog)
 
 pub unfile_told : {a b : Outside} {old mid new : SessionState} {page read edited name copy : List ℕ} {c : Catalog} → c ≡ catalog_on page → None ≡ unfile_refusal mid c name → read ≡ edited → copy ≡ name → new ≡ updated mid read 2
     → CatalogOf edited (edits.with_entries (catalog_on page) (edits.without_name name (catalog_on page).entries))
@@ -357,16 +445,12 @@ used_told : {a : Outside} {before : View SessionState} (now : ShowsNow meant a b
     → space_of before.session ≡ reply.Space before.machine.pages_used before.machine.geometry.pages before.machine.segs_used before.machine.geometry.segs
 used_told {a} {before} now is =
     let g = session_geometry now.shows in
-    let pages = used_is before.session now.shows.decoded.geometry Page before.machine.pages_used is.units g now.shows.used.pages in
-    let segs = used_is before.session now.shows.decoded.geometry Segment before.machine.segs_used is.units g now.shows.used.segs in
+    let pages = used_is before.session now.shows.decoded.geometry Page before.machine.pages_used is.units.geometry g now.shows.used.pages in
+    let segs = used_is before.session now.shows.decoded.geometry Segment before.machine.segs_used is.units.geometry g now.shows.used.segs in
     let same = now.shows.shared.geometry in
     let of_pages = ap (λ (h : Geometry). h.pages) same in
     let of_segs = ap (λ (h : Geometry). h.segs) same in
     cc (pages, segs, of_pages, of_segs)
-
-names_shown : (es : List FileEntry) → map (λ f. f.name) (map file_named es) ≡ map name_of es
-names_shown [] = refl
-names_shown (e ∷ es) = ap (λ (ns : List (List ℕ)). e.name ∷ ns) (names_shown es)
 
 tells : {a b : Outside} (old new : SessionState) (r : Request) (told : Reply) → IsSession old → OnlyFrames a b old new → ((why : Refusal) → told ≡ reply.No why → ⊥)
     → ((before : View SessionState) → before.session ≡ old → ShowsNow meant a before → Step before.machine r (pick_of (held_view before) r (held_view (with_groups before new))) told before.machine) → StepsQuietly a b old new r (Ok told)
@@ -392,5 +476,5 @@ files_quietly {a} {b} old mid page names is only reads same =
     (λ before from now.
     let session = subst IsSession (sym from) is in
     let on = shown_on now page (subst (λ (s : SessionState). ReadsCatalog a s page) (sym from) reads) (shown_lends now session.sizes) in
-    let told = ap reply.Files (same ∙ ap (λ (c : Catalog). map name_of c.entries) on ∙ sym (names_shown now.shows.working.catalog.entries) ∙ ap (λ (t : Table). map (λ f. f.name) t.files) (sym (shows_catalog now.shows).table)) in
+    let told = ap reply.Files (same ∙ ap (λ (c : Catalog). map name_of c.entries) on ∙ sym (names_shown (HasIndex now.shows.decoded.geometry (working_units now.shows.decoded before.disk before.session.meta.working)) (working_units now.shows.decoded before.disk before.session.meta.working) now.shows.working.catalog.entries now.shows.working.files (shown_parts now.shows).1.0.0) ∙ ap (λ (t : Table). map (λ (f : TableFile). f.name) t.files) (sym (shows_catalog now.shows).table)) in
     took_place before.machine before.machine request.Files _ (reply.Files names) refl told refl (tt, λ none. absurd (cc)))

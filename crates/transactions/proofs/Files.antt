@@ -17,7 +17,7 @@ use Rattle.table_model.specs.Refusals.{when}
 use Rattle.table_model.proofs.Stepping.{neither, unmet}
 use Rattle.std.proofs.lemmas.Bool.{and_parts}
 use Rattle.transactions.specs.Sessions.{SessionState, IsSession}
-use Rattle.transactions.specs.Refused.{file_refusal, unfile_refusal, entry_of}
+use Rattle.transactions.specs.Refused.{file_refusal, unfile_refusal, entry_of, has_pages}
 
 -- ---- names
 
@@ -56,6 +56,10 @@ name_unused s c name none = missing_if name c.entries (unmet (is_some (entry_of 
 
 pub name_used : (s : SessionState) (c : Catalog) (name : List ℕ) → None ≡ unfile_refusal s c name → Contains (map name_of c.entries) name
 name_used s c name none = there_if name c.entries (unmet (is_none (entry_of c name)) refusal.NoFile (neither (when (is_none (entry_of c name)) refusal.NoFile) _ none).0)
+
+pub no_pages_there : (s : SessionState) (c : Catalog) (name : List ℕ) → None ≡ unfile_refusal s c name → has_pages (entry_of c name) ≡ false
+no_pages_there s c name none =
+    unmet (has_pages (entry_of c name)) refusal.NotEmpty (neither (when (has_pages (entry_of c name)) refusal.NotEmpty) _ (neither (when (is_none (entry_of c name)) refusal.NoFile) _ none).1).0
 
 -- ---- the working catalog that was read
 

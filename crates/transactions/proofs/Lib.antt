@@ -1,4 +1,10 @@
-pub mod NoObjects
+pub mod Volumes
+pub mod Bridge
+pub mod Finding
+pub mod OutOfRange
+pub mod Naming
+pub mod Listing
+pub mod Summing
 pub mod Showing
 pub mod Frames
 pub mod Quiet
@@ -13,4 +19,28 @@ pub mod Committing
 pub mod Marks
 pub mod Writing
 pub mod Dispatch
-pub mod Summing
+pub mod Commanding
+mod Settling
+mod KeptOff
+mod Tracking
+mod Filed
+mod Ending
+mod Unfiled
+mod Ported
+mod Updating
+mod Ruling
+mod Roomed
+mod Performing
+mod Moving
+mod Holding
+mod Moved
+pub mod Beside
+pub mod Picking
+pub mod EditRefusals
+pub mod Shaping
+pub mod Vacancy
+pub mod Updated
+pub mod UpdateLines
+pub mod Creating
+pub mod Destroyed
+pub mod Changed

@@ -45,7 +45,8 @@ shows_frames {may_leave} {fewer} {v} s shows inside same frames = subst (λ (t :
   committed = shows.committed;
   working_shown = working_moved shows.decoded v s.frames shows.working v.machine.working shows.working_shown;
   scans = shows.scans;
-  used = (let h = shows.used in record { exact = h.exact; pages = h.pages; segs = h.segs; touched = h.touched });
+  used = (let h = shows.used in record { reached = h.reached; pages = h.pages; segs = h.segs; touched = h.touched });
+  logged = (let h = shows.logged in record { held = h.held; kept = h.kept; taken = h.taken });
   frames = frames;
   durable = λ image left. shows.durable image (inside image left);
   apart = (let h = shows.apart in record { no_tree = h.no_tree; in_order = h.in_order; images = h.images; left = h.left });

@@ -42,6 +42,8 @@ other_frames s groups disk keeps behind is = record {
   log = is.log;
   meta = is.meta;
   units = is.units;
+  pages = is.pages;
+  room = is.room;
   sizes = keeps.sizes s.geometry.page_size is.sizes;
   main = omega (arith, is.main, keeps.len);
   logged = is.logged;
@@ -51,6 +53,7 @@ other_frames s groups disk keeps behind is = record {
   few_pages = is.few_pages;
   in_order = is.in_order;
   work = is.work;
+  idle = is.idle;
 }
 
 pub only_frames : {a b : Outside} (s now : SessionState) (groups : List Frames) → s ≡ now → ReadsOnly a b → GroupsKeep a.disk s.groups groups → OnlyFrames a b now (record s { groups = groups })

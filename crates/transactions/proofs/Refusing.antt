@@ -1,5 +1,5 @@
 -- The refusals that a session tells are those of the machine that it shows.
-use Rattle.std.proofs.Common.{◌≡◌, ◌∙◌, ℕ, zero, suc, ◌+◌, ◌-◌, ◌≤◌, Bool, true, false, cond, List, [], ◌∷◌, length, map, Option, Some, None, is_some, refl, sym, ap, arith, ◌^◌, eqb, eqb-true, eq-eqb}
+use Rattle.std.proofs.Common.{◌≡◌, ◌∙◌, ℕ, zero, suc, ◌+◌, ◌-◌, ◌≤◌, Bool, true, false, cond, List, [], ◌∷◌, length, map, Option, Some, None, is_some, refl, sym, ap, subst, arith, ◌^◌, eqb, eqb-true, eq-eqb}
 use Rattle.std.specs.Prelude.{is_none, find, nat_lt, nat_le, ◌/◌, ◌||◌, bytes_eq}
 use Rattle.std.specs.Option.{option_or}
 use Rattle.ex_base.specs.declared.geometry.Geometry.{Geometry}
@@ -26,7 +26,11 @@ use Rattle.volume_model.specs.Shown.{Shows, used_below, used_in}
 use Rattle.transactions.specs.Sessions.{SessionState}
 use Rattle.transactions.specs.Meant.{held_view}
 use Rattle.transactions.specs.Refused.{free_in, entry_of, has_pages, long_txn, full_pages, file_refusal, unfile_refusal}
-use Rattle.transactions.proofs.NoObjects.{file_named, table_with, AreRootless}
+use Rattle.std.proofs.lemmas.List.{length-map}
+use Rattle.object_files.specs.Catalog.{name_of}
+use Rattle.volume_model.specs.Parts.{HasIndex}
+use Rattle.volume_model.specs.Shown.{working_units}
+use Rattle.transactions.proofs.Volumes.{names_shown, shown_parts}
 use Rattle.transactions.proofs.Showing.{shows_catalog, session_geometry}
 
 -- ---- the units that are free
@@ -50,39 +54,24 @@ free_within g h used area free same is =
 
 -- ---- the file of a name
 
-found : (name : List ℕ) (es : List FileEntry) → is_some (find (tables.has_name name) (map file_named es)) ≡ is_some (find (entries.has_name name) es)
-found name [] = refl
-found name (e ∷ es) = elim (bytes_eq e.name name) as (λ b. is_some (cond b (Some (file_named e)) (find (tables.has_name name) (map file_named es))) ≡ is_some (cond b (Some e) (find (entries.has_name name) es))) [
-  | true ↦ refl
-  | false ↦ found name es
-]
+-- files that have the names of the entries
+abbrev pub SameNames : List TableFile → List FileEntry → Type 0
+SameNames fs es = map (λ (f : TableFile). f.name) fs ≡ map name_of es
 
-missing : (name : List ℕ) (es : List FileEntry) → is_none (find (tables.has_name name) (map file_named es)) ≡ is_none (find (entries.has_name name) es)
-missing name [] = refl
-missing name (e ∷ es) = elim (bytes_eq e.name name) as (λ b. is_none (cond b (Some (file_named e)) (find (tables.has_name name) (map file_named es))) ≡ is_none (cond b (Some e) (find (entries.has_name name) es))) [
-  | true ↦ refl
-  | false ↦ missing name es
-]
+heads : {A : Type 0} {x y : A} {xs ys : List A} → x ∷ xs ≡ y ∷ ys → (x ≡ y) × (xs ≡ ys)
+heads e = (cc (e), cc (e))
 
--- no file has objects
-none_within : (name : List ℕ) (es : List FileEntry) → has_objects (find (tables.has_name name) (map file_named es)) ≡ false
-none_within name [] = refl
-none_within name (e ∷ es) = elim (bytes_eq e.name name) as (λ b. has_objects (cond b (Some (file_named e)) (find (tables.has_name name) (map file_named es))) ≡ false) [
-  | true ↦ refl
-  | false ↦ none_within name es
-]
-
--- nor pages
-no_root : (name : List ℕ) (es : List FileEntry) → AreRootless es → has_pages (find (entries.has_name name) es) ≡ false
-no_root name [] rootless = refl
-no_root name (e ∷ es) rootless = elim (bytes_eq e.name name) as (λ b. has_pages (cond b (Some e) (find (entries.has_name name) es)) ≡ false) [
-  | true ↦ ap (λ r. is_some r) rootless.0
-  | false ↦ no_root name es rootless.1
-]
-
-pub same_length : (es : List FileEntry) → length (map file_named es) ≡ length es
-same_length [] = refl
-same_length (e ∷ es) = ap suc (same_length es)
+found : (name : List ℕ) (fs : List TableFile) (es : List FileEntry) → SameNames fs es → is_some (find (tables.has_name name) fs) ≡ is_some (find (entries.has_name name) es)
+found name [] [] same = refl
+found name [] (e ∷ es) same = absurd (cc (same))
+found name (f ∷ fs) [] same = absurd (cc (same))
+found name (f ∷ fs) (e ∷ es) same =
+    let both = heads same in
+    subst (λ (n : List ℕ). is_some (cond (bytes_eq n name) (Some f) (find (tables.has_name name) fs)) ≡ is_some (cond (bytes_eq e.name name) (Some e) (find (entries.has_name name) es))) (sym both.0)
+    (elim (bytes_eq e.name name) as (λ b. is_some (cond b (Some f) (find (tables.has_name name) fs)) ≡ is_some (cond b (Some e) (find (entries.has_name name) es))) [
+      | true ↦ refl
+      | false ↦ found name fs es both.1
+    ])
 
 pub none_is_false : (o : Option Table) → is_some o ≡ true → is_none o ≡ false
 none_is_false None is = absurd (cc)
@@ -100,7 +89,7 @@ SameOpen v = is_some v.machine.working ≡ v.session.opened
 -- what the view gives of the machine
 pub record SameCounts (v : View SessionState) (c : Catalog) : Type 0 where
   pub is_open : SameOpen v
-  pub table : shown v.machine ≡ table_with c
+  pub names : SameNames (shown v.machine).files c.entries
   pub geometry : v.machine.geometry ≡ v.session.geometry
   pub notes : v.machine.notes ≡ v.session.notes
   pub touched : v.machine.touched ≡ length v.session.meta.working
@@ -116,7 +105,8 @@ same_counts {may_leave} {v} shows same =
     let here : free_in v.session Page ≡ free_count g (used_at v.session.units) Page = ap (λ (g : Geometry). free_count g (used_at v.session.units) Page) units_is in
     record {
       is_open = shows.shared.open_txn;
-      table = (shows_catalog shows).table;
+      names = ap (λ (t : Table). map (λ (f : TableFile). f.name) t.files) (shows_catalog shows).table
+          ∙ names_shown (HasIndex g (working_units shows.decoded v.disk v.session.meta.working)) (working_units shows.decoded v.disk v.session.meta.working) shows.working.catalog.entries shows.working.files (shown_parts shows).1.0.0;
       geometry = shows.shared.geometry;
       notes = shows.shared.notes;
       touched = shows.used.touched;
@@ -145,9 +135,8 @@ told segs a b c d e f g h = cc (a, b, c, d, e, f, g, h)
 pub file_refused : (v : View SessionState) (c : Catalog) (name : List ℕ) (q : Pick) → SameCounts v c → v.session.opened ≡ true → refusal_of v.machine (request.File name) q ≡ file_refusal v.session c name
 file_refused v c name q same opened =
     let some = none_is_false v.machine.working (same.is_open ∙ opened) in
-    let files : (shown v.machine).files ≡ map file_named c.entries = ap (λ (t : Table). t.files) same.table in
-    let finds = ap (λ (fs : List TableFile). is_some (find (tables.has_name name) fs)) files ∙ found name c.entries in
-    let many = ap (λ (fs : List TableFile). length fs) files ∙ same_length c.entries in
+    let finds = found name (shown v.machine).files c.entries same.names in
+    let many = sym (length-map (shown v.machine).files (λ (f : TableFile). f.name)) ∙ ap length same.names ∙ length-map c.entries name_of in
     let size = ap (λ (g : Geometry). g.page_size) same.geometry in
     let change : refusal_of v.machine (request.File name) q
     ≡ file_told false (is_some (entry_of c name)) v.session.geometry.page_size (length c.entries) (length v.session.notes) (length v.session.meta.working) (free_in v.session Page) false (free v.machine Segment) =
@@ -155,6 +144,18 @@ file_refused v c name q same opened =
     change
     ∙ ap (λ (o : Option Refusal). option_or (when (is_some (entry_of c name)) refusal.FileExists) (option_or (when (nat_le ((v.session.geometry.page_size - 32) / 48) (length c.entries)) refusal.FilesFull) (option_or (long_txn v.session 2) o)))
     (one_less (full_pages v.session 2))
+
+pub missing : (name : List ℕ) (fs : List TableFile) (es : List FileEntry) → SameNames fs es → is_none (find (tables.has_name name) fs) ≡ is_none (find (entries.has_name name) es)
+missing name [] [] same = refl
+missing name [] (e ∷ es) same = absurd (cc (same))
+missing name (f ∷ fs) [] same = absurd (cc (same))
+missing name (f ∷ fs) (e ∷ es) same =
+    let both = heads same in
+    subst (λ (n : List ℕ). is_none (cond (bytes_eq n name) (Some f) (find (tables.has_name name) fs)) ≡ is_none (cond (bytes_eq e.name name) (Some e) (find (entries.has_name name) es))) (sym both.0)
+    (elim (bytes_eq e.name name) as (λ b. is_none (cond b (Some f) (find (tables.has_name name) fs)) ≡ is_none (cond b (Some e) (find (entries.has_name name) es))) [
+      | true ↦ refl
+      | false ↦ missing name fs es both.1
+    ])
 
 abbrev unfile_told : Bool → Bool → Bool → ℕ → ℕ → Bool → Bool → ℕ → ℕ → Option Refusal
 unfile_told none absent full updates touched wanting_pages wanting pages segs =
@@ -169,13 +170,11 @@ untold : {none none' absent absent' full full' : Bool} {updates updates' touched
     → unfile_told none absent full updates touched wanting_pages wanting pages segs ≡ unfile_told none' absent' full' updates' touched' wanting_pages' wanting' pages segs
 untold pages segs a b c d e f g = cc (a, b, c, d, e, f, g)
 
-pub unfile_refused : (v : View SessionState) (c : Catalog) (name : List ℕ) (q : Pick) → SameCounts v c → AreRootless c.entries → v.session.opened ≡ true
+pub unfile_refused : (v : View SessionState) (c : Catalog) (name : List ℕ) (q : Pick) → SameCounts v c → has_objects (find (tables.has_name name) (shown v.machine).files) ≡ has_pages (entry_of c name) → v.session.opened ≡ true
     → refusal_of v.machine (request.Unfile name) q ≡ unfile_refusal v.session c name
-unfile_refused v c name q same rootless opened =
+unfile_refused v c name q same empty opened =
     let some = none_is_false v.machine.working (same.is_open ∙ opened) in
-    let files : (shown v.machine).files ≡ map file_named c.entries = ap (λ (t : Table). t.files) same.table in
-    let absent = ap (λ (fs : List TableFile). is_none (find (tables.has_name name) fs)) files ∙ missing name c.entries in
-    let empty = ap (λ (fs : List TableFile). has_objects (find (tables.has_name name) fs)) files ∙ none_within name c.entries ∙ sym (no_root name c.entries rootless) in
+    let absent = missing name (shown v.machine).files c.entries same.names in
     let change : refusal_of v.machine (request.Unfile name) q
     ≡ unfile_told false (is_none (entry_of c name)) (has_pages (entry_of c name)) (length v.session.notes) (length v.session.meta.working) false false (free v.machine Page) (free v.machine Segment) =
     untold (free v.machine Page) (free v.machine Segment) some absent empty (ap length same.notes) same.touched (below_zero (free v.machine Page)) (below_zero (free v.machine Segment)) in

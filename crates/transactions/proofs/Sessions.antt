@@ -16,7 +16,10 @@ use Rattle.object_files.specs.Reads.{catalog_on}
 use Rattle.table_model.specs.Machines.{updates_most, touched_most, no_oid}
 use Rattle.table_model.specs.Steps.{note}
 use Rattle.volume_model.specs.Shown.{WorkingRow}
-use Rattle.transactions.specs.Sessions.{SessionState, IsSession, HasWork, begun}
+use Rattle.transactions.specs.Sessions.{SessionState, IsSession, IsTracked, HasWork, Settled, begun}
+use Rattle.volume_port.specs.Logged.{LoggedSet}
+use Rattle.page_alloc.specs.UnitSet.{UnitSet}
+use Rattle.transactions.proofs.Tracking.{both_bits, tracked_put, tracked_settled, counted_gives}
 use Rattle.commits.specs.Room.{IsLogged, HasCatalog, AreBehindLog}
 use Rattle.buffer_groups.specs.Frames.{Frames}
 use Rattle.ex_base.specs.declared.geometry.Geometry.{Geometry}
@@ -33,11 +36,13 @@ abbrev pub working_on : SessionState → Overlays → List OpNote → Bool → S
 working_on s meta notes opened = record s { meta = meta; notes = notes; opened = opened }
 
 pub works_on : (s : SessionState) (rows : List WorkingRow) (notes : List OpNote) (opened : Bool) (meta : Overlays) → IsSession s → meta ≡ record s.meta { working = rows } → length rows ≤ touched_most → length notes ≤ updates_most → AllByRecursion IsNote notes → IsRising rows
-    → (opened ≡ true → HasWork (record s.meta { working = rows })) → IsSession (working_on s meta notes opened)
-works_on s rows notes opened meta is same few_rows few each rising work = subst (λ (m : Overlays). IsSession (working_on s m notes opened)) (sym same) (record {
+    → (opened ≡ true → HasWork (record s.meta { working = rows })) → IsTracked s.geometry rows s.pages s.kept → (opened ≡ false → rows ≡ []) → IsSession (working_on s meta notes opened)
+works_on s rows notes opened meta is same few_rows few each rising work tracked idle = subst (λ (m : Overlays). IsSession (working_on s m notes opened)) (sym same) (record {
   log = is.log;
   meta = is.meta;
   units = is.units;
+  pages = tracked;
+  room = is.room;
   sizes = is.sizes;
   main = is.main;
   logged = record { images = is.logged.images; none = is.logged.none };
@@ -47,6 +52,7 @@ works_on s rows notes opened meta is same few_rows few each rising work = subst 
   few_pages = few_rows;
   in_order = rising;
   work = work;
+  idle = idle;
 })
 
 -- a page as the working catalog
@@ -64,13 +70,14 @@ pub record MayUpdate (s : SessionState) (page : List ℕ) (kind : ℕ) : Type 0 
   pub touched : length s.meta.working < touched_most
   pub some_kind : 1 ≤ kind
   pub few_kinds : kind ≤ 10
+  pub opened : s.opened ≡ true
 
 pub edited : (s now : SessionState) (page : List ℕ) (kind : ℕ) (meta : Overlays) (notes : List OpNote) → s ≡ now → IsSession s → MayUpdate now page kind → meta ≡ record s.meta { working = with_row catalog_no (Some page) s.meta.working }
     → notes ≡ s.notes → IsSession (working_on s meta notes s.opened)
 edited s now page kind meta notes is session may same noted =
     let here = subst (λ (t : SessionState). MayUpdate t page kind) (sym is) may in
     works_on s (with_row catalog_no (Some page) s.meta.working) notes s.opened meta session same (omega (arith, length_put catalog_no (Some page) s.meta.working, here.touched))
-    (subst (λ (l : List OpNote). length l ≤ updates_most) (sym noted) session.few_notes) (subst (λ (l : List OpNote). AllByRecursion IsNote l) (sym noted) session.notes) (rising_with catalog_no (Some page) s.meta.working session.in_order) (λ _. has_work s.meta page here.catalog here.number)
+    (subst (λ (l : List OpNote). length l ≤ updates_most) (sym noted) session.few_notes) (subst (λ (l : List OpNote). AllByRecursion IsNote l) (sym noted) session.notes) (rising_with catalog_no (Some page) s.meta.working session.in_order) (λ _. has_work s.meta page here.catalog here.number) (tracked_put s.geometry s.meta.working s.pages s.kept session.pages page) (λ closed. absurd (both_bits here.opened closed))
 
 pub noted : (s now : SessionState) (page : List ℕ) (kind : ℕ) (meta : Overlays) (notes : List OpNote) → s ≡ now → IsSession s → MayUpdate now page kind → meta ≡ record s.meta { working = with_row catalog_no (Some page) s.meta.working }
     → notes ≡ s.notes ++ note kind no_oid 0 0 ∷ [] → IsSession (working_on s meta notes s.opened)
@@ -78,20 +85,18 @@ noted s now page kind meta notes is session may same pushed =
     let here = subst (λ (t : SessionState). MayUpdate t page kind) (sym is) may in
     works_on s (with_row catalog_no (Some page) s.meta.working) notes s.opened meta session same (omega (arith, length_put catalog_no (Some page) s.meta.working, here.touched))
     (subst (λ (l : List OpNote). length l ≤ updates_most) (sym pushed) (omega (arith, length-append s.notes (note kind no_oid 0 0 ∷ []), here.updates)))
-    (subst (λ (l : List OpNote). AllByRecursion IsNote l) (sym pushed) (each-push IsNote s.notes (note kind no_oid 0 0) session.notes (is_note kind here.some_kind here.few_kinds))) (rising_with catalog_no (Some page) s.meta.working session.in_order) (λ _. has_work s.meta page here.catalog here.number)
+    (subst (λ (l : List OpNote). AllByRecursion IsNote l) (sym pushed) (each-push IsNote s.notes (note kind no_oid 0 0) session.notes (is_note kind here.some_kind here.few_kinds))) (rising_with catalog_no (Some page) s.meta.working session.in_order) (λ _. has_work s.meta page here.catalog here.number) (tracked_put s.geometry s.meta.working s.pages s.kept session.pages page) (λ closed. absurd (both_bits here.opened closed))
 
 -- a transaction that could not be opened, and one that was
 pub not_begun : (s : SessionState) (meta : Overlays) → IsSession s → s.opened ≡ false → meta ≡ record s.meta { working = [] } → IsSession (working_on s meta s.notes s.opened)
-not_begun s meta is closed same = works_on s [] s.notes s.opened meta is same (omega arith) is.few_notes is.notes tt (λ opened. absurd (both opened closed))
-  where
-    both : {b : Bool} → b ≡ true → b ≡ false → ⊥
-    both one other = cc
+not_begun s meta is closed same = works_on s [] s.notes s.opened meta is same (omega arith) is.few_notes is.notes tt (λ opened. absurd (both_bits opened closed)) (subst (λ (rows : List WorkingRow). IsTracked s.geometry rows s.pages s.kept) (is.idle closed) is.pages) (λ _. refl)
 
-pub is_begun : (s : SessionState) (meta : Overlays) (notes : List OpNote) (page : List ℕ) → IsSession s → meta ≡ record s.meta { working = (catalog_no, Some page) ∷ [] } → notes ≡ [] → IsCatalogPage page → (catalog_on page).last < 2 ^ 64 - 1
+pub is_begun : (s : SessionState) (meta : Overlays) (notes : List OpNote) (page : List ℕ) → IsSession s → s.opened ≡ false → meta ≡ record s.meta { working = (catalog_no, Some page) ∷ [] } → notes ≡ [] → IsCatalogPage page → (catalog_on page).last < 2 ^ 64 - 1
     → IsSession (working_on s meta notes true)
-is_begun s meta notes page is same none catalog room =
+is_begun s meta notes page is closed same none catalog room =
     works_on s ((catalog_no, Some page) ∷ []) notes true meta is same (omega arith) (subst (λ (l : List OpNote). length l ≤ updates_most) (sym none) (omega arith)) (subst (λ (l : List OpNote). AllByRecursion IsNote l) (sym none) tt) (tt, tt)
     (λ _. record { image = page; there = refl; is_catalog = catalog; room = room })
+    (tracked_put s.geometry [] s.pages s.kept (subst (λ (rows : List WorkingRow). IsTracked s.geometry rows s.pages s.kept) (is.idle closed) is.pages) page) (λ shut. absurd (cc))
 
 -- what a session is seen as
 pub seen : {s now : SessionState} → s ≡ now → IsSession s → IsSession now
@@ -124,7 +129,7 @@ viewed v b page one two = one ∙ ap (λ (l : List ℕ). catalog_on l) two
 abbrev first_of : WorkingRow → ℕ
 first_of row = row.0
 
-firsts_rise : (rows : List WorkingRow) → IsRising rows → Rising (map first_of rows)
+pub firsts_rise : (rows : List WorkingRow) → IsRising rows → Rising (map first_of rows)
 firsts_rise [] rising = tt
 firsts_rise (row ∷ []) rising = tt
 firsts_rise (row ∷ next ∷ rows) rising = (rising.0.0, firsts_rise (next ∷ rows) rising.1)
@@ -147,8 +152,8 @@ ready s meta page is opened same = subst (λ (m : Overlays). ReadyToCommit s m) 
   catalog = (page, lookup_put catalog_no (Some page) s.meta.working);
 })
 
--- what a commit leaves of the log, the overlay and the frames
-pub record LeftByCommit (s : SessionState) (edited : Overlays) (log : LogState) (meta : Overlays) (groups later : List Frames) : Type 0 where
+-- what a commit leaves of the log, the overlay, the frames and the logged pages
+pub record LeftByCommit (s : SessionState) (edited : Overlays) (log : LogState) (meta : Overlays) (groups later : List Frames) (kept : List Bool) (pages : LoggedSet) (units : UnitSet) : Type 0 where
   pub edit : edited.geometry ≡ s.meta.geometry
   pub log_is : log.geometry ≡ s.log.geometry
   pub meta_is : meta.geometry ≡ edited.geometry
@@ -156,32 +161,31 @@ pub record LeftByCommit (s : SessionState) (edited : Overlays) (log : LogState) 
   pub len : length later ≡ length groups
   pub logged : IsLogged log meta
   pub behind : AreBehindLog groups → AreBehindLog later
-  pub few : length meta.working ≤ touched_most
-  pub rising : IsRising meta.working
+  pub none : meta.working ≡ []
+  pub settled : Settled edited.working s.kept kept s.pages pages s.units units
 
-pub after_commit : (s : SessionState) (edited : Overlays) (log : LogState) (meta : Overlays) (later : List Frames) (notes : List OpNote) (names : List BoundName) → IsSession s → LeftByCommit s edited log meta s.groups later
-    → length notes ≤ updates_most → AllByRecursion IsNote notes → IsSession (record s { log = log; meta = meta; groups = later; notes = notes; names = names; opened = false })
-after_commit s edited log meta later notes names is left few each = record {
-  log = left.log_is ∙ is.log;
-  meta = left.meta_is ∙ left.edit ∙ is.meta;
-  units = is.units;
-  sizes = subst (λ (g : Geometry). All (λ (f : Frames). f.page_size ≡ g.page_size) later) (left.edit ∙ is.meta) left.sizes;
-  main = omega (arith, is.main, left.len);
-  logged = left.logged;
-  behind = left.behind is.behind;
-  few_notes = few;
-  notes = each;
-  few_pages = left.few;
-  in_order = left.rising;
-  work = λ opened. absurd (cc);
-}
-
--- the working pages stay after a fault, and are gone after a commit
-pub rows_stay : (s : SessionState) (edited meta : Overlays) (page : List ℕ) → IsSession s → ReadyToCommit s edited → edited ≡ record s.meta { working = with_row catalog_no (Some page) s.meta.working } → meta.working ≡ edited.working → (length meta.working ≤ touched_most) × IsRising meta.working
-rows_stay s edited meta page is ready same stays = (
-  subst (λ (rows : List WorkingRow). length rows ≤ touched_most) (sym stays) ready.few_pages,
-  subst IsRising (sym stays) (subst (λ (m : Overlays). IsRising m.working) (sym same) (rising_with catalog_no (Some page) s.meta.working is.in_order)),
-)
-
-pub rows_gone : (meta : Overlays) → meta.working ≡ [] → (length meta.working ≤ touched_most) × IsRising meta.working
-rows_gone meta none = (subst (λ (rows : List WorkingRow). length rows ≤ touched_most) (sym none) (omega arith), subst IsRising (sym none) tt)
+pub after_commit : (s : SessionState) (edited : Overlays) (page : List ℕ) (log : LogState) (meta : Overlays) (later : List Frames) (kept : List Bool) (pages : LoggedSet) (units : UnitSet) (notes : List OpNote) (names : List BoundName) → IsSession s
+    → edited ≡ record s.meta { working = with_row catalog_no (Some page) s.meta.working } → LeftByCommit s edited log meta s.groups later kept pages units
+    → length notes ≤ updates_most → AllByRecursion IsNote notes
+    → IsSession (record s { log = log; meta = meta; pages = pages; kept = kept; units = units; groups = later; notes = notes; names = names; opened = false })
+after_commit s edited page log meta later kept pages units notes names is same left few each =
+    let rows = with_row catalog_no (Some page) s.meta.working in
+    let settled = subst (λ (o : Overlays). Settled o.working s.kept kept s.pages pages s.units units) same left.settled in
+    let tracked = tracked_settled s.geometry rows s.pages s.kept (tracked_put s.geometry s.meta.working s.pages s.kept is.pages page) kept pages s.units units settled in
+    record {
+      log = left.log_is ∙ is.log;
+      meta = left.meta_is ∙ left.edit ∙ is.meta;
+      units = counted_gives s.geometry _ s.units units is.units settled.units;
+      pages = subst (λ (none : List WorkingRow). IsTracked s.geometry none pages kept) (sym left.none) tracked;
+      room = is.room;
+      sizes = subst (λ (g : Geometry). All (λ (f : Frames). f.page_size ≡ g.page_size) later) (left.edit ∙ is.meta) left.sizes;
+      main = omega (arith, is.main, left.len);
+      logged = left.logged;
+      behind = left.behind is.behind;
+      few_notes = few;
+      notes = each;
+      few_pages = subst (λ (none : List WorkingRow). length none ≤ touched_most) (sym left.none) (omega arith);
+      in_order = subst IsRising (sym left.none) tt;
+      work = λ opened. absurd (cc);
+      idle = λ _. left.none;
+    }

@@ -1,27 +1,21 @@
 -- The working pages and the working catalog after an edit.
-use Rattle.std.proofs.Common.{◌≡◌, ◌∙◌, ℕ, ◌+◌, ◌<◌, ◌≤◌, true, false, cond, not, List, [], ◌∷◌, length, map, filter, Option, Some, None, nat_eq, nat_lt, refl, sym, ap, subst, inl, inr, arith, ltb-true, eqb-true, eq-eqb}
-use Rattle.std.specs.Prelude.{Contains, bytes_eq}
+use Rattle.std.proofs.Common.{◌≡◌, ◌≢◌, ◌∙◌, ⊎_elim, ltb, ℕ, ◌+◌, ◌<◌, ◌≤◌, true, false, cond, List, [], ◌∷◌, length, map, Option, Some, None, nat_eq, nat_lt, refl, sym, ap, subst, inl, inr, arith, ltb-true, eqb-true, eq-eqb}
+use Rattle.std.specs.Prelude.{Contains}
 use Rattle.std.specs.List.{AllByRecursion}
 use Rattle.std.specs.Map.{lookup}
-use Rattle.std.specs.Cmp.Lexicographic.{slice_cmp}
-use Rattle.std.specs.Ordering.{nat_cmp, is_lt}
 use Rattle.ex_base.specs.Area.{catalog_no}
 use Rattle.ex_base.specs.Order.{Rising}
 use Rattle.meta_pages.specs.Rows.{with_row}
 use Rattle.meta_pages.proofs.RowLists.{not_equal_above}
 use Rattle.op_log.specs.AfterLog.{after_log}
-use Rattle.object_files.specs.Catalog.{Catalog, FileEntry, CatalogOf}
-use Rattle.object_files.specs.Edits as edits
-use Rattle.table_model.specs.declared.table.TableFile.{TableFile}
-use Rattle.table_model.specs.declared.table.Table.{Table}
-use Rattle.table_model.specs.Tables as tables
 use Rattle.session_views.specs.View.{View}
-use Rattle.volume_model.specs.Parts.{IsLastOf}
-use Rattle.volume_model.specs.Shown.{Held, WorkingRow, WorkingShown, IsWorkingPage, laid_over, laid_over_page, working_units}
-use Rattle.volume_model.specs.Volume.{Volume, Decoded, file_pages}
-use Rattle.ex_base.specs.Area.{page_at, leaf_at}
-use Rattle.transactions.proofs.NoObjects.{plain, file_named, table_with, AreRootless, plain_parts, plain_table}
-use Rattle.transactions.proofs.Showing.{page_unit, nothing_in}
+use Rattle.volume_model.specs.Shown.{Held, WorkingRow, IsWorkingPage, laid_over, laid_over_page, working_units}
+use Rattle.volume_model.specs.Volume.{Volume, Decoded, file_pages, units_of}
+use Rattle.ex_base.specs.Area.{area_end, page_at, leaf_at}
+use Rattle.transactions.proofs.KeptOff.{SameOff}
+use Rattle.volume_port.proofs.WorkingRows.{put_other}
+use Rattle.std.proofs.lemmas.Bool.{cases_eq}
+use Rattle.transactions.proofs.Showing.{page_unit}
 
 -- ---- rows
 
@@ -76,11 +70,11 @@ each_put P page v (row ∷ rows) here each = elim (nat_lt row.0 page) as (λ b. 
   | false ↦ elim (nat_eq page row.0) as (λ b. AllByRecursion P (cond b ((page, v) ∷ rows) ((page, v) ∷ row ∷ rows))) [ true ↦ (here, each.1) | false ↦ (here, each) ]
 ]
 
--- the images stay those of the catalog, where no file has pages
-pub images_of_catalog : (working : Volume) (c : Catalog) (rows : List WorkingRow) → file_pages working ≡ [] → AllByRecursion (IsWorkingPage working) rows → AllByRecursion (IsWorkingPage (plain c)) rows
-images_of_catalog working c [] none images = tt
-images_of_catalog working c (row ∷ rows) none images =
-    (λ some. elim (images.0 some) [ inl is ↦ inl is | inr has ↦ absurd (nothing_in row.0 (subst (λ (pages : List ℕ). Contains pages row.0) none has)) ], images_of_catalog working c rows none images.1)
+-- the images stay those of the files, where these have the pages that they had
+pub images_of_files : (working new : Volume) (rows : List WorkingRow) → file_pages new ≡ file_pages working → AllByRecursion (IsWorkingPage working) rows → AllByRecursion (IsWorkingPage new) rows
+images_of_files working new [] same images = tt
+images_of_files working new (row ∷ rows) same images =
+    (λ some. elim (images.0 some) [ inl is ↦ inl is | inr has ↦ inr (subst (λ (pages : List ℕ). Contains pages row.0) (sym same) has) ], images_of_files working new rows same images.1)
 
 -- ---- the working volume
 
@@ -90,43 +84,17 @@ working_image d v image there =
     page_unit d.geometry (laid_over d.geometry v.disk pages v.session.working_pages) (leaf_at d.geometry v.disk catalog_no)
     ∙ ap (λ (row : Option (Option (List ℕ))). laid_over_page (pages catalog_no) (page_at d.geometry v.disk catalog_no) row) there
 
-pub open_shown : (d : Decoded) (v : View Held) (c : Catalog) (image : List ℕ) (table : Table) → lookup (nat_eq catalog_no) v.session.working_pages ≡ Some (Some image) → CatalogOf image c → AreRootless c.entries → IsLastOf d.records c.last
-    → table ≡ table_with c → WorkingShown d v (plain c) (Some table)
-open_shown d v c image table there catalog rootless last same =
-    let units = working_units d v.disk v.session.working_pages in
-    record {
-      parts = plain_parts d.geometry d.records units c rootless (subst (λ (bytes : List ℕ). CatalogOf bytes c) (sym (working_image d v image there)) catalog) last;
-      same = same ∙ sym (plain_table units c);
-    }
+-- other working pages with another catalog: each other unit is as it was
+pub same_off : (d : Decoded) (disk image : List ℕ) (rows : List WorkingRow) → SameOff (working_units d disk rows) (working_units d disk (with_row catalog_no (Some image) rows))
+same_off d disk image rows = λ u differ.
+    ap (λ (row : Option (Option (List ℕ))). cond (ltb u (area_end d.geometry)) (laid_over_page (after_log d.geometry d.records disk u) (page_at d.geometry disk u) row) (leaf_at d.geometry disk u))
+    (put_other catalog_no (Some image) rows u (λ e. differ (sym e)))
 
--- ---- the catalog with a file more, or less
-
-pub files_inserted : (name : List ℕ) (file_no : ℕ) (es : List FileEntry) → map file_named (edits.entry_inserted (edits.new_file name file_no) es) ≡ tables.file_inserted (record { name = name; objects = [] }) (map file_named es)
-files_inserted name file_no [] = refl
-files_inserted name file_no (e ∷ es) = elim (is_lt (slice_cmp nat_cmp name e.name)) as (λ b. map file_named (cond b (edits.new_file name file_no ∷ e ∷ es) (e ∷ edits.entry_inserted (edits.new_file name file_no) es))
-    ≡ cond b (record { name = name; objects = [] } ∷ file_named e ∷ map file_named es) (file_named e ∷ tables.file_inserted (record { name = name; objects = [] }) (map file_named es))) [
-      | true ↦ refl
-      | false ↦ ap (λ (fs : List TableFile). file_named e ∷ fs) (files_inserted name file_no es)
-    ]
-
-pub files_without : (name : List ℕ) (es : List FileEntry) → map file_named (edits.without_name name es) ≡ filter (λ f. not (tables.has_name name f)) (map file_named es)
-files_without name [] = refl
-files_without name (e ∷ es) = elim (bytes_eq e.name name) as (λ b. map file_named (cond (not b) (e ∷ edits.without_name name es) (edits.without_name name es))
-    ≡ cond (not b) (file_named e ∷ filter (λ f. not (tables.has_name name f)) (map file_named es)) (filter (λ f. not (tables.has_name name f)) (map file_named es))) [
-      | true ↦ files_without name es
-      | false ↦ ap (λ (fs : List TableFile). file_named e ∷ fs) (files_without name es)
-    ]
-
-pub rootless_inserted : (name : List ℕ) (file_no : ℕ) (es : List FileEntry) → AreRootless es → AreRootless (edits.entry_inserted (edits.new_file name file_no) es)
-rootless_inserted name file_no [] rootless = (refl, tt)
-rootless_inserted name file_no (e ∷ es) rootless = elim (is_lt (slice_cmp nat_cmp name e.name)) as (λ b. AreRootless (cond b (edits.new_file name file_no ∷ e ∷ es) (e ∷ edits.entry_inserted (edits.new_file name file_no) es))) [
-  | true ↦ (refl, rootless)
-  | false ↦ (rootless.0, rootless_inserted name file_no es rootless.1)
-]
-
-pub rootless_without : (name : List ℕ) (es : List FileEntry) → AreRootless es → AreRootless (edits.without_name name es)
-rootless_without name [] rootless = tt
-rootless_without name (e ∷ es) rootless = elim (bytes_eq e.name name) as (λ b. AreRootless (cond (not b) (e ∷ edits.without_name name es) (edits.without_name name es))) [
-  | true ↦ rootless_without name es rootless.1
-  | false ↦ (rootless.0, rootless_without name es rootless.1)
-]
+-- the catalog's own image over pages that are not touched changes no unit
+pub begun_units : (d : Decoded) (disk image : List ℕ) → image ≡ units_of d disk catalog_no → (u : ℕ) → working_units d disk ((catalog_no, Some image) ∷ []) u ≡ units_of d disk u
+begun_units d disk image is u = ⊎_elim
+    (λ (same : u ≡ catalog_no). subst (λ (p : ℕ). working_units d disk ((catalog_no, Some image) ∷ []) p ≡ units_of d disk p) (sym same) (here ∙ is))
+    (λ (differ : u ≢ catalog_no). same_off d disk image [] u differ) (cases_eq u catalog_no)
+  where
+    here : working_units d disk ((catalog_no, Some image) ∷ []) catalog_no ≡ image
+    here = page_unit d.geometry (laid_over d.geometry disk (after_log d.geometry d.records disk) ((catalog_no, Some image) ∷ [])) (leaf_at d.geometry disk catalog_no)

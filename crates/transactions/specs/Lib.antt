@@ -3,5 +3,9 @@ pub mod Sessions
 pub mod Catalogs
 pub mod Refused
 pub mod Steps
+pub mod Lines
+pub mod Commands
+pub mod Updates
+pub mod Editing
 pub mod Commits
 pub mod Summaries

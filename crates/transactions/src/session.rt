@@ -1,8 +1,17 @@
 //! A session, and its step on a command.
 mod begin;
 mod catalog;
+mod changes;
 mod commit;
+mod creation;
+mod edits;
+mod moving;
+mod needs;
+mod objects;
 mod refuse;
+mod removal;
+mod settle;
+mod shapes;
 mod summary;
 mod tell;
 mod updates;
@@ -14,10 +23,11 @@ use meta_pages::Meta;
 use op_log::OpLog;
 use page_alloc::Units;
 use session_views::{Engine, Stop};
-use std::alloc::Global;
+use std::alloc::{AllocError, Global};
 use std::marker::Model;
 pub use summary::Summary;
 use table_model::{BoundName, Command, Reply};
+use volume_port::LoggedPages;
 
 /// The page of the catalog.
 const CATALOG: PageNo = PageNo(257);
@@ -25,12 +35,14 @@ const CATALOG: PageNo = PageNo(257);
 /// The index of `main` among the groups. Logged pages are read through it.
 const MAIN: u32 = 0;
 
-/// What a session is made of: its volume's sizes, and the log, the logged pages, the units and the groups of frames as an opening found them.
+/// What a session is made of: its volume's sizes, and the log, the logged pages with their images, the units and the groups of frames as an opening
+/// found them.
 #[derive(Drop)]
 pub struct Parts {
     pub geometry: Geometry,
     pub log: OpLog,
     pub meta: Meta,
+    pub pages: LoggedPages,
     pub units: Units,
     pub groups: Groups,
 }
@@ -41,8 +53,14 @@ pub struct Session {
     geometry: Geometry,
     log: OpLog,
     meta: Meta,
+    // the logged pages of the working state
+    pages: LoggedPages,
+    // whether the committed state has a logged page, by its number
+    kept: Vec<bool>,
     units: Units,
     groups: Groups,
+    // one page, which the port lends
+    room: Vec<u8>,
     // of the open transaction's updates
     notes: Vec<OpNote>,
     names: Vec<BoundName>,
@@ -57,18 +75,22 @@ impl Model for Session {
 
     ghost Value = { SessionState };
 
-    ghost view = { λ s. record { geometry = s.geometry; log = s.log; meta = s.meta; units = s.units; groups = s.groups; notes = s.notes.items; names = s.names.items; opened = s.opened; down = s.down } };
+    ghost view = { λ s. record { geometry = s.geometry; log = s.log; meta = s.meta; pages = s.pages; kept = s.kept.items; units = s.units; groups = s.groups; room = s.room.items; notes = s.notes.items; names = s.names.items; opened = s.opened; down = s.down } };
 
-    ghost invariant = { λ s. IsSession (record { geometry = s.geometry; log = s.log; meta = s.meta; units = s.units; groups = s.groups; notes = s.notes.items; names = s.names.items; opened = s.opened; down = s.down }) };
+    ghost invariant = { λ s. IsSession (record { geometry = s.geometry; log = s.log; meta = s.meta; pages = s.pages; kept = s.kept.items; units = s.units; groups = s.groups; room = s.room.items; notes = s.notes.items; names = s.names.items; opened = s.opened; down = s.down }) };
 }
 
 impl Session {
-    ghost use Rattle.std.specs.Prelude.{◌≡◌, ◌<◌, [], length, All, Ok, OnOk, IsTrue, true};
+    ghost use Rattle.std.specs.Prelude.{◌≡◌, ◌<◌, ◌≤◌, ℕ, [], length, All, Ok, OnOk, IfOk, IsTrue, true, false};
+    ghost use Rattle.ex_base.specs.Area.{area_end, catalog_no};
+    ghost use Rattle.ex_base.specs.Sizes.{volume_bytes};
+    ghost use Rattle.tree_store.specs.Stored.{IsCounted};
+    ghost use Rattle.volume_port.specs.Logged.{is_held, is_taken};
     ghost use Rattle.buffer_groups.specs.Frames.{Frames};
     ghost use Rattle.table_model.specs.Built.{is_built};
     ghost use Rattle.table_model.specs.Requests.{request_of, is_request};
     ghost use Rattle.table_model.specs.Requests as request;
-    ghost use Rattle.transactions.specs.Steps.{Steps};
+    ghost use Rattle.transactions.specs.Commands.{Answers, asks_objects};
     ghost use Rattle.commits.specs.Room.{IsLogged, AreBehindLog};
     ghost use Rattle.session_views.specs.View.{View, ShowsNow};
     ghost use Rattle.transactions.specs.Commits.{HasNotes};
@@ -76,36 +98,46 @@ impl Session {
     ghost use Rattle.transactions.specs.Sessions.{SessionState, fresh_session};
 
     /// A session over these parts, with no transaction, no scan and no bound name. The parts are of one geometry, `main` is among the groups, no page
-    /// is touched, each committed image has its place in the log, and no frame is of a page of the log.
-    pub fn make(alloc: Global, parts: Parts) -> Session
+    /// is touched or taken, the catalog is among the logged pages, each committed image has its place in the log, and no frame is of a page of the log.
+    pub fn make(alloc: Global, parts: Parts) -> Result<Session, AllocError>
         requires log { parts.log.geometry ≡ parts.geometry }
         requires meta { parts.meta.geometry ≡ parts.geometry }
-        requires units { parts.units.geometry ≡ parts.geometry }
+        requires units { IsCounted parts.geometry parts.units }
+        requires held { length parts.pages.held ≡ area_end parts.geometry }
+        requires taken { length parts.pages.taken ≡ area_end parts.geometry }
+        requires catalog { is_held parts.pages catalog_no ≡ true }
+        requires none_taken { (page : ℕ) → is_taken parts.pages page ≡ false }
         requires groups { All (λ (f : Frames). f.page_size ≡ parts.geometry.page_size) parts.groups }
         requires main { 0 < length parts.groups }
         requires untouched { parts.meta.working ≡ [] }
         requires logged { IsLogged parts.log parts.meta }
         requires behind { AreBehindLog parts.groups }
-        ensures { result ≡ fresh_session parts.geometry parts.log parts.meta parts.units parts.groups }
+        ensures { IfOk result (λ s. s ≡ fresh_session parts.geometry parts.log parts.meta parts.pages parts.units parts.groups) }
     {
         let Parts {
             geometry,
             log,
             meta,
+            pages,
             units,
             groups,
         } = parts;
-        Session {
+        let kept = pages.held().to_vec(alloc)?;
+        let room = vec![in alloc; 0u8; geometry.page_size as usize]?;
+        Ok(Session {
             geometry,
             log,
             meta,
+            pages,
+            kept,
             units,
             groups,
+            room,
             notes: Vec::new(alloc),
             names: Vec::new(alloc),
             opened: false,
             down: false,
-        }
+        })
     }
 
     // Steps on a command, in a session that met no fault.
@@ -117,7 +149,7 @@ impl Session {
     ) -> Result<Reply, Stop>
         requires form { IsTrue (is_request (request_of command.now)) }
         requires built { IsTrue (is_built (request_of command.now)) }
-        ensures steps { Steps (H.outside host.old) (H.outside host.new) self.old self.new (request_of command.now) result }
+        ensures answers { Answers (H.outside host.old) (H.outside host.new) self.old self.new (request_of command.now) result }
         ensures none_counts { request_of command.now ≡ request.Checkpoint → result ≡ Ok Reply.Checkpoint → self.new.log.count ≡ 0 }
         ensures noted { request_of command.now ≡ request.Commit → (before : View SessionState) → before.session ≡ self.old → ShowsNow meant (H.outside host.old) before → self.old.opened ≡ true
             → OnOk result (HasNotes (H.outside host.new) self.old.geometry self.old.notes) }
@@ -136,6 +168,34 @@ impl Session {
             Command::Space => Ok(self.space()),
             Command::File { name } => self.file(alloc, host, name),
             Command::Unfile { name } => self.unfile(alloc, host, name),
+            _ => self.answer_objects(alloc, host, command),
+        }
+    }
+
+    // Steps on a command that asks of objects.
+    fn answer_objects<H: Host>(
+        &mut self,
+        alloc: Global,
+        host: &mut H,
+        command: &Command<'_>,
+    ) -> Result<Reply, Stop>
+        requires room { volume_bytes self.old.geometry ≤ (H.outside host.old).size }
+        requires form { IsTrue (is_request (request_of command.now)) }
+        requires built { IsTrue (is_built (request_of command.now)) }
+        requires objects { asks_objects (request_of command.now) ≡ true }
+        ensures { Answers (H.outside host.old) (H.outside host.new) self.old self.new (request_of command.now) result }
+    {
+        match command {
+            Command::List { name } => self.list(alloc, host, name),
+            Command::Create { file, bind } => self.create(alloc, host, file, bind),
+            Command::Destroy { x } => self.destroy(alloc, host, x),
+            Command::Size { x } => self.size(alloc, host, x),
+            Command::Stat { x } => self.stat(alloc, host, x),
+            Command::Read { x, pos, len } => self.read(alloc, host, x, *pos, *len),
+            Command::Insert { x, pos, given } => self.insert(alloc, host, x, *pos, given),
+            Command::Append { x, given } => self.append(alloc, host, x, given),
+            Command::Replace { x, pos, given } => self.replace(alloc, host, x, *pos, given),
+            Command::Delete { x, pos, len } => self.delete(alloc, host, x, *pos, *len),
             _ => unreachable!(),
         }
     }
@@ -154,6 +214,7 @@ impl Engine for Session {
     ghost use Rattle.transactions.specs.Sessions.{SessionState};
     ghost use Rattle.transactions.specs.Catalogs.{IsDamaged, catalog_bytes};
     ghost use Rattle.transactions.specs.Commits.{HasNotes};
+    ghost use Rattle.transactions.specs.Commands.{IsOfCatalog, ReadsAlone};
     ghost use Rattle.transactions.specs.Steps.{IsRefused, OnlyFrames, IsQuiet};
     ghost use Rattle.transactions.specs.Meant.{meant};
 
@@ -183,9 +244,11 @@ impl Engine for Session {
         ensures any_moment { (before : View SessionState) → before.session ≡ self.old → ShowsNow meant (H.outside host.old) before
             → Leaves (H.outside host.old) (H.outside host.new) (StandsDuring meant before.machine (request_of command.now)) }
 
-        // A refusal writes nothing and leaves the session but for its frames. But for a commit and a checkpoint nothing is written, and the log stays.
+        // A refusal writes nothing and leaves the session but for its frames. But for a commit and a checkpoint the log stays, and nothing is written but
+        // by what makes, changes or removes objects.
         ensures refused { IfOk result (λ told. IsRefused told → OnlyFrames (H.outside host.old) (H.outside host.new) self.old self.new) }
-        ensures quiet { IsQuiet (request_of command.now) → ReadsOnly (H.outside host.old) (H.outside host.new) × (self.new.log ≡ self.old.log) }
+        ensures quiet { IsQuiet (request_of command.now) → self.new.log ≡ self.old.log }
+        ensures reads { ReadsAlone (request_of command.now) → ReadsOnly (H.outside host.old) (H.outside host.new) }
 
         // After an accepted checkpoint no record counts.
         ensures none_counts { request_of command.now ≡ request.Checkpoint → result ≡ Ok Reply.Checkpoint → self.new.log.count ≡ 0 }
@@ -194,8 +257,8 @@ impl Engine for Session {
         ensures noted { request_of command.now ≡ request.Commit → (before : View SessionState) → before.session ≡ self.old → ShowsNow meant (H.outside host.old) before → self.old.opened ≡ true
             → OnOk result (HasNotes (H.outside host.new) self.old.geometry self.old.notes) }
 
-        // Only a catalog that is outside of its grammar is damaged.
-        ensures catalog { (page : PageNo) (want got : Seen) → result ≡ Err (Stop.Damaged page want got)
+        // To a command that asks of no objects, only a catalog that is outside of its grammar is damaged.
+        ensures catalog { IsOfCatalog (request_of command.now) → (page : PageNo) (want got : Seen) → result ≡ Err (Stop.Damaged page want got)
             → IsDamaged (H.outside host.old) self.old.groups (catalog_bytes self.old) page want got }
 
         // After a fault every step answers that the session is down, and calls nothing; before one none does.

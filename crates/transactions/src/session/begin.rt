@@ -5,6 +5,7 @@ ghost use Rattle.table_model.specs.Machines.{kept};
 
 use super::Session;
 use super::catalog::view_of;
+use super::settle::take_back;
 use disk_model::Host;
 use session_views::Stop;
 use std::alloc::Global;
@@ -19,7 +20,7 @@ fn unbind_marked(names: &mut Vec<BoundName>)
 
 impl Session {
     ghost use Rattle.table_model.specs.Requests as request;
-    ghost use Rattle.transactions.specs.Sessions.{aborted};
+    ghost use Rattle.transactions.specs.Sessions.{IsSession, TakenBack, aborted};
     ghost use Rattle.transactions.specs.Steps.{StepsQuietly};
 
     /// Opens a transaction: the working catalog is the committed one, and no update is noted.
@@ -46,11 +47,14 @@ impl Session {
     /// Gives the open transaction up: its working pages are dropped, and the names that it bound are unbound.
     pub(super) fn abort(&mut self) -> Reply
         ensures refused { self.old.opened ≡ false → (result ≡ Reply.No Refusal.NoTxn) × (self.new ≡ self.old) }
-        ensures aborted { self.old.opened ≡ true → (result ≡ Reply.Abort) × (self.new ≡ aborted self.old) }
+        ensures aborted { self.old.opened ≡ true → (result ≡ Reply.Abort) × (self.new ≡ aborted self.old self.new.pages self.new.units) }
+        ensures taken_back { self.old.opened ≡ true → TakenBack self.old.meta.working self.old.kept self.old.pages self.new.pages self.old.units self.new.units }
+        ensures session { IsSession self.old }
     {
         if !self.opened {
             return Reply::No(Refusal::NoTxn);
         }
+        take_back(&self.meta, &mut self.units, &mut self.pages, &self.kept);
         self.meta.undo();
         unbind_marked(&mut self.names);
         self.notes.clear();

@@ -8,6 +8,7 @@ ghost use Rattle.table_model.specs.Machines.{unmarked};
 ghost use Rattle.transactions.specs.Commits.{stop_of};
 
 use super::catalog::view_of;
+use super::settle::settle;
 use super::{CATALOG, Session};
 use commits::{CommitFault, checkpoint, commit};
 use disk_model::Host;
@@ -78,6 +79,7 @@ impl Session {
         }
         // From here on the transaction is committed, or the session is down.
         self.opened = false;
+        settle(&self.meta, &mut self.units, &mut self.pages, &mut self.kept);
         if let Err(fault) = commit(
             alloc,
             &mut self.log,
@@ -87,6 +89,7 @@ impl Session {
             &self.notes,
             number,
         ) {
+            self.meta.undo();
             return Err(uncommitted(fault));
         }
         unmark(&mut self.names);

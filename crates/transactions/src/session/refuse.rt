@@ -20,7 +20,7 @@ const CATALOG_HEAD: u32 = 32;
 const ENTRY_LEN: u32 = 48;
 
 /// The file with a name.
-fn entry_named<'a>(catalog: &CatalogView<'a>, name: &[u8]) -> Option<Entry<'a>>
+pub(super) fn entry_named<'a>(catalog: &CatalogView<'a>, name: &[u8]) -> Option<Entry<'a>>
     ensures { option_map entry_of result ≡ find (has_name name.now) catalog.now.entries }
 {
     for index in 0..catalog.len() {
@@ -67,7 +67,7 @@ impl Session {
     }
 
     /// Why the open transaction accepts no update that may touch so many logged pages more.
-    fn refuses_touching(&self, charge: u32) -> Option<Refusal>
+    pub(super) fn refuses_touching(&self, charge: u32) -> Option<Refusal>
         requires { charge ≤ 128 }
         ensures { result ≡ long_txn self.now charge }
     {

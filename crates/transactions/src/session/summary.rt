@@ -26,17 +26,20 @@ pub struct Summary {
 }
 
 impl Session {
-    ghost use Rattle.std.specs.Prelude.{◌≢◌, ◌⊎◌, Ok, Err, IfOk, OnOk, OnErr, true, false};
+    ghost use Rattle.std.specs.Prelude.{◌≢◌, ◌⊎◌, ◌≤◌, length, Ok, Err, IfOk, IfErr, OnOk, OnErr, true, false};
     ghost use Rattle.ex_base.specs.declared.faults.Seen.{Seen};
     ghost use Rattle.ex_base.specs.declared.names.PageNo.{PageNo};
     ghost use Rattle.disk_model.specs.Outside.{ReadsOnly, Rose};
     ghost use Rattle.session_views.specs.declared.engine.Stop.{Stop};
     ghost use Rattle.session_views.specs.View.{View, ShowsNow};
     ghost use Rattle.transactions.specs.Sessions.{SessionState};
-    ghost use Rattle.transactions.specs.Catalogs.{IsDamaged, catalog_bytes};
+    ghost use Rattle.ex_base.specs.Sizes.{volume_bytes};
+    ghost use Rattle.object_files.specs.Edits.{IsCatalogPage};
+    ghost use Rattle.object_files.specs.Reads.{catalog_on};
+    ghost use Rattle.transactions.specs.Lines.{IfShown, IsOutside, LineStops};
     ghost use Rattle.transactions.specs.Steps.{OnlyFrames};
     ghost use Rattle.transactions.specs.Meant.{meant};
-    ghost use Rattle.transactions.specs.Summaries.{IsSummary, SumsUp};
+    ghost use Rattle.transactions.specs.Summaries.{IfCatalog, IsSummary, SumsUp, oids_in};
 
     // Sums up, in a session that met no fault.
     fn sum_up<H: Host>(&mut self, alloc: Global, host: &mut H) -> Result<Summary, Stop>
@@ -46,17 +49,49 @@ impl Session {
         if host.size() < self.geometry.volume_bytes() {
             return Err(Stop::Memory);
         }
-        let page = self.catalog(alloc, host)?;
+        let page = match self.catalog(alloc, host) {
+            Ok(page) => page,
+            Err(stop) => return Err(stop),
+        };
+        let objects = match self.objects_in(alloc, host, &page) {
+            Ok(objects) => objects,
+            Err(stop) => return Err(stop),
+        };
         let catalog = view_of(&page);
         Ok(Summary {
             last: catalog.last_txn(),
             files: catalog.len(),
-            // No file has an object yet.
-            objects: 0,
-            versions: 0,
+            objects,
+            // No version is frozen yet.
+            versions: objects,
             pages: self.used(Area::Page),
             segs: self.used(Area::Segment),
         })
+    }
+
+    // How many objects the files of a catalog have.
+    fn objects_in<H: Host>(&mut self, alloc: Global, host: &mut H, page: &[u8]) -> Result<u64, Stop>
+        requires room { volume_bytes self.old.geometry ≤ (H.outside host.old).size }
+        requires catalog { IsCatalogPage page.now }
+        ensures only { OnlyFrames (H.outside host.old) (H.outside host.new) self.old self.new }
+        ensures shows { IfShown (H.outside host.old) self.old (λ before. ShowsNow meant (H.outside host.new) (record before { session = self.new })) }
+        ensures counts { IfOk result (λ count. IfCatalog (H.outside host.old) self.old page.now (λ before. count ≡ length (oids_in before.machine (catalog_on page.now).entries))) }
+        ensures stops { IfErr result (LineStops (H.outside host.old) (H.outside host.new)) }
+        ensures sound { IfErr result (λ why. IfCatalog (H.outside host.old) self.old page.now (λ before. IsOutside why)) }
+    {
+        let mut count: u64 = 0;
+        for index in 0..view_of(page).len() {
+            let file_no = view_of(page).entry(index).file_no;
+            let oids = match self.objects_of(alloc, host, file_no) {
+                Ok(oids) => oids,
+                Err(stop) => return Err(stop),
+            };
+            count = match count.checked_add(oids.len() as u64) {
+                Some(more) => more,
+                None => return Err(Stop::Memory),
+            };
+        }
+        Ok(count)
     }
 
     /// Sums up what the session shows. The disk is read at most.
@@ -80,10 +115,6 @@ impl Session {
         // The session stays what it was but for its frames, and but that a fault puts it down.
         ensures frames { OnOk result (OnlyFrames (H.outside host.old) (H.outside host.new) self.old self.new) }
         ensures kept { self.new ≡ record self.old { groups = self.new.groups; down = self.new.down } }
-
-        // Only a catalog that is outside of its grammar is damaged.
-        ensures catalog { (page : PageNo) (want got : Seen) → result ≡ Err (Stop.Damaged page want got)
-            → IsDamaged (H.outside host.old) self.old.groups (catalog_bytes self.old) page want got }
 
         // After a fault it answers that the session is down, and calls nothing, as every step does; before one it doesn't.
         ensures is_down { self.old.down ≡ true → (result ≡ Err Stop.Down) × (host.new ≡ host.old) × (self.new ≡ self.old) }

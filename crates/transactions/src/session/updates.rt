@@ -1,5 +1,5 @@
 //! Files are made and removed.
-ghost use Rattle.std.specs.Prelude.{◌≡◌, ◌≤◌, ◌<◌, ◌+◌, ◌-◌, ◌*◌, ◌^◌, IsTrue, Contains, length, map, OnOk};
+ghost use Rattle.std.specs.Prelude.{◌≡◌, ◌≤◌, ◌<◌, ◌+◌, ◌-◌, ◌*◌, ◌^◌, IsTrue, Contains, length, map, true, OnOk};
 ghost use Rattle.ex_base.specs.Sizes.{volume_bytes};
 ghost use Rattle.object_files.specs.Catalog.{CatalogOf, IsName, name_of};
 ghost use Rattle.object_files.specs.Edits.{IsCatalogPage, entries_on, with_entries, entry_inserted, new_file, without_name};
@@ -108,6 +108,7 @@ impl Session {
 
     /// The page becomes the working catalog, and an update of this kind, of no version, is noted.
     fn update(&mut self, alloc: Global, catalog: &[u8], kind: u8) -> Result<(), AllocError>
+        requires opened { self.old.opened ≡ true }
         requires catalog { IsCatalogPage catalog.now }
         requires whole { length catalog.now ≡ self.old.geometry.page_size }
         requires number { (catalog_on catalog.now).last < 2 ^ 64 - 1 }

@@ -12,13 +12,16 @@ returns-in-Err-clause-bad g c part same image honest holds = c.open_volume.ensur
 pub returns-in-Err-clause-any_moment : goal.returns-in-Err-clause-any_moment
 returns-in-Err-clause-any_moment g c image honest holds = leaves_opening image (c.open_volume.ensures.any_moment image honest holds)
 
-pub returns-clause-opened : goal.returns-clause-opened
-returns-clause-opened g c image honest holds = stood (c.in-Ok.ensures.opened image honest holds)
+pub returns-in-Ok-make-clause-opened : goal.returns-in-Ok-make-clause-opened
+returns-in-Ok-make-clause-opened g c image honest holds = stood (c.in-Ok.ensures.opened image honest holds)
 
-pub returns-clause-shows : goal.returns-clause-shows
-returns-clause-shows g c image table honest holds stands =
-    subst (λ (s : SessionState). Opened meant table s (g.H.World.outside c.open_volume.new.disk)) (sym c.make.ensures)
+pub returns-in-Ok-make-clause-shows : goal.returns-in-Ok-make-clause-shows
+returns-in-Ok-make-clause-shows g c image table honest holds stands =
+    subst (λ (s : SessionState). Opened meant table s (g.H.World.outside c.open_volume.new.disk)) (sym c.in-Ok-make.ensures)
     (shows_opened c.in-Ok.opened image table c.in-Ok.ensures.parts (honest_on c.open_volume.ensures.only.goes honest) (c.in-Ok.ensures.opened image honest holds) stands)
 
-pub returns-clause-any_moment : goal.returns-clause-any_moment
-returns-clause-any_moment g c image honest holds = leaves_opening image (c.open_volume.ensures.any_moment image honest holds)
+pub returns-in-Ok-make-clause-any_moment : goal.returns-in-Ok-make-clause-any_moment
+returns-in-Ok-make-clause-any_moment g c image honest holds = leaves_opening image (c.open_volume.ensures.any_moment image honest holds)
+
+pub returns-in-Err-make-clause-any_moment : goal.returns-in-Err-make-clause-any_moment
+returns-in-Err-make-clause-any_moment g c image honest holds = leaves_opening image (c.open_volume.ensures.any_moment image honest holds)

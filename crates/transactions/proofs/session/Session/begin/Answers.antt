@@ -27,7 +27,7 @@ invariant_of-self g c =
 
 pub invariant_of-self-2 : goal.invariant_of-self-2
 invariant_of-self-2 g c =
-    is_begun (session.the_view c.self-2.inside) c.start.new.self c.clear.new.self.items c.in_ok-page.page.items c.self-2.invariant (started_with c.start.new.self (session.the_view c.self-2.inside).meta c.deref-2.result.now c.in_ok-page.page.items (if_no_error c.start.result (sym c.if-is_err.ensures.value) c.start.ensures.ok) c.deref-2.ensures.value) c.clear.ensures.items c.in_ok-page.ensures.catalog
+    is_begun (session.the_view c.self-2.inside) c.start.new.self c.clear.new.self.items c.in_ok-page.page.items c.self-2.invariant (still_closed c.self-2.view_is c.self.view_is c.catalog.ensures.frames c.if-self.false) (started_with c.start.new.self (session.the_view c.self-2.inside).meta c.deref-2.result.now c.in_ok-page.page.items (if_no_error c.start.result (sym c.if-is_err.ensures.value) c.start.ensures.ok) c.deref-2.ensures.value) c.clear.ensures.items c.in_ok-page.ensures.catalog
     (number_left c.last_txn-last.result c.in_ok-page.page.items c.in_ok-page.ensures.catalog (read_last c.last_txn-last.result c.view_of.result c.deref.result.now c.in_ok-page.page.items c.last_txn-last.ensures c.view_of.ensures c.deref.ensures.value) c.if-last.false)
 
 pub returns : goal.returns

@@ -11,8 +11,12 @@ use Rattle.transactions.specs.Sessions.{SessionState}
 use Rattle.transactions.proofs.Accepted.{no_open_txn}
 use Rattle.transactions.proofs.Quiet.{quietly, quiet_stop}
 use Rattle.transactions.proofs.Refusing.{closed_refused}
-use Rattle.transactions.proofs.Sessions.{seen, ready, after_commit, rows_stay, rows_gone}
-use Rattle.transactions.proofs.Writing.{WasKept, commit_stopped, commit_done, commit_noted, moments_at, commits_at, frames_at, closed_as}
+use Rattle.transactions.proofs.Sessions.{seen, ready, after_commit}
+use Rattle.transactions.proofs.Settling.{taken_kept}
+use Rattle.transactions.specs.Sessions.{Settled}
+use Rattle.commits.specs.Room.{IsLogged}
+use Rattle.std.proofs.Common.{◌++◌, take, drop}
+use Rattle.transactions.proofs.Writing.{WasKept, commit_stopped, commit_done, commit_noted, moments_at, commits_at, frames_at, closed_as, settled_at}
 use Rattle.transactions.proofs.Committing.{Commits, numbered_pages}
 use Rattle.meta_pages.specs.Overlays.{Overlays}
 use Rattle.commits.specs.Room.{AreBehindLog}
@@ -53,19 +57,22 @@ commit-requires-clause-catalog g c =
 pub invariant_of-self-in-Err-commit : goal.invariant_of-self-in-Err-commit
 invariant_of-self-in-Err-commit g c =
     let edited = (if_no_error c.edit.result (sym c.if-is_err.ensures.value) c.edit.ensures.ok ∙ ap (λ (l : List ℕ). numbered_pages (session.the_view c.self-2.inside).meta l) c.deref.ensures.value) in
-    let opened = (ap (λ (s : SessionState). s.opened) (sym c.self.view_is) ∙ c.if-not-self.false) in
-    let is_ready = ready (session.the_view c.self-2.inside) c.edit.new.self c.number_next-number.new.page.items c.self-2.invariant (ap (λ (s : SessionState). s.opened) (c.self-2.view_is ∙ c.catalog.ensures.frames.same) ∙ opened) edited in
-    let rows = rows_stay (session.the_view c.self-2.inside) c.edit.new.self c.commit.new.meta c.number_next-number.new.page.items c.self-2.invariant is_ready edited c.in-Err-commit.ensures.working_stays in
-    after_commit (session.the_view c.self-2.inside) c.edit.new.self c.commit.new.log c.commit.new.meta c.commit.new.groups _ _ c.self-2.invariant (record {
+    let two = session.the_view c.self-2.inside in
+    let flags = take c.self-2.inside.kept.len (c.settle.new.kept ++ drop (length c.settle.new.kept) two.kept) in
+    let begun : Settled c.edit.new.self.working two.kept c.settle.new.kept two.pages c.settle.new.pages two.units c.settle.new.units =
+    subst (λ (l : List Bool). Settled c.edit.new.self.working l c.settle.new.kept two.pages c.settle.new.pages two.units c.settle.new.units) c.deref_mut.ensures.value c.settle.ensures in
+    let settled : Settled c.edit.new.self.working two.kept flags two.pages c.settle.new.pages two.units c.settle.new.units =
+    subst (λ (l : List Bool). Settled c.edit.new.self.working two.kept l two.pages c.settle.new.pages two.units c.settle.new.units) (sym (taken_kept c.settle.new.kept two.kept c.self-2.inside.kept.len begun.kept_len (omega (arith, c.self-2.inside.kept.ok)))) begun in
+    after_commit two c.edit.new.self c.number_next-number.new.page.items c.commit.new.log c.undo.new.self c.commit.new.groups flags c.settle.new.pages c.settle.new.units _ _ c.self-2.invariant edited (record {
       edit = ap (λ (o : Overlays). o.geometry) edited;
       log_is = c.commit.ensures.log_geometry;
-      meta_is = c.commit.ensures.same_geometry;
+      meta_is = ap (λ (o : Overlays). o.geometry) c.undo.ensures ∙ c.commit.ensures.same_geometry;
       sizes = c.commit.ensures.sizes;
       len = c.commit.ensures.len;
-      logged = c.commit.ensures.logged;
+      logged = subst (λ (o : Overlays). IsLogged c.commit.new.log o) (sym c.undo.ensures) (record { images = c.commit.ensures.logged.images; none = c.commit.ensures.logged.none });
       behind = c.commit.ensures.behind;
-      few = rows.0;
-      rising = rows.1;
+      none = ap (λ (o : Overlays). o.working) c.undo.ensures;
+      settled = settled;
     }) c.self-2.invariant.few_notes c.self-2.invariant.notes
 
 pub returns-in-Err-commit-clause-steps : goal.returns-in-Err-commit-clause-steps
@@ -90,10 +97,13 @@ returns-in-Err-commit-clause-steps g c =
 pub invariant_of-self-2 : goal.invariant_of-self-2
 invariant_of-self-2 g c =
     let edited = (if_no_error c.edit.result (sym c.if-is_err.ensures.value) c.edit.ensures.ok ∙ ap (λ (l : List ℕ). numbered_pages (session.the_view c.self-2.inside).meta l) c.deref.ensures.value) in
-    let opened = (ap (λ (s : SessionState). s.opened) (sym c.self.view_is) ∙ c.if-not-self.false) in
-    let is_ready = ready (session.the_view c.self-2.inside) c.edit.new.self c.number_next-number.new.page.items c.self-2.invariant (ap (λ (s : SessionState). s.opened) (c.self-2.view_is ∙ c.catalog.ensures.frames.same) ∙ opened) edited in
-    let rows = rows_gone c.commit.new.meta c.in_default.ensures.working in
-    after_commit (session.the_view c.self-2.inside) c.edit.new.self c.commit.new.log c.commit.new.meta c.commit.new.groups _ _ c.self-2.invariant (record {
+    let two = session.the_view c.self-2.inside in
+    let flags = take c.self-2.inside.kept.len (c.settle.new.kept ++ drop (length c.settle.new.kept) two.kept) in
+    let begun : Settled c.edit.new.self.working two.kept c.settle.new.kept two.pages c.settle.new.pages two.units c.settle.new.units =
+    subst (λ (l : List Bool). Settled c.edit.new.self.working l c.settle.new.kept two.pages c.settle.new.pages two.units c.settle.new.units) c.deref_mut.ensures.value c.settle.ensures in
+    let settled : Settled c.edit.new.self.working two.kept flags two.pages c.settle.new.pages two.units c.settle.new.units =
+    subst (λ (l : List Bool). Settled c.edit.new.self.working two.kept l two.pages c.settle.new.pages two.units c.settle.new.units) (sym (taken_kept c.settle.new.kept two.kept c.self-2.inside.kept.len begun.kept_len (omega (arith, c.self-2.inside.kept.ok)))) begun in
+    after_commit two c.edit.new.self c.number_next-number.new.page.items c.commit.new.log c.commit.new.meta c.commit.new.groups flags c.settle.new.pages c.settle.new.units _ _ c.self-2.invariant edited (record {
       edit = ap (λ (o : Overlays). o.geometry) edited;
       log_is = c.commit.ensures.log_geometry;
       meta_is = c.commit.ensures.same_geometry;
@@ -101,8 +111,8 @@ invariant_of-self-2 g c =
       len = c.commit.ensures.len;
       logged = c.commit.ensures.logged;
       behind = c.commit.ensures.behind;
-      few = rows.0;
-      rising = rows.1;
+      none = c.in_default.ensures.working;
+      settled = settled;
     })
     (subst (λ (l : List OpNote). length l ≤ updates_most) (sym c.clear.ensures.items) (omega arith)) (subst (λ (l : List OpNote). AllByRecursion IsNote l) (sym c.clear.ensures.items) tt)
 
@@ -122,13 +132,20 @@ returns-clause-steps g c =
       number_is = c.number_next-number.ensures.number;
       moments = moments_at (g.H.World.outside c.catalog.new.disk) (g.H.World.outside c.commit.new.disk) c.args.self.now c.catalog.new.self (session.the_view c.self-2.inside) c.edit.new.self c.number_next-number.new.page.items c.number_next-number.result c.catalog.ensures.frames.same c.self-2.view_is edited c.commit.ensures.any_moment;
     } in
-    commit_done c.args.self.now c.args.self.now c.catalog.new.self _ c.in-Ok.page.items c.number_next-number.new.page.items c.number_next-number.result c.commit.new.log c.commit.new.meta c.commit.new.groups refl (g.H.World.is_world c.args.host.now) kept c.catalog.ensures.frames
+    let two = session.the_view c.self-2.inside in
+    let flags = take c.self-2.inside.kept.len (c.settle.new.kept ++ drop (length c.settle.new.kept) two.kept) in
+    let begun : Settled c.edit.new.self.working two.kept c.settle.new.kept two.pages c.settle.new.pages two.units c.settle.new.units =
+    subst (λ (l : List Bool). Settled c.edit.new.self.working l c.settle.new.kept two.pages c.settle.new.pages two.units c.settle.new.units) c.deref_mut.ensures.value c.settle.ensures in
+    let settled : Settled c.edit.new.self.working two.kept flags two.pages c.settle.new.pages two.units c.settle.new.units =
+    subst (λ (l : List Bool). Settled c.edit.new.self.working two.kept l two.pages c.settle.new.pages two.units c.settle.new.units) (sym (taken_kept c.settle.new.kept two.kept c.self-2.inside.kept.len begun.kept_len (omega (arith, c.self-2.inside.kept.ok)))) begun in
+    commit_done c.args.self.now c.args.self.now c.catalog.new.self _ c.in-Ok.page.items c.number_next-number.new.page.items c.number_next-number.result c.commit.new.log c.commit.new.meta c.commit.new.groups flags c.settle.new.pages c.settle.new.units refl (g.H.World.is_world c.args.host.now) kept c.catalog.ensures.frames
     (subst (λ (t : SessionState). AreBehindLog t.groups) c.self-2.view_is c.self-2.invariant.behind)
     (commits_at (g.H.World.outside c.catalog.new.disk) (g.H.World.outside c.commit.new.disk) c.args.self.now c.catalog.new.self (session.the_view c.self-2.inside) c.edit.new.self c.number_next-number.new.page.items c.number_next-number.result c.commit.new.log c.commit.new.meta c.catalog.ensures.frames.same c.self-2.view_is edited
     (subst (λ (l : List OpNote). Commits (g.H.World.outside c.catalog.new.disk) (g.H.World.outside c.commit.new.disk) (session.the_view c.self-2.inside).log c.edit.new.self c.number_next-number.result l c.commit.new.log c.commit.new.meta) c.deref-2.ensures.value c.in_default.ensures.done))
     c.in_default.ensures.working
     (frames_at (g.H.World.outside c.catalog.new.disk) (g.H.World.outside c.commit.new.disk) c.args.self.now c.catalog.new.self (session.the_view c.self-2.inside) c.edit.new.self c.commit.new.groups c.catalog.ensures.frames.same c.self-2.view_is (ap (λ (o : Overlays). o.geometry) edited) c.self-2.invariant.meta c.commit.ensures.lends c.commit.ensures.sizes)
-    (closed_as c.args.self.now c.catalog.new.self (session.the_view c.self-2.inside) c.commit.new.log c.commit.new.meta c.commit.new.groups c.clear.new.self.items c.unmark.new.names.items c.catalog.ensures.frames.same c.self-2.view_is c.clear.ensures.items c.unmark.ensures)
+    (settled_at c.args.self.now c.catalog.new.self two c.edit.new.self c.number_next-number.new.page.items flags c.settle.new.pages c.settle.new.units c.catalog.ensures.frames.same c.self-2.view_is edited settled)
+    (closed_as c.args.self.now c.catalog.new.self (session.the_view c.self-2.inside) c.commit.new.log c.commit.new.meta c.commit.new.groups flags c.settle.new.pages c.settle.new.units c.clear.new.self.items c.unmark.new.names.items c.catalog.ensures.frames.same c.self-2.view_is c.clear.ensures.items c.unmark.ensures)
 
 pub returns-then-not-self-clause-noted : goal.returns-then-not-self-clause-noted
 returns-then-not-self-clause-noted g c = λ before from now opened. let closed = ap (λ (s : SessionState). s.opened) (sym c.self.view_is) ∙ c.if-not-self.true in absurd (both opened closed)

@@ -1,0 +1,115 @@
+-- One step on any command.
+use Rattle.std.proofs.Common.{◌≡◌, ◌≢◌, ◌⊎◌, true, true≢false, Result, Ok, Err, refl, sym, ap, subst, inl, inr, ◌∙◌}
+use Rattle.std.specs.Prelude.{IfOk, IfErr}
+use Rattle.disk_model.specs.Outside.{Outside, IsWorld, Rose}
+use Rattle.disk_model.specs.Runs.{reads_refl}
+use Rattle.ex_base.specs.declared.faults.Seen.{Seen}
+use Rattle.ex_base.specs.declared.names.PageNo.{PageNo}
+use Rattle.session_views.specs.declared.engine.Stop.{Stop}
+use Rattle.session_views.specs.declared.engine.Stop.TheVariants as stop
+use Rattle.session_views.specs.View.{View, ShowsNow, Stepped}
+use Rattle.table_model.specs.declared.reply.Reply.{Reply}
+use Rattle.table_model.specs.Requests.{Request}
+use Rattle.transactions.specs.Sessions.{SessionState, IsSession}
+use Rattle.transactions.specs.Catalogs.{IsDamaged, catalog_bytes}
+use Rattle.transactions.specs.Commands.{Answers, IsOfCatalog, asks_objects, changes_objects}
+use Rattle.transactions.specs.Lines.{IfShown, IsOutside, LineStops, ReadsLine, UpdatesLine}
+use Rattle.transactions.specs.Meant.{meant}
+use Rattle.transactions.specs.Steps.{IsRefused, OnlyFrames, Steps, Stops, StepsQuietly}
+use Rattle.transactions.proofs.Listing.{unread_outside, unread_stops}
+use Rattle.transactions.proofs.Quiet.{quietly, quiet_moments, quiet_stop}
+
+-- ---- any command
+
+if_err : (P Q : Stop → Type 0) (result : Result Reply Stop) → ((why : Stop) → P why → Q why) → IfErr result P → IfErr result Q
+if_err P Q (Ok told) f has = tt
+if_err P Q (Err why) f has = f why has
+
+-- on the catalog
+answered : {a b : Outside} {old new : SessionState} (r : Request) (result : Result Reply Stop) → IsSession old → Steps a b old new r result → Answers a b old new r result
+answered {a} {b} {old} r result session steps = record {
+  only = steps.only;
+  down = steps.down;
+  stops = if_err (Stops a b old) (LineStops a b) result (unread_stops a b old) steps.stops;
+  sound = if_err (Stops a b old) (λ why. IfShown a old (λ before. IsOutside why)) result (λ why stops. unread_outside b why session stops) steps.stops;
+  catalog = λ _. steps.stops;
+  refused = steps.refused;
+  quiet = λ quiet. (steps.quiet quiet).1;
+  reads = λ alone. (steps.quiet alone.0).0;
+  stepped = steps.stepped;
+  any_moment = steps.any_moment;
+}
+
+pub of_step : {a b : Outside} {old new : SessionState} (r s : Request) (result : Result Reply Stop) → r ≡ s → IsSession old → Steps a b old new s result → Answers a b old new r result
+of_step {a} {b} {old} {new} r s result is session steps = subst (λ (t : Request). Answers a b old new t result) (sym is) (answered s result session steps)
+
+pub of_quiet : {a b : Outside} {old new : SessionState} (r s : Request) (result : Result Reply Stop) → r ≡ s → IsWorld a → IsSession old → StepsQuietly a b old new s result → Answers a b old new r result
+of_quiet r s result is world session quiet = of_step r s result is session (quietly s result world quiet)
+
+-- where nothing was called
+pub no_step : {a : Outside} (s : SessionState) (r : Request) → IsWorld a → IsSession s → Answers a a s s r (Err stop.Memory)
+no_step {a} s r world session = answered r (Err stop.Memory) session (quietly r (Err stop.Memory) world (quiet_stop r stop.Memory (reads_refl a) refl refl tt))
+
+-- of each view by itself
+each_view : (a b : Outside) (old new : SessionState) (r : Request) (result : Result Reply Stop) → IfOk result (λ told. IfShown a old (λ before. Stepped meant before r told new b)) → (before : View SessionState) → before.session ≡ old → ShowsNow meant a before
+    → IfOk result (λ told. Stepped meant before r told new b)
+each_view a b old new r (Ok told) steps = λ before same now. steps before same now
+each_view a b old new r (Err why) steps = λ before same now. tt
+
+-- on what reads objects
+pub of_read : {a b : Outside} {old new : SessionState} (r s : Request) (result : Result Reply Stop) → r ≡ s → asks_objects s ≡ true → IsWorld a → ReadsLine a b old new s result → Answers a b old new r result
+of_read {a} {b} {old} {new} r s result is asks world line = subst (λ (t : Request). Answers a b old new t result) (sym is) (record {
+  only = line.only.reads.nothing.only;
+  down = ap (λ (t : SessionState). t.down) line.only.same;
+  stops = line.stops;
+  sound = line.sound;
+  catalog = λ none. absurd (true≢false (sym asks ∙ none));
+  refused = any_of result line.only;
+  quiet = λ _. ap (λ (t : SessionState). t.log) line.only.same;
+  reads = λ _. line.only.reads;
+  stepped = each_view a b old new s result line.stepped;
+  any_moment = λ before same now. quiet_moments s world line.only.reads before now;
+})
+  where
+    any_of : (o : Result Reply Stop) → OnlyFrames a b old new → IfOk o (λ told. IsRefused told → OnlyFrames a b old new)
+    any_of (Ok told) frames = λ _. frames
+    any_of (Err why) frames = tt
+
+-- on what changes objects
+pub of_update : {a b : Outside} {old new : SessionState} (r s : Request) (result : Result Reply Stop) → r ≡ s → changes_objects s ≡ true → asks_objects s ≡ true → UpdatesLine a b old new s result → Answers a b old new r result
+of_update {a} {b} {old} {new} r s result is changes asks line = subst (λ (t : Request). Answers a b old new t result) (sym is) (record {
+  only = line.only;
+  down = line.down;
+  stops = line.stops;
+  sound = line.sound;
+  catalog = λ none. absurd (true≢false (sym asks ∙ none));
+  refused = line.refused;
+  quiet = λ _. line.log;
+  reads = λ alone. absurd (true≢false (sym changes ∙ alone.1));
+  stepped = each_view a b old new s result line.stepped;
+  any_moment = line.any_moment;
+})
+
+-- ---- what the engine promises, from a step
+
+pub stops_rose : {a b : Outside} {old new : SessionState} (r : Request) (result : Result Reply Stop) → Answers a b old new r result → result ≡ Err stop.Disk → Rose a.disk_faults b.disk_faults
+stops_rose {a} {b} r result answers is = subst (λ (o : Result Reply Stop). IfErr o (LineStops a b)) is answers.stops
+
+pub stops_differ : {a b : Outside} {old new : SessionState} (r : Request) (result : Result Reply Stop) → Answers a b old new r result → (page : PageNo) (want got : Seen) → result ≡ Err (stop.Damaged page want got) → want ≢ got
+stops_differ {a} {b} r result answers page want got is = subst (λ (o : Result Reply Stop). IfErr o (LineStops a b)) is answers.stops
+
+pub stops_damaged : {a b : Outside} {old new : SessionState} (r : Request) (result : Result Reply Stop) → Answers a b old new r result → IsOfCatalog r → (page : PageNo) (want got : Seen) → result ≡ Err (stop.Damaged page want got) → IsDamaged a old.groups (catalog_bytes old) page want got
+stops_damaged {a} {b} {old} r result answers catalog page want got is = subst (λ (o : Result Reply Stop). IfErr o (Stops a b old)) is (answers.catalog catalog)
+
+pub not_down : {a b : Outside} {old new : SessionState} (r : Request) (result : Result Reply Stop) → Answers a b old new r result → result ≡ Err stop.Down → ⊥
+not_down {a} {b} r result answers is = subst (λ (o : Result Reply Stop). IfErr o (LineStops a b)) is answers.stops
+
+disk_or_memory : (why : Stop) → IsOutside why → (why ≡ stop.Disk) ⊎ (why ≡ stop.Memory)
+disk_or_memory stop.Memory is = inr refl
+disk_or_memory stop.Disk is = inl refl
+disk_or_memory stop.Down is = absurd is
+disk_or_memory (stop.Damaged page want got) is = absurd is
+
+pub is_sound : {a b : Outside} {old new : SessionState} (r : Request) (result : Result Reply Stop) → Answers a b old new r result → (before : View SessionState) (why : Stop) → before.session ≡ old → ShowsNow meant a before → result ≡ Err why
+    → (why ≡ stop.Disk) ⊎ (why ≡ stop.Memory)
+is_sound {a} {b} {old} r result answers before why from now is = disk_or_memory why (subst (λ (o : Result Reply Stop). IfErr o (λ w. IfShown a old (λ before. IsOutside w))) is answers.sound before from now)

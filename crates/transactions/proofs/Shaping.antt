@@ -1,0 +1,258 @@
+-- What is told of the shape of a version's tree.
+use Rattle.std.proofs.Common.{◌≡◌, ◌∙◌, ℕ, zero, suc, ◌+◌, ◌-◌, Bool, true, false, cond, List, [], ◌∷◌, ◌++◌, length, take, drop, min, Option, Some, None, Result, Ok, Err, refl, sym, ap, subst, arith}
+use Rattle.std.specs.Prelude.{is_none, nat_le, ◌&&◌, IfOk}
+use Rattle.std.specs.List.{flat_map, AllByRecursion}
+use Rattle.std.proofs.lemmas.List.{length-take, take_at}
+use Rattle.ex_base.specs.declared.ground.Ground as ground
+use Rattle.ex_base.specs.declared.geometry.Geometry.{Geometry}
+use Rattle.ex_base.specs.declared.faults.PortFault.{PortFault}
+use Rattle.ex_base.specs.declared.names.Oid.{Oid}
+use Rattle.ex_base.specs.declared.names.PageNo.{PageNo}
+use Rattle.ex_base.specs.declared.names.Root.{Root}
+use Rattle.ex_base.specs.Area.{InPageArea}
+use Rattle.disk_model.specs.Outside.{Outside}
+use Rattle.count_nodes.specs.declared.Pair.{Pair}
+use Rattle.count_nodes.specs.Node.{pairs_on}
+use Rattle.tree_model.specs.Shape.{Subtree, leaves_of}
+use Rattle.tree_model.specs.Trees.{Units, IsNamed, RootNamed, RootSpells, for_each_child, root_shape, root_shape_at, root_units_at, shape_on, units_on}
+use Rattle.tree_model.proofs.SameUnits.{split_each}
+use Rattle.object_records.specs.Record.{Content, Large, Record}
+use Rattle.table_model.specs.declared.machine.Machine.{Machine}
+use Rattle.table_model.specs.declared.machine.Pick.{Pick}
+use Rattle.table_model.specs.declared.reply.Refusal.{Refusal}
+use Rattle.table_model.specs.declared.reply.Reply.{Reply}
+use Rattle.table_model.specs.declared.reply.Reply.TheVariants as reply
+use Rattle.table_model.specs.declared.table.Version.{Version}
+use Rattle.table_model.specs.Machines.{shown, size_of, the_oid}
+use Rattle.table_model.specs.Requests.{Reference}
+use Rattle.table_model.specs.Requests as request
+use Rattle.table_model.specs.Steps.{reply_to, stat_reply}
+use Rattle.table_model.specs.Tables.{version_at}
+use Rattle.session_views.specs.View.{View, ShowsNow, Stepped}
+use Rattle.session_views.specs.declared.engine.Stop.{Stop}
+use Rattle.versions.specs.Found as found_words
+use Rattle.versions.specs.Found.{root_of}
+use Rattle.versions.specs.Versions.{HoldsVersion, lone_head, record_len}
+use Rattle.versions.proofs.Standing.{large_content}
+use Rattle.volume_edits.specs.Shown.{ReadsVersion}
+use Rattle.volume_model.specs.Shown.{Held}
+use Rattle.transactions.specs.declared.session.objects.Named.{Named}
+use Rattle.transactions.specs.Editing.{fits_beside, root_height, room_beside}
+use Rattle.transactions.specs.Lines.{IfRoot, IfShown, IsMissing, IsOutside, LineStops, NamesVersion, PortShows, ReadsLine, TellsShape, content_named, lengths_named}
+use Rattle.transactions.specs.Meant.{content_at, fits_small, height_of, held_view, lengths_of, meant, pick_of, slots_at, units_held}
+use Rattle.transactions.specs.Sessions.{SessionState, IsSession}
+use Rattle.transactions.specs.Steps.{OnlyFrames}
+use Rattle.transactions.proofs.Finding.{held_version, named_content, page_lies, reads_live}
+use Rattle.transactions.proofs.Accepted.{took_place}
+use Rattle.transactions.proofs.Naming.{frames_twice, later_stops, names_pass, refuses_missing, refuses_so, the_oid_named, the_size_named}
+use Rattle.transactions.proofs.Picking.{content_here, pick_height, pick_small, unit_at}
+use Rattle.transactions.proofs.Quiet.{same_view, with_groups}
+
+-- ---- a tree whose nodes have the same bytes
+
+module _ (g : Geometry) (a b : Units) (P : ℕ → Type 0) (same : (page : ℕ) → InPageArea g page → P page → b page ≡ a page) where
+  children_over : (l before : ℕ) (pairs : List Pair) → ((page n : ℕ) → IsNamed g a l page → AllByRecursion P (units_on a l page) → shape_on b l page n ≡ shape_on a l page n)
+      → AllByRecursion (λ (pair : Pair). IsNamed g a l pair.page.0) pairs → AllByRecursion P (flat_map (λ (pair : Pair). units_on a l pair.page.0) pairs)
+      → for_each_child (shape_on b l) before pairs ≡ for_each_child (shape_on a l) before pairs
+  children_over l before [] each named units = refl
+  children_over l before (pair ∷ pairs) each named units =
+      let parts = split_each P (units_on a l pair.page.0) (flat_map (λ (p : Pair). units_on a l p.page.0) pairs) units in
+      let here = each pair.page.0 (pair.count - before) named.0 parts.0 in
+      let rest = children_over l pair.count pairs each named.1 parts.1 in
+      cc (here, rest)
+
+  shape_over : (l page n : ℕ) → IsNamed g a l page → AllByRecursion P (units_on a l page) → shape_on b l page n ≡ shape_on a l page n
+  shape_over zero page n named units = refl
+  shape_over (suc l) page n named units =
+      ap (λ (bytes : List ℕ). for_each_child (shape_on b l) 0 (pairs_on bytes)) (same page named.0 units.0)
+      ∙ children_over l 0 (pairs_on (a page)) (λ p m k h. shape_over l p m k h) named.2 units.1
+
+  pub root_over : (height size : ℕ) (page : Option PageNo) → RootNamed g a height page → AllByRecursion P (root_units_at a height page) → root_shape_at b height size page ≡ root_shape_at a height size page
+  root_over height size None named units = refl
+  root_over height size (Some page) named units = ap (λ (tree : Subtree height). Some (height, tree)) (shape_over height page.0 size named units)
+
+-- ---- the tree of a version that the port shows
+
+module _ {S : Type 0} (g : ground.Ghosts S) (s : S) {before : View SessionState} (shows : PortShows g s before) (oid : Oid) (root : Root) (version : Version) (is : version_at (shown before.machine) oid ≡ Some version)
+    (rooted : root_of (content_named (held_view before) oid) ≡ Some root) where
+  abbrev v : View Held
+  v = held_view before
+
+  pub reads : ReadsVersion g s oid version
+  reads = reads_live g s shows oid version is
+
+  abbrev its_record : Record
+  its_record = record { head = lone_head oid.unique; content = reads.content }
+
+  content_is : content_named v oid ≡ Large root
+  content_is = large_content (content_named v oid) root rooted
+
+  pub holds : HoldsVersion g s reads.index oid (Large root) version.bytes
+  holds =
+      subst (λ (content : Content). HoldsVersion g s reads.index oid content version.bytes) (sym (named_content g s shows reads.index oid its_record reads.stored) ∙ content_is)
+      (held_version g s oid version reads)
+
+  -- a node has the bytes that the session has
+  node_is : (page : ℕ) → InPageArea (g.geometry s) page → g.held s page ≡ false → units_held v page ≡ g.unit s page
+  node_is page lies off =
+      unit_at v page (subst (λ (h : Geometry). InPageArea h page) shows.geometry lies) ∙ sym (shows.image page lies) ∙ shows.volume.apart page lies off
+
+  lengths_are : lengths_named before oid ≡ leaves_of (root_shape (g.unit s) root)
+  lengths_are =
+      let lies : InPageArea before.session.geometry oid.page.0 = subst (λ (h : Geometry). InPageArea h oid.page.0) shows.geometry (page_lies g s shows reads.index oid its_record reads.stored) in
+      ap (lengths_of (units_held v)) (content_here v oid lies ∙ content_is)
+      ∙ ap leaves_of (root_over (g.geometry s) (g.unit s) (units_held v) (λ unit. g.held s unit ≡ false) node_is root.height root.size root.page holds.spells.0.named holds.apart)
+
+  pub shape_told : (result : Result ℕ PortFault) (room first : List ℕ)
+      → IfOk result (λ leaves. g.tells s → (bytes : List ℕ) → RootSpells (g.geometry s) (g.unit s) root bytes → leaves ≡ length (leaves_of (root_shape (g.unit s) root)))
+      → IfOk result (λ leaves. g.tells s → (bytes : List ℕ) → RootSpells (g.geometry s) (g.unit s) root bytes
+      → first ≡ take (length room) (leaves_of (root_shape (g.unit s) root)) ++ drop (length (leaves_of (root_shape (g.unit s) root))) room)
+      → IfOk result (λ leaves. TellsShape before oid leaves room first)
+  shape_told (Err fault) room first count lengths = tt
+  shape_told (Ok leaves) room first count lengths = record {
+    count = count shows.tells version.bytes holds.spells.0 ∙ ap length (sym lengths_are);
+    lengths = subst (λ (l : List ℕ). first ≡ take (length room) l ++ drop (length l) room) (sym lengths_are) (lengths shows.tells version.bytes holds.spells.0);
+  }
+
+-- what is told of the root of each view
+pub ok_root : {T E : Type 0} (w : Outside) (old : SessionState) (root : Root) (result : Result T E) (Q : View SessionState → Oid → T → Type 0)
+    → IfShown w old (λ before. IfRoot before root (λ oid. IfOk result (Q before oid))) → IfOk result (λ x. IfShown w old (λ before. IfRoot before root (λ oid. Q before oid x)))
+ok_root w old root (Ok x) Q each = each
+ok_root w old root (Err e) Q each = tt
+
+-- ---- what the machine answers
+
+at_least : (n room : ℕ) → nat_le n (n + room) ≡ true
+at_least n room = grind arith
+
+small_reply : (size : ℕ) (q : Pick) → q.small ≡ true → stat_reply size q ≡ reply.StatSmall size
+small_reply size q small = ap (λ (b : Bool). cond b (reply.StatSmall size) (reply.StatLarge size q.height (length q.leaves) (take 16 q.leaves))) small
+
+large_reply : (size : ℕ) (q : Pick) (root : Root) (lengths : List ℕ) → q.small ≡ false → size ≡ root.size → q.height ≡ root.height → q.leaves ≡ lengths
+    → stat_reply size q ≡ reply.StatLarge root.size root.height (length lengths) (take 16 lengths)
+large_reply size q root lengths small same tall leaves =
+    ap (λ (b : Bool). cond b (reply.StatSmall size) (reply.StatLarge size q.height (length q.leaves) (take 16 q.leaves))) small
+    ∙ ap (λ (n : ℕ). reply.StatLarge n q.height (length q.leaves) (take 16 q.leaves)) same
+    ∙ ap (λ (n : ℕ). reply.StatLarge root.size n (length q.leaves) (take 16 q.leaves)) tall
+    ∙ ap (λ (l : List ℕ). reply.StatLarge root.size root.height (length l) (take 16 l)) leaves
+
+module _ {before : View SessionState} (x : Reference) (named : Named) (names : NamesVersion before x named) (after : View Held) where
+  abbrev m : Machine
+  m = before.machine
+
+  abbrev hv : View Held
+  hv = held_view before
+
+  abbrev q : Pick
+  q = pick_of hv (request.Stat x) after
+
+  oid_is : the_oid m x ≡ named.oid
+  oid_is = the_oid_named before x named names
+
+  size_is : size_of m x ≡ named.found.size
+  size_is = the_size_named before x named names
+
+  small_is : q.small ≡ fits_beside before named named.found.size
+  small_is =
+      ap (λ (oid : Oid). fits_small before.session.geometry.page_size (slots_at hv oid) (size_of m x) (content_at hv oid)) oid_is
+      ∙ ap (λ (n : ℕ). fits_small before.session.geometry.page_size (slots_at hv named.oid) n (content_at hv named.oid)) size_is
+      ∙ sym (pick_small before named named.found.size names.told)
+
+  abbrev has_room : Option Root → Bool
+  has_room root = is_none root && nat_le (record_len named.found.size) (record_len named.found.size + room_beside before named.oid)
+
+  pub answers_small : named.found.root ≡ None → reply.StatSmall named.found.size ≡ reply_to m (request.Stat x) q
+  answers_small none =
+      let small : q.small ≡ true = small_is ∙ ap has_room none ∙ at_least (record_len named.found.size) (room_beside before named.oid) in
+      ap reply.StatSmall (sym size_is) ∙ sym (small_reply (size_of m x) q small)
+
+  module _ (root : Root) (rooted : named.found.root ≡ Some root) where
+    pub root_here : root_of (content_named hv named.oid) ≡ Some root
+    root_here = sym names.told.root ∙ rooted
+
+    bytes_here : size_of m x ≡ root.size
+    bytes_here = size_is ∙ names.told.content ∙ ap found_words.size_of (large_content (content_named hv named.oid) root root_here)
+
+    abbrev height_at : Oid → ℕ
+    height_at oid = height_of (content_at hv oid)
+
+    pub answers_large : reply.StatLarge root.size root.height (length (lengths_named before named.oid)) (take 16 (lengths_named before named.oid)) ≡ reply_to m (request.Stat x) q
+    answers_large =
+        let tall : q.height ≡ root.height = ap height_at oid_is ∙ sym (pick_height before named names.told) ∙ ap root_height rooted in
+        sym (large_reply (size_of m x) q root (lengths_named before named.oid) (small_is ∙ ap has_room rooted) bytes_here tall (ap (lengths_named before) oid_is))
+
+-- ---- the line
+
+pub stat_refused : {a b : Outside} {old new : SessionState} (x : Reference) (why : Refusal) → OnlyFrames a b old new → IsSession old → IfShown a old (λ before. IsMissing before.machine x why)
+    → ReadsLine a b old new (request.Stat x) (Ok (reply.No why))
+stat_refused x why only is missing = record {
+  only = only;
+  stops = tt;
+  sound = tt;
+  stepped = λ before same now. refuses_so (request.Stat x) why only is before same now (λ q. refuses_missing before.machine x why [] (missing before same now));
+}
+
+-- it is answered by the machine's reply, with what the volume decides
+answers_stat : {a b : Outside} {old new : SessionState} (x : Reference) (told : Reply) → OnlyFrames a b old new → IsSession old → (before : View SessionState) → before.session ≡ old → ShowsNow meant a before
+    → (named : Named) → NamesVersion before x named → told ≡ reply_to before.machine (request.Stat x) (pick_of (held_view before) (request.Stat x) (held_view (with_groups before new))) → Stepped meant before (request.Stat x) told new b
+answers_stat {a} {b} {old} {new} x told only is before same now named names replies =
+    let q = pick_of (held_view before) (request.Stat x) (held_view (with_groups before new)) in
+    record {
+      after = with_groups before new;
+      is = refl;
+      shows = same_view before same now only is.sizes;
+      step = took_place before.machine before.machine (request.Stat x) q told (names_pass before.machine x named.oid names.told.version [] names.named_by names.told.is) replies refl (tt, λ update. absurd (cc));
+    }
+
+pub stat_small : {a b : Outside} {old new : SessionState} (x : Reference) (named : Named) → OnlyFrames a b old new → IsSession old → IfShown a old (λ before. NamesVersion before x named)
+    → named.found.root ≡ None → ReadsLine a b old new (request.Stat x) (Ok (reply.StatSmall named.found.size))
+stat_small {a} {b} {old} {new} x named only is names none = record {
+  only = only;
+  stops = tt;
+  sound = tt;
+  stepped = λ before same now.
+      answers_stat x (reply.StatSmall named.found.size) only is before same now named (names before same now) (answers_small x named (names before same now) (held_view (with_groups before new)) none);
+}
+
+-- the lengths that are told are the first 16
+front_told : (leaves : ℕ) (lengths room first told : List ℕ) → length room ≡ 16 → leaves ≡ length lengths → first ≡ take (length room) lengths ++ drop (length lengths) room → told ≡ take (min leaves 16) first
+    → told ≡ take 16 lengths
+front_told leaves lengths room first told long count filled front =
+    let len : length (take 16 lengths) ≡ min leaves 16 = omega (arith, length-take 16 lengths, count) in
+    front
+    ∙ ap (take (min leaves 16)) (filled ∙ ap (λ (n : ℕ). take n lengths ++ drop (length lengths) room) long)
+    ∙ take_at (take 16 lengths) (drop (length lengths) room) (min leaves 16) len
+
+module _ {a b c : Outside} {old mid new : SessionState} (x : Reference) (named : Named) (root : Root) (one : OnlyFrames a b old mid) (two : OnlyFrames b c mid new) (is : IsSession old)
+    (names : IfShown a old (λ before. NamesVersion before x named)) (rooted : named.found.root ≡ Some root) where
+  -- what is told of the root after the version was found
+  then_told : (P : View SessionState → Oid → Type 0) → IfShown b mid (λ before. IfRoot before root (P before)) → (before : View SessionState) → before.session ≡ old → ShowsNow meant a before
+      → P (with_groups before (record before.session { groups = mid.groups })) named.oid
+  then_told P told before same now =
+      let sessions : mid ≡ record before.session { groups = mid.groups } = one.same ∙ ap (λ (s : SessionState). record s { groups = mid.groups }) (sym same) in
+      let n = names before same now in
+      subst (λ (s : SessionState). IfRoot (with_groups before s) root (P (with_groups before s))) sessions (told (with_groups before mid) refl (same_view before same now one is.sizes))
+      named.oid n.told.version n.told.is (root_here x named n (held_view before) root rooted)
+
+  pub stat_large : (leaves : ℕ) (room first told : List ℕ) → length room ≡ 16 → told ≡ take (min leaves 16) first → IfShown b mid (λ before. IfRoot before root (λ oid. TellsShape before oid leaves room first))
+      → ReadsLine a c old new (request.Stat x) (Ok (reply.StatLarge root.size root.height leaves told))
+  stat_large leaves room first told long front shape = record {
+    only = frames_twice one two;
+    stops = tt;
+    sound = tt;
+    stepped = λ before same now.
+        let n = names before same now in
+        let it = then_told (λ v oid. TellsShape v oid leaves room first) shape before same now in
+        let lengths : told ≡ take 16 (lengths_named before named.oid) = front_told leaves (lengths_named before named.oid) room first told long it.count it.lengths front in
+        answers_stat x (reply.StatLarge root.size root.height leaves told) (frames_twice one two) is before same now named n
+        (ap (λ (k : ℕ). reply.StatLarge root.size root.height k told) it.count ∙ ap (reply.StatLarge root.size root.height (length (lengths_named before named.oid))) lengths
+        ∙ answers_large x named n (held_view (with_groups before new)) root rooted);
+  }
+
+  pub stat_stopped : (why : Stop) → LineStops b c why → IfShown b mid (λ before. IfRoot before root (λ oid. IsOutside why)) → ReadsLine a c old new (request.Stat x) (Err why)
+  stat_stopped why stops sound = record {
+    only = frames_twice one two;
+    stops = later_stops a b c why one.reads stops;
+    sound = λ before same now. then_told (λ v oid. IsOutside why) sound before same now;
+    stepped = tt;
+  }

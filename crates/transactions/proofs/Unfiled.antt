@@ -1,0 +1,284 @@
+-- A volume without one of its empty files. A file has pages exactly where it has objects.
+use Rattle.std.proofs.Common.{◌≡◌, ◌∙◌, ℕ, zero, suc, ◌<◌, ◌≤◌, Bool, true, false, cond, not, List, [], ◌∷◌, ◌++◌, length, map, filter, Option, Some, None, is_some, refl, sym, ap, subst, arith}
+use Rattle.std.specs.Prelude.{bytes_eq, find, nat_lt}
+use Rattle.std.specs.List.{flat_map, AllByRecursion, AllZip, zip}
+use Rattle.std.specs.List.Sorted.{IsPermutation}
+use Rattle.std.specs.Cmp.Lexicographic.{slice_cmp, nat_list_cmp_total}
+use Rattle.std.specs.Ordering.{nat_cmp, ordering_reverse}
+use Rattle.std.specs.declared.cmp.Ordering.TheVariants.{Less, Greater}
+use Rattle.std.proofs.lemmas.List.{length-append, length-map}
+use Rattle.std.proofs.lemmas.List.Sorted.{length_permutation}
+use Rattle.std.proofs.lemmas.Slice.Eq.{bytes_eq-Decides}
+use Rattle.ex_base.specs.declared.geometry.Geometry.{Geometry}
+use Rattle.ex_base.specs.declared.names.PageNo.{PageNo}
+use Rattle.ex_base.specs.declared.names.Root.{Root}
+use Rattle.ex_base.specs.Area.{catalog_no}
+use Rattle.ex_base.specs.Order.{AllDiffer, Rising, RisingTexts}
+use Rattle.op_log.specs.declared.record.LogRecord.{LogRecord}
+use Rattle.index_pages.specs.declared.Entry.{Entry}
+use Rattle.index_pages.specs.IndexPage.{entries_on}
+use Rattle.slotted_pages.specs.FilePage.{FilePage, Slot, EndsLive}
+use Rattle.file_index.specs.Index.{IsUnder, IsRoot, keys_under, keys_of, pages_of}
+use Rattle.object_files.specs.Catalog.{FileEntry, name_of}
+use Rattle.object_files.specs.Edits as edits
+use Rattle.tree_model.specs.Trees.{Units, RootNamed, root_units}
+use Rattle.table_model.specs.declared.table.TableFile.{TableFile}
+use Rattle.table_model.specs.Tables as tables
+use Rattle.table_model.specs.Refusals.{has_objects}
+use Rattle.volume_model.specs.Parts.{HasIndex, HasPage, HasPages, HasLines, IsStored, bodies_from, bodies_in, Apart, AllApart, HasBalance}
+use Rattle.volume_model.specs.Volume.{Stored, Line, FileContent, Volume, line_records, lines_of, stored_in, pages_of_file, file_pages, roots_in, unique_of, line_number, line_units, object_of, file_of, table_of}
+use Rattle.transactions.specs.Refused.{has_pages}
+use Rattle.transactions.proofs.KeptOff.{Others}
+use Rattle.transactions.proofs.Filed.{empty_file}
+
+-- ---- a file has pages exactly where it has objects
+
+no_pages : (units : Units) (entry : FileEntry) (pages : List FilePage) → AllZip (HasPage units entry) [] pages → pages ≡ []
+no_pages units entry [] h = refl
+no_pages units entry (page ∷ pages) h = absurd h
+
+no_stored : (stored : List Stored) → AllZip IsStored [] stored → stored ≡ []
+no_stored [] h = refl
+no_stored (s ∷ stored) h = absurd h
+
+no_lines : (lines : List Line) → IsPermutation [] (flat_map line_records lines) → lines ≡ []
+no_lines [] h = refl
+no_lines (line ∷ lines) h = let long = length_permutation [] (flat_map line_records (line ∷ lines)) h in absurd (omega (arith, long, length-append (line_records line) (flat_map line_records lines), length-append line.frozen (line.current ∷ [])))
+
+abbrev content_of : List ℕ → List ℕ → List FilePage → List Stored → List Line → FileContent
+content_of numbers index pages stored lines = record { numbers = numbers; index_pages = index; pages = pages; stored = stored; lines = lines }
+
+abbrev pub HasAll : Geometry → Units → FileEntry → FileContent → Type 0
+HasAll g units e f = HasIndex g units e f × HasPages units e f × HasLines f
+
+rootless : (g : Geometry) (units : Units) (e : FileEntry) (f : FileContent) → HasAll g units e f → e.root ≡ None → f ≡ empty_file
+rootless g units e f (index, pages, lines) none =
+    let numbers : f.numbers ≡ [] = index.numbers ∙ ap (λ (r : Option PageNo). keys_of units e.level r) none in
+    let index_pages : f.index_pages ≡ [] = index.index_pages ∙ ap (λ (r : Option PageNo). pages_of units e.level r) none in
+    let no_page : f.pages ≡ [] = no_pages units e f.pages (subst (λ (ns : List ℕ). AllZip (HasPage units e) ns f.pages) numbers pages) in
+    let no_record : f.stored ≡ [] = no_stored f.stored (subst (λ (ns : List ℕ). AllZip IsStored (flat_map (λ (row : ℕ × FilePage). bodies_from row.0 0 row.1.slots) (zip ns f.pages)) f.stored) numbers lines.records) in
+    let no_line : f.lines ≡ [] = no_lines f.lines (subst (λ (s : List Stored). IsPermutation s (flat_map line_records f.lines)) no_record lines.each_once) in
+    let same : content_of f.numbers f.index_pages f.pages f.stored f.lines ≡ content_of [] [] [] [] [] = cc (numbers, index_pages, no_page, no_record, no_line) in
+    same
+
+first_key : (g : Geometry) (number : ℕ) (units : Units) (level : ℕ) → ((least : Option ℕ) (page : ℕ) → IsUnder g number units level least page → 1 ≤ length (keys_under units level page))
+    → (es : List Entry) → 2 ≤ length es → AllByRecursion (λ (e : Entry). IsUnder g number units level (Some e.key) e.page.0) es → 1 ≤ length (flat_map (λ (e : Entry). keys_under units level e.page.0) es)
+first_key g number units level one [] two each = absurd (omega (arith, two))
+first_key g number units level one (e ∷ es) two each =
+    let here = one (Some e.key) e.page.0 each.0 in
+    omega (arith, here, length-append (keys_under units level e.page.0) (flat_map (λ (e : Entry). keys_under units level e.page.0) es))
+
+some_key : (g : Geometry) (number : ℕ) (units : Units) (level : ℕ) (least : Option ℕ) (page : ℕ) → IsUnder g number units level least page → 1 ≤ length (keys_under units level page)
+some_key g number units zero least page h = omega arith
+some_key g number units (suc level) least page h = first_key g number units level (λ least page under. some_key g number units level least page under) (entries_on (units page)) h.1.two h.2
+
+some_keys : (g : Geometry) (number : ℕ) (units : Units) (level : ℕ) (root : Option PageNo) → IsRoot g number units level root → is_some root ≡ true → 1 ≤ length (keys_of units level root)
+some_keys g number units level None h some = absurd (cc)
+some_keys g number units level (Some page) h some = some_key g number units level None page.0 h
+
+some_body : (page slot : ℕ) (slots : List Slot) → 1 ≤ length slots → EndsLive slots → 1 ≤ length (bodies_from page slot slots)
+some_body page slot [] some last = absurd (omega (arith, some))
+some_body page slot (None ∷ []) some last = absurd last
+some_body page slot (Some body ∷ slots) some last = omega arith
+some_body page slot (None ∷ next ∷ slots) some last = some_body page (suc slot) (next ∷ slots) (omega arith) last
+
+some_bodies : (units : Units) (e : FileEntry) (numbers : List ℕ) (pages : List FilePage) → 1 ≤ length numbers → AllZip (HasPage units e) numbers pages
+    → 1 ≤ length (flat_map (λ (row : ℕ × FilePage). bodies_from row.0 0 row.1.slots) (zip numbers pages))
+some_bodies units e [] pages some h = absurd (omega (arith, some))
+some_bodies units e (n ∷ numbers) [] some h = absurd h
+some_bodies units e (n ∷ numbers) (p ∷ pages) some h =
+    let here = some_body n 0 p.slots h.0.1 h.0.0.fits.last in
+    omega (arith, here, length-append (bodies_from n 0 p.slots) (flat_map (λ (row : ℕ × FilePage). bodies_from row.0 0 row.1.slots) (zip numbers pages)))
+
+as_long : {A B : Type 0} (R : A → B → Type 0) (xs : List A) (ys : List B) → AllZip R xs ys → length xs ≡ length ys
+as_long R [] [] h = refl
+as_long R [] (y ∷ ys) h = absurd h
+as_long R (x ∷ xs) [] h = absurd h
+as_long R (x ∷ xs) (y ∷ ys) h = ap suc (as_long R xs ys h.1)
+
+some_lines : (lines : List Line) → 1 ≤ length (flat_map line_records lines) → 1 ≤ length lines
+some_lines [] some = some
+some_lines (line ∷ lines) some = omega arith
+
+rooted : (g : Geometry) (units : Units) (e : FileEntry) (f : FileContent) → HasAll g units e f → is_some e.root ≡ true → 1 ≤ length f.lines
+rooted g units e f (index, pages, lines) some =
+    let numbers : 1 ≤ length f.numbers = subst (λ (ns : List ℕ). 1 ≤ length ns) (sym index.numbers) (some_keys g e.file_no units e.level e.root index.whole.whole some) in
+    let bodies = some_bodies units e f.numbers f.pages numbers pages in
+    let stored = as_long IsStored (bodies_in f) f.stored lines.records in
+    let once = length_permutation f.stored (flat_map line_records f.lines) lines.each_once in
+    some_lines f.lines (omega (arith, bodies, stored, once))
+
+positive : (n : ℕ) → 1 ≤ n → nat_lt 0 n ≡ true
+positive n some = grind (arith, some)
+
+objects_as_root : (g : Geometry) (units : Units) (e : FileEntry) (f : FileContent) → HasAll g units e f → nat_lt 0 (length (map (object_of units) f.lines)) ≡ is_some e.root
+objects_as_root g units e f all = by e.root refl
+  where
+    by : (o : Option PageNo) → e.root ≡ o → nat_lt 0 (length (map (object_of units) f.lines)) ≡ is_some e.root
+    by None is = ap (λ (c : FileContent). nat_lt 0 (length (map (object_of units) c.lines))) (rootless g units e f all is) ∙ ap (λ (r : Option PageNo). is_some r) (sym is)
+    by (Some page) is =
+        let some : is_some e.root ≡ true = ap (λ (r : Option PageNo). is_some r) is in
+        let long = rooted g units e f all some in
+        positive (length (map (object_of units) f.lines)) (omega (arith, long, length-map f.lines (object_of units))) ∙ sym some
+
+pub all_of : (g : Geometry) (units : Units) (es : List FileEntry) (fs : List FileContent) → AllZip (HasIndex g units) es fs → AllZip (HasPages units) es fs → AllByRecursion HasLines fs → AllZip (HasAll g units) es fs
+all_of g units [] [] index pages lines = tt
+all_of g units [] (f ∷ fs) index pages lines = absurd index
+all_of g units (e ∷ es) [] index pages lines = absurd index
+all_of g units (e ∷ es) (f ∷ fs) index pages lines = ((index.0, pages.0, lines.0), all_of g units es fs index.1 pages.1 lines.1)
+
+pub not_empty_as : (g : Geometry) (units : Units) (name : List ℕ) (es : List FileEntry) (fs : List FileContent) → AllZip (HasAll g units) es fs
+    → has_objects (find (tables.has_name name) (map (file_of units) (zip es fs))) ≡ has_pages (find (edits.has_name name) es)
+not_empty_as g units name [] [] h = refl
+not_empty_as g units name [] (f ∷ fs) h = absurd h
+not_empty_as g units name (e ∷ es) [] h = absurd h
+not_empty_as g units name (e ∷ es) (f ∷ fs) h =
+    elim (bytes_eq e.name name) as (λ b. has_objects (cond b (Some (file_of units (e, f))) (find (tables.has_name name) (map (file_of units) (zip es fs)))) ≡ has_pages (cond b (Some e) (find (edits.has_name name) es))) [
+      | true ↦ objects_as_root g units e f h.0
+      | false ↦ not_empty_as g units name es fs h.1
+    ]
+
+-- ---- the file of a name is empty, and there is one at most
+
+not_before_self : (a : List ℕ) → slice_cmp nat_cmp a a ≡ Less → ⊥
+not_before_self a self = (let turned : Less ≡ Greater = sym self ∙ nat_list_cmp_total.antisymm a a ∙ ap ordering_reverse self in absurd cc)
+
+all_later : (x : List ℕ) (es : List FileEntry) → RisingTexts (x ∷ map name_of es) → AllByRecursion (λ (e : FileEntry). slice_cmp nat_cmp x e.name ≡ Less) es
+all_later x [] h = tt
+all_later x (e ∷ es) h = (h.0, earlier es (all_later e.name es h.1))
+  where
+    earlier : (fs : List FileEntry) → AllByRecursion (λ (f : FileEntry). slice_cmp nat_cmp e.name f.name ≡ Less) fs → AllByRecursion (λ (f : FileEntry). slice_cmp nat_cmp x f.name ≡ Less) fs
+    earlier [] p = tt
+    earlier (f ∷ fs) p = (nat_list_cmp_total.trans x e.name f.name h.0 p.0, earlier fs p.1)
+
+abbrev pub IsGone : List ℕ → FileEntry → FileContent → Type 0
+IsGone name e f = bytes_eq e.name name ≡ true → f ≡ empty_file
+
+none_later : (name : List ℕ) (R : FileEntry → FileContent → Type 0) (es : List FileEntry) (fs : List FileContent) → AllByRecursion (λ (e : FileEntry). slice_cmp nat_cmp name e.name ≡ Less) es → AllZip R es fs → AllZip (IsGone name) es fs
+none_later name R [] [] later h = tt
+none_later name R [] (f ∷ fs) later h = absurd h
+none_later name R (e ∷ es) [] later h = absurd h
+none_later name R (e ∷ es) (f ∷ fs) later h =
+    (λ is. absurd (not_before_self name (subst (λ (n : List ℕ). slice_cmp nat_cmp name n ≡ Less) ((bytes_eq-Decides e.name name).0 is) later.0)), none_later name R es fs later.1 h.1)
+
+names_tail : (x : List ℕ) (xs : List (List ℕ)) → RisingTexts (x ∷ xs) → RisingTexts xs
+names_tail x [] h = tt
+names_tail x (y ∷ xs) h = h.1
+
+pub gone_of : (g : Geometry) (units : Units) (name : List ℕ) (es : List FileEntry) (fs : List FileContent) → RisingTexts (map name_of es) → has_pages (find (edits.has_name name) es) ≡ false → AllZip (HasAll g units) es fs → AllZip (IsGone name) es fs
+gone_of g units name [] [] sorted none h = tt
+gone_of g units name [] (f ∷ fs) sorted none h = absurd h
+gone_of g units name (e ∷ es) [] sorted none h = absurd h
+gone_of g units name (e ∷ es) (f ∷ fs) sorted none h =
+    (elim (bytes_eq e.name name) as (λ b. bytes_eq e.name name ≡ b → has_pages (cond b (Some e) (find (edits.has_name name) es)) ≡ false → AllZip (IsGone name) (e ∷ es) (f ∷ fs)) [
+      | true ↦ λ is none. (
+        λ _. rootless g units e f h.0 (no_root e.root none),
+        none_later name (HasAll g units) es fs (subst (λ (n : List ℕ). AllByRecursion (λ (e : FileEntry). slice_cmp nat_cmp n e.name ≡ Less) es) ((bytes_eq-Decides e.name name).0 is) (all_later e.name es sorted)) h.1,
+      )
+      | false ↦ λ isnt none. (λ is. absurd (bits is isnt), gone_of g units name es fs (names_tail e.name (map name_of es) sorted) none h.1)
+    ]) refl none
+  where
+    no_root : (o : Option PageNo) → is_some o ≡ false → o ≡ None
+    no_root None is = refl
+    no_root (Some p) is = absurd (cc)
+
+    bits : {b : Bool} → b ≡ true → b ≡ false → ⊥
+    bits one other = cc
+
+-- ---- without it
+
+abbrev pub files_without : List ℕ → List FileEntry → List FileContent → List FileContent
+files_without name [] fs = fs
+files_without name (e ∷ es) [] = []
+files_without name (e ∷ es) (f ∷ fs) = cond (not (bytes_eq e.name name)) (f ∷ files_without name es fs) (files_without name es fs)
+
+abbrev pub volume_without : List ℕ → Volume → Volume
+volume_without name v = record { catalog = edits.with_entries v.catalog (edits.without_name name v.catalog.entries); files = files_without name v.catalog.entries v.files }
+
+zip_without : (R : FileEntry → FileContent → Type 0) (name : List ℕ) (es : List FileEntry) (fs : List FileContent) → AllZip R es fs → AllZip R (edits.without_name name es) (files_without name es fs)
+zip_without R name [] [] h = tt
+zip_without R name [] (f ∷ fs) h = absurd h
+zip_without R name (e ∷ es) [] h = absurd h
+zip_without R name (e ∷ es) (f ∷ fs) h =
+    elim (bytes_eq e.name name) as (λ b. AllZip R (cond (not b) (e ∷ edits.without_name name es) (edits.without_name name es)) (cond (not b) (f ∷ files_without name es fs) (files_without name es fs))) [
+      | true ↦ zip_without R name es fs h.1
+      | false ↦ (h.0, zip_without R name es fs h.1)
+    ]
+
+each_without : (P : FileContent → Type 0) (name : List ℕ) (es : List FileEntry) (fs : List FileContent) → AllByRecursion P fs → AllByRecursion P (files_without name es fs)
+each_without P name [] fs h = h
+each_without P name (e ∷ es) [] h = tt
+each_without P name (e ∷ es) (f ∷ fs) h =
+    elim (bytes_eq e.name name) as (λ b. AllByRecursion P (cond (not b) (f ∷ files_without name es fs) (files_without name es fs))) [
+      | true ↦ each_without P name es fs h.1
+      | false ↦ (h.0, each_without P name es fs h.1)
+    ]
+
+flat_without : {A : Type 0} (F : FileContent → List A) (name : List ℕ) (es : List FileEntry) (fs : List FileContent) → F empty_file ≡ [] → AllZip (IsGone name) es fs → flat_map F (files_without name es fs) ≡ flat_map F fs
+flat_without F name [] [] none h = refl
+flat_without F name [] (f ∷ fs) none h = absurd h
+flat_without F name (e ∷ es) [] none h = absurd h
+flat_without F name (e ∷ es) (f ∷ fs) none h =
+    (elim (bytes_eq e.name name) as (λ b. bytes_eq e.name name ≡ b → flat_map F (cond (not b) (f ∷ files_without name es fs) (files_without name es fs)) ≡ F f ++ flat_map F fs) [
+      | true ↦ λ is. flat_without F name es fs none h.1 ∙ sym (ap (λ l. l ++ flat_map F fs) (ap F (h.0 is) ∙ none))
+      | false ↦ λ isnt. ap (λ l. F f ++ l) (flat_without F name es fs none h.1)
+    ]) refl
+
+module _ (name : List ℕ) (v : Volume) (gone : AllZip (IsGone name) v.catalog.entries v.files) where
+  pub pages_without : file_pages (volume_without name v) ≡ file_pages v
+  pages_without = flat_without pages_of_file name v.catalog.entries v.files refl gone
+
+  lines_without : lines_of (volume_without name v) ≡ lines_of v
+  lines_without = flat_without (λ (file : FileContent). file.lines) name v.catalog.entries v.files refl gone
+
+  pub stored_without : stored_in (volume_without name v) ≡ stored_in v
+  stored_without = ap (λ (lines : List Line). flat_map line_records lines) lines_without
+
+  pub others_without : (g : Geometry) (records : List LogRecord) (units : Units) → Others g records units v → Others g records units (volume_without name v)
+  others_without g records units (file, (page, (body, (node, (balance, (unique, end)))))) =
+      let es = v.catalog.entries in
+      let roots = ap roots_in stored_without in (
+        (zip_without (HasIndex g units) name es v.files file.0, subst AllDiffer (sym pages_without) file.1),
+        (
+          zip_without (HasPages units) name es v.files page,
+          (
+            each_without HasLines name es v.files body,
+            (
+              record {
+                named = subst (λ (rs : List Root). AllByRecursion (λ (root : Root). RootNamed g units root.height root.page) rs) (sym roots) node.named;
+                no_file_page =
+                    subst (λ (rs : List Root). AllByRecursion (λ (root : Root). Apart (root_units units root) (catalog_no ∷ file_pages (volume_without name v))) rs) (sym roots)
+                    (subst (λ (pages : List ℕ). AllByRecursion (λ (root : Root). Apart (root_units units root) (catalog_no ∷ pages)) (roots_in (stored_in v))) (sym pages_without) node.no_file_page);
+                one_object = subst (λ (ls : List Line). AllApart (map (line_units units) ls)) (sym lines_without) node.one_object;
+              },
+              (
+                subst (λ (rs : List Root). AllByRecursion (HasBalance g units) rs) (sym roots) balance,
+                (
+                  record {
+                    differ = subst (λ (ss : List Stored). AllDiffer (map unique_of ss)) (sym stored_without) unique.differ;
+                    some = subst (λ (ss : List Stored). AllByRecursion (λ (s : Stored). 1 ≤ unique_of s) ss) (sym stored_without) unique.some;
+                    below = subst (λ (ss : List Stored). AllByRecursion (λ (s : Stored). unique_of s < v.catalog.next_unique) ss) (sym stored_without) unique.below;
+                    listed = each_without (λ (f : FileContent). Rising (map line_number f.lines)) name es v.files unique.listed;
+                  },
+                  tt,
+                ),
+              ),
+            ),
+          ),
+        ),
+      )
+
+table_files : (R : FileEntry → FileContent → Type 0) (units : Units) (name : List ℕ) (es : List FileEntry) (fs : List FileContent) → AllZip R es fs
+    → map (file_of units) (zip (edits.without_name name es) (files_without name es fs)) ≡ filter (λ f. not (tables.has_name name f)) (map (file_of units) (zip es fs))
+table_files R units name [] [] h = refl
+table_files R units name [] (f ∷ fs) h = absurd h
+table_files R units name (e ∷ es) [] h = absurd h
+table_files R units name (e ∷ es) (f ∷ fs) h =
+    elim (bytes_eq e.name name) as (λ b. map (file_of units) (zip (cond (not b) (e ∷ edits.without_name name es) (edits.without_name name es)) (cond (not b) (f ∷ files_without name es fs) (files_without name es fs)))
+    ≡ cond (not b) (file_of units (e, f) ∷ filter (λ f. not (tables.has_name name f)) (map (file_of units) (zip es fs))) (filter (λ f. not (tables.has_name name f)) (map (file_of units) (zip es fs)))) [
+      | true ↦ table_files R units name es fs h.1
+      | false ↦ ap (λ (fs : List TableFile). file_of units (e, f) ∷ fs) (table_files R units name es fs h.1)
+    ]
+
+pub table_without_file : (g : Geometry) (records : List LogRecord) (units : Units) (name : List ℕ) (v : Volume) → Others g records units v → table_of units (volume_without name v) ≡ tables.without_file name (table_of units v)
+table_without_file g records units name v others = let files = table_files (HasIndex g units) units name v.catalog.entries v.files others.0.0 in cc (files)

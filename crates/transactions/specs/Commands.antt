@@ -1,0 +1,56 @@
+-- What a step on any command promises.
+use Rattle.std.specs.Prelude.{◌≡◌, Bool, true, false, Result, IfOk, IfErr}
+use Rattle.disk_model.specs.Outside.{Outside, DiskOnly, Leaves, ReadsOnly}
+use Rattle.table_model.specs.declared.reply.Reply.{Reply}
+use Rattle.table_model.specs.Requests.{Request}
+use Rattle.table_model.specs.Requests as request
+use Rattle.session_views.specs.declared.engine.Stop.{Stop}
+use Rattle.session_views.specs.View.{View, ShowsNow, Stepped, StandsDuring}
+use Rattle.transactions.specs.Lines.{IfShown, IsOutside, LineStops}
+use Rattle.transactions.specs.Meant.{meant}
+use Rattle.transactions.specs.Sessions.{SessionState}
+use Rattle.transactions.specs.Steps.{IsQuiet, IsRefused, OnlyFrames, Stops}
+
+-- The command makes, changes or removes a version. What it writes of a tree goes to units that are not in use, at once.
+abbrev pub changes_objects : Request → Bool
+changes_objects (request.Create file bind) = true
+changes_objects (request.Destroy x) = true
+changes_objects (request.Insert x pos given) = true
+changes_objects (request.Append x given) = true
+changes_objects (request.Replace x pos given) = true
+changes_objects (request.Delete x pos len) = true
+changes_objects (request.Freeze x bind) = true
+changes_objects (request.DropVersion x) = true
+changes_objects r = false
+
+-- The command reads records or trees: it asks more of the volume than its catalog.
+abbrev pub asks_objects : Request → Bool
+asks_objects (request.ListFile name) = true
+asks_objects (request.Size x) = true
+asks_objects (request.Stat x) = true
+asks_objects (request.Digest x) = true
+asks_objects (request.Versions x) = true
+asks_objects (request.Read x pos len) = true
+asks_objects (request.Scan x name group) = true
+asks_objects (request.Next name len) = true
+asks_objects r = changes_objects r
+
+abbrev pub IsOfCatalog : Request → Type 0
+IsOfCatalog r = asks_objects r ≡ false
+
+-- it is no commit and no checkpoint, and changes no object
+abbrev pub ReadsAlone : Request → Type 0
+ReadsAlone r = IsQuiet r × (changes_objects r ≡ false)
+
+-- A step on any command, from what stands outside before it to what stands there after it.
+pub record Answers (a b : Outside) (old new : SessionState) (r : Request) (result : Result Reply Stop) : Type 0 where
+  pub only : DiskOnly a b
+  pub down : new.down ≡ old.down
+  pub stops : IfErr result (LineStops a b)
+  pub sound : IfErr result (λ why. IfShown a old (λ before. IsOutside why))
+  pub catalog : IsOfCatalog r → IfErr result (Stops a b old)
+  pub refused : IfOk result (λ told. IsRefused told → OnlyFrames a b old new)
+  pub quiet : IsQuiet r → new.log ≡ old.log
+  pub reads : ReadsAlone r → ReadsOnly a b
+  pub stepped : (before : View SessionState) → before.session ≡ old → ShowsNow meant a before → IfOk result (λ told. Stepped meant before r told new b)
+  pub any_moment : (before : View SessionState) → before.session ≡ old → ShowsNow meant a before → Leaves a b (StandsDuring meant before.machine r)

@@ -1,0 +1,170 @@
+-- What a line that edits a version asks for, why it is refused, and what it leaves.
+use Rattle.std.specs.Prelude.{◌≡◌, ◌≤◌, ◌^◌, ℕ, ◌+◌, ◌-◌, ◌==◌, ◌||◌, List, [], ◌∷◌, length, Bool, true, false, nat_lt, if◌then◌else◌, Option, Some, None, is_none, is_some, find, bytes_eq, Result, Ok, Err, nat_le, ◌&&◌}
+use Rattle.std.specs.List.{list_any}
+use Rattle.std.specs.Option.{option_or}
+use Rattle.object_files.specs.Catalog.{Catalog, FileEntry}
+use Rattle.object_files.specs.Edits.{has_name}
+use Rattle.table_model.specs.declared.machine.BoundName.{BoundName}
+use Rattle.transactions.specs.declared.session.creation.NewObject.{NewObject}
+use Rattle.ex_base.specs.Sizes.{object_most}
+use Rattle.ex_base.specs.declared.geometry.Geometry.{Geometry}
+use Rattle.ex_base.specs.declared.names.Area.{Area}
+use Rattle.ex_base.specs.declared.names.Area.TheVariants.{Page, Segment}
+use Rattle.ex_base.specs.declared.names.Oid.{Oid}
+use Rattle.ex_base.specs.declared.names.Root.{Root}
+use Rattle.ex_base.specs.declared.names.OpNote.{OpNote}
+use Rattle.object_records.specs.declared.Head.{Head}
+use Rattle.object_records.specs.declared.State.{State}
+use Rattle.object_records.specs.declared.State.TheVariants.{Current, Frozen}
+use Rattle.table_model.specs.declared.reply.Reply.{Reply}
+use Rattle.table_model.specs.declared.reply.Reply.TheVariants as reply
+use Rattle.table_model.specs.declared.reply.Refusal.{Refusal}
+use Rattle.table_model.specs.declared.reply.Refusal.TheVariants as refusal
+use Rattle.table_model.specs.Machines.{main, touched_most}
+use Rattle.table_model.specs.Refusals.{when, first, refusal_of}
+use Rattle.table_model.specs.Requests.{Request, Reference}
+use Rattle.table_model.specs.Requests as request
+use Rattle.table_model.specs.Steps.{note}
+use Rattle.table_model.specs.Words.{data_bytes}
+use Rattle.versions.specs.declared.finding.Found.{Found}
+use Rattle.slotted_pages.specs.FilePage.{room_of}
+use Rattle.slotted_pages.specs.Edits.{slots_of}
+use Rattle.session_views.specs.View.{View}
+use Rattle.versions.specs.Versions.{record_len, Change, Inserts, Appends, Replaces, Deletes, count_of}
+use Rattle.versions.specs.Needs.{most_need}
+use Rattle.transactions.specs.declared.session.edits.Need.{Need}
+use Rattle.transactions.specs.declared.session.moving.Limit.{Limit}
+use Rattle.transactions.specs.declared.session.objects.Named.{Named}
+use Rattle.volume_model.specs.Shown.{Held}
+use Rattle.transactions.specs.declared.session.edits.Admitted.{Admitted}
+use Rattle.transactions.specs.Lines.{held_image, NamesVersion}
+use Rattle.transactions.specs.Meant.{held_view, pick_of}
+use Rattle.transactions.specs.Refused.{free_in, long_txn}
+use Rattle.transactions.specs.Sessions.{SessionState}
+
+-- the line asks for this change of the version that the reference names
+abbrev pub AsksFor : Request → Reference → Change → Type 0
+AsksFor (request.Insert y pos given) x change = (y ≡ x) × (change ≡ Inserts pos (data_bytes given))
+AsksFor (request.Append y given) x change = (y ≡ x) × (change ≡ Appends (data_bytes given))
+AsksFor (request.Replace y pos given) x change = (y ≡ x) × (change ≡ Replaces pos (data_bytes given))
+AsksFor (request.Delete y pos len) x change = (y ≡ x) × (change ≡ Deletes pos len)
+AsksFor _ x change = ⊥
+
+-- the change names bytes past the end of an object of this size
+abbrev pub is_outside : Change → ℕ → Bool
+is_outside (Inserts pos given) size = nat_lt size pos
+is_outside (Appends given) size = false
+is_outside (Replaces pos given) size = nat_lt size (pos + length given)
+is_outside (Deletes pos len) size = nat_lt size (pos + len)
+
+-- the size after it
+abbrev pub size_after : Change → ℕ → ℕ
+size_after (Inserts pos given) size = size + length given
+size_after (Appends given) size = size + length given
+size_after (Replaces pos given) size = size
+size_after (Deletes pos len) size = size - len
+
+-- the note that it leaves, of an object of this size before
+abbrev pub edit_note : Change → Oid → ℕ → OpNote
+edit_note (Inserts pos given) oid size = note 5 oid pos (length given)
+edit_note (Appends given) oid size = note 6 oid size (length given)
+edit_note (Replaces pos given) oid size = note 7 oid pos (length given)
+edit_note (Deletes pos len) oid size = note 8 oid pos len
+
+-- what it is answered, with the size after
+abbrev pub edit_reply : Change → ℕ → Reply
+edit_reply (Inserts pos given) size = reply.Insert size
+edit_reply (Appends given) size = reply.Append size
+edit_reply (Replaces pos given) size = reply.Replace size
+edit_reply (Deletes pos len) size = reply.Delete size
+
+abbrev pub is_frozen : State → Bool
+is_frozen Current = false
+is_frozen Frozen = true
+
+-- why the bytes of a version, of which this was found, are not changed so
+abbrev pub bytes_refusal : Found → Change → Option Refusal
+bytes_refusal found change =
+    first (when (is_frozen found.head.state) refusal.Frozen ∷ when (is_outside change found.size) refusal.Range ∷ when (nat_lt object_most (size_after change found.size)) refusal.TooLarge ∷ [])
+
+-- the height of a tree, 0 where there is none
+abbrev pub root_height : Option Root → ℕ
+root_height None = 0
+root_height (Some root) = root.height
+
+-- the units of an area that the change may take: none where it names no bytes or the version stays small
+abbrev pub units_need : Geometry → Found → Change → Bool → Area → ℕ
+units_need g found change small area = if count_of change == 0 || small then 0 else most_need g change (root_height found.root) area
+
+-- what the change of a version may take: one logged page is touched, that of its record
+abbrev pub edit_need : Geometry → Found → Change → Bool → Need
+edit_need g found change small = record { charge = 1; pages = units_need g found change small Page; segs = units_need g found change small Segment }
+
+-- what an update may take is small enough to be counted with
+pub record IsNeed (need : Need) : Type 0 where
+  pub charge : need.charge ≤ touched_most
+  pub pages : need.pages ≤ 2 ^ 40
+  pub segs : need.segs ≤ 2 ^ 40
+
+-- the update may take n units of an area
+abbrev pub full_in : SessionState → Area → ℕ → Option Refusal
+full_in s area n = when (nat_lt (free_in s area) n) (refusal.Full area n (free_in s area))
+
+-- the open transaction has no room for an update: of touched pages, of pages, of units of the segment area
+abbrev pub room_refusal : SessionState → Need → Option Refusal
+room_refusal s need = first (long_txn s need.charge ∷ full_in s Page need.pages ∷ full_in s Segment need.segs ∷ [])
+
+-- what the update may leave at the most of touched pages, and at the least of free units
+abbrev pub limit_of : SessionState → Need → Limit
+limit_of s need = record { touched = length s.meta.working + need.charge; pages = free_in s Page - need.pages; segs = free_in s Segment - need.segs }
+
+-- the bytes that more bodies may take on the page where an OID leads
+abbrev pub room_beside : View SessionState → Oid → ℕ
+room_beside before oid = room_of before.session.geometry.page_size (slots_of (held_image (held_view before).session before.disk oid.page.0))
+
+-- the version is small, and its record would fit its page with so many bytes
+abbrev pub fits_beside : View SessionState → Named → ℕ → Bool
+fits_beside before version n = is_none version.found.root && nat_le (record_len n) (record_len version.found.size + room_beside before version.oid)
+
+-- The machine answers a line that asks for the change of the version so: by this refusal, or by none where it accepts the line, whatever the view after.
+abbrev pub IsAnswered : View SessionState → Reference → Change → Option Refusal → Type 0
+IsAnswered before x change why = (r : Request) (after : View Held) → AsksFor r x change → refusal_of before.machine r (pick_of (held_view before) r after) ≡ why
+
+-- why the change of a version, of which this was found, is refused, in an open transaction
+abbrev pub edit_refusal : SessionState → Found → Change → Bool → Option Refusal
+edit_refusal s found change small = option_or (bytes_refusal found change) (room_refusal s (edit_need s.geometry found change small))
+
+-- The machine accepts the line. It names this version, and its change may take so much.
+pub record IsAdmitted (before : View SessionState) (x : Reference) (change : Change) (given : Admitted) : Type 0 where
+  pub named : NamesVersion before x given.version
+  pub accepted : IsAnswered before x change None
+  pub need : given.need ≡ edit_need before.session.geometry given.version.found change (fits_beside before given.version (size_after change given.version.found.size))
+
+-- The change lies inside the version that was found, and there is room for it.
+pub record IsWithin (s : SessionState) (change : Change) (given : Admitted) : Type 0 where
+  pub size : given.version.found.size ≤ object_most
+  pub bytes : bytes_refusal given.version.found change ≡ None
+  pub count : count_of change ≤ object_most
+  pub room : room_refusal s given.need ≡ None
+  pub charge : given.need.charge ≡ 1
+
+-- ---- the other updates of objects
+
+abbrev pub has_older : Head → Bool
+has_older head = is_some head.older
+
+-- why the object of a version, of which this was found, is not removed
+abbrev pub destroy_refusal : Found → Option Refusal
+destroy_refusal found = first (when (is_frozen found.head.state) refusal.Frozen ∷ when (has_older found.head) refusal.HasVersions ∷ [])
+
+-- whether a version is bound to a name, or the name is that of the group that every session has
+abbrev pub is_taken_by : List BoundName → List ℕ → Bool
+is_taken_by names name = bytes_eq name main || list_any (λ (b : BoundName). bytes_eq b.name name) names
+
+-- the number of the file that a new object is put into and the object's unique number, or why there is none
+abbrev pub place_if : Option FileEntry → ℕ → Result NewObject Refusal
+place_if None unique = Err refusal.NoFile
+place_if (Some e) unique = if unique == 2 ^ 64 - 1 then Err refusal.IdsSpent else Ok (record { file_no = e.file_no; unique = unique })
+
+abbrev pub new_object_in : Catalog → List ℕ → Result NewObject Refusal
+new_object_in catalog file = place_if (find (has_name file) catalog.entries) catalog.next_unique
