@@ -1,0 +1,65 @@
+#!/usr/bin/env bash
+# Measures sessions on a real file: whole runs of exsm, less the run of an empty script on the same volume. Beside each, a plain write and fdatasync of as
+# many bytes. Words: the folder to work in (it must lie on the disk that is to be measured; none: a new one under /tmp). EXSM names another program.
+set -eu
+top="$(cd "$(dirname "${BASH_SOURCE[0]}")/.." && pwd)"
+work="${1:-$(mktemp -d)}"
+exsm="${EXSM:-$top/crates/exsm/out/exsm}"
+[ -x "$exsm" ] || "$top/exsm" format >/dev/null 2>&1 || true
+[ -x "$exsm" ] || { echo "objects.sh: exsm isn't built" >&2; exit 1; }
+
+now() { date +%s%N; }
+
+# ms NAME SCRIPT BYTES: the time of the script on the volume, and of a plain write of BYTES.
+measure() {
+    local name="$1" script="$2" bytes="$3" start end empty whole plain
+    start=$(now); "$exsm" run "$work/v" </dev/null >/dev/null; end=$(now); empty=$((end - start))
+    start=$(now); "$exsm" run "$work/v" <"$script" >"$work/replies"; end=$(now); whole=$((end - start))
+    if grep -q '^no ' "$work/replies"; then
+        echo "objects.sh: $name was refused: $(grep -m 1 '^no ' "$work/replies")" >&2
+        exit 1
+    fi
+    head -c "$bytes" /dev/zero >"$work/bytes"
+    start=$(now); dd if="$work/bytes" of="$work/plain" bs=1M conv=fdatasync status=none; end=$(now); plain=$((end - start))
+    echo "$name: $(((whole - empty) / 1000000)) ms, a plain write of $bytes bytes $((plain / 1000000)) ms"
+}
+
+rm -f "$work/v"
+"$exsm" format "$work/v" --page-size 4096 --pages 4096 --segs 16384 --seg-len 1 --fan 169 >/dev/null
+
+{
+    echo begin; echo 'file docs'; echo 'create docs as @d'
+    echo 'append @d rep:12582912:61'
+    echo commit
+} >"$work/append"
+measure 'append 12 MiB and commit' "$work/append" 12582912
+
+{
+    echo begin
+    for _ in $(seq 512); do echo 'insert 258.0.1 6000000 hex:2a'; done
+    echo commit
+} >"$work/inserts"
+measure '512 inserts of one byte at 6,000,000 and commit' "$work/inserts" 512
+
+{
+    for i in $(seq 100); do
+        echo begin; echo "insert 258.0.1 $((i * 100000)) rep:100:62"; echo commit
+    done
+} >"$work/commits"
+measure '100 commits of one insert of 100 bytes' "$work/commits" 10000
+
+for i in $(seq 0 999); do echo "read 258.0.1 $((i * 12289)) 4096"; done >"$work/reads"
+measure '1,000 reads of 4 KiB' "$work/reads" 4096000
+
+{
+    echo begin; echo 'file small'; echo commit
+    for block in $(seq 0 249); do
+        echo begin
+        for i in $(seq 40); do
+            n=$((block * 40 + i))
+            echo "create small as @n$n"; echo "append @n$n rep:100:63"
+        done
+        echo commit
+    done
+} >"$work/records"
+measure '10,000 objects of 100 bytes in 250 commits' "$work/records" 1000000

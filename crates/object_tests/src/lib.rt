@@ -1,0 +1,14 @@
+//! Scripts of objects, run on volumes in memory: what each line is answered, what is found again, which part of a bad volume is named, and what a stop
+//! leaves.
+#![tactic(auto)]
+
+#[cfg(test)]
+mod crafted;
+#[cfg(test)]
+mod editing;
+#[cfg(test)]
+mod large;
+#[cfg(test)]
+mod stops;
+#[cfg(test)]
+mod volumes;
