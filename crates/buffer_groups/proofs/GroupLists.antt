@@ -1,12 +1,12 @@
 -- Lists of groups.
-use Rattle.std.proofs.Common.{◌≡◌, ◌<◌, ◌≤◌, ◌+◌, ◌++◌, take, drop, zero, ℕ, suc, List, ◌∷◌, [], length, map, All, Option, Some, IsSome, Result, Ok, Err, OnOk, OnErr, nat_eq, slice_get, slice_set, get_or, refl, ap, subst, ◌∙◌, arith}
+use Rattle.std.proofs.Common.{◌≡◌, ◌<◌, ◌≤◌, ◌+◌, ◌++◌, take, drop, zero, ℕ, suc, List, ◌∷◌, [], length, map, All, Option, Some, IsSome, Result, Ok, Err, OnOk, OnErr, nat_eq, slice_get, slice_set, get_or, refl, sym, ap, subst, ◌∙◌, arith}
 use Rattle.std.proofs.lemmas.List.{length-set, get_or-set_same}
 use Rattle.std.proofs.lemmas.List.Elements.{All-set, All-get_or}
 use Rattle.std.proofs.lemmas.Option.{get_or_from_slice_get, slice_get-get_or}
 use Rattle.std.proofs.lemmas.Result.{on_ok_weaker}
 use Rattle.std.specs.Map.{lookup}
-use Rattle.buffer_groups.specs.Frames.{Frames, Lends, KeepsLending, Brought, NotBrought}
-use Rattle.buffer_groups.specs.Groups.{GroupBrought, GroupNotBrought, GroupsKeep, HasFrame}
+use Rattle.buffer_groups.specs.Frames.{Frames, Lends, KeepsLending, IsHeld, Brought, NotBrought, page_of}
+use Rattle.buffer_groups.specs.Groups.{GroupBrought, GroupNotBrought, GroupsKeep, HasFrame, AreOfSize}
 
 module _ (P : Frames → Type 0) where
   pub at_index : (gs : List Frames) (index : ℕ) (f : Frames) → slice_get gs index ≡ Some f → index < length gs → All P gs → P f
@@ -28,18 +28,27 @@ some_of : {X : Type 0} (o : Option X) (x : X) → o ≡ Some x → IsSome o
 some_of o x e = rw e refl
 
 -- a page that the group at the index brought
+pub one_brought : (disk : Option (List ℕ)) (gs : List Frames) (index page : ℕ) (old new : Frames) (bytes : List ℕ) → slice_get gs index ≡ Some old → index < length gs
+    → Brought disk old new page bytes → GroupBrought disk gs (slice_set gs index new) index page
+one_brought disk gs index page old new bytes is h brought = record {
+  before = old;
+  after = new;
+  bytes = bytes;
+  at = is;
+  groups = refl;
+  brought = brought;
+  has = record { group = new; at = slice_get-set gs index new h; found = some_of _ bytes brought.found };
+}
+
 pub group_brought : {T E : Type 0} (r : Result T E) (disk : Option (List ℕ)) (gs : List Frames) (index page : ℕ) (old new : Frames) → slice_get gs index ≡ Some old → index < length gs
     → OnOk r ((bytes : List ℕ) × Brought disk old new page bytes) → OnOk r (GroupBrought disk gs (slice_set gs index new) index page)
-group_brought r disk gs index page old new is h =
-    on_ok_weaker r (λ b. record {
-      before = old;
-      after = new;
-      bytes = b.0;
-      at = is;
-      groups = refl;
-      brought = b.1;
-      has = record { group = new; at = slice_get-set gs index new h; found = some_of _ b.0 b.1.found };
-    })
+group_brought r disk gs index page old new is h = on_ok_weaker r (λ b. one_brought disk gs index page old new b.0 is h b.1)
+
+-- the bytes of a page in the size of the groups' pages
+pub held_of_size : (disk : Option (List ℕ)) (gs : List Frames) (index size page : ℕ) (group : Frames) (bytes : List ℕ) → slice_get gs index ≡ Some group → index < length gs → AreOfSize size gs
+    → IsHeld disk size page bytes → IsHeld disk group.page_size page bytes
+held_of_size disk gs index size page group bytes is h sizes told = λ held there.
+    told held there ∙ ap (λ n. page_of held n page) (sym (at_index (λ f. f.page_size ≡ size) gs index group is h sizes))
 
 -- a page that it did not bring
 pub group_not_brought : {T E : Type 0} (r : Result T E) (gs : List Frames) (index page : ℕ) (old new : Frames) → slice_get gs index ≡ Some old

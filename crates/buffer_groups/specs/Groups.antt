@@ -1,7 +1,7 @@
 -- What a contract sees of the groups of a session, a list of groups.
 use Rattle.std.specs.Prelude.{◌≡◌, ℕ, List, length, map, All, nat_eq, Option, Some, IsSome, slice_get, slice_set}
 use Rattle.std.specs.Map.{lookup}
-use Rattle.buffer_groups.specs.Frames.{Frames, Lends, Brought, NotBrought, forgotten}
+use Rattle.buffer_groups.specs.Frames.{Frames, Lends, IsAbsent, Brought, NotBrought, forgotten}
 
 -- Each group without the frame of a page.
 abbrev pub forgotten_in_all : ℕ → List Frames → List Frames
@@ -12,6 +12,14 @@ pub record HasFrame (groups : List Frames) (index page : ℕ) : Type 0 where
   pub group : Frames
   pub at : slice_get groups index ≡ Some group
   pub found : IsSome (lookup (nat_eq page) group.entries)
+
+-- The group at an index has no frame of the page.
+abbrev pub LacksFrame : List Frames → ℕ → ℕ → Type 0
+LacksFrame groups index page = (group : Frames) → slice_get groups index ≡ Some group → IsAbsent group page
+
+-- All groups are of one page size.
+abbrev pub AreOfSize : ℕ → List Frames → Type 0
+AreOfSize size groups = All (λ (f : Frames). f.page_size ≡ size) groups
 
 -- The group at an index brought the page into its first frame, with these bytes. The other groups stay.
 pub record GroupBrought (disk : Option (List ℕ)) (old new : List Frames) (index page : ℕ) : Type 0 where

@@ -1,9 +1,10 @@
 //! One group of frames.
-ghost use Rattle.std.specs.Prelude.{◌≡◌, ◌≤◌, ◌<◌, ◌+◌, ◌*◌, ◌^◌, ◌∷◌, [], length, All, IfOk, OnOk, OnErr, nat_eq, ℕ, List, Some, IsSome, IsOk, MatchResult, slice_get, option_map};
+ghost use Rattle.std.specs.Prelude.{◌≡◌, ◌≤◌, ◌<◌, ◌+◌, ◌*◌, ◌^◌, ◌∷◌, [], length, All, IfOk, OnOk, OnErr, nat_eq, ℕ, List, Option, Some, IsSome, IsOk, MatchResult, slice_get, option_map};
 ghost use Rattle.std.specs.Bool.{OnTrue, OnFalse};
 ghost use Rattle.std.specs.Borrow.{sem};
 ghost use Rattle.std.specs.Map.{lookup};
 ghost use Rattle.disk_model.specs.Outside.{Outside, ReadsOnly, Rose};
+ghost use Rattle.disk_model.specs.Calls.{MakesCalls, MakesAtMost};
 
 use crate::policy::Policy;
 use disk_model::{Disk, Failed};
@@ -25,6 +26,7 @@ pub enum FetchFault {
 /// A group of frames over a disk. Contracts see its pages with their bytes, the most recently fetched first.
 #[derive(Drop)]
 pub struct Group {
+    alloc: Global,
     cache: LruCache<u32, Image>,
     page_size: u32,
     policy: Policy,
@@ -42,7 +44,7 @@ impl Model for Group {
 }
 
 impl Group {
-    ghost use Rattle.buffer_groups.specs.Frames.{Brought, NotBrought, KeepsLending, Lends, IsAbsent, with_room, without, forgotten, page_of};
+    ghost use Rattle.buffer_groups.specs.Frames.{Brought, NotBrought, KeepsLending, Lends, IsAbsent, IsHeld, with_room, without, forgotten, page_of};
     ghost use Rattle.buffer_groups.specs.Cause.{HasFetchCause};
     ghost use Rattle.buffer_groups.specs.Lending.{GroupRests};
 
@@ -59,6 +61,7 @@ impl Group {
     {
         let cap = NonZeroUsize::new(frames as usize).unwrap();
         Ok(Group {
+            alloc,
             cache: LruCache::new(alloc, cap)?,
             page_size,
             policy,
@@ -66,7 +69,7 @@ impl Group {
     }
 
     /// Lends the bytes of a page. A page in a frame goes to the front, with no disk call and no memory. Else, where all frames are used, one gives
-    /// way by the group's policy, and then the page is read and put in front. After a fault the page is in no frame. `Disk` comes only where the
+    /// way by the group's policy, and then the page is read, by one call, and put in front. After a fault the page is in no frame. `Disk` comes only where the
     /// disk's count of faults rose.
     ///
     /// What is lent ends with the next call on the group. This is refused, since `first` is still in use when the group is borrowed again:
@@ -90,6 +93,8 @@ impl Group {
         ensures len { IfOk result (λ s. length s.now ≡ self.old.page_size) }
         ensures no_memory { IsSome (lookup (nat_eq page.0) self.old.entries) → IsOk result }
         ensures hit { IsSome (lookup (nat_eq page.0) self.old.entries) → disk.new ≡ disk.old }
+        ensures miss { IsAbsent self.old page.0 → OnOk result (MakesCalls 1 (D.outside disk.old) (D.outside disk.new)) }
+        ensures at_most_once { MakesAtMost 1 (D.outside disk.old) (D.outside disk.new) }
         ensures only { ReadsOnly (D.outside disk.old) (D.outside disk.new) }
         ensures cause { HasFetchCause (D.outside disk.old).disk_faults (D.outside disk.new).disk_faults result }
     {
@@ -110,6 +115,8 @@ impl Group {
         ensures keeps { KeepsLending (D.outside disk.old).disk self.old self.new }
         ensures no_memory { IsSome (lookup (nat_eq page.0) self.old.entries) → IsOk result }
         ensures hit { IsSome (lookup (nat_eq page.0) self.old.entries) → disk.new ≡ disk.old }
+        ensures miss { IsAbsent self.old page.0 → OnOk result (MakesCalls 1 (D.outside disk.old) (D.outside disk.new)) }
+        ensures at_most_once { MakesAtMost 1 (D.outside disk.old) (D.outside disk.new) }
         ensures only { ReadsOnly (D.outside disk.old) (D.outside disk.new) }
         ensures cause { HasFetchCause (D.outside disk.old).disk_faults (D.outside disk.new).disk_faults result }
     {
@@ -127,6 +134,26 @@ impl Group {
         ensures len { length result.now ≡ self.now.page_size }
     {
         self.cache.peek(&page.0).unwrap().as_slice()
+    }
+
+    /// Puts the bytes of a page that is in no frame into the first one, as a fetch that reads them does. Where there is no memory, a frame may be
+    /// gone.
+    pub fn put(&mut self, page: PageNo, image: Image) -> Result<(), AllocError>
+        requires absent { IsAbsent self.old page.0 }
+        requires whole { length image ≡ self.old.page_size }
+        ensures ok { OnOk result ((held : Option (List ℕ)) → IsHeld held self.old.page_size page.0 image → Brought held self.old self.new page.0 image) }
+        ensures err { OnErr result (NotBrought self.old self.new page.0) }
+        ensures keeps { (held : Option (List ℕ)) → IsHeld held self.old.page_size page.0 image → KeepsLending held self.old self.new }
+    {
+        self.make_room();
+        self.put_first(page, image)
+    }
+
+    /// A copy of a page's bytes, which `put` takes.
+    pub fn copy(&self, bytes: &[u8]) -> Result<Image, AllocError>
+        ensures { IfOk result (λ image. image ≡ bytes.now) }
+    {
+        Image::of(self.alloc, bytes)
     }
 
     /// Takes a page out of its frame, where it has one. The other frames keep their rank.
@@ -151,6 +178,8 @@ impl Group {
     fn fill<D: Disk>(&mut self, alloc: Global, disk: &mut D, page: PageNo) -> Result<(), FetchFault>
         requires range { (page.0 + 1) * self.old.page_size ≤ (D.outside disk.old).size }
         requires absent { IsAbsent self.old page.0 }
+        ensures once { OnOk result (MakesCalls 1 (D.outside disk.old) (D.outside disk.new)) }
+        ensures at_most_once { MakesAtMost 1 (D.outside disk.old) (D.outside disk.new) }
         ensures ok { OnOk result ((bytes : _)
             × ((self.new ≡ record self.old { entries = (page.0, bytes) ∷ with_room self.old.policy self.old.cap self.old.entries })
             × ((held : List ℕ) → (D.outside disk.old).disk ≡ Some held → bytes ≡ page_of held self.old.page_size page.0))) }

@@ -1,11 +1,12 @@
 //! The groups of a session.
-ghost use Rattle.std.specs.Prelude.{◌≡◌, ◌<◌, ◌≤◌, ◌+◌, ◌*◌, ◌^◌, ◌++◌, [], ◌∷◌, length, slice_get, Some, IfOk, IsOk, OnOk, OnErr, IfSome, ℕ};
+ghost use Rattle.std.specs.Prelude.{◌≡◌, ◌<◌, ◌≤◌, ◌+◌, ◌*◌, ◌^◌, ◌++◌, [], ◌∷◌, length, slice_get, Some, IfOk, IsOk, OnOk, OnErr, IfSome, ℕ, List, Option};
 ghost use Rattle.std.specs.Borrow.{sem};
 ghost use Rattle.disk_model.specs.Outside.{Outside, ReadsOnly};
+ghost use Rattle.disk_model.specs.Calls.{MakesCalls, MakesAtMost};
 
 use crate::group::{FetchFault, Group};
 use disk_model::Disk;
-use ex_base::PageNo;
+use ex_base::{Image, PageNo};
 use std::alloc::{AllocError, Global};
 use std::marker::Model;
 
@@ -28,8 +29,8 @@ impl Model for Groups {
 
 impl Groups {
     ghost use Rattle.buffer_groups.specs.Lending.{LendsGroup};
-    ghost use Rattle.buffer_groups.specs.Frames.{Frames};
-    ghost use Rattle.buffer_groups.specs.Groups.{GroupBrought, GroupNotBrought, GroupsKeep, HasFrame, forgotten_in_all};
+    ghost use Rattle.buffer_groups.specs.Frames.{Frames, IsHeld};
+    ghost use Rattle.buffer_groups.specs.Groups.{GroupBrought, GroupNotBrought, GroupsKeep, HasFrame, LacksFrame, AreOfSize, forgotten_in_all};
     ghost use Rattle.buffer_groups.specs.Cause.{HasFetchCause};
 
     /// Groups that are `main` alone.
@@ -99,9 +100,25 @@ impl Groups {
         ensures keeps { GroupsKeep (D.outside disk.old).disk self.old self.new }
         ensures no_memory { HasFrame self.old index page.0 → IsOk result }
         ensures hit { HasFrame self.old index page.0 → disk.new ≡ disk.old }
+        ensures miss { LacksFrame self.old index page.0 → OnOk result (MakesCalls 1 (D.outside disk.old) (D.outside disk.new)) }
+        ensures at_most_once { MakesAtMost 1 (D.outside disk.old) (D.outside disk.new) }
         ensures only { ReadsOnly (D.outside disk.old) (D.outside disk.new) }
         ensures cause { HasFetchCause (D.outside disk.old).disk_faults (D.outside disk.new).disk_faults result }
     {
         self.at(index).bring(alloc, disk, page)
+    }
+
+    /// Puts the bytes of a page that was just written into the first frame of the group at an index, where the page is in none. A fetch of it there
+    /// then makes no disk call. Where there is no memory, a frame may be gone.
+    pub fn put(&mut self, index: u32, page: PageNo, image: Image) -> Result<(), AllocError>
+        requires index { index < length self.old }
+        requires absent { LacksFrame self.old index page.0 }
+        requires whole { IfSome (slice_get self.old index) (λ (f : Frames). length image ≡ f.page_size) }
+        ensures ok { OnOk result ((held : Option (List ℕ)) (size : ℕ) → AreOfSize size self.old → IsHeld held size page.0 image
+            → GroupBrought held self.old self.new index page.0) }
+        ensures err { OnErr result (GroupNotBrought self.old self.new index page.0) }
+        ensures keeps { (held : Option (List ℕ)) (size : ℕ) → AreOfSize size self.old → IsHeld held size page.0 image → GroupsKeep held self.old self.new }
+    {
+        self.at(index).put(page, image)
     }
 }

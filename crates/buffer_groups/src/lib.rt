@@ -5,8 +5,6 @@
 mod group;
 mod groups;
 mod policy;
-#[cfg(test)]
-mod tests;
 
 pub use group::{FetchFault, Group};
 pub use groups::Groups;

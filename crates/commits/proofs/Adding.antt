@@ -6,6 +6,7 @@ use Rattle.std.specs.Map.{lookup}
 use Rattle.std.proofs.lemmas.List.{length-append}
 use Rattle.std.proofs.lemmas.Bool.{eq-eqb}
 use Rattle.std.proofs.lemmas.Bool.Decides.{eqb_tells}
+use Rattle.std.proofs.lemmas.Option.{same_Some}
 use Rattle.lru.proofs.Splits.{Contains-head, Contains-tail, Contains-cons, Contains-nil}
 use Rattle.ex_base.specs.declared.geometry.Geometry.{Geometry}
 use Rattle.ex_base.specs.declared.names.OpNote.{OpNote}
@@ -14,7 +15,7 @@ use Rattle.ex_base.specs.Order.{Rising}
 use Rattle.ex_base.specs.Sizes.{leaf_bytes}
 use Rattle.disk_model.specs.Outside.{Outside, Only, Leaves}
 use Rattle.disk_model.specs.Changes.{SameBut, InRange, ChangesWithin, changes_wider}
-use Rattle.disk_model.specs.Runs.{leaves_wider, some_same}
+use Rattle.disk_model.specs.Runs.{leaves_wider}
 use Rattle.meta_pages.specs.Overlays.{over}
 use Rattle.meta_pages.specs.Rows.{IsRising}
 use Rattle.op_log.specs.declared.record.LogRecord.{LogRecord}
@@ -57,7 +58,7 @@ pub keeps_log : (d : Decoded) (disk : List ℕ) (log : LogState) (rows : List Pa
 keeps_log d disk log rows w honest holds committed = record {
   honest = honest;
   on_disk = record { disk = disk; holds = holds; says = committed.parts.1.0 };
-  agrees = record { each = λ x e is here i inside. (committed.durable e here).each i (inl inside.1) ∙ ap (λ (l : List ℕ). slice_index l i) (some_same disk x (sym holds ∙ is)) };
+  agrees = record { each = λ x e is here i inside. (committed.durable e here).each i (inl inside.1) ∙ ap (λ (l : List ℕ). slice_index l i) (same_Some disk x (sym holds ∙ is)) };
 }
 
 -- ---- what is written lies in the log
@@ -218,7 +219,7 @@ committed_as d disk log log' overlay overlay' rows txn notes working a b honest 
     let r = record_of txn notes rows in
     let records = d.records ++ r ∷ [] in
     let now = changes.disk honest disk holds in
-    let here : SaysLog d.geometry records now.0 = subst (SaysLog d.geometry records) (some_same says.disk now.0 (sym says.holds ∙ now.1)) says.says in (
+    let here : SaysLog d.geometry records now.0 = subst (SaysLog d.geometry records) (same_Some says.disk now.0 (sym says.holds ∙ now.1)) says.says in (
       now.0,
       now.1,
       record {

@@ -6,6 +6,7 @@ use Rattle.std.specs.List.{AllByRecursion}
 use Rattle.std.specs.Map.{lookup}
 use Rattle.std.proofs.lemmas.Bool.Decides.{eqb_tells}
 use Rattle.std.proofs.lemmas.List.Elements.{All-head, All-tail}
+use Rattle.std.proofs.lemmas.Option.{same_Some}
 use Rattle.ex_base.specs.declared.geometry.Geometry.{Geometry}
 use Rattle.ex_base.specs.Area.{catalog_no, area_end, InPageArea, page_at, leaf_at}
 use Rattle.ex_base.specs.Sizes.{least_volume, least_page}
@@ -13,7 +14,7 @@ use Rattle.disk_model.specs.Outside.{Outside, IsWorld, Only, Leaves}
 use Rattle.disk_model.specs.Changes.{SameBut, InRange, ChangesWithin, changes_wider, leaves_changes}
 use Rattle.buffer_groups.specs.Frames.{page_of}
 use Rattle.commits.specs.Room.{BeforeCatalog}
-use Rattle.disk_model.specs.Runs.{leaves_trans, leaves_wider, some_same, adds_both, honest_on}
+use Rattle.disk_model.specs.Runs.{leaves_trans, leaves_wider, adds_both, honest_on}
 use Rattle.buffer_groups.proofs.Kept.{pages_apart}
 use Rattle.meta_pages.specs.Homes.{InHomes}
 use Rattle.meta_pages.specs.Overlays.{IsPageRow}
@@ -216,7 +217,7 @@ mid_says d disk mid parts home =
 pub mid_keeps : (d : Decoded) (disk : List ℕ) (rows : List PageRow) (a b : Outside) → Decodes disk d → WentHome d disk rows a b → KeepsLog d.geometry b d.records
 mid_keeps d disk rows a b parts went =
     keeps_settled b went.honest (record { disk = went.mid; holds = went.holds; says = mid_says d disk went.mid parts went.home })
-    (λ x is e here. went.only e here ∙ some_same went.mid x (sym went.holds ∙ is))
+    (λ x is e here. went.only e here ∙ same_Some went.mid x (sym went.holds ∙ is))
 
 -- up to the end of the closing
 pub close_leaves : (d : Decoded) (disk : List ℕ) (rows : List PageRow) (a b c : Outside) → IsWorld b → Decodes disk d → WentHome d disk rows a b → ChangesWithin (InRange d.geometry.page_size 1) b c
@@ -235,7 +236,7 @@ pub closed_down : (d : Decoded) (disk : List ℕ) (log log' : LogState) (rows : 
 closed_down d disk log log' rows a b c committed went changes says settled counts =
     let gate = InRange d.geometry.page_size 1 in
     let now = changes.disk went.honest went.mid went.holds in
-    let none : SaysLog d.geometry [] now.0 = subst (SaysLog d.geometry []) (some_same says.disk now.0 (sym says.holds ∙ now.1)) says.says in
+    let none : SaysLog d.geometry [] now.0 = subst (SaysLog d.geometry []) (same_Some says.disk now.0 (sym says.holds ∙ now.1)) says.says in
     let parts = committed.parts in (
       now.0,
       now.1,

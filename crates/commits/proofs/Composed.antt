@@ -8,14 +8,15 @@ use Rattle.lru.proofs.Splits.{Contains-head}
 use Rattle.ex_base.specs.declared.names.OpNote.{OpNote}
 use Rattle.ex_base.specs.declared.names.Root.{Root}
 use Rattle.ex_base.specs.Area.{catalog_no, area_end, page_at}
+use Rattle.ex_base.proofs.Each.{flat_same}
 use Rattle.op_log.specs.declared.record.LogRecord.{LogRecord}
 use Rattle.op_log.specs.AfterLog.{logged, after_log}
 use Rattle.op_log.specs.State.{LogState}
-use Rattle.tree_model.specs.Trees.{root_units}
-use Rattle.tree_model.proofs.SameUnits.{Kept}
+use Rattle.trees.specs.Trees.{root_units}
+use Rattle.trees.proofs.SameUnits.{Kept}
 use Rattle.volume_model.specs.Committed.{CommittedAs, MayCommit, IsOverlayOf, IsStale, SameAfterLog, StandsForEither, with_records}
 use Rattle.volume_model.specs.Parts.{StandsFor}
-use Rattle.volume_model.specs.SameVolume.{RootKept, flat_same, units_of_root, kept_from_reach, parts_kept, table_kept}
+use Rattle.volume_model.specs.SameVolume.{RootKept, units_of_root, kept_from_reach, parts_kept, table_kept}
 use Rattle.volume_model.specs.Shown.{PageRow, WorkingRow, laid_over, laid_over_page, working_units}
 use Rattle.volume_model.specs.Volume.{Volume, Decoded, file_pages, reach_of, roots_in, stored_in, table_of}
 use Rattle.commits.proofs.Adding.{found_is}

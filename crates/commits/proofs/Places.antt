@@ -7,7 +7,7 @@ use Rattle.ex_base.specs.Area.{catalog_no, area_end, page_at, leaf_at}
 use Rattle.ex_base.specs.Bytes.{Apart}
 use Rattle.ex_base.specs.Sizes.{leaf_bytes}
 use Rattle.disk_model.specs.Changes.{InRange, SameBut}
-use Rattle.tree_model.specs.Trees.{units_from}
+use Rattle.trees.specs.Trees.{units_from}
 use Rattle.volume_model.specs.CrashImage.{same_part}
 
 -- a page that isn't before another begins at its first byte or behind it

@@ -1,20 +1,19 @@
 -- What a volume reaches lies behind the log, and an image that has it stands for the volume's table.
-use Rattle.std.proofs.Common.{◌≡◌, ◌≢◌, ◌≤◌, ℕ, zero, suc, List, [], ◌∷◌, ◌++◌, Option, Some, None, sym, subst, ⊎_elim, arith}
+use Rattle.std.proofs.Common.{◌≡◌, ◌≢◌, ◌≤◌, ℕ, zero, suc, List, [], ◌∷◌, ◌++◌, Option, Some, None, sym, arith}
 use Rattle.std.specs.Prelude.{Contains}
 use Rattle.std.specs.List.{flat_map, AllByRecursion}
-use Rattle.lru.proofs.Splits.{Contains-cons, Contains-nil}
 use Rattle.ex_base.specs.declared.geometry.Geometry.{Geometry}
 use Rattle.ex_base.specs.declared.names.PageNo.{PageNo}
 use Rattle.ex_base.specs.declared.names.Root.{Root}
 use Rattle.ex_base.specs.Area.{InPageArea, catalog_no}
+use Rattle.ex_base.proofs.Each.{each_as, each_from, each_of}
 use Rattle.op_log.specs.declared.record.LogRecord.{LogRecord}
 use Rattle.op_log.specs.Log.{SaysLog}
 use Rattle.count_nodes.specs.declared.Pair.{Pair}
 use Rattle.count_nodes.specs.Node.{pairs_on}
-use Rattle.tree_model.specs.Trees.{Units, IsNamed, RootNamed, units_on, root_units, root_units_at}
-use Rattle.tree_model.proofs.SameUnits.{Kept}
+use Rattle.trees.specs.Trees.{Units, IsNamed, RootNamed, units_on, root_units, root_units_at}
+use Rattle.trees.proofs.SameUnits.{Kept}
 use Rattle.volume_model.proofs.FilePages.{file_pages_are}
-use Rattle.volume_model.specs.CrashImage.{each_contained}
 use Rattle.volume_model.specs.Parts.{HasIndex, HoldsOf, IsLastOf, SuperOf, Decodes, StandsFor, content_parts}
 use Rattle.volume_model.specs.SameVolume.{kept_from_reach, parts_kept, table_kept}
 use Rattle.volume_model.specs.Volume.{Volume, file_pages, roots_in, stored_in, reach_of, table_of, units_after}
@@ -33,10 +32,6 @@ behind_flat : {A : Type 0} (f : A → List ℕ) (xs : List A) → AllByRecursion
 behind_flat f [] h = tt
 behind_flat f (x ∷ xs) h = behind_both (f x) (flat_map f xs) h.0 (behind_flat f xs h.1)
 
-each_as : {A : Type 0} (P Q : A → Type 0) (xs : List A) → ((x : A) → P x → Q x) → AllByRecursion P xs → AllByRecursion Q xs
-each_as P Q [] f h = tt
-each_as P Q (x ∷ xs) f h = (f x h.0, each_as P Q xs f h.1)
-
 tree_behind : (g : Geometry) (units : Units) (l page : ℕ) → IsNamed g units l page → Behind (units_on units l page)
 tree_behind g units zero page named = (omega (arith, named.2), tt)
 tree_behind g units (suc l) page named = (
@@ -52,14 +47,10 @@ root_behind g units height (Some page) named = tree_behind g units height page.0
 files_behind : (g : Geometry) (units : Units) (v : Volume) → AllZip (HasIndex g units) v.catalog.entries v.files → Behind (file_pages v)
 files_behind g units v h = each_as (λ (page : ℕ). InPageArea g page × (page ≢ catalog_no)) (λ (page : ℕ). catalog_no ≤ page) (file_pages v) (λ page is. is.0.0) (file_pages_are g units v h)
 
-contained_is : {A : Type 0} (P : A → Type 0) (xs : List A) (x : A) → AllByRecursion P xs → Contains xs x → P x
-contained_is P [] x h at = absurd (Contains-nil x at)
-contained_is P (y ∷ ys) x h at = ⊎_elim (λ (here : y ≡ x). subst P here h.0) (λ later. contained_is P ys x h.1 later) (Contains-cons y ys x at)
-
 pub reach_behind : (g : Geometry) (units : Units) (v : Volume) (page : ℕ) → AllByRecursion (HoldsOf g [] units v) content_parts → Contains (reach_of units v) page → catalog_no ≤ page
 reach_behind g units v page (catalog, (file, (filled, (body, (node, rest))))) at =
     let trees = each_as (λ (root : Root). RootNamed g units root.height root.page) (λ (root : Root). Behind (root_units units root)) (roots_in (stored_in v)) (λ root n. root_behind g units root.height root.page n) node.named in
-    contained_is (λ (u : ℕ). catalog_no ≤ u) (reach_of units v) page
+    each_of (λ (u : ℕ). catalog_no ≤ u) (reach_of units v) page
     (behind_both (catalog_no ∷ file_pages v) (flat_map (root_units units) (roots_in (stored_in v))) (omega arith, files_behind g units v file.0) (behind_flat (root_units units) (roots_in (stored_in v)) trees)) at
 
 -- ---- what an image stands for
@@ -72,7 +63,7 @@ pub without_last : (g : Geometry) (records : List LogRecord) (units : Units) (v 
 without_last g records units v (catalog, rest) = ((catalog.0, tt), rest)
 
 pub same_reach : (old new : Units) (v : Volume) → ((page : ℕ) → Contains (reach_of old v) page → new page ≡ old page) → Kept old new (reach_of old v)
-same_reach old new v same = each_contained (λ u. new u ≡ old u) (reach_of old v) same
+same_reach old new v same = each_from (λ u. new u ≡ old u) (reach_of old v) same
 
 module _ (g : Geometry) (records : List LogRecord) (old : Units) (v : Volume) (image : List ℕ) (same : (page : ℕ) → Contains (reach_of old v) page → units_after g records image page ≡ old page) where
   -- An image with these records, where what the volume reaches is as it was, decodes as the volume,

@@ -7,6 +7,7 @@ use Rattle.ex_base.specs.Bytes.{IsBytes}
 use Rattle.ex_base.specs.Fields.{AreZero, two_bytes, zeros, number_at}
 use Rattle.ex_base.proofs.FieldLaws.{IsBytes-drop, two_is, number_at-drop}
 use Rattle.ex_base.proofs.Places.{zero_run, zeros_are}
+use Rattle.ex_base.proofs.Lists.{front_two}
 use Rattle.count_nodes.specs.declared.Pair.{Pair}
 use Rattle.count_nodes.specs.Node.{pair_bytes, pair_at, read_pairs, RiseFrom, IsNode, PairsOf, Node, node_on, node_page, level_on, pairs_on}
 use Rattle.count_nodes.specs.Reads.{NodeReads}
@@ -85,11 +86,6 @@ spelled_reads fan page level pairs small h =
     subst (λ (p : List ℕ). ReadsAs fan p level pairs) (sym is) (spread_reads fan (length page) level pairs small h.fits len)
 
 -- ---- what reads as a node is the page of what is read
-
-front_two : (xs : List ℕ) → 2 ≤ length xs → take 2 xs ≡ slice_index xs 0 ∷ slice_index xs 1 ∷ []
-front_two [] le = absurd (omega arith)
-front_two (x ∷ []) le = absurd (omega arith)
-front_two (x ∷ y ∷ xs) le = refl
 
 -- a page in its parts: two bytes, two more, four more, the pairs, the rest
 parts_of : (n : ℕ) (page : List ℕ) → page ≡ take 2 page ++ (take 2 (drop 2 page) ++ (take 4 (drop 4 page) ++ (take (8 * n) (drop 8 page) ++ drop (8 + 8 * n) page)))

@@ -4,10 +4,12 @@ use Rattle.std.specs.Prelude.{replicate, slice_set}
 use Rattle.std.specs.List.{flat_map}
 use Rattle.std.proofs.lemmas.List.{append-nil, take_more, length-append, length-take}
 use Rattle.std.proofs.lemmas.List.Concat.{flat_map-append}
+use Rattle.std.proofs.Math.Seq.{take-length}
 use Rattle.ex_base.specs.Bytes.{written}
 use Rattle.ex_base.specs.Fields.{two_bytes, zeros}
 use Rattle.ex_base.proofs.FieldLaws.{two_is}
 use Rattle.ex_base.proofs.Writing.{written_on_zeros}
+use Rattle.ex_base.proofs.Lists.{zeros_split}
 use Rattle.count_nodes.specs.declared.Pair.{Pair}
 use Rattle.count_nodes.specs.Node.{pair_bytes, node_page}
 use Rattle.count_nodes.proofs.PairLaws.{length-pairs, length-pair_bytes}
@@ -29,10 +31,6 @@ length-head level n = omega (arith, length-append ((2 ∷ level ∷ []) ++ two_b
 pub record SoFar (size level : ℕ) (pairs : List Pair) (i at : ℕ) (out : List ℕ) : Type 0 where
   pub place : at ≡ 8 + 8 * i
   pub bytes : out ≡ head_of level (length pairs) ++ flat_map pair_bytes (take i pairs) ++ zeros (size - (8 + 8 * i))
-
-zeros_split : (a b : ℕ) → zeros (a + b) ≡ zeros a ++ zeros b
-zeros_split zero b = ap zeros (let e : 0 + b ≡ b = omega arith in e)
-zeros_split (suc a) b = ap zeros (let e : suc a + b ≡ suc (a + b) = omega arith in e) ∙ ap (λ (t : List ℕ). 0 ∷ t) (zeros_split a b)
 
 pub so_far_first : (size level : ℕ) (pairs : List Pair) (out : List ℕ) → 8 ≤ size → out ≡ (2 ∷ level ∷ []) ++ two_bytes (length pairs) ++ zeros (size - 4) → SoFar size level pairs 0 8 out
 so_far_first size level pairs out le e =
@@ -61,13 +59,9 @@ so_far_more size level pairs i at out pair none next lt item e h =
           ∙ ap (λ (t : List ℕ). t ++ zeros (size - (8 + 8 * (i + 1)))) (append_assoc (head_of level (length pairs)) (flat_map pair_bytes (take i pairs)) (pair_bytes pair) ∙ ap (λ (t : List ℕ). head_of level (length pairs) ++ t) (sym all));
     }
 
-take_whole : {A : Type 0} (xs : List A) → take (length xs) xs ≡ xs
-take_whole [] = refl
-take_whole (x ∷ xs) = ap (λ rest. x ∷ rest) (take_whole xs)
-
 pub so_far_all : (size level : ℕ) (pairs : List Pair) (i at : ℕ) (out : List ℕ) → i ≡ length pairs → SoFar size level pairs i at out → out ≡ node_page size level pairs
 unfolding node_page
 so_far_all size level pairs i at out all h =
-    let whole : take i pairs ≡ pairs = ap (λ (k : ℕ). take k pairs) all ∙ take_whole pairs in
+    let whole : take i pairs ≡ pairs = ap (λ (k : ℕ). take k pairs) all ∙ take-length pairs in
     let len : 8 + 8 * i ≡ length (head_of level (length pairs) ++ flat_map pair_bytes pairs) = omega (arith, all, length-append (head_of level (length pairs)) (flat_map pair_bytes pairs), length-head level (length pairs), length-pairs pairs) in
     h.bytes ∙ ap (λ (t : List Pair). head_of level (length pairs) ++ flat_map pair_bytes t ++ zeros (size - (8 + 8 * i))) whole ∙ ap (λ (k : ℕ). head_of level (length pairs) ++ flat_map pair_bytes pairs ++ zeros (size - k)) len

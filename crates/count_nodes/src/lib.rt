@@ -2,6 +2,7 @@
 //! follow, then the pairs, and zeros to the end of the page. No call takes memory.
 #![tactic(auto)]
 
+pub mod names;
 mod reads;
 pub mod split;
 pub mod view;

@@ -1,4 +1,0 @@
-mod Images
-mod Inside
-mod Leaves
-mod Writes

@@ -1,5 +1,5 @@
 -- What stands outside of the program: a disk, a source of bytes and a sink, at one moment.
-use Rattle.std.specs.Prelude.{◌≡◌, ◌≤◌, ◌⊎◌, drop, ℕ, Bool, IsTrue, IsSome, is_some, Option, Some, List, ◌++◌, length}
+use Rattle.std.specs.Prelude.{◌≡◌, ◌≤◌, ◌⊎◌, ◌↔◌, drop, ℕ, Bool, IsTrue, IsSome, is_some, Option, Some, List, ◌++◌, length}
 use Rattle.ex_base.specs.Bytes.{IsBytes}
 pub use Rattle.ex_base.specs.Faults.{Rose}
 
@@ -18,6 +18,10 @@ pub record Outside : Type 1 where
   pub clock : ℕ
   -- At some moment since that time the sink had been sent this, and a crash then could leave this image.
   pub moments : ℕ → List ℕ → List ℕ → Type 0
+  -- At this time the sink had been sent this, the disk held this, and a crash could leave this image.
+  pub stood : ℕ → List ℕ → List ℕ → List ℕ → Type 0
+  -- how many calls were made but those that ask for the size, where they are counted
+  pub calls : Option ℕ
   -- how often the disk, the source and the sink have failed
   pub disk_faults : ℕ
   pub read_faults : ℕ
@@ -38,6 +42,19 @@ pub record IsWorld (w : Outside) : Type 0 where
   pub now_only : (s d : List ℕ) → w.moments w.clock s d → (w.sent ≡ Some s) × w.images d
   -- A moment since a time is one since each earlier time.
   pub earlier : (t u : ℕ) (s d : List ℕ) → t ≤ u → w.moments u s d → w.moments t s d
+  -- What is sent and held now, with each image of now, stands now, and nothing else does.
+  pub stands_now : (s d e : List ℕ) → w.sent ≡ Some s → w.disk ≡ Some d → w.images e → w.stood w.clock s d e
+  pub stands_only : (s d e : List ℕ) → w.stood w.clock s d e → (w.sent ≡ Some s) × (w.disk ≡ Some d) × w.images e
+  -- Nothing stood later than now.
+  pub stood_by_now : (t : ℕ) (s d e : List ℕ) → w.stood t s d e → t ≤ w.clock
+  -- What stood at a time is a moment since each time up to that.
+  pub stood_counts : (t u : ℕ) (s d e : List ℕ) → t ≤ u → w.stood u s d e → w.moments t s e
+
+-- Nothing has failed so far.
+pub record HasNoFaults (w : Outside) : Type 0 where
+  pub disk : w.disk_faults ≡ 0
+  pub source : w.read_faults ≡ 0
+  pub sink : w.write_faults ≡ 0
 
 -- A crash leaves this and nothing else: nothing is pending.
 abbrev pub Only : List ℕ → (List ℕ → Type 0) → Type 0
@@ -63,11 +80,14 @@ pub record Goes (a b : Outside) : Type 0 where
   pub disk_told : is_some b.disk ≡ is_some a.disk
   pub left_told : is_some b.left ≡ is_some a.left
   pub sent_told : is_some b.sent ≡ is_some a.sent
+  pub calls_told : is_some b.calls ≡ is_some a.calls
   pub clock : a.clock ≤ b.clock
   pub disk_faults : a.disk_faults ≤ b.disk_faults
   pub read_faults : a.read_faults ≤ b.read_faults
   pub write_faults : a.write_faults ≤ b.write_faults
   pub moments : (t : ℕ) (s d : List ℕ) → a.moments t s d → b.moments t s d
+  -- What stood at a time up to a is settled.
+  pub past : (t : ℕ) (s d e : List ℕ) → t ≤ a.clock → a.stood t s d e ↔ b.stood t s d e
 
 -- Of the moments since a time up to a, those that came since have P.
 pub record Adds (a b : Outside) (P : List ℕ → List ℕ → Type 0) : Type 0 where

@@ -1,7 +1,18 @@
+pub mod Areas
+pub mod Booleans
+pub mod Counts
+pub mod Each
 pub mod FieldLaws
+pub mod Geometries
+pub mod Keeping
+pub mod Lists
+pub mod Members
+pub mod NumberRows
+pub mod Options
 pub mod Places
 pub mod Reading
+pub mod Results
 pub mod Rows
 pub mod Spread
-mod Supers
+pub mod Supers
 pub mod Writing

@@ -6,7 +6,9 @@ pub mod Fault
 pub mod Faults
 pub mod Fields
 pub mod Limits
+pub mod Needs
 pub mod Order
 pub mod Ports
+pub mod Seen
 pub mod Sizes
 pub mod Superblock

@@ -24,6 +24,7 @@ pub record Keeps {S : Type 0} (g : ground.Ghosts S) (old new : S) : Type 0 where
   pub refs : g.refs new ≡ g.refs old
   pub held : g.held new ≡ g.held old
   pub free : g.free new ≡ g.free old
+  pub touched : g.touched new ≡ g.touched old
   pub leads : g.leads old new
 
 -- A free unit of the area is taken, and has these bytes at its front. Used units keep their bytes.
@@ -79,6 +80,7 @@ pub record CountsRefs {S : Type 0} (g : ground.Ghosts S) (old new : S) (page cou
   pub others : (p : ℕ) → p ≢ page → g.refs new p ≡ g.refs old p
   pub held : g.held new ≡ g.held old
   pub free : g.free new ≡ g.free old
+  pub touched : g.touched new ≡ g.touched old
   pub faults : g.faults new ≡ g.faults old
   pub leads : g.leads old new
 
@@ -92,6 +94,7 @@ pub record GivesUnit {S : Type 0} (g : ground.Ghosts S) (old new : S) (page : �
   pub held : g.held new ≡ g.held old
   pub freed : (area : Area) → InArea (g.geometry old) area page → g.free new area ≡ g.free old area + 1
   pub kept : (area : Area) → (InArea (g.geometry old) area page → ⊥) → g.free new area ≡ g.free old area
+  pub touched : g.touched new ≡ g.touched old
   pub faults : g.faults new ≡ g.faults old
   pub frees : g.frees (λ p. p ≡ page) old new
 

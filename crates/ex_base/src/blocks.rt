@@ -1,4 +1,4 @@
-//! The port of tree pages.
+//! The ports of tree pages: one for reading alone, and one that also takes units and gives them back.
 ghost use Rattle.std.specs.Prelude.{◌≡◌, ◌≤◌, ◌+◌, ◌↔◌, IsTrue, true, length, IfOk, IfErr, OnOk};
 ghost use Rattle.std.specs.Borrow.{sem};
 ghost use Rattle.ex_base.specs.Area.{InPageArea, NamesLeaf, IsUnit};
@@ -13,16 +13,12 @@ use crate::ground::Ground;
 use crate::names::{Area, PageNo};
 use std::alloc::Global;
 
-/// Tree pages: inner nodes are pages of the page area, leaves are units of the segment area. A unit is written once, when it is taken. A call that
-/// allocates takes `alloc`. `Disk` comes only where the count of faults rose in the call, and no call answers `Damaged`.
-pub trait Blocks: Ground {
+/// Tree pages, for reading: inner nodes are pages of the page area, leaves are units of the segment area. A call that allocates takes `alloc`. `Disk`
+/// comes only where the count of faults rose in the call, and no call answers `Damaged`.
+pub trait ReadBlocks: Ground {
     fn geometry(&self) -> Geometry
         requires ready { Self.ready self.now }
         ensures { result ≡ Self.geometry self.now };
-
-    /// How many units of an area are free.
-    fn free(&self, area: Area) -> u32
-        ensures { result ≡ Self.free self.now area };
 
     /// Lends a page of the page area.
     fn node(&mut self, alloc: Global, page: PageNo) -> Result<&[u8], PortFault>
@@ -49,6 +45,14 @@ pub trait Blocks: Ground {
         ensures no_damage { IfErr result (λ fault. IsDamage fault → ⊥) }
         ensures kept { Keeps Self.Ground self.old self.new }
         ensures cause { HasCause (Self.faults self.old) (Self.faults self.new) result };
+}
+
+/// Tree pages. A unit is written once, when it is taken. No call touches a logged page. `Disk` comes only where the count of faults rose in the call, and
+/// no call answers `Damaged`.
+pub trait Blocks: ReadBlocks {
+    /// How many units of an area are free.
+    fn free(&self, area: Area) -> u32
+        ensures { result ≡ Self.free self.now area };
 
     /// Takes the lowest free page and writes it. Each unit that it names, where that is used, has a reference more.
     fn new_node(&mut self, bytes: &[u8]) -> Result<PageNo, PortFault>
@@ -62,6 +66,7 @@ pub trait Blocks: Ground {
         ensures pages { OnOk result (Self.free self.new Page + 1 ≡ Self.free self.old Page) }
         ensures leaves { OnOk result (Self.free self.new Segment ≡ Self.free self.old Segment) }
         ensures no_damage { IfErr result (λ fault. IsDamage fault → ⊥) }
+        ensures touched { Self.touched self.new ≡ Self.touched self.old }
         ensures leads { Self.leads self.old self.new }
         ensures cause { HasCause (Self.faults self.old) (Self.faults self.new) result };
 
@@ -77,6 +82,7 @@ pub trait Blocks: Ground {
         ensures pages { OnOk result (Self.free self.new Page ≡ Self.free self.old Page) }
         ensures leaves { OnOk result (Self.free self.new Segment + 1 ≡ Self.free self.old Segment) }
         ensures no_damage { IfErr result (λ fault. IsDamage fault → ⊥) }
+        ensures touched { Self.touched self.new ≡ Self.touched self.old }
         ensures leads { Self.leads self.old self.new }
         ensures cause { HasCause (Self.faults self.old) (Self.faults self.new) result };
 

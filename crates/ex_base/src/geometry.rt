@@ -1,5 +1,5 @@
 //! The sizes of a volume's parts.
-ghost use Rattle.std.specs.Prelude.{◌≡◌, ◌≤◌, ◌*◌, IsTrue, Some, None, IfOk, IfErr};
+ghost use Rattle.std.specs.Prelude.{◌≡◌, ◌≤◌, ◌*◌, ◌↔◌, IsTrue, Some, None, IfOk, IfErr};
 ghost use Rattle.ex_base.specs.Limits.{is_page_size, fan_most};
 
 use crate::names::PageNo;
@@ -11,14 +11,17 @@ const UNITS_MOST: u32 = 4_000_000;
 /// The most pages of one unit of the segment area.
 const SEG_LEN_MOST: u32 = 16;
 
-/// The pages before the page area: the superblock and the 256 pages of the log.
-const FRONT_PAGES: u64 = 257;
-
 /// The bytes at the head of a node that hold no pair, with room for a later format.
 const NODE_HEAD: u32 = 20;
 
 /// The bytes that a fan of one more asks of a node: two pairs of twelve bytes.
 const FAN_BYTES: u32 = 24;
+
+/// The bytes of the catalog's page before its first entry.
+pub const CATALOG_HEAD: u32 = 32;
+
+/// The bytes of the catalog's entry of one file.
+pub const CATALOG_ENTRY: u32 = 48;
 
 /// The sizes that a volume is made with. Each geometry that there is keeps its limits.
 #[derive(Clone, Copy, Debug, PartialEq, Eq)]
@@ -68,7 +71,8 @@ pub fn fan_max(page_size: u32) -> u32
 
 impl Geometry {
     ghost use Rattle.ex_base.specs.Fault.{first_fault};
-    ghost use Rattle.ex_base.specs.Sizes.{leaf_bytes, volume_bytes};
+    ghost use Rattle.ex_base.specs.Area.{InPageArea, IsUnit, NamesLeaf};
+    ghost use Rattle.ex_base.specs.Sizes.{files_most, leaf_bytes, volume_bytes};
 
     /// A geometry of these sizes, or the first that breaks its limit.
     pub fn make(
@@ -122,7 +126,40 @@ impl Geometry {
         ensures { result ≡ volume_bytes self.now }
     {
         let units = self.segs as u64 * self.seg_len as u64;
-        (FRONT_PAGES + self.pages as u64 + units) * self.page_size as u64
+        (PageNo::CATALOG.0 as u64 + self.pages as u64 + units) * self.page_size as u64
+    }
+
+    /// The files that a catalog page has room for.
+    pub fn files_most(&self) -> u32
+        ensures { result ≡ files_most self.now }
+    {
+        (self.page_size - CATALOG_HEAD) / CATALOG_ENTRY
+    }
+
+    /// Whether a page lies in the page area.
+    pub fn in_page_area(&self, page: PageNo) -> bool
+        ensures { IsTrue result ↔ InPageArea self.now page.0 }
+    {
+        PageNo::CATALOG.0 <= page.0 && page.0 - PageNo::CATALOG.0 < self.pages
+    }
+
+    /// Whether a page is the first one of a unit of the segment area.
+    pub fn names_leaf(&self, page: PageNo) -> bool
+        ensures { IsTrue result ↔ NamesLeaf self.now page.0 }
+    {
+        let first = PageNo::CATALOG.0 + self.pages;
+        if page.0 < first {
+            return false;
+        }
+        let offset = page.0 - first;
+        offset % self.seg_len == 0 && offset / self.seg_len < self.segs
+    }
+
+    /// Whether a page names a unit: it lies in the page area, or is the first one of a unit of the segment area.
+    pub fn names_unit(&self, page: PageNo) -> bool
+        ensures { IsTrue result ↔ IsUnit self.now page.0 }
+    {
+        self.in_page_area(page) || self.names_leaf(page)
     }
 
     /// The byte of the volume at which a page lies.

@@ -5,7 +5,7 @@ ghost use Rattle.ex_base.specs.Sizes.{leaf_bytes};
 ghost use Rattle.ex_base.specs.declared.geometry.Geometry.{Geometry};
 ghost use Rattle.ex_base.specs.declared.names.Area.{Area};
 
-/// What the two ports are about: the units of a volume and its logged pages. It has no call.
+/// What the ports are about: the units of a volume and its logged pages. It has no call.
 pub trait Ground {
     /// The geometry of the volume.
     ghost geometry: { Self → Geometry };
@@ -36,6 +36,9 @@ pub trait Ground {
 
     /// How many units of an area are free.
     ghost free: { Self → Area → ℕ };
+
+    /// How many logged pages the open transaction has touched.
+    ghost touched: { Self → ℕ };
 
     /// How often the disk has failed.
     ghost faults: { Self → ℕ };

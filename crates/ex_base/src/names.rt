@@ -4,6 +4,11 @@
 #[derive(Clone, Copy, Debug, PartialEq, Eq, PartialOrd, Ord)]
 pub struct PageNo(pub u32);
 
+impl PageNo {
+    /// The catalog's page. The page area begins with it, behind the superblock and the 256 pages of the log.
+    pub const CATALOG: PageNo = PageNo(257);
+}
+
 /// One of the two areas of a volume that have units to give.
 #[derive(Clone, Copy, Debug, PartialEq, Eq)]
 pub enum Area {
@@ -28,6 +33,15 @@ pub struct Oid {
     pub unique: u64,
 }
 
+impl Oid {
+    /// What notes of updates that are of no object say in place of an identifier.
+    pub const NONE: Oid = Oid {
+        page: PageNo(0),
+        slot: 0,
+        unique: 0,
+    };
+}
+
 /// What one accepted update did, as the log tells it.
 #[derive(Clone, Copy, Debug, PartialEq, Eq)]
 pub struct OpNote {
@@ -45,4 +59,13 @@ pub struct Root {
     pub page: Option<PageNo>,
     /// The bytes of the object.
     pub size: u64,
+}
+
+impl Root {
+    /// The root of an object without bytes.
+    pub const EMPTY: Root = Root {
+        height: 0,
+        page: None,
+        size: 0,
+    };
 }

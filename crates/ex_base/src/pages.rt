@@ -1,19 +1,19 @@
-//! The port of logged pages, and both ports over one object.
+//! The ports of logged pages, one for reading alone and one that also changes them, and both kinds of ports over one object.
 ghost use Rattle.std.specs.Prelude.{◌≡◌, ◌≢◌, ◌≤◌, ◌+◌, ◌↔◌, IsTrue, length, IfOk, IfErr, OnOk};
 ghost use Rattle.std.specs.Borrow.{sem};
 ghost use Rattle.ex_base.specs.Area.{InPageArea, catalog_no};
 ghost use Rattle.ex_base.specs.Ports.{Rests, Keeps, HasCause, IsDamage, PutsImage, TakesPage, GivesPage};
 ghost use Rattle.ex_base.specs.declared.names.Area.TheVariants.{Page, Segment};
 
-use crate::blocks::Blocks;
+use crate::blocks::{Blocks, ReadBlocks};
 use crate::faults::PortFault;
 use crate::ground::Ground;
 use crate::names::PageNo;
 use std::alloc::Global;
 
-/// Logged pages: the catalog, and the pages of files and of their indexes. A call that allocates takes `alloc`. `Disk` comes only where the count of
-/// faults rose in the call, and no call answers `Damaged`.
-pub trait Pages: Ground {
+/// Logged pages, for reading: the catalog, and the pages of files and of their indexes. A call that allocates takes `alloc`. `Disk` comes only where
+/// the count of faults rose in the call, and no call answers `Damaged`.
+pub trait ReadPages: Ground {
     /// The bytes of a page.
     fn page_size(&self) -> u32
         requires ready { Self.ready self.now }
@@ -33,7 +33,10 @@ pub trait Pages: Ground {
         ensures no_damage { IfErr result (λ fault. IsDamage fault → ⊥) }
         ensures* after { sem 𝓛 (Rests Self.row self.entry (λ new.
             Keeps Self.Ground self.old new × HasCause (Self.faults self.old) (Self.faults new) result)) };
+}
 
+/// Logged pages. Each call touches one page at most. `Disk` comes only where the count of faults rose in the call, and no call answers `Damaged`.
+pub trait Pages: ReadPages {
     /// Changes the working image of a page, and touches the page.
     fn put(&mut self, alloc: Global, page: PageNo, image: &[u8]) -> Result<(), PortFault>
         requires ready { Self.ready self.old }
@@ -41,6 +44,7 @@ pub trait Pages: Ground {
         requires len { length image.now ≡ (Self.geometry self.old).page_size }
         ensures put { OnOk result (PutsImage Self.Ground self.old self.new page.0 image.now) }
         ensures no_damage { IfErr result (λ fault. IsDamage fault → ⊥) }
+        ensures touched { Self.touched self.new ≤ Self.touched self.old + 1 }
         ensures leads { Self.leads self.old self.new }
         ensures cause { HasCause (Self.faults self.old) (Self.faults self.new) result };
 
@@ -53,6 +57,7 @@ pub trait Pages: Ground {
         ensures pages { OnOk result (Self.free self.new Page + 1 ≡ Self.free self.old Page) }
         ensures leaves { OnOk result (Self.free self.new Segment ≡ Self.free self.old Segment) }
         ensures no_damage { IfErr result (λ fault. IsDamage fault → ⊥) }
+        ensures touched { Self.touched self.new ≤ Self.touched self.old + 1 }
         ensures leads { Self.leads self.old self.new }
         ensures cause { HasCause (Self.faults self.old) (Self.faults self.new) result };
 
@@ -63,9 +68,13 @@ pub trait Pages: Ground {
         requires other { page.0 ≢ catalog_no }
         ensures given { OnOk result (GivesPage Self.Ground self.old self.new page.0) }
         ensures no_damage { IfErr result (λ fault. IsDamage fault → ⊥) }
+        ensures touched { Self.touched self.new ≤ Self.touched self.old + 1 }
         ensures leads { Self.leads self.old self.new }
         ensures cause { HasCause (Self.faults self.old) (Self.faults self.new) result };
 }
 
+/// Both ports for reading, over one object.
+pub trait ReadVolume: ReadBlocks + ReadPages {}
+
 /// Both ports over one object.
-pub trait Volume: Blocks + Pages {}
+pub trait Volume: ReadVolume + Blocks + Pages {}

@@ -10,8 +10,8 @@ use Rattle.runs.specs.Headline.{RunStarts, MayComplete}
 use Rattle.transactions.specs.Meant.{meant}
 use Rattle.volume_model.proofs.AtMostOne.{one_table}
 use Rattle.runs.specs.Stops.{IsOpeningStop, IsSoundStop}
-use Rattle.exsm_run.specs.declared.status.Status.{Status}
-use Rattle.exsm_run.specs.declared.status.Status.TheVariants as status
+use Rattle.command_line.specs.declared.status.Status.{Status}
+use Rattle.command_line.specs.declared.status.Status.TheVariants as status
 use Rattle.exsm_run.specs.Status.{IsRefusal}
 use Rattle.exsm_run.specs.Script.{script_most, status_of, IsOnVolume, MayRun, IsOpeningStatus, IsRunStatus}
 

@@ -1,4 +1,3 @@
 mod Ending
-mod Grammar
 mod Making
 mod Opened

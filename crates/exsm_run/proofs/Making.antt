@@ -1,7 +1,8 @@
 -- What stands on a disk while the empty volume is written.
-use Rattle.std.proofs.Common.{◌≡◌, inl, inr, ⊎_elim, ℕ, ◌+◌, ◌-◌, ◌*◌, ◌≤◌, List, [], ◌∷◌, ◌++◌, length, take, drop, sym, ◌∙◌, ap, subst, arith, IsTrue, IsSome, is_some, Some, false, is_err, Result, Ok, Err, OnOk}
+use Rattle.std.proofs.Common.{◌≡◌, inl, inr, ⊎_elim, ℕ, ◌+◌, ◌-◌, ◌*◌, ◌≤◌, List, [], ◌∷◌, ◌++◌, length, take, drop, sym, ◌∙◌, ap, subst, arith, IsTrue, IsSome, is_some, Some}
 use Rattle.std.specs.Prelude.{slice_index}
 use Rattle.std.proofs.lemmas.List.{take_rest}
+use Rattle.std.proofs.lemmas.Option.{same_Some}
 use Rattle.ex_base.specs.Bytes.{part, repl, part-repl, part-repl_apart, length-repl, repl_same_outside, same_or_not, same_parts, part_joined, part_byte}
 use Rattle.ex_base.specs.Sizes.{volume_bytes, least_page, least_volume}
 use Rattle.ex_base.specs.Superblock.{magic, super_page, super_rest, length-super_rest, drop-super_page}
@@ -10,7 +11,7 @@ use Rattle.object_files.specs.Catalog.{CatalogOf, fresh_catalog}
 use Rattle.volume_model.specs.Parts.{SuperOf}
 use Rattle.volume_model.proofs.FreshVolume.{fresh_stands}
 use Rattle.disk_model.specs.Outside.{Outside, IsWorld, DiskOnly, Only, ReadsOnly, SinkOnly, RestsOn, Leaves, Along}
-use Rattle.disk_model.specs.Runs.{leaves_wider, along_start, along_quiet, along_disk, along_sink, rests_quiet, some_same}
+use Rattle.disk_model.specs.Runs.{leaves_wider, along_start, along_quiet, along_disk, along_sink, rests_quiet}
 use Rattle.disk_model.specs.Calls.{Tears}
 use Rattle.disk_model.specs.Changes.{SameBut, ChangesWithin, InRange, same_but_range, changes_write, changes_wider, leaves_changes}
 use Rattle.exsm_run.specs.EmptyVolume.{HasMagic, IsBehindMagic, IsPrepared, IsEmptyVolume, IsUnmadeOrEmpty}
@@ -122,11 +123,6 @@ leaves_made g world e honest only before changes =
     leaves_changes (InRange 0 8) (IsUnmadeOrEmpty g) world honest changes
     (λ x f here same. unmade_or_empty g e f before (subst (λ (y : List ℕ). SameBut (InRange 0 8) y f) (only x here) same))
 
--- where a call was done, two facts on it
-pub on_ok_two : {T E P Q R : Type 0} (r : Result T E) → (P → Q → R) → OnOk r P → OnOk r Q → OnOk r R
-on_ok_two (Ok x) both p q = both p q
-on_ok_two (Err e) both p q = tt
-
 -- The moments of a `format`: nothing was sent yet, so far.
 module _ (g : Geometry) (was : List ℕ) where
   pub before_line : (s d : List ℕ) → s ≡ was → IsUnmadeOrEmpty g d → IsFormatMoment g was s d
@@ -135,7 +131,7 @@ module _ (g : Geometry) (was : List ℕ) where
   -- before the first write
   pub read_so_far : {a b : Outside} → IsWorld a → (d : List ℕ) → RestsOn a d → NoMagic d → a.sent ≡ Some was → ReadsOnly a b → Along a b (IsFormatMoment g was)
   read_so_far {a} {b} world d rests without sent reads =
-      let start = along_start a (IsFormatMoment g was) world (record { now = λ s e is here. before_line s e (some_same s was (sym is ∙ sent)) (inl (subst NoMagic (sym (rests.settled e here)) without)) }) in
+      let start = along_start a (IsFormatMoment g was) world (record { now = λ s e is here. before_line s e (same_Some s was (sym is ∙ sent)) (inl (subst NoMagic (sym (rests.settled e here)) without)) }) in
       along_quiet (IsFormatMoment g was) start rests.honest reads.nothing
 
   -- up to the end of the layout
@@ -143,7 +139,7 @@ module _ (g : Geometry) (was : List ℕ) where
       → (RestsOn b d → Leaves b c (IsUnmadeOrEmpty g)) → Along a c (IsFormatMoment g was)
   laid_so_far {a} {b} {c} world d rests without sent reads only leaves =
       along_disk (IsFormatMoment g was) (IsUnmadeOrEmpty g) (read_so_far world d rests without sent reads) only (leaves (rests_quiet d rests reads.nothing))
-      (λ s e is image. before_line s e (some_same s was (sym is ∙ reads.nothing.only.sent ∙ sent)) image)
+      (λ s e is image. before_line s e (same_Some s was (sym is ∙ reads.nothing.only.sent ∙ sent)) image)
 
   -- while the line is sent, over the empty volume
   pub sent_so_far : {a b c : Outside} → Along a b (IsFormatMoment g was) → a.sent ≡ Some was → IsFormatted g b → SinkOnly b c → Along a c (IsFormatMoment g was)
@@ -151,8 +147,3 @@ module _ (g : Geometry) (was : List ℕ) where
       let told : IsSome b.sent = so_far.goes.sent_told ∙ ap is_some sent in
       along_sink (IsFormatMoment g was) so_far only told
       (λ s d here between. let is : IsEmptyVolume g d = subst (IsEmptyVolume g) (sym (made.rests.settled d here)) made.empty in record { unmade_or_empty = inr is; acknowledged = λ differ. is })
-
--- what holds where a result isn't an error
-pub if_no_error : {T E P : Type 0} (r : Result T E) → is_err r ≡ false → OnOk r P → P
-if_no_error (Ok x) is holds = holds
-if_no_error (Err e) is holds = absurd (cc)

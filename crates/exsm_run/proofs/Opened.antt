@@ -17,7 +17,7 @@ use Rattle.table_model.specs.declared.machine.Machine.{Machine}
 use Rattle.table_model.specs.Machines.{start}
 use Rattle.transactions.specs.Meant.{meant}
 use Rattle.transactions.specs.Sessions.{SessionState, fresh_session, held}
-use Rattle.tree_model.specs.Trees.{Units}
+use Rattle.trees.specs.Trees.{Units}
 use Rattle.volume_model.proofs.OpenedView.{opened_view}
 use Rattle.volume_model.specs.Committed.{Committed, with_records}
 use Rattle.volume_model.specs.FreshView.{OpenedView, fresh_held, fresh_view}

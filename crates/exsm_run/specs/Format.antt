@@ -5,8 +5,8 @@ use Rattle.ex_base.specs.Sizes.{volume_bytes}
 use Rattle.ex_base.specs.declared.geometry.Geometry.{Geometry}
 use Rattle.disk_model.specs.Outside.{Outside, RestsOn, Rose}
 use Rattle.exsm_run.specs.EmptyVolume.{HasMagic, IsEmptyVolume, IsUnmadeOrEmpty}
-use Rattle.exsm_run.specs.declared.status.Status.{Status}
-use Rattle.exsm_run.specs.declared.status.Status.TheVariants.{Done, Usage, ScriptFault, OutputFault, DiskFault, BadVolume, Memory, Damaged, AlreadyVolume, TooSmall, ScriptLong}
+use Rattle.command_line.specs.declared.status.Status.{Status}
+use Rattle.command_line.specs.declared.status.Status.TheVariants.{Done, Usage, ScriptFault, OutputFault, DiskFault, BadVolume, Memory, Damaged, AlreadyVolume, TooSmall, ScriptLong}
 
 -- the line that says how many bytes the volume has
 unfoldable pub format_line : ℕ → List ℕ

@@ -7,8 +7,8 @@ use Rattle.runs.specs.declared.stopped.Stopped.{Stopped}
 use Rattle.runs.specs.declared.stopped.Stopped.TheVariants as stopped
 use Rattle.runs.specs.Headline.{Headline}
 use Rattle.volume_model.specs.Parts.{StandsFor}
-use Rattle.exsm_run.specs.declared.status.Status.{Status}
-use Rattle.exsm_run.specs.declared.status.Status.TheVariants.{Done, Usage, ScriptFault, OutputFault, DiskFault, BadVolume, Memory, Damaged, AlreadyVolume, TooSmall, ScriptLong}
+use Rattle.command_line.specs.declared.status.Status.{Status}
+use Rattle.command_line.specs.declared.status.Status.TheVariants.{Done, Usage, ScriptFault, OutputFault, DiskFault, BadVolume, Memory, Damaged, AlreadyVolume, TooSmall, ScriptLong}
 
 -- the most bytes of a script that count
 abbrev pub script_most : ℕ

@@ -4,16 +4,11 @@
 mod format;
 mod program;
 mod script;
-#[cfg(test)]
-mod script_tests;
 mod session;
 mod status;
-#[cfg(test)]
-mod tests;
 mod top_call;
-mod words;
 
+pub use command_line::{Target, volume_of};
 pub use program::run_program;
 pub use status::Status;
 pub use top_call::run;
-pub use words::{Target, volume_of};

@@ -1,11 +1,21 @@
 //! What a program does with the words that it was started with.
+ghost use Rattle.std.specs.Prelude.{◌≡◌};
+ghost use Rattle.std.specs.Process.{exit_status};
+ghost use Rattle.command_line.specs.Status.{code_of};
 
 use crate::status::Status;
 use crate::top_call::run;
-use crate::words::volume_of;
+use command_line::{Explanation, StatusLine, file_of};
 use file_host::FileHost;
 use std::process::ExitCode;
 use std::{env, io};
+
+// How a command line ended, and the system's reason where a call failed.
+#[derive(Clone, Copy)]
+struct Ending {
+    status: Status,
+    cause: Option<io::Error>,
+}
 
 // The words of the command line, without the program's name.
 fn words_of(rt: &HostRuntime) -> io::Result<Vec<String>> {
@@ -16,27 +26,67 @@ fn words_of(rt: &HostRuntime) -> io::Result<Vec<String>> {
     Ok(words)
 }
 
-// Runs the command line on the file that it speaks of.
-fn run_words(rt: &HostRuntime, words: &[String]) -> Status {
-    let Ok(target) = volume_of(rt.alloc(), words) else {
-        return Status::Memory;
-    };
-    let path = target.and_then(|t| words.get(t.volume)).map(|w| w.as_str());
-    let size = target.and_then(|t| t.make).map(|g| g.volume_bytes());
-    let mut host = FileHost::open(rt, path, size, rt.stdin(), rt.stdout());
-    run(rt.alloc(), words, &mut host)
+// Runs the command line on the file that it names.
+fn run_words(rt: &HostRuntime, words: &[String]) -> Ending {
+    let file = file_of(words);
+    let path = file.map(|file| file.path);
+    let make = file.and_then(|file| file.make);
+    match FileHost::open(rt.alloc(), rt, path, make, rt.stdin(), rt.stdout()) {
+        Ok(mut host) => {
+            let status = run(rt.alloc(), words, &mut host);
+            let cause = cause_of(status, &host);
+            Ending { status, cause }
+        }
+        Err(_) => Ending {
+            status: Status::Memory,
+            cause: None,
+        },
+    }
+}
+
+// The system's reason for a status.
+fn cause_of<V: Drop, I: Drop, O: Drop>(
+    status: Status,
+    host: &FileHost<V, I, O>,
+) -> Option<io::Error> {
+    match status {
+        Status::ScriptFault => host.source_faults().cause,
+        Status::OutputFault => host.sink_faults().cause,
+        Status::DiskFault => host.disk_faults().cause,
+        _ => None,
+    }
+}
+
+// Where not all was done, says so on the standard error: why, and the status in the last line. What that gives is the program's exit status.
+fn tell(rt: &HostRuntime, words: &[String], ending: Ending) -> ExitCode
+    ensures { exit_status result ≡ code_of ending.status }
+{
+    let Ending { status, cause } = ending;
+    if let Some(line) = StatusLine::of(status) {
+        let _ = rt.eprintln(Explanation {
+            words,
+            status,
+            cause,
+        });
+        let _ = rt.eprintln(line);
+    }
+    status.exit_code()
 }
 
 /// Does what the words of the command line ask for on the volume file that they name, the standard input and the standard output. Where it did not do
 /// all, it says so on the standard error. The exit status is the status's code.
 pub fn run_program(rt: HostRuntime) -> ExitCode {
-    let status = match words_of(&rt) {
-        Ok(words) => run_words(&rt, &words),
-        Err(_) => Status::Usage,
-    };
-    let code = status.code();
-    if code != 0 {
-        let _ = eprintln!(rt; "exsm: status {code} {status}");
+    match words_of(&rt) {
+        Ok(words) => {
+            let ending = run_words(&rt, &words);
+            tell(&rt, &words, ending)
+        }
+        Err(cause) => {
+            let ending = Ending {
+                status: Status::of_unread_words(cause.kind()),
+                cause: Some(cause),
+            };
+            tell(&rt, &[], ending)
+        }
     }
-    ExitCode::from(code)
 }

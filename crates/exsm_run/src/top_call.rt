@@ -11,14 +11,14 @@ ghost use Rattle.volume_model.specs.Parts.{FirstBad};
 ghost use Rattle.exsm_run.specs.Script.{script_most, Ran, IsOnVolume, MayRun, IsOpeningStatus, IsRunStatus};
 ghost use Rattle.exsm_run.specs.EmptyVolume.{HasMagic};
 ghost use Rattle.exsm_run.specs.Status.{IsRefusal};
-ghost use Rattle.exsm_run.specs.Words.{texts, AsksFormat, AsksRun, IsOutside};
+ghost use Rattle.command_line.specs.Words.{texts, AsksFormat, AsksRun, IsOutside};
 ghost use Rattle.exsm_run.specs.Format.{FormatAnswers, FormatSends, IsFormatted, IsFormatMoment, MayFormat};
 
 use crate::format::format;
 use crate::script::run_script;
 use crate::session::VolumeSession;
 use crate::status::Status;
-use crate::words::{Invocation, invocation_of};
+use command_line::{Invocation, invocation_of};
 use disk_model::Host;
 use std::alloc::Global;
 

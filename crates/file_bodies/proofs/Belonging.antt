@@ -7,12 +7,12 @@ use Rattle.slotted_pages.specs.Reads.{page_on, IsPage}
 use Rattle.file_index.specs.declared.Index.{Index}
 use Rattle.file_index.specs.Index.{IsFilesPage}
 use Rattle.ex_base.specs.declared.names.Place.{Place}
+use Rattle.ex_base.proofs.Counts.{contains_times}
 use Rattle.file_bodies.specs.Bodies.{pages_in, bodies_of}
 use Rattle.file_bodies.specs.Places.{FirstFrom}
-use Rattle.file_bodies.specs.Files.{index_at, HasFile, HasFiles, IsOfFile}
+use Rattle.file_bodies.specs.Files.{index_at, HasFile, HasFiles, HasFileOf, HasBody, IsOfFile}
 use Rattle.file_bodies.proofs.Moving.{lies, kept_file}
 use Rattle.file_bodies.proofs.Slots.{page_of}
-use Rattle.file_bodies.proofs.Rows.{contains_times}
 
 module _ {S : Type 0} (g : ground.Ghosts S) where
   -- a page of a file lies where it may, and is in its grammar
@@ -34,6 +34,19 @@ module _ {S : Type 0} (g : ground.Ghosts S) where
       let at : index_at (g.image a) file_no ≡ Some index = subst (λ (n : ℕ). index_at (g.image a) n ≡ Some index) number file.entry in
       let e : Some index ≡ Some found = sym at ∙ is in cc
 
+  -- where every file is whole, so is that of a page
+  pub file_of_all : (a : S) (page : ℕ) → HasFiles g a → HasFileOf g a page
+  file_of_all a page files = record { catalog = files.catalog; whole = λ index is. files.each (page_on (g.image a page)).file_no index is }
+
+  -- a body stands in the file of its page
+  pub file_of_body : (a : S) (index : Index) (place : Place) (body : List ℕ) → HasBody g a index place body → HasFileOf g a place.page.0
+  file_of_body a index place body has = record {
+    catalog = has.file.catalog;
+    whole = λ found is.
+        let number = (page_of g a index place.page.0 has.file (contains_times place.page.0 (pages_in (g.image a) index) has.named)).number in
+        subst (HasFile g a) (the_index a index found (page_on (g.image a place.page.0)).file_no has.file (sym number) is) has.file;
+  }
+
   pub found_file : (a b : S) (index found : Index) (file_no : ℕ) → HasFile g a index → index.file_no ≡ file_no → index_at (g.image a) file_no ≡ Some found → Keeps g a b → HasFile g b found
   found_file a b index found file_no file number is kept = kept_file g a b found kept (subst (HasFile g a) (the_index a index found file_no file number is) file)
 
@@ -54,13 +67,16 @@ module _ {S : Type 0} (g : ground.Ghosts S) where
       entry : index_at (g.image a) file_no ≡ Some index
       entry = subst (λ (f : ℕ → List ℕ). index_at f file_no ≡ Some index) one.images (sym is ∙ some)
 
-      pub file_c : HasFiles g a → HasFile g c index
-      file_c files = kept_file g b c index two (kept_file g a b index one (files.each file_no index entry))
+      file_a : HasFileOf g a page → HasFile g a index
+      file_a file = file.whole index (subst (λ (n : ℕ). index_at (g.image a) n ≡ Some index) (sym number) entry)
 
-      pub of_yes : HasFiles g a → Contains (pages_in (g.image c) index) page → IsOfFile g a page
-      of_yes files named = record {
+      pub file_c : HasFileOf g a page → HasFile g c index
+      file_c file = kept_file g b c index two (kept_file g a b index one (file_a file))
+
+      pub of_yes : HasFileOf g a page → Contains (pages_in (g.image c) index) page → IsOfFile g a page
+      of_yes file named = record {
         index = index;
-        file = files.each file_no index entry;
+        file = file_a file;
         named = subst (λ (f : ℕ → List ℕ). Contains (pages_in f index) page) (two.images ∙ one.images) named;
       }
 

@@ -12,17 +12,18 @@ use Rattle.ex_base.specs.Ports.{Keeps}
 use Rattle.slotted_pages.specs.Reads.{page_on, IsPage}
 use Rattle.file_index.specs.declared.Index.{Index}
 use Rattle.file_index.specs.Index.{IsFilesPage}
-use Rattle.file_index.specs.Damage.{nothing_seen, HasWay, IsIndexFault, found_in}
+use Rattle.ex_base.specs.Seen.{file_page_seen, nothing_seen, record_seen}
+use Rattle.file_index.specs.Damage.{HasWay, IsIndexFault, found_in}
 use Rattle.object_files.specs.Edits.{IsCatalogPage}
 use Rattle.file_bodies.specs.Files.{index_at, IsPageOf}
-use Rattle.file_bodies.specs.Damage.{page_seen, record_seen, misspelled, foreign, on_the_way, lost_way, found_page, ends, here, goes_on, HasRecords, HasRecordAt, IsFilePageFault, IsPlaceFault, ListsFile, IsBelongingFault, IsLook, IsLookFault}
+use Rattle.file_bodies.specs.Damage.{misspelled, foreign, on_the_way, lost_way, found_page, ends, here, goes_on, HasRecords, HasRecordAt, IsFilePageFault, IsPlaceFault, ListsFile, IsBelongingFault, IsLook, IsLookFault}
 
 -- ---- one page
 
-pub blames_page : (g : Geometry) (bytes : List ℕ) (file_no : ℕ) (page : PageNo) (fault : PortFault) → IsFilesPage g page.0 → (HasRecords bytes → ⊥) → fault ≡ Damaged page (page_seen file_no) nothing_seen → IsFilePageFault g bytes file_no page.0 fault
+pub blames_page : (g : Geometry) (bytes : List ℕ) (file_no : ℕ) (page : PageNo) (fault : PortFault) → IsFilesPage g page.0 → (HasRecords bytes → ⊥) → fault ≡ Damaged page (file_page_seen file_no) nothing_seen → IsFilePageFault g bytes file_no page.0 fault
 blames_page g bytes file_no page fault area never is = subst (IsFilePageFault g bytes file_no page.0) (sym is) (refl, refl, misspelled area never refl)
 
-pub blames_foreign : (g : Geometry) (bytes : List ℕ) (file_no : ℕ) (page : PageNo) (want got : Seen) → IsFilesPage g page.0 → HasRecords bytes → (page_on bytes).file_no ≢ file_no → want ≡ page_seen file_no → got ≡ page_seen (page_on bytes).file_no
+pub blames_foreign : (g : Geometry) (bytes : List ℕ) (file_no : ℕ) (page : PageNo) (want got : Seen) → IsFilesPage g page.0 → HasRecords bytes → (page_on bytes).file_no ≢ file_no → want ≡ file_page_seen file_no → got ≡ file_page_seen (page_on bytes).file_no
     → IsFilePageFault g bytes file_no page.0 (Damaged page want got)
 blames_foreign g bytes file_no page want got area has differ want_is got_is = (refl, want_is, foreign area has differ got_is)
 

@@ -7,9 +7,11 @@ use Rattle.ex_base.specs.declared.names.PageNo.{PageNo}
 use Rattle.ex_base.specs.declared.ground.Ground as ground
 use Rattle.ex_base.specs.Area.{catalog_no}
 use Rattle.ex_base.specs.Order.{AllDiffer}
+use Rattle.ex_base.proofs.Counts.{not_equal}
+use Rattle.ex_base.proofs.Members.{contains_later}
 use Rattle.file_index.specs.declared.Index.{Index}
 use Rattle.file_index.specs.Index.{HasRoot}
-use Rattle.file_index.proofs.Counts.{not_equal, changes_same}
+use Rattle.file_index.proofs.Counts.{changes_same}
 use Rattle.object_files.specs.Catalog.{FileEntry, Catalog, CatalogOf, IsEntry, number_of}
 use Rattle.object_files.specs.Reads.{catalog_on}
 use Rattle.object_files.specs.Edits.{IsCatalogPage, entries_on, indexed, with_entries}
@@ -65,15 +67,12 @@ found_usable file_no (e ∷ es) index each is =
       | false ↦ λ t h. found_usable file_no es index each.1 h
     ]) refl is
 
-contains_more : (x y : ℕ) (xs : List ℕ) → Contains xs y → Contains (x ∷ xs) y
-contains_more x y xs c = (suc c.0, omega (arith, c.1), c.2)
-
 pub found_number : (file_no : ℕ) (es : List FileEntry) (index : Index) → index_in file_no es ≡ Some index → Contains (map number_of es) file_no
 found_number file_no [] index is = absurd cc
 found_number file_no (e ∷ es) index is =
     (elim (eqb e.file_no file_no) as (λ t. eqb e.file_no file_no ≡ t → (if t then Some (index_from file_no e) else index_in file_no es) ≡ Some index → Contains (map number_of (e ∷ es)) file_no) [
       | true ↦ λ t h. (zero, omega arith, eqb-true e.file_no file_no t)
-      | false ↦ λ t h. contains_more e.file_no file_no (map number_of es) (found_number file_no es index h)
+      | false ↦ λ t h. contains_later e.file_no file_no (map number_of es) (found_number file_no es index h)
     ]) refl is
 
 pub usable_if : (file_no : ℕ) (es : List FileEntry) (o : Option Index) → o ≡ index_in file_no es → AllByRecursion IsEntry es → IfSome o (IsUsable file_no)
@@ -132,7 +131,7 @@ indexed_other n level root (e ∷ es) lacks =
     let differ : e.file_no ≢ n = λ same. lacks (zero, omega arith, same) in
     let test : eqb e.file_no n ≡ false = not_equal e.file_no n differ in
     let here : indexed n level root e ≡ e = rw test refl in
-    ap (λ (x : FileEntry). x ∷ map (indexed n level root) es) here ∙ ap (λ (t : List FileEntry). e ∷ t) (indexed_other n level root es (λ c. lacks (contains_more e.file_no n (map number_of es) c)))
+    ap (λ (x : FileEntry). x ∷ map (indexed n level root) es) here ∙ ap (λ (t : List FileEntry). e ∷ t) (indexed_other n level root es (λ c. lacks (contains_later e.file_no n (map number_of es) c)))
 
 entry_is : (e : FileEntry) (index : Index) → index_from index.file_no e ≡ index → record e { level = index.level; root = index.root } ≡ e
 entry_is e index same =

@@ -8,19 +8,20 @@ use Rattle.ex_base.specs.declared.names.PageNo.{PageNo}
 use Rattle.ex_base.specs.declared.names.Place.{Place}
 use Rattle.ex_base.specs.Ports.{times, Keeps}
 use Rattle.ex_base.proofs.Rows.{each-append}
+use Rattle.ex_base.proofs.Counts.{contains_times, same_or_not, times-append, times_apart, times_contains, times_here}
 use Rattle.slotted_pages.specs.FilePage.{Slot}
 use Rattle.slotted_pages.specs.Edits.{slots_of}
 use Rattle.file_index.specs.declared.Index.{Index}
 use Rattle.file_index.specs.Index.{Rises, IsFilesPage}
 use Rattle.file_index.specs.Least.{IsLeastFrom}
-use Rattle.file_index.proofs.Counts.{times-append, times_here, times_apart, same_or_not}
 use Rattle.file_index.proofs.Picking.{rises_low, rises_of}
 use Rattle.file_bodies.specs.Bodies.{Row, place_at, bodies_from, bodies_on, bodies_of, pages_in}
 use Rattle.file_bodies.specs.Files.{HasFile, IsPageOf}
 use Rattle.file_bodies.specs.Places.{IsFrom, IsFirstFrom, FirstFrom, IsFirstLive}
-use Rattle.file_bodies.proofs.Rows.{contains_times, times_contains, split_at}
+use Rattle.file_bodies.proofs.Rows.{split_at}
 use Rattle.file_bodies.proofs.Moving.{lies}
 use Rattle.file_bodies.proofs.Slots.{page_of}
+use Rattle.std.proofs.lemmas.Bool.{cases_lt}
 
 -- ---- what holds of each row
 
@@ -131,28 +132,20 @@ first_on image keys page key slot from s rises least looks first =
     let risen : Rises 0 (sp.front ++ (page.0 ∷ sp.back)) = subst (Rises 0) sp.is rises in
     let rows : flat_map (bodies_on image) keys ≡ flat_map (bodies_on image) sp.front ++ (bodies_on image page.0 ++ flat_map (bodies_on image) sp.back) = ap (flat_map (bodies_on image)) sp.is ∙ flat_map-append (bodies_on image) sp.front (page.0 ∷ sp.back) in
     let here = first_row page.0 key slot 0 s (slots_of (image page.0)) s (omega arith) first.live
-    (λ j n lt is. elim (lt_or_le j from) [
+    (λ j n lt is. elim (cases_lt j from) [
       | inl below ↦ inr (not_yet page.0 key slot from n looks (omega arith))
       | inr above ↦ inl (first.vacant j above lt)
     ]) (from_here page.0 key slot from s looks least.1 first.reached) in
     let passed : AllByRecursion (λ (row : Row). ¬ IsFrom key slot row.0) (flat_map (bodies_on image) sp.front) = rows_each (λ (row : Row). ¬ IsFrom key slot row.0) image sp.front (λ k h n body there.
     let lt : k < page.0 = front_below 0 page.0 k sp.front sp.back risen h in
     let among : 1 ≤ times k keys = omega (arith, h, ap (times k) sp.is, times-append k sp.front (page.0 ∷ sp.back)) in
-    elim (lt_or_le k key) [
+    elim (cases_lt k key) [
       | inl below ↦ below_not key slot k n below
       | inr above ↦ absurd (omega (arith, least.2 k (times_contains k keys among) above))
     ]) in
     subst (λ (t : List Row). IsFirstFrom t key slot (record { page = page; slot = s })) (sym rows)
     (first_behind (bodies_on image page.0 ++ flat_map (bodies_on image) sp.back) (flat_map (bodies_on image) sp.front) key slot (record { page = page; slot = s }) passed
     (first_before (bodies_on image page.0) (flat_map (bodies_on image) sp.back) key slot (record { page = page; slot = s }) here))
-  where
-    lt_or_le : (m n : ℕ) → (m < n) ⊎ (n ≤ m)
-    lt_or_le m zero = inr (omega arith)
-    lt_or_le zero (suc n) = inl (omega arith)
-    lt_or_le (suc m) (suc n) = elim (lt_or_le m n) [
-      | inl lt ↦ inl (omega arith)
-      | inr le ↦ inr (omega arith)
-    ]
 
 -- ---- the page has none: the search goes on behind it
 

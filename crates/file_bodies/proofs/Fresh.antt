@@ -1,5 +1,5 @@
 -- A body on a page that is new in its file.
-use Rattle.std.proofs.Common.{◌≡◌, ◌≤◌, ◌+◌, ◌-◌, ℕ, true, List, [], ◌∷◌, length, Option, Some, refl, sym, ap, subst, ◌∙◌, arith, inr}
+use Rattle.std.proofs.Common.{◌≡◌, ◌≤◌, ◌+◌, ◌-◌, ℕ, true, List, [], ◌∷◌, length, Option, Some, None, refl, sym, ap, subst, ◌∙◌, arith, inr}
 use Rattle.std.specs.Prelude.{IfSome, nat_le}
 use Rattle.std.proofs.lemmas.Bool.Decides.{nat_tests}
 use Rattle.ex_base.specs.declared.ground.Ground as ground
@@ -14,9 +14,9 @@ use Rattle.file_index.specs.declared.Index.{Index}
 use Rattle.file_index.specs.Edits.{EditsIndex, put_in}
 use Rattle.object_files.specs.Edits.{IsCatalogPage}
 use Rattle.file_bodies.specs.Bodies.{place_at}
-use Rattle.file_bodies.specs.Files.{index_at, HasFile}
+use Rattle.file_bodies.specs.Files.{index_at, HasFile, EditsFile}
 use Rattle.file_bodies.specs.Indexes.{SetsIndex}
-use Rattle.file_bodies.specs.Places.{slot_for, PlacesBody}
+use Rattle.file_bodies.specs.Places.{slot_for, PlacesBody, PutsBody}
 use Rattle.file_bodies.specs.Placing.{NoneFrom}
 use Rattle.file_bodies.proofs.Pages.{slots_are}
 use Rattle.file_bodies.proofs.Indexing.{reindexed, catalog_stays, taken_held, taken_index, taken_catalog, taken_edits}
@@ -52,10 +52,21 @@ module _ {S : Type 0} (g : ground.Ghosts S) (a b c : S) (index after : Index) (p
   pub still_entry : index_at (g.image c) index.file_no ≡ Some index
   still_entry = subst (λ (t : List ℕ). index_at (λ (q : ℕ). t) index.file_no ≡ Some index) (sym catalog_c) file.entry
 
+  fresh_edit : (d : S) (body : List ℕ) → SetsIndex g c d after → SlotsOf content (first_page index.file_no body) → EditsFile g a d index after (place_at p 0) None (Some body)
+  fresh_edit d body sets spelled =
+      let r = reindexed g b c d (put_in p) index after (taken_index g a b c index after p content file take told leads leaves) (taken_held g a b c index after p content file take told leads leaves) e sets in
+      taken_edits g a b d index after p content file take told leads leaves r (first_page index.file_no body) body spelled refl refl
+
+  pub fresh_puts : (d : S) (body : List ℕ) → SetsIndex g c d after → SlotsOf content (first_page index.file_no body) → PutsBody g a d index (place_at p 0) body
+  fresh_puts d body sets spelled = record {
+    after = after;
+    edit = fresh_edit d body sets spelled;
+    vacant = inr (record { taken = take.was_not_held; slot = refl });
+  }
+
   pub fresh_placed : (d : S) (body : List ℕ) → SetsIndex g c d after → SlotsOf content (first_page index.file_no body) → NoneFrom g a index (length body) 0 → PlacesBody g a d index (place_at p 0) body
   fresh_placed d body sets spelled none =
-      let r = reindexed g b c d (put_in p) index after (taken_index g a b c index after p content file take told leads leaves) (taken_held g a b c index after p content file take told leads leaves) e sets in
-      let edit = taken_edits g a b d index after p content file take told leads leaves r (first_page index.file_no body) body spelled refl refl in
+      let edit = fresh_edit d body sets spelled in
       record {
         after = after;
         edit = edit;

@@ -7,13 +7,14 @@ use Rattle.ex_base.specs.declared.names.Area.TheVariants.{Segment}
 use Rattle.ex_base.specs.declared.names.PageNo.{PageNo}
 use Rattle.ex_base.specs.Area.{catalog_no}
 use Rattle.ex_base.specs.Ports.{times, TakesPage}
+use Rattle.ex_base.proofs.Counts.{contains_times, same_or_not, times-append, times_apart, times_contains}
 use Rattle.slotted_pages.specs.FilePage.{FilePage, SlotsOf}
 use Rattle.slotted_pages.specs.Edits.{slots_of}
 use Rattle.file_index.specs.declared.Index.{Index}
 use Rattle.file_index.specs.Changes.{Changes, count_of}
 use Rattle.file_index.specs.Index.{IsFilesPage, HasPlacedRoot, IsIndex, pages_of}
 use Rattle.file_index.specs.Edits.{HasIndex, EditsIndex, put_in}
-use Rattle.file_index.proofs.Counts.{times-append, count_most, count_is, is_counted, take_changes, changes_trans, changes_more, times_apart, same_or_not}
+use Rattle.file_index.proofs.Counts.{count_most, count_is, is_counted, take_changes, changes_trans, changes_more}
 use Rattle.object_files.specs.Catalog.{Catalog, CatalogOf}
 use Rattle.object_files.specs.Reads.{catalog_on}
 use Rattle.object_files.specs.Edits.{IsCatalogPage}
@@ -24,7 +25,7 @@ use Rattle.file_bodies.specs.Indexes.{SetsIndex}
 use Rattle.file_bodies.proofs.Entries.{is_catalog, in_indexed}
 use Rattle.file_bodies.proofs.Pages.{is_page, number_is, slots_are}
 use Rattle.file_bodies.proofs.Moving.{Moved, moved, lies, index_apart, once_of, has_index}
-use Rattle.file_bodies.proofs.Rows.{contains_times, times_contains, each_at, each_of, Joined, put_joined, times_joined, rows_joined, rows_few, rows_edit}
+use Rattle.file_bodies.proofs.Rows.{each_at, each_of, Joined, put_joined, times_joined, rows_joined, rows_few, rows_edit}
 
 -- a whole index has its root where a page of a file may lie
 pub root_placed : (gm : Geometry) (image : ℕ → List ℕ) (file_no level : ℕ) (root : Option PageNo) → IsIndex gm image file_no level root → HasPlacedRoot gm root

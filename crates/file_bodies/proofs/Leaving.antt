@@ -7,13 +7,14 @@ use Rattle.ex_base.specs.declared.geometry.Geometry.{Geometry}
 use Rattle.ex_base.specs.declared.names.Place.{Place}
 use Rattle.ex_base.specs.Area.{catalog_no}
 use Rattle.ex_base.specs.Ports.{times, Keeps, GivesPage}
+use Rattle.ex_base.proofs.Counts.{contains_times, times-append, times_contains, times_here}
 use Rattle.slotted_pages.specs.FilePage.{Slot}
 use Rattle.slotted_pages.specs.Edits.{slots_of, with_slot, trimmed}
 use Rattle.file_index.specs.declared.Index.{Index}
 use Rattle.file_index.specs.Changes.{Changes}
 use Rattle.file_index.specs.Index.{IsIndex, pages_of}
 use Rattle.file_index.specs.Edits.{take_out}
-use Rattle.file_index.proofs.Counts.{keeps_changes, times-append, count_most, count_is, is_counted, give_changes, changes_trans, changes_more, times_here}
+use Rattle.file_index.proofs.Counts.{keeps_changes, count_most, count_is, is_counted, give_changes, changes_trans, changes_more}
 use Rattle.object_files.specs.Reads.{catalog_on}
 use Rattle.object_files.specs.Edits.{IsCatalogPage}
 use Rattle.object_files.proofs.CatalogLaws.{catalog_read}
@@ -25,7 +26,7 @@ use Rattle.file_bodies.proofs.Entries.{is_catalog}
 use Rattle.file_bodies.proofs.Moving.{Moved, moved, lies, index_apart, once_of}
 use Rattle.file_bodies.proofs.Indexing.{Reindexed, entry_set}
 use Rattle.file_bodies.proofs.Slots.{stands_below}
-use Rattle.file_bodies.proofs.Rows.{contains_times, times_contains, each_at, each_of, Joined, out_joined_at, times_joined, rows_joined, rows_few, rows_edit, slot_edits, rows_trimmed}
+use Rattle.file_bodies.proofs.Rows.{each_at, each_of, Joined, out_joined_at, times_joined, rows_joined, rows_few, rows_edit, slot_edits, rows_trimmed}
 
 module _ {S : Type 0} (g : ground.Ghosts S) (a c d : S) (index after : Index) (p : ℕ) (file : HasFile g a index) (named : 1 ≤ times p (pages_in (g.image a) index)) (r : Reindexed g a c index after (take_out p)) (give : GivesPage g c d p) (leads : g.leads c d) where
   joined : Joined p (take_out p (pages_in (g.image a) index)) (pages_in (g.image a) index)

@@ -10,13 +10,14 @@ use Rattle.ex_base.specs.declared.names.Place.{Place}
 use Rattle.ex_base.specs.Area.{catalog_no}
 use Rattle.ex_base.specs.Order.{Rising}
 use Rattle.ex_base.specs.Ports.{times, Keeps, PutsImage}
+use Rattle.ex_base.proofs.Counts.{same_or_not, times-append, times_apart, times_here}
 use Rattle.slotted_pages.specs.FilePage.{Slot, FilePage, SlotsOf}
 use Rattle.slotted_pages.specs.Edits.{slots_of}
 use Rattle.file_index.specs.declared.Index.{Index}
 use Rattle.file_index.specs.Changes.{Changes, count_of}
 use Rattle.file_index.specs.Index.{IsFilesPage, IsIndex, keys_of, pages_of}
 use Rattle.file_index.specs.Edits.{HasIndex}
-use Rattle.file_index.proofs.Counts.{times-append, count_most, is_counted, keeps_changes, put_changes, changes_trans, changes_more, times_here, times_apart, same_or_not}
+use Rattle.file_index.proofs.Counts.{count_most, is_counted, keeps_changes, put_changes, changes_trans, changes_more}
 use Rattle.file_index.proofs.Frame.{same_under}
 use Rattle.file_index.proofs.Heights.{keys_of_pages, index_of_pages}
 use Rattle.object_files.specs.Reads.{catalog_on}

@@ -1,6 +1,6 @@
 -- What is read on one page of a file.
 use Rattle.std.proofs.Common.{◌≡◌, ◌≢◌, ◌≤◌, ◌<◌, ℕ, zero, suc, List, [], ◌∷◌, length, Option, Some, None, refl, sym, ap, subst, ◌∙◌, arith}
-use Rattle.std.specs.Prelude.{slice_index_or, IsSome, IfSome, IfNone, IfOk, IfErr, OnOk, Result, Ok, Err}
+use Rattle.std.specs.Prelude.{slice_index_or, IsSome, IfSome}
 use Rattle.std.specs.List.{AllByRecursion}
 use Rattle.std.specs.Option.{option_map}
 use Rattle.slotted_pages.specs.FilePage.{Slot, FilePage, SlotsOf, IsSlot, body_of}
@@ -75,22 +75,7 @@ first_is slots from slot o reached live is vacant = record { reached = reached; 
 
 -- ---- a clause on an option that is known
 
-pub at_none : {A : Type 0} (o : Option A) (X : Type 0) → o ≡ None → IfNone o X → X
-at_none None X is h = h
-at_none (Some y) X is h = absurd cc
-
-pub at_some : {A : Type 0} (o : Option A) (x : A) (P : A → Type 0) → o ≡ Some x → IfSome o P → P x
-at_some None x P is h = absurd cc
-at_some (Some y) x P is h = subst P (let same : y ≡ x = cc in same) h
-
-pub if_ok : {X E : Type 0} (r : Result X E) (P Q : X → Type 0) → ((x : X) → P x → Q x) → IfOk r P → IfOk r Q
-if_ok (Ok x) P Q f h = f x h
-if_ok (Err e) P Q f h = tt
-
-pub if_err : {X E : Type 0} (r : Result X E) (P Q : E → Type 0) → ((e : E) → P e → Q e) → IfErr r P → IfErr r Q
-if_err (Ok x) P Q f h = tt
-if_err (Err e) P Q f h = f e h
-
-pub on_ok : {X E : Type 0} (r : Result X E) (P Q : Type 0) → (P → Q) → OnOk r P → OnOk r Q
-on_ok (Ok x) P Q f h = f h
-on_ok (Err e) P Q f h = tt
+-- what a value that is there is mapped to
+pub mapped : {A B : Type 0} (f : A → B) (o : Option A) (x : Option B) → option_map f o ≡ x → IfSome o (λ a. x ≡ Some (f a))
+mapped f None x e = tt
+mapped f (Some a) x e = sym e

@@ -1,14 +1,14 @@
 -- Rows of bodies: on one page, and over the pages of a file.
 use Rattle.std.proofs.Common.{◌≡◌, ◌≢◌, ◌≤◌, ◌<◌, ◌+◌, ℕ, zero, suc, List, [], ◌∷◌, ◌++◌, length, Some, None, refl, sym, ap, subst, ◌∙◌, append_assoc, arith, ◌⊎◌, inl, inr}
-use Rattle.std.specs.Prelude.{slice_index_or, Contains}
+use Rattle.std.specs.Prelude.{slice_index_or}
 use Rattle.std.specs.List.{flat_map, AllByRecursion}
 use Rattle.std.proofs.lemmas.List.Concat.{flat_map-append}
 use Rattle.ex_base.specs.declared.names.Place.{Place}
 use Rattle.ex_base.specs.Ports.{times}
+use Rattle.ex_base.proofs.Counts.{apart_of, same_or_not, times-append, times_apart, times_here}
 use Rattle.slotted_pages.specs.FilePage.{Slot}
 use Rattle.slotted_pages.specs.Edits.{slots_of, with_slot, trimmed, before_live}
 use Rattle.file_index.specs.Edits.{put_in, take_out}
-use Rattle.file_index.proofs.Counts.{times-append, times_here, times_apart, apart_of, same_or_not}
 use Rattle.file_index.proofs.Lists.{put_here, put_later, out_here, out_joined, out_lacks, Lacks}
 use Rattle.file_bodies.specs.Bodies.{Row, place_at, row_of, bodies_from, bodies_on, EditsRow}
 
@@ -59,20 +59,6 @@ rows_trimmed page at [] = refl
 rows_trimmed page at (s ∷ slots) = before_rows page at s (trimmed slots) ∙ ap (λ (t : List Row). row_of (place_at page at) s ++ t) (rows_trimmed page (suc at) slots)
 
 -- ---- how often a page stands in a list, and that it does
-
-pub contains_times : (x : ℕ) (xs : List ℕ) → Contains xs x → 1 ≤ times x xs
-contains_times x [] c = absurd (omega (arith, c.1))
-contains_times x (y ∷ xs) (zero, lt, e) = omega (arith, times_here x y xs (sym e))
-contains_times x (y ∷ xs) (suc k, lt, e) = omega (arith, contains_times x xs (k, omega (arith, lt), e))
-
-pub times_contains : (x : ℕ) (xs : List ℕ) → 1 ≤ times x xs → Contains xs x
-times_contains x [] h = absurd (omega arith)
-times_contains x (y ∷ xs) h = elim (same_or_not x y) [
-  | inl same ↦ (zero, omega arith, sym same)
-  | inr differ ↦
-      let c = times_contains x xs (omega (arith, times_apart x y xs differ)) in
-      (suc c.0, omega (arith, c.1), c.2)
-]
 
 pub each_at : (P : ℕ → Type 0) (xs : List ℕ) (x : ℕ) → AllByRecursion P xs → 1 ≤ times x xs → P x
 each_at P [] x h c = absurd (omega arith)

@@ -1,10 +1,12 @@
 -- The search for a page with room.
-use Rattle.std.proofs.Common.{◌≡◌, ◌≤◌, ◌<◌, ◌+◌, ℕ, zero, suc, true, false, List, length, Option, Some, None, refl, ap, subst, ◌∙◌, arith, ◌⊎◌, inl, inr}
+use Rattle.std.proofs.Common.{◌≡◌, ◌≤◌, ◌<◌, ◌+◌, ℕ, true, false, List, length, Option, Some, None, refl, ap, subst, ◌∙◌, arith, ◌⊎◌, inl, inr}
 use Rattle.std.specs.Prelude.{Bool, Contains, nat_le, if◌then◌else◌}
 use Rattle.std.proofs.lemmas.Bool.Decides.{nat_tests}
+use Rattle.std.proofs.lemmas.Bool.{cases_lt}
 use Rattle.ex_base.specs.declared.ground.Ground as ground
 use Rattle.ex_base.specs.declared.names.PageNo.{PageNo}
 use Rattle.ex_base.specs.Ports.{Keeps}
+use Rattle.ex_base.proofs.Keeping.{keeps_refl}
 use Rattle.slotted_pages.specs.FilePage.{Slot, room_of}
 use Rattle.slotted_pages.specs.Edits.{slots_of, place_for, need_of, vacant_at}
 use Rattle.file_index.specs.declared.Index.{Index}
@@ -17,14 +19,6 @@ use Rattle.file_bodies.specs.Placing.{NoneFrom}
 use Rattle.file_bodies.specs.Damage.{IsLook}
 use Rattle.file_bodies.proofs.Moving.{kept_file}
 use Rattle.file_bodies.proofs.Following.{page_sound}
-
-pub lt_or_le : (m n : ℕ) → (m < n) ⊎ (n ≤ m)
-lt_or_le m zero = inr (omega arith)
-lt_or_le zero (suc n) = inl (omega arith)
-lt_or_le (suc m) (suc n) = elim (lt_or_le m n) [
-  | inl lt ↦ inl (omega arith)
-  | inr le ↦ inr (omega arith)
-]
 
 le_false : (a b c : ℕ) → a ≤ b → nat_le a c ≡ false → nat_le b c ≡ false
 le_false a b c le is = grind (arith, nat_tests)
@@ -40,20 +34,6 @@ longer_none size slots short long le none = longer (vacant_at slots) (nat_le (ne
         rw test refl
 
 module _ {S : Type 0} (g : ground.Ghosts S) where
-  pub keeps_trans : (a b c : S) → Keeps g a b → Keeps g b c → Keeps g a c
-  keeps_trans a b c one two = record {
-    units = two.units ∙ one.units;
-    images = two.images ∙ one.images;
-    used = two.used ∙ one.used;
-    refs = two.refs ∙ one.refs;
-    held = two.held ∙ one.held;
-    free = two.free ∙ one.free;
-    leads = g.leads_trans a b c one.leads two.leads;
-  }
-
-  pub keeps_refl : (a : S) → Keeps g a a
-  keeps_refl a = record { units = refl; images = refl; used = refl; refs = refl; held = refl; free = refl; leads = g.leads_refl a }
-
   -- how far a search has come
   pub record SearchedTo (start now : S) (index : Index) (len from key : ℕ) : Type 0 where
     pub kept : Keeps g start now
@@ -62,7 +42,7 @@ module _ {S : Type 0} (g : ground.Ghosts S) where
     pub looked : g.tells start → (end : Option PageNo) → IsLook (g.geometry start) (g.image start) index key end → IsLook (g.geometry start) (g.image start) index from end
 
   pub search_starts : (a : S) (index : Index) (len from : ℕ) → SearchedTo a a index len from from
-  search_starts a index len from = record { kept = keeps_refl a; reached = omega arith; passed = λ told file page named low high. absurd (omega arith); looked = λ told end more. more }
+  search_starts a index len from = record { kept = keeps_refl g a; reached = omega arith; passed = λ told file page named low high. absurd (omega arith); looked = λ told end more. more }
 
   module _ (a b : S) (index : Index) (len from key : ℕ) (to : SearchedTo a b index len from key) (told : g.tells a) (file : HasFile g a index) where
     pub file_now : HasFile g b index
@@ -81,13 +61,13 @@ module _ {S : Type 0} (g : ground.Ghosts S) where
       at_page = subst (λ (f : ℕ → List ℕ). IsLeastFrom (pages_in f index) key (Some page)) to.kept.images (subst (IsLeastFrom (pages_in (g.image b) index) key) some least)
 
       pub passed_to : NoRoom g a index len from page.0
-      passed_to q named low high = elim (lt_or_le q key) [
+      passed_to q named low high = elim (cases_lt q key) [
         | inl below ↦ to.passed told file q named low below
         | inr above ↦ absurd (omega (arith, at_page.2 q named above))
       ]
 
       pub passed_page : slot_for g a page.0 len ≡ None → NoRoom g a index len from (page.0 + 1)
-      passed_page none q named low high = elim (lt_or_le q page.0) [
+      passed_page none q named low high = elim (cases_lt q page.0) [
         | inl below ↦ passed_to q named low below
         | inr above ↦
             let same : page.0 ≡ q = omega arith in

@@ -4,6 +4,7 @@ use Rattle.std.specs.Prelude.{slice_index_or, Contains}
 use Rattle.ex_base.specs.declared.ground.Ground as ground
 use Rattle.ex_base.specs.declared.names.Place.{Place}
 use Rattle.ex_base.specs.Ports.{times, Keeps, PutsImage}
+use Rattle.ex_base.proofs.Counts.{contains_times}
 use Rattle.slotted_pages.specs.FilePage.{Slot, SlotsOf}
 use Rattle.slotted_pages.specs.Reads.{page_on, IsPage}
 use Rattle.slotted_pages.specs.Edits.{slots_of, with_slot, with_slots, trimmed}
@@ -14,7 +15,7 @@ use Rattle.file_bodies.specs.Bodies.{Row, bodies_from, bodies_on, pages_in, Edit
 use Rattle.file_bodies.specs.Files.{IsPageOf, IsLive, HasFile, HasBody, EditsFile}
 use Rattle.file_bodies.proofs.Pages.{stands_live, slots_are}
 use Rattle.file_bodies.proofs.Moving.{lies, kept_file, kept_edits, put_edits}
-use Rattle.file_bodies.proofs.Rows.{contains_times, each_at, slot_edits, rows_trimmed}
+use Rattle.file_bodies.proofs.Rows.{each_at, slot_edits, rows_trimmed}
 
 pub stands_below : (slots : List Slot) (i : ℕ) (body : List ℕ) → slice_index_or slots i None ≡ Some body → i < length slots
 stands_below [] i body is = absurd (let e : None ≡ Some body = is in cc)

@@ -11,14 +11,12 @@ use Rattle.slotted_pages.specs.Reads.{page_on, IsPage}
 use Rattle.slotted_pages.specs.Edits.{slots_of, with_slot, trimmed}
 use Rattle.file_index.specs.declared.Index.{Index}
 use Rattle.file_index.specs.Index.{IsFilesPage, seen}
-use Rattle.file_index.specs.Damage.{nothing_seen, HasWay, IsIndexFault, IsRemovalFault, found_in}
+use Rattle.ex_base.specs.Seen.{catalog_seen, file_page_seen, nothing_seen, record_seen}
+use Rattle.file_index.specs.Damage.{HasWay, IsIndexFault, IsAddingFault, IsRemovalFault, found_in}
 use Rattle.object_files.specs.Edits.{IsCatalogPage, entries_on}
 use Rattle.file_bodies.specs.Files.{index_in, IsPageOf, IsLive}
 
 -- ---- the catalog
-
-abbrev pub catalog_seen : Seen
-catalog_seen = record { kind = 1; level = 0; total = 0 }
 
 -- the fault is the port's own, or tells that the catalog's page with these bytes is outside its grammar
 abbrev pub IsCatalogFault : List ℕ → PortFault → Type 0
@@ -50,10 +48,6 @@ pub record HasListed (image : ℕ → List ℕ) (file_no : ℕ) (Holds : Index �
 
 -- ---- a page of a file
 
--- what a page of a file shows: the number of its file
-abbrev pub page_seen : ℕ → Seen
-page_seen file_no = record { kind = 3; level = 0; total = file_no }
-
 -- the bytes are those of a page of some file: in the grammar, with a record
 pub record HasRecords (bytes : List ℕ) : Type 0 where
   pub spelled : IsPage bytes
@@ -64,18 +58,15 @@ pub record HasRecords (bytes : List ℕ) : Type 0 where
 pub data IsPageMisread (g : Geometry) (bytes : List ℕ) (file_no page : ℕ) (got : Seen) : Type 0 where
   misplaced : (IsFilesPage g page → ⊥) → got ≡ nothing_seen → IsPageMisread g bytes file_no page got
   misspelled : IsFilesPage g page → (HasRecords bytes → ⊥) → got ≡ nothing_seen → IsPageMisread g bytes file_no page got
-  foreign : IsFilesPage g page → HasRecords bytes → (page_on bytes).file_no ≢ file_no → got ≡ page_seen (page_on bytes).file_no → IsPageMisread g bytes file_no page got
+  foreign : IsFilesPage g page → HasRecords bytes → (page_on bytes).file_no ≢ file_no → got ≡ file_page_seen (page_on bytes).file_no → IsPageMisread g bytes file_no page got
 
 -- the fault is the port's own, or tells that this page with these bytes isn't one of the file
 abbrev pub IsFilePageFault : Geometry → List ℕ → ℕ → ℕ → PortFault → Type 0
 IsFilePageFault g bytes file_no page Disk = ⊤
 IsFilePageFault g bytes file_no page Memory = ⊤
-IsFilePageFault g bytes file_no page (Damaged at want got) = (at.0 ≡ page) × (want ≡ page_seen file_no) × IsPageMisread g bytes file_no page got
+IsFilePageFault g bytes file_no page (Damaged at want got) = (at.0 ≡ page) × (want ≡ file_page_seen file_no) × IsPageMisread g bytes file_no page got
 
 -- ---- a place
-
-abbrev pub record_seen : ℕ → Seen
-record_seen slot = record { kind = 4; level = 0; total = slot }
 
 -- A record stands at the place, on a page with these bytes, which is in the grammar of a file's pages and lies where one may lie.
 pub record HasRecordAt (g : Geometry) (bytes : List ℕ) (place : Place) : Type 0 where
@@ -93,7 +84,7 @@ IsPlaceFault g bytes place (Damaged at want got) = (at ≡ place.page) × (want 
 
 -- what a root shows: at level 0 it is a page of the file, above an index page
 abbrev pub root_seen : ℕ → ℕ → Seen
-root_seen zero file_no = page_seen file_no
+root_seen zero file_no = file_page_seen file_no
 root_seen (suc level) file_no = seen (suc level) None
 
 -- the fault is the port's own, or tells that the root of the index lies where no page of a file lies
@@ -116,11 +107,11 @@ pub data IsLookFault (g : Geometry) (image : ℕ → List ℕ) (index : Index) (
   found_page : (key : ℕ) (page : PageNo) → from ≤ key → HasWay g image index key → found_in image index key ≡ Some page → IsFilePageFault g (image page.0) index.file_no page.0 fault → IsLookFault g image index from fault
 
 -- What a call tells that puts a body into the file of an index: the catalog lacks the file; or of a page that the look for room reads; or, where a page
--- was taken, of an index page on the way to it.
+-- was taken, of the index that it is put into.
 pub data IsPlacingFault (g : Geometry) (image : ℕ → List ℕ) (index : Index) (from : ℕ) (fault : PortFault) : Type 0 where
   unlisted_file : IsFileFault (image catalog_no) index.file_no fault → IsPlacingFault g image index from fault
   looking : IsLookFault g image index from fault → IsPlacingFault g image index from fault
-  adding : (page : ℕ) (taken : ℕ → List ℕ) → ((p : ℕ) → p ≢ page → taken p ≡ image p) → IsIndexFault g taken index page fault → IsPlacingFault g image index from fault
+  adding : (page : ℕ) (taken : ℕ → List ℕ) → ((p : ℕ) → p ≢ page → taken p ≡ image p) → IsAddingFault g taken index page fault → IsPlacingFault g image index from fault
 
 -- What a call tells that takes a page out of the file of an index: the catalog lacks the file; or what is told of the index (`now` is what stands when it
 -- is told); or the root of the index that is left lies where no page of a file lies.

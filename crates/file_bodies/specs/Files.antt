@@ -64,6 +64,11 @@ pub record HasFiles {S : Type 0} (g : ground.Ghosts S) (s : S) : Type 0 where
   pub catalog : HasCatalog g s
   pub each : (file_no : ℕ) (index : Index) → index_at (g.image s) file_no ≡ Some index → HasFile g s index
 
+-- The catalog is whole, and so is the file that a page says it belongs to, where the catalog has it.
+pub record HasFileOf {S : Type 0} (g : ground.Ghosts S) (s : S) (page : ℕ) : Type 0 where
+  pub catalog : HasCatalog g s
+  pub whole : (index : Index) → index_at (g.image s) (page_on (g.image s page)).file_no ≡ Some index → HasFile g s index
+
 -- A whole file has this body at this place: its index names the page, and the slot has the body.
 pub record HasBody {S : Type 0} (g : ground.Ghosts S) (s : S) (index : Index) (place : Place) (body : List ℕ) : Type 0 where
   pub file : HasFile g s index

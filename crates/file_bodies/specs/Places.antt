@@ -47,6 +47,22 @@ pub record PlacesBody {S : Type 0} (g : ground.Ghosts S) (old new : S) (index : 
   pub chosen : IsChosen g old index (length body) place
   pub below : NoRoom g new after (length body) 0 place.page.0
 
+-- The place is on a page of the file with room for a body of a length, in the slot that the body gets there.
+pub record IsRoomy {S : Type 0} (g : ground.Ghosts S) (s : S) (index : Index) (len : ℕ) (place : Place) : Type 0 where
+  pub named : Contains (pages_in (g.image s) index) place.page.0
+  pub slot : slot_for g s place.page.0 len ≡ Some place.slot
+
+-- The place is the first slot of a page that the working state did not have.
+pub record IsOnNewPage {S : Type 0} (g : ground.Ghosts S) (s : S) (place : Place) : Type 0 where
+  pub taken : g.held s place.page.0 ≡ false
+  pub slot : place.slot ≡ 0
+
+-- A body is put into a file at a place that it hadn't: on some page of the file with room for it, or on a new one.
+pub record PutsBody {S : Type 0} (g : ground.Ghosts S) (old new : S) (index : Index) (place : Place) (body : List ℕ) : Type 0 where
+  pub after : Index
+  pub edit : EditsFile g old new index after place None (Some body)
+  pub vacant : IsRoomy g old index (length body) place ⊎ IsOnNewPage g old place
+
 -- A body is taken out of a file.
 pub record RemovesBody {S : Type 0} (g : ground.Ghosts S) (old new : S) (index : Index) (place : Place) (body : List ℕ) : Type 0 where
   pub after : Index

@@ -6,31 +6,18 @@ ghost use Rattle.file_index.specs.Changes.{Changes};
 ghost use Rattle.ex_base.specs.declared.geometry.Geometry.{Geometry};
 ghost use Rattle.ex_base.specs.declared.faults.PortFault.TheVariants.{Damaged};
 ghost use Rattle.file_index.specs.Index.{HasRoot, HasPlacedRoot, IsFilesPage};
-ghost use Rattle.file_index.specs.Damage.{nothing_seen};
+ghost use Rattle.ex_base.specs.Seen.{catalog_seen, nothing_seen};
 ghost use Rattle.object_files.specs.Catalog.{CatalogOf};
 ghost use Rattle.object_files.specs.Reads.{catalog_on};
 ghost use Rattle.object_files.specs.Edits.{IsCatalogPage, numbers_on};
 ghost use Rattle.file_bodies.specs.Files.{index_in, index_at, with_index};
 ghost use Rattle.file_bodies.specs.Indexes.{IsUsable, SetsIndex};
-ghost use Rattle.file_bodies.specs.Damage.{catalog_seen, root_seen, ListsFile, IsCatalogFault, IsFileFault, IsRootFault};
+ghost use Rattle.file_bodies.specs.Damage.{root_seen, ListsFile, IsCatalogFault, IsFileFault, IsRootFault};
 
-use crate::page::page_seen;
-use crate::{CATALOG, CATALOG_SEEN, INDEX_SEEN, UNKNOWN_SEEN};
-use ex_base::{PageNo, Pages, PortFault, Seen};
+use ex_base::{PageNo, Pages, PortFault, ReadPages, Seen};
 use file_index::Index;
 use object_files::{CatalogView, set_index};
 use std::alloc::Global;
-
-/// What a page shows that is not what it should be.
-pub fn unknown() -> Seen
-    ensures { result ≡ nothing_seen }
-{
-    Seen {
-        kind: UNKNOWN_SEEN,
-        level: 0,
-        total: 0,
-    }
-}
 
 /// The fault of a catalog that is outside of its grammar or has no file with the number.
 pub fn no_catalog() -> PortFault
@@ -39,13 +26,9 @@ pub fn no_catalog() -> PortFault
     ensures cause { (before now : ℕ) → Cause before now result }
 {
     PortFault::Damaged {
-        page: CATALOG,
-        want: Seen {
-            kind: CATALOG_SEEN,
-            level: 0,
-            total: 0,
-        },
-        got: unknown(),
+        page: PageNo::CATALOG,
+        want: Seen::CATALOG,
+        got: Seen::NOTHING,
     }
 }
 
@@ -67,7 +50,7 @@ fn index_with(view: &CatalogView, file_no: u32) -> Option<Index>
 }
 
 /// The index of the file with a number, none where no file has it.
-pub fn find_index<P: Pages>(
+pub fn find_index<P: ReadPages>(
     pages: &mut P,
     alloc: Global,
     file_no: u32,
@@ -81,7 +64,7 @@ pub fn find_index<P: Pages>(
     ensures kept { Keeps P.Ground pages.old pages.new }
     ensures cause { HasCause (P.faults pages.old) (P.faults pages.new) result }
 {
-    let page = pages.get(alloc, CATALOG)?;
+    let page = pages.get(alloc, PageNo::CATALOG)?;
     match CatalogView::of(page) {
         Some(view) => Ok(index_with(&view, file_no)),
         None => Err(no_catalog()),
@@ -89,7 +72,11 @@ pub fn find_index<P: Pages>(
 }
 
 /// The index of the file with a number, which the catalog has.
-pub fn index_of<P: Pages>(pages: &mut P, alloc: Global, file_no: u32) -> Result<Index, PortFault>
+pub fn index_of<P: ReadPages>(
+    pages: &mut P,
+    alloc: Global,
+    file_no: u32,
+) -> Result<Index, PortFault>
     requires { P.ready pages.old }
     ensures found { IfOk result (λ index. P.tells pages.old → index_at (P.image pages.old) file_no ≡ Some index) }
     ensures usable { IfOk result (IsUsable file_no) }
@@ -119,14 +106,14 @@ fn has_file(page: &[u8], file_no: u32) -> bool
 }
 
 /// Whether the root of an index, where it has one, may be a page of a file.
-pub fn has_placed_root<P: Pages>(pages: &P, index: &Index) -> bool
+pub fn has_placed_root<P: ReadPages>(pages: &P, index: &Index) -> bool
     requires { P.ready pages.now }
     ensures placed { IsTrue result → HasPlacedRoot (P.geometry pages.now) index.now.root }
     ensures other { result ≡ false → HasPlacedRoot (P.geometry pages.now) index.now.root → ⊥ }
 {
     match index.root {
         None => true,
-        Some(page) => pages.in_area(page) && page != CATALOG,
+        Some(page) => pages.in_area(page) && page != PageNo::CATALOG,
     }
 }
 
@@ -135,13 +122,9 @@ fn root_seen(index: &Index) -> Seen
     ensures { result ≡ root_seen index.now.level index.now.file_no }
 {
     if index.level == 0 {
-        return page_seen(index.file_no);
+        return Seen::file_page(index.file_no);
     }
-    Seen {
-        kind: INDEX_SEEN,
-        level: index.level,
-        total: 0,
-    }
+    Seen::index(index.level, 0)
 }
 
 /// The fault of an index whose root lies where no page of a file lies.
@@ -151,9 +134,9 @@ pub fn no_root(index: &Index) -> PortFault
     ensures cause { (before now : ℕ) → Cause before now result }
 {
     PortFault::Damaged {
-        page: index.root.unwrap_or(CATALOG),
+        page: index.root.unwrap_or(PageNo::CATALOG),
         want: root_seen(index),
-        got: unknown(),
+        got: Seen::NOTHING,
     }
 }
 
@@ -176,12 +159,12 @@ fn write_index<P: Pages>(
     ensures leads { P.leads pages.old pages.new }
     ensures cause { HasCause (P.faults pages.old) (P.faults pages.new) result }
 {
-    buffer.copy_from_slice(pages.get(alloc, CATALOG)?);
+    buffer.copy_from_slice(pages.get(alloc, PageNo::CATALOG)?);
     if !has_file(buffer, index.file_no) {
         return Err(no_catalog());
     }
     set_index(buffer, *index);
-    pages.put(alloc, CATALOG, buffer)
+    pages.put(alloc, PageNo::CATALOG, buffer)
 }
 
 /// Writes an index into the entry of its file, where it is another than before.

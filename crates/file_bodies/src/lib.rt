@@ -13,23 +13,6 @@ mod reading;
 mod removing;
 
 pub use changing::change_body;
-use ex_base::PageNo;
 pub use placing::{Room, a_lowered_room_stays_true, place_body};
 pub use reading::{bodies_stand_in_order, body_at, next_place};
 pub use removing::remove_from_file;
-
-/// The catalog, which is no page of a file.
-const CATALOG: PageNo = PageNo(257);
-
-// The kinds that faults show.
-
-/// A page that is not what it should be.
-const UNKNOWN_SEEN: u8 = 0;
-
-const CATALOG_SEEN: u8 = 1;
-
-const FILE_PAGE_SEEN: u8 = 3;
-
-const RECORD_SEEN: u8 = 4;
-
-const INDEX_SEEN: u8 = 6;

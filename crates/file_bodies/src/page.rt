@@ -9,17 +9,15 @@ ghost use Rattle.file_bodies.specs.Places.{IsFirstLive};
 ghost use Rattle.file_bodies.specs.Files.{IsPageOf, IsLive};
 ghost use Rattle.ex_base.specs.declared.geometry.Geometry.{Geometry};
 ghost use Rattle.ex_base.specs.declared.faults.PortFault.TheVariants.{Damaged};
-ghost use Rattle.file_index.specs.Damage.{nothing_seen};
-ghost use Rattle.file_bodies.specs.Damage.{page_seen, record_seen, HasRecordAt, IsFilePageFault, IsPlaceFault};
+ghost use Rattle.ex_base.specs.Seen.{file_page_seen, nothing_seen, record_seen};
+ghost use Rattle.file_bodies.specs.Damage.{HasRecordAt, IsFilePageFault, IsPlaceFault};
 
-use crate::catalog::unknown;
-use crate::{CATALOG, FILE_PAGE_SEEN, RECORD_SEEN};
-use ex_base::{PageNo, Pages, Place, PortFault, Seen};
+use ex_base::{PageNo, Place, PortFault, ReadPages, Seen};
 use slotted_pages::SlottedView;
 use std::alloc::Global;
 
 /// Zeros, as many as a page has bytes.
-pub fn page_buffer<P: Pages>(pages: &P, alloc: Global) -> Result<Vec<u8>, PortFault>
+pub fn page_buffer<P: ReadPages>(pages: &P, alloc: Global) -> Result<Vec<u8>, PortFault>
     requires { P.ready pages.now }
     ensures len { IfOk result (λ buffer. length buffer.items ≡ (P.geometry pages.now).page_size) }
     ensures no_damage { IfErr result (λ fault. IsDamage fault → ⊥) }
@@ -31,27 +29,16 @@ pub fn page_buffer<P: Pages>(pages: &P, alloc: Global) -> Result<Vec<u8>, PortFa
     }
 }
 
-/// What a page of a file shows.
-pub fn page_seen(file_no: u32) -> Seen
-    ensures { result ≡ page_seen file_no }
-{
-    Seen {
-        kind: FILE_PAGE_SEEN,
-        level: 0,
-        total: u64::from(file_no),
-    }
-}
-
 /// The fault of a page that is no page of a file with bodies.
 fn no_page(page: PageNo, file_no: u32) -> PortFault
-    ensures is { result ≡ Damaged page (page_seen file_no) nothing_seen }
+    ensures is { result ≡ Damaged page (file_page_seen file_no) nothing_seen }
     ensures damage { IsDamage result }
     ensures cause { (before now : ℕ) → Cause before now result }
 {
     PortFault::Damaged {
         page,
-        want: page_seen(file_no),
-        got: unknown(),
+        want: Seen::file_page(file_no),
+        got: Seen::NOTHING,
     }
 }
 
@@ -63,12 +50,8 @@ fn no_body(place: Place) -> PortFault
 {
     PortFault::Damaged {
         page: place.page,
-        want: Seen {
-            kind: RECORD_SEEN,
-            level: 0,
-            total: u64::from(place.slot),
-        },
-        got: unknown(),
+        want: Seen::record(place.slot),
+        got: Seen::NOTHING,
     }
 }
 
@@ -90,24 +73,24 @@ fn page_checked(bytes: &[u8], page: PageNo, file_no: u32) -> Result<SlottedView<
     if found != file_no {
         return Err(PortFault::Damaged {
             page,
-            want: page_seen(file_no),
-            got: page_seen(found),
+            want: Seen::file_page(file_no),
+            got: Seen::file_page(found),
         });
     }
     Ok(view)
 }
 
 /// Whether a page may be one of a file: it lies in the page area and isn't the catalog.
-pub fn may_be_of_file<P: Pages>(pages: &P, page: PageNo) -> bool
+pub fn may_be_of_file<P: ReadPages>(pages: &P, page: PageNo) -> bool
     requires { P.ready pages.now }
     ensures may { IsTrue result → IsFilesPage (P.geometry pages.now) page.0 }
     ensures never { result ≡ false → IsFilesPage (P.geometry pages.now) page.0 → ⊥ }
 {
-    pages.in_area(page) && page != CATALOG
+    pages.in_area(page) && page != PageNo::CATALOG
 }
 
 /// Reads a page of a file.
-pub fn load_page<P: Pages>(
+pub fn load_page<P: ReadPages>(
     pages: &mut P,
     alloc: Global,
     page: PageNo,
@@ -154,7 +137,7 @@ fn body_checked(bytes: &[u8], place: Place) -> Result<u32, PortFault>
 }
 
 /// Reads the page that a body stands on, and answers the number of its file.
-pub fn load_body_page<P: Pages>(
+pub fn load_body_page<P: ReadPages>(
     pages: &mut P,
     alloc: Global,
     place: Place,
@@ -194,7 +177,7 @@ fn first_live(view: &SlottedView, from: u32) -> Option<u16>
 }
 
 /// The first slot from a slot on that has a body on a page of a file.
-pub fn live_slot<P: Pages>(
+pub fn live_slot<P: ReadPages>(
     pages: &mut P,
     alloc: Global,
     page: PageNo,
@@ -225,6 +208,7 @@ pub fn live_slot<P: Pages>(
 pub fn body_on(page: &[u8], slot: u16) -> Option<&[u8]>
     ensures body { IsPage page.now → option_map (λ body. body.now) result ≡ slice_index_or (slots_of page.now) slot None }
     ensures none { (IsPage page.now → ⊥) → IsNone result }
+    ensures some { IfSome result (λ body. slice_index_or (slots_of page.now) slot None ≡ Some body.now) }
 {
     match SlottedView::of(page) {
         Some(view) => view.body(slot),

@@ -10,12 +10,12 @@ ghost use Rattle.ex_base.specs.declared.names.Place.{Place};
 ghost use Rattle.slotted_pages.specs.FilePage.{Slot};
 ghost use Rattle.file_bodies.specs.Damage.{IsLook, IsLookFault, IsPlacing, IsPlacingFault, page_in, IsListedFault, HasListed};
 ghost use Rattle.file_bodies.specs.Indexes.{IsUsable};
-ghost use Rattle.file_bodies.specs.Places.{IsRoom, NoRoom, PlacesBody};
+ghost use Rattle.file_bodies.specs.Places.{IsRoom, NoRoom, PlacesBody, PutsBody};
 ghost use Rattle.file_bodies.specs.Placing.{IsPlaced, NoneFrom, start_of, lowered_to};
 
 use crate::catalog::{change_index, index_of};
 use crate::page::{load_page, page_buffer};
-use ex_base::{PageNo, Pages, Place, PortFault};
+use ex_base::{PageNo, Pages, Place, PortFault, ReadPages};
 use file_index::{Index, add, at_least};
 use slotted_pages::{empty_page, insert_body};
 use std::alloc::Global;
@@ -63,13 +63,13 @@ impl Room {
 }
 
 /// Once a place of a file was edited, what was known of the file's room is still true when it is lowered to the place's page.
-pub fn a_lowered_room_stays_true<P: Pages>()
+pub fn a_lowered_room_stays_true<P: ReadPages>()
     ensures { (old new : P) (before after : Index) (place : Place) (was is : Slot) (room : Room)
         → EditsFile P.Ground old new before after place was is → IsRoom P.Ground old before room → IsRoom P.Ground new after (lowered_to room place.page.0) }
 {}
 
 /// Reads the lowest page from a number on that has room for a body, and puts it into the page's image. None exactly where no page has.
-fn put_in_room<P: Pages>(
+fn put_in_room<P: ReadPages>(
     pages: &mut P,
     alloc: Global,
     index: &Index,
@@ -125,6 +125,7 @@ fn put_on_new_page<P: Pages>(
     requires image { length image.old ≡ (P.geometry pages.old).page_size }
     ensures placed { IfOk result (λ place. P.tells pages.old → HasFile P.Ground pages.old index.now → NoneFrom P.Ground pages.old index.now (length body.now) 0
         → PlacesBody P.Ground pages.old pages.new index.now place body.now) }
+    ensures puts { IfOk result (λ place. P.tells pages.old → HasFile P.Ground pages.old index.now → PutsBody P.Ground pages.old pages.new index.now place body.now) }
     ensures free { OnOk result (P.free pages.old Page ≤ P.free pages.new Page + 7) }
     ensures sound { IfErr result (λ fault. IsDamage fault → P.tells pages.old → HasFile P.Ground pages.old index.now → ⊥) }
     ensures fault { IfErr result (λ fault. P.tells pages.old → (from : ℕ) → IsPlacingFault (P.geometry pages.old) (P.image pages.old) index.now from fault) }
@@ -166,6 +167,7 @@ fn place_by<P: Pages>(
     requires image { length image.old ≡ (P.geometry pages.old).page_size }
     ensures placed { IfOk result (λ place. P.tells pages.old → HasFile P.Ground pages.old index.now → NoRoom P.Ground pages.old index.now (length body.now) 0 from
         → PlacesBody P.Ground pages.old pages.new index.now place body.now) }
+    ensures puts { IfOk result (λ place. P.tells pages.old → HasFile P.Ground pages.old index.now → PutsBody P.Ground pages.old pages.new index.now place body.now) }
     ensures free { OnOk result (P.free pages.old Page ≤ P.free pages.new Page + 7) }
     ensures sound { IfErr result (λ fault. IsDamage fault → P.tells pages.old → HasFile P.Ground pages.old index.now → ⊥) }
     ensures fault { IfErr result (λ fault. P.tells pages.old → IsPlacingFault (P.geometry pages.old) (P.image pages.old) index.now from fault) }
@@ -199,6 +201,7 @@ fn place_from<P: Pages>(
     requires free { 7 ≤ P.free pages.old Page }
     ensures placed { IfOk result (λ place. P.tells pages.old → HasFile P.Ground pages.old index.now → NoRoom P.Ground pages.old index.now (length body.now) 0 from
         → PlacesBody P.Ground pages.old pages.new index.now place body.now) }
+    ensures puts { IfOk result (λ place. P.tells pages.old → HasFile P.Ground pages.old index.now → PutsBody P.Ground pages.old pages.new index.now place body.now) }
     ensures free { OnOk result (P.free pages.old Page ≤ P.free pages.new Page + 7) }
     ensures sound { IfErr result (λ fault. IsDamage fault → P.tells pages.old → HasFile P.Ground pages.old index.now → ⊥) }
     ensures fault { IfErr result (λ fault. P.tells pages.old → IsPlacingFault (P.geometry pages.old) (P.image pages.old) index.now from fault) }
@@ -213,7 +216,8 @@ fn place_from<P: Pages>(
 }
 
 /// Puts a body into a file: onto its lowest page that has room for it, in the lowest vacant slot, else onto a page that it takes. The file is that of
-/// `room`, which then says what is known of the file for as long a body.
+/// `room`, which then says what is known of the file for as long a body. Where `room` wasn't true of the file, the body comes onto some page with room, or
+/// onto a new one.
 pub fn place_body<P: Pages>(
     pages: &mut P,
     alloc: Global,
@@ -226,6 +230,8 @@ pub fn place_body<P: Pages>(
     requires free { 7 ≤ P.free pages.old Page }
     ensures placed { IfOk result (λ place. P.tells pages.old → (index : Index) → HasFile P.Ground pages.old index → index.file_no ≡ room.old.file_no → IsRoom P.Ground pages.old index room.old
         → PlacesBody P.Ground pages.old pages.new index place body.now) }
+    ensures anywhere { IfOk result (λ place. P.tells pages.old → (index : Index) → HasFile P.Ground pages.old index → index.file_no ≡ room.old.file_no
+        → PutsBody P.Ground pages.old pages.new index place body.now) }
     ensures room { IfOk result (λ place. room.new ≡ record { file_no = room.old.file_no; from = place.page; len = length body.now }) }
     ensures free { OnOk result (P.free pages.old Page ≤ P.free pages.new Page + 7) }
     ensures sound { IfErr result (λ fault. IsDamage fault → P.tells pages.old → (index : Index) → HasFile P.Ground pages.old index → index.file_no ≡ room.old.file_no → ⊥) }

@@ -1,12 +1,13 @@
 //! Bodies read, and the places of a file in order.
-ghost use Rattle.std.specs.Prelude.{◌≡◌, ◌≤◌, ◌<◌, ◌+◌, ℕ, List, length, Contains, IfOk, IfErr, OnOk, IfSome, IfNone, IsTrue, false, ◌≢◌, MatchOption, Some};
+ghost use Rattle.std.specs.Prelude.{◌≡◌, ◌≤◌, ◌<◌, ◌+◌, ℕ, List, length, Contains, IfOk, IfErr, OnOk, IfSome, IfNone, IsTrue, false, ◌≢◌, MatchOption, Some, None, slice_index_or};
 ghost use Rattle.std.specs.Borrow.{sem};
 ghost use Rattle.ex_base.specs.Ports.{Rests, Keeps, HasCause, IsDamage};
 ghost use Rattle.slotted_pages.specs.Reads.{page_on, IsPage};
+ghost use Rattle.slotted_pages.specs.Edits.{slots_of};
 ghost use Rattle.file_index.specs.declared.Index.{Index};
 ghost use Rattle.file_index.specs.Index.{IsFilesPage};
 ghost use Rattle.file_bodies.specs.Bodies.{bodies_of, pages_in, InPlaceOrder};
-ghost use Rattle.file_bodies.specs.Files.{HasFile, HasFiles, HasBody, IsOfFile, HasSomeBody};
+ghost use Rattle.file_bodies.specs.Files.{HasFile, HasFileOf, HasBody, IsOfFile, HasSomeBody};
 ghost use Rattle.file_index.specs.Damage.{HasWay, IsIndexFault};
 ghost use Rattle.file_bodies.specs.Damage.{IsBelonging, IsBelongingFault, IsLook, IsLookFault, IsListedFault, HasListed, page_from, page_in};
 ghost use Rattle.file_bodies.specs.Indexes.{IsUsable};
@@ -14,17 +15,21 @@ ghost use Rattle.file_bodies.specs.Places.{IsNext, FirstFrom};
 
 use crate::catalog::{find_index, index_of};
 use crate::page::{body_on, file_on, live_slot, may_be_of_file};
-use ex_base::{PageNo, Pages, Place, PortFault};
+use ex_base::{PageNo, Place, PortFault, ReadPages};
 use file_index::{Index, at_least};
 use std::alloc::Global;
 
 /// The bodies of a whole file stand in order of their places.
-pub fn bodies_stand_in_order<P: Pages>()
+pub fn bodies_stand_in_order<P: ReadPages>()
     ensures { (s : P) (index : Index) → HasFile P.Ground s index → InPlaceOrder (bodies_of (P.image s) index) }
 {}
 
 /// The number of the file that a page says it belongs to, none where it can't be a page of a file.
-fn file_at<P: Pages>(pages: &mut P, alloc: Global, page: PageNo) -> Result<Option<u32>, PortFault>
+fn file_at<P: ReadPages>(
+    pages: &mut P,
+    alloc: Global,
+    page: PageNo,
+) -> Result<Option<u32>, PortFault>
     requires { P.ready pages.old }
     ensures some { IfOk result (λ found. IfSome found (λ file_no. P.tells pages.old → IsPage (P.image pages.old page.0) × ((page_on (P.image pages.old page.0)).file_no ≡ file_no))) }
     ensures area { IfOk result (λ found. IfSome found (λ file_no. IsFilesPage (P.geometry pages.old) page.0)) }
@@ -40,7 +45,7 @@ fn file_at<P: Pages>(pages: &mut P, alloc: Global, page: PageNo) -> Result<Optio
 }
 
 /// Whether an index names a page.
-fn names<P: Pages>(
+fn names<P: ReadPages>(
     pages: &mut P,
     alloc: Global,
     index: &Index,
@@ -64,12 +69,12 @@ fn names<P: Pages>(
 }
 
 /// Whether a page is one of a file.
-fn is_of_file<P: Pages>(pages: &mut P, alloc: Global, page: PageNo) -> Result<bool, PortFault>
+fn is_of_file<P: ReadPages>(pages: &mut P, alloc: Global, page: PageNo) -> Result<bool, PortFault>
     requires { P.ready pages.old }
-    ensures yes { IfOk result (λ of. IsTrue of → P.tells pages.old → HasFiles P.Ground pages.old → IsOfFile P.Ground pages.old page.0) }
+    ensures yes { IfOk result (λ of. IsTrue of → P.tells pages.old → HasFileOf P.Ground pages.old page.0 → IsOfFile P.Ground pages.old page.0) }
     ensures no { IfOk result (λ of. of ≡ false → P.tells pages.old → IsOfFile P.Ground pages.old page.0 → ⊥) }
     ensures area { IfOk result (λ of. IsTrue of → IsFilesPage (P.geometry pages.old) page.0) }
-    ensures sound { IfErr result (λ fault. IsDamage fault → P.tells pages.old → HasFiles P.Ground pages.old → ⊥) }
+    ensures sound { IfErr result (λ fault. IsDamage fault → P.tells pages.old → HasFileOf P.Ground pages.old page.0 → ⊥) }
     ensures fault { IfErr result (λ fault. P.tells pages.old → IsBelongingFault (P.geometry pages.old) (P.image pages.old) page.0 fault) }
     ensures way { OnOk result (P.tells pages.old → IsBelonging (P.geometry pages.old) (P.image pages.old) page.0) }
     ensures kept { Keeps P.Ground pages.old pages.new }
@@ -89,15 +94,17 @@ fn is_of_file<P: Pages>(pages: &mut P, alloc: Global, page: PageNo) -> Result<bo
 }
 
 /// Lends the body at a place. None exactly where no file has one there.
-pub fn body_at<P: Pages>(
+pub fn body_at<P: ReadPages>(
     pages: &mut P,
     alloc: Global,
     place: Place,
 ) -> Result<Option<&[u8]>, PortFault>
     requires { P.ready pages.old }
-    ensures found { IfOk result (λ found. P.tells pages.old → HasFiles P.Ground pages.old
+    ensures found { IfOk result (λ found. P.tells pages.old → HasFileOf P.Ground pages.old place.page.0
         → MatchOption found ((body : List ℕ) → HasSomeBody P.Ground pages.old place body → ⊥) (λ body. HasSomeBody P.Ground pages.old place body.now)) }
-    ensures sound { IfErr result (λ fault. IsDamage fault → P.tells pages.old → HasFiles P.Ground pages.old → ⊥) }
+    ensures stands { IfOk result (λ found. P.tells pages.old
+        → IfSome found (λ body. slice_index_or (slots_of (P.image pages.old place.page.0)) place.slot None ≡ Some body.now)) }
+    ensures sound { IfErr result (λ fault. IsDamage fault → P.tells pages.old → HasFileOf P.Ground pages.old place.page.0 → ⊥) }
     ensures fault { IfErr result (λ fault. P.tells pages.old → IsBelongingFault (P.geometry pages.old) (P.image pages.old) place.page.0 fault) }
     ensures way { OnOk result (P.tells pages.old → IsBelonging (P.geometry pages.old) (P.image pages.old) place.page.0) }
     ensures page { OnOk result (P.tells pages.old → (index : Index) (body : List ℕ) → HasBody P.Ground pages.old index place body → length (P.image pages.old place.page.0) ≡ (P.geometry pages.old).page_size) }
@@ -113,7 +120,7 @@ pub fn body_at<P: Pages>(
 }
 
 /// The first place of a file from a slot of a page on.
-fn first_from<P: Pages>(
+fn first_from<P: ReadPages>(
     pages: &mut P,
     alloc: Global,
     index: &Index,
@@ -152,7 +159,7 @@ fn slot_from(page: PageNo, key: u32, slot: u32) -> u32
 }
 
 /// The place of a file that comes behind a place, or its first one. None exactly at the end.
-pub fn next_place<P: Pages>(
+pub fn next_place<P: ReadPages>(
     pages: &mut P,
     alloc: Global,
     file_no: u32,

@@ -1,188 +1,213 @@
 //! The host over a file, an input and an output. It tells nothing of their content; what it promises is about its counts of faults.
-ghost use Rattle.std.specs.Prelude.{◌≡◌, ◌+◌, ◌<◌, ◌≤◌, ◌-◌, ◌^◌, length, IfSome, OnErr, OnOk, None};
+ghost use Rattle.std.specs.Prelude.{◌≡◌, ◌+◌, ◌<◌, ◌≤◌, ◌-◌, ◌^◌, length, IfOk, OnErr, OnOk, None};
+ghost use Rattle.disk_model.specs.Outside.{HasNoFaults};
 ghost use Rattle.ex_base.specs.Faults.{Rose};
 ghost use Rattle.file_host.specs.Untold.{untold, untold_world};
 
-use crate::opening::{VolumeFile, open_volume_file};
+use crate::faults::Faults;
+use crate::lock::LockFile;
+use crate::opening::{StoredFile, VolumeFile, open_volume_file};
 use disk_model::{Disk, Failed, Host, Sink, Source, World};
-use std::fs::OpenFile;
+use std::alloc::{AllocError, Global};
+use std::fs::{Files, OpenFile};
+use std::io;
 use std::io::{ErrorKind, Read, Write};
+use std::os::fd::AsRawFd;
 use std::os::unix::fs::FileExt;
-use std::rt::Files;
 
-/// A host over a file `F`, an input `I` and an output `O`. Without a file each disk call fails.
+/// A host over a file `V`, an input `I` and an output `O`. Without a file each disk call fails. It keeps why calls failed.
 #[derive(Drop)]
-pub struct FileHost<F: Drop, I: Drop, O: Drop> {
-    file: Option<F>,
+pub struct FileHost<V: Drop, I: Drop, O: Drop> {
+    file: Option<V>,
     size: u64,
     input: I,
     output: O,
-    disk_faults: u64,
-    read_faults: u64,
-    write_faults: u64,
+    disk: Faults,
+    source: Faults,
+    sink: Faults,
 }
 
-impl<F: FileExt + OpenFile + Drop, I: Read + Drop, O: Write + Drop> FileHost<F, I, O> {
-    /// Opens the volume file at `path`. One that isn't there is made where `make` gives a size, and filled with zero bytes to that size. Without a
-    /// path, or where the file can't be opened, made or filled, each disk call fails, and the size is that of `make`, or 0.
-    pub fn open<R: Files<File = F>>(
-        rt: &R,
+impl<F, R, I: Drop, O: Drop> FileHost<VolumeFile<F, R>, I, O>
+where
+    F: FileExt + OpenFile + LockFile + AsRawFd + Drop,
+    R: Files<File = F> + Drop,
+{
+    /// Opens the volume file at `path` for this run alone. One that isn't there is made where `make` gives a size, and filled with zero bytes to that
+    /// size; it gets its name at the first sync at which it begins as a volume does, and is removed where it never gets it. Without a path, or where
+    /// the file can't be opened, made or filled, or another run has it, each disk call fails, and the size is that of `make`, or 0.
+    /// The file has no descriptor of a standard stream. Of these, one that is closed is held open while the host is: as an input it has ended, as an
+    /// output it fails. An error says that no memory was there for the file's names.
+    pub fn open(
+        alloc: Global,
+        files: R,
         path: Option<&str>,
         make: Option<u64>,
         input: I,
         output: O,
-    ) -> FileHost<F, I, O>
-        ensures disk { (⟦<FileHost<F, I, O> as World>⟧.outside result).disk_faults ≡ 0 }
-        ensures source { (⟦<FileHost<F, I, O> as World>⟧.outside result).read_faults ≡ 0 }
-        ensures sink { (⟦<FileHost<F, I, O> as World>⟧.outside result).write_faults ≡ 0 }
+    ) -> Result<FileHost<VolumeFile<F, R>, I, O>, AllocError>
+        ensures { IfOk result (λ host. HasNoFaults (⟦<FileHost<VolumeFile<F, R>, I, O> as World>⟧.outside host)) }
     {
-        let opened = path.and_then(|path| open_volume_file(rt, path, make));
-        let (file, size) = match opened {
-            Some(volume) => (Some(volume.file), volume.size),
-            None => (None, make.unwrap_or(0)),
+        let Some(path) = path else {
+            return Ok(FileHost::over(None, make.unwrap_or(0), input, output));
         };
-        FileHost::over(file, size, input, output)
+        match open_volume_file(alloc, files, path, make) {
+            Ok(file) => {
+                let size = file.size();
+                Ok(FileHost::over(Some(file), size, input, output))
+            }
+            Err(cause) if cause.kind() == ErrorKind::OutOfMemory => Err(AllocError),
+            Err(cause) => {
+                let mut host = FileHost::over(None, make.unwrap_or(0), input, output);
+                host.disk = Faults::before(cause);
+                Ok(host)
+            }
+        }
     }
 }
 
-impl<F: Drop, I: Drop, O: Drop> FileHost<F, I, O> {
+impl<V: Drop, I: Drop, O: Drop> FileHost<V, I, O> {
     /// A host over these, with no fault so far.
-    pub fn over(file: Option<F>, size: u64, input: I, output: O) -> FileHost<F, I, O>
-        ensures size { (⟦<FileHost<F, I, O> as World>⟧.outside result).size ≡ size }
-        ensures disk { (⟦<FileHost<F, I, O> as World>⟧.outside result).disk_faults ≡ 0 }
-        ensures source { (⟦<FileHost<F, I, O> as World>⟧.outside result).read_faults ≡ 0 }
-        ensures sink { (⟦<FileHost<F, I, O> as World>⟧.outside result).write_faults ≡ 0 }
+    pub fn over(file: Option<V>, size: u64, input: I, output: O) -> FileHost<V, I, O>
+        ensures size { (⟦<FileHost<V, I, O> as World>⟧.outside result).size ≡ size }
+        ensures faults { HasNoFaults (⟦<FileHost<V, I, O> as World>⟧.outside result) }
     {
         FileHost {
             file,
             size,
             input,
             output,
-            disk_faults: 0,
-            read_faults: 0,
-            write_faults: 0,
+            disk: Faults::none(),
+            source: Faults::none(),
+            sink: Faults::none(),
         }
+    }
+
+    /// How often the disk failed, and why at first.
+    pub fn disk_faults(&self) -> Faults
+        ensures { result.count ≡ (⟦<FileHost<V, I, O> as World>⟧.outside self.now).disk_faults }
+    {
+        self.disk
+    }
+
+    /// How often the input failed, and why at first.
+    pub fn source_faults(&self) -> Faults
+        ensures { result.count ≡ (⟦<FileHost<V, I, O> as World>⟧.outside self.now).read_faults }
+    {
+        self.source
+    }
+
+    /// How often the output failed, and why at first.
+    pub fn sink_faults(&self) -> Faults
+        ensures { result.count ≡ (⟦<FileHost<V, I, O> as World>⟧.outside self.now).write_faults }
+    {
+        self.sink
     }
 }
 
-// One more fault, where the count can still rise. Where it can't, 2^64 - 1 faults came before, and the call answers as if it had worked: nothing is
-// told of the content anyway.
-fn raise(count: &mut u64) -> Result<(), Failed>
-    ensures rises { count.old ≤ count.new }
-    ensures failed { OnErr result (Rose count.old count.new) }
-    ensures same { OnOk result (count.new ≡ count.old) }
-{
-    match count.checked_add(1) {
-        Some(next) => {
-            *count = next;
-            Err(Failed)
-        }
-        None => Ok(()),
-    }
+impl<V: Drop, I: Drop, O: Drop> World for FileHost<V, I, O> {
+    ghost outside = { λ s. untold s.size s.disk.count s.source.count s.sink.count };
+
+    ghost is_world = { λ s. untold_world s.size s.disk.count s.source.count s.sink.count };
 }
 
-impl<F: Drop, I: Drop, O: Drop> World for FileHost<F, I, O> {
-    ghost outside = { λ s. untold s.size s.disk_faults s.read_faults s.write_faults };
-
-    ghost is_world = { λ s. untold_world s.size s.disk_faults s.read_faults s.write_faults };
-}
-
-impl<F: FileExt + OpenFile + Drop, I: Drop, O: Drop> Disk for FileHost<F, I, O> {
+impl<V: StoredFile + Drop, I: Drop, O: Drop> Disk for FileHost<V, I, O> {
     fn size(&self) -> u64 {
         self.size
     }
 
     fn read(&mut self, at: u64, out: &mut [u8]) -> Result<(), Failed> {
         let done = match &self.file {
-            Some(file) => file.read_exact_at(out, at).is_ok(),
-            None => false,
+            Some(file) => file.read_exact_at(out, at),
+            None => Err(missing()),
         };
-        if done {
-            Ok(())
-        } else {
-            raise(&mut self.disk_faults)
+        match done {
+            Ok(()) => Ok(()),
+            Err(cause) => self.disk.raise(cause),
         }
     }
 
     fn write(&mut self, at: u64, bytes: &[u8]) -> Result<(), Failed> {
         let done = match &self.file {
-            Some(file) => file.write_all_at(bytes, at).is_ok(),
-            None => false,
+            Some(file) => file.write_all_at(bytes, at),
+            None => Err(missing()),
         };
-        if done {
-            Ok(())
-        } else {
-            raise(&mut self.disk_faults)
+        match done {
+            Ok(()) => Ok(()),
+            Err(cause) => self.disk.raise(cause),
         }
     }
 
     fn sync(&mut self) -> Result<(), Failed> {
-        let done = match &self.file {
-            Some(file) => file.sync_data().is_ok(),
-            None => false,
+        let done = match &mut self.file {
+            Some(file) => file.settle(),
+            None => Err(missing()),
         };
-        if done {
-            Ok(())
-        } else {
-            raise(&mut self.disk_faults)
+        match done {
+            Ok(()) => Ok(()),
+            Err(cause) => self.disk.raise(cause),
         }
     }
 }
 
-// What one read gives, or none where it failed. An interrupted one is made again.
-fn read_some<R: Read>(input: &mut R, out: &mut [u8]) -> Option<usize>
-    ensures { IfSome result (λ n. n ≤ length out.old) }
+// Why a call on a file that isn't there fails.
+fn missing() -> io::Error {
+    io::Error::from(ErrorKind::NotFound)
+}
+
+// What one read gives. An interrupted one is made again.
+fn read_some<R: Read>(input: &mut R, out: &mut [u8]) -> io::Result<usize>
+    ensures { IfOk result (λ n. n ≤ length out.old) }
 {
     for _ in 0..u64::MAX {
         match input.read(out) {
-            Ok(n) => return Some(n),
-            Err(e) if e.kind() == ErrorKind::Interrupted => {}
-            Err(_) => return None,
+            Ok(n) => return Ok(n),
+            Err(cause) if cause.kind() == ErrorKind::Interrupted => {}
+            Err(cause) => return Err(cause),
         }
     }
-    None
+    Err(io::Error::from(ErrorKind::Interrupted))
 }
 
-// What one write accepted, at least one byte, or none where it failed. An interrupted one is made again.
-fn write_some<W: Write>(output: &mut W, bytes: &[u8]) -> Option<usize>
-    ensures { IfSome result (λ n. 0 < n × n ≤ length bytes.now) }
+// What one write accepted, at least one byte. An interrupted one is made again.
+fn write_some<W: Write>(output: &mut W, bytes: &[u8]) -> io::Result<usize>
+    ensures { IfOk result (λ n. 0 < n × n ≤ length bytes.now) }
 {
     for _ in 0..u64::MAX {
         match output.write(bytes) {
-            Ok(0) => return None,
-            Ok(n) => return Some(n),
-            Err(e) if e.kind() == ErrorKind::Interrupted => {}
-            Err(_) => return None,
+            Ok(0) => return Err(io::Error::from(ErrorKind::WriteZero)),
+            Ok(n) => return Ok(n),
+            Err(cause) if cause.kind() == ErrorKind::Interrupted => {}
+            Err(cause) => return Err(cause),
         }
     }
-    None
+    Err(io::Error::from(ErrorKind::Interrupted))
 }
 
-impl<F: Drop, I: Read + Drop, O: Drop> Source for FileHost<F, I, O> {
+impl<V: Drop, I: Read + Drop, O: Drop> Source for FileHost<V, I, O> {
     fn take(&mut self, out: &mut [u8]) -> Result<usize, Failed> {
         match read_some(&mut self.input, out) {
-            Some(n) => Ok(n),
-            None => {
-                raise(&mut self.read_faults)?;
+            Ok(n) => Ok(n),
+            Err(cause) => {
+                self.source.raise(cause)?;
                 Ok(0)
             }
         }
     }
 }
 
-impl<F: Drop, I: Drop, O: Write + Drop> Sink for FileHost<F, I, O> {
+impl<V: Drop, I: Drop, O: Write + Drop> Sink for FileHost<V, I, O> {
     fn put(&mut self, bytes: &[u8]) -> Result<usize, Failed> {
         if bytes.is_empty() {
             return Ok(0);
         }
         match write_some(&mut self.output, bytes) {
-            Some(n) => Ok(n),
-            None => {
-                raise(&mut self.write_faults)?;
+            Ok(n) => Ok(n),
+            Err(cause) => {
+                self.sink.raise(cause)?;
                 Ok(bytes.len())
             }
         }
     }
 }
 
-impl<F: FileExt + OpenFile + Drop, I: Read + Drop, O: Write + Drop> Host for FileHost<F, I, O> {}
+impl<V: StoredFile + Drop, I: Read + Drop, O: Write + Drop> Host for FileHost<V, I, O> {}

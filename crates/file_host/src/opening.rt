@@ -1,39 +1,118 @@
-//! Opening a volume file, or making it.
+//! A volume file is opened, or made.
 
-use std::fs::{OpenFile, OpenOptions};
+use crate::lock::LockFile;
+use crate::naming::Naming;
+use crate::streams::{HeldStreams, hold_streams, keep_apart};
+use ex_base::has_magic;
+use std::alloc::Global;
+use std::fs::{Files, OpenFile, OpenOptions};
+use std::io;
 use std::io::ErrorKind;
-use std::rt::Files;
+use std::os::fd::AsRawFd;
+use std::os::unix::fs::FileExt;
 
-/// An open volume file with its size in bytes.
+/// How many bytes the magic of a volume has.
+const MAGIC_LEN: usize = 8;
+
+/// An open volume file that no other run has. One that was made has no name of its own yet, and is removed where it never gets one.
 #[derive(Drop)]
-pub struct VolumeFile<F: Drop> {
-    pub file: F,
-    pub size: u64,
+pub struct VolumeFile<F: Drop, R: Files + Drop> {
+    naming: Option<Naming<F, R>>,
+    file: F,
+    size: u64,
+    streams: HeldStreams<F>,
 }
 
-/// Opens the volume file at a path, to be read and written. One that isn't there is made where `make` gives a size, and filled with zero bytes to
-/// that size; one that is there is left as it is. None where it can't be opened, made or filled.
-pub fn open_volume_file<F: OpenFile + Drop, R: Files<File = F>>(
-    rt: &R,
+/// What a host needs of its file: calls at a place of it, and that what was written outlasts a loss of power.
+pub trait StoredFile: FileExt {
+    /// Settles what was written, and the file's name.
+    fn settle(&mut self) -> io::Result<()>;
+}
+
+impl<F: Drop, R: Files + Drop> VolumeFile<F, R> {
+    /// The bytes of the file.
+    pub fn size(&self) -> u64 {
+        self.size
+    }
+}
+
+impl<F: FileExt + OpenFile + Drop, R: Files<File = F> + Drop> FileExt for VolumeFile<F, R> {
+    fn read_at(&self, buf: &mut [u8], offset: u64) -> io::Result<usize> {
+        self.file.read_at(buf, offset)
+    }
+
+    fn write_at(&self, buf: &[u8], offset: u64) -> io::Result<usize> {
+        self.file.write_at(buf, offset)
+    }
+}
+
+impl<F: FileExt + OpenFile + Drop, R: Files<File = F> + Drop> StoredFile for VolumeFile<F, R> {
+    /// A new file gets its name here, once it begins as a volume does: the magic is written last, so it is whole then.
+    fn settle(&mut self) -> io::Result<()> {
+        self.file.sync_data()?;
+        let named = match &self.naming {
+            Some(naming) if begins_as_volume(&self.file)? => {
+                naming.settle()?;
+                true
+            }
+            _ => false,
+        };
+        if named {
+            self.naming = None;
+        }
+        Ok(())
+    }
+}
+
+fn begins_as_volume<F: FileExt>(file: &F) -> io::Result<bool> {
+    let mut first = [0u8; MAGIC_LEN];
+    file.read_exact_at(&mut first, 0)?;
+    Ok(has_magic(&first))
+}
+
+/// Opens the volume file at a path, to be read and written, for this run alone. Before it, each standard stream that is closed is held open. One that is there is left as it is; one that isn't is made where
+/// `make` gives a size, and filled with zero bytes to that size. Fails where it can't be opened, made or filled, and where another run has it.
+pub fn open_volume_file<F, R>(
+    alloc: Global,
+    files: R,
     path: &str,
     make: Option<u64>,
-) -> Option<VolumeFile<F>> {
-    match OpenOptions::new().read(true).write(true).open(rt, path) {
+) -> io::Result<VolumeFile<F, R>>
+where
+    F: FileExt + OpenFile + LockFile + AsRawFd + Drop,
+    R: Files<File = F> + Drop,
+{
+    let streams = hold_streams(&files);
+    match OpenOptions::new().read(true).write(true).open(&files, path) {
         Ok(file) => {
-            let size = file.metadata().ok()?.len();
-            Some(VolumeFile { file, size })
+            take(&file)?;
+            let size = file.metadata()?.len();
+            Ok(VolumeFile {
+                naming: None,
+                file,
+                size,
+                streams,
+            })
         }
-        Err(e) if e.kind() == ErrorKind::NotFound => {
-            let size = make?;
-            let file = OpenOptions::new()
-                .read(true)
-                .write(true)
-                .create_new(true)
-                .open(rt, path)
-                .ok()?;
-            file.set_len(size).ok()?;
-            Some(VolumeFile { file, size })
-        }
-        Err(_) => None,
+        Err(cause) => match make {
+            Some(size) if cause.kind() == ErrorKind::NotFound => {
+                let (naming, file) = Naming::make(alloc, files, path)?;
+                take(&file)?;
+                file.set_len(size)?;
+                Ok(VolumeFile {
+                    naming: Some(naming),
+                    file,
+                    size,
+                    streams,
+                })
+            }
+            _ => Err(cause),
+        },
     }
+}
+
+// Takes the file for this run.
+fn take<F: LockFile + AsRawFd>(file: &F) -> io::Result<()> {
+    keep_apart(file)?;
+    file.lock_at_once()
 }

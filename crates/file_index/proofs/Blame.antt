@@ -12,7 +12,8 @@ use Rattle.index_pages.specs.IndexPage.{EntriesOf, Indexed, indexed_on, level_on
 use Rattle.index_pages.proofs.PageLaws.{spelled_reads}
 use Rattle.file_index.specs.Index.{IsFilesPage, least_entries, seen, key_seen}
 use Rattle.file_index.specs.Nodes.{first_key}
-use Rattle.file_index.specs.Damage.{nothing_seen, shown_on, elsewhere, outside, other, IsOfIndex, IsPageFault, IsNamedAt, IsWay, IsWayFault, IsWayUnder, IsFaultUnder}
+use Rattle.ex_base.specs.Seen.{nothing_seen}
+use Rattle.file_index.specs.Damage.{shown_on, elsewhere, outside, other, IsOfIndex, IsPageFault, IsNamedAt, IsWay, IsWayFault, IsWayUnder, IsFaultUnder}
 
 -- ---- one page
 

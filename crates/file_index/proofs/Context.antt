@@ -6,11 +6,12 @@ use Rattle.ex_base.specs.declared.ground.Ground as ground
 use Rattle.ex_base.specs.declared.geometry.Geometry.{Geometry}
 use Rattle.ex_base.specs.Ports.{times}
 use Rattle.ex_base.proofs.Rows.{each-append}
+use Rattle.ex_base.proofs.Counts.{times-append}
 use Rattle.index_pages.specs.declared.Entry.{Entry}
 use Rattle.file_index.specs.Changes.{count_of, Changes}
 use Rattle.file_index.specs.Index.{IsUnder, Rises, keys_under, pages_under}
 use Rattle.file_index.specs.Edits.{keys_among, pages_among, IsRow, Becomes}
-use Rattle.file_index.proofs.Counts.{times-append, is_counted, count_most, changes_more}
+use Rattle.file_index.proofs.Counts.{is_counted, count_most, changes_more}
 use Rattle.file_index.proofs.Frame.{same_row, SameRow}
 
 pub each_front : (P : Entry → Type 0) (xs ys : List Entry) → AllByRecursion P (xs ++ ys) → AllByRecursion P xs

@@ -1,35 +1,11 @@
 -- How often pages stand in lists, and how a call of the port changes what it has.
-use Rattle.std.proofs.Common.{◌≡◌, ◌≢◌, ◌≤◌, ◌+◌, ℕ, zero, suc, Bool, true, false, List, [], ◌∷◌, ◌++◌, refl, sym, ap, ◌∙◌, arith, ◌⊎◌, inl, inr, true≢false, eqb, eq-eqb, eqb-true}
+use Rattle.std.proofs.Common.{◌≡◌, ◌≢◌, ◌≤◌, ◌+◌, ℕ, zero, suc, Bool, true, false, List, [], ◌∷◌, ◌++◌, refl, sym, ap, ◌∙◌, arith, ◌⊎◌, inl, inr, true≢false}
 use Rattle.ex_base.specs.declared.ground.Ground as ground
 use Rattle.ex_base.specs.declared.names.Area.{Area}
 use Rattle.ex_base.specs.declared.names.Area.TheVariants.{Segment}
 use Rattle.ex_base.specs.Ports.{times, Keeps, PutsImage, TakesPage, GivesPage}
+use Rattle.ex_base.proofs.Counts.{apart_of, same_or_not, times_apart, times_here}
 use Rattle.file_index.specs.Changes.{count_of, Changes}
-
-pub times-append : (page : ℕ) (xs ys : List ℕ) → times page (xs ++ ys) ≡ times page xs + times page ys
-times-append page [] ys = omega arith
-times-append page (x ∷ xs) ys = omega (arith, times-append page xs ys)
-
-pub same_or_not : (p q : ℕ) → (p ≡ q) ⊎ (p ≢ q)
-same_or_not p q = (elim (eqb p q) as (λ t. eqb p q ≡ t → (p ≡ q) ⊎ (p ≢ q)) [
-  | true ↦ λ t. inl (eqb-true p q t)
-  | false ↦ λ t. inr (λ same. true≢false (sym (eq-eqb p q same) ∙ t))
-]) refl
-
-pub not_equal : (p q : ℕ) → p ≢ q → eqb p q ≡ false
-not_equal p q differ = (elim (eqb p q) as (λ t. eqb p q ≡ t → eqb p q ≡ false) [
-  | true ↦ λ t. absurd (differ (eqb-true p q t))
-  | false ↦ λ t. t
-]) refl
-
-pub times_here : (p q : ℕ) (xs : List ℕ) → p ≡ q → times p (q ∷ xs) ≡ 1 + times p xs
-times_here p q xs same = let test : eqb q p ≡ true = eq-eqb q p (sym same) in rw test refl
-
-pub times_apart : (p q : ℕ) (xs : List ℕ) → p ≢ q → times p (q ∷ xs) ≡ times p xs
-times_apart p q xs differ = let test : eqb q p ≡ false = not_equal q p (λ same. differ (sym same)) in rw test (omega arith)
-
-pub apart_of : (p q : ℕ) (xs : List ℕ) → times p (q ∷ xs) ≡ 0 → p ≢ q
-apart_of p q xs none same = absurd (omega (arith, times_here p q xs same, none))
 
 pub count_most : (b : Bool) → count_of b ≤ 1
 count_most true = omega arith

@@ -1,5 +1,5 @@
 -- The least key that is not below a key, one level down.
-use Rattle.std.proofs.Common.{◌≡◌, ◌≢◌, ◌-◌, ℕ, List, [], ◌∷◌, Option, Some, Result, Ok, Err, IfOk, IfErr, OnOk, sym, ap, subst, ◌∙◌}
+use Rattle.std.proofs.Common.{◌≡◌, ◌≢◌, ◌-◌, ℕ, List, [], ◌∷◌, Option, Some, Result, Ok, Err, OnOk, sym, ap, subst, ◌∙◌}
 use Rattle.std.specs.List.{flat_map, AllByRecursion}
 use Rattle.ex_base.specs.Ports.{Keeps}
 use Rattle.ex_base.specs.declared.names.PageNo.{PageNo}
@@ -11,18 +11,6 @@ use Rattle.file_index.specs.Index.{IsFilesPage, IsNamed, HasLeast, IsUnder, Rise
 use Rattle.file_index.specs.Least.{first_from, pick}
 use Rattle.file_index.proofs.Under.{Begins, begins, each_map, under_open}
 use Rattle.file_index.proofs.Picking.{pick_first, picked_own, picked_rises}
-
-pub if_err : {X E : Type 0} (r : Result X E) (P Q : E → Type 0) → ((e : E) → P e → Q e) → IfErr r P → IfErr r Q
-if_err (Ok x) P Q f h = tt
-if_err (Err e) P Q f h = f e h
-
-pub if_ok : {X E : Type 0} (r : Result X E) (P Q : X → Type 0) → ((x : X) → P x → Q x) → IfOk r P → IfOk r Q
-if_ok (Ok x) P Q f h = f x h
-if_ok (Err e) P Q f h = tt
-
-pub on_ok : {X E : Type 0} (r : Result X E) (P : X → Type 0) (Q : Type 0) → ((x : X) → P x → Q) → IfOk r P → OnOk r Q
-on_ok (Ok x) P Q f h = f x h
-on_ok (Err e) P Q f h = tt
 
 pub on_three : {X E : Type 0} (r : Result X E) (P Q R G : Type 0) → OnOk r P → OnOk r Q → OnOk r R → (P → Q → R → G) → OnOk r G
 on_three (Ok x) P Q R G p q r f = f p q r

@@ -3,11 +3,11 @@ use Rattle.std.proofs.Common.{◌≡◌, ◌≤◌, ℕ, zero, suc, List, [], �
 use Rattle.std.specs.List.{AllByRecursion}
 use Rattle.ex_base.specs.declared.geometry.Geometry.{Geometry}
 use Rattle.ex_base.specs.Ports.{times}
+use Rattle.ex_base.proofs.Counts.{times-append, times_here}
 use Rattle.index_pages.specs.declared.Entry.{Entry}
 use Rattle.index_pages.specs.IndexPage.{entries_on}
 use Rattle.file_index.specs.Index.{IsNamed, IsUnder, keys_under, pages_under}
 use Rattle.file_index.specs.Edits.{keys_among, pages_among}
-use Rattle.file_index.proofs.Counts.{times-append, times_here}
 
 module _ (g : Geometry) (file_no : ℕ) (i j : ℕ → List ℕ) where
   pub record SameUnder (level page : ℕ) : Type 0 where

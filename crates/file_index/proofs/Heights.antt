@@ -7,17 +7,13 @@ use Rattle.std.proofs.lemmas.Bool.Decides.{nat_tests}
 use Rattle.ex_base.specs.declared.geometry.Geometry.{Geometry}
 use Rattle.ex_base.specs.declared.names.PageNo.{PageNo}
 use Rattle.ex_base.specs.Sizes.{least_page, geometry_is}
-use Rattle.ex_base.proofs.Rows.{each-append}
+use Rattle.ex_base.proofs.Each.{each_joined}
 use Rattle.index_pages.specs.declared.Entry.{Entry}
 use Rattle.index_pages.specs.IndexPage.{entries_on, most_entries}
 use Rattle.file_index.specs.Index.{IsFilesPage, IsUnder, IsIndex, Rises, keys_under, keys_of, pages_under, pages_of}
 use Rattle.file_index.proofs.Picking.{rises_of}
 
 -- ---- the pages of the file are pages of the area
-
-joined_each : (P : ℕ → Type 0) (f : Entry → List ℕ) (es : List Entry) → AllByRecursion (λ (e : Entry). AllByRecursion P (f e)) es → AllByRecursion P (flat_map f es)
-joined_each P f [] h = tt
-joined_each P f (e ∷ es) h = each-append P (f e) (flat_map f es) h.0 (joined_each P f es h.1)
 
 each_page : (P Q : Entry → Type 0) (es : List Entry) → ((e : Entry) → P e → Q e) → AllByRecursion P es → AllByRecursion Q es
 each_page P Q [] f h = tt
@@ -26,7 +22,7 @@ each_page P Q (e ∷ es) f h = (f e h.0, each_page P Q es f h.1)
 pub keys_are_pages : (g : Geometry) (file_no : ℕ) (image : ℕ → List ℕ) (level : ℕ) (least : Option ℕ) (page : ℕ) → IsUnder g file_no image level least page → AllByRecursion (IsFilesPage g) (keys_under image level page)
 keys_are_pages g file_no image zero least page h = (h.0, tt)
 keys_are_pages g file_no image (suc level) least page h =
-    joined_each (IsFilesPage g) (λ (e : Entry). keys_under image level e.page.0) (entries_on (image page))
+    each_joined (IsFilesPage g) (λ (e : Entry). keys_under image level e.page.0) (entries_on (image page))
     (each_page (λ (e : Entry). IsUnder g file_no image level (Some e.key) e.page.0) (λ (e : Entry). AllByRecursion (IsFilesPage g) (keys_under image level e.page.0)) (entries_on (image page))
     (λ e under. keys_are_pages g file_no image level (Some e.key) e.page.0 under) h.2)
 
@@ -39,7 +35,7 @@ index_are_pages : (g : Geometry) (file_no : ℕ) (image : ℕ → List ℕ) (lev
 index_are_pages g file_no image zero least page h = tt
 index_are_pages g file_no image (suc level) least page h = (
   h.0,
-  joined_each (IsFilesPage g) (λ (e : Entry). pages_under image level e.page.0) (entries_on (image page))
+  each_joined (IsFilesPage g) (λ (e : Entry). pages_under image level e.page.0) (entries_on (image page))
       (each_page (λ (e : Entry). IsUnder g file_no image level (Some e.key) e.page.0) (λ (e : Entry). AllByRecursion (IsFilesPage g) (pages_under image level e.page.0)) (entries_on (image page))
       (λ e under. index_are_pages g file_no image level (Some e.key) e.page.0 under) h.2),
 )

@@ -5,8 +5,8 @@ use Rattle.std.proofs.lemmas.List.{append-nil}
 use Rattle.std.specs.List.{AllByRecursion}
 use Rattle.file_index.specs.Index.{Rises}
 use Rattle.file_index.specs.Edits.{put_in, take_out}
-use Rattle.file_index.proofs.Counts.{not_equal}
 use Rattle.file_index.proofs.Picking.{rises_weak, rises_back, rises_low}
+use Rattle.ex_base.proofs.Counts.{not_equal}
 
 -- what follows is empty, or begins above the key
 abbrev pub IsAbove : ℕ → List ℕ → Type 0

@@ -6,6 +6,7 @@ use Rattle.std.proofs.lemmas.List.Concat.{flat_map-append}
 use Rattle.ex_base.specs.declared.ground.Ground as ground
 use Rattle.ex_base.specs.declared.geometry.Geometry.{Geometry}
 use Rattle.ex_base.specs.Ports.{times, Keeps}
+use Rattle.ex_base.proofs.Counts.{not_equal, times_here}
 use Rattle.index_pages.specs.declared.Entry.{Entry}
 use Rattle.index_pages.specs.IndexPage.{entries_on, most_entries}
 use Rattle.file_index.specs.declared.spreading.Pair.{Pair}
@@ -15,7 +16,7 @@ use Rattle.file_index.specs.Nodes.{heads, entries_of, first_key, joined, thin_of
 use Rattle.file_index.specs.Edits.{keys_among, pages_among, IsRow, Becomes, take_out}
 use Rattle.file_index.proofs.Closing.{row_rises}
 use Rattle.file_index.proofs.Context.{replaced, keys_split, pages_split}
-use Rattle.file_index.proofs.Counts.{times_here, is_counted, count_is, not_equal}
+use Rattle.file_index.proofs.Counts.{is_counted, count_is}
 use Rattle.file_index.proofs.Lists.{Lacks, lacks_low, lacks_high, lacks_front, lacks_back, out_middle, out_local}
 use Rattle.file_index.proofs.Picking.{rises_back}
 use Rattle.file_index.proofs.Placing.{Placed, placed, split_at, row_part, turns_kept}

@@ -7,6 +7,7 @@ use Rattle.ex_base.specs.declared.names.PageNo.{PageNo}
 use Rattle.index_pages.specs.declared.Entry.{Entry}
 use Rattle.file_index.specs.declared.step.Step.{Step}
 use Rattle.ex_base.specs.Order.{Rising}
+use Rattle.ex_base.proofs.Members.{contains_cases, contains_later}
 use Rattle.file_index.specs.Index.{Rises}
 use Rattle.file_index.specs.Least.{IsLeastFrom, first_from, pick_from, pick, page_no}
 use Rattle.file_index.proofs.Under.{Begins}
@@ -131,29 +132,22 @@ pick_goes_on entries child after at key next all e le h =
 
 -- ---- the least one
 
-contains_more : (x y : ℕ) (xs : List ℕ) → Contains xs y → Contains (x ∷ xs) y
-contains_more x y xs c = (suc c.0, omega (arith, c.1), c.2)
-
-contains_one : (x y : ℕ) (xs : List ℕ) → Contains (x ∷ xs) y → (x ≡ y) ⊎ Contains xs y
-contains_one x y xs (zero, lt, e) = inl e
-contains_one x y xs (suc k, lt, e) = inr (k, omega (arith, lt), e)
-
 contained_low : (a y : ℕ) (xs : List ℕ) → Rises a xs → Contains xs y → a ≤ y
 contained_low a y [] rises c = absurd (omega (arith, c.1))
-contained_low a y (x ∷ xs) rises c = elim (contains_one x y xs c) [
+contained_low a y (x ∷ xs) rises c = elim (contains_cases x y xs c) [
   | inl e ↦ omega (arith, rises.0)
   | inr c' ↦ omega (arith, rises.0, contained_low (x + 1) y xs rises.1 c')
 ]
 
 least_more : (x key : ℕ) (xs : List ℕ) (least : Option PageNo) → x < key → IsLeastFrom xs key least → IsLeastFrom (x ∷ xs) key least
-least_more x key xs None lt h = λ page c. elim (contains_one x page xs c) [
+least_more x key xs None lt h = λ page c. elim (contains_cases x page xs c) [
   | inl e ↦ omega arith
   | inr c' ↦ h page c'
 ]
 least_more x key xs (Some least) lt h = (
-  contains_more x least.0 xs h.0,
+  contains_later x least.0 xs h.0,
   h.1,
-  λ page c le. elim (contains_one x page xs c) [
+  λ page c le. elim (contains_cases x page xs c) [
     | inl e ↦ absurd (omega arith)
     | inr c' ↦ h.2 page c' le
   ],
@@ -167,7 +161,7 @@ least_is a key (x ∷ xs) rises =
       | false ↦ λ t. (
         (zero, omega arith, refl),
         ltb-false x key t,
-        λ page c le. elim (contains_one x page xs c) [
+        λ page c le. elim (contains_cases x page xs c) [
           | inl e ↦ omega arith
           | inr c' ↦ let low : x + 1 ≤ page = contained_low (x + 1) page xs rises.1 c' in omega arith
         ],

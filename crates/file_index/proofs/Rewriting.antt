@@ -6,13 +6,15 @@ use Rattle.ex_base.specs.declared.ground.Ground as ground
 use Rattle.ex_base.specs.declared.geometry.Geometry.{Geometry}
 use Rattle.ex_base.specs.Ports.{times}
 use Rattle.ex_base.proofs.Rows.{each-append}
+use Rattle.ex_base.proofs.Counts.{times-append}
+use Rattle.ex_base.proofs.Each.{each_parted}
 use Rattle.index_pages.specs.declared.Entry.{Entry}
 use Rattle.index_pages.specs.IndexPage.{entries_on}
 use Rattle.file_index.specs.Changes.{count_of, Changes}
 use Rattle.file_index.specs.Index.{IsFilesPage, IsNamed, IsUnder, Rises, keys_under, pages_under}
 use Rattle.file_index.specs.Nodes.{heads}
 use Rattle.file_index.specs.Edits.{keys_among, pages_among, IsRow, Turns, Becomes}
-use Rattle.file_index.proofs.Counts.{times-append, is_counted, count_most, changes_trans, changes_more}
+use Rattle.file_index.proofs.Counts.{is_counted, count_most, changes_trans, changes_more}
 use Rattle.file_index.proofs.Frame.{same_row, SameRow}
 use Rattle.file_index.proofs.Context.{moved}
 
@@ -32,19 +34,6 @@ pages_open image m p (e ∷ es) =
     let here : List ℕ = pages_among image m (entries_on (image e.page.0)) in
     let both = ap (times p) (flat_map-append (λ (x : Entry). pages_under image m x.page.0) (entries_on (image e.page.0)) (below_all image es)) ∙ times-append p (pages_among image m (entries_on (image e.page.0))) (pages_among image m (below_all image es)) in
     omega (arith, times-append p (pages_among image m (entries_on (image e.page.0))) (pages_among image (suc m) es), pages_open image m p es, both)
-
--- what each entry's page names, and what all of them name
-each_open : (P : Entry → Type 0) (f : Entry → List Entry) (es : List Entry) → AllByRecursion P (flat_map f es) → AllByRecursion (λ (e : Entry). AllByRecursion P (f e)) es
-each_open P f [] h = tt
-each_open P f (e ∷ es) h = (front (f e) h, each_open P f es (back (f e) h))
-  where
-    front : (xs : List Entry) → AllByRecursion P (xs ++ flat_map f es) → AllByRecursion P xs
-    front [] h = tt
-    front (x ∷ xs) h = (h.0, front xs h.1)
-
-    back : (xs : List Entry) → AllByRecursion P (xs ++ flat_map f es) → AllByRecursion P (flat_map f es)
-    back [] h = h
-    back (x ∷ xs) h = back xs h.1
 
 -- each entry names a page that is what it says
 abbrev pub AreNamed : Geometry → ℕ → (ℕ → List ℕ) → ℕ → List Entry → Type 0
@@ -80,7 +69,7 @@ module _ {S : Type 0} (g : ground.Ghosts S) (a b c : S) (file_no m : ℕ) where
       let still = still_below edit keys_before pages_before olds (heads news) N below once write in
       let same = still.same in
       let Under : Entry → Type 0 = λ x. IsUnder (g.geometry c) file_no (g.image c) m (Some x.key) x.page.0 in
-      let each = each_open Under (λ (e : Entry). entries_on (g.image c e.page.0)) news (subst (AllByRecursion Under) (sym parts) still.under) in
+      let each = each_parted Under (λ (e : Entry). entries_on (g.image c e.page.0)) news (subst (AllByRecursion Under) (sym parts) still.under) in
       let keys : keys_among (g.image c) (suc m) news ≡ keys_among (g.image b) m N = keys_open (g.image c) m news ∙ ap (keys_among (g.image c) m) parts ∙ same.keys in
       let count_c : (p : ℕ) → times p (pages_among (g.image c) (suc m) news) ≡ times p (heads news) + times p (pages_among (g.image b) m N) =
       λ p. pages_open (g.image c) m p news ∙ ap (λ (t : List Entry). times p (heads news) + times p (pages_among (g.image c) m t)) parts ∙ ap (λ (t : List ℕ). times p (heads news) + times p t) same.pages in

@@ -4,6 +4,7 @@ use Rattle.std.specs.List.{AllByRecursion}
 use Rattle.ex_base.specs.declared.ground.Ground as ground
 use Rattle.ex_base.specs.declared.names.PageNo.{PageNo}
 use Rattle.ex_base.specs.Ports.{times}
+use Rattle.ex_base.proofs.Counts.{times-append, times_here}
 use Rattle.index_pages.specs.declared.Entry.{Entry}
 use Rattle.index_pages.specs.IndexPage.{entries_on}
 use Rattle.file_index.specs.declared.Index.{Index}
@@ -11,7 +12,7 @@ use Rattle.file_index.specs.Changes.{Changes, count_of}
 use Rattle.file_index.specs.Index.{IsFilesPage, IsNamed, IsUnder, Rises, keys_under, pages_under, keys_of, pages_of}
 use Rattle.file_index.specs.Edits.{keys_among, pages_among, IsRow, Turns, HasIndex, EditsIndex}
 use Rattle.file_index.proofs.Closing.{IsNew}
-use Rattle.file_index.proofs.Counts.{times-append, times_here, count_most, is_counted, counted_once, changes_trans, changes_more}
+use Rattle.file_index.proofs.Counts.{count_most, is_counted, counted_once, changes_trans, changes_more}
 use Rattle.file_index.proofs.Picking.{rises_of, rising_of}
 use Rattle.file_index.proofs.Rewriting.{still_below}
 

@@ -4,13 +4,14 @@ use Rattle.std.proofs.lemmas.List.{append-nil, take-append-drop, length-take, le
 use Rattle.ex_base.specs.declared.ground.Ground as ground
 use Rattle.ex_base.specs.Ports.{times, Keeps}
 use Rattle.ex_base.specs.declared.geometry.Geometry.{Geometry}
+use Rattle.ex_base.proofs.Counts.{times_here}
 use Rattle.index_pages.specs.declared.Entry.{Entry}
 use Rattle.index_pages.specs.IndexPage.{entries_on, most_entries, RiseFrom}
 use Rattle.file_index.specs.Changes.{Changes}
 use Rattle.file_index.specs.Index.{IsFilesPage, IsNamed}
 use Rattle.file_index.specs.Nodes.{heads, entries_of, first_key, left_part, Stored}
 use Rattle.file_index.specs.Edits.{pages_among, IsRow, Becomes}
-use Rattle.file_index.proofs.Counts.{changes_same, is_counted, count_is, times_here}
+use Rattle.file_index.proofs.Counts.{changes_same, is_counted, count_is}
 use Rattle.file_index.proofs.Closing.{new_node, rise_take, rise_drop}
 use Rattle.file_index.proofs.Rewriting.{below_all, AreNamed, rewritten, OpenRow, open_row}
 use Rattle.file_index.proofs.Placing.{row_kept, turns_kept}

@@ -4,6 +4,7 @@ use Rattle.ex_base.specs.declared.ground.Ground as ground
 use Rattle.ex_base.specs.declared.names.PageNo.{PageNo}
 use Rattle.ex_base.specs.declared.geometry.Geometry.{Geometry}
 use Rattle.ex_base.specs.Ports.{times, Keeps, GivesPage}
+use Rattle.ex_base.proofs.Counts.{times-append, times_here}
 use Rattle.index_pages.specs.declared.Entry.{Entry}
 use Rattle.index_pages.specs.IndexPage.{entries_on, most_entries}
 use Rattle.file_index.specs.declared.Index.{Index}
@@ -15,7 +16,7 @@ use Rattle.std.specs.Prelude.{if◌then◌else◌, slice_index_or}
 use Rattle.std.proofs.lemmas.List.{append-nil}
 use Rattle.file_index.proofs.Leaves.{two_leaves}
 use Rattle.file_index.proofs.Closing.{new_root, row_rises}
-use Rattle.file_index.proofs.Counts.{times-append, times_here, count_most, is_counted, count_is, changes_same, give_changes, changes_more, changes_trans}
+use Rattle.file_index.proofs.Counts.{count_most, is_counted, count_is, changes_same, give_changes, changes_more, changes_trans}
 use Rattle.file_index.proofs.Picking.{rising_of}
 use Rattle.file_index.proofs.Placing.{row_kept, turns_kept}
 use Rattle.file_index.proofs.Rewriting.{raised, still_below}

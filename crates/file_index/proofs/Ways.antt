@@ -1,22 +1,18 @@
 -- From the entry that a key leads to back to the page that names it, over a call that keeps the pages.
-use Rattle.std.proofs.Common.{◌≡◌, ◌≢◌, ◌⊎◌, inl, inr, ◌+◌, drop, ◌-◌, ◌≤◌, ◌<◌, ℕ, zero, suc, true, false, List, [], ◌∷◌, length, Option, Some, None, Result, Ok, Err, OnOk, nat_lt, refl, sym, ap, subst, ◌∙◌, arith, eqb, lt-ltb, le-ltb, sub-one}
+use Rattle.std.proofs.Common.{◌≡◌, ◌≢◌, ◌⊎◌, inl, inr, ◌+◌, drop, ◌-◌, ◌≤◌, ◌<◌, ℕ, zero, suc, true, false, List, [], ◌∷◌, length, Option, Some, None, nat_lt, refl, sym, ap, subst, ◌∙◌, arith, eqb, lt-ltb, le-ltb, sub-one}
 use Rattle.std.specs.Prelude.{if◌then◌else◌, slice_index_or, ◌==◌}
 use Rattle.ex_base.specs.Ports.{Keeps}
 use Rattle.ex_base.specs.declared.faults.PortFault.{PortFault}
 use Rattle.ex_base.specs.declared.geometry.Geometry.{Geometry}
 use Rattle.ex_base.specs.declared.ground.Ground as ground
 use Rattle.ex_base.specs.declared.names.PageNo.{PageNo}
+use Rattle.ex_base.proofs.Counts.{not_equal}
 use Rattle.index_pages.specs.declared.Entry.{Entry}
 use Rattle.index_pages.specs.IndexPage.{entries_on}
 use Rattle.file_index.specs.declared.step.Step.{Step}
 use Rattle.file_index.specs.Least.{pick_from, pick, page_no}
 use Rattle.file_index.specs.Damage.{IsPageFault, IsNamedAt, place_in, no_entry, entry_in, child_in, place_beside, beside_in, IsWay, IsWayFault, IsWayUnder, IsFaultUnder, IsEntryFault, IsBesideFault, IsBesideUnder, IsBesideFrom, IsWayFrom, IsFaultFrom, found_under}
 use Rattle.file_index.proofs.Blame.{way_below, way_on}
-use Rattle.file_index.proofs.Counts.{not_equal}
-
-pub on_same : {X E : Type 0} (r : Result X E) (P Q : Type 0) → (P → Q) → OnOk r P → OnOk r Q
-on_same (Ok x) P Q f h = f h
-on_same (Err e) P Q f h = tt
 
 -- ---- the end of a way
 

@@ -1,6 +1,7 @@
 -- What a fault says of an index page that isn't what names it, and which pages the way to a key leads through.
 use Rattle.std.specs.Prelude.{◌≡◌, ◌≢◌, ◌⊎◌, ◌≤◌, ℕ, zero, suc, List, [], ◌∷◌, length, Option, Some, None, nat_lt, if◌then◌else◌, slice_index_or, ⊤}
 use Rattle.ex_base.specs.declared.faults.Seen.{Seen}
+use Rattle.ex_base.specs.Seen.{nothing_seen}
 use Rattle.ex_base.specs.declared.faults.PortFault.{PortFault}
 use Rattle.ex_base.specs.declared.faults.PortFault.TheVariants.{Disk, Memory, Damaged}
 use Rattle.ex_base.specs.declared.geometry.Geometry.{Geometry}
@@ -12,10 +13,6 @@ use Rattle.file_index.specs.declared.Index.{Index}
 use Rattle.file_index.specs.Index.{IsFilesPage, IsNamed, least_entries, seen, key_seen}
 use Rattle.file_index.specs.Least.{page_no, pick}
 use Rattle.file_index.specs.Nodes.{first_key}
-
--- a page that isn't read, or that isn't what it should be
-abbrev pub nothing_seen : Seen
-nothing_seen = record { kind = 0; level = 0; total = 0 }
 
 -- what an index page shows to what names it: its level and its least key, 0 where a root is named
 abbrev pub shown_on : List ℕ → Option ℕ → Seen
@@ -101,6 +98,14 @@ HasWay g image index key = IsWayFrom g image index.file_no key index.level index
 
 abbrev pub IsIndexFault : Geometry → (ℕ → List ℕ) → Index → ℕ → PortFault → Type 0
 IsIndexFault g image index key fault = IsFaultFrom g image index.file_no key index.level index.root fault
+
+-- ---- an index that is as high as one may be
+
+-- What a call tells that puts a page into an index: a fault on the way to the page; or that the root, which has the highest level of an index and no room
+-- for an entry more, stands over more pages than a volume has.
+pub data IsAddingFault (g : Geometry) (image : ℕ → List ℕ) (index : Index) (key : ℕ) (fault : PortFault) : Type 0 where
+  on_the_way : IsIndexFault g image index key fault → IsAddingFault g image index key fault
+  too_high : (root : PageNo) → index.root ≡ Some root → index.level ≡ 5 → fault ≡ Damaged root (seen index.level None) nothing_seen → IsAddingFault g image index key fault
 
 -- ---- what the way finds
 

@@ -4,6 +4,7 @@ use Rattle.std.specs.List.{flat_map, AllByRecursion}
 use Rattle.ex_base.specs.declared.geometry.Geometry.{Geometry}
 use Rattle.ex_base.specs.declared.names.PageNo.{PageNo}
 use Rattle.ex_base.specs.declared.faults.Seen.{Seen}
+use Rattle.ex_base.specs.Seen.{index_seen}
 use Rattle.ex_base.specs.Area.{InPageArea, catalog_no}
 use Rattle.ex_base.specs.Order.{Rising}
 use Rattle.ex_base.specs.Ports.{times}
@@ -34,7 +35,7 @@ key_total None = 0
 key_total (Some least) = least
 
 abbrev pub seen : ℕ → Option ℕ → Seen
-seen level least = record { kind = 6; level = level; total = key_total least }
+seen level least = index_seen level (key_total least)
 
 -- the least key of a page that is no root
 abbrev pub key_seen : Option ℕ → ℕ → Option ℕ

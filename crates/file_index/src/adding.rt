@@ -8,14 +8,14 @@ ghost use Rattle.file_index.specs.declared.Index.{Index};
 ghost use Rattle.file_index.specs.Index.{IsFilesPage, HasRoot, HasPlacedRoot};
 ghost use Rattle.file_index.specs.Nodes.{PutsLeaf, leaves_of, IsRootOver};
 ghost use Rattle.file_index.specs.Edits.{IsRow, Becomes, HasIndex, EditsIndex, GrowsTo, put_in};
-ghost use Rattle.file_index.specs.Damage.{IsWayUnder, IsFaultUnder, HasWay, IsIndexFault};
+ghost use Rattle.file_index.specs.Damage.{IsWayUnder, IsFaultUnder, HasWay, IsIndexFault, IsAddingFault};
 
-use crate::named::Named;
+use crate::Index;
+use crate::named::{Named, no_index_page};
 use crate::nodes::{entries_at, page_buffer, take_index};
 use crate::rows::{entry_over, place_of, replace_one};
 use crate::storing::store;
-use crate::{Index, MOST_LEVEL};
-use ex_base::{PageNo, Pages, PortFault};
+use ex_base::{INDEX_LEVEL_MOST, PageNo, Pages, PortFault};
 use index_pages::Entry;
 use std::alloc::Global;
 
@@ -256,8 +256,8 @@ pub fn a_whole_index_has_at_most_five_levels<P: Pages>()
 {}
 
 /// Puts a page into the index of its file. A page that the index has stays there. An index page that would get too many entries becomes two, of which
-/// the left one has the greater half. The index gets a level more where its root becomes two pages. No whole index gets a level above 5; where one would,
-/// the answer is want of memory, since no page that was read is other than what names it.
+/// the left one has the greater half. The index gets a level more where its root becomes two pages. No whole index has a full root at level 5, since a volume
+/// has fewer pages than stand under one: such a root is told as damaged.
 pub fn add<P: Pages>(
     pages: &mut P,
     alloc: Global,
@@ -275,7 +275,7 @@ pub fn add<P: Pages>(
     ensures level { IfOk result (λ added. added.level ≤ 5) }
     ensures free { OnOk result (P.free pages.old Page ≤ P.free pages.new Page + (index.now.level + 1)) }
     ensures sound { IfErr result (λ fault. IsDamage fault → P.tells pages.old → IsFilesPage (P.geometry pages.old) key.0 → HasIndex P.Ground pages.old index.now → ⊥) }
-    ensures fault { IfErr result (λ fault. P.tells pages.old → IsIndexFault (P.geometry pages.old) (P.image pages.old) index.now key.0 fault) }
+    ensures fault { IfErr result (λ fault. P.tells pages.old → IsAddingFault (P.geometry pages.old) (P.image pages.old) index.now key.0 fault) }
     ensures way { OnOk result (P.tells pages.old → HasWay (P.geometry pages.old) (P.image pages.old) index.now key.0) }
     ensures catalog { OnOk result (P.image pages.new catalog_no ≡ P.image pages.old catalog_no) }
     ensures leads { P.leads pages.old pages.new }
@@ -291,13 +291,14 @@ pub fn add<P: Pages>(
     if index.level == 0 {
         return add_second(pages, alloc, index, root, key);
     }
-    match add_below(pages, alloc, index, root, key) {
-        Ok(added) => {
-            if added.level > MOST_LEVEL {
-                return Err(PortFault::Memory);
-            }
-            Ok(added)
-        }
-        Err(fault) => Err(fault),
+    let added = add_below(pages, alloc, index, root, key)?;
+    if added.level > INDEX_LEVEL_MOST {
+        return Err(no_index_page(&Named {
+            page: root,
+            level: index.level,
+            least: None,
+            file_no: index.file_no,
+        }));
     }
+    Ok(added)
 }

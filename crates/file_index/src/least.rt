@@ -6,14 +6,14 @@ ghost use Rattle.file_index.specs.Index.{IsFilesPage, IsNamed, IsUnder, Rises, k
 ghost use Rattle.file_index.specs.Least.{pick, first_from, IsLeastFrom, IsAtLeast};
 ghost use Rattle.file_index.specs.Damage.{IsPageFault, IsNamedAt, IsWay, IsWayFault, HasWay, IsIndexFault, found_under, found_in};
 
+use crate::Index;
 use crate::named::{Named, checked, no_index_page};
 use crate::step::{Step, pick};
-use crate::{CATALOG_NO, Index};
-use ex_base::{PageNo, Pages, PortFault};
+use ex_base::{PageNo, PortFault, ReadPages};
 use std::alloc::Global;
 
 /// The entry of an index page that a key leads to.
-fn step_at<P: Pages>(
+fn step_at<P: ReadPages>(
     pages: &mut P,
     alloc: Global,
     named: &Named,
@@ -31,7 +31,7 @@ fn step_at<P: Pages>(
     ensures kept { Keeps P.Ground pages.old pages.new }
     ensures cause { HasCause (P.faults pages.old) (P.faults pages.new) result }
 {
-    if !pages.in_area(named.page) || named.page.0 == CATALOG_NO {
+    if !pages.in_area(named.page) || named.page == PageNo::CATALOG {
         return Err(no_index_page(named));
     }
     let page = pages.get(alloc, named.page)?;
@@ -42,7 +42,7 @@ fn step_at<P: Pages>(
 }
 
 /// The least page under a page that is not below the key, else what comes next.
-fn least_below<P: Pages>(
+fn least_below<P: ReadPages>(
     pages: &mut P,
     alloc: Global,
     named: Named,
@@ -85,7 +85,7 @@ fn least_below<P: Pages>(
 }
 
 /// The least file page of an index that is not below a key.
-pub fn at_least<P: Pages>(
+pub fn at_least<P: ReadPages>(
     pages: &mut P,
     alloc: Global,
     index: &Index,

@@ -17,12 +17,6 @@ use ex_base::PageNo;
 pub use least::at_least;
 pub use removing::remove;
 
-/// The page number of the catalog, which is no page of a file.
-const CATALOG_NO: u32 = 257;
-
-/// The highest level of an index. Pages of the least size have room for more entries than a higher one could need.
-const MOST_LEVEL: u8 = 5;
-
 /// An index: its root, the root's level and the file's number.
 #[derive(Clone, Copy, Debug, PartialEq, Eq)]
 pub struct Index {

@@ -5,17 +5,12 @@ ghost use Rattle.index_pages.specs.IndexPage.{indexed_on, most_entries};
 ghost use Rattle.ex_base.specs.declared.geometry.Geometry.{Geometry};
 ghost use Rattle.ex_base.specs.declared.faults.PortFault.TheVariants.{Damaged};
 ghost use Rattle.file_index.specs.Index.{IsFilesPage, IsNamed, least_entries, seen, key_seen};
-ghost use Rattle.file_index.specs.Damage.{nothing_seen, IsPageFault};
+ghost use Rattle.ex_base.specs.Seen.{nothing_seen};
+ghost use Rattle.file_index.specs.Damage.{IsPageFault};
 
 use ex_base::{PageNo, PortFault, Seen};
 use index_pages::view::IndexView;
 use index_pages::{ENTRIES_AT, ENTRY_BYTES};
-
-/// The kind of an index page, as a fault shows it.
-const INDEX_SEEN: u8 = 6;
-
-/// The kind of a page that is not what it should be, as a fault shows it.
-const UNKNOWN_SEEN: u8 = 0;
 
 /// What names an index page.
 #[derive(Clone, Copy, Debug, PartialEq, Eq)]
@@ -55,11 +50,7 @@ fn seen(level: u8, least: Option<u32>) -> Seen
         None => 0,
         Some(key) => u64::from(key),
     };
-    Seen {
-        kind: INDEX_SEEN,
-        level,
-        total,
-    }
+    Seen::index(level, total)
 }
 
 /// The least key of a page that is no root.
@@ -81,11 +72,7 @@ pub fn no_index_page(named: &Named) -> PortFault
     PortFault::Damaged {
         page: named.page,
         want: seen(named.level, named.least),
-        got: Seen {
-            kind: UNKNOWN_SEEN,
-            level: 0,
-            total: 0,
-        },
+        got: Seen::NOTHING,
     }
 }
 

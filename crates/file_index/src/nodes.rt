@@ -9,15 +9,14 @@ ghost use Rattle.file_index.specs.Changes.{Changes};
 ghost use Rattle.file_index.specs.Nodes.{IsWritten};
 ghost use Rattle.file_index.specs.Damage.{IsPageFault};
 
-use crate::CATALOG_NO;
 use crate::named::{Named, checked, no_index_page};
-use ex_base::{PageNo, Pages, PortFault};
+use ex_base::{PageNo, Pages, PortFault, ReadPages};
 use index_pages::Entry;
 use index_pages::write::write_index;
 use std::alloc::Global;
 
 /// Zeros, as many as a page has bytes.
-pub fn page_buffer<P: Pages>(pages: &P, alloc: Global) -> Result<Vec<u8>, PortFault>
+pub fn page_buffer<P: ReadPages>(pages: &P, alloc: Global) -> Result<Vec<u8>, PortFault>
     requires { P.ready pages.now }
     ensures len { IfOk result (λ buffer. length buffer.items ≡ (P.geometry pages.now).page_size) }
     ensures no_damage { IfErr result (λ fault. IsDamage fault → ⊥) }
@@ -30,7 +29,7 @@ pub fn page_buffer<P: Pages>(pages: &P, alloc: Global) -> Result<Vec<u8>, PortFa
 }
 
 /// The entries of an index page.
-pub fn entries_at<P: Pages>(
+pub fn entries_at<P: ReadPages>(
     pages: &mut P,
     alloc: Global,
     named: &Named,
@@ -48,7 +47,7 @@ pub fn entries_at<P: Pages>(
     ensures kept { Keeps P.Ground pages.old pages.new }
     ensures cause { HasCause (P.faults pages.old) (P.faults pages.new) result }
 {
-    if !pages.in_area(named.page) || named.page.0 == CATALOG_NO {
+    if !pages.in_area(named.page) || named.page == PageNo::CATALOG {
         return Err(no_index_page(named));
     }
     let page = pages.get(alloc, named.page)?;

@@ -13,7 +13,7 @@ use Rattle.slotted_pages.proofs.PageLaws.{page_read_is}
 use Rattle.object_records.specs.declared.State.TheVariants.{Current}
 use Rattle.file_index.specs.Index.{keys_of, pages_of}
 use Rattle.object_files.specs.Catalog.{FileEntry}
-use Rattle.tree_model.specs.Trees.{Units}
+use Rattle.trees.specs.Trees.{Units}
 use Rattle.volume_model.specs.Volume.{Stored, Line, FileContent, line_records}
 use Rattle.volume_model.specs.Parts.{HasIndex, HasPage, HasPages, HasLines, IsLine, IsUnfrozen, IsStored, Linked, bodies_in, bodies_from}
 use Rattle.file_walk.specs.Indexes.{IsEntryIndex}

@@ -10,13 +10,15 @@ use Rattle.ex_base.specs.Area.{catalog_no}
 use Rattle.ex_base.specs.Order.{AllDiffer}
 use Rattle.ex_base.specs.Ports.{times}
 use Rattle.ex_base.proofs.Rows.{each-append}
+use Rattle.ex_base.proofs.Counts.{contains_times, differ_once, none_or_some, not_equal, once_differ, same_or_not, times_contains}
+use Rattle.ex_base.proofs.Each.{each_as}
 use Rattle.page_alloc.specs.UnitSet.{UnitSet, used_at}
 use Rattle.file_index.specs.Changes.{count_of}
 use Rattle.file_index.specs.Index.{IsFilesPage, IsRoot, keys_of, pages_of}
-use Rattle.file_index.proofs.Counts.{same_or_not, not_equal, count_most, count_is, is_counted}
+use Rattle.file_index.proofs.Counts.{count_most, count_is, is_counted}
 use Rattle.object_files.specs.Catalog.{FileEntry}
 use Rattle.session_views.specs.declared.part.Part.TheVariants.{File, Page, Body}
-use Rattle.tree_model.specs.Trees.{Units}
+use Rattle.trees.specs.Trees.{Units}
 use Rattle.volume_model.specs.Volume.{FileContent, pages_of_file}
 use Rattle.volume_model.specs.Parts.{HasIndex, HasPages, HasLines}
 use Rattle.file_walk.specs.declared.Found.{Found}
@@ -28,9 +30,8 @@ use Rattle.file_walk.specs.Parts.{HasFilePart, HasPagePart, HasWalked, IsBadFile
 use Rattle.file_walk.specs.Records.{IsGoodRow, found_at, stored_at, AddsRows, AreFilePages, IsPageOf, rows_of, rows_among}
 use Rattle.file_walk.proofs.Contents.{content, keys_in, content_index, content_pages, content_lines, content_listed, has_pages, has_lines}
 use Rattle.file_walk.proofs.Levels.{under_may}
-use Rattle.file_walk.proofs.Lists.{each-map}
 use Rattle.file_walk.proofs.Rows.{good_front, good_back}
-use Rattle.file_walk.proofs.Times.{differ_of, once_of, never, contains_times, times_contains, zero_or_more}
+use Rattle.file_walk.proofs.Times.{never}
 
 -- the files as they read
 abbrev pub contents : Units → List FileEntry → List FileContent
@@ -66,14 +67,14 @@ part_free g images u entries files fresh part =
     let each = index_each g images entries files part.indexes in
     let differ : AllDiffer (flat_map (pages_named images) entries) = subst AllDiffer each.1 part.differ in
     let none : times catalog_no (flat_map (pages_named images) entries) ≡ 0 =
-    never catalog_no (flat_map (pages_named images) entries) (each-map (flat_map (pages_named images) entries) (λ (p : ℕ) may. may.1) (entries_may g images entries each.0)) in
+    never catalog_no (flat_map (pages_named images) entries) (each_as _ _ (flat_map (pages_named images) entries) (λ (p : ℕ) may. may.1) (entries_may g images entries each.0)) in
     record {
       whole = each.0;
       once = λ p. elim (same_or_not p catalog_no) [
         | inl same ↦ omega (arith, ap (λ (q : ℕ). times q (flat_map (pages_named images) entries)) same, none, count_most (used_at u p))
         | inr other ↦
             let free : used_at u p ≡ false = ap (λ (f : ℕ → Bool). f p) fresh ∙ not_equal p catalog_no other in
-            omega (arith, ap count_of free, once_of (flat_map (pages_named images) entries) differ p)
+            omega (arith, ap count_of free, differ_once (flat_map (pages_named images) entries) differ p)
       ];
     }
 
@@ -94,7 +95,7 @@ has_file_part g images u v entries files walked counted =
     let each = walked_each g images entries files walked in
     record {
       indexes = each.0;
-      differ = subst AllDiffer each.1 (differ_of (flat_map walked_pages files) (λ p. omega (arith, counted p, count_most (used_at v p))));
+      differ = subst AllDiffer each.1 (once_differ (flat_map walked_pages files) (λ p. omega (arith, counted p, count_most (used_at v p))));
     }
 
 pub pages_listed : (g : Geometry) (images : Units) (entries : List FileEntry) (files : List FilePages) → AllZip (IsWalked g images) entries files → flat_map walked_pages files ≡ flat_map pages_of_file (contents images entries)
@@ -200,7 +201,7 @@ has_walked g images u v entries files walked is counted pages rows listed = reco
 
 pub used_are : (u v : UnitSet) (xs ys : List ℕ) → CountsUsed u v [] xs → ys ≡ xs → (p : ℕ) → IsTrue (used_at v p) ↔ (IsTrue (used_at u p) ⊎ Contains ys p)
 used_are u v xs ys counted is p = (
-  λ used. elim (zero_or_more (times p xs)) [
+  λ used. elim (none_or_some (times p xs)) [
     | inl none ↦ inl (is_counted (used_at u p) (omega (arith, counted p, none, count_is (used_at v p) used)))
     | inr some ↦ inr (subst (λ (t : List ℕ). Contains t p) (sym is) (times_contains p xs some))
   ],

@@ -3,7 +3,7 @@ use Rattle.std.proofs.Common.{◌≡◌, ℕ, Bool, true, false, List, ◌∷◌
 use Rattle.std.specs.List.{flat_map, AllByRecursion, AllZip}
 use Rattle.ex_base.specs.declared.names.Place.{Place}
 use Rattle.object_files.specs.Catalog.{FileEntry}
-use Rattle.tree_model.specs.Trees.{Units}
+use Rattle.trees.specs.Trees.{Units}
 use Rattle.file_walk.specs.declared.Found.{Found}
 use Rattle.file_walk.specs.declared.indexes.FilePages.{FilePages}
 use Rattle.file_walk.specs.Records.{IsGoodRow, AddsRows, IsPageOf, rows_on, rows_among, rows_of, AreFilePages}

@@ -25,10 +25,6 @@ pub current_or_frozen : (s : State) → (s ≡ Current) ⊎ (s ≡ Frozen)
 current_or_frozen Current = inl refl
 current_or_frozen Frozen = inr refl
 
-pub none_is : {A : Type 0} (o : Option A) → is_some o ≡ false → o ≡ None
-none_is None e = refl
-none_is (Some x) e = absurd (let f : true ≡ false = e in cc)
-
 pub some_isnt : {A : Type 0} (o : Option A) → is_some o ≡ true → o ≡ None → ⊥
 some_isnt None e n = absurd (let f : false ≡ true = e in cc)
 some_isnt (Some x) e n = absurd cc

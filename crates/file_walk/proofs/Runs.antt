@@ -5,33 +5,34 @@ use Rattle.std.specs.List.{AllByRecursion}
 use Rattle.std.specs.List.Sorted.{IsPermutation, IsNonDecreasing}
 use Rattle.std.proofs.lemmas.List.Sorted.{All-permutation, IsPermutation-sym}
 use Rattle.std.proofs.lemmas.List.Elements.{All-from_recursion, recursion_from_All}
+use Rattle.std.proofs.lemmas.List.{drop_all, drop_more}
 use Rattle.ex_base.specs.declared.names.PageNo.{PageNo}
 use Rattle.ex_base.specs.Order.{AllDiffer, Rising}
+use Rattle.ex_base.proofs.Counts.{contains_times, differ_permuted}
 use Rattle.file_index.specs.Index.{Rises}
 use Rattle.file_walk.specs.Walk.{page_numbers}
 use Rattle.file_walk.specs.Numbers.{AreGoodNumbers, IsGoodRun}
-use Rattle.file_walk.proofs.Lists.{drop_at, drop_past}
-use Rattle.file_walk.proofs.Times.{differ_moved, never, contains_times}
+use Rattle.file_walk.proofs.Times.{never}
 
 -- ---- a run, number by number
 
 pub run_stops : (next least : ℕ) (xs : List ℕ) (i n : ℕ) → i < length xs → n ≡ slice_index_or xs i 0 → (least ≤ n → n < next → ⊥) → (IsGoodRun next 1 xs ↔ IsGoodRun next least (drop i xs)) → IsGoodRun next 1 xs → ⊥
 run_stops next least xs i n lt is never so_far all =
-    let here : IsGoodRun next least (slice_index_or xs i 0 ∷ drop (i + 1) xs) = subst (IsGoodRun next least) (drop_at xs i 0 lt) (so_far.0 all) in
+    let here : IsGoodRun next least (slice_index_or xs i 0 ∷ drop (i + 1) xs) = subst (IsGoodRun next least) (drop_more xs i 0 lt) (so_far.0 all) in
     never (omega (arith, here.0, is)) (omega (arith, here.1, is))
 
 pub run_goes_on : (next least : ℕ) (xs : List ℕ) (i n : ℕ) → i < length xs → n ≡ slice_index_or xs i 0 → least ≤ n → n < next → (IsGoodRun next 1 xs ↔ IsGoodRun next least (drop i xs)) → IsGoodRun next 1 xs ↔ IsGoodRun next (n + 1) (drop (i + 1) xs)
 run_goes_on next least xs i n lt is low high so_far = (
   λ all.
-      let here : IsGoodRun next least (slice_index_or xs i 0 ∷ drop (i + 1) xs) = subst (IsGoodRun next least) (drop_at xs i 0 lt) (so_far.0 all) in
+      let here : IsGoodRun next least (slice_index_or xs i 0 ∷ drop (i + 1) xs) = subst (IsGoodRun next least) (drop_more xs i 0 lt) (so_far.0 all) in
       subst (λ (m : ℕ). IsGoodRun next (m + 1) (drop (i + 1) xs)) (sym is) here.2,
   λ rest.
       let here : IsGoodRun next least (slice_index_or xs i 0 ∷ drop (i + 1) xs) = (omega (arith, is), omega (arith, is), subst (λ (m : ℕ). IsGoodRun next (m + 1) (drop (i + 1) xs)) is rest) in
-      so_far.1 (subst (IsGoodRun next least) (sym (drop_at xs i 0 lt)) here),
+      so_far.1 (subst (IsGoodRun next least) (sym (drop_more xs i 0 lt)) here),
 )
 
 pub run_ends : (next least : ℕ) (xs : List ℕ) (i : ℕ) → length xs ≤ i → (IsGoodRun next 1 xs ↔ IsGoodRun next least (drop i xs)) → IsGoodRun next 1 xs
-run_ends next least xs i le so_far = so_far.1 (subst (IsGoodRun next least) (sym (drop_past xs i le)) tt)
+run_ends next least xs i le so_far = so_far.1 (subst (IsGoodRun next least) (sym (drop_all i xs le)) tt)
 
 -- ---- a run is what good numbers are in order
 
@@ -87,11 +88,11 @@ moved P xs ys is h = recursion_from_All P ys (All-permutation P xs ys is (All-fr
 
 pub sorted_run : (next : ℕ) (xs ys : List ℕ) → IsPermutation xs ys → IsNonDecreasing ys → AreGoodNumbers next xs ↔ IsGoodRun next 1 ys
 sorted_run next xs ys is climbs = (
-  λ good. run_of next 1 ys climbs (differ_moved xs ys is good.differ) (moved (λ (m : ℕ). 1 ≤ m) xs ys is good.some) (moved (λ (m : ℕ). m < next) xs ys is good.below),
+  λ good. run_of next 1 ys climbs (differ_permuted xs ys is good.differ) (moved (λ (m : ℕ). 1 ≤ m) xs ys is good.some) (moved (λ (m : ℕ). m < next) xs ys is good.below),
   λ run.
       let back = IsPermutation-sym xs ys is in
       record {
-        differ = differ_moved ys xs back (run_once next 1 ys run);
+        differ = differ_permuted ys xs back (run_once next 1 ys run);
         some = moved (λ (m : ℕ). 1 ≤ m) ys xs back (run_some next 1 ys (omega arith) run);
         below = moved (λ (m : ℕ). m < next) ys xs back (run_below next 1 ys run);
       },
@@ -101,19 +102,19 @@ sorted_run next xs ys is climbs = (
 
 pub rise_stops : (least : ℕ) (pages : List PageNo) (i n : ℕ) → i < length pages → n ≡ (slice_index_or pages i (record { 0 = 0 })).0 → n < least → (Rising (page_numbers pages) ↔ Rises least (page_numbers (drop i pages))) → Rising (page_numbers pages) → ⊥
 rise_stops least pages i n lt is low so_far all =
-    let here : Rises least (page_numbers (slice_index_or pages i (record { 0 = 0 }) ∷ drop (i + 1) pages)) = subst (λ (t : List PageNo). Rises least (page_numbers t)) (drop_at pages i (record { 0 = 0 }) lt) (so_far.0 all) in
+    let here : Rises least (page_numbers (slice_index_or pages i (record { 0 = 0 }) ∷ drop (i + 1) pages)) = subst (λ (t : List PageNo). Rises least (page_numbers t)) (drop_more pages i (record { 0 = 0 }) lt) (so_far.0 all) in
     absurd (omega (arith, here.0, is))
 
 pub rise_goes_on : (least : ℕ) (pages : List PageNo) (i n : ℕ) → i < length pages → n ≡ (slice_index_or pages i (record { 0 = 0 })).0 → least ≤ n → (Rising (page_numbers pages) ↔ Rises least (page_numbers (drop i pages)))
     → Rising (page_numbers pages) ↔ Rises (n + 1) (page_numbers (drop (i + 1) pages))
 rise_goes_on least pages i n lt is low so_far = (
   λ all.
-      let here : Rises least (page_numbers (slice_index_or pages i (record { 0 = 0 }) ∷ drop (i + 1) pages)) = subst (λ (t : List PageNo). Rises least (page_numbers t)) (drop_at pages i (record { 0 = 0 }) lt) (so_far.0 all) in
+      let here : Rises least (page_numbers (slice_index_or pages i (record { 0 = 0 }) ∷ drop (i + 1) pages)) = subst (λ (t : List PageNo). Rises least (page_numbers t)) (drop_more pages i (record { 0 = 0 }) lt) (so_far.0 all) in
       subst (λ (m : ℕ). Rises (m + 1) (page_numbers (drop (i + 1) pages))) (sym is) here.1,
   λ rest.
       let here : Rises least (page_numbers (slice_index_or pages i (record { 0 = 0 }) ∷ drop (i + 1) pages)) = (omega (arith, is), subst (λ (m : ℕ). Rises (m + 1) (page_numbers (drop (i + 1) pages))) is rest) in
-      so_far.1 (subst (λ (t : List PageNo). Rises least (page_numbers t)) (sym (drop_at pages i (record { 0 = 0 }) lt)) here),
+      so_far.1 (subst (λ (t : List PageNo). Rises least (page_numbers t)) (sym (drop_more pages i (record { 0 = 0 }) lt)) here),
 )
 
 pub rise_ends : (least : ℕ) (pages : List PageNo) (i : ℕ) → length pages ≤ i → (Rising (page_numbers pages) ↔ Rises least (page_numbers (drop i pages))) → Rising (page_numbers pages)
-rise_ends least pages i le so_far = so_far.1 (subst (λ (t : List PageNo). Rises least (page_numbers t)) (sym (drop_past pages i le)) tt)
+rise_ends least pages i le so_far = so_far.1 (subst (λ (t : List PageNo). Rises least (page_numbers t)) (sym (drop_all i pages le)) tt)

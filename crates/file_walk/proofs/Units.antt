@@ -4,12 +4,12 @@ use Rattle.ex_base.specs.declared.ground.Ground as ground
 use Rattle.ex_base.specs.declared.geometry.Geometry.{Geometry}
 use Rattle.ex_base.specs.Area.{InPageArea}
 use Rattle.ex_base.specs.declared.faults.PortFault.{PortFault}
-use Rattle.ex_base.specs.declared.faults.PortFault.TheVariants.{Disk, Memory, Damaged}
 use Rattle.ex_base.specs.Ports.{Keeps, Cause}
+use Rattle.ex_base.proofs.Keeping.{cause_since, same_geometry}
+use Rattle.ex_base.proofs.Counts.{not_equal, same_or_not, times_apart, times_here}
 use Rattle.page_alloc.specs.UnitSet.{UnitSet, used_at, refs_at, given_at, updated}
 use Rattle.file_index.specs.Changes.{count_of}
-use Rattle.file_index.proofs.Counts.{times_here, times_apart, same_or_not, not_equal}
-use Rattle.tree_model.specs.Trees.{Units}
+use Rattle.trees.specs.Trees.{Units}
 use Rattle.file_walk.specs.Walk.{Tells, CountsUsed, KeepsUnits}
 
 at_page : (f : ℕ → Bool) (page p : ℕ) → p ≡ page → updated f page true p ≡ true
@@ -47,28 +47,12 @@ pub units_on : (u v w : UnitSet) → KeepsUnits u v → KeepsUnits v w → Keeps
 units_on u v w one two = record { geometry = two.geometry ∙ one.geometry; used = λ p h. two.used p (one.used p h); refs = two.refs ∙ one.refs; given = two.given ∙ one.given }
 
 module _ {S : Type 0} (g : ground.Ghosts S) where
-  pub keeps_on : (a b c : S) → Keeps g a b → Keeps g b c → Keeps g a c
-  keeps_on a b c one two = record {
-    units = two.units ∙ one.units;
-    images = two.images ∙ one.images;
-    used = two.used ∙ one.used;
-    refs = two.refs ∙ one.refs;
-    held = two.held ∙ one.held;
-    free = two.free ∙ one.free;
-    leads = g.leads_trans a b c one.leads two.leads;
-  }
-
-  pub same_geometry : (a b : S) → Keeps g a b → g.geometry b ≡ g.geometry a
-  same_geometry a b kept = g.leads_geometry a b kept.leads
-
   -- a fault later on
   pub cause_on : (a b : S) (now : ℕ) (fault : PortFault) → Keeps g a b → Cause (g.faults b) now fault → Cause (g.faults a) now fault
-  cause_on a b now Disk kept cause = omega (arith, cause, g.leads_faults a b kept.leads)
-  cause_on a b now Memory kept cause = cause
-  cause_on a b now (Damaged page want got) kept cause = cause
+  cause_on a b now fault kept = cause_since (g.faults a) (g.faults b) now fault (g.leads_faults a b kept.leads)
 
   pub tells_on : (a b : S) (images : Units) → Keeps g a b → Tells g a images → Tells g b images
   tells_on a b images kept told = record {
     tells = g.leads_told a b kept.leads told.tells;
-    same = λ p area. told.same p (subst (λ (y : Geometry). InPageArea y p) (same_geometry a b kept) area) ∙ sym (ap (λ (f : ℕ → List ℕ). f p) kept.images);
+    same = λ p area. told.same p (subst (λ (y : Geometry). InPageArea y p) (same_geometry g a b kept) area) ∙ sym (ap (λ (f : ℕ → List ℕ). f p) kept.images);
   }

@@ -8,7 +8,7 @@ use Rattle.object_records.specs.Record.{Content, Small, Large}
 use Rattle.object_files.specs.Catalog.{FileEntry}
 use Rattle.session_views.specs.declared.part.Part.{Part}
 use Rattle.session_views.specs.declared.part.Part.TheVariants.{File, Page, Body}
-use Rattle.tree_model.specs.Trees.{Units}
+use Rattle.trees.specs.Trees.{Units}
 use Rattle.volume_model.specs.Volume.{Stored, FileContent, pages_of_file, line_number}
 use Rattle.volume_model.specs.Parts.{HasIndex, HasPages, HasLines}
 use Rattle.file_walk.specs.declared.Found.{Found}

@@ -9,7 +9,7 @@ use Rattle.object_records.specs.declared.State.TheVariants.{Current}
 use Rattle.object_records.specs.Record.{Record, BodyOf, IsRootField}
 use Rattle.object_records.specs.Reads.{record_on}
 use Rattle.object_files.specs.Catalog.{FileEntry}
-use Rattle.tree_model.specs.Trees.{Units}
+use Rattle.trees.specs.Trees.{Units}
 use Rattle.volume_model.specs.Volume.{Stored}
 use Rattle.volume_model.specs.Parts.{HasPage, bodies_from}
 use Rattle.file_walk.specs.declared.Found.{Found}

@@ -6,7 +6,7 @@ use Rattle.ex_base.specs.Area.{InPageArea}
 use Rattle.ex_base.specs.Ports.{times}
 use Rattle.page_alloc.specs.UnitSet.{UnitSet, used_at, refs_at, given_at}
 use Rattle.file_index.specs.Changes.{count_of}
-use Rattle.tree_model.specs.Trees.{Units}
+use Rattle.trees.specs.Trees.{Units}
 use Rattle.ex_base.specs.Faults.{Rose}
 use Rattle.session_views.specs.declared.opener.OpenFault.{OpenFault}
 use Rattle.session_views.specs.declared.opener.OpenFault.TheVariants.{Disk}

@@ -7,12 +7,12 @@ ghost use Rattle.ex_base.specs.Ports.{Keeps, HasCause, IsDamage};
 ghost use Rattle.page_alloc.specs.UnitSet.{used_at};
 ghost use Rattle.file_index.specs.Index.{IsFilesPage};
 ghost use Rattle.object_files.specs.Reads.{entry_of};
-ghost use Rattle.tree_model.specs.Trees.{Units as Images};
+ghost use Rattle.trees.specs.Trees.{Units as Images};
 ghost use Rattle.file_walk.specs.Walk.{Tells, page_numbers, CountsUsed, KeepsUnits};
 ghost use Rattle.file_walk.specs.Indexes.{IsFreeIndex, IsFreeRoot, AddsIndex, AddsRoot, AddsPages, IsWalked, IsInArea, AreFreeIndexes, walked_pages};
 
 use crate::named::{Named, entries_at, has_key};
-use ex_base::{PageNo, Pages, PortFault};
+use ex_base::{PageNo, PortFault, ReadPages};
 use object_files::{CatalogView, Entry};
 use page_alloc::Units;
 use std::alloc::{AllocError, Global};
@@ -33,7 +33,7 @@ fn add<T: Drop>(items: &mut Vec<T>, item: T) -> Result<(), AllocError>
 }
 
 /// Makes a page one of a file. False where it lies outside of the page area, or is in use, as the catalog's page is.
-fn claim<P: Pages>(pages: &P, units: &mut Units, page: PageNo) -> bool
+fn claim<P: ReadPages>(pages: &P, units: &mut Units, page: PageNo) -> bool
     requires ready { P.ready pages.now }
     requires geometry { units.old.geometry ≡ P.geometry pages.now }
     requires catalog { used_at units.old catalog_no ≡ true }
@@ -50,7 +50,7 @@ fn claim<P: Pages>(pages: &P, units: &mut Units, page: PageNo) -> bool
 }
 
 /// Adds the pages of what is named. False where it is no whole index, or has a page that is in use.
-fn walk_under<P: Pages>(
+fn walk_under<P: ReadPages>(
     pages: &mut P,
     alloc: Global,
     units: &mut Units,
@@ -113,7 +113,7 @@ fn rise(pages: &[PageNo]) -> bool
 }
 
 /// Adds the pages of the file of an entry. False where it names no whole index, or one with a page that is in use.
-fn walk_root<P: Pages>(
+fn walk_root<P: ReadPages>(
     pages: &mut P,
     alloc: Global,
     units: &mut Units,
@@ -146,7 +146,7 @@ fn walk_root<P: Pages>(
 }
 
 /// The pages of the file of an entry. None where its index isn't whole, or has a page that is in use.
-fn walk_index<P: Pages>(
+fn walk_index<P: ReadPages>(
     pages: &mut P,
     alloc: Global,
     units: &mut Units,
@@ -182,7 +182,7 @@ fn walk_index<P: Pages>(
 }
 
 /// The pages of each file of the catalog. None where an index isn't whole, or a page is named twice.
-pub fn walk_indexes<P: Pages>(
+pub fn walk_indexes<P: ReadPages>(
     pages: &mut P,
     alloc: Global,
     catalog: &CatalogView,

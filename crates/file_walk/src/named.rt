@@ -5,7 +5,7 @@ ghost use Rattle.ex_base.specs.Ports.{Keeps, HasCause, IsDamage};
 ghost use Rattle.index_pages.specs.IndexPage.{indexed_on, entries_on};
 ghost use Rattle.file_index.specs.Index.{IsNamed, HasKey, least_entries};
 
-use ex_base::{PageNo, Pages, PortFault};
+use ex_base::{PageNo, PortFault, ReadPages};
 use index_pages::view::IndexView;
 use index_pages::{ENTRIES_AT, ENTRY_BYTES, Entry};
 use std::alloc::Global;
@@ -67,7 +67,7 @@ fn checked<'a>(page: &'a [u8], named: &Named) -> Option<IndexView<'a>>
 }
 
 /// The entries of an index page, none where the page isn't what names it.
-pub fn entries_at<P: Pages>(
+pub fn entries_at<P: ReadPages>(
     pages: &mut P,
     alloc: Global,
     named: &Named,

@@ -8,7 +8,7 @@ ghost use Rattle.slotted_pages.specs.FilePage.{FilePage, SlotsOf};
 ghost use Rattle.object_records.specs.Record.{Record};
 ghost use Rattle.object_records.specs.Reads.{content_of};
 ghost use Rattle.object_files.specs.Reads.{entry_of};
-ghost use Rattle.tree_model.specs.Trees.{Units as Images};
+ghost use Rattle.trees.specs.Trees.{Units as Images};
 ghost use Rattle.volume_model.specs.Parts.{bodies_from, HasPage};
 ghost use Rattle.file_walk.specs.Walk.{Tells, page_numbers};
 ghost use Rattle.file_walk.specs.Indexes.{IsInArea};
@@ -17,7 +17,7 @@ ghost use Rattle.file_walk.specs.Records.{IsGoodRecord, IsGoodRow, found_at, row
 
 use crate::Found;
 use crate::indexes::FilePages;
-use ex_base::{PageNo, Pages, Place, PortFault, Root};
+use ex_base::{PageNo, Place, PortFault, ReadPages, Root};
 use object_files::{CatalogView, Entry};
 use object_records::{Payload, RecordView, State};
 use slotted_pages::SlottedView;
@@ -87,7 +87,7 @@ fn checked(bytes: &[u8], file_no: u32) -> Option<SlottedView<'_>>
 }
 
 /// Adds the records of a page of the file of an entry. None where the page isn't one of the file; false where one of its bodies is no good record.
-fn read_page<P: Pages>(
+fn read_page<P: ReadPages>(
     pages: &mut P,
     alloc: Global,
     page: PageNo,
@@ -115,7 +115,7 @@ fn read_page<P: Pages>(
 }
 
 /// Adds the records of the file of an entry. None where a page isn't one of the file; false where a body is no good record.
-fn read_file<P: Pages>(
+fn read_file<P: ReadPages>(
     pages: &mut P,
     alloc: Global,
     entry: &Entry,
@@ -151,7 +151,7 @@ fn read_file<P: Pages>(
 }
 
 /// Adds the records of all files. None where a page isn't one of its file; false where a body is no good record.
-pub fn read_files<P: Pages>(
+pub fn read_files<P: ReadPages>(
     pages: &mut P,
     alloc: Global,
     catalog: &CatalogView,

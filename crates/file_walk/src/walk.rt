@@ -6,7 +6,7 @@ ghost use Rattle.ex_base.specs.Faults.{Rose};
 ghost use Rattle.ex_base.specs.Ports.{Keeps, Cause, IsDamage};
 ghost use Rattle.page_alloc.specs.UnitSet.{used_at};
 ghost use Rattle.session_views.specs.declared.part.Part.{Part};
-ghost use Rattle.tree_model.specs.Trees.{Units as Images};
+ghost use Rattle.trees.specs.Trees.{Units as Images};
 ghost use Rattle.file_walk.specs.Indexes.{walked_pages};
 ghost use Rattle.file_walk.specs.Records.{HasRootFields};
 ghost use Rattle.file_walk.specs.Parts.{HasWalked, IsBadFiles};
@@ -15,7 +15,7 @@ ghost use Rattle.file_walk.specs.Walk.{Tells, page_numbers, KeepsUnits, IsCause}
 use crate::WalkedFiles;
 use crate::indexes::{FilePages, walk_indexes};
 use crate::records::read_files;
-use ex_base::{PageNo, Pages, PortFault};
+use ex_base::{PageNo, PortFault, ReadPages};
 use object_files::CatalogView;
 use page_alloc::Units;
 use session_views::{OpenFault, Part};
@@ -48,7 +48,7 @@ fn pages_of(alloc: Global, files: &[FilePages]) -> Result<Vec<PageNo>, AllocErro
 
 /// Walks over all files of a catalog: tests their indexes, then their pages and last the records on them, and lists their pages and records. Each page of a
 /// file comes into use.
-pub fn walk_files<P: Pages>(
+pub fn walk_files<P: ReadPages>(
     pages: &mut P,
     alloc: Global,
     catalog: &CatalogView,

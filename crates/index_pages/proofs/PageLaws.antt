@@ -6,6 +6,7 @@ use Rattle.std.proofs.lemmas.List.{drop-drop, drop_at, length-append, length-dro
 use Rattle.ex_base.specs.Fields.{two_bytes, four_bytes, zeros, number_at, AreZero}
 use Rattle.ex_base.proofs.FieldLaws.{IsBytes-drop, two_is, four_is, number_at-drop}
 use Rattle.ex_base.proofs.Places.{zero_run, zeros_are}
+use Rattle.ex_base.proofs.Lists.{front_two}
 use Rattle.ex_base.specs.Bytes.{IsBytes}
 use Rattle.index_pages.specs.declared.Entry.{Entry}
 use Rattle.index_pages.specs.IndexPage.{entry_bytes, entry_at, read_entries, RiseFrom, IsIndexPage, EntriesOf, Indexed, indexed_on, index_page, level_on, file_on, entries_on, head_bytes}
@@ -121,11 +122,6 @@ spelled_reads page level file_no entries h =
     subst (λ (p : List ℕ). ReadsAs p level file_no entries) (sym is) (spread_reads (length page) level file_no entries h.fits len)
 
 -- ---- what reads as an index page is the page of what is read
-
-front_two : (xs : List ℕ) → 2 ≤ length xs → take 2 xs ≡ slice_index xs 0 ∷ slice_index xs 1 ∷ []
-front_two [] le = absurd (omega arith)
-front_two (x ∷ []) le = absurd (omega arith)
-front_two (x ∷ y ∷ xs) le = refl
 
 -- a run of a list, and what stands behind it
 run : (at n next : ℕ) (page : List ℕ) → at + n ≡ next → drop at page ≡ take n (drop at page) ++ drop next page

@@ -4,17 +4,15 @@ use Rattle.std.specs.Prelude.{replicate, slice_set}
 use Rattle.std.specs.List.{flat_map, AllByRecursion}
 use Rattle.std.proofs.lemmas.List.{append-nil, take_more, length-append, length-take}
 use Rattle.std.proofs.lemmas.List.Concat.{flat_map-append}
+use Rattle.std.proofs.Math.Seq.{take-length}
 use Rattle.ex_base.specs.Fields.{two_bytes, four_bytes, zeros}
 use Rattle.ex_base.specs.Bytes.{written}
 use Rattle.ex_base.proofs.FieldLaws.{two_is, four_is}
 use Rattle.ex_base.proofs.Writing.{written_on_zeros}
+use Rattle.ex_base.proofs.Lists.{zeros_split}
 use Rattle.index_pages.specs.declared.Entry.{Entry}
 use Rattle.index_pages.specs.IndexPage.{entry_bytes, head_bytes, index_page}
 use Rattle.index_pages.proofs.EntryLaws.{length-entries, length-entry_bytes}
-
-zeros_split : (a b : ℕ) → zeros (a + b) ≡ zeros a ++ zeros b
-zeros_split zero b = ap zeros (let e : 0 + b ≡ b = omega arith in e)
-zeros_split (suc a) b = ap zeros (let e : suc a + b ≡ suc (a + b) = omega arith in e) ∙ ap (λ (t : List ℕ). 0 ∷ t) (zeros_split a b)
 
 head_first : (n level entries : ℕ) → 4 ≤ n → written (slice_set (slice_set (replicate n 0) 0 4) 1 level) 2 (two_bytes entries) ≡ 4 ∷ level ∷ (two_bytes entries ++ zeros (n - 4))
 head_first zero level entries le = absurd (omega arith)
@@ -72,15 +70,11 @@ so_far_more size head entries i at out entry none next lt item e h =
           ∙ ap (λ (t : List ℕ). t ++ zeros (size - (16 + 8 * (i + 1)))) (append_assoc head (flat_map entry_bytes (take i entries)) (entry_bytes entry) ∙ ap (λ (t : List ℕ). head ++ t) (sym all));
     }
 
-take_whole : {A : Type 0} (xs : List A) → take (length xs) xs ≡ xs
-take_whole [] = refl
-take_whole (x ∷ xs) = ap (λ rest. x ∷ rest) (take_whole xs)
-
 pub so_far_all : (size level file_no : ℕ) (entries : List Entry) (i at : ℕ) (out : List ℕ) → i ≡ length entries → SoFar size (head_bytes level file_no (length entries)) entries i at out → out ≡ index_page size level file_no entries
 unfolding index_page
 so_far_all size level file_no entries i at out all h =
     let head : List ℕ = head_bytes level file_no (length entries) in
-    let whole : take i entries ≡ entries = ap (λ (k : ℕ). take k entries) all ∙ take_whole entries in
+    let whole : take i entries ≡ entries = ap (λ (k : ℕ). take k entries) all ∙ take-length entries in
     let len : 16 + 8 * i ≡ length (head_bytes level file_no (length entries) ++ flat_map entry_bytes entries) = omega (arith, all, length-append (head_bytes level file_no (length entries)) (flat_map entry_bytes entries), length-head level file_no (length entries), length-entries entries) in
     h.bytes ∙ ap (λ (t : List Entry). head_bytes level file_no (length entries) ++ flat_map entry_bytes t ++ zeros (size - (16 + 8 * i))) whole ∙ ap (λ (k : ℕ). head_bytes level file_no (length entries) ++ flat_map entry_bytes entries ++ zeros (size - k)) len
 
@@ -93,4 +87,4 @@ all_more P (x ∷ xs) (suc i) none lt p all =
     subst (λ (k : ℕ). AllByRecursion P (take k (x ∷ xs))) (sym count) (all.0, all_more P xs i none (omega arith) p all.1)
 
 pub all_whole : {A : Type 0} (P : A → Type 0) (xs : List A) (i : ℕ) → i ≡ length xs → AllByRecursion P (take i xs) → AllByRecursion P xs
-all_whole P xs i is all = subst (AllByRecursion P) (ap (λ (k : ℕ). take k xs) is ∙ take_whole xs) all
+all_whole P xs i is all = subst (AllByRecursion P) (ap (λ (k : ℕ). take k xs) is ∙ take-length xs) all

@@ -2,13 +2,13 @@
 ghost use Rattle.std.specs.Prelude.{◌≡◌, ℕ, List, IfOk, Some};
 
 use crate::bytes::{part_of, put_part};
-use ex_base::{Area, Blocks, Geometry, Ground, PageNo, Pages, PortFault, Volume};
+use ex_base::{
+    Area, Blocks, Geometry, Ground, PageNo, Pages, PortFault, ReadBlocks, ReadPages, ReadVolume,
+    Volume,
+};
 use page_alloc::Units;
 use std::alloc::{AllocError, Global};
 use tree_store::count_names;
-
-/// The first page of the page area, which has the catalog.
-const CATALOG: u32 = 257;
 
 /// A volume in memory: the bytes of its units, a working image of each page and whether the working state has it. Its disk never fails. A logged page
 /// that is given back stays used, as one is until its transaction is committed.
@@ -34,10 +34,10 @@ impl MemoryVolume {
         ensures used { IfOk result (λ v. used_at v.units ≡ (λ page. eqb page catalog_no)) }
         ensures refs { IfOk result (λ v. refs_at v.units ≡ (λ _. 0)) }
     {
-        let pages = (CATALOG + geometry.pages) as usize;
+        let pages = (PageNo::CATALOG.0 + geometry.pages) as usize;
         let size = geometry.page_size as usize;
         let mut held = vec![in alloc; false; pages]?;
-        held[CATALOG as usize] = true;
+        held[PageNo::CATALOG.0 as usize] = true;
         Ok(MemoryVolume {
             geometry: *geometry,
             units: Units::make(alloc, geometry)?,
@@ -51,7 +51,7 @@ impl MemoryVolume {
 impl Ground for MemoryVolume {
     ghost use Rattle.std.proofs.Common.{le_refl};
     ghost use Rattle.page_alloc.specs.UnitSet.{used_at, refs_at, free_count};
-    ghost use Rattle.tree_store.specs.Names.{names_on};
+    ghost use Rattle.count_nodes.specs.Names.{names_on};
     ghost use Rattle.tree_store.specs.Stored.{unit_bytes};
     ghost use Rattle.memory_ports.specs.InMemory.{IsVolume, Follows, follows_same, follows_on, image_in, flag_in, leaf_in};
 
@@ -69,11 +69,13 @@ impl Ground for MemoryVolume {
 
     ghost refs = { λ m. refs_at m.units };
 
-    ghost names = { names_on };
+    ghost names = { λ g bytes. names_on bytes };
 
     ghost held = { λ m. flag_in m.held.items };
 
     ghost free = { λ m. free_count m.units.geometry (used_at m.units) };
+
+    ghost touched = { λ m. 0 };
 
     ghost faults = { λ m. 0 };
 
@@ -110,13 +112,9 @@ impl Ground for MemoryVolume {
     ghost frees_faults = { λ freed a b x. le_refl 0 };
 }
 
-impl Blocks for MemoryVolume {
+impl ReadBlocks for MemoryVolume {
     fn geometry(&self) -> Geometry {
         self.geometry
-    }
-
-    fn free(&self, area: Area) -> u32 {
-        self.units.free(area)
     }
 
     fn node(&mut self, _alloc: Global, page: PageNo) -> Result<&[u8], PortFault> {
@@ -134,6 +132,12 @@ impl Blocks for MemoryVolume {
         let at = page.0 as usize * self.geometry.page_size as usize + from as usize;
         out.copy_from_slice(part_of(&self.bytes, at, out.len()));
         Ok(())
+    }
+}
+
+impl Blocks for MemoryVolume {
+    fn free(&self, area: Area) -> u32 {
+        self.units.free(area)
     }
 
     fn new_node(&mut self, bytes: &[u8]) -> Result<PageNo, PortFault> {
@@ -164,20 +168,22 @@ impl Blocks for MemoryVolume {
     }
 }
 
-impl Pages for MemoryVolume {
+impl ReadPages for MemoryVolume {
     fn page_size(&self) -> u32 {
         self.geometry.page_size
     }
 
     fn in_area(&self, page: PageNo) -> bool {
-        CATALOG <= page.0 && page.0 < CATALOG + self.geometry.pages
+        self.geometry.in_page_area(page)
     }
 
     fn get(&mut self, _alloc: Global, page: PageNo) -> Result<&[u8], PortFault> {
         let size = self.geometry.page_size as usize;
         Ok(part_of(&self.images, page.0 as usize * size, size))
     }
+}
 
+impl Pages for MemoryVolume {
     fn put(&mut self, _alloc: Global, page: PageNo, image: &[u8]) -> Result<(), PortFault> {
         let at = page.0 as usize * self.geometry.page_size as usize;
         put_part(&mut self.images, at, image);
@@ -186,7 +192,7 @@ impl Pages for MemoryVolume {
 
     fn take_page(&mut self, _alloc: Global, image: &[u8]) -> Result<PageNo, PortFault> {
         let page = self.units.take(Area::Page);
-        if page.0 == CATALOG || self.held[page.0 as usize] {
+        if page.0 == PageNo::CATALOG.0 || self.held[page.0 as usize] {
             return Err(PortFault::Memory);
         }
         self.held[page.0 as usize] = true;
@@ -200,5 +206,7 @@ impl Pages for MemoryVolume {
         Ok(())
     }
 }
+
+impl ReadVolume for MemoryVolume {}
 
 impl Volume for MemoryVolume {}

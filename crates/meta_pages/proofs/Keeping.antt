@@ -1,13 +1,14 @@
 -- Working images that become the committed ones, the last one first.
-use Rattle.std.proofs.Common.{◌≡◌, ◌≢◌, ◌≤◌, ◌<◌, ◌+◌, ◌++◌, ◌&&◌, ℕ, Bool, true, false, not, cond, List, [], ◌∷◌, length, Option, Some, None, is_some, if◌then◌else◌, nat_eq, nat_lt, refl, sym, ap, subst, ◌∙◌, arith, eqb-true, eq-eqb, ltb-true}
+use Rattle.std.proofs.Common.{◌≡◌, ◌≢◌, ◌≤◌, ◌<◌, ◌+◌, ◌++◌, ◌&&◌, ℕ, Bool, true, false, not, cond, List, [], ◌∷◌, length, Option, Some, None, is_some, if◌then◌else◌, nat_eq, nat_lt, refl, sym, ap, subst, ◌∙◌, arith, eqb-true, eq-eqb, ltb-true, All, Result, Ok, Err, OnOk, IsOk, is_err}
 use Rattle.std.specs.List.{AllByRecursion}
 use Rattle.std.specs.Map.{lookup}
 use Rattle.meta_pages.specs.Rows.{IsAbove, IsRising, with_row, without_row, kept_row, kept_rows, is_fresh, fresh, named, ones}
-use Rattle.std.proofs.Common.{All, Result, Ok, Err, OnOk, IsOk, is_err}
 use Rattle.std.proofs.lemmas.List.Elements.{All-nil, All-head, All-tail}
 use Rattle.ex_base.specs.declared.geometry.Geometry.{Geometry}
+use Rattle.ex_base.proofs.Lists.{lookup_off}
 use Rattle.meta_pages.specs.Overlays.{AreKept, IsPageRow, IsWorkingRow, over}
 use Rattle.meta_pages.proofs.RowLists.{lookup_other, lookup_gone, rising_with, rising_without, not_equal_above, none_above, All-with_row, All-without_row}
+use Rattle.std.proofs.lemmas.Bool.{both_ways}
 
 abbrev Row : Type 0
 Row = ℕ × Option (List ℕ)
@@ -171,21 +172,11 @@ room_here c0 c w0 ws rest page before now image b kept room is some =
     let was : ws ≡ rest ++ (page, Some b) ∷ [] = is ∙ ap (λ (o : Option (List ℕ)). rest ++ (page, o) ∷ []) some in
     room_for c rest page now b (subst (λ (l : List Row). named c l ≤ 256) was kept.named) (omega (arith, room, kept.capacity))
 
-pub if_no_error : {T E P : Type 0} (r : Result T E) → is_err r ≡ false → OnOk r P → P
-if_no_error (Ok x) no_error holds = holds
-if_no_error (Err e) no_error holds = absurd (cc)
-
 pub never : {T E : Type 0} (r : Result T E) → IsOk r → is_err r ≡ true → ⊥
 never (Ok x) ok err = cc
 never (Err e) ok err = cc
 
 -- ---- what each page's image is afterwards
-
-lookup_off : {V : Type 0} (row : ℕ × V) (rows : List (ℕ × V)) (p : ℕ) → row.0 ≢ p → lookup (nat_eq p) (row ∷ rows) ≡ lookup (nat_eq p) rows
-lookup_off row rows p differ = (elim (nat_eq p row.0) as (λ b. nat_eq p row.0 ≡ b → cond b (Some row.1) (lookup (nat_eq p) rows) ≡ lookup (nat_eq p) rows) [
-  | true ↦ λ t. absurd (differ (sym (eqb-true p row.0 t)))
-  | false ↦ λ t. refl
-]) refl
 
 lookup_put_here : (page : ℕ) (v : List ℕ) (rows : List (ℕ × List ℕ)) → lookup (nat_eq page) (with_row page v rows) ≡ Some v
 lookup_put_here page v [] = rw (eq-eqb page page refl) refl
@@ -224,11 +215,8 @@ pub kept_image : (c : List (ℕ × List ℕ)) (ws : List Row) (p : ℕ) → IsRi
 kept_image c [] p h = refl
 kept_image c (w ∷ ws) p h = (elim (nat_eq p w.0) as (λ b. nat_eq p w.0 ≡ b → lookup (nat_eq p) (kept_row w.0 w.1 (kept_rows c ws)) ≡ over (cond b (Some w.1) (lookup (nat_eq p) ws)) (lookup (nat_eq p) c)) [
   | true ↦ λ t. let same : w.0 ≡ p = sym (eqb-true p w.0 t) in ap (λ q. lookup (nat_eq q) (kept_row w.0 w.1 (kept_rows c ws))) (sym same) ∙ kept_here w.0 w.1 (kept_rows c ws) (rising_kept c ws h)
-  | false ↦ λ t. kept_other w.0 w.1 (kept_rows c ws) p (λ same. let e = eq-eqb p w.0 (sym same) in true_false e t) ∙ kept_image c ws p h
+  | false ↦ λ t. kept_other w.0 w.1 (kept_rows c ws) p (λ same. let e = eq-eqb p w.0 (sym same) in both_ways _ t e) ∙ kept_image c ws p h
 ]) refl
-  where
-    true_false : {x : Bool} → x ≡ true → x ≡ false → ⊥
-    true_false e t = cc
 
 -- a committed image that was put
 pub lookup_put : {T E : Type 0} (r : Result T E) (page : ℕ) (image : List ℕ) (rows now : List (ℕ × List ℕ)) → OnOk r (now ≡ with_row page image rows)

@@ -1,9 +1,9 @@
 -- Rows in rising order.
-use Rattle.std.proofs.Common.{◌≡◌, ◌≢◌, ◌≤◌, ◌<◌, ◌+◌, ℕ, zero, suc, Bool, true, false, cond, List, [], ◌∷◌, length, All, Option, Some, None, is_some, if◌then◌else◌, nat_eq, nat_lt, get_or, slice_set, refl, sym, ap, subst, ◌∙◌, arith, ltb-true, ltb-false, lt-ltb, le-ltb, eqb-true, eq-eqb}
+use Rattle.std.proofs.Common.{◌≡◌, ◌≢◌, ◌≤◌, ◌<◌, ◌+◌, ℕ, zero, suc, true, false, cond, List, [], ◌∷◌, length, All, Option, Some, None, is_some, if◌then◌else◌, nat_eq, nat_lt, get_or, slice_set, refl, sym, ap, subst, ◌∙◌, arith, ltb-true, ltb-false, lt-ltb, le-ltb, eqb-true, eq-eqb}
 use Rattle.std.proofs.Common.{⊎_elim}
 use Rattle.std.specs.List.{AllByRecursion, insert, remove}
 use Rattle.std.proofs.lemmas.List.Elements.{All-cons, All-head, All-tail}
-use Rattle.std.proofs.lemmas.Bool.{cases_lt}
+use Rattle.std.proofs.lemmas.Bool.{cases_lt, both_ways}
 use Rattle.std.specs.Map.{lookup}
 use Rattle.meta_pages.specs.Rows.{IsAbove, IsRising, place, with_row, without_row}
 
@@ -12,9 +12,6 @@ not_equal_above page k low differ = ⊎_elim (λ (lt : page < k). lt) (λ (ge : 
   where
     apart : page ≡ k → ⊥
     apart same = let h = eq-eqb page k same in cc
-
-true_false : {x : Bool} → x ≡ true → x ≡ false → ⊥
-true_false h t = cc
 
 module _ {V : Type 0} (page : ℕ) where
   above_at : (low : ℕ) (rows : List (ℕ × V)) (at : ℕ) (d : ℕ × V) → IsAbove low rows → at < length rows → low < (get_or rows at d).0
@@ -232,7 +229,7 @@ module _ {V : Type 0} (page : ℕ) where
   pub lookup-without_row : (rows : List (ℕ × V)) (p : ℕ) → IsRising rows → lookup (nat_eq p) (without_row page rows) ≡ (if nat_eq page p then None else lookup (nat_eq p) rows)
   lookup-without_row rows p h = (elim (nat_eq page p) as (λ b. nat_eq page p ≡ b → lookup (nat_eq p) (without_row page rows) ≡ (if b then None else lookup (nat_eq p) rows)) [
     | true ↦ λ t. subst (λ q. lookup (nat_eq q) (without_row page rows) ≡ None) (eqb-true page p t) (lookup_gone rows h)
-    | false ↦ λ t. lookup_other rows p (λ same. let e = eq-eqb page p same in true_false e t)
+    | false ↦ λ t. lookup_other rows p (λ same. let e = eq-eqb page p same in both_ways _ t e)
   ]) refl
 
   -- ---- what the code does at a place
@@ -296,3 +293,12 @@ above_all {V} low end (row ∷ rows) all =
 -- rows in rising order between two numbers are no more than there are numbers
 pub few_rising : {V : Type 0} (low end : ℕ) (rows : List (ℕ × V)) → low < end → IsRising rows → All (λ (row : ℕ × V). (suc low ≤ row.0) × (row.0 < end)) rows → suc low + length rows ≤ end
 few_rising low end rows h rising all = let both = above_all low end rows all in few_above low end rows h both.0 rising both.1
+
+-- a row more at most
+pub length-with_row : {V : Type 0} (page : ℕ) (v : V) (rows : List (ℕ × V)) → length (with_row page v rows) ≤ length rows + 1
+length-with_row page v [] = omega arith
+length-with_row {V} page v (row ∷ rows) =
+    elim (nat_lt row.0 page) as (λ b. length (cond b (row ∷ with_row page v rows) (cond (nat_eq page row.0) ((page, v) ∷ rows) ((page, v) ∷ row ∷ rows))) ≤ length (row ∷ rows) + 1) [
+      | true ↦ omega (arith, length-with_row page v rows)
+      | false ↦ elim (nat_eq page row.0) as (λ b. length (cond b ((page, v) ∷ rows) ((page, v) ∷ row ∷ rows)) ≤ length (row ∷ rows) + 1) [ true ↦ omega arith | false ↦ omega arith ]
+    ]

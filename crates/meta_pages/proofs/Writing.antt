@@ -1,60 +1,74 @@
 -- Writing images home.
-use Rattle.std.proofs.Common.{◌≡◌, ◌≤◌, ◌<◌, ◌+◌, ◌*◌, ℕ, Bool, true, false, cond, List, [], ◌∷◌, length, All, Option, Some, None, IsSome, nat_eq, refl, sym, ap, subst, ◌∙◌, eq-eqb, suc, get_or, drop, drop-cons, arith}
+use Rattle.std.proofs.Common.{◌≡◌, ◌≤◌, ◌<◌, ◌+◌, ◌*◌, ℕ, true, false, cond, List, [], ◌∷◌, length, All, Option, Some, None, IsSome, nat_eq, refl, sym, ap, subst, ◌∙◌, eq-eqb, suc, ◌++◌, get_or, take, drop, arith, ◌≢◌, unwrap_or, eqb-true, Result, Ok, Err, OnOk, OnErr}
+use Rattle.std.proofs.lemmas.List.{take_more, take-append-drop}
 use Rattle.std.specs.Map.{lookup}
-use Rattle.std.proofs.Common.{◌≢◌, unwrap_or, eqb-true}
 use Rattle.std.proofs.Math.Nat.{mul-le-mul_right, suc-mul}
-use Rattle.std.proofs.lemmas.List.Elements.{All-head, All-tail, All-weaker}
+use Rattle.std.proofs.lemmas.List.Elements.{All-head, All-tail, All-weaker, All-map, All-filter, All-contains}
 use Rattle.ex_base.specs.Bytes.{part, repl, Apart, part-repl, length-repl, repl_same_outside}
 use Rattle.ex_base.specs.Sizes.{volume_bytes}
 use Rattle.ex_base.specs.Area.{InPageArea}
-use Rattle.disk_model.specs.Outside.{IsWorld}
-use Rattle.disk_model.specs.Runs.{some_same}
+use Rattle.disk_model.specs.Outside.{IsWorld, Outside}
 use Rattle.buffer_groups.specs.Frames.{Frames, page_of, forgotten, without}
 use Rattle.buffer_groups.specs.Groups.{forgotten_in_all}
 use Rattle.std.specs.Prelude.{not}
-use Rattle.std.proofs.lemmas.List.Elements.{All-map, All-filter}
 use Rattle.buffer_groups.proofs.Kept.{part_apart, pages_apart}
-use Rattle.disk_model.specs.Outside.{Outside}
 use Rattle.disk_model.specs.Calls.{Tears}
 use Rattle.disk_model.specs.Changes.{ChangesWithin, InRange, changes_trans, changes_wider}
-use Rattle.std.proofs.Common.{Result, Ok, Err, OnOk, OnErr}
-use Rattle.std.proofs.lemmas.List.Elements.{All-contains}
+use Rattle.std.proofs.lemmas.Option.{same_Some}
 use Rattle.lru.proofs.CallerLemmas.{Contains-lookup}
 use Rattle.ex_base.specs.declared.geometry.Geometry.{Geometry}
 use Rattle.meta_pages.specs.Rows.{with_row, without_row, IsRising}
 use Rattle.meta_pages.specs.Overlays.{AreKept, IsPageRow, IsWorkingRow}
-use Rattle.meta_pages.proofs.RowLists.{few_rising, none_above, rising_with, rising_without, All-with_row, All-without_row}
-use Rattle.meta_pages.specs.Homes.{AreFrom, InHomes, homes_written}
+use Rattle.meta_pages.proofs.RowLists.{length-with_row, few_rising, none_above, rising_with, rising_without, All-with_row, All-without_row}
+use Rattle.meta_pages.specs.Homes.{AreFrom, InHomes, homes_written, homes_forgotten}
+use Rattle.std.proofs.lemmas.Bool.{both_ways}
+use Rattle.ex_base.proofs.Options.{some_apart}
 
 pub torn_page : (a b : Outside) (at size n : ℕ) → n ≡ size → Tears at n a b → Tears at size a b
 torn_page a b at size n same tears = subst (λ m. Tears at m a b) same tears
 
--- the first home
-pub home_first : (size : ℕ) (row : ℕ × List ℕ) (rows : List (ℕ × List ℕ)) (i : ℕ) → InRange (row.0 * size) size i → InHomes size (row ∷ rows) i
-home_first size row rows i in_it = (row.0, found, in_it)
-  where
-    found : IsSome (lookup (nat_eq row.0) (row ∷ rows))
-    found = rw (eq-eqb row.0 row.0 refl) refl
+-- ---- homes of the first rows
 
-home_later : (size : ℕ) (row : ℕ × List ℕ) (rows : List (ℕ × List ℕ)) (i : ℕ) → InHomes size rows i → InHomes size (row ∷ rows) i
-home_later size row rows i in_it = (in_it.0, found, in_it.2)
-  where
-    found : IsSome (lookup (nat_eq in_it.0) (row ∷ rows))
-    found = elim (nat_eq in_it.0 row.0) as (λ b. IsSome (cond b (Some row.1) (lookup (nat_eq in_it.0) rows))) [ true ↦ refl | false ↦ in_it.1 ]
+there_on : (page : ℕ) (xs ys : List (ℕ × List ℕ)) → IsSome (lookup (nat_eq page) xs) → IsSome (lookup (nat_eq page) (xs ++ ys))
+there_on page [] ys there = absurd (cc)
+there_on page (x ∷ xs) ys there =
+    (elim (nat_eq page x.0) as (λ b. IsSome (cond b (Some x.1) (lookup (nat_eq page) xs)) → IsSome (cond b (Some x.1) (lookup (nat_eq page) (xs ++ ys)))) [
+      | true ↦ λ _. refl
+      | false ↦ λ here. there_on page xs ys here
+    ]) there
 
-pub homes_first : {a b : Outside} (size : ℕ) (row : ℕ × List ℕ) (rows all : List (ℕ × List ℕ)) → all ≡ row ∷ rows
-    → ChangesWithin (InRange (row.0 * size) size) a b → ChangesWithin (InHomes size all) a b
-homes_first size row rows all is one = rw is (changes_wider (InRange (row.0 * size) size) (InHomes size (row ∷ rows)) one (home_first size row rows))
+there_last : (row : ℕ × List ℕ) (xs : List (ℕ × List ℕ)) → IsSome (lookup (nat_eq row.0) (xs ++ row ∷ []))
+there_last row [] = rw (eq-eqb row.0 row.0 refl) refl
+there_last row (x ∷ xs) = elim (nat_eq row.0 x.0) as (λ b. IsSome (cond b (Some x.1) (lookup (nat_eq row.0) (xs ++ row ∷ [])))) [ true ↦ refl | false ↦ there_last row xs ]
 
-pub homes_on : {a b c : Outside} (size : ℕ) (row : ℕ × List ℕ) (rows all : List (ℕ × List ℕ)) → all ≡ row ∷ rows
-    → ChangesWithin (InRange (row.0 * size) size) a b → ChangesWithin (InHomes size rows) b c → ChangesWithin (InHomes size all) a c
-homes_on size row rows all is one two =
-    changes_trans (homes_first size row rows all is one) (rw is (changes_wider (InHomes size rows) (InHomes size (row ∷ rows)) two (home_later size row rows)))
+homes_wider : {a b : Outside} (size : ℕ) (xs ys all : List (ℕ × List ℕ)) → xs ++ ys ≡ all → ChangesWithin (InHomes size xs) a b → ChangesWithin (InHomes size all) a b
+homes_wider {a} {b} size xs ys all is changes =
+    subst (λ (l : List (ℕ × List ℕ)). ChangesWithin (InHomes size l) a b) is
+    (changes_wider (InHomes size xs) (InHomes size (xs ++ ys)) changes (λ i at. (at.0, there_on at.0 xs ys at.1, at.2)))
 
-pub rows_on : (rows : List (ℕ × List ℕ)) (at : ℕ) (row : ℕ × List ℕ) → at < length rows → row ≡ get_or rows at row → drop at rows ≡ row ∷ drop (at + 1) rows
-rows_on rows at row h is =
-    let on : at + 1 ≡ suc at = omega arith in
-    drop-cons rows at row h ∙ ap (λ (r : ℕ × List ℕ). r ∷ drop (suc at) rows) (sym is) ∙ ap (λ n. row ∷ drop n rows) (sym on)
+-- one home more
+module _ (rows : List (ℕ × List ℕ)) (at : ℕ) (row : ℕ × List ℕ) (within : at < length rows) (row_is : row ≡ get_or rows at row) where
+  pub more_is : take (at + 1) rows ≡ take at rows ++ row ∷ []
+  more_is = take_more rows at row within ∙ ap (λ (r : ℕ × List ℕ). take at rows ++ r ∷ []) (sym row_is)
+
+  pub homes_next : {a b c : Outside} (size : ℕ) → ChangesWithin (InHomes size (take at rows)) a b → ChangesWithin (InRange (row.0 * size) size) b c
+      → ChangesWithin (InHomes size (take (at + 1) rows)) a c
+  homes_next {a} {b} {c} size one two =
+      subst (λ (l : List (ℕ × List ℕ)). ChangesWithin (InHomes size l) a c) (sym more_is)
+      (changes_trans (homes_wider size (take at rows) (row ∷ []) (take at rows ++ row ∷ []) refl one)
+      (changes_wider (InRange (row.0 * size) size) (InHomes size (take at rows ++ row ∷ [])) two (λ i in_it. (row.0, there_last row (take at rows), in_it))))
+
+-- Homes of the first rows are homes of all.
+pub homes_all : {a b : Outside} (size n : ℕ) (rows : List (ℕ × List ℕ)) → ChangesWithin (InHomes size (take n rows)) a b → ChangesWithin (InHomes size rows) a b
+homes_all size n rows changes = homes_wider size (take n rows) (drop n rows) rows (take-append-drop n rows) changes
+
+pub written_push : (size : ℕ) (xs : List (ℕ × List ℕ)) (row : ℕ × List ℕ) (d : List ℕ) → homes_written size (xs ++ row ∷ []) d ≡ repl (homes_written size xs d) (row.0 * size) row.1
+written_push size [] row d = refl
+written_push size (x ∷ xs) row d = written_push size xs row (repl d (x.0 * size) x.1)
+
+pub forgotten_push : (xs : List (ℕ × List ℕ)) (row : ℕ × List ℕ) (groups : List Frames) → homes_forgotten (xs ++ row ∷ []) groups ≡ forgotten_in_all row.0 (homes_forgotten xs groups)
+forgotten_push [] row groups = refl
+forgotten_push (x ∷ xs) row groups = forgotten_push xs row (forgotten_in_all x.0 groups)
 
 pub page_row_len : (g : Geometry) (page : ℕ) (rows r : List (ℕ × List ℕ)) (b s : List ℕ) (n : ℕ) → r ≡ rows → All (IsPageRow g) rows → Some b ≡ lookup (nat_eq page) r → s ≡ b → g.page_size ≡ n → length s ≡ n
 page_row_len g page rows r b s n same all found is size =
@@ -95,6 +109,12 @@ working_put (Ok x) g page cap b rows working now kept here ok err = rw ok (recor
 })
 working_put (Err x) g page cap b rows working now kept here ok err = rw err kept
 
+-- a page more is touched at most
+pub put_touches : {T E : Type 0} (r : Result T E) (page : ℕ) (b : Option (List ℕ)) (working now : List (ℕ × Option (List ℕ))) (n : ℕ) → length working ≡ n
+    → OnOk r (now ≡ with_row page b working) → OnErr r (now ≡ working) → length now ≤ n + 1
+put_touches (Ok x) page b working now n was ok err = omega (arith, was, ap length ok, length-with_row page b working)
+put_touches (Err x) page b working now n was ok err = omega (arith, was, ap length err)
+
 pub kept_taken : (g : Geometry) (page cap cap' : ℕ) (rows now : List (ℕ × List ℕ)) (working : List (ℕ × Option (List ℕ))) → AreKept g rows working cap
     → now ≡ without_row page rows → cap ≤ cap' → AreKept g now working cap'
 kept_taken g page cap cap' rows now working kept is more = rw is (record {
@@ -126,15 +146,9 @@ home_stays size (row ∷ rows) d p inside none =
     let long = length-repl d (row.0 * size) row.1 (omega (arith, first)) in
     let next : AreInside size (length (repl d (row.0 * size) row.1)) rows = subst (λ n. AreInside size n rows) (sym long) rest in
     (elim (nat_eq p row.0) as (λ b. nat_eq p row.0 ≡ b → cond b (Some row.1) (lookup (nat_eq p) rows) ≡ None → page_of (homes_written size rows (repl d (row.0 * size) row.1)) size p ≡ page_of d size p) [
-      | true ↦ λ t gone. absurd (some_none gone)
-      | false ↦ λ t gone. home_stays size rows (repl d (row.0 * size) row.1) p next gone ∙ home_step size row d p first (λ same. let e = eq-eqb p row.0 same in true_false e t)
+      | true ↦ λ t gone. absurd (some_apart _ gone)
+      | false ↦ λ t gone. home_stays size rows (repl d (row.0 * size) row.1) p next gone ∙ home_step size row d p first (λ same. let e = eq-eqb p row.0 same in both_ways _ t e)
     ]) refl none
-  where
-    some_none : {x : List ℕ} → Some x ≡ None → ⊥
-    some_none e = cc
-
-    true_false : {x : Bool} → x ≡ true → x ≡ false → ⊥
-    true_false e t = cc
 
 home_is : (size : ℕ) (rows : List (ℕ × List ℕ)) (d : List ℕ) (p : ℕ) (image : List ℕ) → IsRising rows → AreInside size (length d) rows → lookup (nat_eq p) rows ≡ Some image → page_of (homes_written size rows d) size p ≡ image
 home_is size [] d p image rising inside found = absurd (cc)
@@ -172,7 +186,7 @@ pub homes_read : (a b : Outside) (g : Geometry) (rows : List (ℕ × List ℕ)) 
     → (d e : List ℕ) → a.disk ≡ Some d → b.disk ≡ Some e → (p : ℕ) → page_of e g.page_size p ≡ unwrap_or (lookup (nat_eq p) rows) (page_of d g.page_size p)
 homes_read a b g rows world rising all fits written d e was is p =
     let long : length d ≡ a.size = world.whole d (world.held_may_stay d was) in
-    let same : e ≡ homes_written g.page_size rows d = some_same e (homes_written g.page_size rows d) (sym is ∙ written d was) in
+    let same : e ≡ homes_written g.page_size rows d = same_Some e (homes_written g.page_size rows d) (sym is ∙ written d was) in
     ap (λ l. page_of l g.page_size p) same ∙ home_reads g.page_size rows d p (lookup (nat_eq p) rows) rising (subst (λ n. AreInside g.page_size n rows) (sym long) (rows_inside g a.size rows all fits)) refl
 
 -- there are no more touched pages than pages of the page area

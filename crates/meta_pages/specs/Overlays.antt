@@ -27,6 +27,10 @@ committed_image o page = lookup (nat_eq page) o.committed
 abbrev pub image_at : Overlays → ℕ → Option (List ℕ)
 image_at o page = over (lookup (nat_eq page) o.working) (committed_image o page)
 
+-- how many pages the open transaction touched
+abbrev pub touched : Overlays → ℕ
+touched o = length o.working
+
 -- each image is one page of the page area
 abbrev pub IsPageRow : Geometry → ℕ × List ℕ → Type 0
 IsPageRow g row = InPageArea g row.0 × (length row.1 ≡ g.page_size)

@@ -1,43 +1,43 @@
 //! Writing images home.
-ghost use Rattle.std.specs.Prelude.{◌≡◌, ◌≤◌, ◌+◌, ◌*◌, ℕ, List, length, drop, All, OnOk, OnErr, Some, IsTrue};
+ghost use Rattle.std.specs.Prelude.{◌≡◌, ◌≤◌, ◌+◌, ◌*◌, ℕ, List, length, All, OnOk, OnErr, Some, IsTrue};
 ghost use Rattle.disk_model.specs.Outside.{Outside, Rose};
+ghost use Rattle.disk_model.specs.Calls.{MakesCalls, MakesAtMost};
 ghost use Rattle.disk_model.specs.Changes.{ChangesWithin, InRange};
 ghost use Rattle.ex_base.specs.Bytes.{repl};
-ghost use Rattle.buffer_groups.specs.Groups.{forgotten_in_all};
-ghost use Rattle.buffer_groups.specs.Frames.{Frames, Lends};
+ghost use Rattle.buffer_groups.specs.Groups.{AreOfSize, forgotten_in_all};
+ghost use Rattle.buffer_groups.specs.Frames.{Lends};
 ghost use Rattle.meta_pages.specs.Homes.{AreFrom, InHomes, homes_written, homes_forgotten};
 
 use buffer_groups::Groups;
 use disk_model::{Disk, Failed};
 use ex_base::{Image, PageNo};
 
-// Writes each image from a row on to the home of its page, which every group forgets first.
+// Writes each image to the home of its page, which every group forgets first.
 pub fn write_rows<D: Disk>(
     disk: &mut D,
     groups: &mut Groups,
     rows: &[(u32, Image)],
-    at: usize,
     size: u32,
 ) -> Result<(), Failed>
-    requires within { at ≤ length rows.now }
     requires fits { All (λ (row : ℕ × List ℕ). (row.0 * size + size ≤ (D.outside disk.old).size) × (length row.1 ≡ size)) rows.now }
-    requires sizes { All (λ (f : Frames). f.page_size ≡ size) groups.old }
-    ensures written { OnOk result ((d : List ℕ) → (D.outside disk.old).disk ≡ Some d → (D.outside disk.new).disk ≡ Some (homes_written size (drop at rows.now) d)) }
-    ensures forgotten { OnOk result (groups.new ≡ homes_forgotten (drop at rows.now) groups.old) }
-    ensures lends { IsTrue (D.outside disk.old).honest → All (Lends (D.outside disk.old).disk) groups.old → All (Lends (D.outside disk.new).disk) groups.new }
+    requires sizes { AreOfSize size groups.old }
+    ensures at_most { MakesAtMost (length rows.now) (D.outside disk.old) (D.outside disk.new) }
+    ensures calls { OnOk result (MakesCalls (length rows.now) (D.outside disk.old) (D.outside disk.new)) }
+    ensures written { OnOk result ((d : List ℕ) → (D.outside disk.old).disk ≡ Some d
+        → (D.outside disk.new).disk ≡ Some (homes_written size rows.now d)) }
+    ensures forgotten { OnOk result (groups.new ≡ homes_forgotten rows.now groups.old) }
+    ensures lends { IsTrue (D.outside disk.old).honest
+        → All (Lends (D.outside disk.old).disk) groups.old → All (Lends (D.outside disk.new).disk) groups.new }
     ensures len { length groups.new ≡ length groups.old }
-    ensures sizes { All (λ (f : Frames). f.page_size ≡ size) groups.new }
+    ensures sizes { AreOfSize size groups.new }
     ensures from { (low : ℕ) → AreFrom low groups.old → AreFrom low groups.new }
-    ensures changes { ChangesWithin (InHomes size (drop at rows.now)) (D.outside disk.old) (D.outside disk.new) }
+    ensures changes { ChangesWithin (InHomes size rows.now) (D.outside disk.old) (D.outside disk.new) }
     ensures cause { OnErr result (Rose (D.outside disk.old).disk_faults (D.outside disk.new).disk_faults) }
 {
-    if at < rows.len() {
-        let row = &rows[at];
+    for row in rows {
         write_page(disk, groups, PageNo(row.0), row.1.as_slice(), size)?;
-        write_rows(disk, groups, rows, at + 1, size)
-    } else {
-        Ok(())
     }
+    Ok(())
 }
 
 // Writes one image home.
@@ -50,15 +50,19 @@ fn write_page<D: Disk>(
 ) -> Result<(), Failed>
     requires fits { page.0 * size + size ≤ (D.outside disk.old).size }
     requires whole { length bytes.now ≡ size }
-    requires sizes { All (λ (f : Frames). f.page_size ≡ size) groups.old }
-    ensures written { OnOk result ((d : List ℕ) → (D.outside disk.old).disk ≡ Some d → (D.outside disk.new).disk ≡ Some (repl d (page.0 * size) bytes.now)) }
+    requires sizes { AreOfSize size groups.old }
+    ensures at_most_once { MakesAtMost 1 (D.outside disk.old) (D.outside disk.new) }
+    ensures once { OnOk result (MakesCalls 1 (D.outside disk.old) (D.outside disk.new)) }
+    ensures written { OnOk result ((d : List ℕ) → (D.outside disk.old).disk ≡ Some d
+        → (D.outside disk.new).disk ≡ Some (repl d (page.0 * size) bytes.now)) }
     ensures forgotten { groups.new ≡ forgotten_in_all page.0 groups.old }
     ensures len { length groups.new ≡ length groups.old }
-    ensures sizes { All (λ (f : Frames). f.page_size ≡ size) groups.new }
+    ensures sizes { AreOfSize size groups.new }
     ensures from { (low : ℕ) → AreFrom low groups.old → AreFrom low groups.new }
     ensures size { (D.outside disk.new).size ≡ (D.outside disk.old).size }
     ensures honest { (D.outside disk.new).honest ≡ (D.outside disk.old).honest }
-    ensures lends { IsTrue (D.outside disk.old).honest → All (Lends (D.outside disk.old).disk) groups.old → All (Lends (D.outside disk.new).disk) groups.new }
+    ensures lends { IsTrue (D.outside disk.old).honest
+        → All (Lends (D.outside disk.old).disk) groups.old → All (Lends (D.outside disk.new).disk) groups.new }
     ensures changes { ChangesWithin (InRange (page.0 * size) size) (D.outside disk.old) (D.outside disk.new) }
     ensures cause { OnErr result (Rose (D.outside disk.old).disk_faults (D.outside disk.new).disk_faults) }
 {

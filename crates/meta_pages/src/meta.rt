@@ -5,6 +5,7 @@ ghost use Rattle.std.specs.Map.{lookup};
 ghost use Rattle.ex_base.specs.Area.{InPageArea, catalog_no};
 ghost use Rattle.ex_base.specs.Sizes.{volume_bytes};
 ghost use Rattle.disk_model.specs.Outside.{Outside, ReadsOnly, Rose};
+ghost use Rattle.disk_model.specs.Calls.{MakesCalls, MakesAtMost};
 ghost use Rattle.disk_model.specs.Changes.{ChangesWithin};
 ghost use Rattle.buffer_groups.specs.Frames.{Frames, Brought, NotBrought, KeepsLending, Lends, page_of};
 ghost use Rattle.buffer_groups.specs.Lending.{GroupRests};
@@ -48,7 +49,7 @@ impl Model for Meta {
 }
 
 impl Meta {
-    ghost use Rattle.meta_pages.specs.Overlays.{Overlays, AreRows, image_at, committed_image, images_most};
+    ghost use Rattle.meta_pages.specs.Overlays.{Overlays, AreRows, image_at, committed_image, images_most, touched};
     ghost use Rattle.meta_pages.specs.Rows.{with_row, kept_rows, named, IsRising};
     ghost use Rattle.meta_pages.specs.Homes.{AreFrom, InHomes, homes_written, homes_forgotten};
 
@@ -98,6 +99,7 @@ impl Meta {
         requires area { InPageArea self.old.geometry page.0 }
         requires whole { length image.now ≡ self.old.geometry.page_size }
         ensures ok { OnOk result (self.new ≡ record self.old { working = with_row page.0 (Some image.now) self.old.working }) }
+        ensures touches { touched self.new ≤ touched self.old + 1 }
         ensures err { OnErr result (self.new ≡ self.old) }
     {
         let image = Image::of(alloc, image)?;
@@ -108,6 +110,7 @@ impl Meta {
     pub fn gone(&mut self, page: PageNo) -> Result<(), AllocError>
         requires area { InPageArea self.old.geometry page.0 }
         ensures ok { OnOk result (self.new ≡ record self.old { working = with_row page.0 None self.old.working }) }
+        ensures touches { touched self.new ≤ touched self.old + 1 }
         ensures err { OnErr result (self.new ≡ self.old) }
     {
         self.put_working(page, None)
@@ -117,6 +120,7 @@ impl Meta {
         requires area { InPageArea self.old.geometry page.0 }
         requires whole { IfSome image (λ (b : List ℕ). length b ≡ self.old.geometry.page_size) }
         ensures ok { OnOk result (self.new ≡ record self.old { working = with_row page.0 image self.old.working }) }
+        ensures touches { touched self.new ≤ touched self.old + 1 }
         ensures err { OnErr result (self.new ≡ self.old) }
     {
         put_row(&mut self.working, page.0, image)
@@ -124,7 +128,7 @@ impl Meta {
 
     /// How many pages the transaction touched.
     pub fn touched(&self) -> u32
-        ensures value { result ≡ length self.now.working }
+        ensures value { result ≡ touched self.now }
         ensures rows { AreRows self.now }
     {
         self.working.len() as u32
@@ -215,44 +219,14 @@ impl Meta {
         }
     }
 
-    /// Lends a page as the last commit left it, whatever the working images are: its committed image, else the disk's page, through the group.
-    pub fn committed<'a, D: Disk>(
-        group: &'a mut Group,
-        meta: &'a Meta,
-        alloc: Global,
-        disk: &mut D,
-        page: PageNo,
-    ) -> Result<&'a [u8], FetchFault>
-        requires range { (page.0 + 1) * group.old.page_size ≤ (D.outside disk.old).size }
-        requires sizes { group.old.page_size ≡ meta.now.geometry.page_size }
-        ensures* after { sem 𝓛 (GroupRests group.entry (λ new. KeepsLending (D.outside disk.old).disk group.old new
-            × MatchOption (committed_image meta.now page.0)
-            (MatchResult result (λ s. Brought (D.outside disk.old).disk group.old new page.0 s.now) (λ _. NotBrought group.old new page.0))
-            (λ _. new ≡ group.old))) }
-        ensures logged { IfOk result (λ s. (b : List ℕ) → committed_image meta.now page.0 ≡ Some b → s.now ≡ b) }
-        ensures home { IfOk result (λ s. committed_image meta.now page.0 ≡ None → Lends (D.outside disk.old).disk group.old
-            → (held : List ℕ) → (D.outside disk.old).disk ≡ Some held → s.now ≡ page_of held group.old.page_size page.0) }
-        ensures len { IfOk result (λ s. length s.now ≡ group.old.page_size) }
-        ensures no_fault { IsSome (committed_image meta.now page.0) → IsOk result }
-        ensures hit { IsSome (committed_image meta.now page.0) → disk.new ≡ disk.old }
-        ensures only { ReadsOnly (D.outside disk.old) (D.outside disk.new) }
-        ensures cause { HasFetchCause (D.outside disk.old).disk_faults (D.outside disk.new).disk_faults result }
-    {
-        match meta.committed_at(page) {
-            Some(image) => Ok(image),
-            None => {
-                group.bring(alloc, disk, page)?;
-                Ok(group.frame(page))
-            }
-        }
-    }
-
-    /// Writes each committed image to the home of its page, in rising order, and syncs; then no page has a committed image. Every group forgets
+    /// Writes each committed image to the home of its page, in rising order, and syncs once; then no page has a committed image. Every group forgets
     /// these pages. It takes no memory. A crash meanwhile leaves any bytes at these homes and changes none elsewhere. After a fault, which comes
     /// only where the disk's count of faults rose, the images stay.
     pub fn write_home<D: Disk>(&mut self, disk: &mut D, groups: &mut Groups) -> Result<(), Failed>
         requires room { volume_bytes self.old.geometry ≤ (D.outside disk.old).size }
         requires sizes { All (λ (f : Frames). f.page_size ≡ self.old.geometry.page_size) groups.old }
+        ensures at_most { MakesAtMost (length self.old.committed + 1) (D.outside disk.old) (D.outside disk.new) }
+        ensures calls { OnOk result (MakesCalls (length self.old.committed + 1) (D.outside disk.old) (D.outside disk.new)) }
         ensures rows { AreRows self.old }
         ensures emptied { OnOk result (self.new ≡ record self.old { committed = [] }) }
         ensures err { OnErr result (self.new ≡ self.old) }
@@ -260,9 +234,11 @@ impl Meta {
             → (D.outside disk.new).disk ≡ Some (homes_written self.old.geometry.page_size self.old.committed d)) }
         ensures homes { OnOk result ((d e : List ℕ) → (D.outside disk.old).disk ≡ Some d → (D.outside disk.new).disk ≡ Some e
             → (p : ℕ) → page_of e self.old.geometry.page_size p ≡ unwrap_or (committed_image self.old p) (page_of d self.old.geometry.page_size p)) }
-        ensures settled { OnOk result (IsTrue (D.outside disk.old).honest → (d e : List ℕ) → (D.outside disk.new).disk ≡ Some d → (D.outside disk.new).images e → e ≡ d) }
+        ensures settled { OnOk result (IsTrue (D.outside disk.old).honest → (d e : List ℕ)
+            → (D.outside disk.new).disk ≡ Some d → (D.outside disk.new).images e → e ≡ d) }
         ensures forgotten { OnOk result (groups.new ≡ homes_forgotten self.old.committed groups.old) }
-        ensures lends { IsTrue (D.outside disk.old).honest → All (Lends (D.outside disk.old).disk) groups.old → All (Lends (D.outside disk.new).disk) groups.new }
+        ensures lends { IsTrue (D.outside disk.old).honest
+            → All (Lends (D.outside disk.old).disk) groups.old → All (Lends (D.outside disk.new).disk) groups.new }
         ensures len { length groups.new ≡ length groups.old }
         ensures sizes { All (λ (f : Frames). f.page_size ≡ self.old.geometry.page_size) groups.new }
         ensures from { (low : ℕ) → AreFrom low groups.old → AreFrom low groups.new }
@@ -270,7 +246,7 @@ impl Meta {
         ensures cause { OnErr result (Rose (D.outside disk.old).disk_faults (D.outside disk.new).disk_faults) }
     {
         let size = self.geometry.page_size;
-        write_rows(disk, groups, &self.committed, 0, size)?;
+        write_rows(disk, groups, &self.committed, size)?;
         disk.sync()?;
         self.committed.clear();
         Ok(())

@@ -6,10 +6,10 @@ use Rattle.ex_base.specs.declared.geometry.Geometry.{Geometry}
 use Rattle.ex_base.specs.Sizes.{leaf_bytes, least_page}
 use Rattle.count_nodes.specs.declared.Pair.{Pair}
 use Rattle.count_nodes.specs.Node.{pairs_on}
-use Rattle.tree_model.specs.Shape.{IsHalfFull, IsRoot}
-use Rattle.tree_model.specs.Trees.{Units, IsNamed, HasSize, EachChild, for_each_child, shape_on}
-use Rattle.tree_rows.specs.declared.rows.Part.{Part}
-use Rattle.tree_rows.specs.Rows.{parts_of}
+use Rattle.trees.specs.Shape.{IsHalfFull, IsRoot}
+use Rattle.trees.specs.Trees.{Units, IsNamed, HasSize, EachChild, for_each_child, shape_on}
+use Rattle.trees.specs.declared.rows.Part.{Part}
+use Rattle.trees.specs.Rows.{parts_of}
 use Rattle.node_walk.specs.declared.least.Least.{Least}
 use Rattle.node_walk.specs.Walk.{IsFull, below_least}
 

@@ -1,5 +1,5 @@
 -- Results that are handed on, and sets of units with one more.
-use Rattle.std.proofs.Common.{◌≡◌, ◌⊎◌, ◌≤◌, true≢false, ℕ, Bool, true, false, Result, Ok, Err, IfOk, arith, sym, ap, ◌∙◌, nat_eq, nat_le, inl, inr}
+use Rattle.std.proofs.Common.{◌≡◌, ◌⊎◌, ◌≤◌, true≢false, ℕ, Bool, true, false, Result, Ok, Err, arith, sym, ap, ◌∙◌, nat_eq, nat_le, inl, inr}
 use Rattle.std.proofs.lemmas.Bool.Decides.{nat_tests}
 use Rattle.std.specs.Result.{IsErrAnd}
 use Rattle.ex_base.specs.Faults.{Rose}
@@ -18,10 +18,6 @@ handed (Err x) e f is same = sym is ∙ (let s : x ≡ f = cc in s)
 
 pub handed_err : {X Y E : Type 0} (r : Result X E) (e f : E) → IsErrAnd r (λ x. x ≡ e) → r ≡ Err f → ◌≡◌ {A = Result Y E} (Err e) (Err f)
 handed_err r e f is same = ap Err (handed r e f is same)
-
-pub if_ok_on : {X E : Type 0} (r : Result X E) (P Q : X → Type 0) → ((x : X) → P x → Q x) → IfOk r P → IfOk r Q
-if_ok_on (Ok x) P Q f h = f x h
-if_ok_on (Err e) P Q f h = tt
 
 pub rose_since : (before mid now : ℕ) → before ≤ mid → Rose mid now → Rose before now
 rose_since before mid now le rose = omega arith

@@ -5,16 +5,17 @@ use Rattle.std.specs.List.{flat_map, AllByRecursion}
 use Rattle.ex_base.specs.declared.geometry.Geometry.{Geometry}
 use Rattle.ex_base.specs.Area.{InPageArea, NamesLeaf}
 use Rattle.ex_base.specs.Sizes.{most_page}
+use Rattle.ex_base.proofs.Members.{contains_later, contains_none}
 use Rattle.count_nodes.specs.declared.Pair.{Pair}
 use Rattle.count_nodes.specs.Node.{PairsOf, pairs_on}
 use Rattle.count_nodes.proofs.NodeLaws.{spelled_reads}
-use Rattle.tree_model.specs.Trees.{Units, IsNamed, units_on}
-use Rattle.tree_rows.specs.declared.rows.Part.{Part}
-use Rattle.tree_rows.specs.Rows.{parts_of, row_units}
+use Rattle.trees.specs.Trees.{Units, IsNamed, units_on}
+use Rattle.trees.specs.declared.rows.Part.{Part}
+use Rattle.trees.specs.Rows.{parts_of, row_units}
 use Rattle.node_walk.specs.declared.nodes.Met.{Met}
 use Rattle.node_walk.specs.TreesNamed.{ShowsPages}
 use Rattle.node_walk.specs.Walk.{IsAt, IsNodeOn, level_below, row_at}
-use Rattle.node_walk.proofs.Lists.{in_none, in_first, in_rest}
+use Rattle.node_walk.proofs.Lists.{in_first}
 
 pub narrow : (g : Geometry) → g.fan ≤ 340
 narrow g = omega (arith, g.narrow, most_page g)
@@ -56,8 +57,8 @@ root_inside u (suc l) page = in_first page _
 
 -- the units of the trees below a unit are units of its tree
 pub below_inside : (u : Units) (l page p : ℕ) → Contains (row_units u (level_below l) (row_at u l page)) p → Contains (units_on u l page) p
-below_inside u zero page p h = absurd (in_none p h)
-below_inside u (suc l) page p h = in_rest page _ p (subst (λ xs. Contains xs p) (units_of_parts u l 0 _) h)
+below_inside u zero page p h = absurd (contains_none p h)
+below_inside u (suc l) page p h = contains_later page p _ (subst (λ xs. Contains xs p) (units_of_parts u l 0 _) h)
 
 pub named_below : (g : Geometry) (u : Units) (l page : ℕ) → IsNamed g u l page → AllByRecursion (λ (part : Part). IsNamed g u (level_below l) part.page.0) (row_at u l page)
 named_below g u zero page named = tt

@@ -5,9 +5,10 @@ use Rattle.ex_base.specs.declared.geometry.Geometry.{Geometry}
 use Rattle.ex_base.specs.declared.ground.Ground as ground
 use Rattle.ex_base.specs.Ports.{Keeps}
 use Rattle.page_alloc.specs.UnitSet.{UnitSet, used_at}
-use Rattle.tree_model.specs.Trees.{Units}
-use Rattle.tree_rows.specs.declared.rows.Part.{Part}
-use Rattle.tree_rows.proofs.Reading.{keeps_on, no_part}
+use Rattle.trees.specs.Trees.{Units}
+use Rattle.trees.specs.declared.rows.Part.{Part}
+use Rattle.ex_base.proofs.Keeping.{keeps_refl, keeps_on}
+use Rattle.trees.proofs.Reading.{no_part}
 use Rattle.node_walk.specs.TreesNamed.{ShowsPages}
 use Rattle.node_walk.specs.Walk.{Notes, AreNoted, Walked, CanWalk, OnlyUses, level_below, below_least}
 use Rattle.node_walk.proofs.Levels.{minus_one}
@@ -20,9 +21,6 @@ pub uses_on : (a b c : UnitSet) → OnlyUses a b → OnlyUses b c → OnlyUses a
 uses_on a b c x y = record { geometry = y.geometry ∙ x.geometry; refs = y.refs ∙ x.refs }
 
 module _ {S : Type 0} (p : ground.Ghosts S) where
-  pub keeps_same : (a : S) → Keeps p a a
-  keeps_same a = record { units = refl; images = refl; used = refl; refs = refl; held = refl; free = refl; leads = p.leads_refl a }
-
   -- pages that are shown are shown later on
   pub shows_on : (geo : Geometry) (bytes : Units) (a b : S) → Keeps p a b → ShowsPages geo (p.image a) bytes → ShowsPages geo (p.image b) bytes
   shows_on geo bytes a b k shows = subst (λ images. ShowsPages geo images bytes) (sym k.images) shows
@@ -35,7 +33,7 @@ module _ {S : Type 0} (p : ground.Ghosts S) where
 
   pub walk_start : (geo : Geometry) (old : S) (before : UnitSet) (known : Notes) (level : ℕ) (row : List Part) → WalkSoFar geo old old before before known known level row 0 true
   walk_start geo old before known level row = record {
-    kept = keeps_same old;
+    kept = keeps_refl p old;
     uses = uses_same before;
     walked = λ told bytes shows notes. walked_none geo bytes (level_below level) (below_least geo) (used_at before) known notes;
   }

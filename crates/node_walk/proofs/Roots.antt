@@ -1,7 +1,8 @@
 -- The tree of a root, and of one root after the other.
-use Rattle.std.proofs.Common.{◌≡◌, ◌⊎◌, ◌↔◌, ◌≤◌, ◌<◌, ◌+◌, ℕ, zero, suc, Bool, true, false, List, [], ◌∷◌, length, map, drop, get_or, Some, None, inl, inr, arith, refl, sym, ap, subst, ◌∙◌, true≢false, add-one}
+use Rattle.std.proofs.Common.{◌≡◌, ◌⊎◌, ◌↔◌, ◌≤◌, ◌<◌, ◌+◌, ℕ, zero, suc, Bool, true, false, List, [], ◌∷◌, length, map, drop, get_or, Some, None, inl, inr, arith, refl, sym, ap, subst, ◌∙◌, true≢false}
 use Rattle.std.proofs.lemmas.Bool.{cases_Bool}
 use Rattle.std.proofs.lemmas.List.Elements.{Contains-append_left, Contains-append_right, Contains-append_cases}
+use Rattle.std.proofs.lemmas.List.{drop_all, drop_more}
 use Rattle.std.specs.Prelude.{Contains}
 use Rattle.std.specs.List.{flat_map, AllByRecursion}
 use Rattle.ex_base.specs.declared.geometry.Geometry.{Geometry}
@@ -11,15 +12,16 @@ use Rattle.ex_base.specs.Sizes.{leaf_bytes, object_most}
 use Rattle.ex_base.specs.declared.ground.Ground as ground
 use Rattle.ex_base.specs.Ports.{Keeps}
 use Rattle.page_alloc.specs.UnitSet.{UnitSet, used_at}
-use Rattle.tree_model.specs.Shape.{IsBalanced}
-use Rattle.tree_model.specs.Trees.{Units, IsNamed, RootNamed, RootSized, root_shape_at, root_units, root_units_at, units_on}
-use Rattle.tree_rows.specs.declared.rows.Part.{Part}
-use Rattle.tree_rows.proofs.Reading.{keeps_on}
+use Rattle.trees.specs.Shape.{IsBalanced}
+use Rattle.trees.specs.Trees.{Units, IsNamed, RootNamed, RootSized, root_shape_at, root_units, root_units_at, units_on}
+use Rattle.trees.specs.declared.rows.Part.{Part}
+use Rattle.ex_base.proofs.Keeping.{keeps_refl, keeps_on}
+use Rattle.ex_base.proofs.Members.{contains_none}
+use Rattle.ex_base.proofs.Each.{each_as, each_from, each_of}
 use Rattle.volume_model.specs.Parts.{Apart, HasBalance}
 use Rattle.node_walk.specs.TreesNamed.{ShowsPages, AreFree, AreNamed, AreBalanced, UsesTrees}
 use Rattle.node_walk.specs.Walk.{IsFull, OnlyUses}
-use Rattle.node_walk.proofs.Lists.{in_none, each_of, each_from, each_to}
-use Rattle.node_walk.proofs.Loops.{uses_same, uses_on, keeps_same, shows_on}
+use Rattle.node_walk.proofs.Loops.{uses_same, uses_on, shows_on}
 use Rattle.node_walk.proofs.Balance.{root_least, full_root, root_full}
 
 abbrev pub tree_of : Root → PageNo → Part
@@ -64,7 +66,7 @@ module _ (g : Geometry) (u : Units) (used after : ℕ → Bool) (root : Root) wh
   pub named_more : (rest : List Root) → RootNamed g u root.height root.page → AreFree used (root_units u root) → Taken → AreNamed g u after rest → AreNamed g u used (root ∷ rest)
   named_more rest named free taken h = record {
     named = (named, h.named);
-    apart = (free, each_to _ _ rest (λ (r : Root) fine. each_to (λ p. after p ≡ false) (λ p. used p ≡ false) (root_units u r) free_before fine) h.apart);
+    apart = (free, each_as _ _ rest (λ (r : Root) fine. each_as (λ p. after p ≡ false) (λ p. used p ≡ false) (root_units u r) free_before fine) h.apart);
     one = (apart_all rest h.apart, h.one);
   }
     where
@@ -96,7 +98,7 @@ module _ (g : Geometry) (u : Units) (used after : ℕ → Bool) (root : Root) wh
           | inl was ↦ absurd (true≢false (sym was ∙ each_of (λ q. used q ≡ false) (root_units u r) p fine theirs))
           | inr inside ↦ elim (Contains-append_cases (root_units u root) [] p inside) [
             | inl mine ↦ absurd (each_of (λ q. ¬ Contains (root_units u r) q) (root_units u root) p apart mine theirs)
-            | inr none ↦ absurd (in_none p none)
+            | inr none ↦ absurd (contains_none p none)
           ]
         ]
       ])
@@ -112,7 +114,7 @@ module _ (g : Geometry) (u : Units) (used after : ℕ → Bool) (root : Root) wh
         | inl was ↦ inl was
         | inr inside ↦ elim (Contains-append_cases (root_units u root) [] p inside) [
           | inl mine ↦ inr (Contains-append_left (root_units u root) (flat_map (root_units u) rest) p mine)
-          | inr none ↦ absurd (in_none p none)
+          | inr none ↦ absurd (contains_none p none)
         ]
       ]
       | inr behind ↦ inr (Contains-append_right (root_units u root) (flat_map (root_units u) rest) p behind)
@@ -179,15 +181,6 @@ drop_suc [] i d lt = absurd (omega arith)
 drop_suc (x ∷ xs) zero d lt = refl
 drop_suc (x ∷ xs) (suc i) d lt = drop_suc xs i d (omega arith)
 
-pub drop_next : {A : Type 0} (xs : List A) (i : ℕ) (d : A) → i < length xs → drop i xs ≡ get_or xs i d ∷ drop (i + 1) xs
-drop_next xs i d lt = drop_suc xs i d lt ∙ ap (λ k. get_or xs i d ∷ drop k xs) (sym (add-one i))
-
-pub drop_end : {A : Type 0} (xs : List A) (i : ℕ) → length xs ≤ i → drop i xs ≡ []
-drop_end [] zero le = refl
-drop_end [] (suc i) le = refl
-drop_end (x ∷ xs) zero le = absurd (omega arith)
-drop_end (x ∷ xs) (suc i) le = drop_end xs i (omega arith)
-
 -- all trees were found
 pub record TreesFound (g : Geometry) (u : Units) (roots : List Root) (used after : ℕ → Bool) (balanced : Bool) : Type 0 where
   pub named : AreNamed g u used roots
@@ -202,7 +195,7 @@ trees_end g u roots [] used after balanced is h = record {
     λ t. inl t,
     λ cases. elim cases [
       | inl t ↦ t
-      | inr inside ↦ absurd (in_none p inside)
+      | inr inside ↦ absurd (contains_none p inside)
     ],
   ));
   fine = λ t. h.fine t tt;
@@ -218,7 +211,7 @@ module _ {S : Type 0} (p : ground.Ghosts S) where
 
   pub roots_start : (geo : Geometry) (old : S) (before : UnitSet) (roots : List Root) → RootsSoFar geo old old before before roots 0 true
   roots_start geo old before roots = record {
-    kept = keeps_same p old;
+    kept = keeps_refl p old;
     uses = uses_same before;
     found = λ told bytes shows. trees_start geo bytes roots (used_at before);
   }
@@ -233,18 +226,18 @@ module _ {S : Type 0} (p : ground.Ghosts S) where
     uses = uses_on before mid units h.uses uses;
     found = λ told bytes shows.
         trees_more geo bytes roots (get_or roots i no_root) (drop (i + 1) roots) (used_at before) (used_at mid) (used_at units) b c r holds fails
-        (subst (λ rest. TreesSoFar geo bytes roots rest (used_at before) (used_at mid) b) (drop_next roots i no_root lt) (h.found told bytes shows))
+        (subst (λ rest. TreesSoFar geo bytes roots rest (used_at before) (used_at mid) b) (drop_more roots i no_root lt) (h.found told bytes shows))
         (one (p.leads_told old now h.kept.leads told) bytes (shows_on p geo bytes old now h.kept shows));
   }
 
   pub roots_end : (geo : Geometry) (old now : S) (before units : UnitSet) (roots : List Root) (i : ℕ) (b : Bool) → length roots ≤ i → RootsSoFar geo old now before units roots i b
       → p.tells old → (bytes : Units) → ShowsPages geo (p.image old) bytes → TreesFound geo bytes roots (used_at before) (used_at units) b
-  roots_end geo old now before units roots i b done h told bytes shows = trees_end geo bytes roots (drop i roots) (used_at before) (used_at units) b (drop_end roots i done) (h.found told bytes shows)
+  roots_end geo old now before units roots i b done h told bytes shows = trees_end geo bytes roots (drop i roots) (used_at before) (used_at units) b (drop_all i roots done) (h.found told bytes shows)
 
   -- where all trees are named, the next one is
   pub next_named : (geo : Geometry) (bytes : Units) (old now : S) (before mid : UnitSet) (roots : List Root) (i : ℕ) (b : Bool) → i < length roots → RootsSoFar geo old now before mid roots i b
       → p.tells old → ShowsPages geo (p.image old) bytes → AreNamed geo bytes (used_at before) roots
       → RootNamed geo bytes (get_or roots i no_root).height (get_or roots i no_root).page × AreFree (used_at mid) (root_units bytes (get_or roots i no_root))
   next_named geo bytes old now before mid roots i b lt h told shows named =
-      let rest = subst (AreNamed geo bytes (used_at mid)) (drop_next roots i no_root lt) ((h.found told bytes shows).still_named named) in
+      let rest = subst (AreNamed geo bytes (used_at mid)) (drop_more roots i no_root lt) ((h.found told bytes shows).still_named named) in
       (rest.named.0, rest.apart.0)

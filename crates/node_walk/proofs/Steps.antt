@@ -8,15 +8,16 @@ use Rattle.std.proofs.lemmas.List.Elements.{Contains-append_left, Contains-appen
 use Rattle.std.specs.Prelude.{Contains}
 use Rattle.std.specs.List.{AllByRecursion}
 use Rattle.ex_base.proofs.Rows.{each-append}
+use Rattle.ex_base.proofs.Each.{split_each, each_as, each_at}
+use Rattle.ex_base.proofs.Members.{contains_none}
 use Rattle.ex_base.specs.declared.geometry.Geometry.{Geometry}
-use Rattle.tree_model.specs.Trees.{Units, IsNamed, units_on}
-use Rattle.tree_model.proofs.SameUnits.{split_each}
-use Rattle.tree_rows.specs.declared.rows.Part.{Part}
-use Rattle.tree_rows.specs.Rows.{row_units}
+use Rattle.trees.specs.Trees.{Units, IsNamed, units_on}
+use Rattle.trees.specs.declared.rows.Part.{Part}
+use Rattle.trees.specs.Rows.{row_units}
 use Rattle.node_walk.specs.declared.nodes.Met.{Met}
 use Rattle.node_walk.specs.declared.least.Least.{Least}
 use Rattle.node_walk.specs.Walk.{Notes, AreNoted, IsNoted, IsKnown, IsMet, IsNew, IsAsked, HasLeast, IsFull, Walked, CanWalk, MetFirst, Meets, level_below, row_at, below_least}
-use Rattle.node_walk.proofs.Lists.{in_none, each_to, each_at, in_item}
+use Rattle.node_walk.proofs.Lists.{in_item}
 use Rattle.node_walk.proofs.Levels.{named_below, root_inside, below_inside}
 
 both : (x y : Bool) → x ≡ true → x ≡ false → ⊥
@@ -43,7 +44,7 @@ module _ (g : Geometry) (u : Units) where
     free = new.free;
     taken = still new.taken;
     inside = subst (λ zs. Contains zs p) (sym (flat_map-append (λ (part : Part). units_on u level part.page.0) xs ys)) (Contains-append_left (row_units u level xs) (row_units u level ys) p new.inside);
-    below = each_to _ _ (row_at u met.level p) (λ part m. (m.0, kept part.page.0 m.0 m.1, m.2)) new.below;
+    below = each_as _ _ (row_at u met.level p) (λ part m. (m.0, kept part.page.0 m.0 m.1, m.2)) new.below;
     asked = λ t. new.asked (holds t);
   }
 
@@ -83,7 +84,7 @@ module _ (g : Geometry) (u : Units) where
       | inr is ↦ inr is
     ];
     still_used = λ p h. two.still_used p (one.still_used p h);
-    met = each-append _ xs ys (each_to _ _ xs (λ part m. (m.0, two.kept part.page.0 m.0 m.1, m.2)) one.met) two.met;
+    met = each-append _ xs ys (each_as _ _ xs (λ part m. (m.0, two.kept part.page.0 m.0 m.1, m.2)) one.met) two.met;
     asked = λ t. each-append _ xs ys (one.asked (holds t).0) (two.asked (holds t).1);
     thin = λ f full. let parts = split_each (IsFull g u least level) xs ys full in elim (fails f) [
       | inl first ↦ one.thin first parts.0
@@ -127,7 +128,7 @@ module _ (g : Geometry) (u : Units) where
     kept = below.kept;
     fresh = λ p m h. elim (below.fresh p m h) [
       | inl first ↦ inl first
-      | inr new ↦ absurd (in_none p new.inside)
+      | inr new ↦ absurd (contains_none p new.inside)
     ];
     used_then = below.used_then;
     still_used = below.still_used;
@@ -283,7 +284,7 @@ module _ (g : Geometry) (u : Units) where
   pub can_below : (level : ℕ) (part : Part) (met : Met) (row : List Part) (used mid : ℕ → Bool) (known start : Notes)
       → Meets g u level part.page.0 met row used known mid start → CanWalk g u used known level (part ∷ []) → CanWalk g u mid start (level_below level) row
   can_below level part met row used mid known start meets can = elim meets [
-    | inl again ↦ subst (CanWalk g u mid start (level_below level)) (sym again.nothing) (record { named = tt; own = λ p inside taken. absurd (in_none p inside) })
+    | inl again ↦ subst (CanWalk g u mid start (level_below level)) (sym again.nothing) (record { named = tt; own = λ p inside taken. absurd (contains_none p inside) })
     | inr first ↦ first_can level part.page.0 met row used mid known start first part refl can
   ]
 

@@ -5,19 +5,16 @@ use Rattle.std.proofs.lemmas.List.Elements.{Contains-append_cases}
 use Rattle.std.specs.Prelude.{Contains}
 use Rattle.std.specs.List.{AllByRecursion}
 use Rattle.ex_base.specs.declared.geometry.Geometry.{Geometry}
-use Rattle.tree_model.specs.Trees.{Units, IsNamed, units_on}
-use Rattle.tree_rows.specs.declared.rows.Part.{Part}
-use Rattle.tree_rows.specs.Rows.{row_units}
+use Rattle.ex_base.proofs.Members.{contains_cases, contains_none}
+use Rattle.ex_base.proofs.Each.{each_as, each_from, each_with}
+use Rattle.trees.specs.Trees.{Units, IsNamed, units_on}
+use Rattle.trees.specs.declared.rows.Part.{Part}
+use Rattle.trees.specs.Rows.{row_units}
 use Rattle.node_walk.specs.declared.nodes.Met.{Met}
 use Rattle.node_walk.specs.declared.least.Least.{Least}
 use Rattle.node_walk.specs.TreesNamed.{AreFree}
 use Rattle.node_walk.specs.Walk.{Notes, IsAt, IsKnown, IsMet, IsNew, HasLeast, IsFull, Walked, level_below, row_at, below_least}
-use Rattle.node_walk.proofs.Lists.{in_none, in_cons, each_from, each_to}
 use Rattle.node_walk.proofs.Levels.{named_at, units_of_parts}
-
-each_both : {A : Type 0} (P Q R : A → Type 0) (xs : List A) → ((x : A) → P x → Q x → R x) → AllByRecursion P xs → AllByRecursion Q xs → AllByRecursion R xs
-each_both P Q R [] f ps qs = tt
-each_both P Q R (x ∷ xs) f ps qs = (f x ps.0 qs.0, each_both P Q R xs f ps.1 qs.1)
 
 module _ (g : Geometry) (u : Units) (height : ℕ) (least : Least) (tree : Part) (used after : ℕ → Bool) (known noted : Notes) (balanced : Bool)
     (walked : Walked g u height least (tree ∷ []) used known after noted balanced) (unknown : (p : ℕ) → known p ≡ None) where
@@ -38,22 +35,22 @@ module _ (g : Geometry) (u : Units) (height : ℕ) (least : Least) (tree : Part)
 
   named_of : (l page : ℕ) → IsMet noted l page → IsNamed g u l page
   named_of zero page m = at zero page m
-  named_of (suc l) page m = named_at g u (suc l) page (at (suc l) page m) (each_to _ _ (row_at u (suc l) page) (λ part is. named_of l part.page.0 is) (below (suc l) page m))
+  named_of (suc l) page m = named_at g u (suc l) page (at (suc l) page m) (each_as _ _ (row_at u (suc l) page) (λ part is. named_of l part.page.0 is) (below (suc l) page m))
 
   row_known : (l p : ℕ) (row : List Part) → ((page : ℕ) → IsMet noted l page → Contains (units_on u l page) p → IsKnown noted p)
       → AllByRecursion (λ (part : Part). IsMet noted l part.page.0) row → Contains (row_units u l row) p → IsKnown noted p
-  row_known l p [] f all h = absurd (in_none p h)
+  row_known l p [] f all h = absurd (contains_none p h)
   row_known l p (part ∷ row) f all h = elim (Contains-append_cases (units_on u l part.page.0) (row_units u l row) p h) [
     | inl here ↦ f part.page.0 all.0 here
     | inr rest ↦ row_known l p row f all.1 rest
   ]
 
   known_of : (l page p : ℕ) → IsMet noted l page → Contains (units_on u l page) p → IsKnown noted p
-  known_of zero page p m h = elim (in_cons page [] p h) [
+  known_of zero page p m h = elim (contains_cases page p [] h) [
     | inl same ↦ (m.0, ap noted (sym same) ∙ m.1)
-    | inr none ↦ absurd (in_none p none)
+    | inr none ↦ absurd (contains_none p none)
   ]
-  known_of (suc l) page p m h = elim (in_cons page _ p h) [
+  known_of (suc l) page p m h = elim (contains_cases page p _ h) [
     | inl same ↦ (m.0, ap noted (sym same) ∙ m.1)
     | inr rest ↦ row_known l p (row_at u (suc l) page) (λ child is inside. known_of l child p is inside) (below (suc l) page m) (subst (λ xs. Contains xs p) (sym (units_of_parts u l 0 _)) rest)
   ]
@@ -61,7 +58,7 @@ module _ (g : Geometry) (u : Units) (height : ℕ) (least : Least) (tree : Part)
   full_of : balanced ≡ true → (some : Least) (l : ℕ) (part : Part) → IsMet noted l part.page.0 → HasLeast g u some l part → IsFull g u some l part
   full_of t some zero part m has = has
   full_of t some (suc l) part m has =
-      (has, each_both _ _ _ (row_at u (suc l) part.page.0) (λ child is own. full_of t (below_least g) l child is own) (below (suc l) part.page.0 m) (asked t (suc l) part.page.0 m))
+      (has, each_with _ _ _ (row_at u (suc l) part.page.0) (λ child is own. full_of t (below_least g) l child is own) (below (suc l) part.page.0 m) (asked t (suc l) part.page.0 m))
 
   pub whole_named : IsNamed g u height tree.page.0
   whole_named = named_of height tree.page.0 walked.met.0

@@ -4,7 +4,7 @@ use Rattle.std.specs.List.{flat_map, AllByRecursion}
 use Rattle.ex_base.specs.declared.geometry.Geometry.{Geometry}
 use Rattle.ex_base.specs.declared.names.Root.{Root}
 use Rattle.ex_base.specs.Area.{InPageArea}
-use Rattle.tree_model.specs.Trees.{Units, RootNamed, root_units}
+use Rattle.trees.specs.Trees.{Units, RootNamed, root_units}
 use Rattle.session_views.specs.declared.part.Part.{Part}
 use Rattle.session_views.specs.declared.part.Part.TheVariants.{Node, Balance}
 use Rattle.volume_model.specs.Parts.{AllApart, HasBalance}

@@ -6,9 +6,9 @@ use Rattle.ex_base.specs.Area.{InPageArea, NamesLeaf}
 use Rattle.ex_base.specs.Sizes.{leaf_bytes}
 use Rattle.count_nodes.specs.Node.{PairsOf, pairs_on, total_of}
 use Rattle.page_alloc.specs.UnitSet.{UnitSet, refs_at}
-use Rattle.tree_model.specs.Trees.{Units, IsNamed}
-use Rattle.tree_rows.specs.declared.rows.Part.{Part}
-use Rattle.tree_rows.specs.Rows.{parts_of, row_units}
+use Rattle.trees.specs.Trees.{Units, IsNamed}
+use Rattle.trees.specs.declared.rows.Part.{Part}
+use Rattle.trees.specs.Rows.{parts_of, row_units}
 use Rattle.node_walk.specs.declared.nodes.Met.{Met}
 use Rattle.node_walk.specs.declared.least.Least.{Least}
 

@@ -4,16 +4,13 @@ ghost use Rattle.ex_base.specs.Area.{NamesLeaf, InPageArea};
 ghost use Rattle.ex_base.specs.Ports.{Keeps, HasCause, IsDamage};
 ghost use Rattle.count_nodes.specs.declared.Pair.{Pair};
 ghost use Rattle.count_nodes.specs.Node.{PairsOf, RiseFrom};
-ghost use Rattle.tree_rows.specs.Rows.{parts_of};
+ghost use Rattle.trees.specs.Rows.{parts_of};
 ghost use Rattle.node_walk.specs.Walk.{IsNodeOn};
 
 use count_nodes::view::NodeView;
-use ex_base::{Geometry, PageNo, Pages, PortFault};
+use ex_base::{Geometry, PageNo, PortFault, ReadPages};
 use std::alloc::{AllocError, Global};
-use tree_rows::{Part, put};
-
-/// The first page of the page area, which has the catalog.
-const CATALOG: u32 = 257;
+use trees::{Part, put};
 
 /// What is noted of a unit of a tree: its level, and of a node its bytes and the number of its pairs.
 #[derive(Clone, Copy)]
@@ -35,25 +32,6 @@ pub(crate) const LEAF: Met = Met {
 pub(crate) struct Node {
     pub met: Met,
     pub below: Vec<Part>,
-}
-
-/// Whether a page is the first one of a unit of the segment area.
-pub(crate) fn names_leaf(geometry: &Geometry, page: PageNo) -> bool
-    ensures { IsTrue result ↔ NamesLeaf geometry.now page.0 }
-{
-    let first = CATALOG + geometry.pages;
-    if page.0 < first {
-        return false;
-    }
-    let offset = page.0 - first;
-    offset % geometry.seg_len == 0 && offset / geometry.seg_len < geometry.segs
-}
-
-/// Whether a page lies in the page area.
-pub(crate) fn names_page(geometry: &Geometry, page: PageNo) -> bool
-    ensures { IsTrue result ↔ InPageArea geometry.now page.0 }
-{
-    CATALOG <= page.0 && page.0 < CATALOG + geometry.pages
 }
 
 /// The children of a node, each with its own number of bytes.
@@ -94,7 +72,7 @@ fn node_on(alloc: Global, bytes: &[u8], fan: u32) -> Result<Option<Node>, AllocE
 }
 
 /// Reads the node on a page of the page area. None where the page is outside the grammar.
-pub(crate) fn read_node<P: Pages>(
+pub(crate) fn read_node<P: ReadPages>(
     pages: &mut P,
     alloc: Global,
     fan: u32,

@@ -5,7 +5,7 @@ ghost use Rattle.ex_base.specs.Faults.{Rose};
 ghost use Rattle.ex_base.specs.Ports.{Keeps};
 ghost use Rattle.object_records.specs.Record.{IsRootField};
 ghost use Rattle.page_alloc.specs.UnitSet.{used_at};
-ghost use Rattle.tree_model.specs.Trees.{Units as Bytes, RootNamed, root_units};
+ghost use Rattle.trees.specs.Trees.{Units as Bytes, RootNamed, root_units};
 ghost use Rattle.session_views.specs.declared.part.Part.{Part as VolumePart};
 ghost use Rattle.session_views.specs.declared.part.Part.TheVariants.{Node as NodePart};
 ghost use Rattle.volume_model.specs.Parts.{HasBalance};
@@ -14,18 +14,15 @@ ghost use Rattle.node_walk.specs.Walk.{OnlyUses};
 
 use crate::least::ROOT_LEAST;
 use crate::walk::walk;
-use ex_base::{Geometry, Pages, Root};
+use ex_base::{Geometry, OBJECT_MOST, ReadPages, Root};
 use page_alloc::Units;
 use session_views::OpenFault;
 use std::alloc::Global;
 use std::collections::HashMap;
-use tree_rows::Part;
-
-/// The most bytes of an object.
-const OBJECT_MOST: u64 = u32::MAX as u64;
+use trees::Part;
 
 /// Walks the tree of a root, and tells whether it is balanced.
-pub(crate) fn walk_tree<P: Pages>(
+pub(crate) fn walk_tree<P: ReadPages>(
     pages: &mut P,
     alloc: Global,
     geometry: &Geometry,

@@ -5,7 +5,7 @@ ghost use Rattle.ex_base.specs.Area.{IsUnit};
 ghost use Rattle.ex_base.specs.Faults.{Rose};
 ghost use Rattle.ex_base.specs.Ports.{Keeps};
 ghost use Rattle.page_alloc.specs.UnitSet.{used_at};
-ghost use Rattle.tree_model.specs.Trees.{Units as Bytes, IsNamed};
+ghost use Rattle.trees.specs.Trees.{Units as Bytes, IsNamed};
 ghost use Rattle.session_views.specs.declared.part.Part.{Part as VolumePart};
 ghost use Rattle.session_views.specs.declared.part.Part.TheVariants.{Node as NodePart};
 ghost use Rattle.node_walk.specs.TreesNamed.{ShowsPages};
@@ -13,13 +13,13 @@ ghost use Rattle.node_walk.specs.Walk.{AreNoted, IsKnown, IsFirst, Meets, Walked
 
 use crate::faults::{BAD_NODE, open_fault};
 use crate::least::{Least, is_asked, least_below};
-use crate::nodes::{LEAF, Met, Node, names_leaf, names_page, read_node};
-use ex_base::{Geometry, PageNo, Pages};
+use crate::nodes::{LEAF, Met, Node, read_node};
+use ex_base::{Geometry, PageNo, ReadPages};
 use page_alloc::Units;
 use session_views::OpenFault;
 use std::alloc::Global;
 use std::collections::HashMap;
-use tree_rows::Part;
+use trees::Part;
 
 /// A leaf that the tree names for the first time.
 fn first_leaf(
@@ -37,7 +37,7 @@ fn first_leaf(
         → (part ≡ NodePart) × (IsNamed geometry.now bytes 0 page.0 → used_at units.now page.0 ≡ true) }
     ensures disk { result ≡ Err OpenFault.Disk → ⊥ }
 {
-    if !names_leaf(geometry, page) || units.is_used(page) {
+    if !geometry.names_leaf(page) || units.is_used(page) {
         return Err(BAD_NODE);
     }
     Ok(Node {
@@ -47,7 +47,7 @@ fn first_leaf(
 }
 
 /// A node of a level that the tree names for the first time.
-fn first_node<P: Pages>(
+fn first_node<P: ReadPages>(
     pages: &mut P,
     alloc: Global,
     geometry: &Geometry,
@@ -68,7 +68,7 @@ fn first_node<P: Pages>(
     ensures kept { Keeps P.Ground pages.old pages.new }
     ensures disk { result ≡ Err OpenFault.Disk → Rose (P.faults pages.old) (P.faults pages.new) }
 {
-    if !names_page(geometry, page) || units.is_used(page) {
+    if !geometry.in_page_area(page) || units.is_used(page) {
         return Err(BAD_NODE);
     }
     let found = match read_node(pages, alloc, geometry.fan, page) {
@@ -85,7 +85,7 @@ fn first_node<P: Pages>(
 }
 
 /// A unit that the tree names for the first time, where it can be the root of a tree of this level.
-fn first_met<P: Pages>(
+fn first_met<P: ReadPages>(
     pages: &mut P,
     alloc: Global,
     geometry: &Geometry,
@@ -113,7 +113,7 @@ fn first_met<P: Pages>(
 }
 
 /// Meets a unit of a tree. Where the tree named it before nothing is left to be walked below it; else it is in use from now on.
-fn meet<P: Pages>(
+fn meet<P: ReadPages>(
     pages: &mut P,
     alloc: Global,
     geometry: &Geometry,
@@ -153,7 +153,7 @@ fn meet<P: Pages>(
 }
 
 /// Walks a tree, and tells whether it is balanced as far as it was not walked before. A node is read once, however often it is named.
-pub(crate) fn walk<P: Pages>(
+pub(crate) fn walk<P: ReadPages>(
     pages: &mut P,
     alloc: Global,
     geometry: &Geometry,

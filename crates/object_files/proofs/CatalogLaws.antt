@@ -13,6 +13,7 @@ use Rattle.ex_base.specs.Order.{RisingTexts, AllDiffer}
 use Rattle.ex_base.proofs.FieldLaws.{two_is, four_is, eight_is}
 use Rattle.ex_base.proofs.Reading.{length-page_field}
 use Rattle.ex_base.proofs.Places.{behind_more, bytes_there, number_there, number_spelled, bytes_spelled, length-bytes_at, page_there, page_spelled, page_fits, zero_run, zeros_spelled, AreZero-as}
+use Rattle.ex_base.proofs.Lists.{two_front}
 use Rattle.object_files.specs.Catalog.{FileEntry, Catalog, entry_bytes, catalog_page, is_name_byte, IsEntry, name_of, number_of, CatalogOf}
 use Rattle.object_files.specs.Reads.{name_in, number_in, entry_in, read_entries, catalog_on, EntryReads, CatalogReads}
 
@@ -321,11 +322,6 @@ spelled_reads page c h =
       numbers = λ i li j lt lj. differ_to page (number_at 2 page 2) 32 differ i li j lt lj;
       rest = AreZero-as _ (length page - (32 + 48 * length c.entries)) (ap (λ (k : ℕ). drop (32 + 48 * k) page) p.count ∙ p.there.behind);
     }
-
-two_front : (xs : List ℕ) → 2 ≤ length xs → xs ≡ slice_index xs 0 ∷ slice_index xs 1 ∷ drop 2 xs
-two_front [] le = absurd (omega arith)
-two_front (x ∷ []) le = absurd (omega arith)
-two_front (x ∷ y ∷ xs) le = refl
 
 pub reads_spelled : (page : List ℕ) → IsBytes page → CatalogReads page → CatalogOf page (catalog_on page)
 unfolding catalog_on

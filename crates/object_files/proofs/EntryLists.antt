@@ -8,10 +8,11 @@ use Rattle.std.specs.declared.cmp.Ordering.{Ordering}
 use Rattle.std.specs.declared.cmp.Ordering.TheVariants.{Less, Equal, Greater}
 use Rattle.std.proofs.lemmas.Bool.Decides.{nat_tests}
 use Rattle.std.proofs.lemmas.Map.Lookups.{exact_bytes}
-use Rattle.std.proofs.lemmas.Slice.Eq.{bytes_eq-Decides}
 use Rattle.ex_base.specs.declared.names.PageNo.{PageNo}
 use Rattle.ex_base.specs.Fields.{IsPageField}
 use Rattle.ex_base.specs.Order.{RisingTexts, AllDiffer}
+use Rattle.ex_base.proofs.Lists.{texts_tail}
+use Rattle.ex_base.proofs.Booleans.{same_number, same_bytes, bytes_test}
 use Rattle.object_files.specs.Catalog.{FileEntry, IsEntry, name_of, number_of}
 use Rattle.object_files.specs.Edits.{entry_inserted, without_name, has_name, indexed}
 
@@ -39,10 +40,6 @@ not_lt : (o : Ordering) → o ≢ Less → is_lt o ≡ false
 not_lt Less other = absurd (other refl)
 not_lt Equal other = refl
 not_lt Greater other = refl
-
-names_tail : (x : List ℕ) (xs : List (List ℕ)) → RisingTexts (x ∷ xs) → RisingTexts xs
-names_tail x [] h = tt
-names_tail x (y ∷ xs) h = h.1
 
 -- a first name is before each later one
 all_later : (x : List ℕ) (es : List FileEntry) → RisingTexts (x ∷ map name_of es) → AllByRecursion (λ e. Before x e.name) es
@@ -118,20 +115,14 @@ numbers-more e (f ∷ fs) (suc i) le h new = (
 -- ---- one entry less
 
 keeps : (e : FileEntry) (name : List ℕ) → e.name ≢ name → not (has_name name e) ≡ true
-keeps e name other = told (bytes_eq e.name name) (λ t. other (is_same e.name name t))
+keeps e name other = told (bytes_eq e.name name) (λ t. other (same_bytes e.name name t))
   where
     told : (b : Bool) → (b ≡ true → ⊥) → not b ≡ true
     told true h = absurd (h refl)
     told false h = refl
 
-    is_same : (a b : List ℕ) → bytes_eq a b ≡ true → a ≡ b
-    is_same a b t = grind (arith, bytes_eq-Decides a b)
-
 drops : (e : FileEntry) (name : List ℕ) → e.name ≡ name → not (has_name name e) ≡ false
-drops e name same = ap not (told e.name name same)
-  where
-    told : (a b : List ℕ) → a ≡ b → bytes_eq a b ≡ true
-    told a b e = grind (arith, bytes_eq-Decides a b)
+drops e name same = ap not (bytes_test e.name name same)
 
 without_none : (name : List ℕ) (es : List FileEntry) → AllByRecursion (λ e. Before name e.name) es → without_name name es ≡ es
 without_none name [] later = refl
@@ -147,11 +138,11 @@ without_at name (e ∷ es) zero d lt sorted is =
 without_at name (e ∷ es) (suc i) d lt sorted is =
     let later : Before e.name (get_or es i d).name = each-get (λ f. Before e.name f.name) es i d (all_later e.name es sorted) (omega arith) in
     ap (λ (b : Bool). if b then e ∷ without_name name es else without_name name es) (keeps e name (λ same. not_before_self e.name (get_or es i d).name later (same ∙ sym is)))
-    ∙ ap (λ (t : List FileEntry). e ∷ t) (without_at name es i d (omega arith) (names_tail e.name (map name_of es) sorted) is)
+    ∙ ap (λ (t : List FileEntry). e ∷ t) (without_at name es i d (omega arith) (texts_tail e.name (map name_of es) sorted) is)
 
 pub sorted-less : (es : List FileEntry) (i : ℕ) → i < length es → RisingTexts (map name_of es) → RisingTexts (map name_of (take i es ++ drop (suc i) es))
 sorted-less [] i lt h = absurd (omega arith)
-sorted-less (e ∷ es) zero lt h = names_tail e.name (map name_of es) h
+sorted-less (e ∷ es) zero lt h = texts_tail e.name (map name_of es) h
 sorted-less (e ∷ []) (suc i) lt h = absurd (omega arith)
 sorted-less (e ∷ f ∷ []) (suc zero) lt h = tt
 sorted-less (e ∷ f ∷ g ∷ gs) (suc zero) lt h = (nat_list_cmp_total.trans e.name f.name g.name h.0 h.1.0, h.1.1)
@@ -173,9 +164,6 @@ numbers-less (e ∷ es) (suc i) lt h = (
 
 -- ---- one entry that gets an index
 
-is_number : (a b : ℕ) → a ≡ b → (a == b) ≡ true
-is_number a b e = grind (arith, nat_tests)
-
 other_number : (a b : ℕ) → a ≢ b → (a == b) ≡ false
 other_number a b e = grind (arith, nat_tests)
 
@@ -183,7 +171,7 @@ abbrev changed : ℕ → Option PageNo → FileEntry → FileEntry
 changed level root e = record e { level = level; root = root }
 
 pub indexed_same : (file_no level : ℕ) (root : Option PageNo) (e : FileEntry) → e.file_no ≡ file_no → indexed file_no level root e ≡ changed level root e
-indexed_same file_no level root e is = ap (λ (b : Bool). if b then changed level root e else e) (is_number e.file_no file_no is)
+indexed_same file_no level root e is = ap (λ (b : Bool). if b then changed level root e else e) (same_number e.file_no file_no is)
 
 indexed_other : (file_no level : ℕ) (root : Option PageNo) (e : FileEntry) → e.file_no ≢ file_no → indexed file_no level root e ≡ e
 indexed_other file_no level root e other = ap (λ (b : Bool). if b then changed level root e else e) (other_number e.file_no file_no other)

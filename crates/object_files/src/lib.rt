@@ -72,9 +72,6 @@ const FIRST_UNIQUE: u64 = 1;
 /// What the first byte of the catalog is.
 const CATALOG: u8 = 1;
 
-/// The highest level of an index.
-const MOST_LEVEL: u8 = 5;
-
 const MOST_BYTES: usize = 8192;
 
 /// A page is the catalog of what is read on it, and so of one list of entries and two numbers alone.

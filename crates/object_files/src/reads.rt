@@ -8,10 +8,10 @@ ghost use Rattle.object_files.specs.Reads.{name_in, number_in, entry_at, EntryRe
 use crate::marks::numbers_differ;
 use crate::{
     CATALOG, COUNT, ENTRY_GAP, ENTRY_GAP_LEN, ENTRY_LEN, FILE_NO, GAP, GAP_LEN, HEAD_LEN, KIND,
-    LEVEL, LEVEL_GAP, LEVEL_GAP_LEN, MOST_BYTES, MOST_LEVEL, NAME, NAME_MOST, NEXT_UNIQUE, ROOT,
-    SECOND_GAP, SECOND_GAP_LEN, ZERO,
+    LEVEL, LEVEL_GAP, LEVEL_GAP_LEN, MOST_BYTES, NAME, NAME_MOST, NEXT_UNIQUE, ROOT, SECOND_GAP,
+    SECOND_GAP_LEN, ZERO,
 };
-use ex_base::{get_u16, get_u32, get_u64, is_zero};
+use ex_base::{INDEX_LEVEL_MOST, get_u16, get_u32, get_u64, is_zero};
 use std::cmp::Ordering;
 
 /// Whether so many bytes from a position on are 0.
@@ -67,7 +67,9 @@ fn is_entry(page: &[u8], at: usize) -> bool
     if len == 0 || len > NAME_MOST || number_of(page, at) == 0 {
         return false;
     }
-    if page[at + LEVEL] > MOST_LEVEL || (page[at + LEVEL] > 0 && get_u32(page, at + ROOT) == 0) {
+    if page[at + LEVEL] > INDEX_LEVEL_MOST
+        || (page[at + LEVEL] > 0 && get_u32(page, at + ROOT) == 0)
+    {
         return false;
     }
     is_name(name_of(page, at))

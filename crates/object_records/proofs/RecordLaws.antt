@@ -10,6 +10,7 @@ use Rattle.ex_base.specs.Fields.{two_bytes, eight_bytes, zeros, number_at, page_
 use Rattle.ex_base.proofs.FieldLaws.{two_is, eight_is}
 use Rattle.ex_base.proofs.Reading.{length-page_field}
 use Rattle.ex_base.proofs.Places.{behind_more, bytes_there, number_there, number_spelled, bytes_spelled, length-bytes_at, place_there, place_spelled, place_fits, page_there, page_spelled, page_fits, length-place_field, zero_run, AreZero-as}
+use Rattle.ex_base.proofs.Lists.{two_front}
 use Rattle.object_records.specs.declared.State.{State}
 use Rattle.object_records.specs.declared.State.TheVariants.{Current, Frozen}
 use Rattle.object_records.specs.declared.Head.{Head}
@@ -141,11 +142,6 @@ spelled_reads body r h =
     (head_reads body r h.fits b c.long, c.reads)
 
 -- ---- a body that reads as a record is spelled by what is read
-
-two_front : (xs : List ℕ) → 2 ≤ length xs → xs ≡ slice_index xs 0 ∷ slice_index xs 1 ∷ drop 2 xs
-two_front [] le = absurd (omega arith)
-two_front (x ∷ []) le = absurd (omega arith)
-two_front (x ∷ y ∷ xs) le = refl
 
 state_back : (b : ℕ) → (b ≡ 1) ⊎ (b ≡ 2) → state_byte (state_read b) ≡ b
 state_back b (inl e) = ap (λ (k : ℕ). state_byte (state_read k)) e ∙ sym e

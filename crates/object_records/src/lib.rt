@@ -56,7 +56,8 @@ const SIZE: usize = 24;
 
 const PAGE: usize = 32;
 
-const LARGE_LEN: usize = 36;
+/// The bytes of the record of a large version.
+pub const LARGE_LEN: usize = 36;
 
 // What the form and the state are written as.
 const SMALL: u8 = 1;

@@ -6,6 +6,7 @@ use Rattle.ex_base.specs.declared.ground.Ground as ground
 use Rattle.ex_base.specs.declared.names.Oid.{Oid}
 use Rattle.ex_base.specs.Area.{catalog_no}
 use Rattle.ex_base.specs.Order.{AllDiffer}
+use Rattle.ex_base.proofs.Members.{in_contains}
 use Rattle.op_log.specs.declared.record.LogRecord.{LogRecord}
 use Rattle.object_files.specs.Catalog.{Catalog, CatalogOf, FileEntry, number_of}
 use Rattle.object_files.specs.Reads.{catalog_on}
@@ -22,7 +23,7 @@ use Rattle.volume_edits.proofs.Contents.{entries_here, has_files, in_beside}
 use Rattle.volume_edits.proofs.Counted.{in_area}
 use Rattle.volume_edits.proofs.Creating.{creates_object}
 use Rattle.volume_edits.proofs.Listing.{numbers_volume}
-use Rattle.volume_edits.proofs.Lists.{cut_at, in_contains}
+use Rattle.volume_edits.proofs.Lists.{cut_at}
 use Rattle.object_updates.specs.Updates.{AsksFile, BecomesVolume}
 
 -- what is known of the room of every file

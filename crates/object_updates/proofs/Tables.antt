@@ -4,13 +4,14 @@ use Rattle.std.specs.List.{AllByRecursion}
 use Rattle.std.proofs.lemmas.Bool.{cases_Bool}
 use Rattle.std.proofs.lemmas.List.{append-nil, take-append-drop}
 use Rattle.ex_base.specs.declared.names.Oid.{Oid}
+use Rattle.ex_base.proofs.Members.{In, each_in}
+use Rattle.ex_base.proofs.Each.{each_parted, map_same}
 use Rattle.table_model.specs.declared.table.Object.{Object}
 use Rattle.table_model.specs.declared.table.Table.{Table}
 use Rattle.table_model.specs.declared.table.TableFile.{TableFile}
 use Rattle.table_model.specs.declared.table.Version.{Version}
 use Rattle.table_model.specs.Tables.{bytes_changed, has_oid, versions_in, versions_of, with_bytes, with_objects, with_versions}
 use Rattle.versions.specs.Versions.{Change, Inserts, Appends, Replaces, Deletes, changed, count_of}
-use Rattle.volume_edits.proofs.Lists.{In, each_from, each_parts, map_same}
 
 -- a change of no bytes leaves the bytes as they are
 pub nothing_changed : (change : Change) → count_of change ≡ 0 → (bytes : List ℕ) → changed change bytes ≡ bytes
@@ -50,13 +51,13 @@ module _ (oid : Oid) (change other : List ℕ → List ℕ) where
   file_agrees f each =
       ap (λ (os : List Object). record f { objects = os })
       (map_same (with_versions (map (bytes_changed oid other))) (with_versions (map (bytes_changed oid change))) (λ (o : Object). AllByRecursion Agrees o.versions) f.objects object_agrees
-      (each_parts Agrees (λ (o : Object). o.versions) f.objects each))
+      (each_parted Agrees (λ (o : Object). o.versions) f.objects each))
 
   pub bytes_agree : (t : Table) → ((w : Version) → In w (versions_of t) → has_oid oid w ≡ true → change w.bytes ≡ other w.bytes) → with_bytes oid change t ≡ with_bytes oid other t
   bytes_agree t same =
       ap (λ (fs : List TableFile). record t { files = fs })
       (map_same (with_objects (map (with_versions (map (bytes_changed oid other))))) (with_objects (map (with_versions (map (bytes_changed oid change))))) (λ (f : TableFile). AllByRecursion Agrees (versions_in f)) t.files file_agrees
-      (each_parts Agrees versions_in t.files (each_from Agrees (versions_of t) (λ w inside. version_agrees w (same w inside)))))
+      (each_parted Agrees versions_in t.files (each_in Agrees (versions_of t) (λ w inside. version_agrees w (same w inside)))))
 
 -- ---- a change that leaves all bytes as they are
 

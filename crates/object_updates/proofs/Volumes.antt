@@ -7,8 +7,9 @@ use Rattle.ex_base.specs.declared.names.Oid.{Oid}
 use Rattle.ex_base.specs.Area.{area_end, catalog_no}
 use Rattle.ex_base.specs.Order.{AllDiffer}
 use Rattle.ex_base.specs.Ports.{Keeps}
+use Rattle.ex_base.proofs.Members.{In, contains_in, in_contains, in_left}
 use Rattle.op_log.specs.declared.record.LogRecord.{LogRecord}
-use Rattle.tree_model.specs.Trees.{Units}
+use Rattle.trees.specs.Trees.{Units}
 use Rattle.table_model.specs.declared.table.Table.{Table}
 use Rattle.table_model.specs.declared.table.Version.{Version}
 use Rattle.table_model.specs.Tables.{has_oid, version_at, versions_of, with_bytes}
@@ -17,7 +18,6 @@ use Rattle.volume_edits.specs.Edits.{ChangesVolume, MovesVolume, trees_of}
 use Rattle.volume_edits.specs.Ported.{IsVolume, units_in}
 use Rattle.volume_edits.proofs.Contents.{pairs}
 use Rattle.volume_edits.proofs.Finding.{find_in, from_map, into_map, oid_same, versions_are}
-use Rattle.volume_edits.proofs.Lists.{In, contains_in, in_contains, in_left}
 use Rattle.volume_edits.proofs.Staying.{kept_reach, stays_whole}
 use Rattle.volume_model.specs.Volume.{Stored, Volume, file_pages, reach_of, stored_in, table_of, unique_of, version_of}
 use Rattle.object_updates.specs.Updates.{BecomesVolume}

@@ -3,8 +3,8 @@ ghost use Rattle.std.specs.Prelude.{◌≡◌, ◌+◌, ℕ, List, IfOk, IfErr, 
 ghost use Rattle.ex_base.specs.Area.{catalog_no};
 ghost use Rattle.ex_base.specs.Ports.{Cause, HasCause, IsDamage};
 ghost use Rattle.ex_base.specs.declared.faults.PortFault.TheVariants.{Damaged};
-ghost use Rattle.file_index.specs.Damage.{nothing_seen};
-ghost use Rattle.file_bodies.specs.Damage.{catalog_seen, IsCatalogFault};
+ghost use Rattle.ex_base.specs.Seen.{catalog_seen, nothing_seen};
+ghost use Rattle.file_bodies.specs.Damage.{IsCatalogFault};
 ghost use Rattle.object_files.specs.Edits.{IsCatalogPage};
 ghost use Rattle.object_files.specs.Reads.{catalog_on};
 ghost use Rattle.volume_edits.specs.Edits.{WritesCatalog, catalog_numbered};
@@ -16,12 +16,6 @@ use object_files::{CatalogView, set_numbers};
 use std::alloc::Global;
 use versions::create as create_version;
 
-/// The page of the catalog.
-const CATALOG: PageNo = PageNo(257);
-
-/// The kind of the catalog page.
-const CATALOG_KIND: u8 = 1;
-
 /// The pages that a new version may take.
 const PAGES_MOST: u32 = 7;
 
@@ -30,20 +24,10 @@ fn no_catalog() -> PortFault
     ensures is { result ≡ Damaged (record { 0 = catalog_no }) catalog_seen nothing_seen }
     ensures cause { (before now : ℕ) → Cause before now result }
 {
-    let want = Seen {
-        kind: CATALOG_KIND,
-        level: 0,
-        total: 0,
-    };
-    let got = Seen {
-        kind: 0,
-        level: 0,
-        total: 0,
-    };
     PortFault::Damaged {
-        page: CATALOG,
-        want,
-        got,
+        page: PageNo::CATALOG,
+        want: Seen::CATALOG,
+        got: Seen::NOTHING,
     }
 }
 
@@ -72,12 +56,12 @@ fn count_number<V: Volume>(volume: &mut V, alloc: Global, unique: u64) -> Result
     let Some(next) = unique.checked_add(1) else {
         return Err(PortFault::Memory);
     };
-    let mut page = volume.get(alloc, CATALOG)?.to_vec(alloc)?;
+    let mut page = volume.get(alloc, PageNo::CATALOG)?.to_vec(alloc)?;
     let Some(last) = last_on(&page) else {
         return Err(no_catalog());
     };
     set_numbers(&mut page, next, last);
-    volume.put(alloc, CATALOG, &page)
+    volume.put(alloc, PageNo::CATALOG, &page)
 }
 
 /// Makes an object without bytes in the file of this number, under this unique number.

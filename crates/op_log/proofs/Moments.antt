@@ -2,13 +2,14 @@
 use Rattle.std.proofs.Common.{◌≡◌, ◌⊎◌, inl, inr, ⊎_elim, ℕ, ◌+◌, ◌*◌, ◌<◌, ◌≤◌, List, [], ◌∷◌, ◌++◌, length, take, slice_index, refl, sym, ◌∙◌, ap, subst, arith, add-zero, Some, IsTrue}
 use Rattle.std.proofs.lemmas.List.{length-append, take_at}
 use Rattle.std.proofs.lemmas.Bool.{cases_lt}
+use Rattle.std.proofs.lemmas.Option.{same_Some}
 use Rattle.std.specs.List.{AllByRecursion}
 use Rattle.ex_base.specs.declared.geometry.Geometry.{Geometry}
 use Rattle.ex_base.specs.Bytes.{part, repl, part-repl, length-repl, repl-inside, repl_same_outside, same_parts, part_reads}
 use Rattle.disk_model.specs.Outside.{Outside, IsWorld, Only, Leaves}
 use Rattle.disk_model.specs.Calls.{Wrote}
 use Rattle.disk_model.specs.Changes.{SameBut, InRange, ChangesWithin, same_but_range, same_but_trans, changes_wider, changes_trans, leaves_changes}
-use Rattle.disk_model.specs.Runs.{leaves_start, honest_on, leaves_trans, some_same}
+use Rattle.disk_model.specs.Runs.{leaves_start, honest_on, leaves_trans}
 use Rattle.op_log.specs.declared.record.LogRecord.{LogRecord}
 use Rattle.op_log.specs.Records.{record_len, record_body, IsLogRecord}
 use Rattle.op_log.specs.Log.{Follow, open_records, log_end, SaysLog, SaysEither, AddsHere, HasLog, DiskSays, KeepsLog, Adding}
@@ -120,7 +121,7 @@ pub second_leaves : {g : Geometry} {rs : List LogRecord} {r : LogRecord} (a b c 
     → ChangesWithin (InRange gate 1) b c → Leaves a c (AddsHere g rs r (InRange gate (length bytes + 1)) a.images held)
 second_leaves {g} {rs} {r} a b c gate bytes held adds world now large keeps holds one wrote settled two =
     let says = keeps.on_disk.says in
-    let is : keeps.on_disk.disk ≡ held = some_same keeps.on_disk.disk held (sym keeps.on_disk.holds ∙ holds) in
+    let is : keeps.on_disk.disk ≡ held = same_Some keeps.on_disk.disk held (sym keeps.on_disk.holds ∙ holds) in
     let front = subst (Front g rs) is (held_front a world large keeps.on_disk) in
     let d = repl held (gate + 1) bytes in
     let ready = body_there gate bytes held adds front in

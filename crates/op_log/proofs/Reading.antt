@@ -1,5 +1,5 @@
 -- Bytes that are read are the spelling of what was read, and no spelling begins another.
-use Rattle.std.proofs.Common.{◌≡◌, ℕ, ◌+◌, ◌-◌, ◌*◌, ◌<◌, ◌≤◌, ◌^◌, List, [], ◌∷◌, ◌++◌, length, take, drop, slice_index, refl, sym, ◌∙◌, ap, subst, arith, append_assoc, zero-add}
+use Rattle.std.proofs.Common.{◌≡◌, ℕ, ◌+◌, ◌-◌, ◌*◌, ◌<◌, ◌≤◌, ◌^◌, List, [], ◌∷◌, ◌++◌, length, take, drop, slice_index, sym, ◌∙◌, ap, subst, arith, append_assoc, zero-add}
 use Rattle.std.proofs.lemmas.List.{length-append, append-nil, take-append-drop}
 use Rattle.std.proofs.lemmas.Nat.{mul-le}
 use Rattle.std.proofs.lemmas.Grind.{flat_map-append}
@@ -10,7 +10,8 @@ use Rattle.ex_base.specs.declared.names.OpNote.{OpNote}
 use Rattle.ex_base.specs.Limits.{page_size_most}
 use Rattle.ex_base.specs.Bytes.{part, part_joined, IsBytes}
 use Rattle.ex_base.specs.Fields.{field_bytes, length-field_bytes, field_bytes-same, field_bytes-got, number_at, number_at-spelled}
-use Rattle.op_log.specs.declared.decode.Head.{Head}
+use Rattle.ex_base.proofs.Reading.{OneReading, one_list}
+use Rattle.op_log.specs.declared.decoding.Head.{Head}
 use Rattle.op_log.specs.declared.record.LogRecord.{LogRecord}
 use Rattle.op_log.specs.declared.record.PageImage.{PageImage}
 use Rattle.op_log.specs.Records.{note_bytes, image_bytes, number_bytes, images_len, record_len, record_body}
@@ -89,18 +90,6 @@ record_spelled g b head r bytes has number notes pages freed =
     (same, ap (λ (n : ℕ). part b 0 n) whole ∙ eight)
 
 -- ---- no spelling begins another
-
-abbrev pub OneReading : {A : Type 0} → (A → Type 0) → (A → List ℕ) → Type 0
-OneReading {A} Fits spell = (a b : A) (x y : List ℕ) → Fits a → Fits b → spell a ++ x ≡ spell b ++ y → (a ≡ b) × (x ≡ y)
-
-one_list : {A : Type 0} (Fits : A → Type 0) (spell : A → List ℕ) → OneReading Fits spell → (xs zs : List A) (x y : List ℕ) → AllByRecursion Fits xs → AllByRecursion Fits zs → length xs ≡ length zs → flat_map spell xs ++ x ≡ flat_map spell zs ++ y → (xs ≡ zs) × (x ≡ y)
-one_list Fits spell one [] [] x y p q len e = (refl, e)
-one_list Fits spell one [] (b ∷ zs) x y p q len e = absurd (omega arith)
-one_list Fits spell one (a ∷ xs) [] x y p q len e = absurd (omega arith)
-one_list Fits spell one (a ∷ xs) (b ∷ zs) x y p q len e =
-    let heads = one a b (flat_map spell xs ++ x) (flat_map spell zs ++ y) p.0 q.0 (sym (append_assoc (spell a) (flat_map spell xs) x) ∙ e ∙ append_assoc (spell b) (flat_map spell zs) y) in
-    let rest = one_list Fits spell one xs zs x y p.1 q.1 (omega arith) heads.1 in
-    (cc (heads.0, rest.0), rest.1)
 
 same_field : (n a b : ℕ) (x y : List ℕ) → a < 256 ^ n → b < 256 ^ n → field_bytes n a ++ x ≡ field_bytes n b ++ y → (a ≡ b) × (x ≡ y)
 same_field n a b x y la lb e =

@@ -1,32 +1,18 @@
 -- What a record keeps beside its shape.
-use Rattle.std.proofs.Common.{◌≡◌, ◌⊎◌, inl, inr, ⊎_elim, ◌↔◌, ℕ, zero, suc, ◌+◌, ◌<◌, ◌≤◌, List, [], ◌∷◌, ◌++◌, length, map, drop, get_or, refl, sym, ◌∙◌, ap, subst, arith, add-one, Contains, Some, slice_index_or}
+use Rattle.std.proofs.Common.{◌≡◌, ◌⊎◌, inl, inr, ⊎_elim, ◌↔◌, ℕ, zero, suc, ◌+◌, ◌<◌, ◌≤◌, List, [], ◌∷◌, ◌++◌, length, map, drop, get_or, refl, sym, ◌∙◌, ap, subst, arith, Contains, Some, slice_index_or}
 use Rattle.std.specs.List.{AllByRecursion}
-use Rattle.std.proofs.Math.Seq.{drop-cons}
 use Rattle.ex_base.specs.declared.geometry.Geometry.{Geometry}
 use Rattle.ex_base.specs.declared.names.OpNote.{OpNote}
 use Rattle.ex_base.specs.Area.{area_end, catalog_no}
 use Rattle.ex_base.specs.Order.{Rising}
+use Rattle.ex_base.proofs.Each.{each_as, each_mapped, each_unmapped, each_with}
+use Rattle.ex_base.proofs.Members.{contains_cases, contains_later}
+use Rattle.ex_base.proofs.Lists.{drop_item}
 use Rattle.op_log.specs.declared.record.LogRecord.{LogRecord}
 use Rattle.op_log.specs.declared.record.PageImage.{PageImage}
 use Rattle.op_log.specs.Records.{IsNote, IsImage, IsFreed, IsLogRecord, page_of, number_of}
 use Rattle.op_log.specs.Log.{Follow}
 use Rattle.op_log.specs.Decoding.{HasKind, RisesIn, IsApart, Shaped, FitsNote, FitsImage, FitsNumber, NumberFollows, last_number}
-
-pub all-weaker : {A : Type 0} (P Q : A → Type 0) → ((x : A) → P x → Q x) → (xs : List A) → AllByRecursion P xs → AllByRecursion Q xs
-all-weaker P Q f [] p = tt
-all-weaker P Q f (x ∷ xs) p = (f x p.0, all-weaker P Q f xs p.1)
-
-all-both : {A : Type 0} (P Q R : A → Type 0) → ((x : A) → P x → Q x → R x) → (xs : List A) → AllByRecursion P xs → AllByRecursion Q xs → AllByRecursion R xs
-all-both P Q R f [] p q = tt
-all-both P Q R f (x ∷ xs) p q = (f x p.0 q.0, all-both P Q R f xs p.1 q.1)
-
-all-map : {A : Type 0} (P : ℕ → Type 0) (f : A → ℕ) (xs : List A) → AllByRecursion (λ x. P (f x)) xs → AllByRecursion P (map f xs)
-all-map P f [] p = tt
-all-map P f (x ∷ xs) p = (p.0, all-map P f xs p.1)
-
-all-unmap : {A : Type 0} (P : ℕ → Type 0) (f : A → ℕ) (xs : List A) → AllByRecursion P (map f xs) → AllByRecursion (λ x. P (f x)) xs
-all-unmap P f [] p = tt
-all-unmap P f (x ∷ xs) p = (p.0, all-unmap P f xs p.1)
 
 -- ---- numbers in order
 
@@ -53,13 +39,13 @@ rises-from end (x ∷ xs) rising all = rises-on 256 end x xs (omega (arith, all.
 -- ---- all of a record
 
 pub kinds_of : (ns : List OpNote) → AllByRecursion IsNote ns → AllByRecursion HasKind ns
-kinds_of ns p = all-weaker IsNote HasKind (λ n is. (is.some_kind, is.kind)) ns p
+kinds_of ns p = each_as IsNote HasKind ns (λ n is. (is.some_kind, is.kind)) p
 
 pub images_rise_of : (g : Geometry) (r : LogRecord) → IsLogRecord g r → RisesIn 256 (area_end g) (map page_of r.pages)
-images_rise_of g r is = rises-from (area_end g) (map page_of r.pages) is.rising (all-map (Within (area_end g)) page_of r.pages (all-weaker (IsImage g) (λ e. Within (area_end g) (page_of e)) (λ e p. p.0) r.pages is.images))
+images_rise_of g r is = rises-from (area_end g) (map page_of r.pages) is.rising (each_mapped (Within (area_end g)) page_of r.pages (each_as (IsImage g) (λ e. Within (area_end g) (page_of e)) r.pages (λ e p. p.0) is.images))
 
 pub numbers_rise_of : (g : Geometry) (r : LogRecord) → IsLogRecord g r → RisesIn 256 (area_end g) (map number_of r.freed)
-numbers_rise_of g r is = rises-from (area_end g) (map number_of r.freed) is.freed_rising (all-map (Within (area_end g)) number_of r.freed is.freed)
+numbers_rise_of g r is = rises-from (area_end g) (map number_of r.freed) is.freed_rising (each_mapped (Within (area_end g)) number_of r.freed is.freed)
 
 pub valid_of : (g : Geometry) (r : LogRecord) → Shaped g r → AllByRecursion HasKind r.notes → RisesIn 256 (area_end g) (map page_of r.pages) → RisesIn 256 (area_end g) (map number_of r.freed)
     → AllByRecursion (IsApart r.pages) r.freed → Contains (map page_of r.pages) catalog_no → IsLogRecord g r
@@ -67,10 +53,9 @@ valid_of g r shaped kinds pages freed apart catalog = record {
   txn = shaped.txn;
   few_notes = shaped.few_notes;
   few_pages = shaped.few_pages;
-  notes = all-both HasKind FitsNote IsNote (λ n k f. record { some_kind = k.0; kind = k.1; page = f.page; slot = f.slot; unique = f.unique; first = f.first; second = f.second }) r.notes kinds shaped.notes;
-  images = all-both (λ e. Within (area_end g) (page_of e)) (FitsImage g) (IsImage g) (λ e w f. (w, f.long)) r.pages
-      (all-unmap (Within (area_end g)) page_of r.pages (rises-within 256 (area_end g) (map page_of r.pages) (omega arith) pages)) shaped.images;
-  freed = all-unmap (Within (area_end g)) number_of r.freed (rises-within 256 (area_end g) (map number_of r.freed) (omega arith) freed);
+  notes = each_with HasKind FitsNote IsNote r.notes (λ n k f. record { some_kind = k.0; kind = k.1; page = f.page; slot = f.slot; unique = f.unique; first = f.first; second = f.second }) kinds shaped.notes;
+  images = each_with (λ e. Within (area_end g) (page_of e)) (FitsImage g) (IsImage g) r.pages (λ e w f. (w, f.long)) (each_unmapped (Within (area_end g)) page_of r.pages (rises-within 256 (area_end g) (map page_of r.pages) (omega arith) pages)) shaped.images;
+  freed = each_unmapped (Within (area_end g)) number_of r.freed (rises-within 256 (area_end g) (map number_of r.freed) (omega arith) freed);
   rising = rises-rising 256 (area_end g) (map page_of r.pages) pages;
   freed_rising = rises-rising 256 (area_end g) (map number_of r.freed) freed;
   apart = apart;
@@ -82,9 +67,9 @@ shaped_of g r is = record {
   txn = is.txn;
   few_notes = is.few_notes;
   few_pages = is.few_pages;
-  notes = all-weaker IsNote FitsNote (λ n p. record { page = p.page; slot = p.slot; unique = p.unique; first = p.first; second = p.second }) r.notes is.notes;
-  images = all-weaker (IsImage g) (FitsImage g) (λ e p. record { page = omega (arith, p.0.1, g.few_pages); long = p.1 }) r.pages is.images;
-  freed = all-weaker (IsFreed g) FitsNumber (λ e p. omega (arith, p.1, g.few_pages)) r.freed is.freed;
+  notes = each_as IsNote FitsNote r.notes (λ n p. record { page = p.page; slot = p.slot; unique = p.unique; first = p.first; second = p.second }) is.notes;
+  images = each_as (IsImage g) (FitsImage g) r.pages (λ e p. record { page = omega (arith, p.0.1, g.few_pages); long = p.1 }) is.images;
+  freed = each_as (IsFreed g) FitsNumber r.freed (λ e p. omega (arith, p.1, g.few_pages)) is.freed;
 }
 
 -- ---- a page among others
@@ -93,21 +78,12 @@ contains_at : (y x : ℕ) (ys : List ℕ) (k : ℕ) → k < length (y ∷ ys) �
 contains_at y x ys zero lt is = inl is
 contains_at y x ys (suc k) lt is = inr (k, omega (arith, lt), is)
 
-contains-cons : (y x : ℕ) (ys : List ℕ) → Contains (y ∷ ys) x → (y ≡ x) ⊎ Contains ys x
-contains-cons y x ys c = contains_at y x ys c.0 c.1 c.2
-
-contains-later : (y x : ℕ) (ys : List ℕ) → Contains ys x → Contains (y ∷ ys) x
-contains-later y x ys c = (suc c.0, omega (arith, c.1), c.2)
-
-drop_item : {A : Type 0} (xs : List A) (i : ℕ) (x : A) → i < length xs → x ≡ get_or xs i x → drop i xs ≡ x ∷ drop (i + 1) xs
-drop_item xs i x within is = drop-cons xs i x within ∙ ap (λ y. y ∷ drop (suc i) xs) (sym is) ∙ ap (λ (n : ℕ). x ∷ drop n xs) (sym (add-one i))
-
 pub contains_next : (xs : List PageImage) (i : ℕ) (x : PageImage) (n : ℕ) → i < length xs → x ≡ get_or xs i x → (x.page.0 ≡ n → ⊥)
     → (Contains (map page_of xs) n ↔ Contains (map page_of (drop i xs)) n) → (Contains (map page_of xs) n ↔ Contains (map page_of (drop (i + 1) xs)) n)
 contains_next xs i x n within is other so_far =
     let e = ap (map page_of) (drop_item xs i x within is) in (
-      λ c. ⊎_elim (λ same. absurd (other same)) (λ later. later) (contains-cons x.page.0 n (map page_of (drop (i + 1) xs)) (subst (λ (l : List ℕ). Contains l n) e (so_far.0 c))),
-      λ c. so_far.1 (subst (λ (l : List ℕ). Contains l n) (sym e) (contains-later x.page.0 n (map page_of (drop (i + 1) xs)) c)),
+      λ c. ⊎_elim (λ same. absurd (other same)) (λ later. later) (contains_cases x.page.0 n (map page_of (drop (i + 1) xs)) (subst (λ (l : List ℕ). Contains l n) e (so_far.0 c))),
+      λ c. so_far.1 (subst (λ (l : List ℕ). Contains l n) (sym e) (contains_later x.page.0 n (map page_of (drop (i + 1) xs)) c)),
     )
 
 -- ---- numbers that follow

@@ -6,7 +6,7 @@ use Rattle.ex_base.specs.declared.names.PageNo.{PageNo}
 use Rattle.ex_base.specs.declared.names.OpNote.{OpNote}
 use Rattle.ex_base.specs.Bytes.{part}
 use Rattle.ex_base.specs.Fields.{number_at}
-use Rattle.op_log.specs.declared.decode.Head.{Head}
+use Rattle.op_log.specs.declared.decoding.Head.{Head}
 use Rattle.op_log.specs.declared.record.LogRecord.{LogRecord}
 use Rattle.op_log.specs.declared.record.PageImage.{PageImage}
 use Rattle.op_log.specs.Records.{record_len, record_body, IsLogRecord, page_of}

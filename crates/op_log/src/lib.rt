@@ -2,7 +2,7 @@
 //! 1 and all records before it count, so a commit is done at the moment at which the one byte of its gate is on the disk.
 #![tactic(auto)]
 
-mod decode;
+mod decoding;
 mod encode;
 mod found;
 mod laws;
@@ -13,11 +13,9 @@ mod record;
 mod scan;
 mod valid;
 
+pub use decoding::decode;
 pub use found::LogRecords;
 pub use laws::{bad_log_has_no_list, one_bad_offset, one_list_of_records};
 pub use log::OpLog;
 pub use record::{LogRecord, Notes, PageImage, PageImages, PageList};
 pub use scan::{LogFault, scan_log};
-
-#[cfg(test)]
-mod tests;

@@ -4,6 +4,7 @@ ghost use Rattle.ex_base.specs.declared.geometry.Geometry.{Geometry};
 ghost use Rattle.ex_base.specs.Sizes.{volume_bytes};
 ghost use Rattle.ex_base.specs.Area.{log_size};
 ghost use Rattle.disk_model.specs.Outside.{Rose, Leaves, Only};
+ghost use Rattle.disk_model.specs.Calls.{MakesCalls, MakesAtMost};
 ghost use Rattle.disk_model.specs.Changes.{ChangesWithin, InRange};
 ghost use Rattle.op_log.specs.declared.record.LogRecord.{LogRecord};
 ghost use Rattle.op_log.specs.Log.{HasLog, KeepsLog, SaysEither, AddsHere, DiskSays, Adding};
@@ -23,6 +24,8 @@ fn write_record<D: Disk>(disk: &mut D, gate: u64, bytes: &[u8]) -> Result<(), Fa
     requires end { gate + (length bytes.now + 1) < 2 ^ 64 }
     requires room { gate + (length bytes.now + 1) ≤ (D.outside disk.old).size }
     ensures changes { ChangesWithin (InRange gate (length bytes.now + 1)) (D.outside disk.old) (D.outside disk.new) }
+    ensures at_most_four { MakesAtMost 4 (D.outside disk.old) (D.outside disk.new) }
+    ensures four { OnOk result (MakesCalls 4 (D.outside disk.old) (D.outside disk.new)) }
     ensures cause { OnErr result (Rose (D.outside disk.old).disk_faults (D.outside disk.new).disk_faults) }
     ensures any_moment { (g : Geometry) (records : List LogRecord) (r : LogRecord) → Adding g records r gate bytes.now → HasLog g (D.outside disk.old)
         → KeepsLog g (D.outside disk.old) records → Leaves (D.outside disk.old) (D.outside disk.new) (SaysEither g records (records ++ r ∷ [])) }
@@ -95,7 +98,7 @@ impl OpLog {
     }
 
     /// Adds a record: its body goes behind its gate, which is still closed, with a closed gate behind it, and is synced. Then the one byte of its gate
-    /// is written and synced. Where the disk fails, the log's end stands, and the record counts or doesn't.
+    /// is written and synced: two writes and two syncs. Where the disk fails, the log's end stands, and the record counts or doesn't.
     pub fn append<D: Disk>(&mut self, disk: &mut D, item: &LogRecord) -> Result<(), Failed>
         requires room { volume_bytes self.old.geometry ≤ (D.outside disk.old).size }
         requires fits { self.old.end + record_len item.now < log_size self.old.geometry }
@@ -104,6 +107,8 @@ impl OpLog {
         // The homes of the pages and the units stay.
         ensures changes { ChangesWithin (InRange (self.old.geometry.page_size + self.old.end) (record_len item.now + 1)) (D.outside disk.old) (D.outside disk.new) }
         ensures cause { OnErr result (Rose (D.outside disk.old).disk_faults (D.outside disk.new).disk_faults) }
+        ensures at_most_four { MakesAtMost 4 (D.outside disk.old) (D.outside disk.new) }
+        ensures four { OnOk result (MakesCalls 4 (D.outside disk.old) (D.outside disk.new)) }
         ensures counts { OnOk result (self.new ≡ record self.old { end = self.old.end + record_len item.now; count = self.old.count + 1 }) }
         ensures failed { OnErr result (self.new ≡ self.old) }
 
@@ -134,12 +139,14 @@ impl OpLog {
         Ok(())
     }
 
-    /// Closes the first gate, so that no record counts. Without a record it makes no call on the disk.
+    /// Closes the first gate by a write and a sync, so that no record counts. Without a record it makes no call on the disk.
     pub fn close_all<D: Disk>(&mut self, disk: &mut D) -> Result<(), Failed>
         requires room { volume_bytes self.old.geometry ≤ (D.outside disk.old).size }
         ensures changes { ChangesWithin (InRange self.old.geometry.page_size 1) (D.outside disk.old) (D.outside disk.new) }
         ensures cause { OnErr result (Rose (D.outside disk.old).disk_faults (D.outside disk.new).disk_faults) }
         ensures no_call { self.old.count ≡ 0 → disk.new ≡ disk.old }
+        ensures at_most_twice { MakesAtMost 2 (D.outside disk.old) (D.outside disk.new) }
+        ensures twice { OnOk result (0 < self.old.count → MakesCalls 2 (D.outside disk.old) (D.outside disk.new)) }
         ensures no_fault { self.old.count ≡ 0 → IsOk result }
         ensures counts { OnOk result (self.new ≡ record self.old { end = 0; count = 0 }) }
         ensures failed { OnErr result (self.new ≡ self.old) }

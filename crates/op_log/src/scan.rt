@@ -1,19 +1,20 @@
 //! The log is read.
-ghost use Rattle.std.specs.Prelude.{◌≡◌, ◌<◌, ◌≤◌, ℕ, List, length, Some, Err, IfOk};
+ghost use Rattle.std.specs.Prelude.{◌≡◌, ◌<◌, ◌≤◌, ℕ, List, length, Some, Err, IfOk, OnOk};
 ghost use Rattle.ex_base.specs.Sizes.{volume_bytes};
 ghost use Rattle.ex_base.specs.Area.{log_at, log_size};
+ghost use Rattle.disk_model.specs.Calls.{MakesCalls, MakesAtMost};
 ghost use Rattle.disk_model.specs.Outside.{Rose, ReadsOnly};
 ghost use Rattle.std.specs.List.{AllByRecursion};
 ghost use Rattle.op_log.specs.Records.{IsLogRecord};
 ghost use Rattle.op_log.specs.Log.{LogSpells, SaysLog, log_end};
 ghost use Rattle.op_log.specs.Decoding.{IsBadAt};
 
-use crate::decode::decode;
+use crate::decoding::decode;
 use crate::found::LogRecords;
 use crate::layout::{LOG_PAGES, OPEN};
 use crate::length::length_of;
 use crate::valid::follows;
-use disk_model::Disk;
+use disk_model::{Disk, Failed};
 use ex_base::Geometry;
 use std::alloc::{AllocError, Global};
 
@@ -28,6 +29,26 @@ pub enum LogFault {
     Bad { at: u64 },
 }
 
+impl From<AllocError> for LogFault {
+    ghost use Rattle.op_log.specs.declared.scan.LogFault.TheVariants.{Memory};
+
+    ghost from_gives = { λ _ fault. fault ≡ Memory };
+
+    fn from(_: AllocError) -> LogFault {
+        LogFault::Memory
+    }
+}
+
+impl From<Failed> for LogFault {
+    ghost use Rattle.op_log.specs.declared.scan.LogFault.TheVariants.{Disk};
+
+    ghost from_gives = { λ _ fault. fault ≡ Disk };
+
+    fn from(_: Failed) -> LogFault {
+        LogFault::Disk
+    }
+}
+
 fn read_records(alloc: Global, geometry: &Geometry, log: &[u8]) -> Result<LogRecords, LogFault>
     requires { length log.now ≡ log_size geometry.now }
     ensures inside { IfOk result (λ found. log_end found < log_size geometry.now) }
@@ -39,10 +60,7 @@ fn read_records(alloc: Global, geometry: &Geometry, log: &[u8]) -> Result<LogRec
     let mut last: Option<u64> = None;
     let mut at: usize = 0;
     while log[at] == OPEN {
-        let Ok(decoded) = decode(alloc, geometry, &log[at + 1..]) else {
-            return Err(LogFault::Memory);
-        };
-        let Some(item) = decoded else {
+        let Some(item) = decode(alloc, geometry, &log[at + 1..])? else {
             return Err(LogFault::Bad { at: at as u64 });
         };
         if !follows(last, item.txn) {
@@ -50,9 +68,7 @@ fn read_records(alloc: Global, geometry: &Geometry, log: &[u8]) -> Result<LogRec
         }
         last = Some(item.txn);
         at += length_of(&item);
-        if found.push(item).is_err() {
-            return Err(LogFault::Memory);
-        }
+        found.push(item)?;
     }
     Ok(found)
 }
@@ -63,7 +79,7 @@ fn empty_buffer(alloc: Global, geometry: &Geometry) -> Result<Vec<u8>, AllocErro
     vec![in alloc; 0u8; LOG_PAGES * geometry.page_size as usize]
 }
 
-/// The records of the log, read from the disk. `Bad` comes exactly where an open gate at the end of the records before it is followed by no record;
+/// The records of the log, read from the disk by one call. `Bad` comes exactly where an open gate at the end of the records before it is followed by no record;
 /// a log has a list of records or a bad offset, and never both.
 pub fn scan_log<D: Disk>(
     alloc: Global,
@@ -72,17 +88,16 @@ pub fn scan_log<D: Disk>(
 ) -> Result<LogRecords, LogFault>
     requires { volume_bytes geometry.now ≤ (D.outside disk.old).size }
     ensures only { ReadsOnly (D.outside disk.old) (D.outside disk.new) }
+    ensures at_most_once { MakesAtMost 1 (D.outside disk.old) (D.outside disk.new) }
+    ensures once { OnOk result (MakesCalls 1 (D.outside disk.old) (D.outside disk.new)) }
     ensures each { IfOk result (AllByRecursion (IsLogRecord geometry.now)) }
     ensures inside { IfOk result (λ found. log_end found < log_size geometry.now) }
     ensures records { IfOk result (λ found. (d : List ℕ) → (D.outside disk.old).disk ≡ Some d → SaysLog geometry.now found d) }
-    ensures bad { (at : ℕ) → result ≡ Err (LogFault.Bad at) → (d : List ℕ) → (D.outside disk.old).disk ≡ Some d → IsBadAt geometry.now (log_at geometry.now d) at }
+    ensures bad { (at : ℕ) → result ≡ Err (LogFault.Bad at) → (d : List ℕ) → (D.outside disk.old).disk ≡ Some d
+        → IsBadAt geometry.now (log_at geometry.now d) at }
     ensures disk { result ≡ Err LogFault.Disk → Rose (D.outside disk.old).disk_faults (D.outside disk.new).disk_faults }
 {
-    let Ok(mut log) = empty_buffer(alloc, geometry) else {
-        return Err(LogFault::Memory);
-    };
-    if disk.read(geometry.page_size as u64, &mut log).is_err() {
-        return Err(LogFault::Disk);
-    }
+    let mut log = empty_buffer(alloc, geometry)?;
+    disk.read(geometry.page_size as u64, &mut log)?;
     read_records(alloc, geometry, &log)
 }

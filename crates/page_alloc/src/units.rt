@@ -9,9 +9,6 @@ use ex_base::{Area, Geometry, PageNo};
 use std::alloc::{AllocError, Global};
 use std::marker::Model;
 
-/// The first page of the page area, which has the catalog.
-const CATALOG: u32 = 257;
-
 /// A unit by its place in its area.
 #[derive(Clone, Copy)]
 struct Spot {
@@ -25,11 +22,11 @@ fn spot_of(geometry: &Geometry, page: PageNo) -> Spot
     ensures inside { result.index < units geometry.now result.area }
     ensures named { page.0 ≡ unit_at geometry.now result.area result.index }
 {
-    let end = CATALOG + geometry.pages;
+    let end = PageNo::CATALOG.0 + geometry.pages;
     if page.0 < end {
         Spot {
             area: Area::Page,
-            index: (page.0 - CATALOG) as usize,
+            index: (page.0 - PageNo::CATALOG.0) as usize,
         }
     } else {
         Spot {
@@ -136,10 +133,10 @@ impl Units {
         ensures other_free { (a : Area) → a ≢ area → free_count self.new.geometry (used_at self.new) a ≡ free_count self.old.geometry (used_at self.old) a }
     {
         match area {
-            Area::Page => PageNo(CATALOG + self.pages.take() as u32),
+            Area::Page => PageNo(PageNo::CATALOG.0 + self.pages.take() as u32),
             Area::Segment => {
                 let index = self.segs.take() as u32;
-                PageNo(CATALOG + self.geometry.pages + index * self.geometry.seg_len)
+                PageNo(PageNo::CATALOG.0 + self.geometry.pages + index * self.geometry.seg_len)
             }
         }
     }

@@ -1,5 +1,5 @@
 -- Which logged pages are there as the pages of files are adopted, one after the other; and the roots of records, one after the other.
-use Rattle.std.proofs.Common.{◌≡◌, ◌≢◌, ◌<◌, ◌+◌, ◌↔◌, ⊎_elim, ℕ, zero, suc, true, false, List, [], ◌∷◌, ◌++◌, length, take, get_or, set, Option, Some, None, sym, ap, subst, ◌∙◌, arith, eqb, eqb-true, eq-eqb}
+use Rattle.std.proofs.Common.{◌≡◌, ◌≢◌, ◌<◌, ◌+◌, ◌↔◌, ⊎_elim, ℕ, true, false, List, [], ◌∷◌, ◌++◌, length, take, get_or, set, Option, Some, None, sym, ap, subst, ◌∙◌, arith, eqb, eqb-true, eq-eqb}
 use Rattle.std.specs.Prelude.{Contains, slice_set}
 use Rattle.std.specs.List.{AllByRecursion}
 use Rattle.std.proofs.lemmas.List.{get_or-set_same, get_or-set_other, length-set, map-append, take_more, append-nil}
@@ -10,18 +10,14 @@ use Rattle.ex_base.specs.declared.names.PageNo.{PageNo}
 use Rattle.ex_base.specs.declared.names.Root.{Root}
 use Rattle.ex_base.specs.Area.{area_end, catalog_no}
 use Rattle.ex_base.proofs.Rows.{each-append}
-use Rattle.file_index.proofs.Counts.{same_or_not}
+use Rattle.ex_base.proofs.Counts.{same_or_not}
+use Rattle.ex_base.proofs.Each.{each_at}
 use Rattle.file_walk.specs.declared.Found.{Found}
 use Rattle.file_walk.specs.Records.{HasRootFields}
 use Rattle.file_walk.specs.Walk.{page_numbers}
 use Rattle.object_records.specs.Record.{IsRootField}
 use Rattle.volume_port.specs.Logged.{LoggedSet, is_held, is_taken}
 use Rattle.restart.specs.Content.{AreHeld, root_list, roots_found}
-
-pub each_at : {A : Type 0} (P : A → Type 0) (xs : List A) (i : ℕ) (d : A) → i < length xs → AllByRecursion P xs → P (get_or xs i d)
-each_at P [] i d inside each = absurd (omega (arith, inside))
-each_at P (x ∷ xs) zero d inside each = each.0
-each_at P (x ∷ xs) (suc i) d inside each = each_at P xs i d (omega (arith, inside)) each.1
 
 -- ---- logged pages
 

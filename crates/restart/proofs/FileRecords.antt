@@ -7,16 +7,18 @@ use Rattle.std.proofs.lemmas.List.Concat.{flat_map-append}
 use Rattle.std.proofs.lemmas.List.Sums.{sum_by-cons}
 use Rattle.std.proofs.lemmas.List.Sorted.{IsPermutation-append, IsPermutation-map, IsPermutation-refl, sum_by-IsPermutation}
 use Rattle.ex_base.proofs.Rows.{each-append}
+use Rattle.ex_base.proofs.Counts.{contains_times, times_contains, times_flat}
+use Rattle.ex_base.proofs.Each.{each_joined, each_parted}
 use Rattle.ex_base.specs.declared.names.Root.{Root}
 use Rattle.ex_base.specs.Ports.{times}
 use Rattle.file_walk.specs.Numbers.{uniques}
 use Rattle.file_walk.specs.Parts.{found_of, root_found}
 use Rattle.object_records.specs.Record.{Content, Small, Large}
-use Rattle.tree_model.specs.Trees.{Units, root_units}
+use Rattle.trees.specs.Trees.{Units, root_units}
 use Rattle.volume_model.specs.Parts.{AllApart, HasLines, IsUnfrozen}
 use Rattle.volume_model.specs.Volume.{FileContent, Line, Stored, line_number, line_records, line_units, root_in, roots_in, unique_of}
 use Rattle.restart.specs.Content.{root_list, roots_found}
-use Rattle.restart.proofs.Permuted.{apart_once, contains_times, each_flat, each_permuted, flat_each, has, once_apart, times_contains, times_flat}
+use Rattle.restart.proofs.Permuted.{apart_once, each_permuted, has, once_apart}
 
 -- all records, file by file
 abbrev pub stored_of : List FileContent → List Stored
@@ -126,5 +128,5 @@ module _ (units : Units) where
 -- what holds of each root
 pub roots_permuted : (P : Root → Type 0) (xs ys : List Stored) → IsPermutation xs ys → AllByRecursion P (roots_in xs) → AllByRecursion P (roots_in ys)
 roots_permuted P xs ys same each =
-    flat_each P (λ (s : Stored). root_in s.body.content) ys
-    (each_permuted (λ (s : Stored). AllByRecursion P (root_in s.body.content)) xs ys same (each_flat P (λ (s : Stored). root_in s.body.content) xs each))
+    each_joined P (λ (s : Stored). root_in s.body.content) ys
+    (each_permuted (λ (s : Stored). AllByRecursion P (root_in s.body.content)) xs ys same (each_parted P (λ (s : Stored). root_in s.body.content) xs each))

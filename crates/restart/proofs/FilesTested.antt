@@ -10,6 +10,8 @@ use Rattle.ex_base.specs.declared.geometry.Geometry.{Geometry}
 use Rattle.ex_base.specs.declared.names.Root.{Root}
 use Rattle.ex_base.specs.Area.{catalog_no}
 use Rattle.ex_base.specs.Order.{AllDiffer, InOrder, Rising}
+use Rattle.ex_base.proofs.Counts.{differ_permuted}
+use Rattle.ex_base.proofs.Each.{each_as, each_mapped, each_unmapped}
 use Rattle.file_walk.specs.declared.WalkedFiles.{WalkedFiles}
 use Rattle.file_walk.specs.Numbers.{AreGoodNumbers, uniques}
 use Rattle.file_walk.specs.Parts.{HasWalked, IsBadFiles, IsListed}
@@ -19,24 +21,16 @@ use Rattle.object_files.specs.Catalog.{Catalog, FileEntry}
 use Rattle.page_alloc.specs.UnitSet.{used_at}
 use Rattle.session_views.specs.declared.part.Part.{Part}
 use Rattle.session_views.specs.declared.part.Part.TheVariants.{Super, Log, Catalog as CatalogPart, File, Page, Body, Node, Balance, Unique}
-use Rattle.tree_model.specs.Trees.{RootNamed, Units, root_units}
+use Rattle.trees.specs.Trees.{RootNamed, Units, root_units}
 use Rattle.volume_model.proofs.OneVolume.{SameRecords, one_file}
 use Rattle.volume_model.specs.Parts.{Apart, HasBalance, HasIndex, HasLines, HasNodes, HasPages, HasUniques}
 use Rattle.volume_model.specs.Volume.{FileContent, Stored, Volume, file_pages, line_number, pages_of_file, reach_of, roots_in, stored_in, unique_of}
 use Rattle.restart.specs.declared.content.Reached.{Reached}
 use Rattle.restart.specs.Content.{AreHeld, FilesHold, FilesReached, IsFirstBad, roots_found, volume_of}
 use Rattle.restart.proofs.FileRecords.{all_lines, all_unfrozen, lines_apart, numbers_are, numbers_listed, permuted, roots_apart, roots_listed, roots_permuted, stored_of, units_permuted}
-use Rattle.restart.proofs.Permuted.{differ_parts, differ_permuted, each_permuted, each_to}
+use Rattle.restart.proofs.Permuted.{differ_parts, each_permuted}
 
 -- ---- the numbers
-
-each_mapped : {A B : Type 0} (P : B → Type 0) (f : A → B) (xs : List A) → AllByRecursion P (map f xs) → AllByRecursion (λ x. P (f x)) xs
-each_mapped P f [] each = tt
-each_mapped P f (x ∷ xs) each = (each.0, each_mapped P f xs each.1)
-
-mapped_each : {A B : Type 0} (P : B → Type 0) (f : A → B) (xs : List A) → AllByRecursion (λ x. P (f x)) xs → AllByRecursion P (map f xs)
-mapped_each P f [] each = tt
-mapped_each P f (x ∷ xs) each = (each.0, mapped_each P f xs each.1)
 
 -- numbers in order that differ rise
 rising : (xs : List ℕ) → InOrder (λ (x y : ℕ). x ≤ y) xs → AllDiffer xs → Rising xs
@@ -105,8 +99,8 @@ module _ (g : Geometry) (units : Units) (c : Catalog) (files : List FileContent)
     nodes_of h = record {
       named = roots_permuted Named (stored_of files) (stored_in v) same h.named;
       no_file_page = roots_permuted NoFilePage (stored_of files) (stored_in v) same
-          (each_to Free NoFilePage (roots_in (stored_of files))
-          (λ root free. each_to (λ p. used p ≡ false) (λ p. ¬ Contains (catalog_no ∷ file_pages v) p) (root_units units root)
+          (each_as Free NoFilePage (roots_in (stored_of files))
+          (λ root free. each_as (λ p. used p ≡ false) (λ p. ¬ Contains (catalog_no ∷ file_pages v) p) (root_units units root)
           (λ p is here. true≢false (sym ((is_used p).1 here) ∙ is)) free) h.apart);
       one_object = lines_apart units (stored_of files) (all_lines files) same (all_unfrozen files body) h.one;
     }
@@ -114,8 +108,8 @@ module _ (g : Geometry) (units : Units) (c : Catalog) (files : List FileContent)
     pub named_of : HasNodes g units v → AreNamed g units used (roots_in (stored_of files))
     named_of h = record {
       named = roots_permuted Named (stored_in v) (stored_of files) back h.named;
-      apart = each_to NoFilePage Free (roots_in (stored_of files))
-          (λ root apart. each_to (λ p. ¬ Contains (catalog_no ∷ file_pages v) p) (λ p. used p ≡ false) (root_units units root)
+      apart = each_as NoFilePage Free (roots_in (stored_of files))
+          (λ root apart. each_as (λ p. ¬ Contains (catalog_no ∷ file_pages v) p) (λ p. used p ≡ false) (root_units units root)
           (λ p none. ⊎_elim (λ there. absurd (none ((is_used p).0 there))) (λ is. is) (cases_Bool (used p))) apart)
           (roots_permuted NoFilePage (stored_in v) (stored_of files) back h.no_file_page);
       one = roots_apart units (stored_of files) (all_lines files) same (all_unfrozen files body) h.one_object;
@@ -132,16 +126,16 @@ module _ (g : Geometry) (units : Units) (c : Catalog) (files : List FileContent)
       let differ : AllDiffer (map unique_of (stored_in v)) = differ_permuted (map unique_of (stored_of files)) (map unique_of (stored_in v)) (IsPermutation-map unique_of (stored_of files) (stored_in v) same) h.differ in
       record {
         differ = differ;
-        some = each_permuted (λ (s : Stored). 1 ≤ unique_of s) (stored_of files) (stored_in v) same (each_mapped (λ (n : ℕ). 1 ≤ n) unique_of (stored_of files) h.some);
-        below = each_permuted (λ (s : Stored). unique_of s < c.next_unique) (stored_of files) (stored_in v) same (each_mapped (λ (n : ℕ). n < c.next_unique) unique_of (stored_of files) h.below);
+        some = each_permuted (λ (s : Stored). 1 ≤ unique_of s) (stored_of files) (stored_in v) same (each_unmapped (λ (n : ℕ). 1 ≤ n) unique_of (stored_of files) h.some);
+        below = each_permuted (λ (s : Stored). unique_of s < c.next_unique) (stored_of files) (stored_in v) same (each_unmapped (λ (n : ℕ). n < c.next_unique) unique_of (stored_of files) h.below);
         listed = all_rising files (subst AllDiffer (numbers_are (all_lines files) (all_unfrozen files body)) differ) listed;
       }
 
   pub numbers_of : HasUniques v → AreGoodNumbers c.next_unique (map unique_of (stored_of files))
   numbers_of h = record {
     differ = differ_permuted (map unique_of (stored_in v)) (map unique_of (stored_of files)) (IsPermutation-map unique_of (stored_in v) (stored_of files) back) h.differ;
-    some = mapped_each (λ (n : ℕ). 1 ≤ n) unique_of (stored_of files) (each_permuted (λ (s : Stored). 1 ≤ unique_of s) (stored_in v) (stored_of files) back h.some);
-    below = mapped_each (λ (n : ℕ). n < c.next_unique) unique_of (stored_of files) (each_permuted (λ (s : Stored). unique_of s < c.next_unique) (stored_in v) (stored_of files) back h.below);
+    some = each_mapped (λ (n : ℕ). 1 ≤ n) unique_of (stored_of files) (each_permuted (λ (s : Stored). 1 ≤ unique_of s) (stored_in v) (stored_of files) back h.some);
+    below = each_mapped (λ (n : ℕ). n < c.next_unique) unique_of (stored_of files) (each_permuted (λ (s : Stored). unique_of s < c.next_unique) (stored_in v) (stored_of files) back h.below);
   }
 
   pub units_of_trees : (u : ℕ) → Contains (flat_map (root_units units) (roots_in (stored_of files))) u ↔ Contains (flat_map (root_units units) (roots_in (stored_in v))) u

@@ -7,6 +7,7 @@ use Rattle.std.proofs.lemmas.Bool.{cases_lt}
 use Rattle.std.proofs.lemmas.List.{nil_from_length}
 use Rattle.ex_base.specs.declared.geometry.Geometry.{Geometry}
 use Rattle.ex_base.specs.Area.{catalog_no, page_at}
+use Rattle.ex_base.proofs.Each.{each_from}
 use Rattle.buffer_groups.specs.Frames.{Frames}
 use Rattle.disk_model.specs.Outside.{Outside, IsWorld, Leaves, WritesNothing}
 use Rattle.disk_model.specs.Runs.{honest_on, leaves_start, leaves_quiet, leaves_trans, leaves_wider}
@@ -22,7 +23,6 @@ use Rattle.page_alloc.specs.UnitSet.{used_at}
 use Rattle.commits.proofs.Closing.{settled_agrees}
 use Rattle.commits.proofs.Reached.{reach_behind, without_last}
 use Rattle.volume_model.specs.Committed.{Checkpointed, Committed, SameAfterLog, StandsForVolume, with_records}
-use Rattle.volume_model.specs.CrashImage.{each_contained}
 use Rattle.volume_model.specs.FreshView.{KnowsUnits}
 use Rattle.volume_model.specs.Parts.{Decodes, HoldsOf, StandsFor, SuperOf, content_parts}
 use Rattle.volume_model.specs.SameVolume.{reach_kept}
@@ -88,7 +88,7 @@ same_reach_after : (d : Decoded) (image later : List ℕ) → AllByRecursion (Ho
 same_reach_after d image later content same =
     let old = units_of d image in
     let new = units_of (with_records d [] d.volume) later in
-    reach_kept old new d.volume (each_contained (λ u. new u ≡ old u) (reach_of old d.volume) (λ u reached. same.pages u (reach_behind d.geometry old d.volume u (without_last d.geometry d.records old d.volume content) reached)))
+    reach_kept old new d.volume (each_from (λ u. new u ≡ old u) (reach_of old d.volume) (λ u reached. same.pages u (reach_behind d.geometry old d.volume u (without_last d.geometry d.records old d.volume content) reached)))
 
 -- ---- up to the checkpoint
 

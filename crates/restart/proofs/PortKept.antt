@@ -1,5 +1,5 @@
 -- What is shown of a port that a walk keeps.
-use Rattle.std.proofs.Common.{◌≡◌, ℕ, List, sym, subst, ◌∙◌}
+use Rattle.std.proofs.Common.{◌≡◌, ℕ, List, sym, subst}
 use Rattle.ex_base.specs.declared.geometry.Geometry.{Geometry}
 use Rattle.ex_base.specs.declared.ground.Ground as ground
 use Rattle.ex_base.specs.Area.{InPageArea, area_end}
@@ -9,20 +9,9 @@ use Rattle.ex_base.specs.declared.names.PageNo.{PageNo}
 use Rattle.node_walk.specs.TreesNamed.{ShowsPages}
 use Rattle.std.proofs.Common.{◌<◌, [], ◌∷◌}
 use Rattle.std.specs.List.{AllByRecursion}
-use Rattle.tree_model.specs.Trees.{Units}
+use Rattle.trees.specs.Trees.{Units}
 
 module _ {S : Type 0} (g : ground.Ghosts S) where
-  pub keeps_on : (a b c : S) → Keeps g a b → Keeps g b c → Keeps g a c
-  keeps_on a b c one two = record {
-    units = two.units ∙ one.units;
-    images = two.images ∙ one.images;
-    used = two.used ∙ one.used;
-    refs = two.refs ∙ one.refs;
-    held = two.held ∙ one.held;
-    free = two.free ∙ one.free;
-    leads = g.leads_trans a b c one.leads two.leads;
-  }
-
   pub tells_of : (h : Geometry) (s : S) (units : Units) → h ≡ g.geometry s → g.tells s → ShowsPages h (g.image s) units → Tells g s units
   tells_of h s units same told shows = record { tells = told; same = λ p inside. shows p (subst (λ (k : Geometry). InPageArea k p) (sym same) inside) }
 

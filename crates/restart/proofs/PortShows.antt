@@ -1,5 +1,5 @@
 -- What a port for reading alone shows of a disk: each page after the log.
-use Rattle.std.proofs.Common.{◌≡◌, ◌∷◌, ◌*◌, ℕ, List, [], All, Option, Some, Result, Ok, Err, IfOk, IsSome, unwrap_or, refl, sym, ap, subst, ◌∙◌}
+use Rattle.std.proofs.Common.{◌≡◌, ◌∷◌, ◌*◌, ℕ, List, [], All, Option, Some, IsSome, unwrap_or, refl, sym, ap, subst, ◌∙◌}
 use Rattle.ex_base.specs.declared.geometry.Geometry.{Geometry}
 use Rattle.ex_base.specs.Area.{page_at}
 use Rattle.ex_base.specs.Bytes.{part}
@@ -33,7 +33,3 @@ fresh_tells g o groups image fresh holds = (
   subst (λ (held : Option (List ℕ)). IsSome held) (sym holds) refl,
   subst (All (Lends o.disk)) (sym fresh) (All-cons (Lends o.disk) (empty_main g) [] (λ held is. All-nil (λ (e : ℕ × List ℕ). e.1 ≡ page_of held g.page_size e.0)) (All-nil (Lends o.disk))),
 )
-
-pub ok_to : {T E : Type 0} (r : Result T E) (P Q : T → Type 0) → ((x : T) → P x → Q x) → IfOk r P → IfOk r Q
-ok_to (Ok x) P Q on is = on x is
-ok_to (Err e) P Q on is = is

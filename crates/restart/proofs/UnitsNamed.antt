@@ -46,5 +46,6 @@ pub counted : (g : Geometry) (u : UnitSet) → IsFitting u → u.geometry ≡ g 
 counted g u fits same refs = record {
   geometry = same;
   named = λ p used. subst (λ (h : Geometry). IsUnit h p) same (used_named u fits p used);
+  owned = λ p some. let none : refs_at u p ≡ 0 = ap (λ (f : ℕ → ℕ). f p) refs in absurd (omega (arith, none, some));
   few = λ p. let none : refs_at u p ≡ 0 = ap (λ (f : ℕ → ℕ). f p) refs in omega (arith, none);
 }

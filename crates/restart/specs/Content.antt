@@ -9,7 +9,7 @@ use Rattle.file_walk.specs.declared.Found.{Found}
 use Rattle.page_alloc.specs.UnitSet.{used_at, refs_at}
 use Rattle.session_views.specs.declared.part.Part.{Part}
 use Rattle.session_views.specs.declared.part.Part.TheVariants.{File, Page, Body, Node, Balance, Unique}
-use Rattle.tree_model.specs.Trees.{Units}
+use Rattle.trees.specs.Trees.{Units}
 use Rattle.tree_store.specs.Stored.{IsCounted}
 use Rattle.volume_model.specs.Parts.{HoldsOf, rank}
 use Rattle.volume_model.specs.Volume.{FileContent, Volume, file_pages, reach_of}

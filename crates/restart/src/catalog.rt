@@ -14,9 +14,6 @@ use object_files::CatalogView;
 use session_views::{OpenFault, Part};
 use std::alloc::Global;
 
-/// The page of the catalog.
-const CATALOG: PageNo = PageNo(257);
-
 /// The catalog's page after the log: its image, or else what stands at its home.
 pub fn read_catalog<D: Disk>(
     alloc: Global,
@@ -31,13 +28,16 @@ pub fn read_catalog<D: Disk>(
     ensures page { IfOk result (λ page. (image : List ℕ) → (D.outside disk.old).disk ≡ Some image
         → page.items ≡ unwrap_or (committed_image meta.now catalog_no) (page_at geometry.now image catalog_no)) }
 {
-    if let Some(image) = meta.committed_at(CATALOG) {
+    if let Some(image) = meta.committed_at(PageNo::CATALOG) {
         return image.to_vec(alloc).map_err(|_| OpenFault::Memory);
     }
     let Ok(mut page) = vec![in alloc; 0u8; geometry.page_size as usize] else {
         return Err(OpenFault::Memory);
     };
-    if disk.read(geometry.home(CATALOG), &mut page).is_err() {
+    if disk
+        .read(geometry.home(PageNo::CATALOG), &mut page)
+        .is_err()
+    {
         return Err(OpenFault::Disk);
     }
     Ok(page)

@@ -8,11 +8,11 @@ ghost use Rattle.file_walk.specs.Records.{HasRootFields};
 ghost use Rattle.file_walk.specs.Walk.{page_numbers};
 ghost use Rattle.node_walk.specs.TreesNamed.{ShowsPages};
 ghost use Rattle.object_records.specs.Record.{IsRootField};
-ghost use Rattle.tree_model.specs.Trees.{Units as Bytes};
+ghost use Rattle.trees.specs.Trees.{Units as Bytes};
 ghost use Rattle.volume_port.specs.Logged.{is_held, is_taken};
 ghost use Rattle.restart.specs.Content.{FilesReached, IsFirstBad, AreHeld, IsReached, roots_found};
 
-use ex_base::{Geometry, PageNo, Pages, Root};
+use ex_base::{Geometry, PageNo, ReadPages, Root};
 use file_walk::{Found, has_good_numbers, walk_files};
 use node_walk::walk_trees;
 use object_files::CatalogView;
@@ -29,7 +29,7 @@ pub struct Reached {
 }
 
 /// Walks over all files of a catalog and over all trees of their objects, and tests them part by part.
-pub fn read_content<P: Pages>(
+pub fn read_content<P: ReadPages>(
     pages: &mut P,
     alloc: Global,
     geometry: &Geometry,

@@ -54,8 +54,6 @@ pub fn walk_volume<D: Disk>(
         geometry: *geometry,
         meta,
         pages: &pages,
-        catalog_used: false,
-        catalog_refs: 0,
     };
     read_content(&mut port, alloc, geometry, catalog)
 }

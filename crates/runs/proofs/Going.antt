@@ -1,10 +1,11 @@
 -- A run goes on: a line is taken, a step is made, a reply is sent.
 use Rattle.std.proofs.Common.{◌≡◌, ◌⊎◌, ◌∙◌, ℕ, ◌+◌, ◌≤◌, ◌<◌, IsTrue, Option, Some, None, List, [], ◌∷◌, ◌++◌, length, take, min, Bool, true, false, ltb, is_some, refl, sym, ap, subst, inl, inr, ⊎_elim, arith, append_assoc}
-use Rattle.std.proofs.lemmas.List.{append-nil, append_cancel_left, take-take, take_min, length-take}
+use Rattle.std.proofs.lemmas.List.{append-nil, append_cancel_left, take-take, length-take, take_all}
 use Rattle.std.proofs.lemmas.Bool.{ltb-true, ltb-false}
 use Rattle.std.proofs.Math.Seq.{take-append_seam, take-length}
+use Rattle.std.proofs.lemmas.Option.{same_Some}
 use Rattle.disk_model.specs.Outside.{Outside, IsWorld, Goes, DiskOnly, SourceOnly, SinkOnly, Between, Along, Leaves}
-use Rattle.disk_model.specs.Runs.{along_start, along_disk, along_sink, along_source, along_wider, some_same, honest_on, goes_refl, goes_trans}
+use Rattle.disk_model.specs.Runs.{along_start, along_disk, along_sink, along_source, along_wider, honest_on, goes_refl, goes_trans}
 use Rattle.table_model.specs.declared.table.Table.{Table}
 use Rattle.table_model.specs.declared.machine.Machine.{Machine}
 use Rattle.table_model.specs.declared.machine.Pick.{Pick}
@@ -45,10 +46,6 @@ le_or_lt a b = split_at a b (ltb b a) refl
 
 take_front : (xs ys zs : List ℕ) → xs ++ ys ≡ zs → xs ≡ take (length xs) zs
 take_front xs ys zs is = sym (take-append_seam xs ys) ∙ ap (take (length xs)) is
-
-take_all : (k : ℕ) (xs : List ℕ) → length xs ≤ k → take k xs ≡ xs
-take_all k xs long = let least : min k (length xs) ≡ length xs = omega (arith, long) in
-    sym (take_min k xs) ∙ ap (λ (n : ℕ). take n xs) least ∙ take-length xs
 
 take_twice : (k n : ℕ) (xs : List ℕ) → take k (take n xs) ≡ take (min k n) xs
 take_twice k n xs = elim (le_or_lt k n) as (λ _. take k (take n xs) ≡ take (min k n) xs) [
@@ -109,8 +106,8 @@ along_sending {S} {entry} {b} {c} M opening rows last asked was told j t n cover
     here s d image between =
         let before : List ℕ = was ++ output_of rows in
         let text : List ℕ = text_of told in
-        let first : between.first ≡ before = some_same between.first before (sym between.was ∙ sent_before) in
-        let end : between.last ≡ before ++ take n text = some_same between.last (before ++ take n text) (sym between.is ∙ sent_after) in
+        let first : between.first ≡ before = same_Some between.first before (sym between.was ∙ sent_before) in
+        let end : between.last ≡ before ++ take n text = same_Some between.last (before ++ take n text) (sym between.is ∙ sent_after) in
         let begins : s ≡ before ++ between.begins.0 = between.begins.1 ∙ ap (λ (l : List ℕ). l ++ between.begins.0) first in
         let front = front_between before text s between.begins.0 between.goes_on.0 n begins (sym end ∙ between.goes_on.1) in
         moment_sending M opening rows last asked was told j t s d (min (length between.begins.0) n) covers (stands d image) one_line ended
@@ -197,7 +194,7 @@ reached_start {S} {M} {opening} {was} {entry} world same opens = record {
       after = inl (refl, refl);
       stands = M.stands entry.images opening d opens.shows.shows here;
       more = [];
-      sent = some_same s was (sym sent ∙ opens.sent) ∙ sym (append-nil was);
+      sent = same_Some s was (sym sent ∙ opens.sent) ∙ sym (append-nil was);
       low = omega (arith, acked_none opening.machine.committed.last);
       high = omega (arith, acked_none opening.machine.committed.last);
     };
@@ -263,7 +260,7 @@ stops_step {S} {M} {opening} {was} {entry} {a} {b} r so_far only leaves =
     }
 
     whole : (s : List ℕ) → a.sent ≡ Some s → s ≡ was ++ output_of so_far.rows
-    whole s sent = some_same s (was ++ output_of so_far.rows) (sym sent ∙ so_far.sent)
+    whole s sent = same_Some s (was ++ output_of so_far.rows) (sym sent ∙ so_far.sent)
 
     during : (s d : List ℕ) → a.sent ≡ Some s → StandsDuring M so_far.view.machine r d → here s d
     during s d sent stands = ⊎_elim
@@ -486,7 +483,7 @@ stops_kept {S} {M} {opening} {was} {entry} {a} {b} so_far only leaves =
       after = inl (committed_last M (MomentSince entry a was) [] opening so_far.view so_far.rows so_far.trail);
       stands = stands;
       more = output_of so_far.rows;
-      sent = some_same s (was ++ output_of so_far.rows) (sym sent ∙ so_far.sent);
+      sent = same_Some s (was ++ output_of so_far.rows) (sym sent ∙ so_far.sent);
       low = omega (arith, so_far.acked);
       high = omega (arith, so_far.acked);
     })

@@ -1,9 +1,9 @@
 -- Words without a byte below the digits, as a line feed and a space are.
-use Rattle.std.proofs.Common.{◌≡◌, ◌∙◌, ℕ, zero, suc, ◌+◌, ◌/◌, ◌%◌, ◌<◌, ◌≤◌, Bool, true, false, cond, not, ◌&&◌, nat_le, nat_lt, true≢false, List, [], ◌∷◌, ◌++◌, length, take, map, get_or, refl, sym, arith, IsTrue}
+use Rattle.std.proofs.Common.{◌≡◌, ◌∙◌, ℕ, zero, suc, ◌+◌, ◌/◌, ◌%◌, ◌<◌, ◌≤◌, Bool, true, false, cond, not, ◌&&◌, nat_le, nat_lt, List, [], ◌∷◌, ◌++◌, length, take, map, get_or, refl, arith, IsTrue}
 use Rattle.std.specs.Prelude.{◌==◌}
 use Rattle.std.specs.List.{list_all, join_with_byte, All}
 use Rattle.std.specs.Fmt.{digits, digits_onto, digit_glyph, decimal}
-use Rattle.std.proofs.lemmas.Bool.{and_from, and_parts}
+use Rattle.std.proofs.lemmas.Bool.{and_from, and_parts, not-true}
 use Rattle.std.proofs.lemmas.Bool.Decides.{nat_tests}
 use Rattle.std.proofs.lemmas.List.Folds.{list_all-append}
 use Rattle.std.proofs.lemmas.List.Sums.{AllPass-from_list_all}
@@ -12,10 +12,6 @@ use Rattle.ex_base.specs.declared.Oid.{Oid}
 use Rattle.table_model.specs.declared.table.TableFile.{TableFile}
 use Rattle.table_model.specs.Words.{is_name, is_name_byte}
 use Rattle.script_replies.specs.ReplyText.{oid_word, hex_words}
-
-not_yes : (b : Bool) → not b ≡ true → b ≡ false
-not_yes true e = absurd (true≢false (sym e))
-not_yes false e = refl
 
 -- the byte stands nowhere in the word
 abbrev pub lacks : ℕ → List ℕ → Bool
@@ -26,7 +22,7 @@ abbrev pub all_lack : ℕ → List (List ℕ) → Bool
 all_lack c words = list_all (lacks c) words
 
 pub each_differs : (c : ℕ) (word : List ℕ) → lacks c word ≡ true → All (λ b. (b == c) ≡ false) word
-each_differs c word h = λ k d inside. not_yes (get_or word k d == c) (AllPass-from_list_all (λ b. not (b == c)) word h k d inside)
+each_differs c word h = λ k d inside. not-true (get_or word k d == c) (AllPass-from_list_all (λ b. not (b == c)) word h k d inside)
 
 pub lacks_more : (c : ℕ) (word : List ℕ) (words : List (List ℕ)) → lacks c word ≡ true → all_lack c words ≡ true → all_lack c (word ∷ words) ≡ true
 lacks_more c word words one rest = and_from (lacks c word) (all_lack c words) one rest

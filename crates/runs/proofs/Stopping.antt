@@ -1,5 +1,5 @@
 -- Why a run stops, by cases.
-use Rattle.std.proofs.Common.{◌≡◌, ◌⊎◌, ◌∙◌, ℕ, Some, None, List, [], OnOk, IfErr, Result, Ok, Err, inl, inr, refl, sym, subst, arith}
+use Rattle.std.proofs.Common.{◌≡◌, ◌⊎◌, ◌∙◌, ℕ, Some, None, List, [], IfErr, Result, Ok, Err, inl, inr, refl, sym, subst, arith}
 use Rattle.std.proofs.lemmas.List.{append-nil}
 use Rattle.disk_model.specs.Outside.{Outside, Rose, Goes}
 use Rattle.script_lines.specs.Lines.{Line, lines_of}
@@ -118,10 +118,6 @@ pub part_of_whole : (why : Stopped) (most : ℕ) (script : List ℕ) (lines : Li
 part_of_whole why most script lines part whole = taken_part why most script lines part ([], sym whole.0 ∙ sym (append-nil lines))
 
 -- ---- results
-
-pub on_ok_from : {T E : Type 0} (r : Result T E) (P : Type 0) → ((x : T) → r ≡ Ok x → P) → OnOk r P
-on_ok_from (Ok x) P given = given x refl
-on_ok_from (Err e) P given = tt
 
 pub if_err_from : {T E : Type 0} (r : Result T E) (P : E → Type 0) → ((e : E) → r ≡ Err e → P e) → IfErr r P
 if_err_from (Ok x) P given = tt

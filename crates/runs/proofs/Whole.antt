@@ -1,8 +1,9 @@
 -- From the opening of a volume to the end of its run.
 use Rattle.std.proofs.Common.{◌≡◌, ◌⊎◌, ◌∙◌, ℕ, ◌≤◌, Option, Some, None, List, [], ◌∷◌, ◌++◌, refl, sym, ap, subst, inl, inr, ⊎_elim, arith}
 use Rattle.std.proofs.lemmas.List.{append-nil}
+use Rattle.std.proofs.lemmas.Option.{same_Some}
 use Rattle.disk_model.specs.Outside.{Outside, IsWorld, DiskOnly, Along, Leaves}
-use Rattle.disk_model.specs.Runs.{along_start, along_disk, along_wider, adds_trans, leaves_wider, goes_trans, some_same}
+use Rattle.disk_model.specs.Runs.{along_start, along_disk, along_wider, adds_trans, leaves_wider, goes_trans}
 use Rattle.table_model.specs.declared.table.Table.{Table}
 use Rattle.table_model.specs.declared.machine.Machine.{Machine}
 use Rattle.table_model.specs.Requests.{Request}
@@ -52,13 +53,13 @@ along_open : {S : Type 0} {M : Meaning S} {entry mid : Outside} {table : Table} 
     → DiskOnly entry mid → Leaves entry mid (λ d. M.StandsFor d table) → Along entry mid (λ s d. (s ≡ was) × M.StandsFor d table)
 along_open {S} {M} {entry} {mid} {table} {was} world starts only leaves =
     along_disk (λ s d. (s ≡ was) × M.StandsFor d table) (λ d. M.StandsFor d table) (along_entry world starts)
-    only leaves (λ s d sent stands. (some_same s was (sym sent ∙ starts.sent), stands))
+    only leaves (λ s d sent stands. (same_Some s was (sym sent ∙ starts.sent), stands))
   where
     along_entry : {S : Type 0} {M : Meaning S} {entry : Outside} {table : Table} {was : List ℕ} → IsWorld entry → RunStarts M entry table was
         → Along entry entry (λ s d. (s ≡ was) × M.StandsFor d table)
     along_entry {S} {M} {entry} {table} {was} world starts =
         along_start entry (λ s d. (s ≡ was) × M.StandsFor d table) world (record {
-          now = λ s d sent here. (some_same s was (sym sent ∙ starts.sent), subst (λ (x : List ℕ). M.StandsFor x table) (sym (starts.rests.settled d here)) starts.stands);
+          now = λ s d sent here. (same_Some s was (sym sent ∙ starts.sent), subst (λ (x : List ℕ). M.StandsFor x table) (sym (starts.rests.settled d here)) starts.stands);
         })
 
 pub unopened : {S : Type 0} {M : Meaning S} {entry mid : Outside} {table : Table} {was : List ℕ} → IsWorld entry → (starts : RunStarts M entry table was)

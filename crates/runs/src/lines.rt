@@ -19,8 +19,16 @@ use session_views::Engine;
 use std::alloc::Global;
 use table_model::{Refusal, Reply};
 
-/// Sends the text of a reply, which is put into the buffer first.
-fn say<S: Sink>(text: &mut Vec<u8>, sink: &mut S, reply: Reply) -> Result<(), Stopped>
+/// The most bytes that the buffer for replies keeps between two of them.
+const TEXT_KEPT: usize = 65_536;
+
+/// Sends the text of a reply, which is put into the buffer first. What a long one took is given back.
+fn say<S: Sink>(
+    alloc: Global,
+    text: &mut Vec<u8>,
+    sink: &mut S,
+    reply: Reply,
+) -> Result<(), Stopped>
     ensures sent { OnOk result (SentFront (S.outside sink.old) (S.outside sink.new) (text_of reply) (length (text_of reply))) }
     ensures part { OnErr result ((n : ℕ) × SentFront (S.outside sink.old) (S.outside sink.new) (text_of reply) n) }
     ensures caused { IfErr result (λ why. CausedBy why (S.outside sink.old) (S.outside sink.new)) }
@@ -32,6 +40,9 @@ fn say<S: Sink>(text: &mut Vec<u8>, sink: &mut S, reply: Reply) -> Result<(), St
     }
     if send_all(sink, text.as_slice()).is_err() {
         return Err(Stopped::Output);
+    }
+    if text.capacity() > TEXT_KEPT {
+        *text = Vec::new(alloc);
     }
     Ok(())
 }
@@ -61,13 +72,13 @@ pub(crate) fn step_lines<E: Engine, H: Host>(
         }
         match reader.line() {
             LineRef::End => return Ok(()),
-            LineRef::Long => say(text, host, Reply::No(Refusal::LineLong))?,
+            LineRef::Long => say(alloc, text, host, Reply::No(Refusal::LineLong))?,
             LineRef::Line(line) => match parse(line) {
-                Err(why) => say(text, host, Reply::No(why))?,
+                Err(why) => say(alloc, text, host, Reply::No(why))?,
                 Ok(None) => {}
                 Ok(Some(command)) => match session.step(alloc, host, &command) {
                     Err(stop) => return Err(stopped_by(stop)),
-                    Ok(reply) => say(text, host, reply)?,
+                    Ok(reply) => say(alloc, text, host, reply)?,
                 },
             },
         }

@@ -1,12 +1,10 @@
 -- The parts of data words and of object identifiers.
-use Rattle.std.proofs.Common.{◌≡◌, ℕ, ◌/◌, List, [], ◌∷◌, length, Bool, false, true, ◌&&◌, Some, None, ap, sym, subst, ◌∙◌, refl, true≢false}
-use Rattle.std.specs.Prelude.{All, ◌==◌, codes, bytes_eq}
-use Rattle.std.specs.List.{slice_split, onto_first, list_all, join_with_byte}
-use Rattle.std.proofs.lemmas.Bool.{eqb-true}
+use Rattle.std.proofs.Common.{◌≡◌, ℕ, ◌/◌, List, [], ◌∷◌, length, Bool, false, true, ◌&&◌, Some, None, ap, sym, ◌∙◌, refl}
+use Rattle.std.specs.Prelude.{◌==◌, codes, bytes_eq}
+use Rattle.std.specs.List.{slice_split, onto_first, join_with_byte}
 use Rattle.std.proofs.lemmas.Slice.Eq.{bytes_eq-Decides}
-use Rattle.std.proofs.lemmas.List.Splits.{slice_split_none, join_with_byte-slice_split}
-use Rattle.std.proofs.lemmas.List.Elements.{All-nil, All-cons}
-use Rattle.hex.specs.Hex.{is_hex_digit}
+use Rattle.std.proofs.lemmas.List.Splits.{join_with_byte-slice_split}
+use Rattle.data_words.proofs.HexParts.{and_right, hex_part}
 use Rattle.table_model.specs.Words.{is_hex, colon, dot}
 use Rattle.script_lang.specs.Forms.{number_in, numbered_in, numbered_in_parts, count_in, count_in_parts}
 
@@ -35,29 +33,6 @@ four_parts word p r s u a b e f g =
     ap numbered_in_parts (e ∙ ap (λ l. p ∷ l) (f ∙ ap (λ l. s ∷ l) (g ∙ ap (λ l. a ∷ l) last.2)))
 
 -- ---- data words
-
-no_colon : (b : ℕ) → is_hex_digit b ≡ true → colon b ≡ false
-no_colon b h = go (colon b) refl
-  where
-    go : (c : Bool) → colon b ≡ c → c ≡ false
-    go true e = let at : b ≡ 58 = eqb-true b 58 e in absurd (true≢false (sym (subst (λ (n : ℕ). is_hex_digit n ≡ true) at h)))
-    go false e = refl
-
-no_colons : (xs : List ℕ) → list_all is_hex_digit xs ≡ true → All (λ b. colon b ≡ false) xs
-no_colons [] h = All-nil (λ b. colon b ≡ false)
-no_colons (x ∷ xs) h = go (is_hex_digit x) refl h (no_colons xs)
-  where
-    go : (b : Bool) → is_hex_digit x ≡ b → list_all is_hex_digit (x ∷ xs) ≡ true → (list_all is_hex_digit xs ≡ true → All (λ b. colon b ≡ false) xs) → All (λ b. colon b ≡ false) (x ∷ xs)
-    go true e h rest = All-cons (λ b. colon b ≡ false) x xs (no_colon x e) (rest (rw e at h))
-    go false e h rest = absurd (true≢false (sym (rw e at h)))
-
-and_right : (a b : Bool) → (a && b) ≡ true → b ≡ true
-and_right true b h = h
-and_right false b h = absurd (true≢false (sym h))
-
--- hexadecimal digits are one part
-pub hex_part : (xs : List ℕ) → is_hex xs ≡ true → slice_split colon xs ≡ xs ∷ []
-hex_part xs h = slice_split_none colon xs (no_colons xs (and_right _ _ h))
 
 hex_key : (key : List ℕ) → bytes_eq key (codes "hex") ≡ true → key ≡ codes "hex"
 hex_key key h = (bytes_eq-Decides key (codes "hex")).0 h

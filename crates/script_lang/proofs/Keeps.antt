@@ -2,13 +2,13 @@
 use Rattle.std.proofs.Common.{◌≡◌, ℕ, ◌^◌, List, [], ◌∷◌, Bool, true, ◌&&◌, Some, None, ap, sym, ◌∙◌, refl, true≢false}
 use Rattle.std.specs.Prelude.{◌==◌, nat_le, nat_lt}
 use Rattle.std.specs.List.{slice_split}
-use Rattle.std.proofs.lemmas.Bool.{eqb-true}
+use Rattle.std.proofs.lemmas.Bool.{eqb-true, and_from}
 use lib.Pointwise.{pointwise}
 use Rattle.table_model.specs.Words.{is_name, is_number, number_of, is_data, dot, are_oid_parts}
 use Rattle.table_model.specs.Requests.{Request, Bound, Numbered, is_reference, is_request}
 use Rattle.table_model.specs.Requests as request
 use Rattle.script_lang.specs.Grammar.{Slot, Key, Name, At, Number, Frames, Of, Given, fits, row, within, spells}
-use Rattle.script_lang.proofs.Slots.{and_first, and_second, both}
+use Rattle.script_lang.proofs.Slots.{and_first, and_second}
 
 -- the form and the limit of what stands as one word
 abbrev slot_kept : Slot → Bool
@@ -27,12 +27,12 @@ number_kept w n h =
 
 oid_kept : (parts : List (List ℕ)) (p s u : ℕ) → are_oid_parts parts p s u ≡ true → is_reference (Numbered p s u) ≡ true
 oid_kept (a ∷ b ∷ c ∷ []) p s u h =
-    both _ _ (both _ _ (number_kept a p (and_first _ _ (and_first _ _ h))) (number_kept b s (and_second _ _ (and_first _ _ h)))) (number_kept c u (and_second _ _ h))
+    and_from _ _ (and_from _ _ (number_kept a p (and_first _ _ (and_first _ _ h))) (number_kept b s (and_second _ _ (and_first _ _ h)))) (number_kept c u (and_second _ _ h))
 oid_kept _ p s u h = absurd (true≢false (sym h))
 
 frames_kept : (a : Bool) (n : ℕ) → (a && nat_le 1 n && nat_le n 1024) ≡ true → (nat_le 1 n && nat_le n 1024) ≡ true
 frames_kept a n h =
-    both (nat_le 1 n) (nat_le n 1024) (and_second a (nat_le 1 n) (and_first (a && nat_le 1 n) (nat_le n 1024) h)) (and_second (a && nat_le 1 n) (nat_le n 1024) h)
+    and_from (nat_le 1 n) (nat_le n 1024) (and_second a (nat_le 1 n) (and_first (a && nat_le 1 n) (nat_le n 1024) h)) (and_second (a && nat_le 1 n) (nat_le n 1024) h)
 
 fits_kept : (s : Slot) (w : List ℕ) → fits s w ≡ true → slot_kept s ≡ true
 fits_kept (Key key) w h = refl
@@ -58,23 +58,23 @@ request_kept : (r : Request) → Kept (row r) → within r ≡ true → is_reque
 request_kept (request.File name) k w = k.1.0
 request_kept (request.Unfile name) k w = k.1.0
 request_kept (request.ListFile name) k w = k.1.0
-request_kept (request.Create file bind) k w = both _ _ k.1.0 k.1.1.1.0
+request_kept (request.Create file bind) k w = and_from _ _ k.1.0 k.1.1.1.0
 request_kept (request.Destroy x) k w = k.1.0
 request_kept (request.Size x) k w = k.1.0
 request_kept (request.Stat x) k w = k.1.0
 request_kept (request.Digest x) k w = k.1.0
 request_kept (request.Versions x) k w = k.1.0
 request_kept (request.DropVersion x) k w = k.1.0
-request_kept (request.Read x pos len) k w = both _ _ (both _ _ k.1.0 k.1.1.0) w
-request_kept (request.Insert x pos given) k w = both _ _ (both _ _ k.1.0 k.1.1.0) (both _ _ k.1.1.1.0 w)
-request_kept (request.Append x given) k w = both _ _ k.1.0 (both _ _ k.1.1.0 w)
-request_kept (request.Replace x pos given) k w = both _ _ (both _ _ k.1.0 k.1.1.0) (both _ _ k.1.1.1.0 w)
-request_kept (request.Delete x pos len) k w = both _ _ (both _ _ k.1.0 k.1.1.0) k.1.1.1.0
-request_kept (request.Freeze x bind) k w = both _ _ k.1.0 k.1.1.1.0
-request_kept (request.Group name frames mru) k w = both _ _ (both _ _ k.1.0 (and_first _ _ k.1.1.0)) (and_second _ _ k.1.1.0)
-request_kept (request.Scan x name None) k w = both _ _ (both _ _ k.1.0 k.1.1.1.0) refl
-request_kept (request.Scan x name (Some group)) k w = both _ _ (both _ _ k.1.0 k.1.1.1.0) k.1.1.1.1.1.0
-request_kept (request.Next name len) k w = both _ _ k.1.0 w
+request_kept (request.Read x pos len) k w = and_from _ _ (and_from _ _ k.1.0 k.1.1.0) w
+request_kept (request.Insert x pos given) k w = and_from _ _ (and_from _ _ k.1.0 k.1.1.0) (and_from _ _ k.1.1.1.0 w)
+request_kept (request.Append x given) k w = and_from _ _ k.1.0 (and_from _ _ k.1.1.0 w)
+request_kept (request.Replace x pos given) k w = and_from _ _ (and_from _ _ k.1.0 k.1.1.0) (and_from _ _ k.1.1.1.0 w)
+request_kept (request.Delete x pos len) k w = and_from _ _ (and_from _ _ k.1.0 k.1.1.0) k.1.1.1.0
+request_kept (request.Freeze x bind) k w = and_from _ _ k.1.0 k.1.1.1.0
+request_kept (request.Group name frames mru) k w = and_from _ _ (and_from _ _ k.1.0 (and_first _ _ k.1.1.0)) (and_second _ _ k.1.1.0)
+request_kept (request.Scan x name None) k w = and_from _ _ (and_from _ _ k.1.0 k.1.1.1.0) refl
+request_kept (request.Scan x name (Some group)) k w = and_from _ _ (and_from _ _ k.1.0 k.1.1.1.0) k.1.1.1.1.1.0
+request_kept (request.Next name len) k w = and_from _ _ k.1.0 w
 request_kept (request.Close name) k w = k.1.0
 request_kept _ k w = refl
 

@@ -1,5 +1,4 @@
 pub mod WordCuts
-pub mod PartCuts
 pub mod DataParts
 pub mod Slots
 pub mod Rows

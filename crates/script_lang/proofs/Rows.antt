@@ -1,5 +1,6 @@
 -- The words after the first one, and the rows of the grammar.
 use Rattle.std.proofs.Common.{◌≡◌, ℕ, List, [], ◌∷◌, Bool, false, true, Option, Some, None, cond, ap, sym, ◌∙◌, refl, true≢false}
+use Rattle.std.proofs.lemmas.Bool.{and_from}
 use Rattle.std.specs.Prelude.{codes, bytes_eq}
 use lib.Pointwise.{pointwise}
 use Rattle.table_model.specs.Words.{data_count}
@@ -8,7 +9,7 @@ use Rattle.table_model.specs.Requests as request
 use Rattle.script_lang.specs.Forms.{name_in, bound_in, number_in, reference_in, count_in}
 use Rattle.script_lang.specs.Grammar.{Slot, Key, Name, At, Number, Frames, Of, Given, fits, policy, spells, within}
 use Rattle.script_lang.specs.Spoken.{only_name, only_reference, key_in, name_as, reference_as, range, edit, addition, advance, frames_in, policy_in, group, short_scan, long_scan, short_scan_or, scan}
-use Rattle.script_lang.proofs.Slots.{and_first, and_second, both, same_bytes, equal_bytes, Gives, bind_gives, given, key_reads, key_spells, name_reads, name_spells, at_reads, at_spells, number_reads, number_spells, frames_reads, frames_spells, reference_reads, reference_spells, given_reads, given_spells}
+use Rattle.script_lang.proofs.Slots.{and_first, and_second, same_bytes, equal_bytes, Gives, bind_gives, given, key_reads, key_spells, name_reads, name_spells, at_reads, at_spells, number_reads, number_spells, frames_reads, frames_spells, reference_reads, reference_spells, given_reads, given_spells}
 
 abbrev pub Fits : List Slot → List (List ℕ) → Type 0
 Fits slots ws = pointwise fits slots ws ≡ true
@@ -46,13 +47,13 @@ row3 s t u ws h =
     (a, b, c, e ∙ ap (λ l. a ∷ l) e', f, f', f'')
 
 pub fits1 : (s : Slot) (a : List ℕ) → fits s a ≡ true → Fits (s ∷ []) (a ∷ [])
-fits1 s a f = both _ _ f refl
+fits1 s a f = and_from _ _ f refl
 
 pub fits2 : (s t : Slot) (a b : List ℕ) → fits s a ≡ true → fits t b ≡ true → Fits (s ∷ t ∷ []) (a ∷ b ∷ [])
-fits2 s t a b f g = both _ _ f (fits1 t b g)
+fits2 s t a b f g = and_from _ _ f (fits1 t b g)
 
 pub fits3 : (s t u : Slot) (a b c : List ℕ) → fits s a ≡ true → fits t b ≡ true → fits u c ≡ true → Fits (s ∷ t ∷ u ∷ []) (a ∷ b ∷ c ∷ [])
-fits3 s t u a b c f g h = both _ _ f (fits2 t u b c g h)
+fits3 s t u a b c f g h = and_from _ _ f (fits2 t u b c g h)
 
 -- ---- what the rows take is what is read
 
@@ -271,7 +272,7 @@ long_scan_spells (a ∷ b ∷ c ∷ d ∷ []) = tt
 long_scan_spells (a ∷ b ∷ c ∷ d ∷ g ∷ []) =
     bind_gives (reference_in a) _ _ (λ x e1. bind_gives (key_in (codes "as") b) _ _ (λ y2 e2. bind_gives (name_in c) _ _ (λ n e3.
     bind_gives (key_in (codes "in") d) _ _ (λ y4 e4. bind_gives (name_in g) _ _ (λ m e5.
-    both _ _ (given (reference_in a) _ x (reference_spells a) e1) (both _ _ (given (key_in (codes "as") b) _ y2 (key_spells (codes "as") b) e2)
+    and_from _ _ (given (reference_in a) _ x (reference_spells a) e1) (and_from _ _ (given (key_in (codes "as") b) _ y2 (key_spells (codes "as") b) e2)
     (fits3 (Name n) (Key (codes "in")) (Name m) c d g (given (name_in c) _ n (name_spells c) e3) (given (key_in (codes "in") d) _ y4 (key_spells (codes "in") d) e4) (given (name_in g) _ m (name_spells g) e5))))))))
 long_scan_spells (a ∷ b ∷ c ∷ d ∷ g ∷ f ∷ ws) = tt
 

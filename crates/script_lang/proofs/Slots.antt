@@ -3,7 +3,7 @@ use Rattle.std.proofs.Common.{◌≡◌, ℕ, ◌*◌, ◌/◌, ◌%◌, List, [
 use Rattle.std.specs.Prelude.{◌==◌, codes, bytes_eq, nat_le}
 use Rattle.std.specs.List.{slice_split, onto_first, list_all, AllPass}
 use Rattle.std.proofs.lemmas.Bool.Decides.{nat_tests}
-use Rattle.std.proofs.lemmas.Bool.{eqb-true}
+use Rattle.std.proofs.lemmas.Bool.{eqb-true, and_from}
 use Rattle.std.proofs.lemmas.Slice.Eq.{bytes_eq-Decides}
 use Rattle.std.proofs.lemmas.List.{length-replicate}
 use Rattle.std.proofs.lemmas.List.Sums.{AllPass-from_list_all}
@@ -25,10 +25,6 @@ and_first false b h = h
 pub and_second : (a b : Bool) → (a && b) ≡ true → b ≡ true
 and_second true b h = h
 and_second false b h = absurd (true≢false (sym h))
-
-pub both : (a b : Bool) → a ≡ true → b ≡ true → (a && b) ≡ true
-both true b h k = k
-both false b h k = h
 
 pub same_bytes : (a b : List ℕ) → bytes_eq a b ≡ true → a ≡ b
 same_bytes a b h = (bytes_eq-Decides a b).0 h
@@ -78,7 +74,7 @@ pub name_spells : (w : List ℕ) → Gives (name_in w) (λ n. fits (Name n) w �
 name_spells w = go (is_name w) refl
   where
     go : (b : Bool) → is_name w ≡ b → Gives (cond b (Some w) None) (λ n. fits (Name n) w ≡ true)
-    go true e = both _ _ (equal_bytes w) e
+    go true e = and_from _ _ (equal_bytes w) e
     go false e = tt
 
 pub at_reads : (n w : List ℕ) → fits (At n) w ≡ true → bound_in w ≡ Some n
@@ -94,7 +90,7 @@ at_spells (b ∷ name) = go (b == 64) refl
     go : (c : Bool) → (b == 64) ≡ c → Gives (cond c (name_in name) None) (λ n. fits (At n) (b ∷ name) ≡ true)
     go true e =
         let P : List ℕ → Type 0 = λ n. fits (At n) (b ∷ name) ≡ true in
-        bind_named (λ n. fits (At n) (b ∷ name) ≡ true) (λ h. rw (eqb-true b 64 e) (both _ _ (equal_bytes name) h))
+        bind_named (λ n. fits (At n) (b ∷ name) ≡ true) (λ h. rw (eqb-true b 64 e) (and_from _ _ (equal_bytes name) h))
       where
         bind_named : (P : List ℕ → Type 0) → (is_name name ≡ true → P name) → Gives (name_in name) P
         bind_named P h = named (is_name name) refl
@@ -119,7 +115,7 @@ number_gives w = go (is_number w) refl
     go false e = tt
 
 pub number_fits : (n : ℕ) (w : List ℕ) → (is_number w ≡ true) × (number_of w ≡ n) → fits (Number n) w ≡ true
-number_fits n w h = both _ _ h.0 (ap (λ m. m == n) h.1 ∙ equal_number n)
+number_fits n w h = and_from _ _ h.0 (ap (λ m. m == n) h.1 ∙ equal_number n)
 
 pub number_spells : (w : List ℕ) → Gives (number_in w) (λ n. fits (Number n) w ≡ true)
 number_spells w = go (number_in w) (number_gives w)
@@ -133,7 +129,7 @@ frames_reads n w h =
     let most : nat_le n 1024 ≡ true = and_second _ _ h in
     let least : nat_le 1 n ≡ true = and_second _ _ (and_first _ _ h) in
     let number : number_in w ≡ Some n = number_reads n w (and_first _ _ (and_first _ _ h)) in
-    let inside : (nat_le 1 n && nat_le n 1024) ≡ true = both _ _ least most in
+    let inside : (nat_le 1 n && nat_le n 1024) ≡ true = and_from _ _ least most in
     rw number (rw inside refl)
 
 pub frames_spells : (w : List ℕ) → Gives (frames_in w) (λ n. fits (Frames n) w ≡ true)
@@ -144,7 +140,7 @@ frames_spells w = bind_gives (number_in w) (λ n. cond (nat_le 1 n && nat_le n 1
     inside n h = go (nat_le 1 n && nat_le n 1024) refl
       where
         go : (b : Bool) → (nat_le 1 n && nat_le n 1024) ≡ b → Gives (cond b (Some n) None) (λ n. fits (Frames n) w ≡ true)
-        go true e = both _ _ (both _ _ h (and_first _ _ e)) (and_second _ _ e)
+        go true e = and_from _ _ (and_from _ _ h (and_first _ _ e)) (and_second _ _ e)
         go false e = tt
 
 -- ---- objects
@@ -193,7 +189,7 @@ oid_spells w = go (slice_split dot w) refl
     go (a ∷ b ∷ c ∷ []) e =
         bind_gives (number_in a) _ _ (λ p ep. bind_gives (number_in b) _ _ (λ s es. bind_gives (number_in c) _ _ (λ u eu.
         ap (λ l. are_oid_parts l p s u) e
-        ∙ both _ _ (both _ _ (given (number_in a) _ p (number_spells a) ep) (given (number_in b) _ s (number_spells b) es)) (given (number_in c) _ u (number_spells c) eu))))
+        ∙ and_from _ _ (and_from _ _ (given (number_in a) _ p (number_spells a) ep) (given (number_in b) _ s (number_spells b) es)) (given (number_in c) _ u (number_spells c) eu))))
     go (a ∷ b ∷ c ∷ d ∷ t) e = tt
 
 pub reference_reads : (x : Reference) (w : List ℕ) → fits (Of x) w ≡ true → reference_in w ≡ Some x
@@ -252,7 +248,7 @@ parts_give (key ∷ count ∷ byte ∷ []) = go (bytes_eq key (codes "rep") && (
         counted : (o : Option ℕ) → Gives o (λ n. (is_number count ≡ true) × (number_of count ≡ n)) → Gives o (PartsGive (key ∷ count ∷ byte ∷ []))
         counted None h = tt
         counted (Some n) h = (
-          both _ _ (both _ _ (both _ _ (and_first _ _ e) h.0) (and_first _ _ (and_second _ _ e))) (and_second _ _ (and_second _ _ e)),
+          and_from _ _ (and_from _ _ (and_from _ _ (and_first _ _ e) h.0) (and_first _ _ (and_second _ _ e))) (and_second _ _ (and_second _ _ e)),
           length-replicate (number_of count) (hex_byte byte) ∙ h.1,
         )
     go false e = tt
@@ -273,7 +269,7 @@ parts_count (key ∷ count ∷ byte ∷ []) h =
     let digits : is_hex byte ≡ true = and_second (bytes_eq key (codes "rep") && is_number count && (length byte == 2)) (is_hex byte) h in
     let number : is_number count ≡ true = and_second (bytes_eq key (codes "rep")) (is_number count) key_count in
     let whole : (bytes_eq key (codes "rep") && ((length byte == 2) && is_hex byte)) ≡ true =
-    both _ _ (and_first (bytes_eq key (codes "rep")) (is_number count) key_count) (both _ _ two digits) in
+    and_from _ _ (and_first (bytes_eq key (codes "rep")) (is_number count) key_count) (and_from _ _ two digits) in
     rw whole (rw number (ap Some (sym (length-replicate (number_of count) (hex_byte byte)))))
 parts_count (a ∷ b ∷ c ∷ d ∷ t) h = absurd (true≢false (sym h))
 
@@ -287,4 +283,4 @@ given_spells w = go (count_in w) (data_gives w)
   where
     go : (o : Option ℕ) → Gives o (IsDataOf w) → Gives o (λ n. (fits (Given w) w ≡ true) × (data_count w ≡ n))
     go None h = tt
-    go (Some n) h = (both _ _ (equal_bytes w) h.0, h.1)
+    go (Some n) h = (and_from _ _ (equal_bytes w) h.0, h.1)

@@ -1,20 +1,13 @@
 -- Where the first word of a line starts and ends.
-use Rattle.std.proofs.Common.{ℕ, ◌≡◌, ◌∙◌, ◌<◌, ◌≤◌, ◌+◌, zero, suc, sym, ap, refl, Bool, true, false, true≢false, not, List, [], ◌∷◌, Some, None, length, take, drop, get_or, arith}
+use Rattle.std.proofs.Common.{ℕ, ◌≡◌, ◌∙◌, ◌<◌, ◌≤◌, ◌+◌, zero, suc, sym, ap, refl, Bool, true, false, not, List, [], ◌∷◌, Some, None, length, take, drop, get_or, arith}
 use Rattle.std.specs.List.{slice_split, onto_first, filter, position_or_len, position}
 use Rattle.std.specs.Prelude.{nat_lt}
 use Rattle.std.proofs.lemmas.Bool.Decides.{nat_tests}
 use Rattle.std.proofs.lemmas.List.{drop_all, drop_more}
 use Rattle.std.proofs.lemmas.List.Sums.{fails_before_first}
 use Rattle.std.proofs.lemmas.List.Quantifiers.{position-Some}
+use Rattle.std.proofs.lemmas.Bool.{not-false, not-true}
 use Rattle.script_lang.specs.LineWords.{is_blank, is_nonempty, words_of}
-
-not_not : (b : Bool) → not b ≡ false → b ≡ true
-not_not true e = refl
-not_not false e = absurd (true≢false e)
-
-not_yes : (b : Bool) → not b ≡ true → b ≡ false
-not_yes true e = absurd (true≢false (sym e))
-not_yes false e = refl
 
 -- a blank in front changes nothing
 blank_first : (b : ℕ) (xs : List ℕ) → is_blank b ≡ true → words_of (b ∷ xs) ≡ words_of xs
@@ -81,7 +74,7 @@ no_word xs e = go (nat_lt (position_or_len (λ b. not (is_blank b)) xs) (length 
     go true t = let bad : Some (position_or_len (λ b. not (is_blank b)) xs) ≡ None = rw t at e in cc
     go false t =
         let far : length xs ≤ position_or_len (λ b. not (is_blank b)) xs = grind (arith, nat_tests) in
-        blanks_first (length xs) xs (omega arith) (λ j lt. not_not _ (fails_before_first (λ b. not (is_blank b)) xs j 0 (omega arith)))
+        blanks_first (length xs) xs (omega arith) (λ j lt. not-false _ (fails_before_first (λ b. not (is_blank b)) xs j 0 (omega arith)))
         ∙ ap words_of (drop_all (length xs) xs (omega arith))
 
 -- the first word stands where the first other byte does
@@ -90,9 +83,9 @@ pub word_at : (xs : List ℕ) (i : ℕ) → position (λ b. not (is_blank b)) xs
 word_at xs i e =
     let at = position-Some (λ b. not (is_blank b)) xs i 0 e in
     let shape = drop_more xs i 0 at.0 in
-    blanks_first i xs (omega arith) (λ j lt. not_not _ (at.2 j lt))
+    blanks_first i xs (omega arith) (λ j lt. not-false _ (at.2 j lt))
     ∙ (λ k. words_of (shape k))
-    ∙ word_first (get_or xs i 0) (drop (i + 1) xs) (not_yes _ at.1)
+    ∙ word_first (get_or xs i 0) (drop (i + 1) xs) (not-true _ at.1)
     ∙ (λ k. let l : List ℕ = sym shape k in take (end_of l) l ∷ words_of (drop (end_of l) l))
 
 pub end_of-le : (xs : List ℕ) → end_of xs ≤ length xs

@@ -5,6 +5,8 @@ ghost use Rattle.std.specs.List.{position, position_or_len};
 ghost use Rattle.std.specs.Iterator.{YieldsFirstRef, item_count};
 ghost use Rattle.script_lang.specs.LineWords.{is_blank, words_of};
 
+use memchr::memchr2;
+
 /// A space or a tab.
 fn is_space(b: u8) -> bool
     ensures { result ≡ is_blank b }
@@ -35,7 +37,7 @@ fn word_start(line: &[u8]) -> Option<usize>
 fn word_end(line: &[u8]) -> usize
     ensures { result ≡ position_or_len is_blank line.now }
 {
-    line.iter().take_while(|b| !is_space(**b)).count()
+    memchr2(b' ', b'\t', line).unwrap_or(line.len())
 }
 
 // The first word of a line, and what follows it.

@@ -1,26 +1,18 @@
 -- Where the first line feed stands.
-use Rattle.std.proofs.Common.{◌≡◌, ℕ, ◌+◌, ◌-◌, ◌<◌, ◌≤◌, ◌⊎◌, inl, inr, List, length, take, drop, get_or, Bool, true, false, Option, Some, None, MatchOption, ap, sym, ◌∙◌, arith, refl, min, length-drop}
-use Rattle.std.specs.List.{position, position_or_len}
-use Rattle.std.specs.Prelude.{nat_lt}
-use Rattle.std.proofs.lemmas.Bool.Decides.{nat_tests}
-use Rattle.std.proofs.lemmas.Bool.{cases_lt}
+use Rattle.std.proofs.Common.{◌≡◌, ℕ, ◌+◌, ◌-◌, ◌<◌, ◌≤◌, ◌⊎◌, inl, inr, List, length, take, drop, get_or, true, false, Option, Some, None, MatchOption, ap, sym, ◌∙◌, arith, min, length-drop}
+use Rattle.std.proofs.lemmas.Bool.{cases_lt, false_from_ne_true}
+use Rattle.memchr.specs.Find.{IsFirstByte, is_byte}
 use Rattle.std.proofs.lemmas.List.{length-take, get_or-take, get_or-drop}
-use Rattle.std.proofs.lemmas.List.Sums.{fails_before_first}
-use Rattle.std.proofs.lemmas.List.Quantifiers.{position-Some}
 use Rattle.script_lines.specs.Lines.{line_feed}
 use Rattle.script_lines.specs.Remains.{ClearTo}
 
 abbrev pub IsFeedOf : List ℕ → Option ℕ → Type 0
 IsFeedOf xs o = MatchOption o (ClearTo xs (length xs)) (λ k. (k < length xs) × ClearTo xs k × (line_feed (get_or xs k 0) ≡ true))
 
-pub feed_found : (xs : List ℕ) (o : Option ℕ) → o ≡ position line_feed xs → IsFeedOf xs o
-feed_found xs (Some k) e = let at = position-Some line_feed xs k 0 (sym e) in (at.0, at.2, at.1)
-feed_found xs None e = go (nat_lt (position_or_len line_feed xs) (length xs)) refl
-  where
-    go : (b : Bool) → nat_lt (position_or_len line_feed xs) (length xs) ≡ b → ClearTo xs (length xs)
-    go true t = let bad : Some (position_or_len line_feed xs) ≡ None = rw t at (sym e) in cc
-    go false t = let far : length xs ≤ position_or_len line_feed xs = grind (arith, nat_tests) in
-        λ j lt. fails_before_first line_feed xs j 0 (omega arith)
+-- what a search for the byte of a line feed finds
+pub feed_found : (xs : List ℕ) (o : Option ℕ) → IsFirstByte (is_byte 10) xs o → IsFeedOf xs o
+feed_found xs (Some k) found = (found.0.high, (λ j lt. false_from_ne_true _ (found.0.before j (omega arith) lt)), found.1)
+feed_found xs None found = λ j lt. false_from_ne_true _ (found j (omega arith) lt)
 
 module _ (bytes : List ℕ) (clear counted : ℕ) where
   abbrev pub rest : List ℕ

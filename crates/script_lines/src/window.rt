@@ -1,7 +1,6 @@
 //! A buffer that takes a script from its source in large pieces.
 
 ghost use Rattle.std.specs.Prelude.{◌≡◌, ◌≤◌, ◌<◌, ◌+◌, ◌-◌, ◌++◌, [], List, ℕ, Some, None, true, false, take, drop, length, vec_len, IfOk, IfErr, IfSome, OnOk, OnErr, MatchOption, slice_index};
-ghost use Rattle.std.specs.List.{position};
 ghost use Rattle.disk_model.specs.Outside.{Rose, SourceOnly};
 ghost use Rattle.script_lines.specs.Lines.{line_feed, without_return};
 ghost use Rattle.script_lines.specs.Remains.{ClearTo, Draws, SameScript, AllHere, IsFront, IfTold, Moves};
@@ -10,6 +9,7 @@ ghost use Rattle.script_lines.specs.Passing.{Finds, IsClear, Passes};
 
 use crate::shown::{LineFault, Shown};
 use disk_model::Source;
+use memchr::memchr;
 use std::alloc::{AllocError, Global};
 
 /// The longest line, without its line feed.
@@ -55,17 +55,11 @@ fn shift(buffer: &mut [u8], start: usize, end: usize)
     buffer.copy_within(start..end, 0);
 }
 
-fn feed_position(bytes: &[u8]) -> Option<usize>
-    ensures { result ≡ position line_feed bytes.now }
-{
-    bytes.iter().position(|b| *b == b'\n')
-}
-
 /// The first line feed.
 fn feed_in(bytes: &[u8]) -> Option<usize>
     ensures { MatchOption result (ClearTo bytes.now (length bytes.now)) (λ k. (k < length bytes.now) × ClearTo bytes.now k × (line_feed (slice_index bytes.now k) ≡ true)) }
 {
-    feed_position(bytes)
+    memchr(b'\n', bytes)
 }
 
 /// How many bytes are left without a carriage return at the end.

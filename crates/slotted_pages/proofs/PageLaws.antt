@@ -8,6 +8,7 @@ use Rattle.ex_base.specs.Bytes.{bytes_at, IsBytes}
 use Rattle.ex_base.specs.Fields.{field_bytes, two_bytes, four_bytes, zeros, number_at, AreZero}
 use Rattle.ex_base.proofs.FieldLaws.{two_is, four_is}
 use Rattle.ex_base.proofs.Places.{behind_more, bytes_there, number_there, number_spelled, bytes_spelled, length-bytes_at, zeros_spelled, AreZero-as}
+use Rattle.ex_base.proofs.Lists.{two_front}
 use Rattle.slotted_pages.specs.FilePage.{FilePage, Slot, body_of, bodies, slot_field, directory, room_of, file_page, IsSlot, EndsLive, SlotsOf}
 use Rattle.slotted_pages.specs.Reads.{slot_read, slot_in, read_slots, read_lens, count_on, page_on, step_to, from_there, end_of, IsPacked, PageReads}
 
@@ -328,11 +329,6 @@ last_live page (suc zero) end room h = live_read (number_at 2 page (end - 4 + 2)
 last_live page (suc (suc n)) end room h =
     let place : end - 4 * suc (suc n) + 2 ≡ end - 4 - 4 * suc n + 2 = omega arith in
     ends_cons (slot_in page (end - 4)) (slot_in page (end - 4 - 4)) (read_slots page n (end - 4 - 4)) (last_live page (suc n) (end - 4) (omega arith) (λ some. subst (λ (k : ℕ). 0 < number_at 2 page k) place (h (omega arith))))
-
-two_front : (xs : List ℕ) → 2 ≤ length xs → xs ≡ slice_index xs 0 ∷ slice_index xs 1 ∷ drop 2 xs
-two_front [] le = absurd (omega arith)
-two_front (x ∷ []) le = absurd (omega arith)
-two_front (x ∷ y ∷ xs) le = refl
 
 pub back_of : (page : List ℕ) → (h : PageReads page) → SlotsBack (length page - 4 * count_on page) page (count_on page) (length page) 16 h.packed.0
 back_of page h = slots_back (length page - 4 * count_on page) page (count_on page) (length page) 16 h.packed.0 (omega arith) (omega (arith, h.room)) h.packed.1

@@ -11,6 +11,7 @@ use Rattle.slotted_pages.specs.Reads.{added, read_lens}
 use Rattle.slotted_pages.specs.Edits.{vacant_at, with_slot, before_live, trimmed, need_of, place_for, slot_with, Left}
 use Rattle.slotted_pages.proofs.PageLaws.{len_of, parts_of, ends_cons, ends_tail}
 use Rattle.slotted_pages.proofs.EditLaws.{start_of, len_here, bodies_split, bodies_with, length-with, length-push, each_with}
+use Rattle.ex_base.proofs.Booleans.{same_number}
 
 -- ---- one slot of the list
 
@@ -159,10 +160,7 @@ place_none size slots n slot field len number vacant e over =
     gt_test a b lt = grind (arith, nat_tests)
 
 field_of : (slot n field : ℕ) → field ≡ (if slot == n then 4 else 0) → (slot ≡ n → field ≡ 4)
-field_of slot n field e is = e ∙ ap (λ (b : Bool). if b then 4 else 0) (eq_test slot n is)
-  where
-    eq_test : (a b : ℕ) → a ≡ b → (a == b) ≡ true
-    eq_test a b is = grind (arith, nat_tests)
+field_of slot n field e is = e ∙ ap (λ (b : Bool). if b then 4 else 0) (same_number slot n is)
 
 -- the count after an insert, and that all fits
 pub record Fitting (size : ℕ) (slots : List Slot) (slot count : ℕ) (body : List ℕ) : Type 0 where

@@ -11,7 +11,7 @@ mod names;
 mod scans;
 
 pub use change::{VersionChange, in_each_object};
-pub use data::{data_bytes, data_count};
+pub use data::data_count;
 pub use edit::{Edit, index_of};
 pub use files::{with_file, with_object, without_file, without_object};
 pub use find::{

@@ -1,6 +1,7 @@
 -- The units and logged pages that a command may take at most.
-use Rattle.std.specs.Prelude.{ℕ, ◌+◌, ◌-◌, ◌*◌, ◌/◌, ◌==◌, nat_lt, ◌||◌, Bool, if◌then◌else◌}
-use Rattle.ex_base.specs.Sizes.{leaf_bytes, units}
+use Rattle.std.specs.Prelude.{ℕ, ◌-◌, ◌==◌, nat_lt, ◌||◌, Bool, if◌then◌else◌}
+use Rattle.ex_base.specs.Needs.{growth_need, replace_need, delete_need}
+use Rattle.ex_base.specs.Sizes.{units}
 use Rattle.ex_base.specs.declared.geometry.Geometry.{Geometry}
 use Rattle.ex_base.specs.declared.names.Area.{Area}
 use Rattle.ex_base.specs.declared.names.Area.TheVariants.{Page, Segment}
@@ -9,21 +10,6 @@ use Rattle.table_model.specs.declared.machine.Pick.{Pick}
 use Rattle.table_model.specs.Words.{data_count}
 use Rattle.table_model.specs.Requests as request
 use Rattle.table_model.specs.Requests.{Request}
-
--- of an insert or append of n bytes into a tree of height h
-abbrev pub insert_need : Geometry → ℕ → ℕ → Area → ℕ
-insert_need g n h Segment = n / leaf_bytes g + 5
-insert_need g n h Page = (n / leaf_bytes g + 5) / g.fan + 4 * (h + 3)
-
--- of a replace of n bytes
-abbrev pub replace_need : Geometry → ℕ → ℕ → Area → ℕ
-replace_need g n h Segment = 2 * n / leaf_bytes g + 3
-replace_need g n h Page = (2 * n / leaf_bytes g + 3) / (g.fan - 1) + 4 * (h + 1)
-
--- of a delete
-abbrev pub delete_need : ℕ → Area → ℕ
-delete_need h Segment = 4
-delete_need h Page = 8 * (h + 2)
 
 -- so many pages and no segment unit
 abbrev pub pages_need : ℕ → Area → ℕ
@@ -35,8 +21,8 @@ abbrev pub edit_need : ℕ → Pick → ℕ → ℕ
 edit_need n q most = if n == 0 || q.small then 0 else most
 
 abbrev pub need : Geometry → Request → Pick → Area → ℕ
-need g (request.Insert x pos given) q area = edit_need (data_count given) q (insert_need g (data_count given) q.height area)
-need g (request.Append x given) q area = edit_need (data_count given) q (insert_need g (data_count given) q.height area)
+need g (request.Insert x pos given) q area = edit_need (data_count given) q (growth_need g (data_count given) q.height area)
+need g (request.Append x given) q area = edit_need (data_count given) q (growth_need g (data_count given) q.height area)
 need g (request.Replace x pos given) q area = edit_need (data_count given) q (replace_need g (data_count given) q.height area)
 need g (request.Delete x pos len) q area = edit_need len q (delete_need q.height area)
 need g (request.Create file bind) q area = pages_need 16 area

@@ -14,9 +14,7 @@ mod table;
 pub use built::is_built;
 pub use command::{Command, Subject};
 pub use laws::{rules_hold_at_the_start, steps_keep_the_rules};
-pub use limits::{
-    DATA_MOST, FRAMES_MOST, GROUPS_MOST, OBJECT_MOST, SCANS_MOST, TOUCHED_MOST, UPDATES_MOST,
-};
+pub use limits::{DATA_MOST, FRAMES_MOST, GROUPS_MOST, SCANS_MOST};
 pub use machine::{
     BoundName, BoundNames, GroupRow, GroupRows, Lengths, Machine, NoteList, Pick, ScanRow, ScanRows,
 };

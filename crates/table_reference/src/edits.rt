@@ -12,15 +12,16 @@ ghost use Rattle.table_model.specs.Steps.{Step, Allows, reply_to, machine_after}
 ghost use Rattle.table_lists.specs.Keys.{oid_of_key};
 ghost use Rattle.table_lists.specs.Edited.{edit_of};
 
-use crate::need::{EDIT_CHARGE, delete_need, edit_need, insert_need, replace_need};
+use crate::need::{EDIT_CHARGE, edit_need};
 use crate::refuse::{
     frozen, limits, no_name, no_object, no_txn, range, shown, size_named, the_key, the_oid,
     too_large,
 };
 use crate::update::{note, update};
-use ex_base::Area;
+use data_words::data_bytes;
+use ex_base::{Area, delete_need, growth_need, replace_need};
 use std::alloc::{AllocError, Global};
-use table_lists::{Edit, Key, VersionChange, data_bytes, data_count, in_each_object};
+use table_lists::{Edit, Key, VersionChange, data_count, in_each_object};
 use table_model::{
     APPENDED, DELETED, INSERTED, Machine, Pick, REPLACED, Refusal, Reply, Subject, Table,
 };
@@ -53,8 +54,8 @@ fn refuse_insert(
     ensures { IfOk result (λ found. found ≡ refusal_of machine.now (request.Insert (reference_of x.now) pos given.now) pick.now) }
 {
     let n = data_count(alloc, given)?;
-    let pages = insert_need(&machine.geometry, n, pick.height, Area::Page);
-    let segs = insert_need(&machine.geometry, n, pick.height, Area::Segment);
+    let pages = growth_need(&machine.geometry, n, pick.height, Area::Page);
+    let segs = growth_need(&machine.geometry, n, pick.height, Area::Segment);
     let room = limits(
         machine,
         EDIT_CHARGE,
@@ -127,8 +128,8 @@ fn refuse_append(
     ensures { IfOk result (λ found. found ≡ refusal_of machine.now (request.Append (reference_of x.now) given.now) pick.now) }
 {
     let n = data_count(alloc, given)?;
-    let pages = insert_need(&machine.geometry, n, pick.height, Area::Page);
-    let segs = insert_need(&machine.geometry, n, pick.height, Area::Segment);
+    let pages = growth_need(&machine.geometry, n, pick.height, Area::Page);
+    let segs = growth_need(&machine.geometry, n, pick.height, Area::Segment);
     let room = limits(
         machine,
         EDIT_CHARGE,

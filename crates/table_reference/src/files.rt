@@ -7,9 +7,9 @@ ghost use Rattle.table_model.specs.Refusals.{refusal_of};
 ghost use Rattle.table_model.specs.Steps.{Step, Allows, reply_to, machine_after};
 
 use crate::need::{FILE_CHARGE, FILE_PAGES};
-use crate::refuse::{NO_OID, file_exists, files_full, limits, no_file, no_txn, not_empty, shown};
+use crate::refuse::{file_exists, files_full, limits, no_file, no_txn, not_empty, shown};
 use crate::update::{note, update};
-use ex_base::Items;
+use ex_base::{Items, Oid};
 use std::alloc::{AllocError, Global};
 use table_lists::{current_oids, file_names, find_file, with_file, without_file};
 use table_model::{FILE_MADE, FILE_REMOVED, Machine, Pick, Refusal, Reply};
@@ -29,7 +29,7 @@ fn file(alloc: Global, machine: &mut Machine, name: &[u8], pick: &Pick) -> Resul
 {
     let table = with_file(alloc, shown(machine), name)?;
     let name = Items::of_bytes(alloc, name)?;
-    update(machine, table, note(FILE_MADE, NO_OID, 0, 0), pick)?;
+    update(machine, table, note(FILE_MADE, Oid::NONE, 0, 0), pick)?;
     Ok(Reply::File { name })
 }
 
@@ -68,7 +68,7 @@ pub(crate) fn step_unfile(
     }
     let table = without_file(alloc, shown(machine), name)?;
     let name = Items::of_bytes(alloc, name)?;
-    update(machine, table, note(FILE_REMOVED, NO_OID, 0, 0), pick)?;
+    update(machine, table, note(FILE_REMOVED, Oid::NONE, 0, 0), pick)?;
     Ok(Reply::Unfile { name })
 }
 

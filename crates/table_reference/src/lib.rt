@@ -12,9 +12,6 @@ mod scans;
 mod session;
 mod update;
 
-pub use need::{
-    EDIT_CHARGE, FILE_CHARGE, FILE_PAGES, RECORD_CHARGE, RECORD_PAGES, delete_need, edit_need,
-    insert_need, replace_need,
-};
+pub use need::{EDIT_CHARGE, FILE_CHARGE, FILE_PAGES, RECORD_CHARGE, RECORD_PAGES, edit_need};
 pub use plain::step_plain;
 pub use refuse::shown;

@@ -8,21 +8,12 @@ ghost use Rattle.table_model.specs.Needs.{free};
 ghost use Rattle.table_model.specs.Refusals.{when, no_txn, txn_open, no_name, name_taken, no_file, file_exists, files_full, no_object, frozen, current, not_empty, has_versions, no_scan, no_group, range, too_large, too_many_scans, too_many_groups, ids_spent, long_txn, full_in, full, first};
 ghost use Rattle.table_lists.specs.Keys.{oid_of_key};
 
-use ex_base::{Area, Oid, PageNo};
+use ex_base::{Area, OBJECT_MOST, Oid, TOUCHED_MOST, UPDATES_MOST};
 use table_lists::{
     Key, bound_named, find_file, find_object, find_version, is_bound, is_current_version, is_group,
     is_scan, key_at, same_bytes, scan_named,
 };
-use table_model::{
-    GROUPS_MOST, Machine, OBJECT_MOST, Refusal, SCANS_MOST, Subject, TOUCHED_MOST, Table,
-    UPDATES_MOST, Version,
-};
-
-/// The bytes of the catalog page before its first entry.
-const CATALOG_HEAD: u32 = 32;
-
-/// The bytes of the catalog's entry of one file.
-const FILE_ENTRY: u32 = 48;
+use table_model::{GROUPS_MOST, Machine, Refusal, SCANS_MOST, Subject, Table, Version};
 
 /// The group of every scan that names none.
 const MAIN_GROUP: &[u8] = b"main";
@@ -123,7 +114,7 @@ pub(crate) fn file_exists(machine: &Machine, name: &[u8]) -> Option<Refusal>
 pub(crate) fn files_full(machine: &Machine) -> Option<Refusal>
     ensures { result ≡ files_full machine.now }
 {
-    let most = machine.geometry.page_size.saturating_sub(CATALOG_HEAD) / FILE_ENTRY;
+    let most = machine.geometry.files_most();
     when(
         shown(machine).files.len() >= most as usize,
         Refusal::FilesFull,
@@ -136,20 +127,13 @@ pub(crate) fn ids_spent(number: u64) -> Option<Refusal>
     when(number == u64::MAX, Refusal::IdsSpent)
 }
 
-/// The identifier that stands where no version is named.
-pub(crate) const NO_OID: Oid = Oid {
-    page: PageNo(0),
-    slot: 0,
-    unique: 0,
-};
-
 /// The identifier of the version that is named.
 pub(crate) fn the_oid(machine: &Machine, x: &Subject) -> Oid
     ensures { result ≡ the_oid machine.now (reference_of x.now) }
 {
     match version_named(machine, x) {
         Some(version) => version.oid,
-        None => NO_OID,
+        None => Oid::NONE,
     }
 }
 

@@ -1,6 +1,6 @@
 -- Accepted commands that write nothing.
 use Rattle.std.proofs.Common.{◌≡◌, ◌≢◌, ◌∙◌, ℕ, ◌+◌, ◌-◌, ◌^◌, true, false, List, [], ◌∷◌, ◌++◌, length, map, All, Option, Some, None, is_some, nat_eq, Ok, ⊎_elim, refl, sym, ap, subst, inl, arith}
-use Rattle.std.specs.Prelude.{IsTrue, unwrap_or, Contains}
+use Rattle.std.specs.Prelude.{IsTrue, unwrap_or, Contains, find}
 use Rattle.std.specs.Map.{lookup}
 use Rattle.std.proofs.lemmas.List.{length-map}
 use Rattle.ex_base.specs.declared.geometry.Geometry.{Geometry}
@@ -28,7 +28,7 @@ use Rattle.table_model.specs.Requests.{Request, is_request}
 use Rattle.table_model.specs.Requests as request
 use Rattle.table_model.specs.Words.{is_name}
 use Rattle.table_model.specs.Machines.{shown, kept, no_oid}
-use Rattle.table_model.specs.Refusals.{refusal_of}
+use Rattle.table_model.specs.Refusals.{refusal_of, has_objects}
 use Rattle.table_model.specs.Steps.{Step, IsAllowed, IfAccepted, machine_after, reply_to, note}
 use Rattle.table_model.specs.Tables.{with_file, without_file}
 use Rattle.table_model.proofs.StepsKeep.{steps_keep}
@@ -36,19 +36,16 @@ use Rattle.table_model.proofs.Stepping.{accepted}
 use Rattle.session_views.specs.View.{View, ShowsNow, Stepped}
 use Rattle.volume_model.proofs.OneReading.{one_catalog}
 use Rattle.volume_model.specs.Shown.{Shared, WorkingRow, WorkingShown, IsWorkingPage, used_in, working_units}
-use Rattle.volume_model.specs.Parts.{IsLastOf}
+use Rattle.volume_model.specs.Parts.{IsLastOf, HasIndex}
 use Rattle.volume_model.specs.Volume.{Stored, Volume, file_pages, stored_in, roots_in, table_of, units_of}
 use Rattle.transactions.specs.Sessions.{SessionState, held, IsSession, TakenBack, begun, aborted, updated}
 use Rattle.transactions.specs.Catalogs.{FramesLend, catalog_bytes}
 use Rattle.transactions.specs.Meant.{meant, pick_of, held_view}
 use Rattle.transactions.specs.Refused.{used_of, file_refusal, unfile_refusal, entry_of, has_pages}
-use Rattle.table_model.specs.Refusals.{has_objects}
 use Rattle.table_model.specs.Tables as tables
-use Rattle.std.specs.Prelude.{find}
 use Rattle.transactions.proofs.Files.{no_pages_there}
 use Rattle.transactions.proofs.Unfiled.{volume_without, all_of, not_empty_as, gone_of, pages_without, stored_without, others_without, table_without_file}
 use Rattle.transactions.specs.Steps.{OnlyFrames, StepsQuietly}
-use Rattle.volume_model.specs.Parts.{HasIndex}
 use Rattle.transactions.proofs.Volumes.{names_shown, parts_same, table_same, trees_same_units, idle_of, shown_parts}
 use Rattle.transactions.proofs.KeptOff.{Others, others_kept, trees_off, table_off}
 use Rattle.transactions.proofs.Filed.{volume_with, pages_with, stored_with, others_with, table_with_file}
@@ -57,11 +54,12 @@ use Rattle.volume_port.specs.Logged.{LoggedSet}
 use Rattle.volume_port.proofs.WorkingRows.{put_other}
 use Rattle.std.proofs.lemmas.Bool.{cases_eq}
 use Rattle.std.specs.List.{flat_map}
-use Rattle.tree_model.specs.Trees.{root_units}
+use Rattle.trees.specs.Trees.{root_units}
 use Rattle.transactions.proofs.Showing.{view_of, KeepsVolume, WorksAs, trees_in, shows_after, shows_catalog, reads_catalog, working_catalog, session_geometry}
 use Rattle.transactions.proofs.Quiet.{AreSizes, refused_at_once, quiet_refusal, nothing_changed, shown_lends, later_frames, left_before, now_after, same_view, with_groups}
 use Rattle.transactions.proofs.Refusing.{same_counts, begin_accepted, spent_refused, abort_accepted, file_refused, unfile_refused, free_left}
 use Rattle.transactions.proofs.Working.{lookup_put, firsts_put, each_put, images_of_files, working_image, same_off, begun_units}
+use Rattle.ex_base.proofs.Options.{some_apart_inside}
 
 -- ---- any accepted command that takes no unit
 
@@ -222,14 +220,11 @@ update_works {a} {before} now groups page kind w m table has opened catalog last
     same_count : (rows : List WorkingRow) → map (λ (row : WorkingRow). row.0) (with_row catalog_no (Some page) rows) ≡ map (λ (row : WorkingRow). row.0) rows → length (with_row catalog_no (Some page) rows) ≡ length rows
     same_count rows firsts = sym (length-map (with_row catalog_no (Some page) rows) (λ (row : WorkingRow). row.0)) ∙ ap length firsts ∙ length-map rows (λ (row : WorkingRow). row.0)
 
-    image_gone : (x : List ℕ) → Some (Some x) ≡ Some None → ⊥
-    image_gone x e = cc
-
     left : (number : ℕ) → Contains (file_pages now.shows.decoded.volume) number → (¬ Contains (file_pages now.shows.working) number) → lookup (nat_eq number) (with_row catalog_no (Some page) before.session.meta.working) ≡ Some None
     left number file none =
         let gone = now.shows.apart.left (now.shows.shared.open_txn ∙ opened) number file none in
         ⊎_elim
-        (λ (same : number ≡ catalog_no). absurd (image_gone has.image (sym has.there ∙ ap (λ (q : ℕ). lookup (nat_eq q) before.session.meta.working) (sym same) ∙ gone)))
+        (λ (same : number ≡ catalog_no). absurd (some_apart_inside has.image (sym has.there ∙ ap (λ (q : ℕ). lookup (nat_eq q) before.session.meta.working) (sym same) ∙ gone)))
         (λ (differ : number ≢ catalog_no). put_other catalog_no (Some page) before.session.meta.working number (λ e. differ (sym e)) ∙ gone) (cases_eq number catalog_no)
 
 pub file_steps : {a b : Outside} {before : View SessionState} (now : ShowsNow meant a before) (new : SessionState) (groups : List Frames) (page image name : List ℕ) (file_no : ℕ) → updated (record before.session { groups = groups }) image 1 ≡ new

@@ -1,5 +1,6 @@
 -- The room beside the record of a version, as a port over a session that shows tells it.
 use Rattle.std.proofs.Common.{◌≡◌, ◌∙◌, ℕ, List, Result, Ok, Err, sym, ap, subst}
+use Rattle.std.proofs.lemmas.Result.{IfErr-weaker}
 use Rattle.std.specs.Prelude.{IfOk, IfErr, OnOk}
 use Rattle.ex_base.specs.declared.ground.Ground as ground
 use Rattle.ex_base.specs.declared.geometry.Geometry.{Geometry}
@@ -22,7 +23,7 @@ use Rattle.transactions.specs.Sessions.{SessionState}
 use Rattle.transactions.specs.Meant.{meant}
 use Rattle.transactions.specs.Lines.{PortShows, IfLive, IfShown, IsOutside, stop_at}
 use Rattle.transactions.specs.Editing.{room_beside}
-use Rattle.transactions.proofs.Finding.{mapped_error, no_damage, page_lies, reads_live}
+use Rattle.transactions.proofs.Finding.{no_damage, page_lies, reads_live}
 
 -- what a view of a page tells
 pub room_told : (size room : ℕ) (page image : List ℕ) (p : FilePage) → room ≡ room_of size p.slots → SlotsOf page p → page ≡ image → room ≡ room_of size (slots_of image)
@@ -59,4 +60,4 @@ module _ {S : Type 0} (g : ground.Ghosts S) (s : S) {before : View SessionState}
       let reads = reads_live g s shows oid version is in
       let record_is : Record = record { head = lone_head oid.unique; content = reads.content } in
       let of : IsOfFile g s oid.page.0 = record { index = reads.index; file = reads.stored.stands.file; named = reads.stored.stands.named } in
-      mapped_error result (λ fault sound damage. sound damage shows.tells (page_lies g s shows reads.index oid record_is reads.stored) (of_page g s oid.page.0 of)) sound
+      IfErr-weaker result _ _ (λ fault sound damage. sound damage shows.tells (page_lies g s shows reads.index oid record_is reads.stored) (of_page g s oid.page.0 of)) sound

@@ -1,22 +1,22 @@
 -- A port over the parts of a session that shows has the volume that the session shows.
-use Rattle.std.proofs.Common.{◌≡◌, ◌∙◌, ◌⊎◌, ℕ, suc, ◌≤◌, ◌<◌, Bool, true, false, cond, ltb, List, [], ◌∷◌, Option, Some, None, nat_eq, refl, sym, ap, subst, arith, inl, inr, eqb-true}
+use Rattle.std.proofs.Common.{◌≡◌, ◌∙◌, ◌⊎◌, ℕ, ◌≤◌, ◌<◌, Bool, true, false, cond, ltb, List, [], ◌∷◌, Option, Some, None, nat_eq, refl, sym, ap, subst, arith, inl, inr, eqb-true}
 use Rattle.std.specs.Prelude.{Contains, ◌↔◌, unwrap_or}
 use Rattle.std.specs.List.{AllByRecursion}
 use Rattle.std.specs.Map.{lookup}
-use Rattle.std.proofs.lemmas.Bool.{cases_Bool}
-use Rattle.std.proofs.lemmas.Bool.Decides.{nat_tests}
+use Rattle.std.proofs.lemmas.Bool.{cases_Bool, both_ways, cond-false, cond-true, lt-ltb, ltb-true}
 use Rattle.ex_base.specs.declared.ground.Ground as ground
 use Rattle.ex_base.specs.declared.geometry.Geometry.{Geometry}
 use Rattle.ex_base.specs.Area.{InPageArea, catalog_no, area_end, page_at, leaf_at}
+use Rattle.ex_base.proofs.Each.{each_from}
+use Rattle.ex_base.proofs.Members.{contains_later}
 use Rattle.op_log.specs.AfterLog.{logged, after_log}
 use Rattle.meta_pages.specs.Overlays.{Overlays, image_at, over}
 use Rattle.disk_model.specs.Outside.{Outside}
-use Rattle.tree_model.specs.Trees.{Units}
+use Rattle.trees.specs.Trees.{Units}
 use Rattle.tree_store.specs.Stored.{unit_bytes}
 use Rattle.table_model.specs.Machines.{shown}
 use Rattle.session_views.specs.View.{View, ShowsNow}
 use Rattle.commits.proofs.Reached.{reach_behind, without_last}
-use Rattle.volume_model.specs.CrashImage.{each_contained}
 use Rattle.volume_model.specs.SameVolume.{kept_from_reach, parts_kept, table_kept, IsKept}
 use Rattle.volume_model.specs.Shown.{Held, PageRow, Shows, laid_over, laid_over_page, working_units}
 use Rattle.volume_model.specs.Volume.{Decoded, Volume, file_pages, reach_of, table_of}
@@ -31,30 +31,10 @@ use Rattle.transactions.proofs.Volumes.{Parts, shown_parts, shown_table}
 
 -- ---- a unit's bytes
 
-pub chosen : {A : Type 0} (b : Bool) (x y : A) → b ≡ true → cond b x y ≡ x
-chosen true x y is = refl
-chosen false x y is = absurd (cc)
-
-pub other : {A : Type 0} (b : Bool) (x y : A) → b ≡ false → cond b x y ≡ y
-other true x y is = absurd (cc)
-other false x y is = refl
-
-both_ways : {b : Bool} → b ≡ true → b ≡ false → ⊥
-both_ways one two = cc
-
 laid_over_log : (row : Option (Option (List ℕ))) (image : Option (List ℕ)) (home : List ℕ) → laid_over_page (unwrap_or image home) home row ≡ unwrap_or (over row image) home
 laid_over_log None image home = refl
 laid_over_log (Some None) image home = refl
 laid_over_log (Some (Some bytes)) image home = refl
-
-pub is_below : (m n : ℕ) → m < n → ltb m n ≡ true
-is_below m n h = grind arith
-
-below_is : (m n : ℕ) → ltb m n ≡ true → m < n
-below_is m n h = grind (arith, nat_tests)
-
-pub not_below : (m n : ℕ) → n ≤ m → ltb m n ≡ false
-not_below m n h = grind arith
 
 page_bytes : (g : Geometry) (disk : List ℕ) (u : ℕ) → ltb u (area_end g) ≡ true → unit_bytes g (Some disk) u ≡ page_at g disk u
 page_bytes g disk u lt = rw lt refl
@@ -63,7 +43,7 @@ leaf_bytes_at : (g : Geometry) (disk : List ℕ) (u : ℕ) → ltb u (area_end g
 leaf_bytes_at g disk u lt = rw lt refl
 
 pub image_is : (g : Geometry) (meta : Overlays) (unit : ℕ → List ℕ) (u : ℕ) → InPageArea g u → image_over g meta unit u ≡ unwrap_or (image_at meta u) (unit u)
-image_is g meta unit u area = chosen (in_pages g u) (unwrap_or (image_at meta u) (unit u)) [] (in_area g u area)
+image_is g meta unit u area = cond-true (in_pages g u) (unwrap_or (image_at meta u) (unit u)) [] (in_area g u area)
 
 -- the units of a port, over what it has
 abbrev pub units_over : Geometry → (ℕ → List ℕ) → (ℕ → List ℕ) → Units
@@ -76,28 +56,25 @@ module _ (d : Decoded) (disk : List ℕ) (meta : Overlays) (just : (page : ℕ) 
   same_page : (u : ℕ) → catalog_no ≤ u → ltb u (area_end d.geometry) ≡ true → image_over d.geometry meta (unit_bytes d.geometry (Some disk)) u ≡ W u
   same_page u from lt =
       let home = page_at d.geometry disk u in
-      image_is d.geometry meta (unit_bytes d.geometry (Some disk)) u (from, below_is u (area_end d.geometry) lt)
+      image_is d.geometry meta (unit_bytes d.geometry (Some disk)) u (from, ltb-true u (area_end d.geometry) lt)
       ∙ ap (λ (bytes : List ℕ). unwrap_or (image_at meta u) bytes) (page_bytes d.geometry disk u lt)
       ∙ ap (λ (image : Option (List ℕ)). unwrap_or (over (lookup (nat_eq u) meta.working) image) home) (just u)
       ∙ sym (laid_over_log (lookup (nat_eq u) meta.working) (logged d.records u) home)
-      ∙ sym (chosen (ltb u (area_end d.geometry)) (laid_over d.geometry disk (after_log d.geometry d.records disk) meta.working u) (leaf_at d.geometry disk u) lt)
+      ∙ sym (cond-true (ltb u (area_end d.geometry)) (laid_over d.geometry disk (after_log d.geometry d.records disk) meta.working u) (leaf_at d.geometry disk u) lt)
 
   pub same_unit : (u : ℕ) → catalog_no ≤ u → units_over d.geometry (image_over d.geometry meta (unit_bytes d.geometry (Some disk))) (unit_bytes d.geometry (Some disk)) u ≡ W u
   same_unit u from = elim (cases_Bool (ltb u (area_end d.geometry))) [
-    | inl lt ↦ chosen (ltb u (area_end d.geometry)) (image_over d.geometry meta (unit_bytes d.geometry (Some disk)) u) (unit_bytes d.geometry (Some disk) u) lt ∙ same_page u from lt
+    | inl lt ↦ cond-true (ltb u (area_end d.geometry)) (image_over d.geometry meta (unit_bytes d.geometry (Some disk)) u) (unit_bytes d.geometry (Some disk) u) lt ∙ same_page u from lt
     | inr ge ↦
-        other (ltb u (area_end d.geometry)) (image_over d.geometry meta (unit_bytes d.geometry (Some disk)) u) (unit_bytes d.geometry (Some disk) u) ge
+        cond-false (ltb u (area_end d.geometry)) (image_over d.geometry meta (unit_bytes d.geometry (Some disk)) u) (unit_bytes d.geometry (Some disk) u) ge
         ∙ leaf_bytes_at d.geometry disk u ge
-        ∙ sym (other (ltb u (area_end d.geometry)) (laid_over d.geometry disk (after_log d.geometry d.records disk) meta.working u) (leaf_at d.geometry disk u) ge)
+        ∙ sym (cond-false (ltb u (area_end d.geometry)) (laid_over d.geometry disk (after_log d.geometry d.records disk) meta.working u) (leaf_at d.geometry disk u) ge)
   ]
 
 -- ---- a page that is not held has no image
 
 contains_here : {A : Type 0} (x : A) (xs : List A) (y : A) → y ≡ x → Contains (x ∷ xs) y
 contains_here x xs y same = (0, omega arith, sym same)
-
-contains_later : {A : Type 0} (x : A) (xs : List A) (y : A) → Contains xs y → Contains (x ∷ xs) y
-contains_later x xs y (k, lt, is) = (suc k, omega (arith, lt), is)
 
 found_row : (P : ℕ → Type 0) (rows : List PageRow) (page : ℕ) (image : List ℕ) → AllByRecursion (λ (row : PageRow). P row.0) rows → lookup (nat_eq page) rows ≡ Some image → P page
 found_row P [] page image each is = absurd (cc)
@@ -159,7 +136,7 @@ module _ {S : Type 0} (g : ground.Ghosts S) (s : S) {w : Outside} {v : View Sess
   pub volume_kept : IsKept (working_units d v.disk meta.working) (units_in g s) working
   volume_kept =
       kept_from_reach (working_units d v.disk meta.working) (units_in g s) working
-      (each_contained (λ u. units_in g s u ≡ working_units d v.disk meta.working u) (reach_of (working_units d v.disk meta.working) working)
+      (each_from (λ u. units_in g s u ≡ working_units d v.disk meta.working u) (reach_of (working_units d v.disk meta.working) working)
       (λ u reached. unit_same u (reach_behind d.geometry (working_units d v.disk meta.working) working u (without_last d.geometry d.records (working_units d v.disk meta.working) working whole) reached)))
 
   pub volume_parts : Parts (g.geometry s) d.records (units_in g s) working
@@ -179,15 +156,15 @@ module _ {S : Type 0} (g : ground.Ghosts S) (s : S) {w : Outside} {v : View Sess
       where
         in_pages_of : (page ≡ catalog_no) ⊎ Contains (file_pages d.volume) page → Contains (catalog_no ∷ file_pages d.volume) page
         in_pages_of (inl same) = contains_here catalog_no (file_pages d.volume) page same
-        in_pages_of (inr there) = contains_later catalog_no (file_pages d.volume) page there
+        in_pages_of (inr there) = contains_later catalog_no page (file_pages d.volume) there
 
     nothing_over : (page : ℕ) → is_held v.session.pages page ≡ false → image_at meta page ≡ None
     nothing_over page off = no_image (lookup (nat_eq page) meta.working) (lookup (nat_eq page) meta.committed)
-        (λ image row. both_ways (tracked.images page image row) off)
+        (λ image row. both_ways _ off (tracked.images page image row))
         (λ image row. known_away page (tracked.known page (kept_page page image row)) off)
       where
         known_away : (page : ℕ) → (is_held v.session.pages page ≡ true) ⊎ (lookup (nat_eq page) meta.working ≡ Some None) → is_held v.session.pages page ≡ false → lookup (nat_eq page) meta.working ≡ Some None
-        known_away page (inl there) off = absurd (both_ways there off)
+        known_away page (inl there) off = absurd (both_ways _ off there)
         known_away page (inr gone) off = gone
 
     pub apart_is : IsApart g s
@@ -207,5 +184,5 @@ module _ {S : Type 0} (g : ground.Ghosts S) (s : S) {w : Outside} {v : View Sess
       let lies : InPageArea d.geometry page = subst (λ (geometry : Geometry). InPageArea geometry page) port_geometry area in
       ap (λ (f : ℕ → List ℕ). f page) image_over_is
       ∙ image_is d.geometry meta (over_disk d.geometry) page lies
-      ∙ ap (λ (bytes : List ℕ). unwrap_or (image_at meta page) bytes) (page_bytes d.geometry v.disk page (is_below page (area_end d.geometry) lies.1))
+      ∙ ap (λ (bytes : List ℕ). unwrap_or (image_at meta page) bytes) (page_bytes d.geometry v.disk page (lt-ltb page (area_end d.geometry) lies.1))
       ∙ ap (λ (geometry : Geometry). unwrap_or (image_at meta page) (page_at geometry v.disk page)) (sym geometry_is)

@@ -8,6 +8,8 @@ use Rattle.ex_base.specs.declared.names.Area.TheVariants.{Page, Segment}
 use Rattle.ex_base.specs.declared.names.OpNote.{OpNote}
 use Rattle.ex_base.specs.Area.{catalog_no}
 use Rattle.ex_base.specs.Order.{Rising}
+use Rattle.ex_base.proofs.Each.{each_from}
+use Rattle.ex_base.proofs.Options.{some_apart_inside, some_apart}
 use Rattle.disk_model.specs.Outside.{Outside, IsWorld, ReadsOnly, DiskOnly, Leaves}
 use Rattle.disk_model.specs.Runs.{leaves_trans, leaves_wider, honest_on}
 use Rattle.op_log.specs.Log.{SaysLog}
@@ -16,13 +18,13 @@ use Rattle.op_log.specs.declared.record.LogRecord.{LogRecord}
 use Rattle.meta_pages.specs.Rows.{with_row}
 use Rattle.object_files.specs.Catalog.{Catalog, CatalogOf}
 use Rattle.object_files.specs.Reads.{with_numbers}
-use Rattle.tree_model.specs.Trees.{Units}
+use Rattle.trees.specs.Trees.{Units}
 use Rattle.table_model.specs.declared.machine.Machine.{Machine}
 use Rattle.table_model.specs.declared.table.Table.{Table}
 use Rattle.table_model.specs.Machines.{shown, unmarked}
-use Rattle.table_model.specs.Steps.{table_committed}
+use Rattle.table_model.specs.Steps.{table_committed, Step}
 use Rattle.table_model.proofs.Keeping.{is_working}
-use Rattle.session_views.specs.View.{View, ShowsNow, StandsDuring}
+use Rattle.session_views.specs.View.{View, ShowsNow, StandsDuring, Stepped}
 use Rattle.table_model.specs.Requests as request
 use Rattle.volume_model.specs.Committed.{Committed, IsOverlayOf, MayCommit, CommittedAs, Checkpointed, StandsForEither, StandsForVolume, with_records, record_of}
 use Rattle.volume_model.specs.Parts.{StandsFor}
@@ -31,9 +33,7 @@ use Rattle.volume_model.specs.Volume.{Volume, Decoded, table_of, units_of, file_
 use Rattle.buffer_groups.specs.Frames.{Frames}
 use Rattle.buffer_groups.specs.Frames as lent
 use Rattle.meta_pages.specs.Overlays.{Overlays}
-use Rattle.session_views.specs.View.{Stepped}
 use Rattle.table_model.specs.declared.reply.Reply.TheVariants as reply
-use Rattle.table_model.specs.Steps.{Step}
 use Rattle.table_model.proofs.StepsKeep.{steps_keep}
 use Rattle.transactions.specs.Commits.{HasNotes}
 use Rattle.transactions.specs.Sessions.{SessionState, IsSession, IsTracked, Settled, held, is_kept}
@@ -47,10 +47,9 @@ use Rattle.transactions.proofs.KeptOff.{Others, SameOff, others_kept, trees_off,
 use Rattle.transactions.proofs.Ending.{LeavesUnits, fewer_used, rests_shown, in_first, in_second}
 use Rattle.transactions.proofs.Tracking.{tracked_put, held_settled, kept_settled, none_taken_settled}
 use Rattle.std.proofs.lemmas.List.Elements.{Contains-append_left, Contains-append_right, Contains-append_cases}
-use Rattle.std.proofs.lemmas.Bool.{cases_eq}
+use Rattle.std.proofs.lemmas.Bool.{cases_eq, both_ways}
 use Rattle.lru.proofs.Splits.{Contains-cons}
-use Rattle.tree_model.proofs.SameUnits.{Kept}
-use Rattle.volume_model.specs.CrashImage.{each_contained}
+use Rattle.trees.proofs.SameUnits.{Kept}
 use Rattle.volume_model.specs.SameVolume.{kept_from_reach}
 use Rattle.volume_port.specs.Logged.{LoggedSet, is_held, is_taken}
 use Rattle.volume_port.proofs.WorkingRows.{put_other}
@@ -95,12 +94,6 @@ others_numbered g records units v (file, (page, (body, (node, (balance, (unique,
     ),
   ),
 )
-
-image_gone : (x : List ℕ) → Some (Some x) ≡ Some None → ⊥
-image_gone x e = cc
-
-bits : {b : Bool} → b ≡ true → b ≡ false → ⊥
-bits one other = cc
 
 -- the working pages with the catalog that has its number
 abbrev pub numbered_rows : List ℕ → List WorkingRow → List WorkingRow
@@ -149,12 +142,12 @@ module _ {may_leave : List ℕ → Type 0} {v : View SessionState} (shows : Show
         );
         images = each_put (IsWorkingPage w) catalog_no (Some page) rows (λ some. inl refl) (images_of_files shows.working w rows refl shows.apart.images);
         kept = λ number has gone. ⊎_elim
-            (λ (same : number ≡ catalog_no). image_gone page (sym there ∙ ap (λ (q : ℕ). lookup (nat_eq q) later) (sym same) ∙ gone))
-            (λ (differ : number ≢ catalog_no). bits ((shows.logged.held number).1 has) (session.pages.gone number (sym (put_other catalog_no (Some page) rows number (λ e. differ (sym e))) ∙ gone))) (cases_eq number catalog_no);
+            (λ (same : number ≡ catalog_no). some_apart_inside page (sym there ∙ ap (λ (q : ℕ). lookup (nat_eq q) later) (sym same) ∙ gone))
+            (λ (differ : number ≢ catalog_no). both_ways _ (session.pages.gone number (sym (put_other catalog_no (Some page) rows number (λ e. differ (sym e))) ∙ gone)) ((shows.logged.held number).1 has)) (cases_eq number catalog_no);
         left = λ number file none.
             let gone = shows.apart.left some number file none in
             ⊎_elim
-            (λ (same : number ≡ catalog_no). absurd (image_gone old.image (sym old.there ∙ ap (λ (q : ℕ). lookup (nat_eq q) rows) (sym same) ∙ gone)))
+            (λ (same : number ≡ catalog_no). absurd (some_apart_inside old.image (sym old.there ∙ ap (λ (q : ℕ). lookup (nat_eq q) rows) (sym same) ∙ gone)))
             (λ (differ : number ≢ catalog_no). put_other catalog_no (Some page) rows number (λ e. differ (sym e)) ∙ gone) (cases_eq number catalog_no);
         no_tree = λ number file tree.
             shows.apart.no_tree number (Contains-append_left (file_pages d.volume) (file_pages shows.working) number file)
@@ -167,7 +160,7 @@ module _ {may_leave : List ℕ → Type 0} {v : View SessionState} (shows : Show
       let may = may_commit catalog in
       ⊎_elim (λ (file : Contains (catalog_no ∷ file_pages w) u). may.kept u file gone)
       (λ (tree : Contains (trees_in numbered_units w) u). ⊎_elim
-      (λ (same : u ≡ catalog_no). image_gone page (sym (lookup_put catalog_no (Some page) rows) ∙ ap (λ (q : ℕ). lookup (nat_eq q) later) (sym same) ∙ gone))
+      (λ (same : u ≡ catalog_no). some_apart_inside page (sym (lookup_put catalog_no (Some page) rows) ∙ ap (λ (q : ℕ). lookup (nat_eq q) later) (sym same) ∙ gone))
       (λ file. may.no_tree u file tree) old) (Contains-append_cases (catalog_no ∷ file_pages w) (trees_in numbered_units w) u reached)
 
   logged_old : (u : ℕ) → logged d.records u ≢ None → (u ≡ catalog_no) ⊎ Contains (file_pages d.volume) u
@@ -190,7 +183,7 @@ module _ {may_leave : List ℕ → Type 0} {v : View SessionState} (shows : Show
     new_units = units_of e disk
 
     kept_units : Kept numbered_units new_units (reach_of numbered_units w)
-    kept_units = each_contained (λ u. new_units u ≡ numbered_units u) (reach_of numbered_units w) (λ u reached.
+    kept_units = each_from (λ u. new_units u ≡ numbered_units u) (reach_of numbered_units w) (λ u reached.
         done.pages u (reach_behind d.geometry numbered_units w u (may_commit catalog).parts reached) (λ stale. not_gone catalog u reached stale.0 (logged_old u stale.1)))
 
     new_trees : trees_in new_units w ≡ trees_in numbered_units w
@@ -343,10 +336,7 @@ commit_notes {a} {m} {b} {before} now page log meta session reads opened catalog
 
 no_overlay : (rows : List PageRow) → ((page : ℕ) → lookup (nat_eq page) rows ≡ None) → rows ≡ []
 no_overlay [] none = refl
-no_overlay (row ∷ rows) none = let here : lookup (nat_eq row.0) (row ∷ rows) ≡ Some row.1 = rw (eq-eqb row.0 row.0 refl) refl in let no_row = none row.0 in absurd (apart row.1 (sym here ∙ no_row))
-  where
-    apart : (x : List ℕ) → Some x ≡ None → ⊥
-    apart x is = cc
+no_overlay (row ∷ rows) none = let here : lookup (nat_eq row.0) (row ∷ rows) ≡ Some row.1 = rw (eq-eqb row.0 row.0 refl) refl in let no_row = none row.0 in absurd (some_apart row.1 (sym here ∙ no_row))
 
 none_open : (o : Option Table) → is_some o ≡ false → o ≡ None
 none_open None closed = refl
@@ -386,7 +376,7 @@ checkpoint_steps {a} {b} {before} now log meta groups new only closed home stays
     let shown_frames = frames_shown d.geometry b.disk done.0 groups done.1 (subst (λ (g : Geometry). All (λ (f : Frames). f.page_size ≡ g.page_size) groups) (session_geometry now.shows) frames.sizes) frames.lends in
     let new_units = units_of (with_records d [] w) done.0 in
     let old_units = units_of d before.disk in
-    let kept : Kept old_units new_units (reach_of old_units w) = each_contained (λ u. new_units u ≡ old_units u) (reach_of old_units w) (λ u reached.
+    let kept : Kept old_units new_units (reach_of old_units w) = each_from (λ u. new_units u ≡ old_units u) (reach_of old_units w) (λ u reached.
     result.same.pages u (reach_behind d.geometry old_units w u (without_last d.geometry d.records old_units w now.shows.parts.1.1) reached)) in
     let trees : trees_in new_units w ≡ trees_in old_units w = trees_kept old_units new_units (roots_in (stored_in w)) (kept_from_reach old_units new_units w kept).roots in
     record {

@@ -1,5 +1,5 @@
 -- How a line that makes an object is answered.
-use Rattle.std.proofs.Common.{◌≡◌, ◌∙◌, ◌-◌, ◌^◌, ℕ, Bool, true, false, List, [], ◌∷◌, ◌++◌, All, Option, Some, None, is_some, Ok, Err, refl, sym, ap, subst, inl, inr}
+use Rattle.std.proofs.Common.{◌≡◌, ◌∙◌, ◌-◌, ◌^◌, ℕ, Bool, true, false, true≢false, List, [], ◌∷◌, ◌++◌, All, Option, Some, None, is_some, Ok, Err, refl, sym, ap, subst, inl, inr}
 use Rattle.std.specs.Prelude.{Contains, IsTrue, ◌==◌, ◌||◌, bytes_eq, find, if◌then◌else◌, is_none}
 use Rattle.std.specs.List.{AllZip, list_any}
 use Rattle.std.specs.Option.{option_or}
@@ -8,12 +8,14 @@ use Rattle.std.proofs.lemmas.Slice.Eq.{bytes_eq-Decides}
 use Rattle.ex_base.specs.declared.names.Oid.{Oid}
 use Rattle.ex_base.specs.declared.names.OpNote.{OpNote}
 use Rattle.ex_base.specs.declared.names.Place.{Place}
+use Rattle.ex_base.proofs.Members.{contains_in}
 use Rattle.disk_model.specs.Outside.{Outside, IsWorld}
 use Rattle.object_files.specs.Catalog.{Catalog, FileEntry}
 use Rattle.object_files.specs.Edits.{has_name}
 use Rattle.object_files.specs.Reads.{catalog_on}
 use Rattle.object_updates.specs.declared.ObjectUpdate.TheVariants as update
 use Rattle.object_updates.specs.Updates.{AsksFile, Makes, updated}
+use Rattle.bound_names.specs.Bindings.{is_bound}
 use Rattle.table_model.specs.declared.machine.BoundName.{BoundName}
 use Rattle.table_model.specs.declared.machine.GroupRow.{GroupRow}
 use Rattle.table_model.specs.declared.machine.Machine.{Machine}
@@ -36,7 +38,6 @@ use Rattle.session_views.specs.View.{View, ShowsNow, Stepped}
 use Rattle.session_views.specs.declared.engine.Stop.{Stop}
 use Rattle.session_views.specs.declared.engine.Stop.TheVariants as stop
 use Rattle.volume_edits.proofs.Finding.{find_in}
-use Rattle.volume_edits.proofs.Lists.{contains_in}
 use Rattle.volume_model.specs.Shown.{Shows}
 use Rattle.transactions.specs.declared.session.creation.NewObject.{NewObject}
 use Rattle.transactions.specs.declared.session.edits.Need.{Need}
@@ -211,6 +212,17 @@ bound_session {mid} {s} inside noted names b is did bound =
     ap (λ (ns : List BoundName). record s { names = ns ++ b ∷ [] }) (sym (ap (λ (t : SessionState). t.names) did.same))
     ∙ ap (λ (t : SessionState). record t { names = t.names ++ b ∷ [] }) (sym is)
     ∙ ap (λ (ns : List BoundName). record inside { names = ns }) (sym bound)
+
+-- a name that wasn't taken is still unbound after the update
+pub unbound_still : {a b : Outside} {old mid s inside : SessionState} {noted : OpNote} (name : List ℕ) → OnlyFrames a b old mid → Noted mid s noted → inside ≡ s → is_taken_by old.names name ≡ false
+    → is_bound inside.names name ≡ false
+unbound_still {inside = inside} name read did is untaken =
+    let taken : SessionState → Bool = λ t. is_taken_by t.names name in
+    or_no _ (is_bound inside.names name) (ap taken is ∙ ap taken did.same ∙ ap taken read.same ∙ untaken)
+  where
+    or_no : (a b : Bool) → (a || b) ≡ false → b ≡ false
+    or_no false b untaken = untaken
+    or_no true b untaken = absurd (true≢false untaken)
 
 pub bound_went : {b c : Outside} {mid s : SessionState} (inside : SessionState) (names : List BoundName) → inside ≡ s → WentOn b c mid s → WentOn b c mid (record inside { names = names })
 bound_went inside names is went = record {

@@ -6,6 +6,7 @@ use Rattle.std.specs.Option.{option_or}
 use Rattle.disk_model.specs.Outside.{Outside, DiskOnly, IsWorld}
 use Rattle.ex_base.specs.declared.names.Oid.{Oid}
 use Rattle.ex_base.specs.declared.names.OpNote.{OpNote}
+use Rattle.ex_base.proofs.Each.{each_as, each_joined, zip_as}
 use Rattle.object_files.specs.Catalog.{FileEntry}
 use Rattle.object_records.specs.declared.Head.{Head}
 use Rattle.table_model.specs.declared.machine.Pick.{Pick}
@@ -28,7 +29,7 @@ use Rattle.object_updates.specs.declared.ObjectUpdate.TheVariants as update
 use Rattle.object_updates.specs.Updates.{AsksVersion, Removes, updated}
 use Rattle.volume_edits.proofs.Emptied.{find_alone}
 use Rattle.volume_edits.proofs.Finding.{objects_are, versions_are}
-use Rattle.volume_edits.proofs.Lists.{Paired, each_as, each_joined, zip_as}
+use Rattle.volume_edits.proofs.Lists.{Paired}
 use Rattle.volume_model.specs.Parts.{HasIndex, HasLines}
 use Rattle.volume_model.specs.Shown.{working_units}
 use Rattle.volume_model.specs.Volume.{FileContent, Line, lines_of}

@@ -3,15 +3,17 @@ use Rattle.std.proofs.Common.{◌≡◌, ◌∙◌, ◌↔◌, ◌≤◌, ℕ, B
 use Rattle.std.specs.Prelude.{Contains}
 use Rattle.std.specs.List.{AllByRecursion, AllZip, flat_map}
 use Rattle.std.proofs.lemmas.List.Elements.{Contains-append_left, Contains-append_right, Contains-append_cases}
+use Rattle.std.proofs.lemmas.Bool.{both_ways}
 use Rattle.ex_base.specs.declared.geometry.Geometry.{Geometry}
 use Rattle.ex_base.specs.declared.names.Area.{Area}
 use Rattle.ex_base.specs.declared.names.Area.TheVariants.{Page, Segment}
 use Rattle.ex_base.specs.Area.{catalog_no}
 use Rattle.ex_base.specs.Order.{Rising}
+use Rattle.ex_base.proofs.Members.{contains_none}
 use Rattle.op_log.specs.declared.record.LogRecord.{LogRecord}
 use Rattle.op_log.specs.State.{LogState}
 use Rattle.page_alloc.specs.UnitSet.{UnitSet, used_at, free_count}
-use Rattle.tree_model.specs.Trees.{Units, root_units}
+use Rattle.trees.specs.Trees.{Units, root_units}
 use Rattle.table_model.specs.declared.machine.Machine.{Machine}
 use Rattle.table_model.specs.declared.machine.ScanRow.{ScanRow}
 use Rattle.table_model.specs.Machines.{IsMachine}
@@ -24,7 +26,7 @@ use Rattle.transactions.specs.Sessions.{SessionState, IsSession, OnlyGives, Take
 use Rattle.transactions.specs.Meant.{held_view}
 use Rattle.transactions.proofs.Refusing.{free_left}
 use Rattle.transactions.proofs.Showing.{view_of, trees_in, session_geometry}
-use Rattle.transactions.proofs.Tracking.{both_bits, held_back, none_taken_back}
+use Rattle.transactions.proofs.Tracking.{held_back, none_taken_back}
 
 -- ---- the counts
 
@@ -49,9 +51,6 @@ fewer_used {may_leave} {v} shows session units gives =
 
 -- ---- what a view reaches
 
-nothing_in : {A : Type 0} (x : A) → Contains [] x → ⊥
-nothing_in x (k, lt, is) = absurd (omega (arith, lt))
-
 pub in_first : (a b c : List ℕ) (u : ℕ) → Contains a u → Contains (a ++ b ++ c) u
 in_first a b c u h = Contains-append_left (a ++ b) c u (Contains-append_left a b u h)
 
@@ -60,7 +59,7 @@ in_second a b c u h = Contains-append_left (a ++ b) c u (Contains-append_right a
 
 -- with the same reach twice and no scan
 once : (xs : List ℕ) (u : ℕ) → Contains (xs ++ xs ++ []) u → Contains xs u
-once xs u has = ⊎_elim (λ both. ⊎_elim (λ here. here) (λ here. here) (Contains-append_cases xs xs u both)) (λ none. absurd (nothing_in u none)) (Contains-append_cases (xs ++ xs) [] u has)
+once xs u has = ⊎_elim (λ both. ⊎_elim (λ here. here) (λ here. here) (Contains-append_cases xs xs u both)) (λ none. absurd (contains_none u none)) (Contains-append_cases (xs ++ xs) [] u has)
 
 -- ---- an abort
 
@@ -101,7 +100,7 @@ shows_aborted {may_leave} {fewer} {v} shows m pages units inside session back sh
       logged = record {
         held = λ page. subst (λ (b : Bool). (b ≡ true) ↔ Contains (catalog_no ∷ file_pages d.volume) page) (sym (flags page)) (shows.logged.kept page);
         kept = shows.logged.kept;
-        taken = λ page took. absurd (both_bits took (free page));
+        taken = λ page took. absurd (both_ways _ (free page) took);
       };
       frames = frames;
       durable = λ image left. shows.durable image (inside image left);
@@ -188,7 +187,7 @@ rests_shown {may_leave} {later_leave} {v} shows m s records w later rests leaves
         segs = leaves.segs;
         touched = leaves.untouched ∙ ap (λ (rows : List WorkingRow). length rows) (sym leaves.no_pages);
       };
-      logged = record { held = leaves.held; kept = leaves.kept; taken = λ page took. absurd (both_bits took (leaves.free page)) };
+      logged = record { held = leaves.held; kept = leaves.kept; taken = λ page took. absurd (both_ways _ (leaves.free page) took) };
       frames = frames;
       durable = rests.committed.durable;
       apart = record {

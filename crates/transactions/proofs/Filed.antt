@@ -11,7 +11,7 @@ use Rattle.ex_base.specs.Order.{AllDiffer, Rising}
 use Rattle.op_log.specs.declared.record.LogRecord.{LogRecord}
 use Rattle.object_files.specs.Catalog.{FileEntry}
 use Rattle.object_files.specs.Edits.{new_file, entry_inserted, with_entries}
-use Rattle.tree_model.specs.Trees.{Units, RootNamed, root_units}
+use Rattle.trees.specs.Trees.{Units, RootNamed, root_units}
 use Rattle.table_model.specs.declared.table.TableFile.{TableFile}
 use Rattle.table_model.specs.Tables.{file_inserted, with_file}
 use Rattle.volume_model.specs.Parts.{HasIndex, HasPages, HasLines, Apart, AllApart, HasBalance}

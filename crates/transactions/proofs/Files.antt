@@ -4,8 +4,8 @@ use Rattle.std.specs.Prelude.{find, is_none, Contains, IsTrue, bytes_eq, slice_i
 use Rattle.std.specs.List.{AllByRecursion, list_all}
 use Rattle.std.specs.Map.{lookup}
 use Rattle.std.proofs.lemmas.Slice.Eq.{bytes_eq-Decides}
-use Rattle.std.specs.Cmp.Lexicographic.{other_text}
 use Rattle.ex_base.specs.Area.{catalog_no}
+use Rattle.ex_base.proofs.Booleans.{bytes_test}
 use Rattle.meta_pages.specs.Overlays.{over, image_at}
 use Rattle.object_files.specs.Catalog.{Catalog, CatalogOf, FileEntry, IsName, is_name_byte, name_of}
 use Rattle.object_files.specs.Edits.{IsCatalogPage, has_name, with_entries}
@@ -33,12 +33,9 @@ name_is name form =
 
 -- ---- whether a file has the name
 
-same_bytes : (a b : List ℕ) → a ≡ b → bytes_eq a b ≡ true
-same_bytes a b same = (elim (bytes_eq a b) as (λ t. bytes_eq a b ≡ t → t ≡ true) [ true ↦ λ is. refl | false ↦ λ isnt. absurd (other_text a b (sym isnt) same) ]) refl
-
 found_if : (name : List ℕ) (es : List FileEntry) (k : ℕ) → k < length (map name_of es) → slice_index_or (map name_of es) k name ≡ name → is_some (find (has_name name) es) ≡ true
 found_if name [] k lt is = absurd (omega (arith, lt))
-found_if name (e ∷ es) zero lt is = let here = same_bytes e.name name is in rw here refl
+found_if name (e ∷ es) zero lt is = let here = bytes_test e.name name is in rw here refl
 found_if name (e ∷ es) (suc k) lt is = elim (bytes_eq e.name name) as (λ b. is_some (cond b (Some e) (find (has_name name) es)) ≡ true) [ true ↦ refl | false ↦ found_if name es k (omega (arith, lt)) is ]
 
 missing_if : (name : List ℕ) (es : List FileEntry) → is_some (find (has_name name) es) ≡ false → Contains (map name_of es) name → ⊥

@@ -1,6 +1,6 @@
 -- What a port over a session that shows finds of a version.
 use Rattle.std.proofs.Common.{◌≡◌, ◌∙◌, ℕ, ◌<◌, ◌≤◌, List, length, All, Option, Some, None, Result, Ok, Err, refl, sym, ap, subst, arith, inl, inr}
-use Rattle.std.specs.Prelude.{Contains, slice_index_or, IsSome, IfOk, IfErr, IfSome, OnOk}
+use Rattle.std.specs.Prelude.{slice_index_or, IsSome, IfOk, IfErr, IfSome}
 use Rattle.ex_base.specs.declared.ground.Ground as ground
 use Rattle.ex_base.specs.declared.geometry.Geometry.{Geometry}
 use Rattle.ex_base.specs.declared.faults.PortFault.{PortFault}
@@ -21,7 +21,8 @@ use Rattle.file_index.specs.declared.Index.{Index}
 use Rattle.file_index.specs.Index.{IsFilesPage}
 use Rattle.file_index.proofs.Heights.{keys_of_pages}
 use Rattle.file_bodies.specs.Bodies.{bodies_of, pages_in}
-use Rattle.file_bodies.specs.Files.{HasFiles, HasBody}
+use Rattle.file_bodies.specs.Files.{HasFiles, HasFileOf, HasBody}
+use Rattle.file_bodies.proofs.Belonging.{file_of_all}
 use Rattle.object_records.specs.Record.{Content, Small, Large, Record, BodyOf}
 use Rattle.object_records.specs.Reads.{record_on}
 use Rattle.object_records.proofs.RecordLaws.{record_read}
@@ -32,8 +33,9 @@ use Rattle.table_model.specs.Tables.{version_at, is_current}
 use Rattle.session_views.specs.declared.engine.Stop.{Stop}
 use Rattle.session_views.specs.View.{View, ShowsNow}
 use Rattle.versions.specs.Found as found_words
-use Rattle.tree_insert.specs.Roots.{IsRootFor}
+use Rattle.trees.specs.Roots.{IsRootFor}
 use Rattle.ex_base.specs.Sizes.{object_most}
+use Rattle.ex_base.proofs.Members.{In, in_contains, of_each}
 use Rattle.versions.proofs.Roots.{root_is_for}
 use Rattle.versions.specs.Found.{HasLimits, IsReadable, found_of, root_of}
 use Rattle.versions.specs.Versions.{HasRecord, HoldsVersion, Spells, Stands, lone_head}
@@ -45,7 +47,6 @@ use Rattle.volume_model.specs.Volume.{Volume, oid_of, table_of}
 use Rattle.volume_edits.specs.Ported.{ShowsVolume, index_named, units_in}
 use Rattle.volume_edits.specs.Shown.{ReadsVersion}
 use Rattle.volume_edits.proofs.Contents.{content_of, found_at, has_files}
-use Rattle.volume_edits.proofs.Lists.{In, of_each, in_contains}
 use Rattle.volume_edits.proofs.Finding.{found_or_not, stands_row, stored_row}
 use Rattle.volume_edits.proofs.Showing.{current_here, none_there, version_read, version_there}
 use Rattle.transactions.specs.Sessions.{SessionState, IsSession}
@@ -108,9 +109,9 @@ held_version g s oid version reads = record { stored = reads.stored; spells = re
 
 -- what `find` says of its result
 pub record FindsBy {S : Type 0} (g : ground.Ghosts S) (s : S) (oid : Oid) (result : Option Found) : Type 0 where
-  pub stands : IfSome result (λ _. g.tells s → HasFiles g s → Stands g s oid)
-  pub told : g.tells s → HasFiles g s → (index : Index) (is : Record) → HasRecord g s index oid is → result ≡ Some (found_of is)
-  pub size : g.tells s → HasFiles g s → (index : Index) (content : Content) (bytes : List ℕ) → HoldsVersion g s index oid content bytes
+  pub stands : IfSome result (λ _. g.tells s → HasFileOf g s oid.page.0 → Stands g s oid)
+  pub told : g.tells s → (index : Index) (is : Record) → HasRecord g s index oid is → result ≡ Some (found_of is)
+  pub size : g.tells s → (index : Index) (content : Content) (bytes : List ℕ) → HoldsVersion g s index oid content bytes
       → IfSome result (λ found. found.size ≡ length bytes)
 
 module _ {S : Type 0} (g : ground.Ghosts S) (s : S) {v : View SessionState} (shows : PortShows g s v) where
@@ -140,10 +141,7 @@ module _ {S : Type 0} (g : ground.Ghosts S) (s : S) {v : View SessionState} (sho
   page_lies index oid is has =
       (of_each (IsFilesPage (g.geometry s)) oid.page.0 (pages_in (g.image s) index)
       (keys_of_pages (g.geometry s) index.file_no (g.image s) index.level index.root has.stands.file.whole)
-      (in_it (pages_in (g.image s) index) oid.page.0 has.stands.named)).0
-    where
-      in_it : (xs : List ℕ) (x : ℕ) → Contains xs x → In x xs
-      in_it xs x c = in_contains x xs c
+      (in_contains oid.page.0 (pages_in (g.image s) index) has.stands.named)).0
 
   pub named_content : (index : Index) (oid : Oid) (is : Record) → HasRecord g s index oid is → content_named (held_view v) oid ≡ is.content
   named_content index oid is has =
@@ -153,7 +151,7 @@ module _ {S : Type 0} (g : ground.Ghosts S) (s : S) {v : View SessionState} (sho
       ap (λ (o : Slot). (record_on (body_of o)).content) slot ∙ ap (λ (r : Record). r.content) (record_read has.body is has.spelled)
 
   missing : (oid : Oid) → FindsBy g s oid None → version_at table oid ≡ None
-  missing oid finds = (none_there g s records working volume oid).1 (λ st. absurd (let told = finds.told tells files st.index st.is st.has in cc))
+  missing oid finds = (none_there g s records working volume oid).1 (λ st. absurd (let told = finds.told tells st.index st.is st.has in cc))
 
   -- what stands in the record of a version that the table has is told of it
   pub tells_version : (oid : Oid) (found : Found) (version : Version) (is : version_at table oid ≡ Some version) (reads : ReadsVersion g s oid version)
@@ -176,14 +174,14 @@ module _ {S : Type 0} (g : ground.Ghosts S) (s : S) {v : View SessionState} (sho
   present : (oid : Oid) (found : Found) → FindsBy g s oid (Some found) → (version : Version) → version_at table oid ≡ Some version → TellsVersion v oid found
   present oid found finds version is =
       let reads = version_read g s records working volume oid version is in
-      let told : Some found ≡ Some (found_of (record { head = lone_head oid.unique; content = reads.content })) = finds.told tells files reads.index (record { head = lone_head oid.unique; content = reads.content }) reads.stored in
+      let told : Some found ≡ Some (found_of (record { head = lone_head oid.unique; content = reads.content })) = finds.told tells reads.index (record { head = lone_head oid.unique; content = reads.content }) reads.stored in
       let one : found ≡ found_of (record { head = lone_head oid.unique; content = reads.content }) = cc in
-      tells_version oid found version is reads one (finds.size tells files reads.index reads.content version.bytes (held_version g s oid version reads))
+      tells_version oid found version is reads one (finds.size tells reads.index reads.content version.bytes (held_version g s oid version reads))
 
   pub finds_here : (oid : Oid) (result : Option Found) → FindsBy g s oid result → IsFound v oid result
   finds_here oid None finds = ap (λ (t : Table). version_at t oid) same ∙ missing oid finds
   finds_here oid (Some found) finds = elim (found_or_not (version_at table oid)) [
-    | inl nothing ↦ absurd ((none_there g s records working volume oid).0 nothing (finds.stands tells files))
+    | inl nothing ↦ absurd ((none_there g s records working volume oid).0 nothing (finds.stands tells (file_of_all g s oid.page.0 files)))
     | inr some ↦ present oid found finds some.0 some.1
   ]
 
@@ -254,18 +252,18 @@ error_shown w old (Err e) Q each = each
 
 module _ {S : Type 0} (g : ground.Ghosts S) (s : S) {before : View SessionState} (shows : PortShows g s before) where
   pub looked : (oid : Oid) (result : Result (Option Found) PortFault)
-      → IfOk result (λ found. IfSome found (λ _. g.tells s → HasFiles g s → Stands g s oid))
-      → IfOk result (λ found. g.tells s → HasFiles g s → (index : Index) (is : Record) → HasRecord g s index oid is → found ≡ Some (found_of is))
-      → IfOk result (λ found. g.tells s → HasFiles g s → (index : Index) (content : Content) (bytes : List ℕ) → HoldsVersion g s index oid content bytes
+      → IfOk result (λ found. IfSome found (λ _. g.tells s → HasFileOf g s oid.page.0 → Stands g s oid))
+      → IfOk result (λ found. g.tells s → (index : Index) (is : Record) → HasRecord g s index oid is → found ≡ Some (found_of is))
+      → IfOk result (λ found. g.tells s → (index : Index) (content : Content) (bytes : List ℕ) → HoldsVersion g s index oid content bytes
       → IfSome found (λ f. f.size ≡ length bytes))
       → IfOk result (IsFound before oid)
   looked oid (Ok found) stands told size = finds_here g s shows oid found (record { stands = stands; told = told; size = size })
   looked oid (Err e) stands told size = tt
 
-  pub looks_sound : {T : Type 0} (place : Place) (result : Result T PortFault) → IfErr result (λ fault. IsDamage fault → g.tells s → HasFiles g s → IsReadable g s place → ⊥)
+  pub looks_sound : {T : Type 0} (place : Place) (result : Result T PortFault) → IfErr result (λ fault. IsDamage fault → g.tells s → HasFileOf g s place.page.0 → IsReadable g s place → ⊥)
       → IfErr result (λ fault. IsDamage fault → ⊥)
   looks_sound place (Ok x) sound = tt
-  looks_sound place (Err fault) sound = λ damage. sound damage shows.tells (files g s shows) (readable g s shows place)
+  looks_sound place (Err fault) sound = λ damage. sound damage shows.tells (file_of_all g s place.page.0 (files g s shows)) (readable g s shows place)
 
 -- a port that has the parts of a session is over it
 pub over_parts : {S : Type 0} (g : ground.Ghosts S) (s : S) (w : Outside) (old : SessionState) (geometry : Geometry) (meta : Overlays) (pages : LoggedSet) (groups : List Frames) → HasParts old geometry meta pages groups
@@ -298,14 +296,6 @@ pub stopped_so : (a b : Outside) (fault : PortFault) (why : Stop) → why ≡ st
 stopped_so a b fault why is cause = subst (LineStops a b) (sym is) (stops_here a b fault cause)
 
 -- ---- bytes of a version
-
-pub mapped_ok : {T E : Type 0} {P Q : Type 0} (result : Result T E) → (P → Q) → OnOk result P → OnOk result Q
-mapped_ok (Ok x) f p = f p
-mapped_ok (Err e) f p = tt
-
-pub mapped_error : {T E : Type 0} {P Q : E → Type 0} (result : Result T E) → ((e : E) → P e → Q e) → IfErr result P → IfErr result Q
-mapped_error (Ok x) f p = tt
-mapped_error (Err e) f p = f e p
 
 -- The version is one that the port reads.
 pub reads_live : {S : Type 0} (g : ground.Ghosts S) (s : S) {before : View SessionState} → (shows : PortShows g s before) → (oid : Oid) (version : Version) → version_at (shown before.machine) oid ≡ Some version → ReadsVersion g s oid version

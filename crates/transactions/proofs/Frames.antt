@@ -2,10 +2,10 @@
 use Rattle.std.proofs.Common.{◌≡◌, ◌∙◌, ℕ, ◌*◌, List, [], ◌∷◌, map, All, Option, Some, sym, subst, arith}
 use Rattle.std.specs.List.{AllByRecursion}
 use Rattle.std.proofs.lemmas.List.Elements.{All-cons, All-head, All-tail}
+use Rattle.std.proofs.lemmas.Option.{same_Some}
 use Rattle.ex_base.specs.declared.geometry.Geometry.{Geometry}
 use Rattle.ex_base.specs.Area.{page_at}
 use Rattle.ex_base.specs.Bytes.{part}
-use Rattle.disk_model.specs.Runs.{some_same}
 use Rattle.buffer_groups.specs.Frames.{Frames, Lends, page_of}
 use Rattle.volume_model.specs.Shown as view
 
@@ -38,5 +38,5 @@ pub frames_lent : (g : Geometry) (o : Option (List ℕ)) (d : List ℕ) (groups 
 frames_lent g o d [] holds sizes shown = λ k x lt. absurd (omega (arith, lt))
 frames_lent g o d (f ∷ groups) holds sizes shown =
     All-cons (Lends o) f groups
-    (λ held is. lent_frames g held f (All-head (λ (f : Frames). f.page_size ≡ g.page_size) f groups sizes) (subst (λ (b : List ℕ). view.Lends g b f.entries) (some_same d held (sym holds ∙ is)) shown.0))
+    (λ held is. lent_frames g held f (All-head (λ (f : Frames). f.page_size ≡ g.page_size) f groups sizes) (subst (λ (b : List ℕ). view.Lends g b f.entries) (same_Some d held (sym holds ∙ is)) shown.0))
     (frames_lent g o d groups holds (All-tail (λ (f : Frames). f.page_size ≡ g.page_size) f groups sizes) shown.1)

@@ -3,6 +3,7 @@ use Rattle.std.proofs.Common.{◌≡◌, ◌∙◌, ⊎_elim, ℕ, Bool, true, f
 use Rattle.std.specs.Prelude.{Contains, unwrap_or}
 use Rattle.std.specs.Map.{lookup}
 use Rattle.std.proofs.lemmas.List.Elements.{Contains-append_left}
+use Rattle.std.proofs.lemmas.Bool.{both_ways}
 use Rattle.ex_base.specs.declared.geometry.Geometry.{Geometry}
 use Rattle.ex_base.specs.declared.ground.Ground as ground
 use Rattle.ex_base.specs.Area.{InPageArea, catalog_no}
@@ -10,7 +11,7 @@ use Rattle.disk_model.specs.Outside.{Outside}
 use Rattle.buffer_groups.specs.Frames.{Frames, Lends}
 use Rattle.meta_pages.specs.Overlays.{AreRows, image_at}
 use Rattle.page_alloc.specs.UnitSet.{free_count, used_at}
-use Rattle.tree_model.specs.Trees.{Units}
+use Rattle.trees.specs.Trees.{Units}
 use Rattle.tree_store.specs.Stored.{NoUnit, Tells, unit_bytes}
 use Rattle.table_model.specs.declared.table.Table.{Table}
 use Rattle.table_model.specs.Machines.{shown}
@@ -38,7 +39,6 @@ use Rattle.transactions.proofs.Finding.{shown_tells}
 use Rattle.transactions.proofs.KeptOff.{trees_kept}
 use Rattle.transactions.proofs.Ruling.{image_most, volume_rules}
 use Rattle.transactions.proofs.Showing.{trees_in}
-use Rattle.transactions.proofs.Tracking.{both_bits}
 use Rattle.transactions.proofs.Updating.{LeavesVolume, IsSettled, update_stays, updates_show}
 
 -- The port is over a session's parts: it has their bytes, images and logged pages, the units in use, and as many free ones.
@@ -93,7 +93,7 @@ module _ {S : Type 0} (g : ground.Ghosts S) (s : S) {a : Outside} {before : View
 
     nothing_over : (page : ℕ) → is_held p.pages page ≡ false → image_at p.meta page ≡ None
     nothing_over page off = no_image (lookup (nat_eq page) p.meta.working) (lookup (nat_eq page) p.meta.committed)
-        (λ image row. both_bits (moved.ready.images page image row) off)
+        (λ image row. both_ways _ off (moved.ready.images page image row))
         (λ image row. moved.given_back page (session.pages.known page (kept_page g s now port session.pages page image (sym (ap (λ (rows : List (ℕ × List ℕ)). lookup (nat_eq page) rows) moved.committed) ∙ row))) off)
 
     pub apart_after : IsApart g t

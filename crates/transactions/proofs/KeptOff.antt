@@ -13,14 +13,15 @@ use Rattle.file_index.specs.Index.{IsFilesPage, keys_of, pages_of}
 use Rattle.file_index.proofs.Heights.{keys_of_pages, index_of_pages}
 use Rattle.object_files.specs.Catalog.{FileEntry}
 use Rattle.object_records.specs.Record.{Content, Small, Large}
-use Rattle.tree_model.specs.Shape.{IsBalanced}
-use Rattle.tree_model.specs.Trees.{Units, root_units, root_units_at, root_shape_at, root_bytes_at, RootNamed, RootSized}
-use Rattle.tree_model.proofs.SameUnits.{Kept, split_each, named_same, sized_same, shape_same, bytes_same}
+use Rattle.trees.specs.Shape.{IsBalanced}
+use Rattle.trees.specs.Trees.{Units, root_units, root_units_at, root_shape_at, root_bytes_at, RootNamed, RootSized}
+use Rattle.trees.proofs.SameUnits.{Kept, named_same, sized_same, shape_same, bytes_same}
 use Rattle.ex_base.specs.Sizes.{leaf_bytes}
+use Rattle.ex_base.proofs.Each.{split_each, each_as, each_parted, each_with, flat_same, map_same, zip_as}
 use Rattle.session_views.specs.declared.Part.{Part}
 use Rattle.session_views.specs.declared.Part.TheVariants.{File, Page, Body, Node, Balance, Unique}
 use Rattle.volume_model.specs.Parts.{HasIndex, HasPage, HasPages, Apart, AllApart, HasNodes, HasBalance, HoldsOf}
-use Rattle.volume_model.specs.SameVolume.{flat_same, RootKept, units_of_root, index_same}
+use Rattle.volume_model.specs.SameVolume.{RootKept, units_of_root, index_same}
 use Rattle.volume_model.specs.Volume.{Stored, Line, FileContent, Volume, line_records, lines_of, stored_in, file_pages, root_in, roots_in, line_units, content_in, version_of, object_of, file_of, table_of}
 
 -- the parts behind the catalog's
@@ -35,33 +36,11 @@ RootsKept old new roots = AllByRecursion (RootKept old new) roots
 
 -- ---- lists
 
-each_as : {A : Type 0} (P Q : A → Type 0) (xs : List A) → ((x : A) → P x → Q x) → AllByRecursion P xs → AllByRecursion Q xs
-each_as P Q [] f h = tt
-each_as P Q (x ∷ xs) f h = (f x h.0, each_as P Q xs f h.1)
-
-each_with : {A : Type 0} (P Q R : A → Type 0) (xs : List A) → ((x : A) → P x → Q x → R x) → AllByRecursion P xs → AllByRecursion Q xs → AllByRecursion R xs
-each_with P Q R [] f p q = tt
-each_with P Q R (x ∷ xs) f p q = (f x p.0 q.0, each_with P Q R xs f p.1 q.1)
-
-zip_as : {A B : Type 0} (P R : A → B → Type 0) (xs : List A) (ys : List B) → ((x : A) (y : B) → P x y → R x y) → AllZip P xs ys → AllZip R xs ys
-zip_as P R [] [] f p = tt
-zip_as P R [] (y ∷ ys) f p = p
-zip_as P R (x ∷ xs) [] f p = p
-zip_as P R (x ∷ xs) (y ∷ ys) f p = (f x y p.0, zip_as P R xs ys f p.1)
-
 zip_with : {A B : Type 0} (K P R : A → B → Type 0) (xs : List A) (ys : List B) → ((x : A) (y : B) → K x y → P x y → R x y) → AllZip K xs ys → AllZip P xs ys → AllZip R xs ys
 zip_with K P R [] [] f k p = tt
 zip_with K P R [] (y ∷ ys) f k p = p
 zip_with K P R (x ∷ xs) [] f k p = p
 zip_with K P R (x ∷ xs) (y ∷ ys) f k p = (f x y k.0 p.0, zip_with K P R xs ys f k.1 p.1)
-
-map_same : {A B : Type 0} (f g : A → B) (K : A → Type 0) (xs : List A) → ((x : A) → K x → g x ≡ f x) → AllByRecursion K xs → map g xs ≡ map f xs
-map_same f g K [] same k = refl
-map_same f g K (x ∷ xs) same k = let here = same x k.0 in let rest = map_same f g K xs same k.1 in cc (here, rest)
-
-each_of : {A B : Type 0} (P : B → Type 0) (f : A → List B) (xs : List A) → AllByRecursion P (flat_map f xs) → AllByRecursion (λ x. AllByRecursion P (f x)) xs
-each_of P f [] h = tt
-each_of P f (x ∷ xs) h = let both = split_each P (f x) (flat_map f xs) h in (both.0, each_of P f xs both.1)
 
 -- ---- pages behind the catalog
 
@@ -187,7 +166,7 @@ version_same old new s kept = let content = content_same old new s.body.content 
 
 object_same : (old new : Units) (line : Line) → RootsKept old new (roots_in (line_records line)) → object_of new line ≡ object_of old line
 object_same old new line kept =
-    let each = each_of (RootKept old new) (λ (s : Stored). root_in s.body.content) (line_records line) kept in
+    let each = each_parted (RootKept old new) (λ (s : Stored). root_in s.body.content) (line_records line) kept in
     let versions : map (version_of new) (line_records line) ≡ map (version_of old) (line_records line) = map_same (version_of old) (version_of new) (λ s. RootsKept old new (root_in s.body.content)) (line_records line) (λ s k. version_same old new s k) each in
     cc versions
 
@@ -208,6 +187,6 @@ files_same old new (entry ∷ entries) (f ∷ files) kept =
 pub table_off : (g : Geometry) (records : List LogRecord) (old new : Units) (v : Volume) → SameOff old new → Others g records old v → table_of new v ≡ table_of old v
 table_off g records old new v same (file, (page, (body, (node, rest)))) =
     let lines = lines_kept old new (lines_of v) (roots_off g old new v same node) in
-    let each = each_of (λ (line : Line). RootsKept old new (roots_in (line_records line))) (λ (f : FileContent). f.lines) v.files lines in
+    let each = each_parted (λ (line : Line). RootsKept old new (roots_in (line_records line))) (λ (f : FileContent). f.lines) v.files lines in
     let files = files_same old new v.catalog.entries v.files each in
     cc files

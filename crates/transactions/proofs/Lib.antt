@@ -16,7 +16,6 @@ pub mod Entries
 pub mod Sessions
 pub mod Files
 pub mod Committing
-pub mod Marks
 pub mod Writing
 pub mod Dispatch
 pub mod Commanding

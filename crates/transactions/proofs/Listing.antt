@@ -7,11 +7,12 @@ use Rattle.ex_base.specs.declared.ground.Ground as ground
 use Rattle.ex_base.specs.declared.faults.PortFault.{PortFault}
 use Rattle.ex_base.specs.declared.names.Oid.{Oid}
 use Rattle.ex_base.specs.Ports.{IsDamage}
+use Rattle.ex_base.proofs.Members.{In, contains_in, in_contains}
 use Rattle.disk_model.specs.Outside.{Outside}
 use Rattle.buffer_groups.specs.Frames.{Frames}
 use Rattle.file_index.specs.declared.Index.{Index}
 use Rattle.file_bodies.specs.Bodies.{Row, bodies_of}
-use Rattle.file_bodies.specs.Files.{HasFile, HasFiles}
+use Rattle.file_bodies.specs.Files.{HasFile}
 use Rattle.object_files.specs.Catalog.{Catalog, FileEntry}
 use Rattle.object_files.specs.Edits.{has_name}
 use Rattle.object_files.specs.Reads.{catalog_on}
@@ -34,7 +35,6 @@ use Rattle.volume_edits.specs.Ported.{HasContent, index_named}
 use Rattle.volume_edits.proofs.Contents.{contents}
 use Rattle.volume_edits.proofs.Finding.{find_in}
 use Rattle.volume_edits.proofs.Listed.{file_listed}
-use Rattle.volume_edits.proofs.Lists.{In, contains_in, in_contains}
 use Rattle.transactions.specs.Catalogs.{FramesLend, catalog_bytes}
 use Rattle.transactions.specs.Lines.{IfFile, IfPortFile, IfShown, IsOutside, IsPortOver, LineStops, PortShows, ReadsLine, oids_listed}
 use Rattle.transactions.specs.Meant.{meant}
@@ -66,22 +66,22 @@ module _ {S : Type 0} (g : ground.Ghosts S) (s : S) where
 
   module _ {T : Type 0} (items : T → List Oid) (file_no : ℕ) where
     pub lists_here : (result : Result T PortFault)
-        → IfOk result (λ oids. g.tells s → HasFiles g s → (index : Index) → HasFile g s index → index.file_no ≡ file_no → IsPermutation (oids_of (bodies_of (g.image s) index)) (items oids))
+        → IfOk result (λ oids. g.tells s → (index : Index) → HasFile g s index → index.file_no ≡ file_no → IsPermutation (oids_of (bodies_of (g.image s) index)) (items oids))
         → IfOk result (λ oids. AreByNumber (items oids)) → IfOk result (λ oids. IfPortFile g s file_no (λ before name. items oids ≡ oids_listed before.machine name))
     lists_here (Err fault) moves sorted = tt
     lists_here (Ok oids) moves sorted = λ before shows e there number.
         let content = content_here shows e there in
         let file = content.1.file in
-        file_listed g s shows.records shows.working shows.volume e (index_named e) (items oids) there file refl (moves shows.tells (files g s shows) (index_named e) file number) sorted
+        file_listed g s shows.records shows.working shows.volume e (index_named e) (items oids) there file refl (moves shows.tells (index_named e) file number) sorted
         ∙ sym (ap (λ (t : Table). flat_map (λ (o : Object). current_oids (current o.versions)) (objects_if (file_at t e.name))) shows.table)
 
     pub lists_sound : (result : Result T PortFault)
-        → IfErr result (λ fault. IsDamage fault → g.tells s → HasFiles g s → (index : Index) → HasFile g s index → index.file_no ≡ file_no → AreReadable (bodies_of (g.image s) index) → ⊥)
+        → IfErr result (λ fault. IsDamage fault → g.tells s → (index : Index) → HasFile g s index → index.file_no ≡ file_no → AreReadable (bodies_of (g.image s) index) → ⊥)
         → IfErr result (λ fault. IfPortFile g s file_no (λ before name. IsDamage fault → ⊥))
     lists_sound (Ok oids) sound = tt
     lists_sound (Err fault) sound = λ before shows e there number damage.
         let content = content_here shows e there in
-        sound damage shows.tells (files g s shows) (index_named e) content.1.file number (stored_readable (bodies_of (g.image s) (index_named e)) content.0.stored content.1.records)
+        sound damage shows.tells (index_named e) content.1.file number (stored_readable (bodies_of (g.image s) (index_named e)) content.0.stored content.1.records)
 
   -- what holds of the files of a port over a session holds of those that the session shows
   pub file_on : {w : Outside} {old : SessionState} → IsPortOver g s w old → (file_no : ℕ) (P : View SessionState → List ℕ → Type 0) → IfPortFile g s file_no P → IfFile w old file_no P
@@ -188,7 +188,3 @@ module _ {a b c : Outside} {old mid new : SessionState} (name page : List ℕ) (
 
   pub list_stopped : (why : Stop) → LineStops b c why → IfFile b mid file_no (λ before name. IsOutside why) → ReadsLine a c old new (request.ListFile name) (Err why)
   list_stopped why stops sound = line_stops (request.ListFile name) why (frames_twice one two) (later_stops a b c why one.reads stops) (named_file (λ before name. IsOutside why) sound)
-
-pub mapped_if_ok : {T E : Type 0} {P Q : T → Type 0} (result : Result T E) → ((x : T) → P x → Q x) → IfOk result P → IfOk result Q
-mapped_if_ok (Ok x) f p = f x p
-mapped_if_ok (Err e) f p = tt

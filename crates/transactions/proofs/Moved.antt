@@ -1,7 +1,7 @@
 -- What holds of every session goes on holding after an update, and after one that is given up.
 use Rattle.std.proofs.Common.{◌≡◌, ◌≢◌, ◌∙◌, ⊎_elim, ℕ, ◌<◌, ◌≤◌, ◌+◌, ◌-◌, ◌*◌, ◌^◌, cond, slice_get, true, false, List, [], ◌∷◌, ◌++◌, length, Some, nat_eq, refl, sym, ap, subst, inl, inr, arith, length-append}
 use Rattle.std.specs.Map.{lookup}
-use Rattle.std.proofs.lemmas.Bool.{cases_Bool}
+use Rattle.std.proofs.lemmas.Bool.{cases_Bool, both_ways}
 use Rattle.ex_base.specs.declared.geometry.Geometry.{Geometry}
 use Rattle.ex_base.specs.declared.names.OpNote.{OpNote}
 use Rattle.ex_base.specs.Sizes.{volume_bytes}
@@ -34,7 +34,7 @@ use Rattle.object_files.specs.Reads.{catalog_on}
 use Rattle.object_files.proofs.CatalogLaws.{catalog_read}
 use Rattle.volume_model.specs.Shown.{WorkingRow}
 use Rattle.transactions.proofs.Sessions.{number_left}
-use Rattle.transactions.proofs.Tracking.{both_bits, counted_gives, tracked_back}
+use Rattle.transactions.proofs.Tracking.{counted_gives, tracked_back}
 
 -- a port may be made over the parts of a session
 pub session_ready : (s : SessionState) (size : ℕ) → IsSession s → volume_bytes s.geometry ≤ size → AreReady s.geometry size (parts_held s)
@@ -97,7 +97,7 @@ module _ {a b : Outside} (s : SessionState) (p : PortParts) (is : IsSession s) (
     few_pages = few;
     in_order = rising;
     work = λ _. work;
-    idle = λ shut. absurd (both_bits opened shut);
+    idle = λ shut. absurd (both_ways _ shut opened);
   }
 
   -- one that was given up

@@ -1,5 +1,6 @@
 -- How a line that names a version is answered.
 use Rattle.std.proofs.Common.{◌≡◌, ◌∙◌, ℕ, ◌<◌, ◌≤◌, ◌+◌, Bool, true, false, List, [], ◌∷◌, ◌++◌, length, All, Option, Some, None, Result, Ok, Err, refl, sym, ap, subst, arith, inl, inr}
+use Rattle.std.proofs.lemmas.Bool.{le-ltb, lt-ltb}
 use Rattle.std.specs.Prelude.{is_none, nat_lt, take}
 use Rattle.std.specs.Option.{option_or}
 use Rattle.ex_base.specs.declared.names.Oid.{Oid}
@@ -161,12 +162,6 @@ later_stops a b c stop.Disk reads stops = omega (arith, reads.nothing.only.goes.
 later_stops a b c (stop.Damaged page want got) reads stops = stops
 later_stops a b c stop.Down reads stops = stops
 
-is_below : (m n : ℕ) → m < n → nat_lt m n ≡ true
-is_below m n h = grind arith
-
-not_below : (m n : ℕ) → n ≤ m → nat_lt m n ≡ false
-not_below m n h = grind arith
-
 -- ---- bytes of a version
 
 -- where the line's bytes end, against the bytes of the version
@@ -196,7 +191,7 @@ read_outside x pos len named only is names outside = record {
       let m = before.machine in
       refuses_so (request.Read x pos len) refusal.Range only is before same now (λ q.
       names_pass m x named.oid t.version (range m x (pos + len) ∷ []) n.named_by t.is
-      ∙ ap (λ (o : Option Refusal). first (o ∷ [])) (range_of m x named.oid t.version (pos + len) true n.named_by t.is (is_below (length t.version.bytes) (pos + len) (omega (arith, outside, t.size)))));
+      ∙ ap (λ (o : Option Refusal). first (o ∷ [])) (range_of m x named.oid t.version (pos + len) true n.named_by t.is (lt-ltb (length t.version.bytes) (pos + len) (omega (arith, outside, t.size)))));
 }
 
 module _ {a b c : Outside} {old mid new : SessionState} (x : Reference) (pos len : ℕ) (named : Named) (one : OnlyFrames a b old mid) (two : OnlyFrames b c mid new) (is : IsSession old)
@@ -212,7 +207,7 @@ module _ {a b c : Outside} {old mid new : SessionState} (x : Reference) (pos len
         let m = before.machine in
         answers_so (request.Read x pos len) (reply.Read out) (frames_twice one two) is before same now
         (λ q. sym (names_pass m x named.oid t.version (range m x (pos + len) ∷ []) n.named_by t.is
-        ∙ ap (λ (o : Option Refusal). first (o ∷ [])) (range_of m x named.oid t.version (pos + len) false n.named_by t.is (not_below (length t.version.bytes) (pos + len) (omega (arith, inside, t.size))))))
+        ∙ ap (λ (o : Option Refusal). first (o ∷ [])) (range_of m x named.oid t.version (pos + len) false n.named_by t.is (le-ltb (length t.version.bytes) (pos + len) (omega (arith, inside, t.size))))))
         (λ q. ap reply.Read (read (with_groups before mid) refl (same_view before same now one is.sizes) t.version t.is
         ∙ ap (λ (o : Option Version). bytes_at (bytes_if o) pos len) (sym (the_version m x named.oid t.version n.named_by t.is))))
         (λ q. refl)

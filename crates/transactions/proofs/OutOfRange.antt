@@ -4,11 +4,13 @@ use Rattle.std.specs.List.{AllByRecursion, AllZip, zip}
 use Rattle.ex_base.specs.declared.geometry.Geometry.{Geometry}
 use Rattle.ex_base.specs.declared.names.Oid.{Oid}
 use Rattle.ex_base.specs.declared.names.Place.{Place}
+use Rattle.ex_base.proofs.Each.{split_each, zip_as}
+use Rattle.ex_base.proofs.Members.{In, from_flat, of_each}
 use Rattle.op_log.specs.declared.record.LogRecord.{LogRecord}
 use Rattle.slotted_pages.specs.FilePage.{Slot, FilePage}
 use Rattle.file_index.specs.Index.{IsFilesPage}
 use Rattle.object_files.specs.Catalog.{FileEntry}
-use Rattle.tree_model.specs.Trees.{Units}
+use Rattle.trees.specs.Trees.{Units}
 use Rattle.table_model.specs.declared.table.Version.{Version}
 use Rattle.table_model.specs.Tables.{version_at, has_oid, versions_of}
 use Rattle.volume_model.specs.Parts.{HasIndex, HasPage, HasPages, HasLines, bodies_from, bodies_in}
@@ -16,8 +18,7 @@ use Rattle.volume_model.specs.Volume.{Stored, FileContent, Volume, oid_of, store
 use Rattle.volume_edits.proofs.Contents.{Beside}
 use Rattle.volume_edits.proofs.Counted.{file_lies}
 use Rattle.volume_edits.proofs.Finding.{find_in, found_or_not, from_map, oid_same, row_stored, standing, versions_are}
-use Rattle.volume_edits.proofs.Lists.{In, Paired, from_flat, of_each, zip_as, zip_split}
-use Rattle.tree_model.proofs.SameUnits.{split_each}
+use Rattle.volume_edits.proofs.Lists.{Paired, zip_split}
 use Rattle.transactions.specs.Lines.{IsOutOfRange}
 use Rattle.transactions.proofs.Volumes.{Parts}
 

@@ -1,5 +1,6 @@
 -- What the volume decides of a version that a line names, as a session finds it.
-use Rattle.std.proofs.Common.{◌≡◌, ◌∙◌, ◌+◌, ◌<◌, ℕ, Bool, true, false, cond, List, [], Option, Some, None, refl, sym, ap, arith, nat_lt, nat_eq}
+use Rattle.std.proofs.Common.{◌≡◌, ◌∙◌, ◌+◌, ◌<◌, ℕ, List, [], Option, Some, None, refl, sym, ap, nat_lt, nat_eq}
+use Rattle.std.proofs.lemmas.Bool.{cond-true, lt-ltb}
 use Rattle.std.specs.Prelude.{nat_le, is_none, ◌&&◌, unwrap_or, slice_index_or}
 use Rattle.std.specs.Map.{lookup}
 use Rattle.ex_base.specs.declared.names.Oid.{Oid}
@@ -26,13 +27,6 @@ laid committed home None = refl
 laid committed home (Some None) = refl
 laid committed home (Some (Some image)) = refl
 
-is_below : (m n : ℕ) → m < n → nat_lt m n ≡ true
-is_below m n h = grind arith
-
-chosen : {A : Type 0} (b : Bool) (x y : A) → b ≡ true → cond b x y ≡ x
-chosen true x y is = refl
-chosen false x y is = absurd (cc)
-
 body_is : (slot : Slot) → unwrap_or slot [] ≡ body_of slot
 body_is None = refl
 body_is (Some body) = refl
@@ -40,7 +34,7 @@ body_is (Some body) = refl
 -- the bytes of a page of the page area
 pub unit_at : (v : View Held) (page : ℕ) → InPageArea v.session.geometry page → units_held v page ≡ held_image v.session v.disk page
 unit_at v page lies =
-    chosen (nat_lt page (area_end v.session.geometry)) (laid_over_page (unwrap_or (lookup (nat_eq page) v.session.overlay) (page_at v.session.geometry v.disk page)) (page_at v.session.geometry v.disk page) (lookup (nat_eq page) v.session.working_pages)) (leaf_at v.session.geometry v.disk page) (is_below page (area_end v.session.geometry) lies.1)
+    cond-true (nat_lt page (area_end v.session.geometry)) (laid_over_page (unwrap_or (lookup (nat_eq page) v.session.overlay) (page_at v.session.geometry v.disk page)) (page_at v.session.geometry v.disk page) (lookup (nat_eq page) v.session.working_pages)) (leaf_at v.session.geometry v.disk page) (lt-ltb page (area_end v.session.geometry) lies.1)
     ∙ laid (lookup (nat_eq page) v.session.overlay) (page_at v.session.geometry v.disk page) (lookup (nat_eq page) v.session.working_pages)
 
 module _ (v : View Held) (oid : Oid) (lies : InPageArea v.session.geometry oid.page.0) where

@@ -3,17 +3,17 @@ use Rattle.std.proofs.Common.{◌≡◌, ◌∙◌, ◌⊎◌, ⊎_elim, ◌≤�
 use Rattle.std.specs.Prelude.{Contains, unwrap_or}
 use Rattle.std.specs.List.{AllByRecursion}
 use Rattle.std.specs.Map.{lookup}
-use Rattle.std.proofs.lemmas.Bool.{ltb-true, ltb-false, le-ltb}
+use Rattle.std.proofs.lemmas.Bool.{ltb-true, ltb-false, le-ltb, both_ways, cond-false, cond-true}
 use Rattle.ex_base.specs.declared.geometry.Geometry.{Geometry}
 use Rattle.ex_base.specs.Area.{InPageArea, area_end, catalog_no, page_at, leaf_at}
+use Rattle.ex_base.proofs.Each.{each_from}
 use Rattle.op_log.specs.AfterLog.{logged}
 use Rattle.meta_pages.specs.Overlays.{image_at, over}
-use Rattle.tree_model.specs.Trees.{Units}
-use Rattle.tree_model.proofs.SameUnits.{Kept}
+use Rattle.trees.specs.Trees.{Units}
+use Rattle.trees.proofs.SameUnits.{Kept}
 use Rattle.tree_store.specs.Stored.{unit_bytes}
 use Rattle.session_views.specs.View.{View}
 use Rattle.commits.proofs.Reached.{reach_behind, without_last}
-use Rattle.volume_model.specs.CrashImage.{each_contained}
 use Rattle.volume_model.specs.SameVolume.{kept_from_reach, parts_kept}
 use Rattle.volume_model.specs.Shown.{Shows, PageRow, working_units}
 use Rattle.volume_model.specs.Volume.{Decoded, file_pages, reach_of, roots_in, stored_in, units_of}
@@ -26,7 +26,7 @@ use Rattle.std.proofs.lemmas.List.Elements.{Contains-append_right}
 use Rattle.transactions.proofs.Ending.{in_second}
 use Rattle.transactions.proofs.KeptOff.{trees_kept}
 use Rattle.transactions.proofs.Showing.{session_geometry, laid_over_log}
-use Rattle.transactions.proofs.Tracking.{RowOf, has_image, is_gone, has_none, row_of, both_bits}
+use Rattle.transactions.proofs.Tracking.{RowOf, has_image, is_gone, has_none, row_of}
 use Rattle.transactions.proofs.Volumes.{Parts, shown_parts}
 
 -- the images and the units as a port over the session's parts tells them, where the disk holds these bytes
@@ -35,14 +35,6 @@ port_image s disk = image_over s.geometry s.meta (unit_bytes s.geometry (Some di
 
 abbrev pub port_units : SessionState → List ℕ → Units
 port_units s disk u = cond (nat_lt u (area_end s.geometry)) (port_image s disk u) (unit_bytes s.geometry (Some disk) u)
-
-chosen : {A : Type 0} (b : Bool) (x y : A) → b ≡ true → cond b x y ≡ x
-chosen true x y is = refl
-chosen false x y is = absurd (cc)
-
-other : {A : Type 0} (b : Bool) (x y : A) → b ≡ false → cond b x y ≡ y
-other true x y is = absurd (cc)
-other false x y is = refl
 
 -- the unit of a page is what stands at its home
 home_unit : (g : Geometry) (disk : List ℕ) (u : ℕ) → u < area_end g → unit_bytes g (Some disk) u ≡ page_at g disk u
@@ -63,33 +55,33 @@ module _ {may_leave : List ℕ → Type 0} (v : View SessionState) (shows : Show
   page_shown u area =
       let same = session_geometry shows in
       let row = lookup (nat_eq u) s.meta.working in
-      chosen _ _ _ (in_area s.geometry u area)
+      cond-true _ _ _ (in_area s.geometry u area)
       ∙ ap (λ (home : List ℕ). unwrap_or (image_at s.meta u) home) (home_unit s.geometry v.disk u area.1)
       ∙ ap (λ (image : Option (List ℕ)). unwrap_or (over row image) (page_at s.geometry v.disk u)) (shows.overlay.just u)
       ∙ ap (λ (g : Geometry). unwrap_or (over row (logged d.records u)) (page_at g v.disk u)) same
       ∙ sym (laid_over_log row (logged d.records u) (page_at d.geometry v.disk u))
-      ∙ sym (chosen (ltb u (area_end d.geometry)) _ _ (lt-ltb u (area_end d.geometry) (subst (λ (g : Geometry). u < area_end g) same area.1)))
+      ∙ sym (cond-true (ltb u (area_end d.geometry)) _ _ (lt-ltb u (area_end d.geometry) (subst (λ (g : Geometry). u < area_end g) same area.1)))
 
   leaf_shown : (u : ℕ) → area_end s.geometry ≤ u → unit_bytes s.geometry (Some v.disk) u ≡ working_units d v.disk s.meta.working u
   leaf_shown u le =
       let same = session_geometry shows in
       leaf_unit s.geometry v.disk u le
       ∙ ap (λ (g : Geometry). leaf_at g v.disk u) same
-      ∙ sym (other (ltb u (area_end d.geometry)) _ _ (le-ltb u (area_end d.geometry) (subst (λ (g : Geometry). area_end g ≤ u) same le)))
+      ∙ sym (cond-false (ltb u (area_end d.geometry)) _ _ (le-ltb u (area_end d.geometry) (subst (λ (g : Geometry). area_end g ≤ u) same le)))
 
   -- behind the log the port's units are those of the working volume
   pub unit_shown : (u : ℕ) → catalog_no ≤ u → port_units s v.disk u ≡ working_units d v.disk s.meta.working u
   unit_shown u behind = by (nat_lt u (area_end s.geometry)) refl
     where
       by : (b : Bool) → nat_lt u (area_end s.geometry) ≡ b → port_units s v.disk u ≡ working_units d v.disk s.meta.working u
-      by true is = chosen _ _ _ is ∙ page_shown u (behind, ltb-true u (area_end s.geometry) is)
-      by false is = other _ _ _ is ∙ leaf_shown u (ltb-false u (area_end s.geometry) is)
+      by true is = cond-true _ _ _ is ∙ page_shown u (behind, ltb-true u (area_end s.geometry) is)
+      by false is = cond-false _ _ _ is ∙ leaf_shown u (ltb-false u (area_end s.geometry) is)
 
   abbrev units : Units
   units = working_units d v.disk s.meta.working
 
   reach_kept : Kept units (port_units s v.disk) (reach_of units shows.working)
-  reach_kept = each_contained (λ u. port_units s v.disk u ≡ units u) (reach_of units shows.working)
+  reach_kept = each_from (λ u. port_units s v.disk u ≡ units u) (reach_of units shows.working)
       (λ u reached. unit_shown u (reach_behind d.geometry units shows.working u (without_last d.geometry d.records units shows.working (shown_parts shows)) reached))
 
   -- the port has the working volume, with all its parts
@@ -105,7 +97,7 @@ module _ {may_leave : List ℕ → Type 0} (v : View SessionState) (shows : Show
   -- A page that the working state doesn't have as a logged page has the bytes of its unit.
   pub port_apart : IsSession s → (u : ℕ) → InPageArea s.geometry u → is_held s.pages u ≡ false → port_image s v.disk u ≡ unit_bytes s.geometry (Some v.disk) u
   port_apart session u area none =
-      chosen _ _ _ (in_area s.geometry u area)
+      cond-true _ _ _ (in_area s.geometry u area)
       ∙ ap (λ (image : Option (List ℕ)). unwrap_or image (unit_bytes s.geometry (Some v.disk) u)) (no_image (row_of (lookup (nat_eq u) s.meta.working)))
     where
       kept_row : (os : List PageRow) → AllByRecursion (λ (row : PageRow). (row.0 ≡ catalog_no) ⊎ Contains (file_pages shows.decoded.volume) row.0) os → (o : Option (List ℕ)) → lookup (nat_eq u) os ≡ o
@@ -122,16 +114,15 @@ module _ {may_leave : List ℕ → Type 0} (v : View SessionState) (shows : Show
 
       no_committed : lookup (nat_eq u) v.session.meta.working ≡ None → lookup (nat_eq u) v.session.meta.committed ≡ None
       no_committed no_row = ⊎_elim (λ none_there. none_there)
-          (λ kept. absurd (both_bits
-          (⊎_elim (λ (held : is_held v.session.pages u ≡ true). held) (λ gone. absurd (gone_none gone no_row)) (session.pages.known u (⊎_elim
+          (λ kept. absurd (both_ways _ none (⊎_elim (λ (held : is_held v.session.pages u ≡ true). held) (λ gone. absurd (gone_none gone no_row)) (session.pages.known u (⊎_elim
           (λ (same : u ≡ catalog_no). ap (is_kept v.session.kept) same ∙ session.pages.catalog_kept)
-          (λ file. (shows.logged.kept u).1 (Contains-append_right (catalog_no ∷ []) (file_pages shows.decoded.volume) u file)) kept))) none))
+          (λ file. (shows.logged.kept u).1 (Contains-append_right (catalog_no ∷ []) (file_pages shows.decoded.volume) u file)) kept)))))
           (kept_row v.session.meta.committed shows.overlay.pages (lookup (nat_eq u) v.session.meta.committed) refl)
         where
           gone_none : {o : Option (Option (List ℕ))} → o ≡ Some None → o ≡ None → ⊥
           gone_none a b = cc
 
       no_image : RowOf (lookup (nat_eq u) v.session.meta.working) → image_at v.session.meta u ≡ None
-      no_image (has_image image is) = absurd (both_bits (session.pages.images u image is) none)
+      no_image (has_image image is) = absurd (both_ways _ none (session.pages.images u image is))
       no_image (is_gone is) = ap (λ (row : Option (Option (List ℕ))). over row (lookup (nat_eq u) v.session.meta.committed)) is
       no_image (has_none is) = ap (λ (row : Option (Option (List ℕ))). over row (lookup (nat_eq u) v.session.meta.committed)) is ∙ no_committed is

@@ -1,8 +1,7 @@
 -- An update that has its room in a session has it in the session's port.
 use Rattle.std.proofs.Common.{◌≡◌, ◌∙◌, ℕ, ◌+◌, ◌≤◌, Bool, true, false, List, length, take, drop, ◌++◌, Some, refl, sym, ap, subst, arith, inl, inr}
 use Rattle.std.specs.Prelude.{is_none, nat_le, ◌&&◌, ◌||◌, ◌==◌, if◌then◌else◌}
-use Rattle.std.proofs.lemmas.Bool.{cases_Bool}
-use Rattle.std.proofs.lemmas.Bool.Decides.{nat_tests}
+use Rattle.std.proofs.lemmas.Bool.{cases_Bool, leb-true}
 use Rattle.std.proofs.lemmas.List.{length-append, length-take, length-drop}
 use Rattle.ex_base.specs.declared.ground.Ground as ground
 use Rattle.ex_base.specs.declared.geometry.Geometry.{Geometry}
@@ -56,15 +55,12 @@ need_is g found change content area root =
     ap (λ (b : Bool). if b then 0 else most_need g change (root_height found.root) area) (or_not (count_of change == 0))
     ∙ ap (λ (height : ℕ). if count_of change == 0 then 0 else most_need g change height area) (ap root_height root ∙ height_is content)
 
-is_most : (m n : ℕ) → nat_le m n ≡ true → m ≤ n
-is_most m n h = grind (arith, nat_tests)
-
 module _ {S : Type 0} (g : ground.Ghosts S) (s : S) {before : View SessionState} (shows : PortShows g s before) where
   -- a version whose record fits beside the others stays small
   stays_by : (oid : Oid) (content : Content) (n room : ℕ) → room ≡ room_of (g.geometry s).page_size (slots_of (g.image s oid.page.0))
       → (is_none (root_of content) && nat_le (record_len n) (record_len (size_of content) + room)) ≡ true → StaysSmall g s (place_of oid) content n
   stays_by oid (Small held) n room is fits =
-      subst (λ (k : ℕ). record_len n ≤ record_len (length held) + k) is (is_most (record_len n) (record_len (length held) + room) fits)
+      subst (λ (k : ℕ). record_len n ≤ record_len (length held) + k) is (leb-true (record_len n) (record_len (length held) + room) fits)
   stays_by oid (Large root) n room is fits = absurd (cc)
 
   module _ (ready : g.ready s) (oid : Oid) (version : Version) (is : version_at (shown before.machine) oid ≡ Some version) (index : Index) (content : Content) (bytes : List ℕ) (has : HasVersion g s index oid content bytes) where

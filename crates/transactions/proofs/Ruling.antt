@@ -3,6 +3,7 @@ use Rattle.std.proofs.Common.{◌≡◌, ℕ, ◌*◌, ◌≤◌, List, [], leng
 use Rattle.std.specs.Prelude.{unwrap_or, nat_lt}
 use Rattle.std.specs.Map.{lookup}
 use Rattle.std.proofs.lemmas.List.{length-take}
+use Rattle.std.proofs.lemmas.Bool.{cond-false, cond-true, le-ltb, lt-ltb}
 use Rattle.ex_base.specs.declared.ground.Ground as ground
 use Rattle.ex_base.specs.declared.geometry.Geometry.{Geometry}
 use Rattle.ex_base.specs.Area.{InPageArea, area_end, catalog_no}
@@ -11,7 +12,7 @@ use Rattle.ex_base.specs.Sizes.{leaf_bytes}
 use Rattle.op_log.specs.declared.record.LogRecord.{LogRecord}
 use Rattle.meta_pages.specs.Overlays.{AreRows, Overlays, over}
 use Rattle.meta_pages.proofs.Writing.{page_row_len, working_row_len}
-use Rattle.tree_model.proofs.TreeLaws.{AreWhole}
+use Rattle.trees.proofs.TreeLaws.{AreWhole}
 use Rattle.tree_store.specs.Stored.{unit_bytes, unit_len}
 use Rattle.tree_store.proofs.Places.{page_len}
 use Rattle.table_model.specs.Tables.{IsTable}
@@ -19,7 +20,7 @@ use Rattle.volume_edits.specs.Ported.{ShowsVolume, units_in}
 use Rattle.volume_model.proofs.RulesOfTable.{table_rules}
 use Rattle.volume_model.specs.Volume.{Volume, table_of}
 use Rattle.volume_port.specs.Ported.{image_over}
-use Rattle.transactions.proofs.Bridge.{chosen, image_is, is_below, not_below, other}
+use Rattle.transactions.proofs.Bridge.{image_is}
 
 -- ---- the catalog's page
 
@@ -51,12 +52,12 @@ module _ (g : Geometry) (meta : Overlays) (rows : AreRows meta) (same : meta.geo
 module _ {S : Type 0} (g : ground.Ghosts S) (s : S) where
   units_whole : g.ready s → g.tells s → AreWhole (g.geometry s) (units_in g s)
   units_whole ready tells page (j, lt, is) =
-      subst (λ (bytes : List ℕ). leaf_bytes (g.geometry s) ≤ length bytes) (sym (other (nat_lt page (area_end (g.geometry s))) (g.image s page) (g.unit s page) (not_below page (area_end (g.geometry s)) (omega (arith, is)))))
+      subst (λ (bytes : List ℕ). leaf_bytes (g.geometry s) ≤ length bytes) (sym (cond-false (nat_lt page (area_end (g.geometry s))) (g.image s page) (g.unit s page) (le-ltb page (area_end (g.geometry s)) (omega (arith, is)))))
       (g.whole s ready tells page (j, lt, is))
 
   pub volume_rules : g.ready s → g.tells s → (records : List LogRecord) (v : Volume) → InPageArea (g.geometry s) catalog_no → length (g.image s catalog_no) ≤ (g.geometry s).page_size → ShowsVolume g s records v
       → IsTable (g.geometry s) (table_of (units_in g s) v)
   volume_rules ready tells records v lies fits shows =
       table_rules (g.geometry s) (units_in g s) (units_whole ready tells) records v
-      (subst (λ (bytes : List ℕ). length bytes ≤ (g.geometry s).page_size) (sym (chosen (nat_lt catalog_no (area_end (g.geometry s))) (g.image s catalog_no) (g.unit s catalog_no) (is_below catalog_no (area_end (g.geometry s)) lies.1))) fits)
+      (subst (λ (bytes : List ℕ). length bytes ≤ (g.geometry s).page_size) (sym (cond-true (nat_lt catalog_no (area_end (g.geometry s))) (g.image s catalog_no) (g.unit s catalog_no) (lt-ltb catalog_no (area_end (g.geometry s)) lies.1))) fits)
       shows.parts

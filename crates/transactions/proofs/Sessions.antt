@@ -19,7 +19,7 @@ use Rattle.volume_model.specs.Shown.{WorkingRow}
 use Rattle.transactions.specs.Sessions.{SessionState, IsSession, IsTracked, HasWork, Settled, begun}
 use Rattle.volume_port.specs.Logged.{LoggedSet}
 use Rattle.page_alloc.specs.UnitSet.{UnitSet}
-use Rattle.transactions.proofs.Tracking.{both_bits, tracked_put, tracked_settled, counted_gives}
+use Rattle.transactions.proofs.Tracking.{tracked_put, tracked_settled, counted_gives}
 use Rattle.commits.specs.Room.{IsLogged, HasCatalog, AreBehindLog}
 use Rattle.buffer_groups.specs.Frames.{Frames}
 use Rattle.ex_base.specs.declared.geometry.Geometry.{Geometry}
@@ -27,6 +27,7 @@ use Rattle.op_log.specs.State.{LogState}
 use Rattle.table_model.specs.declared.machine.BoundName.{BoundName}
 use Rattle.ex_base.specs.Order.{Rising}
 use Rattle.std.proofs.lemmas.List.{length-map}
+use Rattle.std.proofs.lemmas.Bool.{both_ways}
 use Rattle.transactions.specs.Steps.{OnlyFrames}
 use Rattle.disk_model.specs.Outside.{Outside}
 use Rattle.transactions.proofs.Working.{lookup_put, length_put, firsts_put}
@@ -77,7 +78,7 @@ pub edited : (s now : SessionState) (page : List ℕ) (kind : ℕ) (meta : Overl
 edited s now page kind meta notes is session may same noted =
     let here = subst (λ (t : SessionState). MayUpdate t page kind) (sym is) may in
     works_on s (with_row catalog_no (Some page) s.meta.working) notes s.opened meta session same (omega (arith, length_put catalog_no (Some page) s.meta.working, here.touched))
-    (subst (λ (l : List OpNote). length l ≤ updates_most) (sym noted) session.few_notes) (subst (λ (l : List OpNote). AllByRecursion IsNote l) (sym noted) session.notes) (rising_with catalog_no (Some page) s.meta.working session.in_order) (λ _. has_work s.meta page here.catalog here.number) (tracked_put s.geometry s.meta.working s.pages s.kept session.pages page) (λ closed. absurd (both_bits here.opened closed))
+    (subst (λ (l : List OpNote). length l ≤ updates_most) (sym noted) session.few_notes) (subst (λ (l : List OpNote). AllByRecursion IsNote l) (sym noted) session.notes) (rising_with catalog_no (Some page) s.meta.working session.in_order) (λ _. has_work s.meta page here.catalog here.number) (tracked_put s.geometry s.meta.working s.pages s.kept session.pages page) (λ closed. absurd (both_ways _ closed here.opened))
 
 pub noted : (s now : SessionState) (page : List ℕ) (kind : ℕ) (meta : Overlays) (notes : List OpNote) → s ≡ now → IsSession s → MayUpdate now page kind → meta ≡ record s.meta { working = with_row catalog_no (Some page) s.meta.working }
     → notes ≡ s.notes ++ note kind no_oid 0 0 ∷ [] → IsSession (working_on s meta notes s.opened)
@@ -85,11 +86,11 @@ noted s now page kind meta notes is session may same pushed =
     let here = subst (λ (t : SessionState). MayUpdate t page kind) (sym is) may in
     works_on s (with_row catalog_no (Some page) s.meta.working) notes s.opened meta session same (omega (arith, length_put catalog_no (Some page) s.meta.working, here.touched))
     (subst (λ (l : List OpNote). length l ≤ updates_most) (sym pushed) (omega (arith, length-append s.notes (note kind no_oid 0 0 ∷ []), here.updates)))
-    (subst (λ (l : List OpNote). AllByRecursion IsNote l) (sym pushed) (each-push IsNote s.notes (note kind no_oid 0 0) session.notes (is_note kind here.some_kind here.few_kinds))) (rising_with catalog_no (Some page) s.meta.working session.in_order) (λ _. has_work s.meta page here.catalog here.number) (tracked_put s.geometry s.meta.working s.pages s.kept session.pages page) (λ closed. absurd (both_bits here.opened closed))
+    (subst (λ (l : List OpNote). AllByRecursion IsNote l) (sym pushed) (each-push IsNote s.notes (note kind no_oid 0 0) session.notes (is_note kind here.some_kind here.few_kinds))) (rising_with catalog_no (Some page) s.meta.working session.in_order) (λ _. has_work s.meta page here.catalog here.number) (tracked_put s.geometry s.meta.working s.pages s.kept session.pages page) (λ closed. absurd (both_ways _ closed here.opened))
 
 -- a transaction that could not be opened, and one that was
 pub not_begun : (s : SessionState) (meta : Overlays) → IsSession s → s.opened ≡ false → meta ≡ record s.meta { working = [] } → IsSession (working_on s meta s.notes s.opened)
-not_begun s meta is closed same = works_on s [] s.notes s.opened meta is same (omega arith) is.few_notes is.notes tt (λ opened. absurd (both_bits opened closed)) (subst (λ (rows : List WorkingRow). IsTracked s.geometry rows s.pages s.kept) (is.idle closed) is.pages) (λ _. refl)
+not_begun s meta is closed same = works_on s [] s.notes s.opened meta is same (omega arith) is.few_notes is.notes tt (λ opened. absurd (both_ways _ closed opened)) (subst (λ (rows : List WorkingRow). IsTracked s.geometry rows s.pages s.kept) (is.idle closed) is.pages) (λ _. refl)
 
 pub is_begun : (s : SessionState) (meta : Overlays) (notes : List OpNote) (page : List ℕ) → IsSession s → s.opened ≡ false → meta ≡ record s.meta { working = (catalog_no, Some page) ∷ [] } → notes ≡ [] → IsCatalogPage page → (catalog_on page).last < 2 ^ 64 - 1
     → IsSession (working_on s meta notes true)

@@ -4,45 +4,40 @@ use Rattle.std.specs.List.{AllByRecursion}
 use Rattle.std.specs.Map.{lookup}
 use Rattle.std.specs.Option.{option_copied}
 use Rattle.std.specs.Borrow.{Bor}
-use Rattle.std.proofs.lemmas.Bool.{cases_eq}
+use Rattle.std.proofs.lemmas.Bool.{cases_eq, both_ways}
 use Rattle.std.proofs.lemmas.List.{get_or-set_same, get_or-set_other, length-set}
-use Rattle.ex_base.specs.declared.names.Area.{Area}
-use Rattle.ex_base.specs.declared.names.Area.TheVariants.{Page, Segment}
+use Rattle.std.proofs.Math.Seq.{take-length}
+use Rattle.ex_base.proofs.Counts.{not_equal}
 use Rattle.meta_pages.specs.Rows.{IsAbove, IsRising}
 use Rattle.page_alloc.specs.UnitSet.{UnitSet}
 use Rattle.volume_model.specs.Shown.{WorkingRow}
 use Rattle.volume_port.specs.Logged.{LoggedSet, is_held, is_taken}
 use Rattle.transactions.proofs.Frames.{each_of_all}
 use Rattle.transactions.specs.Sessions.{OnlyGives, Settled, TakenBack, is_kept}
+use Rattle.ex_base.proofs.Options.{none_from_test}
 
 -- ---- units
 
-pub each_area : (P : Area → Type 0) → P Page → P Segment → (area : Area) → P area
-each_area P page segment Page = page
-each_area P page segment Segment = segment
-
 pub gives_none : (stays : ℕ → Type 0) (u : UnitSet) → OnlyGives stays u u
-gives_none stays u = record { geometry = refl; used = λ unit is. is; stays = λ unit is _. is; refs = λ unit. omega arith; free = λ area. omega arith }
+gives_none stays u = record { geometry = refl; used = λ unit is. is; stays = λ unit is _. is; owned = λ unit is _. is; refs = λ unit. omega arith; free = λ area. omega arith }
 
 pub gives_on : (P Q R : ℕ → Type 0) (u v w : UnitSet) → ((unit : ℕ) → R unit → P unit) → ((unit : ℕ) → R unit → Q unit) → OnlyGives P u v → OnlyGives Q v w → OnlyGives R u w
 gives_on P Q R u v w p q one two = record {
   geometry = two.geometry ∙ one.geometry;
   used = λ unit is. one.used unit (two.used unit is);
   stays = λ unit is r. two.stays unit (one.stays unit is (p unit r)) (q unit r);
+  owned = λ unit is some. two.owned unit (one.owned unit is (omega (arith, some, two.refs unit))) some;
   refs = λ unit. omega (arith, one.refs unit, two.refs unit);
   free = λ area. omega (arith, one.free area, two.free area);
 }
 
 pub gives_fewer : (P Q : ℕ → Type 0) (u v : UnitSet) → ((unit : ℕ) → Q unit → P unit) → OnlyGives P u v → OnlyGives Q u v
-gives_fewer P Q u v weaker one = record { geometry = one.geometry; used = one.used; stays = λ unit is q. one.stays unit is (weaker unit q); refs = one.refs; free = one.free }
+gives_fewer P Q u v weaker one = record { geometry = one.geometry; used = one.used; stays = λ unit is q. one.stays unit is (weaker unit q); owned = one.owned; refs = one.refs; free = one.free }
 
 -- ---- the first rows
 
-unlike : (p k : ℕ) → p ≢ k → nat_eq p k ≡ false
-unlike p k differ = (elim (nat_eq p k) as (λ b. nat_eq p k ≡ b → b ≡ false) [ true ↦ λ t. absurd (differ (eqb-true p k t)) | false ↦ λ t. refl ]) refl
-
 pub here_or : (p k : ℕ) (v : Option (List ℕ)) (rest : Option (Option (List ℕ))) → p ≢ k → cond (nat_eq p k) (Some v) rest ≡ rest
-here_or p k v rest differ = rw (unlike p k differ) refl
+here_or p k v rest differ = rw (not_equal p k differ) refl
 
 pub here_is : (k : ℕ) (v : Option (List ℕ)) (rest : Option (Option (List ℕ))) → cond (nat_eq k k) (Some v) rest ≡ Some v
 here_is k v rest = rw (eq-eqb k k refl) refl
@@ -104,9 +99,6 @@ taken_back_start kept old u = record {
   units = gives_none (λ unit. is_taken old unit ≡ false) u;
 }
 
-both_bits : (b : Bool) → b ≡ true → b ≡ false → ⊥
-both_bits b one other = cc
-
 pub taken_back_next : (rows : List WorkingRow) (i : ℕ) (row : WorkingRow) (kept : List Bool) (old mid new : LoggedSet) (u v w : UnitSet) (flag : Bool) → IsRising rows → slice_get rows i ≡ Some row
     → row.0 < length mid.held → row.0 < length mid.taken → flag ≡ is_kept kept row.0
     → TakenBack (take i rows) kept old mid u v
@@ -123,7 +115,7 @@ taken_back_next rows i row kept old mid new u v w flag rising is in_held in_take
       (λ (same : page ≡ row.0). absurd (some_none (sym (next_here rows i row rising is) ∙ ap (λ (q : ℕ). lookup (nat_eq q) (take (i + 1) rows)) (sym same) ∙ none)))
       (λ (differ : page ≢ row.0). let was = back.others page (sym (next_other rows i row rising is page differ) ∙ none) in (held_other page differ ∙ was.0, taken_other page differ ∙ was.1)) (cases_eq page row.0);
   units = gives_on (λ unit. is_taken old unit ≡ false) (λ unit. (unit ≡ row.0) × (is_taken mid unit ≡ true) → ⊥) (λ unit. is_taken old unit ≡ false) u v w (λ unit free. free)
-      (λ unit free (same, taken). both_bits (is_taken mid unit) taken (ap (is_taken mid) same ∙ (back.others row.0 (none_below rows i row rising is)).1 ∙ ap (is_taken old) (sym same) ∙ free)) back.units gives;
+      (λ unit free (same, taken). both_ways (is_taken mid unit) (ap (is_taken mid) same ∙ (back.others row.0 (none_below rows i row rising is)).1 ∙ ap (is_taken old) (sym same) ∙ free) taken) back.units gives;
 }
   where
     some_none : Some row.1 ≡ None → ⊥
@@ -214,17 +206,13 @@ settled_next rows i row kept mid_kept now old mid new u v w flag rising is in_ke
       units = gives_on (StaysSettled (take i rows) kept) (λ unit. (unit ≡ row.0) × (flag ≡ false) × (is_kept mid_kept unit ≡ true) → ⊥) (StaysSettled (take (i + 1) rows) kept) u v w
           (λ unit stays (gone, flag_is). stays (next_keeps rows i row rising is unit None gone, flag_is))
           (λ unit stays (same, no_image, flag_is). stays (
-            ap (λ (q : ℕ). lookup (nat_eq q) (take (i + 1) rows)) same ∙ next_here rows i row rising is ∙ ap (λ (o : Option (List ℕ)). Some o) (none_of row.1 (sym flagged ∙ no_image)),
+            ap (λ (q : ℕ). lookup (nat_eq q) (take (i + 1) rows)) same ∙ next_here rows i row rising is ∙ ap (λ (o : Option (List ℕ)). Some o) (none_from_test row.1 (sym flagged ∙ no_image)),
             ap (is_kept kept) same ∙ sym was.0 ∙ ap (is_kept mid_kept) (sym same) ∙ flag_is,
           )) done.units gives;
     }
   where
     some_none : Some row.1 ≡ None → ⊥
     some_none e = cc
-
-    none_of : (o : Option (List ℕ)) → is_some o ≡ false → o ≡ None
-    none_of None e = refl
-    none_of (Some x) e = absurd (cc)
 
     row_is : (page : ℕ) (x : Option (List ℕ)) → page ≡ row.0 → lookup (nat_eq page) (take (i + 1) rows) ≡ Some x → row.1 ≡ x
     row_is page x same has = (let both : Some row.1 ≡ Some x = sym (next_here rows i row rising is) ∙ ap (λ (q : ℕ). lookup (nat_eq q) (take (i + 1) rows)) (sym same) ∙ has in cc (both))
@@ -259,10 +247,6 @@ whole_kept [] (b ∷ old) same = absurd (omega (arith, same))
 whole_kept (a ∷ new) [] same = absurd (omega (arith, same))
 whole_kept (a ∷ new) (b ∷ old) same = ap (λ (l : List Bool). a ∷ l) (whole_kept new old (omega (arith, same)))
 
-take_whole : (xs : List Bool) → take (length xs) xs ≡ xs
-take_whole [] = refl
-take_whole (x ∷ xs) = ap (λ (l : List Bool). x ∷ l) (take_whole xs)
-
 pub taken_kept : (new old : List Bool) (n : ℕ) → length new ≡ length old → n ≡ length old → take n (new ++ drop (length new) old) ≡ new
 taken_kept new old n same all =
-    ap (λ (l : List Bool). take n l) (whole_kept new old same) ∙ ap (λ (k : ℕ). take k new) (all ∙ sym same) ∙ take_whole new
+    ap (λ (l : List Bool). take n l) (whole_kept new old same) ∙ ap (λ (k : ℕ). take k new) (all ∙ sym same) ∙ take-length new

@@ -10,12 +10,12 @@ use Rattle.ex_base.specs.declared.names.Oid.{Oid}
 use Rattle.ex_base.specs.declared.names.PageNo.{PageNo}
 use Rattle.ex_base.specs.declared.names.Root.{Root}
 use Rattle.ex_base.specs.Area.{InPageArea}
+use Rattle.ex_base.proofs.Each.{split_each}
 use Rattle.disk_model.specs.Outside.{Outside}
 use Rattle.count_nodes.specs.declared.Pair.{Pair}
 use Rattle.count_nodes.specs.Node.{pairs_on}
-use Rattle.tree_model.specs.Shape.{Subtree, leaves_of}
-use Rattle.tree_model.specs.Trees.{Units, IsNamed, RootNamed, RootSpells, for_each_child, root_shape, root_shape_at, root_units_at, shape_on, units_on}
-use Rattle.tree_model.proofs.SameUnits.{split_each}
+use Rattle.trees.specs.Shape.{Subtree, leaves_of}
+use Rattle.trees.specs.Trees.{Units, IsNamed, RootNamed, RootSpells, for_each_child, root_shape, root_shape_at, root_units_at, shape_on, units_on}
 use Rattle.object_records.specs.Record.{Content, Large, Record}
 use Rattle.table_model.specs.declared.machine.Machine.{Machine}
 use Rattle.table_model.specs.declared.machine.Pick.{Pick}

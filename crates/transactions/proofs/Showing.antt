@@ -1,9 +1,10 @@
 -- When the view of a session goes on showing its volume.
-use Rattle.std.proofs.Common.{◌≡◌, ◌∙◌, ◌⊎◌, ◌↔◌, ℕ, Bool, true, false, cond, ltb, List, ◌∷◌, ◌++◌, length, map, Option, Some, None, nat_eq, refl, sym, ap, subst, arith}
+use Rattle.std.proofs.Common.{◌≡◌, ◌∙◌, ◌⊎◌, ◌↔◌, ℕ, Bool, true, cond, ltb, List, ◌∷◌, ◌++◌, length, map, Option, Some, None, nat_eq, refl, sym, ap, subst, arith}
 use Rattle.std.specs.Prelude.{Contains, unwrap_or, IsSome}
 use Rattle.std.specs.List.{AllByRecursion, AllZip, flat_map}
 use Rattle.std.specs.Map.{lookup}
 use Rattle.std.proofs.lemmas.Bool.Decides.{nat_tests}
+use Rattle.std.proofs.lemmas.Bool.{cond-true}
 use Rattle.ex_base.specs.declared.geometry.Geometry.{Geometry}
 use Rattle.ex_base.specs.declared.names.Area.TheVariants.{Page, Segment}
 use Rattle.table_model.specs.declared.machine.ScanRow.{ScanRow}
@@ -19,18 +20,14 @@ use Rattle.session_views.specs.View.{View}
 use Rattle.volume_model.specs.Parts.{IsLastOf}
 use Rattle.volume_model.specs.Shown.{Held, Shows, Shared, WorkingRow, WorkingShown, OverlayShown, PageRow, ScanShown, used_in, IsWorkingPage, Lends, laid_over, laid_over_page, working_units, reach_of_view, trees_of_view}
 use Rattle.volume_model.specs.Volume.{Volume, Decoded, table_of, units_of, file_pages, roots_in, stored_in}
-use Rattle.tree_model.specs.Trees.{Units, root_units}
+use Rattle.trees.specs.Trees.{Units, root_units}
 use Rattle.transactions.proofs.Volumes.{shown_parts, shown_table}
 
 -- ---- the catalog that a view shows
 
-chosen : {A : Type 0} (b : Bool) (x y : A) → b ≡ true → cond b x y ≡ x
-chosen true x y is = refl
-chosen false x y is = absurd (cc)
-
 -- the catalog's page lies in the page area
 pub page_unit : (g : Geometry) (f : ℕ → List ℕ) (leaf : List ℕ) → cond (ltb catalog_no (area_end g)) (f catalog_no) leaf ≡ f catalog_no
-page_unit g f leaf = chosen (ltb catalog_no (area_end g)) (f catalog_no) leaf (let some = g.some_pages in grind (arith, nat_tests))
+page_unit g f leaf = cond-true (ltb catalog_no (area_end g)) (f catalog_no) leaf (let some = g.some_pages in grind (arith, nat_tests))
 
 pub laid_over_log : (row : Option (Option (List ℕ))) (image : Option (List ℕ)) (home : List ℕ) → laid_over_page (unwrap_or image home) home row ≡ unwrap_or (over row image) home
 laid_over_log None image home = refl

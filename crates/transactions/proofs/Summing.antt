@@ -9,11 +9,13 @@ use Rattle.ex_base.specs.declared.names.Oid.{Oid}
 use Rattle.ex_base.specs.declared.geometry.Geometry.{Geometry}
 use Rattle.ex_base.specs.Order.{RisingTexts}
 use Rattle.ex_base.specs.Sizes.{volume_bytes}
+use Rattle.ex_base.proofs.Members.{In, contains_in}
+use Rattle.ex_base.proofs.Each.{zip_as}
 use Rattle.disk_model.specs.Outside.{Outside}
 use Rattle.op_log.specs.declared.record.LogRecord.{LogRecord}
 use Rattle.object_files.specs.Catalog.{Catalog, CatalogOf, FileEntry, name_of}
 use Rattle.object_files.specs.Reads.{catalog_on}
-use Rattle.tree_model.specs.Trees.{Units}
+use Rattle.trees.specs.Trees.{Units}
 use Rattle.table_model.specs.declared.table.Object.{Object}
 use Rattle.table_model.specs.declared.table.Table.{Table}
 use Rattle.table_model.specs.declared.table.TableFile.{TableFile}
@@ -29,7 +31,7 @@ use Rattle.volume_model.specs.Shown.{working_units}
 use Rattle.volume_model.specs.Volume.{FileContent, Line, Stored, Volume, file_of, line_records, lines_of, object_of, stored_in, table_of, version_of}
 use Rattle.volume_edits.proofs.Contents.{Beside, zip_by}
 use Rattle.volume_edits.proofs.Finding.{objects_are, versions_are}
-use Rattle.volume_edits.proofs.Lists.{In, Paired, contains_in, zip_append, zip_as}
+use Rattle.volume_edits.proofs.Lists.{Paired, zip_append}
 use Rattle.volume_edits.proofs.Naming.{texts_differ}
 use Rattle.transactions.specs.declared.session.summary.Summary.{Summary}
 use Rattle.transactions.specs.Lines.{IfFile, IfShown, IsOutside, LineStops, oids_listed}

@@ -1,9 +1,10 @@
 -- The flags of a session's logged pages go on being those of its pages.
 use Rattle.std.proofs.Common.{◌≡◌, ◌≢◌, ◌∙◌, ℕ, Bool, true, false, List, [], Option, Some, None, IsSome, nat_eq, refl, sym, ap, subst, inl, inr, ⊎_elim, arith}
 use Rattle.std.specs.Map.{lookup}
-use Rattle.std.proofs.lemmas.Bool.{cases_Bool, cases_eq}
+use Rattle.std.proofs.lemmas.Bool.{cases_Bool, cases_eq, both_ways}
 use Rattle.ex_base.specs.declared.geometry.Geometry.{Geometry}
 use Rattle.ex_base.specs.Area.{catalog_no}
+use Rattle.ex_base.proofs.Options.{some_apart_inside}
 use Rattle.meta_pages.specs.Rows.{with_row}
 use Rattle.page_alloc.specs.UnitSet.{UnitSet}
 use Rattle.tree_store.specs.Stored.{IsCounted}
@@ -12,14 +13,8 @@ use Rattle.volume_port.specs.Logged.{LoggedSet, is_held, is_taken}
 use Rattle.volume_port.proofs.WorkingRows.{put_here, put_other, put_touches}
 use Rattle.transactions.specs.Sessions.{IsTracked, OnlyGives, Settled, TakenBack, is_kept}
 
-pub both_bits : {b : Bool} → b ≡ true → b ≡ false → ⊥
-both_bits one other = cc
-
 some_none : (x : Option (List ℕ)) → Some x ≡ None → ⊥
 some_none x e = cc
-
-image_gone : (x : List ℕ) → Some (Some x) ≡ Some None → ⊥
-image_gone x e = cc
 
 pub bits_same : (a b : Bool) → (a ≡ true → b ≡ true) → (b ≡ true → a ≡ true) → a ≡ b
 bits_same true b f g = sym (f refl)
@@ -53,7 +48,7 @@ module _ (g : Geometry) (rows : List WorkingRow) (pages : LoggedSet) (kept : Lis
         (λ (same : p ≡ catalog_no). ap (is_held pages) same ∙ is.catalog)
         (λ (differ : p ≢ catalog_no). is.images p image (sym (put_other catalog_no (Some page) rows p (λ e. differ (sym e))) ∙ has)) (cases_eq p catalog_no);
     gone = λ p has. ⊎_elim
-        (λ (same : p ≡ catalog_no). absurd (image_gone page (sym (put_here catalog_no (Some page) rows) ∙ ap (λ (q : ℕ). lookup (nat_eq q) (with_row catalog_no (Some page) rows)) (sym same) ∙ has)))
+        (λ (same : p ≡ catalog_no). absurd (some_apart_inside page (sym (put_here catalog_no (Some page) rows) ∙ ap (λ (q : ℕ). lookup (nat_eq q) (with_row catalog_no (Some page) rows)) (sym same) ∙ has)))
         (λ (differ : p ≢ catalog_no). is.gone p (sym (put_other catalog_no (Some page) rows p (λ e. differ (sym e))) ∙ has)) (cases_eq p catalog_no);
     taken = λ p took. put_touches catalog_no (Some page) rows p (is.taken p took);
     there = is.there;
@@ -75,7 +70,7 @@ module _ (g : Geometry) (rows : List WorkingRow) (pages : LoggedSet) (kept : Lis
   not_taken p none = ⊎_elim (λ took. absurd (none_some (lookup (nat_eq p) rows) none (is.taken p took))) (λ free. free) (cases_Bool (is_taken pages p))
 
   gone_free : (p : ℕ) → lookup (nat_eq p) rows ≡ Some None → is_taken pages p ≡ false
-  gone_free p gone = ⊎_elim (λ took. absurd (both_bits (is.there p took) (is.gone p gone))) (λ free. free) (cases_Bool (is_taken pages p))
+  gone_free p gone = ⊎_elim (λ took. absurd (both_ways _ (is.gone p gone) (is.there p took))) (λ free. free) (cases_Bool (is_taken pages p))
 
   -- ---- an abort
 
@@ -103,8 +98,8 @@ module _ (g : Geometry) (rows : List WorkingRow) (pages : LoggedSet) (kept : Lis
       catalog_kept = is.catalog_kept;
       images = λ p image has. absurd (some_none (Some image) (sym has));
       gone = λ p has. absurd (some_none None (sym has));
-      taken = λ p took. absurd (both_bits took (none_taken_back p));
-      there = λ p took. absurd (both_bits took (none_taken_back p));
+      taken = λ p took. absurd (both_ways _ (none_taken_back p) took);
+      there = λ p took. absurd (both_ways _ (none_taken_back p) took);
       known = λ p flag. inl (held_back p ∙ flag);
       untouched = λ p held none. sym (held_back p) ∙ held;
     }
@@ -142,8 +137,8 @@ module _ (g : Geometry) (rows : List WorkingRow) (pages : LoggedSet) (kept : Lis
       catalog_kept = kept_settled catalog_no ∙ is.catalog;
       images = λ p image has. absurd (some_none (Some image) (sym has));
       gone = λ p has. absurd (some_none None (sym has));
-      taken = λ p took. absurd (both_bits took (none_taken_settled p));
-      there = λ p took. absurd (both_bits took (none_taken_settled p));
+      taken = λ p took. absurd (both_ways _ (none_taken_settled p) took);
+      there = λ p took. absurd (both_ways _ (none_taken_settled p) took);
       known = λ p flag. inl (held_settled p ∙ sym (kept_settled p) ∙ flag);
       untouched = λ p held none. kept_settled p ∙ sym (held_settled p) ∙ held;
     }
@@ -152,5 +147,6 @@ pub counted_gives : (g : Geometry) (stays : ℕ → Type 0) (u v : UnitSet) → 
 counted_gives g stays u v is gives = record {
   geometry = gives.geometry ∙ is.geometry;
   named = λ p used. is.named p (gives.used p used);
+  owned = λ p some. gives.owned p (is.owned p (omega (arith, some, gives.refs p))) some;
   few = λ p. omega (arith, gives.refs p, is.few p);
 }

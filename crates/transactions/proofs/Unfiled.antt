@@ -1,5 +1,5 @@
 -- A volume without one of its empty files. A file has pages exactly where it has objects.
-use Rattle.std.proofs.Common.{◌≡◌, ◌∙◌, ℕ, zero, suc, ◌<◌, ◌≤◌, Bool, true, false, cond, not, List, [], ◌∷◌, ◌++◌, length, map, filter, Option, Some, None, is_some, refl, sym, ap, subst, arith}
+use Rattle.std.proofs.Common.{◌≡◌, ◌∙◌, ℕ, zero, suc, ◌<◌, ◌≤◌, true, false, cond, not, List, [], ◌∷◌, ◌++◌, length, map, filter, Option, Some, None, is_some, refl, sym, ap, subst, arith}
 use Rattle.std.specs.Prelude.{bytes_eq, find, nat_lt}
 use Rattle.std.specs.List.{flat_map, AllByRecursion, AllZip, zip}
 use Rattle.std.specs.List.Sorted.{IsPermutation}
@@ -14,6 +14,7 @@ use Rattle.ex_base.specs.declared.names.PageNo.{PageNo}
 use Rattle.ex_base.specs.declared.names.Root.{Root}
 use Rattle.ex_base.specs.Area.{catalog_no}
 use Rattle.ex_base.specs.Order.{AllDiffer, Rising, RisingTexts}
+use Rattle.ex_base.proofs.Lists.{texts_tail}
 use Rattle.op_log.specs.declared.record.LogRecord.{LogRecord}
 use Rattle.index_pages.specs.declared.Entry.{Entry}
 use Rattle.index_pages.specs.IndexPage.{entries_on}
@@ -21,7 +22,7 @@ use Rattle.slotted_pages.specs.FilePage.{FilePage, Slot, EndsLive}
 use Rattle.file_index.specs.Index.{IsUnder, IsRoot, keys_under, keys_of, pages_of}
 use Rattle.object_files.specs.Catalog.{FileEntry, name_of}
 use Rattle.object_files.specs.Edits as edits
-use Rattle.tree_model.specs.Trees.{Units, RootNamed, root_units}
+use Rattle.trees.specs.Trees.{Units, RootNamed, root_units}
 use Rattle.table_model.specs.declared.table.TableFile.{TableFile}
 use Rattle.table_model.specs.Tables as tables
 use Rattle.table_model.specs.Refusals.{has_objects}
@@ -30,6 +31,8 @@ use Rattle.volume_model.specs.Volume.{Stored, Line, FileContent, Volume, line_re
 use Rattle.transactions.specs.Refused.{has_pages}
 use Rattle.transactions.proofs.KeptOff.{Others}
 use Rattle.transactions.proofs.Filed.{empty_file}
+use Rattle.std.proofs.lemmas.Bool.{both_ways}
+use Rattle.ex_base.proofs.Options.{none_from_test}
 
 -- ---- a file has pages exactly where it has objects
 
@@ -161,10 +164,6 @@ none_later name R (e ∷ es) [] later h = absurd h
 none_later name R (e ∷ es) (f ∷ fs) later h =
     (λ is. absurd (not_before_self name (subst (λ (n : List ℕ). slice_cmp nat_cmp name n ≡ Less) ((bytes_eq-Decides e.name name).0 is) later.0)), none_later name R es fs later.1 h.1)
 
-names_tail : (x : List ℕ) (xs : List (List ℕ)) → RisingTexts (x ∷ xs) → RisingTexts xs
-names_tail x [] h = tt
-names_tail x (y ∷ xs) h = h.1
-
 pub gone_of : (g : Geometry) (units : Units) (name : List ℕ) (es : List FileEntry) (fs : List FileContent) → RisingTexts (map name_of es) → has_pages (find (edits.has_name name) es) ≡ false → AllZip (HasAll g units) es fs → AllZip (IsGone name) es fs
 gone_of g units name [] [] sorted none h = tt
 gone_of g units name [] (f ∷ fs) sorted none h = absurd h
@@ -172,18 +171,11 @@ gone_of g units name (e ∷ es) [] sorted none h = absurd h
 gone_of g units name (e ∷ es) (f ∷ fs) sorted none h =
     (elim (bytes_eq e.name name) as (λ b. bytes_eq e.name name ≡ b → has_pages (cond b (Some e) (find (edits.has_name name) es)) ≡ false → AllZip (IsGone name) (e ∷ es) (f ∷ fs)) [
       | true ↦ λ is none. (
-        λ _. rootless g units e f h.0 (no_root e.root none),
+        λ _. rootless g units e f h.0 (none_from_test e.root none),
         none_later name (HasAll g units) es fs (subst (λ (n : List ℕ). AllByRecursion (λ (e : FileEntry). slice_cmp nat_cmp n e.name ≡ Less) es) ((bytes_eq-Decides e.name name).0 is) (all_later e.name es sorted)) h.1,
       )
-      | false ↦ λ isnt none. (λ is. absurd (bits is isnt), gone_of g units name es fs (names_tail e.name (map name_of es) sorted) none h.1)
+      | false ↦ λ isnt none. (λ is. absurd (both_ways _ isnt is), gone_of g units name es fs (texts_tail e.name (map name_of es) sorted) none h.1)
     ]) refl none
-  where
-    no_root : (o : Option PageNo) → is_some o ≡ false → o ≡ None
-    no_root None is = refl
-    no_root (Some p) is = absurd (cc)
-
-    bits : {b : Bool} → b ≡ true → b ≡ false → ⊥
-    bits one other = cc
 
 -- ---- without it
 

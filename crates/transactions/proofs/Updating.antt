@@ -4,6 +4,7 @@ use Rattle.std.specs.Prelude.{Contains, IsSome}
 use Rattle.std.specs.List.{AllByRecursion, AllZip, flat_map}
 use Rattle.std.specs.Map.{lookup}
 use Rattle.std.proofs.lemmas.List.Elements.{Contains-append_left, Contains-append_right, Contains-append_cases}
+use Rattle.std.proofs.lemmas.Bool.{both_ways}
 use Rattle.lru.proofs.Splits.{Contains-cons, Contains-nil}
 use Rattle.ex_base.specs.declared.geometry.Geometry.{Geometry}
 use Rattle.ex_base.specs.declared.ground.Ground as ground
@@ -11,6 +12,7 @@ use Rattle.ex_base.specs.declared.names.Area.TheVariants.{Page, Segment}
 use Rattle.ex_base.specs.declared.names.Root.{Root}
 use Rattle.ex_base.specs.Area.{InPageArea, catalog_no}
 use Rattle.ex_base.specs.Order.{Rising}
+use Rattle.ex_base.proofs.Each.{each_from, each_of}
 use Rattle.disk_model.specs.Outside.{Outside, IsWorld, Leaves}
 use Rattle.disk_model.specs.Changes.{ChangesWithin}
 use Rattle.disk_model.specs.Runs.{leaves_wider}
@@ -18,7 +20,7 @@ use Rattle.op_log.specs.declared.record.LogRecord.{LogRecord}
 use Rattle.buffer_groups.specs.Frames.{Frames, Lends}
 use Rattle.meta_pages.specs.Rows.{IsAbove, IsRising}
 use Rattle.page_alloc.specs.UnitSet.{used_at}
-use Rattle.tree_model.specs.Trees.{Units, root_units}
+use Rattle.trees.specs.Trees.{Units, root_units}
 use Rattle.tree_store.specs.Stored.{InRest, IsCounted, NoUnit, unit_bytes}
 use Rattle.table_model.specs.declared.machine.Machine.{Machine}
 use Rattle.table_model.specs.declared.machine.ScanRow.{ScanRow}
@@ -27,7 +29,6 @@ use Rattle.table_model.specs.Requests.{Request}
 use Rattle.session_views.specs.View.{View, ShowsNow, StandsDuring}
 use Rattle.commits.proofs.Reached.{reach_behind, without_last}
 use Rattle.volume_model.specs.Committed.{Committed, StandsForVolume}
-use Rattle.volume_model.specs.CrashImage.{each_contained}
 use Rattle.volume_model.specs.Parts.{Apart, StandsFor}
 use Rattle.volume_model.specs.SameVolume.{kept_from_reach, parts_kept, table_kept, IsKept}
 use Rattle.volume_model.specs.Shown.{Shows, Shared, PageRow, WorkingRow, PagesApart, LoggedShown, WorkingShown, IsWorkingPage, ScanShown, working_units, used_in, reach_of_view}
@@ -50,14 +51,9 @@ use Rattle.transactions.proofs.KeptOff.{trees_kept}
 use Rattle.transactions.proofs.Sessions.{firsts_rise}
 use Rattle.transactions.proofs.Settling.{here_is, here_or}
 use Rattle.transactions.proofs.Showing.{session_geometry, trees_in, view_of}
-use Rattle.transactions.proofs.Tracking.{both_bits}
 use Rattle.transactions.proofs.Volumes.{Parts}
 
 -- ---- lists
-
-of_all : {A : Type 0} (P : A → Type 0) (xs : List A) (x : A) → AllByRecursion P xs → Contains xs x → P x
-of_all P [] x h at = absurd (Contains-nil x at)
-of_all P (y ∷ ys) x h at = ⊎_elim (λ (here : y ≡ x). subst P here h.0) (λ later. of_all P ys x h.1 later) (Contains-cons y ys x at)
 
 -- of three lists whose last has nothing
 either_of : (p q : List ℕ) (u : ℕ) → Contains (p ++ q ++ []) u → Contains p u ⊎ Contains q u
@@ -98,7 +94,7 @@ each_found P (row ∷ rows) rising f = (
 trees_apart : (units : Units) (pages : List ℕ) (roots : List Root) → AllByRecursion (λ (root : Root). Apart (root_units units root) pages) roots → (u : ℕ) → Contains (flat_map (root_units units) roots) u → Contains pages u → ⊥
 trees_apart units pages [] apart u tree page = Contains-nil u tree
 trees_apart units pages (root ∷ roots) apart u tree page = ⊎_elim
-    (λ here. of_all (λ (x : ℕ). ¬ Contains pages x) (root_units units root) u apart.0 here page)
+    (λ here. each_of (λ (x : ℕ). ¬ Contains pages x) (root_units units root) u apart.0 here page)
     (λ later. trees_apart units pages roots apart.1 u later page)
     (Contains-append_cases (root_units units root) (flat_map (root_units units) roots) u tree)
 
@@ -109,7 +105,7 @@ own_trees g records units v parts page has tree =
 
 -- no page of a volume's files is the catalog
 no_catalog : (g : Geometry) (records : List LogRecord) (units : Units) (v : Volume) → Parts g records units v → (page : ℕ) → Contains (file_pages v) page → page ≢ catalog_no
-no_catalog g records units v parts page has = (of_all (λ (p : ℕ). InPageArea g p × (p ≢ catalog_no)) (file_pages v) page (file_pages_are g units v parts.1.0.0) has).1
+no_catalog g records units v parts page has = (each_of (λ (p : ℕ). InPageArea g p × (p ≢ catalog_no)) (file_pages v) page (file_pages_are g units v parts.1.0.0) has).1
 
 -- ---- what an update leaves
 
@@ -186,7 +182,7 @@ module _ {S : Type 0} (g : ground.Ghosts S) (t : S) {a b : Outside} {before : Vi
   working_kept : IsKept (units_in g t) W working
   working_kept =
       kept_from_reach (units_in g t) W working
-      (each_contained (λ u. W u ≡ units_in g t u) (reach_of (units_in g t) working)
+      (each_from (λ u. W u ≡ units_in g t u) (reach_of (units_in g t) working)
       (λ u reached. sym (units_are u ∙ same_unit d later new.meta left.still.committed.shown.just u
       (reach_behind d.geometry (units_in g t) working u (without_last d.geometry d.records (units_in g t) working whole_in) reached))))
 
@@ -229,7 +225,7 @@ module _ {S : Type 0} (g : ground.Ghosts S) (t : S) {a b : Outside} {before : Vi
   logged_shown m = record {
     held = held_shown;
     kept = kept_shown;
-    taken = λ page took. (session.pages.there page took, λ reached. both_bits took (left.still.reached page reached).not_taken);
+    taken = λ page took. (session.pages.there page took, λ reached. both_ways _ (left.still.reached page reached).not_taken took);
   }
 
   no_tree : (page : ℕ) → Contains (file_pages d.volume ++ file_pages working) page → ¬ Contains (trees_in L d.volume ++ trees_in W working ++ []) page
@@ -238,7 +234,7 @@ module _ {S : Type 0} (g : ground.Ghosts S) (t : S) {a b : Outside} {before : Vi
       (λ own. own_trees d.geometry d.records L d.volume whole_committed page committed own)
       (λ work. ⊎_elim
       (λ before_tree. now.shows.apart.no_tree page (Contains-append_left (file_pages d.volume) (file_pages now.shows.working) page committed) (in_second (trees_in C d.volume) (trees_in O now.shows.working) [] page before_tree))
-      (λ free. both_bits (committed_used page (Contains-append_left (catalog_no ∷ file_pages d.volume) (trees_in C d.volume) page (Contains-append_right (catalog_no ∷ []) (file_pages d.volume) page committed))) free)
+      (λ free. both_ways _ free (committed_used page (Contains-append_left (catalog_no ∷ file_pages d.volume) (trees_in C d.volume) page (Contains-append_right (catalog_no ∷ []) (file_pages d.volume) page committed))))
       (left.units page (subst (λ (us : List ℕ). Contains us page) trees_shown work)))
       (either_of (trees_in L d.volume) (trees_in W working) page tree))
       (λ of_working. ⊎_elim
@@ -246,7 +242,7 @@ module _ {S : Type 0} (g : ground.Ghosts S) (t : S) {a b : Outside} {before : Vi
       let there = subst (λ (us : List ℕ). Contains us page) trees_committed committed_tree in
       ⊎_elim
       (λ before_page. now.shows.apart.no_tree page (Contains-append_right (file_pages d.volume) (file_pages now.shows.working) page before_page) (in_first (trees_in C d.volume) (trees_in O now.shows.working) [] page there))
-      (λ free. both_bits (committed_used page (Contains-append_right (catalog_no ∷ file_pages d.volume) (trees_in C d.volume) page there)) free)
+      (λ free. both_ways _ free (committed_used page (Contains-append_right (catalog_no ∷ file_pages d.volume) (trees_in C d.volume) page there)))
       (left.pages page of_working))
       (λ own. own_trees d.geometry d.records W working whole page of_working own)
       (either_of (trees_in L d.volume) (trees_in W working) page tree))

@@ -3,18 +3,18 @@ use Rattle.std.proofs.Common.{◌≡◌, ◌∙◌, ℕ, suc, false, List, [], �
 use Rattle.std.specs.Prelude.{unwrap_or}
 use Rattle.std.specs.List.{AllByRecursion, AllZip, flat_map, zip}
 use Rattle.ex_base.specs.declared.geometry.Geometry.{Geometry}
+use Rattle.ex_base.proofs.Each.{each_from}
 use Rattle.op_log.specs.declared.record.LogRecord.{LogRecord}
 use Rattle.object_files.specs.Catalog.{FileEntry, name_of}
-use Rattle.tree_model.specs.Trees.{Units, root_units}
+use Rattle.trees.specs.Trees.{Units, root_units}
 use Rattle.transactions.proofs.KeptOff.{trees_kept}
 use Rattle.table_model.specs.declared.table.Table.{Table}
 use Rattle.table_model.specs.declared.table.TableFile.{TableFile}
 use Rattle.table_model.specs.Machines.{shown}
 use Rattle.session_views.specs.View.{View}
-use Rattle.volume_model.specs.CrashImage.{each_contained}
 use Rattle.volume_model.specs.Parts.{HoldsOf, content_parts}
 use Rattle.volume_model.specs.SameVolume.{kept_from_reach, parts_kept, table_kept}
-use Rattle.tree_model.proofs.SameUnits.{Kept}
+use Rattle.trees.proofs.SameUnits.{Kept}
 use Rattle.volume_model.specs.Shown.{Held, Shows, WorkingShown, working_units}
 use Rattle.volume_model.specs.Volume.{FileContent, Volume, Decoded, file_of, table_of, units_of, reach_of, roots_in, stored_in}
 
@@ -25,7 +25,7 @@ Parts g records units v = AllByRecursion (HoldsOf g records units v) content_par
 
 -- units that are the same on what a volume reaches
 pub all_same : (old new : Units) (v : Volume) → ((u : ℕ) → new u ≡ old u) → Kept old new (reach_of old v)
-all_same old new v same = each_contained (λ u. new u ≡ old u) (reach_of old v) (λ u _. same u)
+all_same old new v same = each_from (λ u. new u ≡ old u) (reach_of old v) (λ u _. same u)
 
 pub parts_same : (g : Geometry) (records : List LogRecord) (old new : Units) (v : Volume) → ((u : ℕ) → new u ≡ old u) → Parts g records old v → Parts g records new v
 parts_same g records old new v same parts = parts_kept g records old new v (kept_from_reach old new v (all_same old new v same)) parts

@@ -3,6 +3,7 @@ use Rattle.std.specs.Prelude.{◌≡◌, ℕ, List, All, Some, unwrap_or, ⊤}
 use Rattle.ex_base.specs.declared.geometry.Geometry.{Geometry}
 use Rattle.ex_base.specs.declared.names.PageNo.{PageNo}
 use Rattle.ex_base.specs.declared.faults.Seen.{Seen}
+use Rattle.ex_base.specs.Seen.{catalog_seen, nothing_seen}
 use Rattle.ex_base.specs.Area.{catalog_no, page_at}
 use Rattle.disk_model.specs.Outside.{Outside, Rose}
 use Rattle.buffer_groups.specs.declared.group.FetchFault.{FetchFault}
@@ -25,18 +26,11 @@ catalog_bytes s d = catalog_over s.geometry s.meta d
 abbrev pub FramesLend : Outside → SessionState → Type 0
 FramesLend w s = All (Lends w.disk) s.groups
 
--- what the catalog page is to be, and what a page outside of the grammar is seen as
-abbrev pub seen_catalog : Seen
-seen_catalog = record { kind = 1; level = 0; total = 0 }
-
-abbrev pub seen_none : Seen
-seen_none = record { kind = 0; level = 0; total = 0 }
-
 -- The page of the catalog, as it is read, is outside of its grammar.
 pub record IsDamaged (w : Outside) (groups : List Frames) (catalog : List ℕ → List ℕ) (page : PageNo) (want got : Seen) : Type 0 where
   pub page_is : page.0 ≡ catalog_no
-  pub want_is : want ≡ seen_catalog
-  pub got_is : got ≡ seen_none
+  pub want_is : want ≡ catalog_seen
+  pub got_is : got ≡ nothing_seen
   pub isnt : (d : List ℕ) → w.disk ≡ Some d → All (Lends w.disk) groups → (c : Catalog) → CatalogOf (catalog d) c → ⊥
 
 -- why a reading of the catalog stops

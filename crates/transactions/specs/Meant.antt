@@ -8,8 +8,8 @@ use Rattle.slotted_pages.specs.FilePage.{Slot, room_of}
 use Rattle.slotted_pages.specs.Edits.{slots_of}
 use Rattle.object_records.specs.Record.{Content, Small, Large}
 use Rattle.object_records.specs.Reads.{record_on}
-use Rattle.tree_model.specs.Shape.{leaves_of}
-use Rattle.tree_model.specs.Trees.{Units, units_from, root_shape}
+use Rattle.trees.specs.Shape.{leaves_of}
+use Rattle.trees.specs.Trees.{Units, units_from, root_shape}
 use Rattle.table_model.specs.declared.machine.BoundName.{BoundName}
 use Rattle.table_model.specs.declared.machine.Pick.{Pick}
 use Rattle.table_model.specs.Words.{data_count}

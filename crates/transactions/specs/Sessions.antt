@@ -87,11 +87,12 @@ begun s page = record s { meta = record s.meta { working = (catalog_no, Some pag
 abbrev pub aborted : SessionState → LoggedSet → UnitSet → SessionState
 aborted s pages units = record s { meta = record s.meta { working = [] }; pages = pages; units = units; notes = []; names = kept s.names; opened = false }
 
--- Of the units none became used, and of those that were used these are still.
+-- Of the units none became used, and of those that were used these are still, and those that have references.
 pub record OnlyGives (safe : ℕ → Type 0) (old new : UnitSet) : Type 0 where
   pub geometry : new.geometry ≡ old.geometry
   pub used : (unit : ℕ) → used_at new unit ≡ true → used_at old unit ≡ true
   pub stays : (unit : ℕ) → used_at old unit ≡ true → safe unit → used_at new unit ≡ true
+  pub owned : (unit : ℕ) → used_at old unit ≡ true → 1 ≤ refs_at new unit → used_at new unit ≡ true
   pub refs : (unit : ℕ) → refs_at new unit ≤ refs_at old unit
   pub free : (area : Area) → free_count old.geometry (used_at old) area ≤ free_count new.geometry (used_at new) area
 

@@ -16,6 +16,7 @@ mod summary;
 mod tell;
 mod updates;
 
+use bound_names::NameMap;
 use buffer_groups::Groups;
 use disk_model::Host;
 use ex_base::{Geometry, OpNote, PageNo};
@@ -26,11 +27,8 @@ use session_views::{Engine, Stop};
 use std::alloc::{AllocError, Global};
 use std::marker::Model;
 pub use summary::Summary;
-use table_model::{BoundName, Command, Reply};
+use table_model::{Command, Reply};
 use volume_port::LoggedPages;
-
-/// The page of the catalog.
-const CATALOG: PageNo = PageNo(257);
 
 /// The index of `main` among the groups. Logged pages are read through it.
 const MAIN: u32 = 0;
@@ -63,7 +61,7 @@ pub struct Session {
     room: Vec<u8>,
     // of the open transaction's updates
     notes: Vec<OpNote>,
-    names: Vec<BoundName>,
+    names: NameMap,
     // a transaction is open
     opened: bool,
     // a step met a fault
@@ -75,9 +73,9 @@ impl Model for Session {
 
     ghost Value = { SessionState };
 
-    ghost view = { λ s. record { geometry = s.geometry; log = s.log; meta = s.meta; pages = s.pages; kept = s.kept.items; units = s.units; groups = s.groups; room = s.room.items; notes = s.notes.items; names = s.names.items; opened = s.opened; down = s.down } };
+    ghost view = { λ s. record { geometry = s.geometry; log = s.log; meta = s.meta; pages = s.pages; kept = s.kept.items; units = s.units; groups = s.groups; room = s.room.items; notes = s.notes.items; names = s.names; opened = s.opened; down = s.down } };
 
-    ghost invariant = { λ s. IsSession (record { geometry = s.geometry; log = s.log; meta = s.meta; pages = s.pages; kept = s.kept.items; units = s.units; groups = s.groups; room = s.room.items; notes = s.notes.items; names = s.names.items; opened = s.opened; down = s.down }) };
+    ghost invariant = { λ s. IsSession (record { geometry = s.geometry; log = s.log; meta = s.meta; pages = s.pages; kept = s.kept.items; units = s.units; groups = s.groups; room = s.room.items; notes = s.notes.items; names = s.names; opened = s.opened; down = s.down }) };
 }
 
 impl Session {
@@ -134,7 +132,7 @@ impl Session {
             groups,
             room,
             notes: Vec::new(alloc),
-            names: Vec::new(alloc),
+            names: NameMap::new(alloc),
             opened: false,
             down: false,
         })

@@ -7,14 +7,14 @@ use Rattle.ex_base.specs.Sizes.{leaf_bytes}
 use Rattle.ex_base.specs.declared.geometry.Geometry.{Geometry}
 use Rattle.ex_base.specs.declared.ground.Ground as ground
 use Rattle.ex_base.specs.Ports.{Keeps}
-use Rattle.tree_model.specs.Trees.{Units}
-use Rattle.tree_model.proofs.SameUnits.{split_each}
-use Rattle.tree_rows.specs.declared.rows.Part.{Part}
-use Rattle.tree_rows.specs.Damage.{IsNodeAt, IsSoundWay, NamesNode}
+use Rattle.ex_base.proofs.Each.{split_each}
+use Rattle.trees.specs.Trees.{Units}
+use Rattle.trees.specs.declared.rows.Part.{Part}
+use Rattle.trees.specs.Damage.{IsNodeAt, IsSoundWay, NamesNode}
 use Rattle.count_nodes.specs.Node.{pairs_on}
-use Rattle.tree_rows.specs.Rows.{IsFilled, IsRowOn, parts_of, row_size}
-use Rattle.tree_rows.proofs.Ways.{way_back}
-use Rattle.tree_steps.specs.Built.{AreSome}
+use Rattle.trees.specs.Rows.{IsFilled, IsRowOn, parts_of, row_size}
+use Rattle.trees.proofs.Ways.{way_back}
+use Rattle.trees.specs.Built.{AreSome}
 use Rattle.tree_delete.specs.declared.cut.Cut.{Cut}
 use Rattle.tree_delete.specs.Cuts.{all_of, IsCutOf}
 use Rattle.tree_delete.specs.Beside.{AtNear, nowhere, before, behind, Widens, TakesNear, takes_none, takes_before, takes_behind, AreNodesAt, children_on, IsSoundBeside, OpensSound}

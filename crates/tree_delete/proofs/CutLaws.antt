@@ -7,15 +7,16 @@ use Rattle.std.proofs.Math.Seq.{take-append-add, drop-append-add}
 use Rattle.ex_base.specs.Edits.{deleted}
 use Rattle.ex_base.specs.declared.geometry.Geometry.{Geometry}
 use Rattle.ex_base.proofs.Rows.{each-append, sum_of-append}
-use Rattle.tree_model.specs.Trees.{Units}
-use Rattle.tree_model.proofs.SameUnits.{split_each}
-use Rattle.tree_model.proofs.TreeLaws.{AreWhole}
-use Rattle.tree_rows.specs.declared.rows.Part.{Part}
-use Rattle.tree_rows.specs.Rows.{row_size, row_bytes, row_units, AreTrees}
-use Rattle.tree_steps.specs.Made.{Has}
-use Rattle.tree_steps.proofs.Laid.{row_length, has_left, has_right}
-use Rattle.tree_steps.proofs.Over.{bytes_app, units_app}
-use Rattle.tree_delete.proofs.Sizes.{no_part, size-front, front_most, take_all}
+use Rattle.ex_base.proofs.Each.{split_each}
+use Rattle.trees.specs.Trees.{Units}
+use Rattle.trees.proofs.TreeLaws.{AreWhole}
+use Rattle.trees.specs.declared.rows.Part.{Part}
+use Rattle.trees.specs.Rows.{row_size, row_bytes, row_units, AreTrees}
+use Rattle.trees.specs.Made.{Has}
+use Rattle.trees.proofs.Laid.{row_length, has_left, has_right}
+use Rattle.trees.proofs.Over.{bytes_app, units_app}
+use Rattle.trees.proofs.Reading.{no_part}
+use Rattle.trees.proofs.Sizes.{size-front, front_most, take_all}
 use Rattle.tree_delete.specs.declared.cut.Cut.{Cut}
 use Rattle.tree_delete.specs.Places.{IsPlace}
 use Rattle.tree_delete.specs.Cuts.{all_of, cut_bytes, IsCutOf}

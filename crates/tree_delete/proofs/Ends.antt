@@ -5,11 +5,11 @@ use Rattle.ex_base.specs.Area.{NamesLeaf}
 use Rattle.ex_base.specs.declared.geometry.Geometry.{Geometry}
 use Rattle.ex_base.specs.declared.ground.Ground as ground
 use Rattle.ex_base.specs.Ports.{Keeps}
-use Rattle.tree_model.specs.Trees.{Units}
-use Rattle.tree_rows.specs.declared.rows.Part.{Part}
-use Rattle.tree_rows.specs.Damage.{IsSoundEnd, IsSoundWay}
-use Rattle.tree_rows.specs.Rows.{row_size}
-use Rattle.tree_rows.proofs.Ways.{way_append, way_back, way_fewer, way_front, way_kept, way_low, way_move, way_past}
+use Rattle.trees.specs.Trees.{Units}
+use Rattle.trees.specs.declared.rows.Part.{Part}
+use Rattle.trees.specs.Damage.{IsSoundEnd, IsSoundWay}
+use Rattle.trees.specs.Rows.{row_size}
+use Rattle.trees.proofs.Ways.{way_append, way_back, way_fewer, way_front, way_kept, way_low, way_move, way_past}
 use Rattle.tree_delete.specs.declared.cut.Cut.{Cut}
 use Rattle.tree_delete.specs.Cuts.{HasSoundEnds, IsCutOf}
 use Rattle.tree_delete.specs.Leaves.{IsWider}

@@ -5,9 +5,9 @@ use Rattle.ex_base.specs.declared.faults.PortFault.TheVariants.{Disk, Memory, Da
 use Rattle.ex_base.specs.declared.geometry.Geometry.{Geometry}
 use Rattle.ex_base.specs.Ports.{Keeps}
 use Rattle.ex_base.specs.declared.ground.Ground as ground
-use Rattle.tree_model.specs.Trees.{Units}
-use Rattle.tree_rows.specs.declared.rows.Part.{Part}
-use Rattle.tree_rows.specs.Damage.{IsWalkFault, AnyPart}
+use Rattle.trees.specs.Trees.{Units}
+use Rattle.trees.specs.declared.rows.Part.{Part}
+use Rattle.trees.specs.Damage.{IsWalkFault, AnyPart}
 use Rattle.tree_delete.specs.declared.cut.Cut.{Cut}
 use Rattle.tree_delete.specs.Cuts.{all_of, IsCutOf}
 

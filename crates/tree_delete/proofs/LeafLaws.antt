@@ -10,22 +10,23 @@ use Rattle.ex_base.specs.Sizes.{leaf_bytes}
 use Rattle.ex_base.specs.declared.geometry.Geometry.{Geometry}
 use Rattle.ex_base.specs.declared.ground.Ground as ground
 use Rattle.ex_base.proofs.Rows.{each-append}
-use Rattle.tree_model.specs.Trees.{Units}
-use Rattle.tree_model.proofs.SameUnits.{split_each}
-use Rattle.tree_model.proofs.TreeLaws.{AreWhole}
-use Rattle.tree_rows.specs.declared.rows.Part.{Part}
-use Rattle.tree_rows.specs.Rows.{row_size, row_bytes, row_shape, AreTrees, AreHalfFull}
-use Rattle.tree_steps.specs.Made.{Extends, Holds, Took, pages_of, sizes_of}
-use Rattle.tree_steps.specs.Built.{AreSome}
-use Rattle.tree_steps.proofs.Laid.{row_length}
-use Rattle.tree_steps.proofs.Over.{bytes_app}
-use Rattle.tree_insert.specs.Grown.{Grew}
+use Rattle.ex_base.proofs.Each.{split_each}
+use Rattle.trees.specs.Trees.{Units}
+use Rattle.trees.proofs.TreeLaws.{AreWhole}
+use Rattle.trees.specs.declared.rows.Part.{Part}
+use Rattle.trees.specs.Rows.{row_size, row_bytes, row_shape, AreTrees, AreHalfFull}
+use Rattle.trees.specs.Counted.{Counted}
+use Rattle.trees.specs.Made.{Extends, Holds, Took, pages_of, sizes_of}
+use Rattle.trees.specs.Built.{AreSome}
+use Rattle.trees.proofs.Laid.{row_length}
+use Rattle.trees.proofs.Over.{bytes_app}
+use Rattle.trees.specs.Grown.{Grew}
 use Rattle.tree_delete.specs.declared.cut.Cut.{Cut}
 use Rattle.tree_delete.specs.Cuts.{all_of, sides, cut_bytes}
 use Rattle.tree_delete.specs.Leaves.{IsWider, AreEven}
 use Rattle.tree_delete.specs.Left.{IsLeftOf, IsLeft, AreRootLeaves}
 use Rattle.tree_delete.proofs.CutLaws.{size_app, deleted_between}
-use Rattle.tree_delete.proofs.Growing.{holds_split, grew_leaves, grew_between}
+use Rattle.trees.proofs.Growing.{holds_split, grew_leaves, grew_between}
 
 -- ---- one leaf more
 
@@ -205,12 +206,12 @@ no_lengths full total [] e none = tt
 no_lengths full total (n ∷ ns) e none = absurd (omega (arith, e.sum, e.each.0.0))
 
 pub leaves_left : {S : Type 0} (g : ground.Ghosts S) (a b : S) (cut wider : Cut) (made row : List Part) (lengths : List ℕ) → g.ready a → g.tells a → IsWider (leaf_bytes (g.geometry a)) cut wider → cut.at + cut.len ≤ row_size cut.run.items
-    → AreEven (leaf_bytes (g.geometry a)) (row_size wider.run.items - wider.len) lengths → Extends g a b → sizes_of made ≡ lengths → AllByRecursion (λ (part : Part). NamesLeaf (g.geometry a) part.page.0) made → Took g a b (pages_of made)
+    → AreEven (leaf_bytes (g.geometry a)) (row_size wider.run.items - wider.len) lengths → Extends g a b → sizes_of made ≡ lengths → AllByRecursion (λ (part : Part). NamesLeaf (g.geometry a) part.page.0) made → Took g a b (pages_of made) → Counted g a b
     → (Holds g a 0 wider.run.items → row_bytes (g.unit b) 0 made ≡ deleted (row_bytes (g.unit a) 0 wider.run.items) wider.at wider.len) → row ≡ wider.left.items ++ (made ++ wider.right.items) → Holds g a 0 (all_of cut) → IsLeft g a b 0 cut row
-leaves_left {S} g a b cut wider made row lengths ready told w inside e ext is named took bytes row_is holds =
+leaves_left {S} g a b cut wider made row lengths ready told w inside e ext is named took counts bytes row_is holds =
     let held : Holds g a 0 (all_of wider) = subst (Holds g a 0) (sym w.row) holds in
     let run_held = (holds_two g a wider.run.items wider.right.items (holds_two g a wider.left.items (wider.run.items ++ wider.right.items) held).1).0 in
-    let grew = grew_leaves g a b wider.run.items made lengths (deleted (row_bytes (g.unit a) 0 wider.run.items) wider.at wider.len) ext is e.each named took (bytes run_held) in
+    let grew = grew_leaves g a b wider.run.items made lengths (deleted (row_bytes (g.unit a) 0 wider.run.items) wider.at wider.len) ext is e.each named took counts (bytes run_held) in
     let all = grew_between g a b 0 wider.left.items wider.run.items wider.right.items made (deleted (row_bytes (g.unit a) 0 wider.run.items) wider.at wider.len) lengths ext held grew in
     let shape : List ℕ = row_shape (g.unit a) 0 wider.left.items ++ (lengths ++ row_shape (g.unit a) 0 wider.right.items) in
     let bytes_are = wider_bytes (g.geometry a) (g.unit a) (leaf_bytes (g.geometry a)) cut wider (g.whole a ready told) holds.trees inside w in

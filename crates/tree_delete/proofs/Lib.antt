@@ -1,9 +1,4 @@
-mod Sizes
 mod CutLaws
-mod RootSteps
-mod Growing
-mod Paid
-mod Results
 mod LeafLaws
 mod Faults
 mod NodeLaws

@@ -10,43 +10,35 @@ use Rattle.ex_base.proofs.Rows.{each-append}
 use Rattle.count_nodes.specs.declared.Pair.{Pair}
 use Rattle.count_nodes.specs.Node.{pairs_on}
 use Rattle.count_nodes.specs.Split.{most_pairs}
-use Rattle.tree_model.specs.Shape.{Subtree}
-use Rattle.tree_model.specs.Trees.{Units, for_each_child, bytes_on, shape_on, units_on}
-use Rattle.tree_model.proofs.SameUnits.{split_each}
-use Rattle.tree_rows.specs.declared.rows.Part.{Part}
-use Rattle.tree_rows.specs.Rows.{row_size, row_bytes, row_shape, row_units, AreTrees, IsCounted, IsRowOn, parts_of}
+use Rattle.trees.specs.Shape.{Subtree}
+use Rattle.trees.specs.Trees.{Units, for_each_child, bytes_on, shape_on, units_on}
+use Rattle.trees.specs.declared.rows.Part.{Part}
+use Rattle.trees.specs.Rows.{row_size, row_bytes, row_shape, row_units, AreTrees, IsCounted, IsRowOn, parts_of}
 use Rattle.ex_base.specs.declared.faults.PortFault.{PortFault}
-use Rattle.tree_rows.specs.Damage.{IsSoundWay, IsWalkFault, NamesNode}
+use Rattle.trees.specs.Damage.{IsSoundWay, IsWalkFault, NamesNode}
 use Rattle.ex_base.specs.Area.{NamesLeaf}
-use Rattle.tree_rows.proofs.Ways.{way_append, way_back, way_front, way_inner, way_move, way_past}
-use Rattle.tree_rows.proofs.Blame.{walk_below}
+use Rattle.trees.proofs.Ways.{way_append, way_back, way_front, way_inner, way_move, way_past}
+use Rattle.trees.proofs.Blame.{walk_below}
 use Rattle.tree_delete.proofs.Faults.{walk_nowhere, walk_either}
-use Rattle.tree_rows.proofs.Parts.{below_fit}
-use Rattle.tree_rows.proofs.Reading.{row_trees, row_spells, keeps_on}
-use Rattle.tree_steps.specs.Made.{AreUsed, Has, Holds}
-use Rattle.tree_steps.proofs.Over.{bytes_app, units_app}
+use Rattle.trees.proofs.Parts.{below_fit}
+use Rattle.trees.proofs.Reading.{row_trees, row_spells, no_part}
+use Rattle.ex_base.proofs.Keeping.{keeps_on, keeps_refl}
+use Rattle.ex_base.proofs.Each.{each_mapped, each_unmapped, split_each}
+use Rattle.trees.specs.Made.{AreUsed, Has, Holds}
+use Rattle.trees.proofs.Over.{bytes_app, units_app}
 use Rattle.tree_delete.specs.declared.cut.Cut.{Cut}
 use Rattle.tree_delete.specs.Cuts.{all_of, IsCutAt, IsCutOf, AreHalves, HaveHalves, AreChildren, IsOpened, IsBelow}
 use Rattle.tree_delete.specs.Beside.{AreNodesAt, children_on}
 use Rattle.tree_delete.proofs.Beside.{children_app, node_one}
 use Rattle.tree_delete.proofs.CutLaws.{size_app, in_either, in_first, in_second, each_cut, size_cut, units_cut, bytes_cut}
-use Rattle.tree_delete.proofs.RootSteps.{has_each}
-use Rattle.tree_delete.proofs.Growing.{holds_split, shape_app}
-use Rattle.tree_delete.proofs.Sizes.{no_part}
+use Rattle.trees.proofs.RootSteps.{has_each}
+use Rattle.trees.proofs.Growing.{holds_kept, holds_split, shape_app}
 
 -- ---- lists
 
 pub each_within : (P : ℕ → Type 0) (xs ys : List ℕ) → ((p : ℕ) → Has xs p → Has ys p) → AllByRecursion P ys → AllByRecursion P xs
 each_within P [] ys within all = tt
 each_within P (x ∷ xs) ys within all = (has_each P ys x all (within x (inl refl)), each_within P xs ys (λ p h. within p (inr h)) all)
-
-pub each_mapped : {A B : Type 0} (P : B → Type 0) (f : A → B) (xs : List A) → AllByRecursion (λ x. P (f x)) xs → AllByRecursion P (map f xs)
-each_mapped P f [] all = tt
-each_mapped P f (x ∷ xs) all = (all.0, each_mapped P f xs all.1)
-
-pub mapped_each : {A B : Type 0} (P : B → Type 0) (f : A → B) (xs : List A) → AllByRecursion P (map f xs) → AllByRecursion (λ x. P (f x)) xs
-mapped_each P f [] all = tt
-mapped_each P f (x ∷ xs) all = (all.0, mapped_each P f xs all.1)
 
 -- the trees of some of a row
 pub halves_two : (geo : Geometry) (u : Units) (l : ℕ) (xs ys : List Part) → AreHalves geo l (row_shape u l (xs ++ ys)) → AreHalves geo l (row_shape u l xs) × AreHalves geo l (row_shape u l ys)
@@ -81,12 +73,6 @@ units_below u l part below is =
 
 module _ {S : Type 0} (g : ground.Ghosts S) where
   -- ---- rows that are held
-
-  pub holds_kept : (a b : S) (l : ℕ) (row : List Part) → Keeps g a b → Holds g a l row → Holds g b l row
-  holds_kept a b l row k h = record {
-    trees = subst (λ geo. AreTrees geo (g.unit b) l row) (sym (g.leads_geometry a b k.leads)) (subst (λ u. AreTrees (g.geometry a) u l row) (sym k.units) h.trees);
-    used = subst (λ u. AreUsed (g.used b) (row_units u l row)) (sym k.units) (subst (λ f. AreUsed f (row_units (g.unit a) l row)) (sym k.used) h.used);
-  }
 
   pub holds_back : (a b : S) (l : ℕ) (row : List Part) → Keeps g a b → Holds g b l row → Holds g a l row
   holds_back a b l row k h = record {
@@ -145,12 +131,9 @@ module _ {S : Type 0} (g : ground.Ghosts S) where
     pub way : g.tells old → (f t : ℕ) → IsSoundWay (g.geometry old) (g.unit old) (NamesLeaf (g.geometry old)) (level - 1) (g.geometry old).fan all f t → IsSoundWay (g.geometry old) (g.unit old) (NamesLeaf (g.geometry old)) level least (take i row) f t
     pub nodes : g.tells old → AreNodesAt (g.geometry old) (g.unit old) level least (take i row) × (all ≡ children_on (g.unit old) (take i row))
 
-  keeps_refl : (s : S) → Keeps g s s
-  keeps_refl s = record { units = refl; images = refl; used = refl; refs = refl; held = refl; free = refl; leads = g.leads_refl s }
-
   pub opened_start : (s : S) (level least : ℕ) (row : List Part) → OpenedSoFar s s level least row 0 []
   opened_start s level least row = record {
-    kept = keeps_refl s;
+    kept = keeps_refl g s;
     counted = record { sum = refl; some = tt; fits = λ _. tt; few = omega arith; enough = omega arith };
     opened = λ told l same h. record { holds = record { trees = tt; used = tt }; bytes = refl; units = λ p has. has; halves = λ all. tt };
     walk = λ told fault h. walk_nowhere (g.geometry s) (g.unit s) (level - 1) level (g.geometry s).fan least row fault h;
@@ -235,7 +218,7 @@ module _ {S : Type 0} (g : ground.Ghosts S) where
     units = λ p has. o.units p (units_cut (g.unit s) l row at len below h p has);
     halves = λ all.
         each_mapped _ (λ (part : Part). shape_on (g.unit s) l part.page.0 part.size) (all_of below)
-        (each_cut _ row at len below h (mapped_each _ (λ (part : Part). shape_on (g.unit s) l part.page.0 part.size) row (o.halves all)));
+        (each_cut _ row at len below h (each_unmapped _ (λ (part : Part). shape_on (g.unit s) l part.page.0 part.size) row (o.halves all)));
   }
 
 pub below_at : (geo : Geometry) (level least : ℕ) (run row : List Part) (at len : ℕ) (below : Cut) → AreChildren geo level least run row → row_size run < 2 ^ 32 → IsCutOf row at len below → IsCutAt geo (level - 1) below

@@ -6,14 +6,14 @@ use Rattle.ex_base.specs.Edits.{deleted}
 use Rattle.ex_base.specs.declared.geometry.Geometry.{Geometry}
 use Rattle.ex_base.specs.declared.ground.Ground as ground
 use Rattle.ex_base.proofs.Rows.{each-append}
+use Rattle.ex_base.proofs.Each.{split_each}
 use Rattle.count_nodes.specs.Split.{most_pairs}
-use Rattle.tree_model.specs.Trees.{Units}
-use Rattle.tree_model.proofs.SameUnits.{split_each}
-use Rattle.tree_rows.specs.declared.rows.Part.{Part}
-use Rattle.tree_rows.specs.Rows.{row_size, row_bytes, row_shape, row_units}
-use Rattle.tree_steps.specs.Made.{Has, Holds}
-use Rattle.tree_steps.specs.Built.{AreSome}
-use Rattle.tree_steps.proofs.Over.{bytes_app}
+use Rattle.trees.specs.Trees.{Units}
+use Rattle.trees.specs.declared.rows.Part.{Part}
+use Rattle.trees.specs.Rows.{row_size, row_bytes, row_shape, row_units}
+use Rattle.trees.specs.Made.{Has, Holds}
+use Rattle.trees.specs.Built.{AreSome}
+use Rattle.trees.proofs.Over.{bytes_app}
 use Rattle.tree_delete.specs.declared.cut.Cut.{Cut}
 use Rattle.tree_delete.specs.declared.nodes.Opened.{Opened}
 use Rattle.tree_delete.specs.Cuts.{all_of, sides, cut_bytes, IsCutAt, AreHalves, AreChildren, IsOpened, IsBelow}

@@ -3,7 +3,7 @@ use Rattle.std.proofs.Common.{◌≡◌, ◌≢◌, ◌⊎◌, ℕ, zero, suc, �
 use Rattle.std.specs.List.{AllByRecursion}
 use Rattle.std.proofs.lemmas.Bool.{cases_lt, eqb-true, eq-eqb}
 use Rattle.std.proofs.lemmas.List.{length-append, length-map}
-use Rattle.std.proofs.Math.Nat.{mul-le-mul, mul-le-mul_right}
+use Rattle.std.proofs.Math.Nat.{mul-le-mul_right}
 use Rattle.ex_base.specs.Edits.{deleted}
 use Rattle.ex_base.specs.Ports.{Keeps}
 use Rattle.ex_base.specs.Sizes.{leaf_bytes}
@@ -12,27 +12,30 @@ use Rattle.ex_base.specs.declared.ground.Ground as ground
 use Rattle.ex_base.specs.Even.{sum_of}
 use Rattle.ex_base.proofs.Rows.{each-append, IsRow, IsRow-as}
 use Rattle.ex_base.proofs.Spread.{least_parts_is}
+use Rattle.ex_base.proofs.Each.{each_as}
 use Rattle.count_nodes.specs.Split.{most_pairs, nodes_for, nodes_over}
 use Rattle.count_nodes.proofs.Nodes.{nodes_over_many, nodes_over_few}
-use Rattle.tree_model.specs.Shape.{Subtree, IsHalfFull, total}
-use Rattle.tree_model.specs.Trees.{Units, shape_on}
-use Rattle.tree_rows.specs.declared.rows.Part.{Part}
-use Rattle.tree_rows.specs.Rows.{row_size, row_bytes, row_shape, row_units}
-use Rattle.tree_steps.specs.Made.{Extends, Has, Holds, IsTaken, Took, pages_of}
-use Rattle.tree_steps.specs.Built.{Built, AreSome, even_lens}
-use Rattle.tree_steps.proofs.Laid.{each_same, extends_kept, extends_on}
-use Rattle.tree_steps.proofs.Over.{all_has, bytes_app}
-use Rattle.tree_steps.proofs.Kept.{row_extends}
-use Rattle.tree_insert.specs.Grown.{Grew}
+use Rattle.trees.specs.Shape.{Subtree, IsHalfFull, total}
+use Rattle.trees.specs.Trees.{Units, shape_on}
+use Rattle.trees.specs.declared.rows.Part.{Part}
+use Rattle.trees.specs.Rows.{row_size, row_bytes, row_shape, row_units}
+use Rattle.trees.specs.Made.{Extends, Has, Holds, IsTaken, Took, pages_of}
+use Rattle.trees.specs.Built.{Built, AreSome, even_lens}
+use Rattle.trees.proofs.Laid.{extends_kept, extends_on}
+use Rattle.trees.proofs.Over.{all_has, bytes_app}
+use Rattle.trees.proofs.Kept.{row_extends}
+use Rattle.trees.specs.Counted.{Counted, NamesPairs}
+use Rattle.trees.proofs.Counts.{counted_same}
+use Rattle.trees.specs.Grown.{Grew}
 use Rattle.tree_delete.specs.declared.cut.Cut.{Cut}
 use Rattle.tree_delete.specs.declared.nodes.Opened.{Opened}
 use Rattle.tree_delete.specs.Cuts.{all_of, sides, cut_bytes, AreHalves}
 use Rattle.tree_delete.specs.Opens.{OpensTo, IsOpenedCut}
 use Rattle.tree_delete.specs.Left.{IsLeftOf, IsLeft}
 use Rattle.tree_delete.proofs.CutLaws.{size_app}
-use Rattle.tree_delete.proofs.NodeLaws.{halves_two, holds_kept}
-use Rattle.tree_delete.proofs.RootSteps.{turned_on, turned_built, used_after, over_row}
-use Rattle.tree_delete.proofs.Growing.{grew_between, widen}
+use Rattle.tree_delete.proofs.NodeLaws.{halves_two}
+use Rattle.trees.proofs.RootSteps.{turned_on, turned_built, used_after, over_row}
+use Rattle.trees.proofs.Growing.{grew_between, widen, holds_kept, grew_back}
 
 -- ---- nodes over trees
 
@@ -86,8 +89,9 @@ module _ {S : Type 0} (g : ground.Ghosts S) where
               ∙ ap (λ (xs : List ℕ). row_bytes (g.unit a) l cut.left.items ++ (xs ++ row_bytes (g.unit a) l cut.right.items)) (sym gone);
           shape_is = refl;
           units = record {
-            own = each_same (λ p. Has (row_units (g.unit a) l (all_of cut)) p) _ (row_units (g.unit a) l (all_of cut)) (λ p x. inr x) (all_has (row_units (g.unit a) l (all_of cut)));
+            own = each_as (λ p. Has (row_units (g.unit a) l (all_of cut)) p) _ (row_units (g.unit a) l (all_of cut)) (λ p x. inr x) (all_has (row_units (g.unit a) l (all_of cut)));
             all = λ p t. absurd (true≢false (sym t.1 ∙ t.0));
+            counts = λ names. counted_same g a;
           };
         });
         halves = λ side halves. halves;
@@ -98,13 +102,13 @@ module _ {S : Type 0} (g : ground.Ghosts S) where
   -- new nodes over what is left of the children of some nodes come in the place of these
   grew_over : (a b c : S) (l : ℕ) (mid row grown above : List Part) (bytes : List ℕ) (shape : List (Subtree l)) → Extends g a b → Extends g b c → Holds g a l row
       → ((p : ℕ) → Has (row_units (g.unit a) l row) p → Has (row_units (g.unit a) (suc l) mid) p) → Grew g a b l row grown bytes shape → Took g b c (pages_of above) → (Holds g b l grown → Built g c l (even_lens (g.geometry b).fan (length grown)) grown above)
-      → Grew g a c (suc l) mid above bytes (nodes_over (g.geometry a).fan shape)
-  grew_over a b c l mid row grown above bytes shape x y holds units grew took build =
+      → (Holds g b l grown → NamesPairs g → Counted g b c) → Grew g a c (suc l) mid above bytes (nodes_over (g.geometry a).fan shape)
+  grew_over a b c l mid row grown above bytes shape x y holds units grew took build counts =
       let held : Holds g b l grown = record { trees = grew.trees; used = used_after g a b (row_units (g.unit a) l row) (row_units (g.unit b) l grown) x holds.used grew.units } in
       let built = build held in
       let same = row_extends g b c l grown y held in
       let turned = turned_on g a b c (row_units (g.unit a) l row) (row_units (g.unit b) l grown) (row_units (g.unit c) (suc l) above) x y grew.units
-      (turned_built g b c l (even_lens (g.geometry b).fan (length grown)) grown above took built (row_units (g.unit b) l grown) same.units)
+      (turned_built g b c l (even_lens (g.geometry b).fan (length grown)) grown above took built (counts held) (row_units (g.unit b) l grown) same.units)
       (λ p h. built.all p (inr (subst (λ us. Has us p) (sym same.units) h))) in
       record {
         trees = built.trees;
@@ -114,35 +118,22 @@ module _ {S : Type 0} (g : ground.Ghosts S) where
         units = record {
           own = widen g a c (row_units (g.unit a) l row) (row_units (g.unit a) (suc l) mid) (row_units (g.unit c) (suc l) above) units turned.own;
           all = turned.all;
+          counts = turned.counts;
         };
       }
 
-  grew_back : (a b d : S) (l : ℕ) (was now : List Part) (bytes : List ℕ) (shape : List (Subtree l)) → Keeps g a b → Grew g b d l was now bytes shape → Grew g a d l was now bytes shape
-  grew_back a b d l was now bytes shape k h = record {
-    trees = h.trees;
-    bytes_are = h.bytes_are;
-    shape_is = h.shape_is;
-    units = record {
-      own = subst (λ u. AllByRecursion (λ p. IsTaken g a d p ⊎ Has (row_units u l was) p) (row_units (g.unit d) l now)) k.units
-          (each_same _ _ (row_units (g.unit d) l now) (λ p x. elim x [
-            | inl t ↦ inl (sym (ap (λ (f : ℕ → Bool). f p) k.used) ∙ t.0, t.1)
-            | inr o ↦ inr o
-          ]) h.units.own);
-      all = λ p t. h.units.all p (ap (λ (f : ℕ → Bool). f p) k.used ∙ t.0, t.1);
-    };
-  }
-
   pub node_left : (a b c d : S) (l : ℕ) (cut : Cut) (o : Opened) (kept made row : List Part) → Keeps g a b → Extends g b c → Extends g c d → Holds g a (suc l) (all_of cut) → IsOpenedCut g a l cut o
       → (Holds g b l (all_of o.below) → IsLeft g b c l o.below kept) → (g.geometry a).fan ≤ length kept → 1 ≤ sides o.below → Took g c d (pages_of made) → (Holds g c l kept → Built g d l (even_lens (g.geometry c).fan (length kept)) kept made)
+      → (Holds g c l kept → NamesPairs g → Counted g c d)
       → row ≡ o.left.items ++ (made ++ o.right.items) → IsLeft g a d (suc l) cut row
-  node_left a b c d l cut o kept made row k x y holds op below enough some took build row_is =
+  node_left a b c d l cut o kept made row k x y holds op below enough some took build counts row_is =
       let low_holds = holds_kept g a b l (all_of o.below) k op.holds in
       let low = below low_holds in
       let geo = g.leads_geometry a b k.leads in
       let fans : (g.geometry b).fan ≡ (g.geometry a).fan = ap (λ (q : Geometry). q.fan) geo in
       let over = grew_over b c d l op.mid (all_of o.below) kept made (cut_bytes (g.unit b) l o.below) low.shape x y low_holds
-      (subst (λ u. (p : ℕ) → Has (row_units u l (all_of o.below)) p → Has (row_units u (suc l) op.mid) p) (sym k.units) op.units) low.grew took build in
-      let here = grew_back a b d (suc l) op.mid made (cut_bytes (g.unit b) l o.below) (nodes_over (g.geometry b).fan low.shape) k over in
+      (subst (λ u. (p : ℕ) → Has (row_units u l (all_of o.below)) p → Has (row_units u (suc l) op.mid) p) (sym k.units) op.units) low.grew took build counts in
+      let here = grew_back g a b d (suc l) op.mid made (cut_bytes (g.unit b) l o.below) (nodes_over (g.geometry b).fan low.shape) k over in
       let ext = extends_on g a b d (extends_kept g a b k) (extends_on g b c d x y) in
       let shape_new : List (Subtree (suc l)) = row_shape (g.unit a) (suc l) o.left.items ++ (nodes_over (g.geometry b).fan low.shape ++ row_shape (g.unit a) (suc l) o.right.items) in
       let all = grew_between g a d (suc l) o.left.items op.mid o.right.items made (cut_bytes (g.unit b) l o.below) (nodes_over (g.geometry b).fan low.shape) ext (subst (Holds g a (suc l)) op.whole holds) here in
@@ -175,13 +166,15 @@ module _ {S : Type 0} (g : ground.Ghosts S) where
       → (g.tells a → (m : ℕ) → level ≡ suc m → Holds g a (suc m) (all_of cut) → IsOpenedCut g a m cut o)
       → (g.tells b → (m : ℕ) → level - 1 ≡ m → Holds g b m (all_of o.below) → IsLeft g b c m o.below kept) → (g.geometry a).fan ≤ length kept → 1 ≤ sides o.below → lent ≡ kept → Took g c d (pages_of made)
       → (g.tells c → (m : ℕ) → level ≡ suc m → Holds g c m lent → Built g d m (even_lens (g.geometry c).fan (length lent)) lent made)
+      → (g.tells c → (m : ℕ) → level ≡ suc m → Holds g c m lent → NamesPairs g → Counted g c d)
       → row ≡ o.left.items ++ (made ++ o.right.items) → Holds g a l (all_of cut) → IsLeft g a d l cut row
-  tree_left a b c d level zero cut o kept lent made row told same above k x y opened below enough some lent_is took build row_is holds = absurd (above same)
-  tree_left a b c d level (suc l) cut o kept lent made row told same above k x y opened below enough some lent_is took build row_is holds =
+  tree_left a b c d level zero cut o kept lent made row told same above k x y opened below enough some lent_is took build counts row_is holds = absurd (above same)
+  tree_left a b c d level (suc l) cut o kept lent made row told same above k x y opened below enough some lent_is took build counts row_is holds =
       let told_b = g.leads_told a b k.leads told in
       let told_c = g.leads_told b c x.leads told_b in
       node_left a b c d l cut o kept made row k x y holds (opened told l same holds) (below told_b l (omega arith)) enough some took
-      (λ held. subst (λ r. Built g d l (even_lens (g.geometry c).fan (length r)) r made) lent_is (build told_c l same (subst (Holds g c l) (sym lent_is) held))) row_is
+      (λ held. subst (λ r. Built g d l (even_lens (g.geometry c).fan (length r)) r made) lent_is (build told_c l same (subst (Holds g c l) (sym lent_is) held)))
+      (λ held. counts told_c l same (subst (Holds g c l) (sym lent_is) held)) row_is
 
 -- ---- numbers of a node's row
 
@@ -198,10 +191,6 @@ node_left_of geo level cut o kept made row op low size somes one four row_is =
 
 pub made_few : (geo : Geometry) (level : ℕ) (cut : Cut) (o : Opened) (kept : List Part) → OpensTo geo level cut o → IsLeftOf o.below kept → nodes_for geo.fan (length kept) ≤ 4
 made_few geo level cut o kept op low = four_nodes geo.fan (length kept) (omega (arith, geo.two)) (omega (arith, low.few, op.few))
-
--- a page fits a leaf
-pub page_le : (geo : Geometry) → geo.page_size ≤ leaf_bytes geo
-page_le geo = omega (arith, mul-le-mul {n₁ = 1} {m₁ = geo.page_size} {n₂ = geo.seg_len} {m₂ = geo.page_size} (omega (arith, geo.some_length)) (omega arith))
 
 pub no_size : (row : List Part) → length row ≡ 0 → row_size row ≡ 0
 no_size row none = ap row_size (empty_row row none)

@@ -14,21 +14,22 @@ use Rattle.ex_base.specs.declared.names.Root.{Root}
 use Rattle.ex_base.proofs.Rows.{IsRow-as}
 use Rattle.count_nodes.specs.Split.{most_pairs, nodes_over}
 use Rattle.count_nodes.proofs.Nodes.{nodes_over_many, nodes_over_few, fewer_nodes}
-use Rattle.tree_model.specs.Shape.{Subtree, IsHalfFull, IsRoot, IsBalanced, total, rooted}
-use Rattle.tree_model.specs.Trees.{RootSpells, RootNamed, RootSized, root_shape, root_shape_at, root_bytes_at, root_units, root_units_at, bytes_on, shape_on, units_on}
-use Rattle.tree_model.proofs.TreeLaws.{length-bytes_on}
-use Rattle.tree_rows.specs.declared.rows.Part.{Part}
-use Rattle.tree_rows.specs.Rows.{row_size, row_bytes, row_shape, row_units}
-use Rattle.tree_steps.specs.Made.{AreUsed, Extends, Has, Holds, IsTaken}
-use Rattle.tree_steps.specs.Built.{AreSome}
-use Rattle.tree_steps.proofs.Kept.{row_extends}
-use Rattle.tree_insert.specs.Grown.{IsRooted, Turned}
+use Rattle.trees.specs.Shape.{Subtree, IsHalfFull, IsRoot, IsBalanced, total, rooted}
+use Rattle.trees.specs.Trees.{RootSpells, RootNamed, RootSized, root_shape, root_shape_at, root_bytes_at, root_units, root_units_at, bytes_on, shape_on, units_on}
+use Rattle.trees.proofs.TreeLaws.{length-bytes_on}
+use Rattle.trees.specs.declared.rows.Part.{Part}
+use Rattle.trees.specs.Rows.{row_size, row_bytes, row_shape, row_units}
+use Rattle.trees.specs.Made.{AreUsed, Extends, Has, Holds, IsTaken}
+use Rattle.trees.specs.Built.{AreSome}
+use Rattle.trees.proofs.Kept.{row_extends}
+use Rattle.trees.proofs.Counts.{counted_same}
+use Rattle.trees.specs.Grown.{IsRooted, Turned}
 use Rattle.tree_delete.specs.declared.cut.Cut.{Cut}
 use Rattle.tree_delete.specs.Cuts.{all_of, cut_bytes, HaveHalves}
 use Rattle.tree_delete.specs.Left.{AreRoots, IsTrimmed}
 use Rattle.tree_delete.specs.Trees.{TreeSpells, IsCutTree}
 use Rattle.tree_delete.proofs.RowLaws.{tree_row}
-use Rattle.tree_delete.proofs.RootSteps.{turned_on, used_after}
+use Rattle.trees.proofs.RootSteps.{turned_on, used_after}
 
 -- ---- balance
 
@@ -66,13 +67,6 @@ tree_cut cut tree left run right =
     ap (λ (xs : List Part). xs ++ (cut.run.items ++ cut.right.items)) left ∙ ap (λ (xs : List Part). xs ++ cut.right.items) run ∙ ap (λ (xs : List Part). tree ∷ xs) right
 
 -- ---- numbers
-
-some_sizes : (row : List Part) → AreSome row → length row ≤ row_size row
-some_sizes [] some = omega arith
-some_sizes (part ∷ row) some = omega (arith, some.0, some_sizes row some.1)
-
-pub few_sizes : (row : List Part) → AreSome row → row_size row < 2 ^ 32 → length row < 2 ^ 32
-few_sizes row some limit = omega (arith, some_sizes row some)
 
 pub some_rest : (row : List Part) → 1 ≤ row_size row → 1 ≤ length row
 some_rest [] some = absurd (omega arith)
@@ -182,7 +176,7 @@ module _ {S : Type 0} (g : ground.Ghosts S) where
   -- ---- nothing and all
 
   pub same_units : (a : S) (us : List ℕ) → Turned g a a us us
-  same_units a us = record { own = own us us (λ p h. h); all = λ p t. absurd (true≢false (sym t.1 ∙ t.0)) }
+  same_units a us = record { own = own us us (λ p h. h); all = λ p t. absurd (true≢false (sym t.1 ∙ t.0)); counts = λ names. counted_same g a }
     where
       own : (xs ys : List ℕ) → ((p : ℕ) → Has xs p → Has ys p) → AllByRecursion (λ p. IsTaken g a a p ⊎ Has ys p) xs
       own [] ys f = tt

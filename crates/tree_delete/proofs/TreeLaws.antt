@@ -7,17 +7,19 @@ use Rattle.ex_base.specs.Ports.{Keeps}
 use Rattle.ex_base.specs.Sizes.{leaf_bytes}
 use Rattle.ex_base.specs.declared.geometry.Geometry.{Geometry}
 use Rattle.ex_base.specs.declared.ground.Ground as ground
-use Rattle.tree_model.specs.Shape.{Subtree}
-use Rattle.tree_model.specs.Trees.{Units}
-use Rattle.tree_rows.specs.declared.rows.Part.{Part}
-use Rattle.tree_rows.specs.Rows.{row_bytes, row_shape, row_units, AreTrees}
-use Rattle.tree_steps.specs.Made.{Has, Holds}
-use Rattle.tree_steps.proofs.Laid.{each_same}
+use Rattle.ex_base.proofs.Each.{each_as}
+use Rattle.trees.specs.Shape.{Subtree}
+use Rattle.trees.specs.Trees.{Units}
+use Rattle.trees.specs.declared.rows.Part.{Part}
+use Rattle.trees.specs.Rows.{row_bytes, row_shape, row_units, AreTrees}
+use Rattle.trees.specs.Made.{Has, Holds}
 use Rattle.tree_delete.specs.declared.cut.Cut.{Cut}
 use Rattle.tree_delete.specs.Cuts.{all_of, sides, cut_bytes, AreHalves, HaveHalves, IsBelow}
 use Rattle.tree_delete.specs.Left.{IsLeft, AreRootLeaves, AreRoots, IsTrimmed}
 use Rattle.tree_delete.proofs.LeafLaws.{each_size}
-use Rattle.tree_delete.proofs.NodeLaws.{halves_two, half_children, holds_kept}
+use Rattle.trees.proofs.Growing.{holds_kept}
+use Rattle.trees.proofs.Counts.{counted_back}
+use Rattle.tree_delete.proofs.NodeLaws.{halves_two, half_children}
 use Rattle.tree_delete.proofs.RowLaws.{empty_row}
 
 have_of : (geo : Geometry) (l : ℕ) (trees : List (Subtree l)) → AreHalves geo l trees → HaveHalves geo l trees
@@ -83,11 +85,12 @@ module _ {S : Type 0} (g : ground.Ghosts S) where
         trees = done.trees;
         bytes_are = done.bytes_are ∙ ap (λ (u : Units). cut_bytes u l below) k.units ∙ low.bytes ∙ sym bytes_is;
         units = record {
-          own = each_same _ _ (row_units (g.unit d) m row) (λ p x. elim x [
+          own = each_as _ _ (row_units (g.unit d) m row) (λ p x. elim x [
             | inl t ↦ inl (sym (ap (λ (f : ℕ → Bool). f p) k.used) ∙ t.0, t.1)
             | inr o ↦ inr (subst (λ r. Has (row_units (g.unit a) (suc l) r) p) (sym run_is) (low.units p (subst (λ u. Has (row_units u l (all_of below)) p) k.units o)))
           ]) done.units.own;
           all = λ p t. done.units.all p (ap (λ (f : ℕ → Bool). f p) k.used ∙ t.0, t.1);
+          counts = λ names. counted_back g a b d k (done.units.counts names);
         };
         roots = done.roots;
       }

@@ -5,10 +5,10 @@ use Rattle.ex_base.specs.declared.geometry.Geometry.{Geometry}
 use Rattle.ex_base.specs.Area.{NamesLeaf}
 use Rattle.ex_base.specs.Sizes.{leaf_bytes}
 use Rattle.count_nodes.specs.Node.{pairs_on}
-use Rattle.tree_model.specs.Trees.{Units}
-use Rattle.tree_rows.specs.declared.rows.Part.{Part}
-use Rattle.tree_rows.specs.Damage.{IsNodeAt}
-use Rattle.tree_rows.specs.Rows.{parts_of, row_size}
+use Rattle.trees.specs.Trees.{Units}
+use Rattle.trees.specs.declared.rows.Part.{Part}
+use Rattle.trees.specs.Damage.{IsNodeAt}
+use Rattle.trees.specs.Rows.{parts_of, row_size}
 use Rattle.tree_delete.specs.declared.cut.Cut.{Cut}
 use Rattle.tree_delete.specs.Cuts.{sides, IsCutOf}
 

@@ -6,13 +6,13 @@ use Rattle.ex_base.specs.declared.ground.Ground as ground
 use Rattle.ex_base.specs.Edits.{deleted}
 use Rattle.ex_base.specs.Sizes.{leaf_bytes}
 use Rattle.count_nodes.specs.Split.{most_pairs}
-use Rattle.tree_model.specs.Shape.{Subtree, IsHalfFull}
-use Rattle.tree_model.specs.Trees.{Units}
-use Rattle.tree_rows.specs.declared.rows.Part.{Part}
-use Rattle.tree_rows.specs.Damage.{IsSoundEnd}
-use Rattle.tree_rows.specs.Rows.{FitLeaves, row_bytes, row_shape, row_size, row_units}
-use Rattle.tree_steps.specs.Made.{Has, Holds}
-use Rattle.tree_steps.specs.Built.{AreSome}
+use Rattle.trees.specs.Shape.{Subtree, IsHalfFull}
+use Rattle.trees.specs.Trees.{Units}
+use Rattle.trees.specs.declared.rows.Part.{Part}
+use Rattle.trees.specs.Damage.{IsSoundEnd}
+use Rattle.trees.specs.Rows.{FitLeaves, row_bytes, row_shape, row_size, row_units}
+use Rattle.trees.specs.Made.{Has, Holds}
+use Rattle.trees.specs.Built.{AreSome}
 use Rattle.tree_delete.specs.declared.cut.Cut.{Cut}
 
 -- all trees of a cut's row, but for those that lie wholly inside the range

@@ -2,7 +2,7 @@
 use Rattle.std.specs.Prelude.{◌≡◌, ◌⊎◌, ℕ, ◌+◌, ◌-◌, ◌*◌, ◌/◌, ◌≤◌, List, length}
 use Rattle.std.specs.List.{AllByRecursion}
 use Rattle.ex_base.specs.Even.{sum_of}
-use Rattle.tree_rows.specs.Rows.{AreHalfFull, row_size}
+use Rattle.trees.specs.Rows.{AreHalfFull, row_size}
 use Rattle.tree_delete.specs.declared.cut.Cut.{Cut}
 use Rattle.tree_delete.specs.Cuts.{all_of, sides}
 

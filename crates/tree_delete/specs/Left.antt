@@ -3,11 +3,11 @@ use Rattle.std.specs.Prelude.{◌≡◌, ◌⊎◌, ℕ, ◌+◌, ◌≤◌, Lis
 use Rattle.ex_base.specs.declared.geometry.Geometry.{Geometry}
 use Rattle.ex_base.specs.declared.ground.Ground as ground
 use Rattle.ex_base.specs.Sizes.{leaf_bytes}
-use Rattle.tree_model.specs.Shape.{Subtree, IsRoot}
-use Rattle.tree_rows.specs.declared.rows.Part.{Part}
-use Rattle.tree_rows.specs.Rows.{AreHalfFull, AreTrees, row_bytes, row_shape, row_size, row_units}
-use Rattle.tree_steps.specs.Built.{AreSome}
-use Rattle.tree_insert.specs.Grown.{Grew, Turned}
+use Rattle.trees.specs.Shape.{Subtree, IsRoot}
+use Rattle.trees.specs.declared.rows.Part.{Part}
+use Rattle.trees.specs.Rows.{AreHalfFull, AreTrees, row_bytes, row_shape, row_size, row_units}
+use Rattle.trees.specs.Built.{AreSome}
+use Rattle.trees.specs.Grown.{Grew, Turned}
 use Rattle.tree_delete.specs.declared.cut.Cut.{Cut}
 use Rattle.tree_delete.specs.Cuts.{all_of, sides, cut_bytes, AreHalves}
 

@@ -3,10 +3,10 @@ use Rattle.std.specs.Prelude.{◌≡◌, ℕ, suc, ◌+◌, ◌-◌, ◌*◌, �
 use Rattle.ex_base.specs.declared.geometry.Geometry.{Geometry}
 use Rattle.ex_base.specs.declared.ground.Ground as ground
 use Rattle.count_nodes.specs.Split.{most_pairs}
-use Rattle.tree_rows.specs.declared.rows.Part.{Part}
-use Rattle.tree_rows.specs.Rows.{row_bytes, row_shape, row_size, row_units}
-use Rattle.tree_steps.specs.Made.{Has, Holds}
-use Rattle.tree_steps.specs.Built.{AreSome}
+use Rattle.trees.specs.declared.rows.Part.{Part}
+use Rattle.trees.specs.Rows.{row_bytes, row_shape, row_size, row_units}
+use Rattle.trees.specs.Made.{Has, Holds}
+use Rattle.trees.specs.Built.{AreSome}
 use Rattle.tree_delete.specs.declared.cut.Cut.{Cut}
 use Rattle.tree_delete.specs.declared.nodes.Opened.{Opened}
 use Rattle.tree_delete.specs.Cuts.{all_of, sides, cut_bytes, IsCutAt, AreHalves}

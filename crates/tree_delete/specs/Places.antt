@@ -1,7 +1,7 @@
 -- Places in rows.
 use Rattle.std.specs.Prelude.{◌≡◌, ℕ, ◌+◌, ◌<◌, ◌≤◌, List, length, take}
-use Rattle.tree_rows.specs.declared.rows.Part.{Part}
-use Rattle.tree_rows.specs.Rows.{row_size}
+use Rattle.trees.specs.declared.rows.Part.{Part}
+use Rattle.trees.specs.Rows.{row_size}
 
 -- So many trees of a row end at a position or before it, and so many bytes of the next one lie before it.
 pub record IsPlace (row : List Part) (pos index at : ℕ) : Type 0 where

@@ -4,11 +4,11 @@ use Rattle.ex_base.specs.declared.names.Root.{Root}
 use Rattle.ex_base.specs.declared.ground.Ground as ground
 use Rattle.ex_base.specs.Edits.{deleted}
 use Rattle.ex_base.specs.Sizes.{leaf_bytes}
-use Rattle.tree_model.specs.Shape.{IsRoot}
-use Rattle.tree_model.specs.Trees.{RootSpells, root_units, bytes_on, shape_on, units_on}
-use Rattle.tree_rows.specs.declared.rows.Part.{Part}
-use Rattle.tree_steps.specs.Made.{Holds}
-use Rattle.tree_insert.specs.Grown.{Turned}
+use Rattle.trees.specs.Shape.{IsRoot}
+use Rattle.trees.specs.Trees.{RootSpells, root_units, bytes_on, shape_on, units_on}
+use Rattle.trees.specs.declared.rows.Part.{Part}
+use Rattle.trees.specs.Made.{Holds}
+use Rattle.trees.specs.Grown.{Turned}
 
 -- the tree of a root, over used units
 pub record TreeSpells {S : Type 0} (g : ground.Ghosts S) (s : S) (l : ℕ) (tree : Part) : Type 0 where

@@ -1,11 +1,11 @@
 // Cuts through rows of trees: which trees a range of bytes goes through, and which stay as they are.
 ghost use Rattle.std.specs.Prelude.{◌≡◌, ◌≤◌, ◌<◌, ◌+◌, ◌-◌, ◌*◌, ◌^◌, ◌++◌, [], length, take, IfOk, OnOk};
-ghost use Rattle.tree_rows.specs.Rows.{row_size};
+ghost use Rattle.trees.specs.Rows.{row_size};
 ghost use Rattle.tree_delete.specs.Places.{IsPlace};
 ghost use Rattle.tree_delete.specs.Cuts.{IsCutOf};
 
 use std::alloc::{AllocError, Global};
-use tree_rows::{Part, piece};
+use trees::{Part, piece};
 
 /// A range of bytes that is to go from a row of trees.
 #[derive(Drop)]

@@ -3,9 +3,9 @@ ghost use Rattle.std.specs.Prelude.{◌≡◌, ℕ, IfErr, ◌≤◌, ◌<◌, �
 ghost use Rattle.ex_base.specs.Ports.{HasCause};
 ghost use Rattle.ex_base.specs.Sizes.{leaf_bytes};
 ghost use Rattle.ex_base.specs.declared.names.Area.TheVariants.{Page, Segment};
-ghost use Rattle.tree_rows.specs.Damage.{IsWalkFault};
-ghost use Rattle.tree_rows.specs.Rows.{row_size};
-ghost use Rattle.tree_steps.specs.Made.{Extends, Holds};
+ghost use Rattle.trees.specs.Damage.{IsWalkFault};
+ghost use Rattle.trees.specs.Rows.{row_size};
+ghost use Rattle.trees.specs.Made.{Extends, Holds};
 ghost use Rattle.tree_delete.specs.Cuts.{all_of, sides, IsCutAt, HasSoundEnds};
 ghost use Rattle.tree_delete.specs.Beside.{OpensSound, TakesNear};
 ghost use Rattle.tree_delete.specs.Leaves.{IsWider, AreEven};
@@ -14,8 +14,7 @@ ghost use Rattle.tree_delete.specs.Left.{IsLeftOf, IsLeft, AreRootLeaves};
 use crate::cut::{Cut, bytes_of, joined};
 use ex_base::{Blocks, PortFault};
 use std::alloc::{AllocError, Global};
-use tree_rows::{Part, put};
-use tree_steps::{Change, write_leaves};
+use trees::{Change, Part, put, write_leaves};
 
 /// The cut with a neighbour among the leaves that are written anew, where what is left of them is less than half a leaf.
 fn with_leaf(alloc: Global, cut: Cut, full: u64) -> Result<Cut, AllocError>

@@ -5,7 +5,6 @@
 mod cut;
 mod leaves;
 mod nodes;
-mod root_step;
 mod rows;
 mod tree;
 

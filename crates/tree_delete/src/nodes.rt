@@ -4,17 +4,17 @@ ghost use Rattle.std.specs.Prelude.{◌≡◌, ℕ, suc, ◌≤◌, ◌<◌, ◌
 ghost use Rattle.ex_base.specs.Ports.{Keeps, HasCause};
 ghost use Rattle.count_nodes.specs.Split.{most_pairs};
 ghost use Rattle.ex_base.specs.declared.faults.PortFault.{PortFault};
-ghost use Rattle.tree_rows.specs.Damage.{IsWalkFault, IsSoundWay};
-ghost use Rattle.tree_rows.specs.Rows.{row_size};
-ghost use Rattle.tree_steps.specs.Made.{Holds};
+ghost use Rattle.trees.specs.Damage.{IsWalkFault, IsSoundWay};
+ghost use Rattle.trees.specs.Rows.{row_size};
+ghost use Rattle.trees.specs.Made.{Holds};
 ghost use Rattle.tree_delete.specs.Beside.{children_on, AreNodesAt, OpensSound};
 ghost use Rattle.tree_delete.specs.Cuts.{all_of, sides, AreChildren, IsOpened, IsBelow, IsCutAt, IsCutOf, HasSoundEnds};
 ghost use Rattle.tree_delete.specs.Opens.{IsOpenedCut, OpensTo};
 
 use crate::cut::{Cut, cut_through, extend, joined};
-use ex_base::{Blocks, PortFault};
+use ex_base::{PortFault, ReadBlocks};
 use std::alloc::Global;
-use tree_rows::{Part, row_of};
+use trees::{Part, row_of};
 
 /// A cut through the children of nodes, and the nodes on both sides that stay as they are.
 #[derive(Drop)]
@@ -25,7 +25,7 @@ pub(crate) struct Opened {
 }
 
 /// The children of a row of nodes, each of which has at least so many.
-fn children_of<B: Blocks>(
+fn children_of<B: ReadBlocks>(
     blocks: &mut B,
     alloc: Global,
     level: u8,
@@ -52,7 +52,7 @@ fn children_of<B: Blocks>(
 }
 
 /// The cut through the children of the nodes that a cut goes through.
-pub(crate) fn cut_below<B: Blocks>(
+pub(crate) fn cut_below<B: ReadBlocks>(
     blocks: &mut B,
     alloc: Global,
     level: u8,
@@ -79,7 +79,7 @@ pub(crate) fn cut_below<B: Blocks>(
 }
 
 /// The cut through the children, of which at least as many stay as a node has: else those of a neighbour are taken too.
-pub(crate) fn open<B: Blocks>(
+pub(crate) fn open<B: ReadBlocks>(
     blocks: &mut B,
     alloc: Global,
     level: u8,

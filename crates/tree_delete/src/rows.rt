@@ -4,10 +4,10 @@ ghost use Rattle.count_nodes.specs.Split.{most_pairs};
 ghost use Rattle.ex_base.specs.Ports.{HasCause};
 ghost use Rattle.ex_base.specs.Sizes.{leaf_bytes};
 ghost use Rattle.ex_base.specs.declared.names.Area.TheVariants.{Page, Segment};
-ghost use Rattle.tree_rows.specs.Damage.{IsWalkFault};
-ghost use Rattle.tree_rows.specs.Rows.{row_size, row_shape, row_units};
-ghost use Rattle.tree_steps.specs.Made.{Extends, Holds};
-ghost use Rattle.tree_steps.specs.Built.{AreSome};
+ghost use Rattle.trees.specs.Damage.{IsWalkFault};
+ghost use Rattle.trees.specs.Rows.{row_size, row_shape, row_units};
+ghost use Rattle.trees.specs.Made.{Extends, Holds};
+ghost use Rattle.trees.specs.Built.{AreSome};
 ghost use Rattle.tree_delete.specs.Beside.{OpensSound};
 ghost use Rattle.tree_delete.specs.Cuts.{all_of, sides, cut_bytes, IsCutAt, AreHalves, HaveHalves, HasSoundEnds};
 ghost use Rattle.tree_delete.specs.Left.{IsLeftOf, IsLeft, AreRootLeaves, IsTrimmed};
@@ -17,8 +17,7 @@ use crate::leaves::cut_leaves;
 use crate::nodes::{Opened, cut_below, open};
 use ex_base::{Blocks, PortFault};
 use std::alloc::Global;
-use tree_rows::Part;
-use tree_steps::nodes_over;
+use trees::{Part, nodes_over};
 
 /// What a cut leaves of a row of trees of a level.
 fn cut_row<B: Blocks>(

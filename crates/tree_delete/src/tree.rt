@@ -4,31 +4,20 @@ ghost use Rattle.ex_base.specs.Edits.{deleted};
 ghost use Rattle.ex_base.specs.Ports.{HasCause, IsDamage};
 ghost use Rattle.ex_base.specs.Sizes.{leaf_bytes};
 ghost use Rattle.ex_base.specs.declared.names.Area.TheVariants.{Page, Segment};
-ghost use Rattle.tree_model.specs.Trees.{RootSpells, root_units};
-ghost use Rattle.tree_rows.specs.Damage.{IsWalkFault, IsRootFault, IsWhole, IsSoundEnd, root_row};
-ghost use Rattle.tree_steps.specs.Made.{Extends, AreUsed};
-ghost use Rattle.tree_insert.specs.Grown.{Turned};
-ghost use Rattle.tree_insert.specs.Roots.{IsRootFor};
+ghost use Rattle.trees.specs.Trees.{RootSpells, root_units};
+ghost use Rattle.trees.specs.Damage.{IsWalkFault, IsRootFault, IsWhole, IsSoundEnd, root_row};
+ghost use Rattle.trees.specs.Made.{Extends, AreUsed};
+ghost use Rattle.trees.specs.Grown.{Turned};
+ghost use Rattle.trees.specs.Roots.{IsRootFor};
 ghost use Rattle.tree_delete.specs.Beside.{IsSoundBeside};
 ghost use Rattle.tree_delete.specs.Need.{need_leaves, need_pages};
 ghost use Rattle.tree_delete.specs.Trees.{IsCutTree, TreeSpells};
 
 use crate::cut::{Cut, joined};
-use crate::root_step::rooted;
 use crate::rows::cut_tree;
-use ex_base::{Blocks, PortFault, Root};
+use ex_base::{Blocks, PortFault, ROOT_LEAST, Root};
 use std::alloc::Global;
-use tree_rows::Part;
-
-/// The least number of children of a root that is a node.
-const ROOT_LEAST: u32 = 2;
-
-/// The root of an object without bytes.
-const NO_TREE: Root = Root {
-    height: 0,
-    page: None,
-    size: 0,
-};
+use trees::{Part, rooted};
 
 /// A tree without some of its bytes.
 fn without<B: Blocks>(
@@ -108,10 +97,10 @@ pub fn delete<B: Blocks>(
         return Ok(*root);
     }
     let Some(page) = root.page else {
-        return Ok(NO_TREE);
+        return Ok(Root::EMPTY);
     };
     if len == root.size {
-        return Ok(NO_TREE);
+        return Ok(Root::EMPTY);
     }
     let tree = Part {
         size: root.size,

@@ -1,7 +1,7 @@
 -- The rows of children of a run of nodes, one after the other.
 use Rattle.std.proofs.Common.{◌≡◌, ◌≢◌, ℕ, zero, suc, ◌+◌, ◌-◌, ◌*◌, ◌<◌, ◌≤◌, List, [], ◌∷◌, ◌++◌, length, take, drop, get_or, ◌⊎◌, refl, sym, ap, subst, ◌∙◌, arith, inl, inr, take_all}
 use Rattle.std.specs.List.{AllByRecursion}
-use Rattle.std.proofs.lemmas.List.{append-nil, length-append, length-take-le, length-drop, take-append-le, drop-append-le, take-append-drop, drop_all, take-take, take_more}
+use Rattle.std.proofs.lemmas.List.{append-nil, length-append, length-take-le, length-drop, take-append-le, drop-append-le, take-append-drop, drop_all, take-take, take_more, drop-map, take-map}
 use Rattle.ex_base.specs.Even.{sum_of, cut_by}
 use Rattle.ex_base.specs.Sizes.{leaf_bytes}
 use Rattle.ex_base.specs.declared.ground.Ground as ground
@@ -14,19 +14,18 @@ use Rattle.ex_base.specs.declared.geometry.Geometry.{Geometry}
 use Rattle.ex_base.proofs.Rows.{sum_of-take_drop, each-append}
 use Rattle.ex_base.proofs.Spread.{plain, Between}
 use Rattle.count_nodes.specs.Split.{most_pairs}
-use Rattle.tree_model.specs.Trees.{Units, bytes_on, shape_on, units_on}
-use Rattle.tree_rows.specs.declared.rows.Part.{Part}
-use Rattle.tree_rows.specs.Damage.{NamesNode, IsWalkFault, AnyPart}
-use Rattle.tree_rows.specs.Rows.{row_size, row_bytes, row_shape, row_units, AreTrees, AreHalfFull, IsFilled, IsCounted, IsRowOn}
-use Rattle.tree_rows.proofs.Blame.{any_at}
-use Rattle.tree_rows.proofs.Reading.{row_trees, row_spells, keeps_on}
-use Rattle.tree_steps.specs.Built.{AreSome}
-use Rattle.tree_steps.specs.Made.{Has}
-use Rattle.tree_steps.proofs.Laid.{has_left, has_right}
-use Rattle.tree_steps.proofs.Over.{bytes_app, units_app, has_split}
+use Rattle.trees.specs.Trees.{Units, bytes_on, shape_on, units_on}
+use Rattle.trees.specs.declared.rows.Part.{Part}
+use Rattle.trees.specs.Damage.{NamesNode, IsWalkFault, AnyPart}
+use Rattle.trees.specs.Rows.{row_size, row_bytes, row_shape, row_units, AreTrees, AreHalfFull, IsFilled, IsCounted, IsRowOn}
+use Rattle.trees.proofs.Blame.{any_at}
+use Rattle.trees.proofs.Reading.{row_trees, row_spells, no_part}
+use Rattle.ex_base.proofs.Keeping.{keeps_on}
+use Rattle.trees.specs.Built.{AreSome}
+use Rattle.trees.specs.Made.{Has}
+use Rattle.trees.proofs.Laid.{has_left, has_right}
+use Rattle.trees.proofs.Over.{bytes_app, units_app, has_split}
 use Rattle.tree_insert.specs.Replaced.{EachRow, IsTouched, IsSpan}
-use Rattle.tree_insert.proofs.LeafStep.{map_take, map_drop}
-use Rattle.tree_insert.proofs.PlaceLaws.{no_part}
 use Rattle.tree_insert.proofs.NodeStep.{shape_below, units_below}
 use Rattle.tree_insert.proofs.Spans.{front_and_piece, comes_first}
 
@@ -55,22 +54,22 @@ each_row_as P Q (part ∷ run) (n ∷ lens) row f h = (h.0, f part (take n row) 
 -- ---- numbers
 
 module _ (geo : Geometry) (level least : ℕ) where
-  abbrev pub Counted : Part → List Part → Type 0
-  Counted part row = IsCounted geo level part.size least row
+  abbrev pub CountedRow : Part → List Part → Type 0
+  CountedRow part row = IsCounted geo level part.size least row
 
-  pub size_below : (run : List Part) (lens : List ℕ) (row : List Part) → EachRow Counted run lens row → row_size row ≡ row_size run
+  pub size_below : (run : List Part) (lens : List ℕ) (row : List Part) → EachRow CountedRow run lens row → row_size row ≡ row_size run
   size_below [] [] row h = ap row_size h
   size_below [] (n ∷ lens) row h = absurd h
   size_below (part ∷ run) [] row h = absurd h
   size_below (part ∷ run) (n ∷ lens) row h = omega (arith, sum_of-take_drop size_of n row, h.1.sum, size_below run lens (drop n row) h.2)
 
-  pub count_below : (run : List Part) (lens : List ℕ) (row : List Part) → EachRow Counted run lens row → sum_of plain lens ≡ length row
+  pub count_below : (run : List Part) (lens : List ℕ) (row : List Part) → EachRow CountedRow run lens row → sum_of plain lens ≡ length row
   count_below [] [] row h = sym (ap length h)
   count_below [] (n ∷ lens) row h = absurd h
   count_below (part ∷ run) [] row h = absurd h
   count_below (part ∷ run) (n ∷ lens) row h = omega (arith, h.0, length-drop n row, count_below run lens (drop n row) h.2)
 
-  pub lens_below : (run : List Part) (lens : List ℕ) (row : List Part) → EachRow Counted run lens row → AllByRecursion (Between least (most_pairs geo.fan)) lens
+  pub lens_below : (run : List Part) (lens : List ℕ) (row : List Part) → EachRow CountedRow run lens row → AllByRecursion (Between least (most_pairs geo.fan)) lens
   lens_below [] [] row h = tt
   lens_below [] (n ∷ lens) row h = absurd h
   lens_below (part ∷ run) [] row h = absurd h
@@ -78,19 +77,19 @@ module _ (geo : Geometry) (level least : ℕ) where
       let count : length (take n row) ≡ n = length-take-le n row h.0 in
       ((omega (arith, h.1.filled.enough), omega (arith, h.1.few)), lens_below run lens (drop n row) h.2)
 
-  pub as_many : (run : List Part) (lens : List ℕ) (row : List Part) → EachRow Counted run lens row → length lens ≡ length run
+  pub as_many : (run : List Part) (lens : List ℕ) (row : List Part) → EachRow CountedRow run lens row → length lens ≡ length run
   as_many [] [] row h = refl
   as_many [] (n ∷ lens) row h = absurd h
   as_many (part ∷ run) [] row h = absurd h
   as_many (part ∷ run) (n ∷ lens) row h = omega (arith, as_many run lens (drop n row) h.2)
 
-  pub some_below : (run : List Part) (lens : List ℕ) (row : List Part) → EachRow Counted run lens row → AreSome row
+  pub some_below : (run : List Part) (lens : List ℕ) (row : List Part) → EachRow CountedRow run lens row → AreSome row
   some_below [] [] row h = subst AreSome (sym h) tt
   some_below [] (n ∷ lens) row h = absurd h
   some_below (part ∷ run) [] row h = absurd h
   some_below (part ∷ run) (n ∷ lens) row h = subst AreSome (take-append-drop n row) (each-append _ (take n row) (drop n row) h.1.some (some_below run lens (drop n row) h.2))
 
-  pub halves_below : (run : List Part) (lens : List ℕ) (row : List Part) → level ≡ 1 → EachRow Counted run lens row → AreHalfFull (leaf_bytes geo) row
+  pub halves_below : (run : List Part) (lens : List ℕ) (row : List Part) → level ≡ 1 → EachRow CountedRow run lens row → AreHalfFull (leaf_bytes geo) row
   halves_below [] [] row one h = subst (AreHalfFull (leaf_bytes geo)) (sym h) tt
   halves_below [] (n ∷ lens) row one h = absurd h
   halves_below (part ∷ run) [] row one h = absurd h
@@ -98,7 +97,7 @@ module _ (geo : Geometry) (level least : ℕ) where
       subst (AreHalfFull (leaf_bytes geo)) (take-append-drop n row) (each-append _ (take n row) (drop n row) (h.1.filled.halves one) (halves_below run lens (drop n row) one h.2))
 
   -- where a node's children begin
-  pub front_below : (run : List Part) (lens : List ℕ) (row : List Part) (j : ℕ) → EachRow Counted run lens row → row_size (take (sum_of plain (take j lens)) row) ≡ row_size (take j run)
+  pub front_below : (run : List Part) (lens : List ℕ) (row : List Part) (j : ℕ) → EachRow CountedRow run lens row → row_size (take (sum_of plain (take j lens)) row) ≡ row_size (take j run)
   front_below [] [] row j h = ap (λ r. row_size (take (sum_of plain (take j [])) r)) h ∙ nothing j
     where
       nothing : (j : ℕ) → row_size (take (sum_of plain (take j [])) []) ≡ row_size (take j [])
@@ -120,7 +119,7 @@ least_sum fan [] (suc j) least most le in_ all = absurd (omega arith)
 least_sum fan (x ∷ xs) (suc j) least most le in_ all = omega (arith, least_sum fan xs j least most le (omega arith) all.1, all.0.0)
 
 -- the children that are touched, where two nodes or more are: those of all nodes but two, and two more
-pub few_nodes : (geo : Geometry) (level least fan : ℕ) (run : List Part) (lens : List ℕ) (row : List Part) (pos n first end at : ℕ) → EachRow (Counted geo level least) run lens row → IsTouched run pos n → IsSpan row pos n first end at → fan ≤ least → 2 ≤ length run
+pub few_nodes : (geo : Geometry) (level least fan : ℕ) (run : List Part) (lens : List ℕ) (row : List Part) (pos n first end at : ℕ) → EachRow (CountedRow geo level least) run lens row → IsTouched run pos n → IsSpan row pos n first end at → fan ≤ least → 2 ≤ length run
     → fan * (length run - 2) + 2 ≤ end - first
 few_nodes geo level least fan [] lens row pos n first end at h touched span le two = absurd (omega arith)
 few_nodes geo level least fan (part ∷ run) [] row pos n first end at h touched span le two = absurd h
@@ -162,8 +161,8 @@ module _ (geo : Geometry) (u : Units) (l : ℕ) where
   shapes_below [] (n ∷ lens) row h = absurd h
   shapes_below (part ∷ run) [] row h = absurd h
   shapes_below (part ∷ run) (n ∷ lens) row h =
-      ap (λ t. t ∷ row_shape u (suc l) run) (shape_below u l part.page.0 part.size (take n row) h.1.parts ∙ map_take (λ (p : Part). shape_on u l p.page.0 p.size) n row)
-      ∙ ap (λ ts. take n (row_shape u l row) ∷ ts) (shapes_below run lens (drop n row) h.2 ∙ ap (cut_by lens) (map_drop (λ (p : Part). shape_on u l p.page.0 p.size) n row))
+      ap (λ t. t ∷ row_shape u (suc l) run) (shape_below u l part.page.0 part.size (take n row) h.1.parts ∙ sym (take-map (λ (p : Part). shape_on u l p.page.0 p.size) n row))
+      ∙ ap (λ ts. take n (row_shape u l row) ∷ ts) (shapes_below run lens (drop n row) h.2 ∙ ap (cut_by lens) (sym (drop-map (λ (p : Part). shape_on u l p.page.0 p.size) n row)))
 
   -- each unit of the children is one of the nodes' trees
   pub has_below : (run : List Part) (lens : List ℕ) (row : List Part) → EachRow On run lens row → (p : ℕ) → Has (row_units u l row) p → Has (row_units u (suc l) run) p
@@ -198,7 +197,7 @@ walk_none : (geo : Geometry) (u : Units) (l least : ℕ) (at : PageNo) (want got
 walk_none geo u zero least at want got h = h
 walk_none geo u (suc l) least at want got h = h
 
-walk_up : (geo : Geometry) (u : Units) (l least : ℕ) (run : List Part) (lens : List ℕ) (row : List Part) (at : PageNo) (want got : Seen) → EachRow (On geo u l) run lens row → EachRow (Counted geo (suc l) least) run lens row → AllByRecursion (λ (part : Part). NamesNode geo part.page.0) run
+walk_up : (geo : Geometry) (u : Units) (l least : ℕ) (run : List Part) (lens : List ℕ) (row : List Part) (at : PageNo) (want got : Seen) → EachRow (On geo u l) run lens row → EachRow (CountedRow geo (suc l) least) run lens row → AllByRecursion (λ (part : Part). NamesNode geo part.page.0) run
     → IsWalkFault geo u l geo.fan row (Damaged at want got) → IsWalkFault geo u (suc l) least run (Damaged at want got)
 walk_up geo u l least [] [] row at want got on counted area h = absurd (walk_none geo u l geo.fan at want got (subst (λ r. IsWalkFault geo u l geo.fan r (Damaged at want got)) on h))
 walk_up geo u l least [] (n ∷ lens) row at want got on counted area h = absurd on
@@ -214,7 +213,7 @@ walk_up geo u l least (part ∷ run) (n ∷ lens) row at want got on counted are
 
 -- from the children of a run to the run
 pub walk_run : (geo : Geometry) (u : Units) (level least : ℕ) (run : List Part) (lens : List ℕ) (row : List Part) (fault : PortFault) → level ≢ 0
-    → EachRow (λ part r. IsRowOn geo (u part.page.0) level part.size r) run lens row → EachRow (Counted geo level least) run lens row → AllByRecursion (λ (part : Part). NamesNode geo part.page.0) run
+    → EachRow (λ part r. IsRowOn geo (u part.page.0) level part.size r) run lens row → EachRow (CountedRow geo level least) run lens row → AllByRecursion (λ (part : Part). NamesNode geo part.page.0) run
     → IsWalkFault geo u (level - 1) geo.fan row fault → IsWalkFault geo u level least run fault
 walk_run geo u level least run lens row Disk above on counted area h = tt
 walk_run geo u level least run lens row Memory above on counted area h = tt
@@ -227,13 +226,13 @@ walk_run geo u (suc l) least run lens row (Damaged at want got) above on counted
 module _ {S : Type 0} (g : ground.Ghosts S) where
   pub record BelowSoFar (old now : S) (level least : ℕ) (run : List Part) (i : ℕ) (lens : List ℕ) (row : List Part) : Type 0 where
     pub kept : Keeps g old now
-    pub counted : EachRow (Counted (g.geometry old) level least) (take i run) lens row
+    pub counted : EachRow (CountedRow (g.geometry old) level least) (take i run) lens row
     pub found : g.tells old → EachRow (λ part r. IsRowOn (g.geometry old) (g.unit old part.page.0) level part.size r) (take i run) lens row
     pub area : AllByRecursion (λ (part : Part). NamesNode (g.geometry old) part.page.0) (take i run)
 
   pub below_start : (a : S) (level least : ℕ) (run : List Part) → BelowSoFar a a level least run 0 [] []
   below_start a level least run = record {
-    kept = record { units = refl; images = refl; used = refl; refs = refl; held = refl; free = refl; leads = g.leads_refl a };
+    kept = record { units = refl; images = refl; used = refl; refs = refl; held = refl; free = refl; touched = refl; leads = g.leads_refl a };
     counted = refl;
     found = λ told. refl;
     area = tt;
@@ -252,7 +251,7 @@ module _ {S : Type 0} (g : ground.Ghosts S) where
       (each_row_more P (take i run) lens row (get_or run i no_part) more e p))) in
       record {
         kept = keeps_on g old now new h.kept k;
-        counted = at (Counted (g.geometry old) level least) h.counted (subst (λ x. IsCounted x level (get_or run i no_part).size least more) geo counted);
+        counted = at (CountedRow (g.geometry old) level least) h.counted (subst (λ x. IsCounted x level (get_or run i no_part).size least more) geo counted);
         found = λ told. at (λ p r. IsRowOn (g.geometry old) (g.unit old p.page.0) level p.size r) (h.found told)
             (subst (λ (f : ℕ → List ℕ). IsRowOn (g.geometry old) (f (get_or run i no_part).page.0) level (get_or run i no_part).size more) h.kept.units
             (subst (λ x. IsRowOn x (g.unit now (get_or run i no_part).page.0) level (get_or run i no_part).size more) geo (found (g.leads_told old now h.kept.leads told))));

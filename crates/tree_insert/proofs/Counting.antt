@@ -8,19 +8,21 @@ use Rattle.ex_base.specs.declared.geometry.Geometry.{Geometry}
 use Rattle.ex_base.specs.declared.ground.Ground as ground
 use Rattle.ex_base.specs.declared.names.PageNo.{PageNo}
 use Rattle.ex_base.specs.declared.names.Root.{Root}
-use Rattle.tree_model.specs.Shape.{Nested, joined, leaves_of}
-use Rattle.tree_model.specs.Trees.{Units, RootNamed, RootSized, RootSpells, root_shape, root_shape_at, shape_on}
-use Rattle.tree_model.proofs.SameUnits.{split_each}
-use Rattle.tree_rows.specs.declared.rows.Part.{Part}
-use Rattle.tree_rows.specs.Damage.{AnyPage, IsSoundWay}
-use Rattle.tree_rows.specs.Rows.{AreTrees, IsRowOn, row_shape, row_size}
-use Rattle.tree_rows.proofs.Ways.{way_append, way_kept, way_past}
-use Rattle.tree_rows.proofs.Reading.{keeps_on, row_trees}
+use Rattle.trees.specs.Shape.{Nested, joined, leaves_of}
+use Rattle.trees.specs.Trees.{Units, RootNamed, RootSized, RootSpells, root_shape, root_shape_at, shape_on}
+use Rattle.trees.specs.declared.rows.Part.{Part}
+use Rattle.trees.specs.Damage.{AnyPage, IsSoundWay}
+use Rattle.trees.specs.Rows.{AreTrees, IsRowOn, row_shape, row_size}
+use Rattle.trees.proofs.Ways.{way_append, way_kept, way_past}
+use Rattle.ex_base.proofs.Keeping.{keeps_on}
+use Rattle.ex_base.proofs.Each.{split_each}
+use Rattle.trees.proofs.Reading.{row_trees, no_part}
 use Rattle.tree_insert.specs.declared.lengths.Counted.{Counted}
 use Rattle.tree_insert.specs.Counts.{AreBounded, AreCounted, AreSound}
-use Rattle.tree_insert.proofs.Growing.{shape_app}
-use Rattle.tree_insert.proofs.NodeStep.{around_row, shape_below}
-use Rattle.tree_insert.proofs.PlaceLaws.{no_part, read_size, size-front}
+use Rattle.trees.proofs.Growing.{shape_app}
+use Rattle.trees.proofs.Sizes.{around_row}
+use Rattle.tree_insert.proofs.NodeStep.{shape_below}
+use Rattle.tree_insert.proofs.PlaceLaws.{read_size, size-front}
 
 -- ---- the leaves of trees side by side
 

@@ -6,9 +6,9 @@ use Rattle.ex_base.specs.declared.faults.PortFault.TheVariants.{Disk, Memory, Da
 use Rattle.ex_base.specs.declared.geometry.Geometry.{Geometry}
 use Rattle.ex_base.specs.declared.names.PageNo.{PageNo}
 use Rattle.ex_base.specs.declared.names.Root.{Root}
-use Rattle.tree_model.specs.Trees.{Units}
-use Rattle.tree_rows.specs.declared.rows.Part.{Part}
-use Rattle.tree_rows.specs.Damage.{IsWalkFault, IsRootFault, root_row_at}
+use Rattle.trees.specs.Trees.{Units}
+use Rattle.trees.specs.declared.rows.Part.{Part}
+use Rattle.trees.specs.Damage.{IsWalkFault, IsRootFault, root_row_at}
 
 -- at leaves the least number of children doesn't matter
 pub walk_lowest : (geo : Geometry) (u : Units) (level k least : ℕ) (row : List Part) (fault : PortFault) → level ≡ 0 → IsWalkFault geo u 0 k row fault → IsWalkFault geo u level least row fault

@@ -2,11 +2,12 @@
 use Rattle.std.proofs.Common.{◌≡◌, ◌≢◌, ℕ, zero, suc, ◌+◌, ◌-◌, ◌*◌, ◌/◌, ◌<◌, ◌≤◌, leb, ltb, Bool, true, false, List, [], ◌∷◌, ◌++◌, length, take, drop, Option, Some, None, refl, sym, ap, subst, ◌∙◌, arith, append_assoc, cond, inl, inr}
 use Rattle.std.specs.Prelude.{option_to_list, slice_index}
 use Rattle.std.specs.List.{AllByRecursion}
-use Rattle.std.proofs.lemmas.Bool.{leb-true, leb-false, ltb-true, cases_lt}
+use Rattle.std.proofs.lemmas.Bool.{leb-true, leb-false, ltb-true, cases_lt, cond_both}
 use Rattle.std.proofs.lemmas.List.{append-nil}
 use Rattle.std.proofs.Math.Nat.{mul-le-mul_right}
+use Rattle.std.proofs.Math.Seq.{take-length}
 use Rattle.ex_base.specs.Even.{sum_of, evenly, least_parts}
-use Rattle.ex_base.proofs.Rows.{pick, sum_of-append, IsRow-as}
+use Rattle.ex_base.proofs.Rows.{sum_of-append, IsRow-as}
 use Rattle.ex_base.proofs.Spread.{plain, least_parts_is, some_part, length-evenly}
 use Rattle.leaf_segments.specs.Layout.{Layout, placed, insert_layout, append_layout, overflowing, overflowing_last, left_or_spread, right_or_spread, spread, filled, insert_leaves, append_leaves}
 use Rattle.leaf_segments.proofs.Placed.{LeafRow, AreLeaves, insert_leaves_row, append_leaves_row}
@@ -46,17 +47,13 @@ far_none : (xs : List ℕ) → 1 ≤ length xs → far_left None xs ≡ take (le
 far_none [] some = absurd (omega arith)
 far_none (x ∷ xs) some = far_some x xs ∙ ap (λ k. take k (x ∷ xs)) (let e : length xs ≡ length (x ∷ xs) - 1 = omega arith in e)
 
-whole : (xs : List ℕ) → take (length xs) xs ≡ xs
-whole [] = refl
-whole (x ∷ xs) = ap (λ ys. x ∷ ys) (whole xs)
-
 abbrev kept_left : Bool → Option ℕ → List ℕ
 kept_left true left = []
 kept_left false left = option_to_list left
 
 front_is : (takes : Bool) (xs : List ℕ) (first : ℕ) → first + flag takes ≡ length xs → far_left None xs ++ kept_left takes (before_last None xs) ≡ take first xs
 front_is true xs first is = append-nil (far_left None xs) ∙ far_none xs (omega arith) ∙ ap (λ k. take k xs) (let e : length xs - 1 ≡ first = omega arith in e)
-front_is false xs first is = far_whole None xs ∙ sym (whole xs) ∙ ap (λ k. take k xs) (let e : length xs ≡ first = omega arith in e)
+front_is false xs first is = far_whole None xs ∙ sym (take-length xs) ∙ ap (λ k. take k xs) (let e : length xs ≡ first = omega arith in e)
 
 abbrev kept_right : Bool → List ℕ → List ℕ
 kept_right true rest = drop 1 rest
@@ -80,16 +77,12 @@ insert_split : (full n : ℕ) (left : Option ℕ) (xs : List ℕ) (leaf : ℕ) (
     → insert_leaves full n left (xs ++ (leaf ∷ rest)) pos ≡ far_left left xs ++ placed (insert_layout full (before_last left xs) leaf (first_of rest) n) (before_last left xs) rest
 insert_split full n left [] leaf [] pos at sum fits first = refl
 insert_split full n left [] leaf (next ∷ rest) pos at sum fits first =
-    pick (λ ys. ys ≡ placed (insert_layout full left leaf (Some next) n) left (next ∷ rest)) (leb pos leaf) _ _ (λ e. refl) (λ e. absurd (omega (arith, leb-false _ _ e)))
+    cond_both (leb pos leaf) _ _ (λ ys. ys ≡ placed (insert_layout full left leaf (Some next) n) left (next ∷ rest)) (λ e. refl) (λ e. absurd (omega (arith, leb-false _ _ e)))
 insert_split full n left (x ∷ []) leaf rest pos at sum fits first =
-    pick (λ ys. ys ≡ (option_to_list left ++ []) ++ placed (insert_layout full (Some x) leaf (first_of rest) n) (Some x) rest) (leb pos x) _ _
-    (λ e. absurd (omega (arith, leb-true _ _ e, first (λ none. absurd (omega arith)))))
-    (λ e. ap (λ ys. option_to_list left ++ ys) (insert_split full n (Some x) [] leaf rest (pos - x) at (omega arith) fits (λ ne. absurd (ne refl)))
+    cond_both (leb pos x) _ _ (λ ys. ys ≡ (option_to_list left ++ []) ++ placed (insert_layout full (Some x) leaf (first_of rest) n) (Some x) rest) (λ e. absurd (omega (arith, leb-true _ _ e, first (λ none. absurd (omega arith))))) (λ e. ap (λ ys. option_to_list left ++ ys) (insert_split full n (Some x) [] leaf rest (pos - x) at (omega arith) fits (λ ne. absurd (ne refl)))
     ∙ ap (λ ys. ys ++ placed (insert_layout full (Some x) leaf (first_of rest) n) (Some x) rest) (sym (append-nil (option_to_list left))))
 insert_split full n left (x ∷ y ∷ xs) leaf rest pos at sum fits first =
-    pick (λ ys. ys ≡ far_left left (x ∷ y ∷ xs) ++ placed (insert_layout full (before_last left (x ∷ y ∷ xs)) leaf (first_of rest) n) (before_last left (x ∷ y ∷ xs)) rest) (leb pos x) _ _
-    (λ e. absurd (omega (arith, leb-true _ _ e, first (λ none. absurd (omega arith)))))
-    (λ e. ap (λ ys. option_to_list left ++ ys) (insert_split full n (Some x) (y ∷ xs) leaf rest (pos - x) at (omega arith) fits (λ ne. first (λ none. absurd (omega arith))))
+    cond_both (leb pos x) _ _ (λ ys. ys ≡ far_left left (x ∷ y ∷ xs) ++ placed (insert_layout full (before_last left (x ∷ y ∷ xs)) leaf (first_of rest) n) (before_last left (x ∷ y ∷ xs)) rest) (λ e. absurd (omega (arith, leb-true _ _ e, first (λ none. absurd (omega arith))))) (λ e. ap (λ ys. option_to_list left ++ ys) (insert_split full n (Some x) (y ∷ xs) leaf rest (pos - x) at (omega arith) fits (λ ne. first (λ none. absurd (omega arith))))
     ∙ sym (append_assoc (option_to_list left) (far_left (Some x) (y ∷ xs)) (placed (insert_layout full (before_last (Some x) (y ∷ xs)) leaf (first_of rest) n) (before_last (Some x) (y ∷ xs)) rest)))
 
 append_split : (full n : ℕ) (left : Option ℕ) (xs : List ℕ) (leaf : ℕ) → append_leaves full n left (xs ++ (leaf ∷ [])) ≡ far_left left xs ++ placed (append_layout full (before_last left xs) leaf n) (before_last left xs) []
@@ -179,16 +172,16 @@ in_place_left full total = refl
 
 pub no_left : (growth : Growth) (full leaf : ℕ) (right : Option ℕ) (n : ℕ) → (layout_by growth full None leaf right n).takes_left ≡ false
 unfolding insert_layout append_layout
-no_left Insert full leaf None n = pick (λ (l : Layout). l.takes_left ≡ false) (leb (leaf + n) full) _ _ (λ e. refl) (λ e. refl)
-no_left Insert full leaf (Some r) n = pick (λ (l : Layout). l.takes_left ≡ false) (leb (leaf + n) full) _ _ (λ e. refl) (λ e. pick (λ (l : Layout). l.takes_left ≡ false) (leb (r + (leaf + n)) (2 * full)) _ _ (λ e. refl) (λ e. refl))
-no_left Append full leaf right n = pick (λ (l : Layout). l.takes_left ≡ false) (leb (leaf + n) full) _ _ (λ e. refl) (λ e. refl)
+no_left Insert full leaf None n = cond_both (leb (leaf + n) full) _ _ (λ (l : Layout). l.takes_left ≡ false) (λ e. refl) (λ e. refl)
+no_left Insert full leaf (Some r) n = cond_both (leb (leaf + n) full) _ _ (λ (l : Layout). l.takes_left ≡ false) (λ e. refl) (λ e. cond_both (leb (r + (leaf + n)) (2 * full)) _ _ (λ (l : Layout). l.takes_left ≡ false) (λ e. refl) (λ e. refl))
+no_left Append full leaf right n = cond_both (leb (leaf + n) full) _ _ (λ (l : Layout). l.takes_left ≡ false) (λ e. refl) (λ e. refl)
 
 pub no_right : (growth : Growth) (full : ℕ) (left : Option ℕ) (leaf n : ℕ) → (layout_by growth full left leaf None n).takes_right ≡ false
 unfolding insert_layout append_layout
-no_right Insert full None leaf n = pick (λ (l : Layout). l.takes_right ≡ false) (leb (leaf + n) full) _ _ (λ e. refl) (λ e. refl)
-no_right Insert full (Some l) leaf n = pick (λ (l : Layout). l.takes_right ≡ false) (leb (leaf + n) full) _ _ (λ e. refl) (λ e. pick (λ (l : Layout). l.takes_right ≡ false) (leb (l + (leaf + n)) (2 * full)) _ _ (λ e. refl) (λ e. refl))
-no_right Append full None leaf n = pick (λ (l : Layout). l.takes_right ≡ false) (leb (leaf + n) full) _ _ (λ e. refl) (λ e. refl)
-no_right Append full (Some l) leaf n = pick (λ (l : Layout). l.takes_right ≡ false) (leb (leaf + n) full) _ _ (λ e. refl) (λ e. pick (λ (l : Layout). l.takes_right ≡ false) (ltb l full) _ _ (λ e. refl) (λ e. refl))
+no_right Insert full None leaf n = cond_both (leb (leaf + n) full) _ _ (λ (l : Layout). l.takes_right ≡ false) (λ e. refl) (λ e. refl)
+no_right Insert full (Some l) leaf n = cond_both (leb (leaf + n) full) _ _ (λ (l : Layout). l.takes_right ≡ false) (λ e. refl) (λ e. cond_both (leb (l + (leaf + n)) (2 * full)) _ _ (λ (l : Layout). l.takes_right ≡ false) (λ e. refl) (λ e. refl))
+no_right Append full None leaf n = cond_both (leb (leaf + n) full) _ _ (λ (l : Layout). l.takes_right ≡ false) (λ e. refl) (λ e. refl)
+no_right Append full (Some l) leaf n = cond_both (leb (leaf + n) full) _ _ (λ (l : Layout). l.takes_right ≡ false) (λ e. refl) (λ e. cond_both (ltb l full) _ _ (λ (l : Layout). l.takes_right ≡ false) (λ e. refl) (λ e. refl))
 
 -- ---- how many leaves
 
@@ -212,10 +205,10 @@ two_few : (full total n : ℕ) → length (evenly 2 total) ≤ n / full + 4
 two_few full total n = omega (arith, length-evenly 2 total (omega arith))
 
 left_few : (full l leaf n : ℕ) → 1 ≤ full → 1 ≤ n → leaf ≤ full → length (left_or_spread full l (leaf + n)).lengths ≤ n / full + 4
-left_few full l leaf n some more fits = pick (λ (x : Layout). length x.lengths ≤ n / full + 4) (leb (l + (leaf + n)) (2 * full)) _ _ (λ e. two_few full (l + (leaf + n)) n) (λ e. spread_few full leaf n some more fits)
+left_few full l leaf n some more fits = cond_both (leb (l + (leaf + n)) (2 * full)) _ _ (λ (x : Layout). length x.lengths ≤ n / full + 4) (λ e. two_few full (l + (leaf + n)) n) (λ e. spread_few full leaf n some more fits)
 
 right_few : (full r leaf n : ℕ) → 1 ≤ full → 1 ≤ n → leaf ≤ full → length (right_or_spread full r (leaf + n)).lengths ≤ n / full + 4
-right_few full r leaf n some more fits = pick (λ (x : Layout). length x.lengths ≤ n / full + 4) (leb (r + (leaf + n)) (2 * full)) _ _ (λ e. two_few full (r + (leaf + n)) n) (λ e. spread_few full leaf n some more fits)
+right_few full r leaf n some more fits = cond_both (leb (r + (leaf + n)) (2 * full)) _ _ (λ (x : Layout). length x.lengths ≤ n / full + 4) (λ e. two_few full (r + (leaf + n)) n) (λ e. spread_few full leaf n some more fits)
 
 filled_few : (full total n : ℕ) → 1 ≤ full → full < total → total ≤ n + 2 * full → length (filled full total) ≤ n / full + 4
 filled_few full total n some over le = omega (arith, length-filled full total some over, few_parts full total n some le)
@@ -224,17 +217,17 @@ over_few : (full : ℕ) (left : Option ℕ) (leaf : ℕ) (right : Option ℕ) (n
 over_few full None leaf None n some more fits = spread_few full leaf n some more fits
 over_few full (Some l) leaf None n some more fits = left_few full l leaf n some more fits
 over_few full None leaf (Some r) n some more fits = right_few full r leaf n some more fits
-over_few full (Some l) leaf (Some r) n some more fits = pick (λ (x : Layout). length x.lengths ≤ n / full + 4) (leb l r) _ _ (λ e. left_few full l leaf n some more fits) (λ e. right_few full r leaf n some more fits)
+over_few full (Some l) leaf (Some r) n some more fits = cond_both (leb l r) _ _ (λ (x : Layout). length x.lengths ≤ n / full + 4) (λ e. left_few full l leaf n some more fits) (λ e. right_few full r leaf n some more fits)
 
 last_few : (full : ℕ) (left : Option ℕ) (leaf n : ℕ) → 1 ≤ full → 1 ≤ n → leaf ≤ full → full < leaf + n → length (overflowing_last full left (leaf + n)).lengths ≤ n / full + 4
 last_few full None leaf n some more fits over = filled_few full (leaf + n) n some over (omega arith)
 last_few full (Some l) leaf n some more fits over =
-    pick (λ (x : Layout). length x.lengths ≤ n / full + 4) (ltb l full) _ _ (λ e. filled_few full (l + (leaf + n)) n some (omega arith) (omega (arith, ltb-true _ _ e))) (λ e. filled_few full (leaf + n) n some over (omega arith))
+    cond_both (ltb l full) _ _ (λ (x : Layout). length x.lengths ≤ n / full + 4) (λ e. filled_few full (l + (leaf + n)) n some (omega arith) (omega (arith, ltb-true _ _ e))) (λ e. filled_few full (leaf + n) n some over (omega arith))
 
 pub few_lengths : (growth : Growth) (full : ℕ) (left : Option ℕ) (leaf : ℕ) (right : Option ℕ) (n : ℕ) → 1 ≤ full → 1 ≤ n → leaf ≤ full → length (layout_by growth full left leaf right n).lengths ≤ n / full + 4
 unfolding insert_layout append_layout
-few_lengths Insert full left leaf right n some more fits = pick (λ (x : Layout). length x.lengths ≤ n / full + 4) (leb (leaf + n) full) _ _ (λ e. omega arith) (λ e. over_few full left leaf right n some more fits)
-few_lengths Append full left leaf right n some more fits = pick (λ (x : Layout). length x.lengths ≤ n / full + 4) (leb (leaf + n) full) _ _ (λ e. omega arith) (λ e. last_few full left leaf n some more fits (leb-false _ _ e))
+few_lengths Insert full left leaf right n some more fits = cond_both (leb (leaf + n) full) _ _ (λ (x : Layout). length x.lengths ≤ n / full + 4) (λ e. omega arith) (λ e. over_few full left leaf right n some more fits)
+few_lengths Append full left leaf right n some more fits = cond_both (leb (leaf + n) full) _ _ (λ (x : Layout). length x.lengths ≤ n / full + 4) (λ e. omega arith) (λ e. last_few full left leaf n some more fits (leb-false _ _ e))
 
 -- ---- the lengths of all leaves
 

@@ -1,46 +1,36 @@
 -- The step over leaves at a place of a row.
-use Rattle.std.proofs.Common.{◌≡◌, ℕ, zero, suc, ◌+◌, ◌-◌, ◌/◌, ◌<◌, ◌≤◌, true, List, [], ◌∷◌, ◌++◌, length, map, take, drop, Option, refl, sym, ap, subst, ◌∙◌, arith, append_assoc, inl, inr, true≢false}
+use Rattle.std.proofs.Common.{◌≡◌, ℕ, zero, suc, ◌+◌, ◌-◌, ◌/◌, ◌<◌, ◌≤◌, true, List, [], ◌∷◌, ◌++◌, length, take, drop, Option, refl, sym, ap, subst, ◌∙◌, arith, append_assoc, inl, inr, true≢false}
 use Rattle.std.specs.List.{AllByRecursion}
 use Rattle.std.proofs.lemmas.Bool.{cases_lt}
-use Rattle.std.proofs.lemmas.List.{length-append, length-map, length-drop, length-take-le, drop-drop, take-append-drop}
+use Rattle.std.proofs.lemmas.List.{length-append, length-map, length-drop, length-take-le, drop-drop, take-append-drop, drop-map, take-map}
 use Rattle.ex_base.specs.Edits.{inserted}
 use Rattle.ex_base.specs.Even.{sum_of}
-use Rattle.ex_base.specs.declared.geometry.Geometry.{Geometry}
 use Rattle.ex_base.specs.declared.ground.Ground as ground
 use Rattle.ex_base.specs.Area.{NamesLeaf}
-use Rattle.ex_base.specs.Sizes.{leaf_bytes, least_page}
-use Rattle.std.proofs.Math.Nat.{mul-le-mul}
+use Rattle.ex_base.specs.Sizes.{leaf_bytes}
 use Rattle.ex_base.proofs.Rows.{each-append, each-take, each-drop, sum_of-append, sum_of-take_drop}
 use Rattle.ex_base.proofs.Spread.{plain, Between}
+use Rattle.ex_base.proofs.Each.{split_each}
 use Rattle.leaf_segments.specs.Layout.{Layout}
 use Rattle.leaf_segments.proofs.Placed.{AreLeaves}
-use Rattle.tree_model.specs.Shape.{Subtree}
-use Rattle.tree_model.proofs.SameUnits.{split_each}
-use Rattle.tree_rows.specs.declared.rows.Part.{Part}
-use Rattle.tree_rows.specs.Rows.{row_size, row_bytes, row_shape}
-use Rattle.tree_steps.specs.Made.{Extends, Holds, Took, pages_of, sizes_of, changed}
-use Rattle.tree_steps.specs.Built.{AreSome}
-use Rattle.tree_steps.proofs.Laid.{row_length}
-use Rattle.tree_steps.proofs.Over.{bytes_app}
+use Rattle.trees.specs.Shape.{Subtree}
+use Rattle.trees.specs.declared.rows.Part.{Part}
+use Rattle.trees.specs.Rows.{row_size, row_bytes, row_shape}
+use Rattle.trees.specs.Made.{Extends, Holds, Took, pages_of, sizes_of, changed}
+use Rattle.trees.specs.Built.{AreSome}
+use Rattle.trees.proofs.Laid.{row_length}
+use Rattle.trees.proofs.Over.{bytes_app}
 use Rattle.tree_insert.specs.declared.layout.Growth.{Growth}
-use Rattle.tree_insert.specs.Grown.{Grew, HasGrown}
+use Rattle.trees.specs.Counted.{Counted}
+use Rattle.trees.specs.Grown.{Grew}
+use Rattle.tree_insert.specs.Grown.{HasGrown}
 use Rattle.tree_insert.specs.Growth.{layout_by, IsSpot, row_by}
 use Rattle.tree_insert.specs.Places.{IsAt, last_of, first_of, size_at, flag}
 use Rattle.tree_insert.proofs.PlaceLaws.{size-front, right_none}
 use Rattle.tree_insert.proofs.Layouts.{IsPlaced, laid_out, no_left, no_right, few_lengths, grown_row}
-use Rattle.tree_insert.proofs.Growing.{holds_split, grew_leaves, grew_between}
+use Rattle.trees.proofs.Growing.{holds_split, grew_leaves, grew_between}
 
 -- ---- sizes of a part of a row
-
-pub map_take : {A B : Type 0} (f : A → B) (n : ℕ) (xs : List A) → map f (take n xs) ≡ take n (map f xs)
-map_take f zero xs = refl
-map_take f (suc n) [] = refl
-map_take f (suc n) (x ∷ xs) = ap (λ ys. f x ∷ ys) (map_take f n xs)
-
-pub map_drop : {A B : Type 0} (f : A → B) (n : ℕ) (xs : List A) → map f (drop n xs) ≡ drop n (map f xs)
-map_drop f zero xs = refl
-map_drop f (suc n) [] = refl
-map_drop f (suc n) (x ∷ xs) = map_drop f n xs
 
 abbrev size_of : Part → ℕ
 size_of part = part.size
@@ -100,8 +90,8 @@ pub leaf_step : (growth : Growth) (fan full n : ℕ) (row : List Part) (pos inde
     → IsAt row pos index at0 → layout ≡ layout_by growth full (last_of (sizes_of (take index row))) (size_at row index) (first_of (sizes_of (drop (index + 1) row))) n → first + flag layout.takes_left ≡ index → end ≡ index + 1 + flag layout.takes_right
     → row_size (take first row) + at ≡ row_size (take index row) + at0 → end ≤ length row → IsLeafStep growth fan full n row pos first end at layout.lengths
 leaf_step growth fan full n row pos index at0 first end at layout two more some fit spot h layout_is first_is end_is at_is inside =
-    let front : sizes_of (take index row) ≡ take index (sizes_of row) = map_take size_of index row in
-    let back : sizes_of (drop (index + 1) row) ≡ drop (index + 1) (sizes_of row) = map_drop size_of (index + 1) row in
+    let front : sizes_of (take index row) ≡ take index (sizes_of row) = sym (take-map size_of index row) in
+    let back : sizes_of (drop (index + 1) row) ≡ drop (index + 1) (sizes_of row) = sym (drop-map size_of (index + 1) row) in
     let placed : IsPlaced (sizes_of row) pos index at0 = record {
       inside = omega (arith, length-map row size_of, h.inside);
       start = omega (arith, h.start, ap (sum_of plain) front, sizes_sum (take index row));
@@ -113,7 +103,7 @@ leaf_step growth fan full n row pos index at0 first end at layout two more some 
     laid_out growth fan full n (sizes_of row) pos index at0 first end layout placed (sizes_each (λ k. 1 ≤ k) row some) (subst (IsSpot growth pos) (sym (sizes_sum row)) spot)
     (layout_is ∙ ap (λ xs. layout_by growth full (last_of xs) (size_at row index) (first_of (sizes_of (drop (index + 1) row))) n) front ∙ ap (λ xs. layout_by growth full (last_of (take index (sizes_of row))) (size_at row index) (first_of xs) n) back) first_is end_is in
     let shape : row_by growth fan full n 0 (sizes_of row) pos ≡ sizes_of (take first row) ++ (layout.lengths ++ sizes_of (drop end row)) =
-    laid ∙ ap (λ xs. xs ++ (layout.lengths ++ drop end (sizes_of row))) (sym (map_take size_of first row)) ∙ ap (λ xs. sizes_of (take first row) ++ (layout.lengths ++ xs)) (sym (map_drop size_of end row)) in
+    laid ∙ ap (λ xs. xs ++ (layout.lengths ++ drop end (sizes_of row))) (sym (sym (take-map size_of first row))) ∙ ap (λ xs. sizes_of (take first row) ++ (layout.lengths ++ xs)) (sym (sym (drop-map size_of end row))) in
     let grown = grown_row growth fan full n (sizes_of row) pos two (both full row some fit) (omega (arith, length-map row size_of, h.inside)) in
     let parts = split_each (Between 1 full) (sizes_of (take first row)) (layout.lengths ++ sizes_of (drop end row)) (subst (AllByRecursion (Between 1 full)) shape grown.each) in
     let three = three_sizes row first end le in
@@ -128,10 +118,6 @@ leaf_step growth fan full n row pos index at0 first end at layout two more some 
       many = omega (arith, grown.many, ap length shape, length-append (sizes_of (take first row)) (layout.lengths ++ sizes_of (drop end row)), length-append layout.lengths (sizes_of (drop end row)), length-map (take first row) size_of, length-map (drop end row) size_of, length-map row size_of);
       shape = shape;
     }
-
--- a leaf has room for 512 bytes at least
-pub leaf_some : (geo : Geometry) → 512 ≤ leaf_bytes geo
-leaf_some geo = omega (arith, mul-le-mul {n₁ = 1} {m₁ = 512} {n₂ = geo.seg_len} {m₂ = geo.page_size} (omega (arith, geo.some_length)) (least_page geo))
 
 -- ---- neighbours that take part are there
 
@@ -202,10 +188,10 @@ Grew-as g a b l was now now' bytes bytes' shape shape' h e f k =
 
 module _ {S : Type 0} (g : ground.Ghosts S) where
   pub leaves_grew : (a b : S) (growth : Growth) (fan full : ℕ) (row : List Part) (pos first end at : ℕ) (given lengths : List ℕ) (made items : List Part) → g.ready a → g.tells a → full ≡ leaf_bytes (g.geometry a) → IsLeafStep growth fan full (length given) row pos first end at lengths
-      → Extends g a b → Holds g a 0 row → items ≡ (take first row ++ made) ++ drop end row → sizes_of made ≡ lengths → AllByRecursion (λ (part : Part). NamesLeaf (g.geometry a) part.page.0) made → Took g a b (pages_of made)
+      → Extends g a b → Holds g a 0 row → items ≡ (take first row ++ made) ++ drop end row → sizes_of made ≡ lengths → AllByRecursion (λ (part : Part). NamesLeaf (g.geometry a) part.page.0) made → Took g a b (pages_of made) → Counted g a b
       → (Holds g a 0 (take (end - first) (drop first row)) → row_bytes (g.unit b) 0 made ≡ changed (row_bytes (g.unit a) 0 (take (end - first) (drop first row))) at 0 given)
       → Grew g a b 0 row items (inserted (row_bytes (g.unit a) 0 row) pos given) (row_by growth fan full (length given) 0 (row_shape (g.unit a) 0 row) pos)
-  leaves_grew a b growth fan full row pos first end at given lengths made items ready told full_is h ext holds items_is sizes named took bytes =
+  leaves_grew a b growth fan full row pos first end at given lengths made items ready told full_is h ext holds items_is sizes named took counts bytes =
       let left = take first row in
       let run = take (end - first) (drop first row) in
       let right = drop end row in
@@ -218,7 +204,7 @@ module _ {S : Type 0} (g : ground.Ghosts S) where
       let fit : AllByRecursion (λ n. (1 ≤ n) × (n ≤ leaf_bytes (g.geometry a))) lengths = subst (λ k. AllByRecursion (Between 1 k) lengths) full_is h.each in
       let new_bytes : row_bytes (g.unit b) 0 made ≡ inserted (row_bytes (g.unit a) 0 (take (end - first) (drop first row))) at given =
       bytes parts.0 ∙ regroup (take at (row_bytes (g.unit a) 0 (take (end - first) (drop first row)))) given at (row_bytes (g.unit a) 0 (take (end - first) (drop first row))) in
-      let run_grew = grew_leaves g a b (take (end - first) (drop first row)) made lengths (inserted (row_bytes (g.unit a) 0 (take (end - first) (drop first row))) at given) ext sizes fit named took new_bytes in
+      let run_grew = grew_leaves g a b (take (end - first) (drop first row)) made lengths (inserted (row_bytes (g.unit a) 0 (take (end - first) (drop first row))) at given) ext sizes fit named took counts new_bytes in
       let all = grew_between g a b 0 (take first row) (take (end - first) (drop first row)) (drop end row) made (inserted (row_bytes (g.unit a) 0 (take (end - first) (drop first row))) at given) lengths ext held run_grew in
       let row_is : row_bytes (g.unit a) 0 row ≡ row_bytes (g.unit a) 0 (take first row) ++ (row_bytes (g.unit a) 0 (take (end - first) (drop first row)) ++ row_bytes (g.unit a) 0 (drop end row)) =
       ap (row_bytes (g.unit a) 0) h.split ∙ bytes_app (g.unit a) 0 (take first row) (take (end - first) (drop first row) ++ drop end row) ∙ ap (λ xs. row_bytes (g.unit a) 0 (take first row) ++ xs) (bytes_app (g.unit a) 0 (take (end - first) (drop first row)) (drop end row)) in

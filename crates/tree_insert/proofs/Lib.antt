@@ -1,6 +1,5 @@
 mod PlaceLaws
 mod PlanLaws
-mod RootSteps
 mod Growing
 mod Paid
 mod Layouts
@@ -12,7 +11,6 @@ mod ReplacedRuns
 mod NodeStep
 mod PaidRows
 mod RootGrow
-mod Results
 mod Faults
 mod Counting
 pub mod RootEdit

@@ -1,33 +1,37 @@
 -- The step over a node at a place of a row.
 use Rattle.std.proofs.Common.{◌≡◌, ◌≢◌, ◌⊎◌, ℕ, zero, suc, ◌+◌, ◌-◌, ◌<◌, ◌≤◌, leb, Bool, List, [], ◌∷◌, ◌++◌, length, map, take, drop, get_or, refl, sym, ap, subst, ◌∙◌, arith, append_assoc, inl, inr}
 use Rattle.std.specs.List.{AllByRecursion, flat_map}
-use Rattle.std.proofs.lemmas.Bool.{leb-true, leb-false}
+use Rattle.std.proofs.lemmas.Bool.{leb-true, leb-false, cond_both}
 use Rattle.std.proofs.lemmas.List.{append-nil, length-append, length-drop, length-take-le, length-map}
 use Rattle.ex_base.specs.Edits.{inserted}
 use Rattle.ex_base.specs.Even.{sum_of}
 use Rattle.ex_base.specs.Ports.{Keeps}
 use Rattle.ex_base.specs.declared.geometry.Geometry.{Geometry}
 use Rattle.ex_base.specs.declared.ground.Ground as ground
-use Rattle.ex_base.proofs.Rows.{pick, sum_of-append, each-append, each-take, each-drop}
+use Rattle.ex_base.proofs.Rows.{sum_of-append, each-append, each-take, each-drop}
 use Rattle.count_nodes.specs.declared.Pair.{Pair}
 use Rattle.count_nodes.specs.Node.{RiseFrom, pairs_on, total_of}
 use Rattle.count_nodes.specs.Split.{nodes_over}
-use Rattle.tree_model.specs.Shape.{Subtree, total, change_at, change_last, insert_parts, append_parts}
-use Rattle.tree_model.specs.Trees.{Units, EachChild, for_each_child, IsNamed, HasSize, bytes_on, shape_on, units_on}
-use Rattle.tree_rows.specs.declared.rows.Part.{Part}
-use Rattle.tree_rows.specs.Rows.{row_size, row_bytes, row_shape, row_units, AreTrees, IsRowOn, parts_of}
-use Rattle.tree_rows.proofs.Reading.{row_trees, row_spells}
-use Rattle.tree_steps.specs.Made.{Extends, AreUsed, Holds, Has, IsTaken, Took, pages_of}
-use Rattle.tree_steps.specs.Built.{Built, AreSome, even_lens}
-use Rattle.tree_steps.proofs.Laid.{each_same, extends_on, extends_kept, row_length}
-use Rattle.tree_steps.proofs.Over.{bytes_app}
+use Rattle.trees.specs.Shape.{Subtree, total, change_at, change_last, insert_parts, append_parts}
+use Rattle.trees.specs.Trees.{Units, EachChild, for_each_child, IsNamed, HasSize, bytes_on, shape_on, units_on}
+use Rattle.trees.specs.declared.rows.Part.{Part}
+use Rattle.trees.specs.Rows.{row_size, row_bytes, row_shape, row_units, AreTrees, IsRowOn, parts_of}
+use Rattle.trees.proofs.Reading.{row_trees, row_spells, no_part}
+use Rattle.trees.specs.Made.{Extends, AreUsed, Holds, Has, IsTaken, Took, pages_of}
+use Rattle.trees.specs.Built.{Built, AreSome, even_lens}
+use Rattle.trees.proofs.Laid.{extends_on, extends_kept, row_length}
+use Rattle.trees.proofs.Over.{bytes_app}
 use Rattle.tree_insert.specs.declared.layout.Growth.{Growth}
 use Rattle.tree_insert.specs.declared.layout.Growth.TheVariants.{Insert, Append}
-use Rattle.tree_insert.specs.Grown.{Grew, HasGrown}
+use Rattle.trees.specs.Counted.{Counted, NamesPairs}
+use Rattle.trees.specs.Grown.{Grew}
+use Rattle.tree_insert.specs.Grown.{HasGrown}
 use Rattle.tree_insert.specs.Growth.{IsSpot, row_by, parts_by}
 use Rattle.tree_insert.specs.Places.{IsAt, size_at}
-use Rattle.tree_insert.proofs.PlaceLaws.{no_part, read_size, size-front, front_most}
-use Rattle.tree_insert.proofs.Growing.{shape_app, holds_split, grew_between, grew_nodes}
+use Rattle.trees.proofs.Sizes.{around_row, front_most}
+use Rattle.tree_insert.proofs.PlaceLaws.{read_size, size-front}
+use Rattle.trees.proofs.Growing.{shape_app, holds_split, holds_kept, grew_back, grew_between}
+use Rattle.tree_insert.proofs.Growing.{grew_nodes}
 use Rattle.tree_insert.proofs.LeafStep.{Grew-as, inserted_between}
 
 -- ---- the size of a shape
@@ -58,15 +62,11 @@ change_split : {A : Type 0} (size : A → ℕ) (change : A → ℕ → List A) (
     → change_at size change (xs ++ (tree ∷ rest)) pos ≡ xs ++ (change tree at ++ rest)
 change_split size change [] tree [] pos at sum fits first = ap (change tree) (let e : pos ≡ at = omega arith in e) ∙ sym (append-nil (change tree at))
 change_split size change [] tree (next ∷ rest) pos at sum fits first =
-    pick (λ ys. ys ≡ change tree at ++ (next ∷ rest)) (leb pos (size tree)) _ _ (λ e. ap (λ k. change tree k ++ (next ∷ rest)) (let e : pos ≡ at = omega arith in e)) (λ e. absurd (omega (arith, leb-false _ _ e)))
+    cond_both (leb pos (size tree)) _ _ (λ ys. ys ≡ change tree at ++ (next ∷ rest)) (λ e. ap (λ k. change tree k ++ (next ∷ rest)) (let e : pos ≡ at = omega arith in e)) (λ e. absurd (omega (arith, leb-false _ _ e)))
 change_split size change (x ∷ []) tree rest pos at sum fits first =
-    pick (λ ys. ys ≡ x ∷ (change tree at ++ rest)) (leb pos (size x)) _ _
-    (λ e. absurd (omega (arith, leb-true _ _ e, first (λ none. absurd (omega arith)))))
-    (λ e. ap (λ ys. x ∷ ys) (change_split size change [] tree rest (pos - size x) at (omega arith) fits (λ ne. absurd (ne refl))))
+    cond_both (leb pos (size x)) _ _ (λ ys. ys ≡ x ∷ (change tree at ++ rest)) (λ e. absurd (omega (arith, leb-true _ _ e, first (λ none. absurd (omega arith))))) (λ e. ap (λ ys. x ∷ ys) (change_split size change [] tree rest (pos - size x) at (omega arith) fits (λ ne. absurd (ne refl))))
 change_split size change (x ∷ y ∷ xs) tree rest pos at sum fits first =
-    pick (λ ys. ys ≡ x ∷ ((y ∷ xs) ++ (change tree at ++ rest))) (leb pos (size x)) _ _
-    (λ e. absurd (omega (arith, leb-true _ _ e, first (λ none. absurd (omega arith)))))
-    (λ e. ap (λ ys. x ∷ ys) (change_split size change (y ∷ xs) tree rest (pos - size x) at (omega arith) fits (λ ne. first (λ none. absurd (omega arith)))))
+    cond_both (leb pos (size x)) _ _ (λ ys. ys ≡ x ∷ ((y ∷ xs) ++ (change tree at ++ rest))) (λ e. absurd (omega (arith, leb-true _ _ e, first (λ none. absurd (omega arith))))) (λ e. ap (λ ys. x ∷ ys) (change_split size change (y ∷ xs) tree rest (pos - size x) at (omega arith) fits (λ ne. first (λ none. absurd (omega arith)))))
 
 last_split : {A : Type 0} (change : A → List A) (xs : List A) (tree : A) → change_last change (xs ++ (tree ∷ [])) ≡ xs ++ (change tree ++ [])
 last_split change [] tree = sym (append-nil (change tree))
@@ -114,27 +114,6 @@ units_below u l part below is =
 -- ---- one node
 
 module _ {S : Type 0} (g : ground.Ghosts S) where
-  pub holds_kept : (a b : S) (l : ℕ) (row : List Part) → Keeps g a b → Holds g a l row → Holds g b l row
-  holds_kept a b l row k h = record {
-    trees = subst (λ geo. AreTrees geo (g.unit b) l row) (sym (g.leads_geometry a b k.leads)) (subst (λ u. AreTrees (g.geometry a) u l row) (sym k.units) h.trees);
-    used = subst (λ u. AreUsed (g.used b) (row_units u l row)) (sym k.units) (subst (λ f. AreUsed f (row_units (g.unit a) l row)) (sym k.used) h.used);
-  }
-
-  pub grew_back : (a b d : S) (l : ℕ) (was now : List Part) (bytes : List ℕ) (shape : List (Subtree l)) → Keeps g a b → Grew g b d l was now bytes shape → Grew g a d l was now bytes shape
-  grew_back a b d l was now bytes shape k h = record {
-    trees = h.trees;
-    bytes_are = h.bytes_are;
-    shape_is = h.shape_is;
-    units = record {
-      own = subst (λ u. AllByRecursion (λ p. IsTaken g a d p ⊎ Has (row_units u l was) p) (row_units (g.unit d) l now)) k.units
-          (each_same _ _ (row_units (g.unit d) l now) (λ p x. elim x [
-            | inl t ↦ inl (sym (ap (λ (f : ℕ → Bool). f p) k.used) ∙ t.0, t.1)
-            | inr o ↦ inr o
-          ]) h.units.own);
-      all = λ p t. h.units.all p (ap (λ (f : ℕ → Bool). f p) k.used ∙ t.0, t.1);
-    };
-  }
-
   pub holds_below : (s : S) (l : ℕ) (part : Part) (below : List Part) → IsRowOn (g.geometry s) (g.unit s part.page.0) (suc l) part.size below → Holds g s (suc l) (part ∷ []) → Holds g s l below
   holds_below s l part below on h = record {
     trees = row_trees (g.geometry s) (g.unit s) l part.page.0 part.size below h.trees.0.0 h.trees.0.1 on.parts;
@@ -144,29 +123,24 @@ module _ {S : Type 0} (g : ground.Ghosts S) where
   -- the parts in the place of one tree, whose row grew
   pub node_grew : (a b c d : S) (growth : Growth) (fan full l : ℕ) (part : Part) (below grown made : List Part) (at : ℕ) (given : List ℕ) → Keeps g a b → fan ≡ (g.geometry a).fan → IsRowOn (g.geometry a) (g.unit a part.page.0) (suc l) part.size below → Holds g a (suc l) (part ∷ [])
       → Extends g b c → Extends g c d → (Holds g b l below → Grew g b c l below grown (inserted (row_bytes (g.unit b) l below) at given) (row_by growth fan full (length given) l (row_shape (g.unit b) l below) at))
-      → Took g c d (pages_of made) → (Holds g c l grown → Built g d l (even_lens (g.geometry c).fan (length grown)) grown made)
+      → Took g c d (pages_of made) → (Holds g c l grown → Built g d l (even_lens (g.geometry c).fan (length grown)) grown made) → (Holds g c l grown → NamesPairs g → Counted g c d)
       → Grew g a d (suc l) (part ∷ []) made (inserted (row_bytes (g.unit a) (suc l) (part ∷ [])) at given) (nodes_over fan (row_by growth fan full (length given) l (row_shape (g.unit a) l below) at))
-  node_grew a b c d growth fan full l part below grown made at given k fan_is on holds x y grow took build =
+  node_grew a b c d growth fan full l part below grown made at given k fan_is on holds x y grow took build counts =
       let held_a = holds_below a l part below on holds in
-      let held = holds_kept a b l below k held_a in
+      let held = holds_kept g a b l below k held_a in
       let grew = grow held in
       let units : row_units (g.unit b) (suc l) (part ∷ []) ≡ part.page.0 ∷ row_units (g.unit b) l below =
       subst (λ u. row_units u (suc l) (part ∷ []) ≡ part.page.0 ∷ row_units u l below) (sym k.units) (units_below (g.unit a) l part below on.parts) in
-      let over = grew_nodes g b c d l part below grown made (inserted (row_bytes (g.unit b) l below) at given) (row_by growth fan full (length given) l (row_shape (g.unit b) l below) at) x y held units grew took build in
+      let over = grew_nodes g b c d l part below grown made (inserted (row_bytes (g.unit b) l below) at given) (row_by growth fan full (length given) l (row_shape (g.unit b) l below) at) x y held units grew took build counts in
       let bytes : row_bytes (g.unit b) l below ≡ row_bytes (g.unit a) (suc l) (part ∷ []) =
       ap (λ u. row_bytes u l below) k.units ∙ row_spells (g.unit a) l part.page.0 part.size below on.parts ∙ sym (append-nil (bytes_on (g.unit a) (suc l) part.page.0 part.size)) in
       let fans : (g.geometry b).fan ≡ fan = ap (λ (geo : Geometry). geo.fan) (g.leads_geometry a b k.leads) ∙ sym fan_is in
       Grew-as g a d (suc l) (part ∷ []) made made _ _ _ _
-      (grew_back a b d (suc l) (part ∷ []) made (inserted (row_bytes (g.unit b) l below) at given) (nodes_over (g.geometry b).fan (row_by growth fan full (length given) l (row_shape (g.unit b) l below) at)) k over)
+      (grew_back g a b d (suc l) (part ∷ []) made (inserted (row_bytes (g.unit b) l below) at given) (nodes_over (g.geometry b).fan (row_by growth fan full (length given) l (row_shape (g.unit b) l below) at)) k over)
       refl (ap (λ xs. inserted xs at given) bytes)
       (ap (λ m. nodes_over m (row_by growth fan full (length given) l (row_shape (g.unit b) l below) at)) fans ∙ ap (λ u. nodes_over fan (row_by growth fan full (length given) l (row_shape u l below) at)) k.units)
 
 -- ---- a tree of a row
-
-pub around_row : (row : List Part) (i : ℕ) → i < length row → row ≡ take i row ++ ((get_or row i no_part ∷ []) ++ drop (i + 1) row)
-around_row [] i lt = absurd (omega arith)
-around_row (part ∷ row) zero lt = refl
-around_row (part ∷ row) (suc i) lt = ap (λ r. part ∷ r) (around_row row i (omega arith)) ∙ ap (λ k. part ∷ (take i row ++ ((get_or row i no_part ∷ []) ++ drop k (part ∷ row)))) (let e : suc (i + 1) ≡ suc i + 1 = omega arith in e)
 
 pub spot_below : (growth : Growth) (row : List Part) (pos index at : ℕ) → IsSpot growth pos (row_size row) → IsAt row pos index at → IsSpot growth at (size_at row index)
 spot_below Insert row pos index at spot h = h.fits
@@ -240,10 +214,11 @@ module _ {S : Type 0} (g : ground.Ghosts S) where
   pub tree_grew : (a b c d : S) (growth : Growth) (fan full level l : ℕ) (row : List Part) (pos index at : ℕ) (given : List ℕ) (below grown made items : List Part) → g.ready a → g.tells a → level ≡ l → level ≢ 0 → Keeps g a b → Extends g b c → Extends g c d → fan ≡ (g.geometry a).fan
       → IsRowOn (g.geometry a) (g.unit a (get_or row index no_part).page.0) level (get_or row index no_part).size below → Holds g a l row → AreSome row → IsSpot growth pos (row_size row) → IsAt row pos index at
       → ((m : ℕ) → level - 1 ≡ m → Holds g b m below → Grew g b c m below grown (inserted (row_bytes (g.unit b) m below) at given) (row_by growth fan full (length given) m (row_shape (g.unit b) m below) at))
-      → Took g c d (pages_of made) → ((m : ℕ) → level ≡ suc m → Holds g c m grown → Built g d m (even_lens (g.geometry c).fan (length grown)) grown made) → items ≡ (take index row ++ made) ++ drop (index + 1) row
+      → Took g c d (pages_of made) → ((m : ℕ) → level ≡ suc m → Holds g c m grown → Built g d m (even_lens (g.geometry c).fan (length grown)) grown made)
+      → ((m : ℕ) → level ≡ suc m → Holds g c m grown → NamesPairs g → Counted g c d) → items ≡ (take index row ++ made) ++ drop (index + 1) row
       → Grew g a d l row items (inserted (row_bytes (g.unit a) l row) pos given) (row_by growth fan full (length given) l (row_shape (g.unit a) l row) pos)
-  tree_grew a b c d growth fan full level zero row pos index at given below grown made items ready told same above k x y fan_is on holds somes spot h ih took build items_is = absurd (above same)
-  tree_grew a b c d growth fan full level (suc l) row pos index at given below grown made items ready told same above k x y fan_is on holds somes spot h ih took build items_is =
+  tree_grew a b c d growth fan full level zero row pos index at given below grown made items ready told same above k x y fan_is on holds somes spot h ih took build counts items_is = absurd (above same)
+  tree_grew a b c d growth fan full level (suc l) row pos index at given below grown made items ready told same above k x y fan_is on holds somes spot h ih took build counts items_is =
       let on_l : IsRowOn (g.geometry a) (g.unit a (get_or row index no_part).page.0) (suc l) (get_or row index no_part).size below = subst (λ m. IsRowOn (g.geometry a) (g.unit a (get_or row index no_part).page.0) m (get_or row index no_part).size below) same on in
       row_grew g a d growth fan full l row pos index at given below made items ready told (extends_on g a b d (extends_kept g a b k) (extends_on g b c d x y)) holds somes spot h on_l.parts
-      (λ held. node_grew g a b c d growth fan full l (get_or row index no_part) below grown made at given k fan_is on_l held x y (λ low. ih l (omega arith) low) took (λ low. build l same low)) items_is
+      (λ held. node_grew g a b c d growth fan full l (get_or row index no_part) below grown made at given k fan_is on_l held x y (λ low. ih l (omega arith) low) took (λ low. build l same low) (λ low. counts l same low)) items_is

@@ -1,6 +1,5 @@
 -- Sizes of buffers, and what is paid, at a later state.
-use Rattle.std.proofs.Common.{ℕ, ◌-◌, ◌≤◌, subst, arith}
-use Rattle.std.proofs.Math.Nat.{mul-le-mul}
+use Rattle.std.proofs.Common.{ℕ, ◌-◌, ◌≤◌, subst}
 use Rattle.ex_base.specs.declared.geometry.Geometry.{Geometry}
 use Rattle.ex_base.specs.declared.ground.Ground as ground
 use Rattle.ex_base.specs.declared.names.Area.{Area}
@@ -9,10 +8,6 @@ use Rattle.ex_base.specs.Ports.{Keeps}
 use Rattle.ex_base.specs.Sizes.{leaf_bytes}
 use Rattle.tree_insert.specs.Grown.{IsPaid}
 use Rattle.tree_insert.specs.Need.{need_leaves}
-
--- a page fits a leaf
-pub page_le : (geo : Geometry) → geo.page_size ≤ leaf_bytes geo
-page_le geo = omega (arith, mul-le-mul {n₁ = 1} {m₁ = geo.page_size} {n₂ = geo.seg_len} {m₂ = geo.page_size} (omega (arith, geo.some_length)) (omega arith))
 
 pub paid_at : {S : Type 0} (g : ground.Ghosts S) (a b c : S) (level n old new : ℕ) → Keeps g a b → IsPaid (g.geometry b).fan (need_leaves (leaf_bytes (g.geometry b)) n) (level - 1) (g.free b Page) (g.free c Page) old new
     → IsPaid (g.geometry a).fan (need_leaves (leaf_bytes (g.geometry a)) n) (level - 1) (g.free a Page) (g.free c Page) old new

@@ -1,13 +1,12 @@
 -- Sizes and places in a row of trees.
 use Rattle.std.proofs.Common.{◌≡◌, ◌≢◌, ℕ, zero, suc, ◌+◌, ◌-◌, ◌<◌, ◌≤◌, List, [], ◌∷◌, length, take, drop, get_or, Some, None, refl, sym, ap, ◌∙◌, arith, add-one}
 use Rattle.std.specs.Prelude.{unwrap_or}
-use Rattle.tree_rows.specs.declared.rows.Part.{Part}
-use Rattle.tree_rows.specs.Rows.{row_size}
-use Rattle.tree_steps.specs.Made.{sizes_of}
+use Rattle.trees.specs.declared.rows.Part.{Part}
+use Rattle.trees.specs.Rows.{row_size}
+use Rattle.trees.specs.Made.{sizes_of}
+use Rattle.trees.proofs.Reading.{no_part}
+use Rattle.trees.proofs.Sizes.{front_most}
 use Rattle.tree_insert.specs.Places.{IsAt, last_of, first_of, size_at}
-
-abbrev pub no_part : Part
-no_part = record { size = 0; page = record { 0 = 0 } }
 
 -- the size of the tree at an index, as the code reads it
 pub read_size : (row : List Part) (i : ℕ) → i < length row → (get_or row i no_part).size ≡ size_at row i
@@ -19,11 +18,6 @@ pub size-front : (row : List Part) (i : ℕ) → i < length row → row_size (ta
 size-front [] i lt = absurd (omega arith)
 size-front (part ∷ row) zero lt = omega arith
 size-front (part ∷ row) (suc i) lt = ap (λ k. row_size (take k (part ∷ row))) (add-one (suc i)) ∙ omega (arith, size-front row i (omega arith), ap (λ k. row_size (take k row)) (add-one i))
-
-pub front_most : (row : List Part) (i : ℕ) → row_size (take i row) ≤ row_size row
-front_most row zero = omega arith
-front_most [] (suc i) = omega arith
-front_most (part ∷ row) (suc i) = omega (arith, front_most row i)
 
 pub size_most : (row : List Part) (i : ℕ) → i < length row → size_at row i ≤ row_size row
 size_most row i lt = omega (arith, size-front row i lt, front_most row (i + 1))

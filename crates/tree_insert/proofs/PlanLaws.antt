@@ -1,7 +1,8 @@
 -- The lengths of a plan's leaves, one after the other.
-use Rattle.std.proofs.Common.{◌≡◌, ℕ, ◌+◌, ◌-◌, ◌*◌, ◌<◌, ◌≤◌, cond, Bool, true, false, List, [], ◌∷◌, ◌++◌, length, take, get_or, refl, sym, ap, ◌∙◌, arith, take_all}
+use Rattle.std.proofs.Common.{◌≡◌, ℕ, ◌+◌, ◌-◌, ◌*◌, ◌<◌, ◌≤◌, List, [], ◌∷◌, ◌++◌, length, take, get_or, sym, ap, ◌∙◌, arith, take_all}
 use Rattle.std.specs.Prelude.{replicate}
 use Rattle.std.proofs.lemmas.List.{length-append, length-replicate, take_more}
+use Rattle.std.proofs.lemmas.Bool.{cond_both}
 use Rattle.ex_base.specs.Even.{evenly, least_parts}
 use Rattle.ex_base.proofs.Spread.{least_parts_is, at_least_two, length-evenly}
 use Rattle.leaf_segments.specs.declared.Plan.{Plan}
@@ -14,15 +15,9 @@ length-filled full total some over =
     let two : 2 ≤ least_parts full total = at_least_two full total (least_parts full total) (least_parts_is full total (omega arith)) over in
     omega (arith, length-append (replicate (least_parts full total - 2) full) (evenly 2 (total - (least_parts full total - 2) * full)), length-replicate {A = ℕ} (least_parts full total - 2) full, length-evenly 2 (total - (least_parts full total - 2) * full) (omega arith))
 
-cond_cases : {A : Type 0} (P : A → Type 0) (b : Bool) (x y : A) → (b ≡ true → P x) → (b ≡ false → P y) → P (cond b x y)
-cond_cases P true x y f h = f refl
-cond_cases P false x y f h = h refl
-
 plan_count : (full : ℕ) (plan : Plan) → 1 ≤ full → IsPlan full plan → length (layout_of full plan).lengths ≡ plan.leaves
 plan_count full plan some h =
-    cond_cases (λ lengths. length lengths ≡ plan.leaves) plan.tail (filled full plan.total) (evenly plan.leaves plan.total)
-    (λ tail. length-filled full plan.total some (h.tail tail).0 ∙ sym (h.tail tail).1)
-    (λ even. length-evenly plan.leaves plan.total (omega (arith, h.some)))
+    cond_both plan.tail (filled full plan.total) (evenly plan.leaves plan.total) (λ lengths. length lengths ≡ plan.leaves) (λ tail. length-filled full plan.total some (h.tail tail).0 ∙ sym (h.tail tail).1) (λ even. length-evenly plan.leaves plan.total (omega (arith, h.some)))
 
 pub all_lengths : (full : ℕ) (plan : Plan) (i : ℕ) (xs : List ℕ) → 1 ≤ full → IsPlan full plan → plan.leaves ≤ i → xs ≡ take i (layout_of full plan).lengths → xs ≡ (layout_of full plan).lengths
 all_lengths full plan i xs some h end is = is ∙ take_all i (layout_of full plan).lengths (omega (arith, plan_count full plan some h))

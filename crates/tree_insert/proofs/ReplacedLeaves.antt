@@ -16,23 +16,28 @@ use Rattle.ex_base.specs.declared.geometry.Geometry.{Geometry}
 use Rattle.ex_base.specs.declared.ground.Ground as ground
 use Rattle.ex_base.proofs.Rows.{each-append}
 use Rattle.ex_base.proofs.Spread.{plain}
-use Rattle.tree_rows.specs.declared.rows.Part.{Part}
-use Rattle.tree_rows.specs.Damage.{IsSoundEnd, IsSoundWay}
-use Rattle.tree_rows.specs.Rows.{row_size, row_bytes, row_shape, AreHalfFull}
-use Rattle.tree_rows.proofs.Ways.{way_append, way_fewer, way_past}
-use Rattle.tree_model.specs.Trees.{Units}
-use Rattle.tree_steps.specs.Built.{AreSome}
-use Rattle.tree_steps.specs.Made.{Extends, Spent, Holds, IsTaken, Took, pages_of, sizes_of, changed}
-use Rattle.tree_steps.proofs.Kept.{row_extends, holds_on}
-use Rattle.tree_steps.proofs.Laid.{extends_refl, extends_on, spent_none, spent_on, leaves_kept, leaves_way, row_length, each_same, has_left, has_right}
-use Rattle.tree_steps.proofs.Over.{bytes_app}
-use Rattle.tree_insert.specs.Grown.{Grew}
+use Rattle.ex_base.proofs.Each.{each_as}
+use Rattle.ex_base.proofs.Geometries.{leaf_some}
+use Rattle.trees.specs.declared.rows.Part.{Part}
+use Rattle.trees.specs.Damage.{IsSoundEnd, IsSoundWay}
+use Rattle.trees.specs.Rows.{row_size, row_bytes, row_shape, AreHalfFull}
+use Rattle.trees.proofs.Ways.{way_append, way_fewer, way_past}
+use Rattle.trees.specs.Trees.{Units}
+use Rattle.trees.specs.Built.{AreSome}
+use Rattle.trees.specs.Made.{Extends, Spent, Holds, IsTaken, Took, pages_of, sizes_of, changed}
+use Rattle.trees.proofs.Kept.{row_extends, holds_on}
+use Rattle.trees.proofs.Laid.{extends_refl, extends_on, spent_none, spent_on, leaves_kept, leaves_way, row_length, has_left, has_right}
+use Rattle.trees.proofs.Over.{bytes_app}
+use Rattle.trees.specs.Counted.{Counted}
+use Rattle.trees.proofs.Counts.{counted_on, counted_same}
+use Rattle.trees.specs.Grown.{Grew}
 use Rattle.tree_insert.specs.Replaced.{IsTouched, AreLeaves, touched_leaves}
-use Rattle.tree_insert.proofs.Growing.{holds_split, grew_leaves}
-use Rattle.tree_insert.proofs.LeafStep.{leaf_some, front_le, sizes_sum, sizes_each, each_size}
-use Rattle.tree_insert.proofs.NodeStep.{around_row}
-use Rattle.tree_insert.proofs.PlaceLaws.{no_part, read_size, size-front, front_most}
-use Rattle.tree_insert.proofs.RootSteps.{taken_first, taken_second, taken_in}
+use Rattle.trees.proofs.Growing.{holds_split, grew_leaves}
+use Rattle.tree_insert.proofs.LeafStep.{front_le, sizes_sum, sizes_each, each_size}
+use Rattle.trees.proofs.Sizes.{around_row, front_most}
+use Rattle.trees.proofs.Reading.{no_part}
+use Rattle.tree_insert.proofs.PlaceLaws.{read_size, size-front}
+use Rattle.trees.proofs.RootSteps.{taken_first, taken_second, taken_in}
 
 -- ---- bytes that are written over others, one place at a time
 
@@ -151,7 +156,7 @@ leaf_end geo u leaf start pos n at done cut end h which some far front front_is 
 module _ {S : Type 0} (g : ground.Ghosts S) where
   pub took_on : (a b c : S) (xs ys : List ℕ) → Extends g a b → Extends g b c → Took g a b xs → Took g b c ys → Took g a c (xs ++ ys)
   took_on a b c xs ys x y first second = record {
-    each = each-append (IsTaken g a c) xs ys (each_same (IsTaken g a b) (IsTaken g a c) xs (λ p h. taken_first g a b c p y h) first.each) (each_same (IsTaken g b c) (IsTaken g a c) ys (λ p h. taken_second g a b c p x h) second.each);
+    each = each-append (IsTaken g a c) xs ys (each_as (IsTaken g a b) (IsTaken g a c) xs (λ p h. taken_first g a b c p y h) first.each) (each_as (IsTaken g b c) (IsTaken g a c) ys (λ p h. taken_second g a b c p x h) second.each);
     all = λ p h. elim (taken_in g a b c p h) [
       | inl t ↦ has_left xs ys p (first.all p t)
       | inr t ↦ has_right xs ys p (second.all p t)
@@ -165,6 +170,7 @@ module _ {S : Type 0} (g : ground.Ghosts S) where
     pub named : AllByRecursion (λ (part : Part). NamesLeaf (g.geometry old) part.page.0) made
     pub took : Took g old now (pages_of made)
     pub spent : Spent g old now i 0
+    pub counts : Counted g old now
     pub ends : g.tells old → (end : ℕ) → (end ≡ pos) ⊎ (end ≡ pos + length given) → IsSoundEnd (g.geometry old) (g.unit old) 0 0 (take i run) end
     pub bytes : g.tells old → Holds g old 0 run → row_bytes (g.unit now) 0 made ≡ take start (written (row_bytes (g.unit old) 0 run) pos given)
 
@@ -176,21 +182,23 @@ module _ {S : Type 0} (g : ground.Ghosts S) where
     named = tt;
     took = record { each = tt; all = λ p h. absurd (true≢false (sym h.1 ∙ h.0)) };
     spent = spent_none g a;
+    counts = counted_same g a;
     ends = λ told end which some. tt;
     bytes = λ told holds. refl;
   }
 
   pub replaced_more : (old now new : S) (run : List Part) (pos : ℕ) (given : List ℕ) (i start at done cut : ℕ) (made after fresh : List Part) → g.ready old → i < length run → IsTouched run pos (length given)
       → ReplacedSoFar old now run pos given i start made → IsPiece start (get_or run i no_part).size pos (length given) at done cut
-      → Extends g now new → Spent g now new 1 0 → sizes_of fresh ≡ (get_or run i no_part).size ∷ [] → AllByRecursion (λ (part : Part). NamesLeaf (g.geometry now) part.page.0) fresh → Took g now new (pages_of fresh)
+      → Extends g now new → Spent g now new 1 0 → sizes_of fresh ≡ (get_or run i no_part).size ∷ [] → AllByRecursion (λ (part : Part). NamesLeaf (g.geometry now) part.page.0) fresh → Took g now new (pages_of fresh) → Counted g now new
       → (g.tells now → Holds g now 0 (get_or run i no_part ∷ []) → row_bytes (g.unit new) 0 fresh ≡ changed (row_bytes (g.unit now) 0 (get_or run i no_part ∷ [])) at cut (take cut (drop done given)))
       → (g.tells now → (byte : ℕ) → byte < row_size (get_or run i no_part ∷ []) → (byte < at) ⊎ (at + cut ≤ byte) → IsSoundWay (g.geometry now) (g.unit now) (NamesLeaf (g.geometry now)) 0 0 (get_or run i no_part ∷ []) byte byte)
       → after ≡ made ++ fresh → ReplacedSoFar old new run pos given (i + 1) (start + (get_or run i no_part).size) after
-  replaced_more old now new run pos given i start at done cut made after fresh ready lt touched h piece y spent sizes named took bytes ways after_is =
+  replaced_more old now new run pos given i start at done cut made after fresh ready lt touched h piece y spent sizes named took counts bytes ways after_is =
       let part : Part = get_or run i no_part in
       let up : take (i + 1) run ≡ take i run ++ (get_or run i no_part ∷ []) = take_more run i no_part lt in
       record {
         extends = extends_on g old now new h.extends y;
+        counts = counted_on g old now new h.extends y h.counts counts;
         start_is = omega (arith, h.start_is, size-front run i lt, read_size run i lt);
         sizes = ap sizes_of after_is ∙ map-append (λ (q : Part). q.size) made fresh ∙ ap (λ xs. xs ++ sizes_of fresh) h.sizes ∙ ap (λ xs. sizes_of (take i run) ++ xs) sizes
             ∙ sym (ap sizes_of up ∙ map-append (λ (q : Part). q.size) (take i run) (get_or run i no_part ∷ []));
@@ -224,7 +232,7 @@ module _ {S : Type 0} (g : ground.Ghosts S) where
             let cut_len : cut ≡ length (take cut (drop done given)) = sym (length-take-le cut (drop done given) (omega (arith, length-drop done given, piece.cut_is, piece.done_is, piece.ends))) in
             let fresh_is : row_bytes (g.unit new) 0 fresh ≡ written (row_bytes (g.unit old) 0 (get_or run i no_part ∷ [])) at (take cut (drop done given)) =
             bytes told_now (holds_on g old now 0 (get_or run i no_part ∷ []) h.extends parts.0) ∙ ap (λ xs. changed xs at cut (take cut (drop done given))) same.bytes ∙ changed_written (row_bytes (g.unit old) 0 (get_or run i no_part ∷ [])) at cut (take cut (drop done given)) cut_len in
-            let made_same : row_bytes (g.unit new) 0 made ≡ row_bytes (g.unit now) 0 made = leaves_kept (g.unit now) (g.unit new) (g.used now) made y.units (each_same (IsTaken g old now) (λ p. g.used now p ≡ true) (pages_of made) (λ p t. t.1) h.took.each) in
+            let made_same : row_bytes (g.unit new) 0 made ≡ row_bytes (g.unit now) 0 made = leaves_kept (g.unit now) (g.unit new) (g.used now) made y.units (each_as (IsTaken g old now) (λ p. g.used now p ≡ true) (pages_of made) (λ p t. t.1) h.took.each) in
             ap (row_bytes (g.unit new) 0) after_is ∙ bytes_app (g.unit new) 0 made fresh ∙ ap (λ xs. xs ++ row_bytes (g.unit new) 0 fresh) (made_same ∙ h.bytes told holds) ∙ ap (λ xs. take start (written (row_bytes (g.unit old) 0 run) pos given) ++ xs) fresh_is
             ∙ ap (λ k. take k (written (row_bytes (g.unit old) 0 run) pos given) ++ written (row_bytes (g.unit old) 0 (get_or run i no_part ∷ [])) at (take cut (drop done given))) {x = start} {y = length (row_bytes (g.unit old) 0 (take i run))} (omega (arith, h.start_is))
             ∙ ap (λ b. take (length (row_bytes (g.unit old) 0 (take i run))) (written b pos given) ++ written (row_bytes (g.unit old) 0 (get_or run i no_part ∷ [])) at (take cut (drop done given))) run_is
@@ -242,7 +250,7 @@ module _ {S : Type 0} (g : ground.Ghosts S) where
       let all : take i run ≡ run = take_all i run (omega arith) in
       let len = row_length (g.geometry old) (g.unit old) 0 run (g.whole old ready told) holds.trees in
       let whole : length (written (row_bytes (g.unit old) 0 run) pos given) ≡ length (row_bytes (g.unit old) 0 run) = w-length (row_bytes (g.unit old) 0 run) pos given (omega (arith, touched.all)) in
-      grew_leaves g old now run made (sizes_of run) (written (row_bytes (g.unit old) 0 run) pos given) h.extends (h.sizes ∙ ap sizes_of all) (fit_sizes (g.geometry old) run some (leaves.fit refl)) h.named h.took
+      grew_leaves g old now run made (sizes_of run) (written (row_bytes (g.unit old) 0 run) pos given) h.extends (h.sizes ∙ ap sizes_of all) (fit_sizes (g.geometry old) run some (leaves.fit refl)) h.named h.took h.counts
       (h.bytes told holds ∙ take_all start (written (row_bytes (g.unit old) 0 run) pos given) (omega (arith, h.start_is, ap row_size all)))
 
 -- ---- the leaf at an index

@@ -16,28 +16,30 @@ use Rattle.ex_base.specs.declared.faults.PortFault.{PortFault}
 use Rattle.ex_base.specs.declared.names.Area.{Area}
 use Rattle.ex_base.specs.declared.names.Area.TheVariants.{Page}
 use Rattle.ex_base.proofs.Rows.{each-append, each-take, each-drop, sum_of-append, sum_of-take_drop}
-use Rattle.tree_model.specs.Shape.{Subtree, IsBalanced}
-use Rattle.tree_model.specs.Trees.{RootSpells, root_shape, root_units, bytes_on, shape_on, units_on}
-use Rattle.tree_rows.specs.declared.rows.Part.{Part}
-use Rattle.tree_rows.specs.Damage.{NamesNode, IsWalkFault}
-use Rattle.tree_rows.specs.Rows.{row_bytes, row_shape, row_size, row_units, AreHalfFull, IsRowOn}
-use Rattle.tree_rows.proofs.Blame.{walk_back, walk_part}
-use Rattle.tree_steps.specs.Built.{Built, AreSome}
-use Rattle.tree_steps.specs.Made.{Extends, AreUsed, Holds, Has, Took, pages_of}
-use Rattle.tree_steps.proofs.Kept.{row_extends}
-use Rattle.tree_steps.proofs.Laid.{each_same, row_length}
-use Rattle.tree_steps.proofs.Over.{all_has, bytes_app}
-use Rattle.tree_insert.specs.Grown.{Turned, Grew}
+use Rattle.ex_base.proofs.Each.{each_as}
+use Rattle.trees.specs.Shape.{Subtree, IsBalanced}
+use Rattle.trees.specs.Trees.{RootSpells, root_shape, root_units, bytes_on, shape_on, units_on}
+use Rattle.trees.specs.declared.rows.Part.{Part}
+use Rattle.trees.specs.Damage.{NamesNode, IsWalkFault}
+use Rattle.trees.specs.Rows.{row_bytes, row_shape, row_size, row_units, AreHalfFull, IsRowOn}
+use Rattle.trees.proofs.Blame.{walk_back, walk_part}
+use Rattle.trees.specs.Built.{Built, AreSome}
+use Rattle.trees.specs.Made.{Extends, AreUsed, Holds, Has, Took, pages_of}
+use Rattle.trees.proofs.Kept.{row_extends}
+use Rattle.trees.proofs.Laid.{row_length}
+use Rattle.trees.proofs.Over.{all_has, bytes_app}
+use Rattle.trees.specs.Counted.{Counted, NamesPairs}
+use Rattle.trees.specs.Grown.{Turned, Grew}
 use Rattle.tree_insert.specs.Replaced.{EachRow, IsTouched, IsSpan, IsReplaced, IsSpent, AreLeaves, touched_leaves}
-use Rattle.tree_insert.proofs.BelowRows.{Counted, On, halves_below, few_nodes, trees_below, bytes_below, shapes_below, has_below, walk_run}
-use Rattle.tree_insert.proofs.Growing.{shape_app, holds_split, widen, grew_between}
+use Rattle.tree_insert.proofs.BelowRows.{CountedRow, On, halves_below, few_nodes, trees_below, bytes_below, shapes_below, has_below, walk_run}
+use Rattle.trees.proofs.Growing.{shape_app, holds_split, widen, grew_between, holds_kept, grew_back}
 use Rattle.tree_insert.proofs.LeafStep.{Grew-as, cut_three, take_over, drop_over, take_in, drop_in}
-use Rattle.tree_insert.proofs.NodeStep.{holds_kept, grew_back}
 use Rattle.tree_insert.proofs.Paid.{level_up}
-use Rattle.tree_insert.proofs.PlaceLaws.{no_part, front_most}
+use Rattle.trees.proofs.Reading.{no_part}
+use Rattle.trees.proofs.Sizes.{front_most}
 use Rattle.tree_insert.proofs.Spans.{front_and_piece}
 use Rattle.tree_insert.proofs.RootEdit.{root_of, fan_height}
-use Rattle.tree_insert.proofs.RootSteps.{has_each, turned_on, turned_built, used_after}
+use Rattle.trees.proofs.RootSteps.{has_each, turned_on, turned_built, used_after}
 
 -- bytes that are written over others in between
 between_written : (front old back given whole : List ℕ) (pos at : ℕ) → whole ≡ front ++ (old ++ back) → length front + at ≡ pos → at + length given ≤ length old → front ++ (written old at given ++ back) ≡ written whole pos given
@@ -54,12 +56,12 @@ module _ {S : Type 0} (g : ground.Ghosts S) where
   -- new nodes over the children of a run
   grew_by : (b c d : S) (l : ℕ) (run below grown above : List Part) (lens bytes : List ℕ) (shape : List (Subtree l)) → Extends g b c → Extends g c d → Holds g b l below
       → ((p : ℕ) → Has (row_units (g.unit b) l below) p → Has (row_units (g.unit b) (suc l) run) p) → Grew g b c l below grown bytes shape → Took g c d (pages_of above) → (Holds g c l grown → Built g d l lens grown above)
-      → Grew g b d (suc l) run above bytes (cut_by lens shape)
-  grew_by b c d l run below grown above lens bytes shape x y holds into grew took build =
+      → (Holds g c l grown → NamesPairs g → Counted g c d) → Grew g b d (suc l) run above bytes (cut_by lens shape)
+  grew_by b c d l run below grown above lens bytes shape x y holds into grew took build counts =
       let held : Holds g c l grown = record { trees = grew.trees; used = used_after g b c (row_units (g.unit b) l below) (row_units (g.unit c) l grown) x holds.used grew.units } in
       let built = build held in
       let same = row_extends g c d l grown y held in
-      let turned = turned_on g b c d (row_units (g.unit b) l below) (row_units (g.unit c) l grown) (row_units (g.unit d) (suc l) above) x y grew.units (turned_built g c d l lens grown above took built (row_units (g.unit c) l grown) same.units)
+      let turned = turned_on g b c d (row_units (g.unit b) l below) (row_units (g.unit c) l grown) (row_units (g.unit d) (suc l) above) x y grew.units (turned_built g c d l lens grown above took built (counts held) (row_units (g.unit c) l grown) same.units)
       (λ p h. built.all p (inr (subst (λ us. Has us p) (sym same.units) h))) in
       record {
         trees = built.trees;
@@ -68,6 +70,7 @@ module _ {S : Type 0} (g : ground.Ghosts S) where
         units = record {
           own = widen g b d (row_units (g.unit b) l below) (row_units (g.unit b) (suc l) run) (row_units (g.unit d) (suc l) above) into turned.own;
           all = turned.all;
+          counts = turned.counts;
         };
       }
 
@@ -105,20 +108,21 @@ module _ {S : Type 0} (g : ground.Ghosts S) where
       → EachRow (λ part r. IsRowOn (g.geometry a) (g.unit a part.page.0) level part.size r) run lens below → Holds g a h run → IsSpan below pos (length given) first end at
       → ((m : ℕ) → level - 1 ≡ m → Holds g b m (take (end - first) (drop first below))
       → Grew g b c m (take (end - first) (drop first below)) made (written (row_bytes (g.unit b) m (take (end - first) (drop first below))) at given) (row_shape (g.unit b) m (take (end - first) (drop first below))))
-      → Took g c d (pages_of above) → ((m : ℕ) → level ≡ suc m → Holds g c m row → Built g d m lens row above) → row ≡ (take first below ++ made) ++ drop end below
+      → Took g c d (pages_of above) → ((m : ℕ) → level ≡ suc m → Holds g c m row → Built g d m lens row above)
+      → ((m : ℕ) → level ≡ suc m → Holds g c m row → NamesPairs g → Counted g c d) → row ≡ (take first below ++ made) ++ drop end below
       → Grew g a d h run above (written (row_bytes (g.unit a) h run) pos given) (row_shape (g.unit a) h run)
-  run_replaced a b c d level zero run below lens pos first end at given made row above ready told same up k x y each holds span ih took build row_is = absurd (up same)
-  run_replaced a b c d level (suc l) run below lens pos first end at given made row above ready told same up k x y each holds span ih took build row_is =
+  run_replaced a b c d level zero run below lens pos first end at given made row above ready told same up k x y each holds span ih took build counts row_is = absurd (up same)
+  run_replaced a b c d level (suc l) run below lens pos first end at given made row above ready told same up k x y each holds span ih took build counts row_is =
       let on : EachRow (On (g.geometry a) (g.unit a) l) run lens below = subst (λ j. EachRow (λ part r. IsRowOn (g.geometry a) (g.unit a part.page.0) j part.size r) run lens below) same each in
       let into = has_below (g.geometry a) (g.unit a) l run lens below on in
       let held_a : Holds g a l below = record {
         trees = trees_below (g.geometry a) (g.unit a) l run lens below on holds.trees;
-        used = each_same (λ p. Has (row_units (g.unit a) l below) p) (λ p. g.used a p ≡ true) (row_units (g.unit a) l below) (λ p h. has_each (λ q. g.used a q ≡ true) (row_units (g.unit a) (suc l) run) p holds.used (into p h)) (all_has (row_units (g.unit a) l below));
+        used = each_as (λ p. Has (row_units (g.unit a) l below) p) (λ p. g.used a p ≡ true) (row_units (g.unit a) l below) (λ p h. has_each (λ q. g.used a q ≡ true) (row_units (g.unit a) (suc l) run) p holds.used (into p h)) (all_has (row_units (g.unit a) l below));
       } in
       let held = holds_kept g a b l below k held_a in
       let grew = row_replaced b c l below pos first end at given made row (g.leads_ready a b k.leads ready) (g.leads_told a b k.leads told) x held span (ih l (omega arith)) row_is in
       let over = grew_by b c d l run below row above lens (written (row_bytes (g.unit b) l below) pos given) (row_shape (g.unit b) l below) x y held
-      (subst (λ u. (p : ℕ) → Has (row_units u l below) p → Has (row_units u (suc l) run) p) (sym k.units) into) grew took (build l same) in
+      (subst (λ u. (p : ℕ) → Has (row_units u l below) p → Has (row_units u (suc l) run) p) (sym k.units) into) grew took (build l same) (counts l same) in
       Grew-as g a d (suc l) run above above _ _ _ _
       (grew_back g a b d (suc l) run above (written (row_bytes (g.unit b) l below) pos given) (cut_by lens (row_shape (g.unit b) l below)) k over) refl
       (ap (λ xs. written xs pos given) (ap (λ u. row_bytes u l below) k.units ∙ bytes_below (g.geometry a) (g.unit a) l run lens below on))
@@ -226,9 +230,9 @@ touched_sum rows first end order = omega (arith, front_and_piece rows first end 
 pub touched_some : (rows : List Part) (first n : ℕ) → AreSome rows → AreSome (take n (drop first rows))
 touched_some rows first n somes = each-take _ n (drop first rows) (each-drop _ first rows somes)
 
-pub touched_leaves_fit : (geo : Geometry) (level least : ℕ) (run : List Part) (lens : List ℕ) (rows : List Part) (first n : ℕ) → level ≢ 0 → EachRow (Counted geo level least) run lens rows → AreLeaves geo (level - 1) (take n (drop first rows))
+pub touched_leaves_fit : (geo : Geometry) (level least : ℕ) (run : List Part) (lens : List ℕ) (rows : List Part) (first n : ℕ) → level ≢ 0 → EachRow (CountedRow geo level least) run lens rows → AreLeaves geo (level - 1) (take n (drop first rows))
 touched_leaves_fit geo level least run lens rows first n up h = record {
-  fit = λ lowest. each_same _ (λ (part : Part). part.size ≤ leaf_bytes geo) (take n (drop first rows)) (λ part x. x.1) (here lowest);
+  fit = λ lowest. each_as _ (λ (part : Part). part.size ≤ leaf_bytes geo) (take n (drop first rows)) (λ part x. x.1) (here lowest);
   halves = λ lowest two. here lowest;
 }
   where
@@ -243,14 +247,14 @@ spent_at g a b c level n count k h =
     subst (λ (f : Area → ℕ). IsSpent (g.geometry a).fan (touched_leaves (leaf_bytes (g.geometry a)) n) (level - 1) (f Page) (g.free c Page) count) k.free
     (subst (λ (geo : Geometry). IsSpent geo.fan (touched_leaves (leaf_bytes geo) n) (level - 1) (g.free b Page) (g.free c Page) count) (g.leads_geometry a b k.leads) h)
 
-pub few_up : (geo : Geometry) (level least : ℕ) (run : List Part) (lens : List ℕ) (rows : List Part) (pos n first end at : ℕ) → EachRow (Counted geo level least) run lens rows → IsTouched run pos n → IsSpan rows pos n first end at → (2 ≤ length run → geo.fan ≤ least)
+pub few_up : (geo : Geometry) (level least : ℕ) (run : List Part) (lens : List ℕ) (rows : List Part) (pos n first end at : ℕ) → EachRow (CountedRow geo level least) run lens rows → IsTouched run pos n → IsSpan rows pos n first end at → (2 ≤ length run → geo.fan ≤ least)
     → 2 ≤ length run → (geo.fan - 1 + 1) * (length run - 2) + 2 ≤ end - first
 few_up geo level least run lens rows pos n first end at h touched span wide two =
     subst (λ f. f * (length run - 2) + 2 ≤ end - first) {x = geo.fan} {y = geo.fan - 1 + 1} (omega (arith, geo.two)) (few_nodes geo level least geo.fan run lens rows pos n first end at h touched span (wide two) two)
 
 -- ---- faults
 
-pub walk_touched : {S : Type 0} (g : ground.Ghosts S) (a b : S) (level least : ℕ) (run : List Part) (lens : List ℕ) (rows : List Part) (first n : ℕ) (fault : PortFault) → level ≢ 0 → Keeps g a b → EachRow (Counted (g.geometry a) level least) run lens rows
+pub walk_touched : {S : Type 0} (g : ground.Ghosts S) (a b : S) (level least : ℕ) (run : List Part) (lens : List ℕ) (rows : List Part) (first n : ℕ) (fault : PortFault) → level ≢ 0 → Keeps g a b → EachRow (CountedRow (g.geometry a) level least) run lens rows
     → (g.tells a → EachRow (λ part r. IsRowOn (g.geometry a) (g.unit a part.page.0) level part.size r) run lens rows) → AllByRecursion (λ (part : Part). NamesNode (g.geometry a) part.page.0) run
     → (g.tells b → IsWalkFault (g.geometry b) (g.unit b) (level - 1) (g.geometry a).fan (take n (drop first rows)) fault) → g.tells a → IsWalkFault (g.geometry a) (g.unit a) level least run fault
 walk_touched g a b level least run lens rows first n fault up k counted found area later told =

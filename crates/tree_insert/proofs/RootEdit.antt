@@ -12,26 +12,27 @@ use Rattle.ex_base.specs.declared.names.PageNo.{PageNo}
 use Rattle.ex_base.specs.declared.ground.Ground as ground
 use Rattle.ex_base.specs.Sizes.{leaf_bytes}
 use Rattle.ex_base.proofs.Rows.{each-append}
+use Rattle.ex_base.proofs.Each.{each_as}
+use Rattle.ex_base.proofs.Geometries.{leaf_some}
 use Rattle.leaf_segments.specs.Layout.{first_lengths}
-use Rattle.tree_model.specs.Shape.{Subtree, Shape, one_tree, IsBalanced, ins_shape, app_shape}
-use Rattle.tree_model.specs.Trees.{Units, RootSpells, RootNamed, RootSized, root_shape, root_bytes, root_units, shape_on, units_on, bytes_on}
-use Rattle.tree_model.proofs.SameUnits.{bytes_same, shape_same, named_same, sized_same}
-use Rattle.tree_model.proofs.TreeLaws.{AreWhole, length-bytes_on}
-use Rattle.tree_model.proofs.Balance.{inserted as insert_balanced, appended as append_balanced}
-use Rattle.tree_rows.specs.declared.rows.Part.{Part}
-use Rattle.tree_rows.specs.Rows.{row_bytes, row_shape, row_units}
-use Rattle.tree_steps.specs.Made.{Extends, AreUsed, Has, Holds}
-use Rattle.tree_steps.proofs.Laid.{each_same}
-use Rattle.tree_steps.proofs.Over.{all_has}
+use Rattle.trees.specs.Shape.{Subtree, Shape, one_tree, IsBalanced, ins_shape, app_shape}
+use Rattle.trees.specs.Trees.{Units, RootSpells, RootNamed, RootSized, root_shape, root_bytes, root_units, shape_on, units_on, bytes_on}
+use Rattle.trees.proofs.SameUnits.{bytes_same, shape_same, named_same, sized_same}
+use Rattle.trees.proofs.TreeLaws.{AreWhole, length-bytes_on}
+use Rattle.trees.proofs.Balance.{inserted as insert_balanced, appended as append_balanced}
+use Rattle.trees.specs.declared.rows.Part.{Part}
+use Rattle.trees.specs.Rows.{row_bytes, row_shape, row_units}
+use Rattle.trees.specs.Made.{Extends, AreUsed, Has, Holds}
+use Rattle.trees.proofs.Over.{all_has}
 use Rattle.tree_insert.specs.declared.layout.Growth.{Growth}
 use Rattle.tree_insert.specs.declared.layout.Growth.TheVariants.{Insert, Append}
 use Rattle.tree_insert.specs.Edited.{shape_by, GrewRoot, IsEdited}
-use Rattle.tree_insert.specs.Grown.{Turned, Grew, IsRooted}
+use Rattle.trees.proofs.Counts.{counted_same}
+use Rattle.trees.specs.Grown.{Turned, Grew, IsRooted}
 use Rattle.tree_insert.specs.Growth.{IsSpot, parts_by}
 use Rattle.tree_insert.specs.Need.{need_leaves, need_pages, counted}
-use Rattle.tree_insert.specs.Roots.{IsRootFor}
-use Rattle.tree_insert.proofs.RootSteps.{turned_on, used_after}
-use Rattle.tree_insert.proofs.LeafStep.{leaf_some}
+use Rattle.trees.specs.Roots.{IsRootFor}
+use Rattle.trees.proofs.RootSteps.{turned_on, used_after}
 
 -- ---- shapes
 
@@ -183,8 +184,9 @@ nothing_changes growth fan full shape pos n none = subst (λ k. shape ≡ shape_
 
 pub nothing_turned : {S : Type 0} (g : ground.Ghosts S) (a : S) (units : List ℕ) → Turned g a a units units
 nothing_turned g a units = record {
-  own = each_same (λ p. Has units p) _ units (λ p h. inr h) (all_has units);
+  own = each_as (λ p. Has units p) _ units (λ p h. inr h) (all_has units);
   all = λ p t. absurd (true≢false (sym t.1 ∙ t.0));
+  counts = λ names. counted_same g a;
 }
 
 -- ---- bytes at the end
@@ -233,4 +235,4 @@ same_tree geo u v height size (Some page) bytes kept h = record {
 pub root_stays : {S : Type 0} (g : ground.Ghosts S) (a b : S) (root : Root) (bytes : List ℕ) → Extends g a b → AreUsed (g.used a) (root_units (g.unit a) root) → RootSpells (g.geometry a) (g.unit a) root bytes → RootSpells (g.geometry b) (g.unit b) root bytes
 root_stays g a b root bytes ext used h =
     subst (λ (geo : Geometry). RootSpells geo (g.unit b) root bytes) (sym (g.leads_geometry a b ext.leads))
-    (same_tree (g.geometry a) (g.unit a) (g.unit b) root.height root.size root.page bytes (each_same (λ p. g.used a p ≡ true) (λ p. g.unit b p ≡ g.unit a p) (root_units (g.unit a) root) (λ p is_used. ext.units p is_used) used) h)
+    (same_tree (g.geometry a) (g.unit a) (g.unit b) root.height root.size root.page bytes (each_as (λ p. g.used a p ≡ true) (λ p. g.unit b p ≡ g.unit a p) (root_units (g.unit a) root) (λ p is_used. ext.units p is_used) used) h)

@@ -1,7 +1,7 @@
 -- The first leaves, and the trees in the place of a root's.
 use Rattle.std.proofs.Common.{◌≡◌, ◌≢◌, ℕ, zero, suc, ◌+◌, ◌-◌, ◌/◌, ◌<◌, ◌≤◌, leb, cond, Bool, true, false, List, [], ◌∷◌, ◌++◌, length, None, refl, sym, ap, subst, ◌∙◌, arith}
 use Rattle.std.specs.List.{AllByRecursion}
-use Rattle.std.proofs.lemmas.Bool.{leb-true, leb-false}
+use Rattle.std.proofs.lemmas.Bool.{leb-true, leb-false, cond_both}
 use Rattle.std.proofs.lemmas.List.{append-nil}
 use Rattle.ex_base.specs.Edits.{inserted}
 use Rattle.ex_base.specs.Even.{sum_of}
@@ -9,24 +9,25 @@ use Rattle.ex_base.specs.declared.ground.Ground as ground
 use Rattle.ex_base.specs.Area.{NamesLeaf}
 use Rattle.ex_base.specs.Sizes.{leaf_bytes}
 use Rattle.ex_base.specs.Ports.{Keeps}
-use Rattle.ex_base.proofs.Rows.{pick}
 use Rattle.ex_base.proofs.Spread.{plain, Between}
 use Rattle.leaf_segments.specs.Layout.{Layout, append_layout, insert_layout, first_lengths, filled, placed, in_place}
 use Rattle.leaf_segments.proofs.Placed.{LeafRow, filled_row}
-use Rattle.tree_model.specs.Shape.{insert_parts, append_parts}
-use Rattle.tree_model.specs.Trees.{shape_on}
-use Rattle.tree_rows.specs.declared.rows.Part.{Part}
-use Rattle.tree_rows.specs.Rows.{row_size, row_bytes, row_shape, IsRowOn}
-use Rattle.tree_steps.specs.Made.{Extends, Holds, Took, pages_of, sizes_of, changed}
-use Rattle.tree_steps.specs.Built.{AreSome, Built, even_lens}
+use Rattle.trees.specs.Shape.{insert_parts, append_parts}
+use Rattle.trees.specs.Trees.{shape_on}
+use Rattle.trees.specs.declared.rows.Part.{Part}
+use Rattle.trees.specs.Rows.{row_size, row_bytes, row_shape, IsRowOn}
+use Rattle.trees.specs.Made.{Extends, Holds, Took, pages_of, sizes_of, changed}
+use Rattle.trees.specs.Built.{AreSome, Built, even_lens}
 use Rattle.count_nodes.specs.Split.{nodes_over}
 use Rattle.tree_insert.specs.declared.layout.Growth.{Growth}
 use Rattle.tree_insert.specs.declared.layout.Growth.TheVariants.{Insert, Append}
-use Rattle.tree_insert.specs.Grown.{Grew, HasGrown}
+use Rattle.trees.specs.Counted.{Counted, NamesPairs}
+use Rattle.trees.specs.Grown.{Grew}
+use Rattle.tree_insert.specs.Grown.{HasGrown}
 use Rattle.tree_insert.specs.Growth.{row_by, parts_by}
 use Rattle.tree_insert.proofs.PlanLaws.{length-filled}
 use Rattle.tree_insert.proofs.Layouts.{few_parts}
-use Rattle.tree_insert.proofs.Growing.{grew_leaves}
+use Rattle.trees.proofs.Growing.{grew_leaves}
 use Rattle.tree_insert.proofs.LeafStep.{Grew-as}
 use Rattle.tree_insert.proofs.NodeStep.{parts-node, shape_below, node_grew}
 
@@ -52,9 +53,7 @@ pub record AreFirst (full n page : ℕ) (lengths : List ℕ) : Type 0 where
 first_are : (full n page : ℕ) → 2 ≤ full → 1 ≤ n → page ≤ full → AreFirst full n page (first_lengths full n)
 unfolding first_lengths
 first_are full n page two some le =
-    pick (λ lengths. lengths ≡ first_lengths full n → AreFirst full n page lengths) (leb n full) (n ∷ []) (filled full n)
-    (λ e is. record { each = ((some, leb-true _ _ e), tt); sum = omega arith; some = omega arith; few = omega arith; are = is })
-    (λ e is.
+    cond_both (leb n full) (n ∷ []) (filled full n) (λ lengths. lengths ≡ first_lengths full n → AreFirst full n page lengths) (λ e is. record { each = ((some, leb-true _ _ e), tt); sum = omega arith; some = omega arith; few = omega arith; are = is }) (λ e is.
     let over : full < n = leb-false _ _ e in
     let row : LeafRow 1 full n 2 (filled full n) = filled_row 1 full n (record { some = omega arith; half = omega arith }) over in
     record { each = row.each; sum = row.sum; some = omega (arith, row.many); few = omega (arith, length-filled full n (omega arith) over, few_parts full n (n - page) (omega arith) (omega arith)); are = is }) refl
@@ -89,10 +88,10 @@ nothing_held : {S : Type 0} (g : ground.Ghosts S) (s : S) → Holds g s 0 []
 nothing_held g s = record { trees = tt; used = tt }
 
 pub first_grew : {S : Type 0} (g : ground.Ghosts S) (a b : S) (n page : ℕ) (given lengths : List ℕ) (made : List Part) → AreFirst (leaf_bytes (g.geometry a)) n page lengths → Extends g a b → sizes_of made ≡ lengths
-    → AllByRecursion (λ (part : Part). NamesLeaf (g.geometry a) part.page.0) made → Took g a b (pages_of made) → (Holds g a 0 [] → row_bytes (g.unit b) 0 made ≡ changed [] 0 0 given)
+    → AllByRecursion (λ (part : Part). NamesLeaf (g.geometry a) part.page.0) made → Took g a b (pages_of made) → Counted g a b → (Holds g a 0 [] → row_bytes (g.unit b) 0 made ≡ changed [] 0 0 given)
     → Grew g a b 0 [] made given (first_lengths (leaf_bytes (g.geometry a)) n)
-first_grew g a b n page given lengths made h ext is named took bytes =
-    subst (Grew g a b 0 [] made given) h.are (grew_leaves g a b [] made lengths given ext is h.each named took (bytes (nothing_held g a) ∙ append-nil given))
+first_grew g a b n page given lengths made h ext is named took counts bytes =
+    subst (Grew g a b 0 [] made given) h.are (grew_leaves g a b [] made lengths given ext is h.each named took counts (bytes (nothing_held g a) ∙ append-nil given))
 
 -- ---- a root that is a leaf
 
@@ -121,10 +120,11 @@ pub root_grew : {S : Type 0} (g : ground.Ghosts S) (a b c d : S) (growth : Growt
     → IsRowOn (g.geometry a) (g.unit a tree.page.0) height tree.size below
     → ((m : ℕ) → height - 1 ≡ m → Holds g b m below → Grew g b c m below grown (inserted (row_bytes (g.unit b) m below) pos given) (row_by growth fan full (length given) m (row_shape (g.unit b) m below) pos))
     → Took g c d (pages_of made) → ((m : ℕ) → height ≡ suc m → Holds g c m grown → Built g d m (even_lens (g.geometry c).fan (length grown)) grown made)
+    → ((m : ℕ) → height ≡ suc m → Holds g c m grown → NamesPairs g → Counted g c d)
     → Holds g a l (tree ∷ []) → Grew g a d l (tree ∷ []) made (inserted (row_bytes (g.unit a) l (tree ∷ [])) pos given) (parts_by growth fan full (length given) l (shape_on (g.unit a) l tree.page.0 tree.size) pos)
-root_grew g a b c d growth fan full height zero tree below grown made pos given same above k x y fan_is on ih took build holds = absurd (above same)
-root_grew g a b c d growth fan full height (suc l) tree below grown made pos given same above k x y fan_is on ih took build holds =
+root_grew g a b c d growth fan full height zero tree below grown made pos given same above k x y fan_is on ih took build counts holds = absurd (above same)
+root_grew g a b c d growth fan full height (suc l) tree below grown made pos given same above k x y fan_is on ih took build counts holds =
     let on_l : IsRowOn (g.geometry a) (g.unit a tree.page.0) (suc l) tree.size below = subst (λ m. IsRowOn (g.geometry a) (g.unit a tree.page.0) m tree.size below) same on in
     Grew-as g a d (suc l) (tree ∷ []) made made _ _ _ _
-    (node_grew g a b c d growth fan full l tree below grown made pos given k fan_is on_l holds x y (λ low. ih l (omega arith) low) took (λ low. build l same low)) refl refl
+    (node_grew g a b c d growth fan full l tree below grown made pos given k fan_is on_l holds x y (λ low. ih l (omega arith) low) took (λ low. build l same low) (λ low. counts l same low)) refl refl
     (ap (λ trees. nodes_over fan (row_by growth fan full (length given) l trees pos)) (sym (shape_below (g.unit a) l tree.page.0 tree.size below on_l.parts)) ∙ sym (parts-node growth fan full (length given) l (shape_on (g.unit a) (suc l) tree.page.0 tree.size) pos))

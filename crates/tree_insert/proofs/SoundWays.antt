@@ -6,18 +6,19 @@ use Rattle.ex_base.specs.Area.{NamesLeaf}
 use Rattle.ex_base.specs.declared.geometry.Geometry.{Geometry}
 use Rattle.ex_base.specs.declared.names.PageNo.{PageNo}
 use Rattle.ex_base.specs.declared.names.Root.{Root}
-use Rattle.tree_model.specs.Trees.{Units}
-use Rattle.tree_rows.specs.declared.rows.Part.{Part}
-use Rattle.tree_rows.specs.Damage.{NamesNode, IsSoundWay, IsSoundEnd, IsSoundRoot, root_row_at}
-use Rattle.tree_rows.specs.Rows.{row_size, IsRowOn}
-use Rattle.tree_rows.proofs.Ways.{way_append, way_back, way_front, way_index, way_inner, way_inside, way_move, way_past}
-use Rattle.tree_steps.specs.Built.{AreSome}
-use Rattle.tree_steps.proofs.Laid.{each_at}
+use Rattle.ex_base.proofs.Each.{each_at}
+use Rattle.trees.specs.Trees.{Units}
+use Rattle.trees.specs.declared.rows.Part.{Part}
+use Rattle.trees.specs.Damage.{NamesNode, IsSoundWay, IsSoundEnd, IsSoundRoot, root_row_at}
+use Rattle.trees.specs.Rows.{row_size, IsRowOn}
+use Rattle.trees.proofs.Ways.{way_append, way_back, way_front, way_index, way_inner, way_inside, way_move, way_past}
+use Rattle.trees.specs.Built.{AreSome}
 use Rattle.tree_insert.specs.Places.{IsAt}
 use Rattle.tree_insert.specs.Replaced.{EachRow, IsSpan}
-use Rattle.tree_insert.proofs.BelowRows.{Counted}
+use Rattle.tree_insert.proofs.BelowRows.{CountedRow}
 use Rattle.tree_insert.proofs.LeafStep.{cut_three, front_le}
-use Rattle.tree_insert.proofs.PlaceLaws.{no_part, read_size, size-front}
+use Rattle.trees.proofs.Reading.{no_part}
+use Rattle.tree_insert.proofs.PlaceLaws.{read_size, size-front}
 use Rattle.tree_insert.proofs.Spans.{front_and_piece}
 
 -- ---- a root
@@ -34,7 +35,7 @@ module _ (geo : Geometry) (u : Units) (leaf : ℕ → Type 0) where
   -- the tree that takes the bytes has the byte before the place, or begins the row
   pub place_way : (level least : ℕ) (row : List Part) (pos index at : ℕ) → AreSome row → IsAt row pos index at → IsSoundWay geo u leaf level least (get_or row index no_part ∷ []) (at - 1) (at - 1) → IsSoundWay geo u leaf level least row (pos - 1) (pos - 1)
   place_way level least row pos index at some h way =
-      let one : 1 ≤ (get_or row index no_part).size = each_at (λ (part : Part). 1 ≤ part.size) row index no_part some h.inside in
+      let one : 1 ≤ (get_or row index no_part).size = each_at (λ (part : Part). 1 ≤ part.size) row index no_part h.inside some in
       let size = read_size row index h.inside in
       let start : row_size (take index row) ≤ pos - 1 = starts row pos index at h in
       way_index geo u leaf level least row index (pos - 1) (pos - 1) h.inside (omega arith) start (omega (arith, h.start, h.fits))
@@ -48,7 +49,7 @@ module _ (geo : Geometry) (u : Units) (leaf : ℕ → Type 0) where
   pub leaves_way_at : (row old : List Part) (pos index at first end : ℕ) → AreSome row → IsAt row pos index at → first ≤ index → index < end → end ≤ length row → old ≡ take (end - first) (drop first row)
       → ((byte : ℕ) → byte < row_size old → IsSoundWay geo u leaf 0 0 old byte byte) → IsSoundWay geo u leaf 0 0 row (pos - 1) (pos - 1)
   leaves_way_at row old pos index at first end some h low high inside is ways =
-      let one : 1 ≤ (get_or row index no_part).size = each_at (λ (part : Part). 1 ≤ part.size) row index no_part some h.inside in
+      let one : 1 ≤ (get_or row index no_part).size = each_at (λ (part : Part). 1 ≤ part.size) row index no_part h.inside some in
       let size = read_size row index h.inside in
       let start : row_size (take first row) ≤ pos - 1 = omega (arith, starts row pos index at h, front_le row first index low) in
       let whole : row_size (take first row) + row_size old ≡ row_size (take end row) = ap (λ r. row_size (take first row) + row_size r) is ∙ front_and_piece row first end (omega arith) in
@@ -62,7 +63,7 @@ module _ (geo : Geometry) (u : Units) (leaf : ℕ → Type 0) where
       starts row pos (suc i) at h = omega (arith, h.start, h.first (λ e. omega arith))
 
   -- from the children of a run of nodes to the run
-  pub run_way : (level least : ℕ) (run : List Part) (lens : List ℕ) (row : List Part) (f t : ℕ) → level ≢ 0 → EachRow (Counted geo level least) run lens row → EachRow (λ part r. IsRowOn geo (u part.page.0) level part.size r) run lens row
+  pub run_way : (level least : ℕ) (run : List Part) (lens : List ℕ) (row : List Part) (f t : ℕ) → level ≢ 0 → EachRow (CountedRow geo level least) run lens row → EachRow (λ part r. IsRowOn geo (u part.page.0) level part.size r) run lens row
       → AllByRecursion (λ (part : Part). NamesNode geo part.page.0) run → IsSoundWay geo u leaf (level - 1) geo.fan row f t → IsSoundWay geo u leaf level least run f t
   run_way level least [] lens row f t up counted on area way = way_past geo u leaf level least [] f t (omega arith)
   run_way level least (part ∷ run) [] row f t up counted on area way = absurd counted

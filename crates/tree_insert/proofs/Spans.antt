@@ -4,8 +4,8 @@ use Rattle.std.proofs.lemmas.Bool.{cases_lt}
 use Rattle.std.proofs.lemmas.List.{length-take-le, length-drop, take-take}
 use Rattle.std.proofs.Math.Seq.{take-add}
 use Rattle.ex_base.proofs.Rows.{sum_of-append}
-use Rattle.tree_rows.specs.declared.rows.Part.{Part}
-use Rattle.tree_rows.specs.Rows.{row_size}
+use Rattle.trees.specs.declared.rows.Part.{Part}
+use Rattle.trees.specs.Rows.{row_size}
 use Rattle.tree_insert.specs.Places.{IsAt, size_at}
 use Rattle.tree_insert.specs.Replaced.{IsSpan}
 use Rattle.tree_insert.proofs.PlaceLaws.{size-front}

@@ -1,10 +1,10 @@
 -- What is known of nodes whose leaves were counted.
 use Rattle.std.specs.Prelude.{◌≡◌, ◌≤◌, ℕ, [], ◌∷◌, length, Option, Some}
 use Rattle.ex_base.specs.declared.geometry.Geometry.{Geometry}
-use Rattle.tree_model.specs.Shape.{joined}
-use Rattle.tree_model.specs.Trees.{Units, shape_on}
-use Rattle.tree_rows.specs.Damage.{AnyPage, IsSoundWay}
-use Rattle.tree_rows.specs.Rows.{AreTrees}
+use Rattle.trees.specs.Shape.{joined}
+use Rattle.trees.specs.Trees.{Units, shape_on}
+use Rattle.trees.specs.Damage.{AnyPage, IsSoundWay}
+use Rattle.trees.specs.Rows.{AreTrees}
 use Rattle.tree_insert.specs.declared.lengths.Counted.{Counted}
 
 -- no node has more leaves than bytes

@@ -4,12 +4,12 @@ use Rattle.ex_base.specs.declared.names.Root.{Root}
 use Rattle.ex_base.specs.declared.ground.Ground as ground
 use Rattle.ex_base.specs.Edits.{inserted}
 use Rattle.ex_base.specs.Sizes.{leaf_bytes}
-use Rattle.tree_model.specs.Shape.{Subtree, Shape, one_tree, ins_shape, app_shape}
-use Rattle.tree_model.specs.Trees.{RootSpells, root_shape, root_units}
-use Rattle.tree_rows.specs.declared.rows.Part.{Part}
-use Rattle.tree_rows.specs.Rows.{row_units}
-use Rattle.tree_steps.specs.Made.{Holds}
-use Rattle.tree_insert.specs.Grown.{Turned, Grew}
+use Rattle.trees.specs.Shape.{Subtree, Shape, one_tree, ins_shape, app_shape}
+use Rattle.trees.specs.Trees.{RootSpells, root_shape, root_units}
+use Rattle.trees.specs.declared.rows.Part.{Part}
+use Rattle.trees.specs.Rows.{row_units}
+use Rattle.trees.specs.Made.{Holds}
+use Rattle.trees.specs.Grown.{Turned, Grew}
 use Rattle.tree_insert.specs.declared.layout.Growth.{Growth}
 use Rattle.tree_insert.specs.declared.layout.Growth.TheVariants.{Insert, Append}
 

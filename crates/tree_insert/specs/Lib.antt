@@ -2,7 +2,6 @@ pub mod Places
 pub mod Growth
 pub mod Grown
 pub mod Need
-pub mod Roots
 pub mod Edited
 pub mod Replaced
 pub mod Counts

@@ -1,8 +1,8 @@
 -- Places in a row of trees.
 use Rattle.std.specs.Prelude.{◌≡◌, ◌≢◌, ℕ, ◌+◌, ◌<◌, ◌≤◌, Bool, true, false, List, [], ◌∷◌, length, take, slice_index, Option, Some, None}
-use Rattle.tree_rows.specs.declared.rows.Part.{Part}
-use Rattle.tree_rows.specs.Rows.{row_size}
-use Rattle.tree_steps.specs.Made.{sizes_of}
+use Rattle.trees.specs.declared.rows.Part.{Part}
+use Rattle.trees.specs.Rows.{row_size}
+use Rattle.trees.specs.Made.{sizes_of}
 
 -- the bytes of the tree at an index
 abbrev pub size_at : List Part → ℕ → ℕ

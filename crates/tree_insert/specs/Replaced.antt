@@ -5,10 +5,10 @@ use Rattle.ex_base.specs.declared.geometry.Geometry.{Geometry}
 use Rattle.ex_base.specs.declared.ground.Ground as ground
 use Rattle.ex_base.specs.declared.names.Root.{Root}
 use Rattle.ex_base.specs.Sizes.{leaf_bytes}
-use Rattle.tree_model.specs.Trees.{RootSpells, root_shape, root_units}
-use Rattle.tree_rows.specs.declared.rows.Part.{Part}
-use Rattle.tree_rows.specs.Rows.{row_size, FitLeaves, AreHalfFull}
-use Rattle.tree_insert.specs.Grown.{Turned}
+use Rattle.trees.specs.Trees.{RootSpells, root_shape, root_units}
+use Rattle.trees.specs.declared.rows.Part.{Part}
+use Rattle.trees.specs.Rows.{row_size, FitLeaves, AreHalfFull}
+use Rattle.trees.specs.Grown.{Turned}
 
 -- Each tree of a run holds one of the n bytes from a position on, and the run holds all of them.
 pub record IsTouched (run : List Part) (pos n : ℕ) : Type 0 where

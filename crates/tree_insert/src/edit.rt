@@ -6,27 +6,25 @@ ghost use Rattle.ex_base.specs.Ports.{HasCause, IsDamage};
 ghost use Rattle.ex_base.specs.Sizes.{leaf_bytes, object_most};
 ghost use Rattle.ex_base.specs.declared.names.Area.TheVariants.{Page, Segment};
 ghost use Rattle.leaf_segments.specs.Layout.{first_lengths};
-ghost use Rattle.tree_model.specs.Shape.{ins_shape, app_shape};
-ghost use Rattle.tree_model.specs.Trees.{RootSpells, root_shape, root_units, shape_on};
-ghost use Rattle.tree_rows.specs.Damage.{IsWalkFault, IsRootFault, IsWhole, IsSoundWay, IsSoundRoot};
-ghost use Rattle.tree_rows.specs.Rows.{row_size, row_bytes};
-ghost use Rattle.tree_steps.specs.Made.{Extends, Holds, AreUsed};
-ghost use Rattle.tree_steps.specs.Built.{AreSome};
+ghost use Rattle.trees.specs.Shape.{ins_shape, app_shape};
+ghost use Rattle.trees.specs.Trees.{RootSpells, root_shape, root_units, shape_on};
+ghost use Rattle.trees.specs.Damage.{IsWalkFault, IsRootFault, IsWhole, IsSoundWay, IsSoundRoot};
+ghost use Rattle.trees.specs.Rows.{row_size, row_bytes};
+ghost use Rattle.trees.specs.Made.{Extends, Holds, AreUsed};
+ghost use Rattle.trees.specs.Built.{AreSome};
 ghost use Rattle.tree_insert.specs.Edited.{GrewRoot, IsEdited};
-ghost use Rattle.tree_insert.specs.Grown.{Turned, Grew, HasGrown, IsPaid};
+ghost use Rattle.trees.specs.Grown.{Turned, Grew};
+ghost use Rattle.tree_insert.specs.Grown.{HasGrown, IsPaid};
 ghost use Rattle.tree_insert.specs.Growth.{IsSpot, parts_by};
 ghost use Rattle.tree_insert.specs.Need.{need_leaves, need_pages, counted};
-ghost use Rattle.tree_insert.specs.Roots.{IsRootFor};
+ghost use Rattle.trees.specs.Roots.{IsRootFor};
 
 use crate::grow::{grow_leaves, grow_row};
 use crate::layout::{Growth, lengths_of};
-use crate::root_read::ROOT_LEAST;
-use crate::root_step::rooted;
-use ex_base::{Blocks, PortFault, Root};
+use ex_base::{Blocks, PortFault, ROOT_LEAST, Root};
 use leaf_segments::plan_append;
 use std::alloc::Global;
-use tree_rows::{Part, row_of};
-use tree_steps::{Change, nodes_over, write_leaves};
+use trees::{Change, Part, nodes_over, rooted, row_of, write_leaves};
 
 /// The leaves of a tree's first bytes.
 fn first_leaves<B: Blocks>(

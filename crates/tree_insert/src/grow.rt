@@ -5,20 +5,20 @@ ghost use Rattle.ex_base.specs.Edits.{inserted};
 ghost use Rattle.ex_base.specs.Ports.{HasCause};
 ghost use Rattle.ex_base.specs.Sizes.{leaf_bytes};
 ghost use Rattle.ex_base.specs.declared.names.Area.TheVariants.{Page, Segment};
-ghost use Rattle.tree_model.specs.Trees.{shape_on};
-ghost use Rattle.tree_rows.specs.Damage.{IsWalkFault, IsSoundWay};
-ghost use Rattle.tree_rows.specs.Rows.{row_size, row_bytes, row_shape, FitLeaves};
-ghost use Rattle.tree_steps.specs.Made.{Extends, Holds};
-ghost use Rattle.tree_steps.specs.Built.{AreSome};
-ghost use Rattle.tree_insert.specs.Grown.{Grew, HasGrown, IsPaid};
+ghost use Rattle.trees.specs.Trees.{shape_on};
+ghost use Rattle.trees.specs.Damage.{IsWalkFault, IsSoundWay};
+ghost use Rattle.trees.specs.Rows.{row_size, row_bytes, row_shape, FitLeaves};
+ghost use Rattle.trees.specs.Made.{Extends, Holds};
+ghost use Rattle.trees.specs.Built.{AreSome};
+ghost use Rattle.trees.specs.Grown.{Grew};
+ghost use Rattle.tree_insert.specs.Grown.{HasGrown, IsPaid};
 ghost use Rattle.tree_insert.specs.Growth.{IsSpot, row_by, parts_by};
 ghost use Rattle.tree_insert.specs.Need.{need_leaves};
 
 use crate::layout::{Growth, lengths_of, plan_for, run_of, tree_at};
 use ex_base::{Blocks, PortFault};
 use std::alloc::Global;
-use tree_rows::{Part, piece, row_of, spliced};
-use tree_steps::{Change, nodes_over, write_leaves};
+use trees::{Change, Part, nodes_over, piece, row_of, spliced, write_leaves};
 
 /// New bytes at a position of a row of leaves.
 pub(crate) fn grow_leaves<B: Blocks>(

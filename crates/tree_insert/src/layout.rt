@@ -2,14 +2,14 @@
 ghost use Rattle.std.specs.Prelude.{◌≡◌, ◌≤◌, ◌<◌, ◌+◌, ◌^◌, length, take, drop, true, IfOk};
 ghost use Rattle.leaf_segments.specs.Layout.{layout_of};
 ghost use Rattle.leaf_segments.specs.Plans.{IsPlan};
-ghost use Rattle.tree_rows.specs.Rows.{row_size};
-ghost use Rattle.tree_steps.specs.Made.{sizes_of};
+ghost use Rattle.trees.specs.Rows.{row_size};
+ghost use Rattle.trees.specs.Made.{sizes_of};
 ghost use Rattle.tree_insert.specs.Places.{IsAt, last_of, first_of, size_at, flag};
 ghost use Rattle.tree_insert.specs.Growth.{layout_by};
 
 use leaf_segments::{Plan, plan_append, plan_insert};
 use std::alloc::{AllocError, Global};
-use tree_rows::{Part, put};
+use trees::{Part, put};
 
 /// How new bytes are laid out over leaves.
 #[derive(Clone, Copy, Debug, PartialEq, Eq)]

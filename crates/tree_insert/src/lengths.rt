@@ -2,18 +2,17 @@
 ghost use Rattle.std.specs.Prelude.{◌≡◌, ℕ, List, [], ◌∷◌, ◌++◌, ◌≤◌, ◌<◌, ◌^◌, length, take, drop, nat_eq, OnOk, IfOk, IfErr};
 ghost use Rattle.std.specs.HashMap.{get};
 ghost use Rattle.ex_base.specs.Ports.{Keeps, HasCause, IsDamage};
-ghost use Rattle.tree_model.specs.Shape.{joined, leaves_of};
-ghost use Rattle.tree_model.specs.Trees.{RootSpells, root_shape, shape_on};
-ghost use Rattle.tree_rows.specs.Damage.{IsWalkFault, IsRootFault, IsWhole, AnyPage, IsSoundWay, IsSoundRoot};
-ghost use Rattle.tree_rows.specs.Rows.{AreTrees};
+ghost use Rattle.trees.specs.Shape.{joined, leaves_of};
+ghost use Rattle.trees.specs.Trees.{RootSpells, root_shape, shape_on};
+ghost use Rattle.trees.specs.Damage.{IsWalkFault, IsRootFault, IsWhole, AnyPage, IsSoundWay, IsSoundRoot};
+ghost use Rattle.trees.specs.Rows.{AreTrees};
 ghost use Rattle.tree_insert.specs.Counts.{AreBounded, AreCounted, AreSound};
-ghost use Rattle.tree_insert.specs.Roots.{IsRootFor};
+ghost use Rattle.trees.specs.Roots.{IsRootFor};
 
-use crate::root_read::ROOT_LEAST;
-use ex_base::{Blocks, PortFault, Root};
+use ex_base::{PortFault, ROOT_LEAST, ReadBlocks, Root};
 use std::alloc::Global;
 use std::collections::HashMap;
-use tree_rows::{Part, put, row_of};
+use trees::{Part, put, row_of};
 
 /// The leaves of a node that was counted, as it was named then.
 #[derive(Clone, Copy)]
@@ -24,7 +23,7 @@ struct Counted {
 }
 
 /// The leaves of a tree, each as often as the tree names it. Nodes that were counted are looked up, so that a node that is named often is read once.
-fn count_leaves<B: Blocks>(
+fn count_leaves<B: ReadBlocks>(
     blocks: &mut B,
     alloc: Global,
     known: &mut HashMap<u32, Counted>,
@@ -73,7 +72,7 @@ fn count_leaves<B: Blocks>(
 }
 
 /// Puts the lengths of a tree's leaves behind others, until there are so many.
-fn first_lengths<B: Blocks>(
+fn first_lengths<B: ReadBlocks>(
     blocks: &mut B,
     alloc: Global,
     level: u8,
@@ -109,7 +108,7 @@ fn first_lengths<B: Blocks>(
 
 /// The number of leaves of a root's tree, each counted as often as the tree names it. The front of `first` is filled with the lengths of the first
 /// leaves in order, as many as there are or as it holds. A node is read once for each level, however often it is named.
-pub fn leaf_lengths<B: Blocks>(
+pub fn leaf_lengths<B: ReadBlocks>(
     blocks: &mut B,
     alloc: Global,
     root: &Root,

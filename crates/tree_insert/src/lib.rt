@@ -8,9 +8,8 @@ mod layout;
 mod lengths;
 mod overwrite;
 mod root_read;
-mod root_step;
 
 pub use edit::{append, insert};
 pub use lengths::leaf_lengths;
 pub use overwrite::replace;
-pub use root_read::{is_root_for, read};
+pub use root_read::read;

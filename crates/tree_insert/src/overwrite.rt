@@ -5,21 +5,19 @@ ghost use Rattle.ex_base.specs.Edits.{replaced};
 ghost use Rattle.ex_base.specs.Ports.{Keeps, HasCause, IsDamage};
 ghost use Rattle.ex_base.specs.Sizes.{leaf_bytes};
 ghost use Rattle.ex_base.specs.declared.names.Area.TheVariants.{Page, Segment};
-ghost use Rattle.tree_model.specs.Trees.{RootSpells, root_shape, root_units};
-ghost use Rattle.tree_rows.specs.Damage.{NamesNode, IsWalkFault, IsRootFault, IsWhole, AnyPage, IsSoundWay, IsSoundEnd, IsSoundRoot, root_row};
-ghost use Rattle.tree_rows.specs.Rows.{row_size, row_bytes, row_shape, IsCounted, IsRowOn};
-ghost use Rattle.tree_steps.specs.Built.{AreSome};
-ghost use Rattle.tree_steps.specs.Made.{Extends, Holds, AreUsed};
-ghost use Rattle.tree_insert.specs.Grown.{Turned, Grew};
+ghost use Rattle.trees.specs.Trees.{RootSpells, root_shape, root_units};
+ghost use Rattle.trees.specs.Damage.{NamesNode, IsWalkFault, IsRootFault, IsWhole, AnyPage, IsSoundWay, IsSoundEnd, IsSoundRoot, root_row};
+ghost use Rattle.trees.specs.Rows.{row_size, row_bytes, row_shape, IsCounted, IsRowOn};
+ghost use Rattle.trees.specs.Built.{AreSome};
+ghost use Rattle.trees.specs.Made.{Extends, Holds, AreUsed};
+ghost use Rattle.trees.specs.Grown.{Turned, Grew};
 ghost use Rattle.tree_insert.specs.Replaced.{IsTouched, IsSpan, AreLeaves, EachRow, IsSpent, touched_leaves, touched_pages};
-ghost use Rattle.tree_insert.specs.Roots.{IsRootFor};
+ghost use Rattle.trees.specs.Roots.{IsRootFor};
 
 use crate::layout::tree_at;
-use crate::root_read::ROOT_LEAST;
-use ex_base::{Blocks, PortFault, Root};
+use ex_base::{Blocks, PortFault, ROOT_LEAST, ReadBlocks, Root};
 use std::alloc::Global;
-use tree_rows::{Part, piece, put, row_of, spliced};
-use tree_steps::{Change, nodes_by, write_leaves};
+use trees::{Change, Part, nodes_by, piece, put, row_of, spliced, write_leaves};
 
 /// The children of a run of nodes, from left to right, and how many each node has.
 #[derive(Drop)]
@@ -53,7 +51,7 @@ fn span_of(row: &[Part], pos: u64, n: u64) -> Span
 }
 
 /// The children of a run of nodes of a level.
-fn row_below<B: Blocks>(
+fn row_below<B: ReadBlocks>(
     blocks: &mut B,
     alloc: Global,
     level: u8,

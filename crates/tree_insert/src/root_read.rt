@@ -3,38 +3,16 @@ ghost use Rattle.ex_base.specs.Area.{NamesLeaf};
 ghost use Rattle.std.specs.Prelude.{◌≡◌, ◌↔◌, ℕ, List, ◌≤◌, ◌+◌, length, IsTrue, OnOk, IfErr, ◌<◌};
 ghost use Rattle.ex_base.specs.Bytes.{bytes_at};
 ghost use Rattle.ex_base.specs.Ports.{Keeps, HasCause, IsDamage};
-ghost use Rattle.tree_model.specs.Trees.{RootSpells};
-ghost use Rattle.tree_rows.specs.Damage.{IsRootFault, IsWhole, IsSoundRoot};
-ghost use Rattle.tree_insert.specs.Roots.{IsRootFor};
+ghost use Rattle.trees.specs.Trees.{RootSpells};
+ghost use Rattle.trees.specs.Damage.{IsRootFault, IsWhole, IsSoundRoot};
+ghost use Rattle.trees.specs.Roots.{IsRootFor};
 
-use ex_base::{Blocks, Geometry, PortFault, Root};
+use ex_base::{PortFault, ROOT_LEAST, ReadBlocks, Root};
 use std::alloc::Global;
-use tree_rows::{Part, read_row};
-
-/// The least number of children of a root that is a node.
-pub(crate) const ROOT_LEAST: u32 = 2;
-
-/// The largest size of an object: the largest number of four bytes.
-const SIZE_MOST: u64 = u32::MAX as u64;
-
-/// The largest height of a tree.
-const HEIGHT_MOST: u8 = 64;
-
-/// Whether a root is one that the calls on trees take: of size 0 with no page and height 0, or with a page and numbers in their limits.
-pub fn is_root_for(geometry: &Geometry, root: &Root) -> bool
-    ensures { IsTrue result ↔ IsRootFor geometry.now root.now }
-{
-    if root.page.is_none() {
-        return root.size == 0 && root.height == 0;
-    }
-    if root.size == 0 || root.size > SIZE_MOST || root.height > HEIGHT_MOST {
-        return false;
-    }
-    root.height != 0 || root.size <= geometry.leaf_bytes() as u64
-}
+use trees::{Part, read_row};
 
 /// Reads the bytes that a root spells from a position on, as many as `out` holds.
-pub fn read<B: Blocks>(
+pub fn read<B: ReadBlocks>(
     blocks: &mut B,
     alloc: Global,
     root: &Root,

@@ -1,19 +1,18 @@
 -- Groups that forgot the pages of a unit still lend the other pages after the unit was written.
-use Rattle.std.proofs.Common.{◌≡◌, ◌≤◌, ◌<◌, ◌+◌, ◌*◌, ℕ, zero, suc, Bool, true, false, cond, not, List, [], ◌∷◌, length, All, Option, Some, is_some, nat_eq, refl, sym, ap, subst, ◌∙◌, arith, inl, inr, ⊎_elim, ◌⊎◌, eq-eqb}
+use Rattle.std.proofs.Common.{◌≡◌, ◌≤◌, ◌<◌, ◌+◌, ◌*◌, ℕ, zero, suc, true, false, cond, not, List, [], ◌∷◌, length, All, Option, Some, is_some, nat_eq, refl, sym, ap, subst, ◌∙◌, arith, inl, inr, ⊎_elim, ◌⊎◌, eq-eqb}
 use Rattle.std.proofs.Math.Nat.{mul-le-mul_right, suc-mul, add-mul}
-use Rattle.std.proofs.lemmas.Bool.{cases_lt}
+use Rattle.std.proofs.lemmas.Bool.{cases_lt, both_ways}
 use Rattle.std.proofs.lemmas.List.Elements.{All-nil, All-cons, All-head, All-tail, All-map, All-set, All-weaker, All-filter}
+use Rattle.std.proofs.lemmas.Option.{same_Some}
 use Rattle.ex_base.specs.Bytes.{Apart}
 use Rattle.disk_model.specs.Outside.{Outside, Goes}
 use Rattle.disk_model.specs.Calls.{Tears}
-use Rattle.disk_model.specs.Runs.{told_value, some_same}
+use Rattle.disk_model.specs.Runs.{told_value}
 use Rattle.std.specs.Map.{lookup}
-use Rattle.buffer_groups.specs.Frames.{Frames, Lends, without, with_room, forgotten, page_of}
-use Rattle.buffer_groups.proofs.FrameLists.{length-mapped}
+use Rattle.buffer_groups.specs.Frames.{Frames, Lends, without, with_room, forgotten, page_of, Brought, NotBrought}
+use Rattle.buffer_groups.proofs.FrameLists.{length-mapped, All-with_room}
 use Rattle.buffer_groups.proofs.Kept.{part_apart, sizes_forgotten}
 use Rattle.buffer_groups.specs.Groups.{GroupBrought, GroupNotBrought}
-use Rattle.buffer_groups.specs.Frames.{Brought, NotBrought}
-use Rattle.buffer_groups.proofs.FrameLists.{All-with_room}
 use Rattle.buffer_groups.proofs.GroupLists.{at_index}
 use Rattle.ex_base.specs.Area.{catalog_no}
 use Rattle.tree_store.specs.Stored.{AreFromCatalog, unit_forgotten}
@@ -75,7 +74,7 @@ unit_forgotten_lends disk p (suc n) gs all =
 pub record IsNone (p n q : ℕ) : Type 0 where
   pub apart : (q < p) ⊎ (p + n ≤ q)
 
-abbrev AreNone : ℕ → ℕ → Frames → Type 0
+abbrev pub AreNone : ℕ → ℕ → Frames → Type 0
 AreNone p n f = All (λ (e : ℕ × List ℕ). IsNone p n e.0) f.entries
 
 none_at : (p q : ℕ) → IsNone p 0 q
@@ -99,17 +98,14 @@ none_more p n (e ∷ es) all =
     (elim (nat_eq (p + n) e.0) as (λ t. nat_eq (p + n) e.0 ≡ t → All (λ (f : ℕ × List ℕ). IsNone p (suc n) f.0) (cond (not t) (e ∷ without (p + n) es) (without (p + n) es))) [
       | true ↦ λ t. rest
       | false ↦ λ t. All-cons (λ (f : ℕ × List ℕ). IsNone p (suc n) f.0) e (without (p + n) es)
-          (none_on p n e.0 first (λ same. let h = eq-eqb (p + n) e.0 (sym same) in true_false h t)) rest
+          (none_on p n e.0 first (λ same. let h = eq-eqb (p + n) e.0 (sym same) in both_ways _ t h)) rest
     ]) refl
-  where
-    true_false : {x : Bool} → x ≡ true → x ≡ false → ⊥
-    true_false h t = cc
 
 all_start : (p : ℕ) (gs : List Frames) → All (AreNone p 0) gs
 all_start p [] = All-nil (AreNone p 0)
 all_start p (f ∷ gs) = All-cons (AreNone p 0) f gs (none_start p f.entries) (all_start p gs)
 
-unit_forgotten_none : (p n : ℕ) (gs : List Frames) → All (AreNone p n) (unit_forgotten p n gs)
+pub unit_forgotten_none : (p n : ℕ) (gs : List Frames) → All (AreNone p n) (unit_forgotten p n gs)
 unit_forgotten_none p zero gs = all_start p gs
 unit_forgotten_none p (suc n) gs =
     All-map (AreNone p (suc n)) (forgotten (p + n)) (unit_forgotten p n gs)
@@ -127,7 +123,7 @@ module _ (a b : Outside) (size p pages n : ℕ) (goes : Goes a b) (tears : Tears
   other_page : (d held : List ℕ) → a.disk ≡ Some d → b.disk ≡ Some held → (q : ℕ) → IsNone p pages q → page_of held size q ≡ page_of d size q
   other_page d held was is q none =
       let torn = tears.disk d was in
-      let same : torn.0 ≡ held = some_same torn.0 held (sym torn.1 ∙ is) in
+      let same : torn.0 ≡ held = same_Some torn.0 held (sym torn.1 ∙ is) in
       ap (λ l. page_of l size q) (sym same) ∙ part_apart (p * size) n d torn.0 (q * size) size torn.2 (away q none)
 
   other_frames : (d held : List ℕ) → a.disk ≡ Some d → b.disk ≡ Some held → (es : List (ℕ × List ℕ)) → All (λ e. e.1 ≡ page_of d size e.0) es → All (λ (e : ℕ × List ℕ). IsNone p pages e.0) es

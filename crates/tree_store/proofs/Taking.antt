@@ -1,5 +1,6 @@
 -- What a store is after a unit was taken and written, or given back.
 use Rattle.std.proofs.Common.{◌≡◌, ◌≢◌, ◌≤◌, ◌+◌, ◌*◌, ℕ, Bool, true, false, cond, List, length, take, All, Option, Some, None, IsSome, IsTrue, is_some, nat_eq, refl, sym, ap, subst, ◌∙◌, arith, inl, eqb-true, eq-eqb, ⊎_elim}
+use Rattle.std.proofs.lemmas.Bool.{both_ways}
 use Rattle.std.specs.Prelude.{eqb}
 use mathlib.Core.Path.{fun_ext}
 use Rattle.std.specs.Borrow.{MutBor}
@@ -8,6 +9,7 @@ use Rattle.ex_base.specs.declared.names.Area.{Area}
 use Rattle.ex_base.specs.Area.{IsUnit, InArea, catalog_no}
 use Rattle.ex_base.specs.Bytes.{Apart, part, repl, part-repl, repl_same_outside}
 use Rattle.ex_base.specs.Ports.{IsLowest, refs_most}
+use Rattle.ex_base.proofs.Options.{none_from_test}
 use Rattle.disk_model.specs.Outside.{Outside, Goes, IsWorld}
 use Rattle.disk_model.specs.Calls.{Wrote}
 use Rattle.disk_model.specs.Changes.{ChangesWithin, InRange, changes_refl, changes_wider}
@@ -17,9 +19,6 @@ use Rattle.buffer_groups.proofs.Kept.{part_apart}
 use Rattle.page_alloc.specs.UnitSet.{UnitSet, used_at, refs_at, updated, free_count}
 use Rattle.tree_store.specs.Stored.{AreFromCatalog, Fits, Tells, Frees, InRest, IsCounted, NoUnit, unit_bytes, unit_len}
 use Rattle.tree_store.proofs.Places.{lowest_area, part_of_part, units_apart}
-
-true_false : {x : Bool} → x ≡ true → x ≡ false → ⊥
-true_false h t = cc
 
 pub updated_here : {A : Type 0} (f : ℕ → A) (p : ℕ) (v : A) → updated f p v p ≡ v
 updated_here f p v = rw (eq-eqb p p refl) refl
@@ -38,7 +37,7 @@ updated_same f p v is = fun_ext (λ q. (elim (nat_eq q p) as (λ b. nat_eq q p �
 ]) refl)
 
 pub differ_used : (used : ℕ → Bool) (p q : ℕ) → used p ≡ false → used q ≡ true → q ≢ p
-differ_used used p q free is same = true_false (ap used (sym same) ∙ is) free
+differ_used used p q free is same = both_ways _ free (ap used (sym same) ∙ is)
 
 -- a used unit stays used when a free one is taken
 grows : (old new : ℕ → Bool) (p : ℕ) → new ≡ updated old p true → old p ≡ false → (q : ℕ) → old q ≡ true → new q ≡ true
@@ -61,7 +60,11 @@ taken_counted g u v p counted unit geometry used refs = record {
   geometry = geometry ∙ counted.geometry;
   named = λ q is. (elim (nat_eq q p) as (λ b. nat_eq q p ≡ b → IsUnit g q) [
     | true ↦ λ t. subst (IsUnit g) (sym (eqb-true q p t)) unit
-    | false ↦ λ t. counted.named q (sym (ap (λ (f : ℕ → Bool). f q) used ∙ updated_other (used_at u) p true q (λ same. true_false (eq-eqb q p same) t)) ∙ is)
+    | false ↦ λ t. counted.named q (sym (ap (λ (f : ℕ → Bool). f q) used ∙ updated_other (used_at u) p true q (λ same. both_ways _ t (eq-eqb q p same))) ∙ is)
+  ]) refl;
+  owned = λ q some. (elim (nat_eq q p) as (λ b. nat_eq q p ≡ b → used_at v q ≡ true) [
+    | true ↦ λ t. ap (λ (f : ℕ → Bool). f q) used ∙ ap (updated (used_at u) p true) (eqb-true q p t) ∙ updated_here (used_at u) p true
+    | false ↦ λ t. ap (λ (f : ℕ → Bool). f q) used ∙ updated_other (used_at u) p true q (λ same. both_ways _ t (eq-eqb q p same)) ∙ counted.owned q (subst (λ (f : ℕ → ℕ). 1 ≤ f q) refs some)
   ]) refl;
   few = λ q. subst (λ (f : ℕ → ℕ). f q ≤ refs_most) (sym refs) (counted.few q);
 }
@@ -71,6 +74,7 @@ pub fresh_counted : (g : Geometry) (u : UnitSet) → u.geometry ≡ g → used_a
 fresh_counted g u geometry used refs = record {
   geometry = geometry;
   named = λ p is. let same : p ≡ 257 = eqb-true p 257 (ap (λ (f : ℕ → Bool). f p) (sym used) ∙ is) in inl (omega (arith, same), omega (arith, same, g.some_pages));
+  owned = λ p some. let none : refs_at u p ≡ 0 = ap (λ (f : ℕ → ℕ). f p) refs in absurd (omega (arith, none, some));
   few = λ p. let none : refs_at u p ≡ 0 = ap (λ (f : ℕ → ℕ). f p) refs in omega (arith, none);
 }
 
@@ -136,22 +140,30 @@ counts_frees outside freed d u v f i g units used counted = record {
   told = λ told. told;
 }
 
-pub recounted : (g : Geometry) (u v : UnitSet) (p n : ℕ) → v.geometry ≡ u.geometry → used_at v ≡ used_at u → refs_at v ≡ updated (refs_at u) p n → n ≤ refs_most → IsCounted g u → IsCounted g v
-recounted g u v p n geometry used refs few counted = record {
+pub recounted : (g : Geometry) (u v : UnitSet) (p n : ℕ) → v.geometry ≡ u.geometry → used_at v ≡ used_at u → refs_at v ≡ updated (refs_at u) p n → n ≤ refs_most → (1 ≤ n → used_at u p ≡ true) → IsCounted g u → IsCounted g v
+recounted g u v p n geometry used refs few owned counted = record {
   geometry = geometry ∙ counted.geometry;
   named = λ q is. counted.named q (ap (λ (f : ℕ → Bool). f q) (sym used) ∙ is);
+  owned = λ q some. ap (λ (f : ℕ → Bool). f q) used ∙ (elim (nat_eq q p) as (λ b. nat_eq q p ≡ b → used_at u q ≡ true) [
+    | true ↦ λ t. subst (λ k. used_at u k ≡ true) (sym (eqb-true q p t)) (owned (subst (λ m. 1 ≤ m) (ap (λ (f : ℕ → ℕ). f q) refs ∙ ap (updated (refs_at u) p n) (eqb-true q p t) ∙ updated_here (refs_at u) p n) some))
+    | false ↦ λ t. counted.owned q (subst (λ m. 1 ≤ m) (ap (λ (f : ℕ → ℕ). f q) refs ∙ updated_other (refs_at u) p n q (λ same. both_ways _ t (eq-eqb q p same))) some)
+  ]) refl;
   few = λ q. (elim (nat_eq q p) as (λ b. nat_eq q p ≡ b → refs_at v q ≤ refs_most) [
     | true ↦ λ t. subst (λ m. m ≤ refs_most) (sym (ap (λ (f : ℕ → ℕ). f q) refs ∙ ap (updated (refs_at u) p n) (eqb-true q p t) ∙ updated_here (refs_at u) p n)) few
-    | false ↦ λ t. subst (λ m. m ≤ refs_most) (sym (ap (λ (f : ℕ → ℕ). f q) refs ∙ updated_other (refs_at u) p n q (λ same. true_false (eq-eqb q p same) t))) (counted.few q)
+    | false ↦ λ t. subst (λ m. m ≤ refs_most) (sym (ap (λ (f : ℕ → ℕ). f q) refs ∙ updated_other (refs_at u) p n q (λ same. both_ways _ t (eq-eqb q p same)))) (counted.few q)
   ]) refl;
 }
 
-pub given_counted : (g : Geometry) (u v : UnitSet) (p : ℕ) → v.geometry ≡ u.geometry → used_at v ≡ updated (used_at u) p false → refs_at v ≡ refs_at u → IsCounted g u → IsCounted g v
-given_counted g u v p geometry used refs counted = record {
+pub given_counted : (g : Geometry) (u v : UnitSet) (p : ℕ) → v.geometry ≡ u.geometry → used_at v ≡ updated (used_at u) p false → refs_at v ≡ refs_at u → refs_at u p ≡ 0 → IsCounted g u → IsCounted g v
+given_counted g u v p geometry used refs none counted = record {
   geometry = geometry ∙ counted.geometry;
   named = λ q is. (elim (nat_eq q p) as (λ b. nat_eq q p ≡ b → IsUnit g q) [
-    | true ↦ λ t. absurd (true_false is (ap (λ (f : ℕ → Bool). f q) used ∙ ap (updated (used_at u) p false) (eqb-true q p t) ∙ updated_here (used_at u) p false))
-    | false ↦ λ t. counted.named q (sym (ap (λ (f : ℕ → Bool). f q) used ∙ updated_other (used_at u) p false q (λ same. true_false (eq-eqb q p same) t)) ∙ is)
+    | true ↦ λ t. absurd (both_ways _ (ap (λ (f : ℕ → Bool). f q) used ∙ ap (updated (used_at u) p false) (eqb-true q p t) ∙ updated_here (used_at u) p false) is)
+    | false ↦ λ t. counted.named q (sym (ap (λ (f : ℕ → Bool). f q) used ∙ updated_other (used_at u) p false q (λ same. both_ways _ t (eq-eqb q p same))) ∙ is)
+  ]) refl;
+  owned = λ q some. (elim (nat_eq q p) as (λ b. nat_eq q p ≡ b → used_at v q ≡ true) [
+    | true ↦ λ t. absurd (omega (arith, subst (λ (f : ℕ → ℕ). 1 ≤ f q) refs some, ap (refs_at u) (eqb-true q p t), none))
+    | false ↦ λ t. ap (λ (f : ℕ → Bool). f q) used ∙ updated_other (used_at u) p false q (λ same. both_ways _ t (eq-eqb q p same)) ∙ counted.owned q (subst (λ (f : ℕ → ℕ). 1 ≤ f q) refs some)
   ]) refl;
   few = λ q. subst (λ (f : ℕ → ℕ). f q ≤ refs_most) (sym refs) (counted.few q);
 }
@@ -196,14 +208,10 @@ taken_whole a b g p bytes told wrote full fits world =
     let d = told_value a.disk told in
     ap (λ (o : Option (List ℕ)). unit_bytes g o p) (wrote d.0 d.1) ∙ whole_written g p d.0 bytes full (omega (arith, fits, held_whole a world d.0 d.1))
 
-none_of : (o : Option (List ℕ)) → is_some o ≡ false → o ≡ None
-none_of None h = refl
-none_of (Some x) h = cc
-
 pub other_unit : (a b : Outside) (g : Geometry) (p q : ℕ) (bytes : List ℕ) (o : Option (List ℕ)) → a.disk ≡ o → Goes a b → Wrote (p * g.page_size) bytes a b → IsUnit g p → IsUnit g q → q ≢ p
     → length bytes ≤ unit_len g p → p * g.page_size + length bytes ≤ a.size → IsWorld a → unit_bytes g b.disk q ≡ unit_bytes g a.disk q
 other_unit a b g p q bytes None is goes wrote unit other differ room fits world =
-    let gone : b.disk ≡ None = none_of b.disk (goes.disk_told ∙ ap is_some is) in
+    let gone : b.disk ≡ None = none_from_test b.disk (goes.disk_told ∙ ap is_some is) in
     ap (λ (x : Option (List ℕ)). unit_bytes g x q) (gone ∙ sym is)
 other_unit a b g p q bytes (Some d) is goes wrote unit other differ room fits world =
     ap (λ (x : Option (List ℕ)). unit_bytes g x q) (wrote d is)

@@ -1,3 +1,3 @@
-pub mod Names
 pub mod Stored
 pub mod Whole
+pub mod Lending

@@ -35,10 +35,12 @@ abbrev pub unit_forgotten : ℕ → ℕ → List Frames → List Frames
 unit_forgotten p zero groups = groups
 unit_forgotten p (suc n) groups = forgotten_in_all (p + n) (unit_forgotten p n groups)
 
--- The numbers of the used units name units, and their counts of references are in their limit.
+-- The numbers of the used units name units, a unit that has a reference is used, and counts are in their
+-- limit.
 pub record IsCounted (g : Geometry) (units : UnitSet) : Type 0 where
   pub geometry : units.geometry ≡ g
   pub named : (p : ℕ) → used_at units p ≡ true → IsUnit g p
+  pub owned : (p : ℕ) → 1 ≤ refs_at units p → used_at units p ≡ true
   pub few : (p : ℕ) → refs_at units p ≤ refs_most
 
 -- Each frame is of the catalog's page or of one behind it.

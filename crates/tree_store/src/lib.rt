@@ -7,6 +7,3 @@ mod write;
 
 pub use counts::count_names;
 pub use store::Store;
-
-#[cfg(test)]
-mod tests;

@@ -1,12 +1,13 @@
 //! The units on a disk, read through a group of frames.
 ghost use Rattle.std.specs.Prelude.{◌≡◌, ◌≤◌, ◌<◌, ◌+◌, ℕ, List, [], length, false, OnOk, IfErr, IsOk};
 ghost use Rattle.disk_model.specs.Outside.{Outside};
+ghost use Rattle.disk_model.specs.Calls.{MakesCalls, MakesAtMost};
 
 use crate::counts::count_names;
-use crate::write::write_unit;
+use crate::write::{write_node, write_unit};
 use buffer_groups::Groups;
 use disk_model::Disk;
-use ex_base::{Area, Blocks, Geometry, Ground, PageNo, PortFault};
+use ex_base::{Area, Blocks, Geometry, Ground, PageNo, PortFault, ReadBlocks};
 use page_alloc::Units;
 use std::alloc::Global;
 
@@ -51,17 +52,20 @@ impl<'a, D: Disk> Store<'a, D> {
 
 impl<'a, D: Disk> Store<'a, D> {
     ghost use Rattle.tree_store.specs.Stored.{Fits, Tells, unit_bytes};
-    ghost use Rattle.buffer_groups.specs.Groups.{HasFrame};
+    ghost use Rattle.buffer_groups.specs.Groups.{HasFrame, LacksFrame};
     ghost use Rattle.ex_base.specs.Area.{InPageArea};
     ghost use Rattle.ex_base.specs.Ports.{Keeps, HasCause, IsDamage};
 
-    /// Brings a page into a frame of the group. A page that has one makes no disk call.
+    /// Brings a page into a frame of the group. A page that has one makes no disk call, and another one makes one.
     pub fn bring(&mut self, alloc: Global, page: PageNo) -> Result<(), PortFault>
         requires ready { Fits self.old.geometry (D.outside self.old.disk.now).size self.old.groups.now self.old.index self.old.units.now }
         requires page { InPageArea self.old.geometry page.0 }
         ensures held { OnOk result (HasFrame self.new.groups.now self.new.index page.0) }
         ensures no_memory { HasFrame self.old.groups.now self.old.index page.0 → IsOk result }
         ensures hit { HasFrame self.old.groups.now self.old.index page.0 → self.new.disk.now ≡ self.old.disk.now }
+        ensures miss { LacksFrame self.old.groups.now self.old.index page.0
+            → OnOk result (MakesCalls 1 (D.outside self.old.disk.now) (D.outside self.new.disk.now)) }
+        ensures at_most_once { MakesAtMost 1 (D.outside self.old.disk.now) (D.outside self.new.disk.now) }
         ensures kept { Keeps ⟦<Store<'a, D> as Ground>⟧ self.old self.new }
         ensures no_damage { IfErr result (λ fault. IsDamage fault → ⊥) }
         ensures cause { HasCause (D.outside self.old.disk.now).disk_faults (D.outside self.new.disk.now).disk_faults result }
@@ -86,7 +90,7 @@ impl<'a, D: Disk> Store<'a, D> {
 impl<'a, D: Disk> Ground for Store<'a, D> {
     ghost use Rattle.tree_store.specs.Stored.{unit_bytes, Fits, Tells, Frees, NoUnit, frees_same, frees_on, frees_wider};
     ghost use Rattle.tree_store.specs.Whole.{leaf_whole};
-    ghost use Rattle.tree_store.specs.Names.{names_on};
+    ghost use Rattle.count_nodes.specs.Names.{names_on};
     ghost use Rattle.page_alloc.specs.UnitSet.{used_at, refs_at, free_count};
 
     ghost geometry = { λ s. s.geometry };
@@ -103,11 +107,13 @@ impl<'a, D: Disk> Ground for Store<'a, D> {
 
     ghost refs = { λ s. refs_at s.units.now };
 
-    ghost names = { names_on };
+    ghost names = { λ g bytes. names_on bytes };
 
     ghost held = { λ s p. false };
 
     ghost free = { λ s. free_count s.units.now.geometry (used_at s.units.now) };
+
+    ghost touched = { λ s. 0 };
 
     ghost faults = { λ s. (D.outside s.disk.now).disk_faults };
 
@@ -144,25 +150,31 @@ impl<'a, D: Disk> Ground for Store<'a, D> {
     ghost frees_faults = { λ freed a b x. x.changes.only.goes.disk_faults };
 }
 
-impl<'a, D: Disk> Blocks for Store<'a, D> {
-    ghost use Rattle.std.specs.Prelude.{◌≢◌, true, IfOk};
-    ghost use Rattle.ex_base.specs.Area.{IsUnit};
-    ghost use Rattle.ex_base.specs.Ports.{HasCause, IsDamage, TakesUnit, IsLowest, CountsNames, GivesUnit};
-    ghost use Rattle.ex_base.specs.declared.names.Area.TheVariants.{Page, Segment};
-    ghost use Rattle.page_alloc.specs.UnitSet.{used_at, refs_at};
-    ghost use Rattle.tree_store.specs.Names.{names_on};
-    ghost use Rattle.tree_store.specs.Stored.{Fits, unit_bytes};
+impl<'a, D: Disk> ReadBlocks for Store<'a, D> {
+    ghost use Rattle.ex_base.specs.Area.{InPageArea, NamesLeaf};
+    ghost use Rattle.ex_base.specs.Bytes.{bytes_at};
+    ghost use Rattle.ex_base.specs.Ports.{Rests, Keeps, HasCause, IsDamage};
     ghost use Rattle.ex_base.specs.Sizes.{leaf_bytes};
+    ghost use Rattle.std.specs.Borrow.{sem};
+    ghost use Rattle.std.specs.Prelude.{IfOk};
+    ghost use Rattle.tree_store.specs.Lending.{store_row, ReadCalls};
+    ghost use Rattle.tree_store.specs.Stored.{Fits, Tells, unit_bytes};
 
     fn geometry(&self) -> Geometry {
         self.geometry
     }
 
-    fn free(&self, area: Area) -> u32 {
-        self.units.free(area)
-    }
-
-    fn node(&mut self, alloc: Global, page: PageNo) -> Result<&[u8], PortFault> {
+    fn node(&mut self, alloc: Global, page: PageNo) -> Result<&[u8], PortFault>
+        requires ready { Fits self.old.geometry (D.outside self.old.disk.now).size self.old.groups.now self.old.index self.old.units.now }
+        requires page { InPageArea self.old.geometry page.0 }
+        ensures bytes { IfOk result (λ s. Tells (D.outside self.old.disk.now) self.old.groups.now
+            → s.now ≡ unit_bytes self.old.geometry (D.outside self.old.disk.now).disk page.0) }
+        ensures len { IfOk result (λ s. length s.now ≡ self.old.geometry.page_size) }
+        ensures no_damage { IfErr result (λ fault. IsDamage fault → ⊥) }
+        ensures* after { sem 𝓛 (Rests (store_row D.row) self.entry (λ new. Keeps ⟦<Store<'a, D> as Ground>⟧ self.old new
+            × HasCause (D.outside self.old.disk.now).disk_faults (D.outside new.disk.now).disk_faults result
+            × ReadCalls D.outside self.old.groups.now self.old.index page.0 self.old.disk.now new.disk.now result)) }
+    {
         self.bring(alloc, page)?;
         Ok(self.frame(page))
     }
@@ -173,12 +185,39 @@ impl<'a, D: Disk> Blocks for Store<'a, D> {
         page: PageNo,
         from: u32,
         out: &mut [u8],
-    ) -> Result<(), PortFault> {
+    ) -> Result<(), PortFault>
+        requires ready { Fits self.old.geometry (D.outside self.old.disk.now).size self.old.groups.now self.old.index self.old.units.now }
+        requires page { NamesLeaf self.old.geometry page.0 }
+        requires range { from + length out.old ≤ leaf_bytes self.old.geometry }
+        ensures bytes { OnOk result (Tells (D.outside self.old.disk.now) self.old.groups.now
+            → out.new ≡ bytes_at (unit_bytes self.old.geometry (D.outside self.old.disk.now).disk page.0) from (length out.old)) }
+        ensures no_damage { IfErr result (λ fault. IsDamage fault → ⊥) }
+        ensures kept { Keeps ⟦<Store<'a, D> as Ground>⟧ self.old self.new }
+        ensures cause { HasCause (D.outside self.old.disk.now).disk_faults (D.outside self.new.disk.now).disk_faults result }
+
+        // One call of the disk, past the frames, which stay.
+        ensures once { OnOk result (MakesCalls 1 (D.outside self.old.disk.now) (D.outside self.new.disk.now)) }
+        ensures frames { self.new.groups.now ≡ self.old.groups.now }
+    {
         let at = page.0 as u64 * self.geometry.page_size as u64 + from as u64;
-        match self.disk.read(at, out) {
-            Ok(()) => Ok(()),
-            Err(_) => Err(PortFault::Disk),
-        }
+        self.disk.read(at, out)?;
+        Ok(())
+    }
+}
+
+impl<'a, D: Disk> Blocks for Store<'a, D> {
+    ghost use Rattle.std.specs.Prelude.{◌≢◌, true, IfOk};
+    ghost use Rattle.ex_base.specs.Area.{IsUnit};
+    ghost use Rattle.ex_base.specs.Ports.{HasCause, IsDamage, TakesUnit, IsLowest, CountsNames, GivesUnit};
+    ghost use Rattle.ex_base.specs.declared.names.Area.TheVariants.{Page, Segment};
+    ghost use Rattle.buffer_groups.specs.Groups.{HasFrame};
+    ghost use Rattle.page_alloc.specs.UnitSet.{used_at, refs_at};
+    ghost use Rattle.count_nodes.specs.Names.{names_on};
+    ghost use Rattle.tree_store.specs.Stored.{Fits, unit_bytes};
+    ghost use Rattle.ex_base.specs.Sizes.{leaf_bytes};
+
+    fn free(&self, area: Area) -> u32 {
+        self.units.free(area)
     }
 
     fn new_node(&mut self, bytes: &[u8]) -> Result<PageNo, PortFault>
@@ -190,23 +229,21 @@ impl<'a, D: Disk> Blocks for Store<'a, D> {
             → unit_bytes self.new.geometry (D.outside self.new.disk.now).disk p ≡ unit_bytes self.old.geometry (D.outside self.old.disk.now).disk p) }
         ensures whole { IfOk result (λ page. ⟦<Store<'a, D> as Ground>⟧.tells self.old → unit_bytes self.new.geometry (D.outside self.new.disk.now).disk page.0 ≡ bytes.now) }
         ensures lowest { IfOk result (λ page. IsLowest self.old.geometry (used_at self.old.units.now) Page page.0) }
-        ensures references { OnOk result (CountsNames ⟦<Store<'a, D> as Ground>⟧ self.old self.new (names_on self.old.geometry bytes.now)) }
+        ensures references { OnOk result (CountsNames ⟦<Store<'a, D> as Ground>⟧ self.old self.new (names_on bytes.now)) }
         ensures pages { OnOk result (⟦<Store<'a, D> as Ground>⟧.free self.new Page + 1 ≡ ⟦<Store<'a, D> as Ground>⟧.free self.old Page) }
         ensures leaves { OnOk result (⟦<Store<'a, D> as Ground>⟧.free self.new Segment ≡ ⟦<Store<'a, D> as Ground>⟧.free self.old Segment) }
+        ensures framed { IfOk result (λ page. HasFrame self.new.groups.now self.new.index page.0) }
+        ensures once { OnOk result (MakesCalls 1 (D.outside self.old.disk.now) (D.outside self.new.disk.now)) }
         ensures no_damage { IfErr result (λ fault. IsDamage fault → ⊥) }
+        ensures touched { ⟦<Store<'a, D> as Ground>⟧.touched self.new ≡ ⟦<Store<'a, D> as Ground>⟧.touched self.old }
         ensures leads { ⟦<Store<'a, D> as Ground>⟧.leads self.old self.new }
         ensures cause { HasCause (D.outside self.old.disk.now).disk_faults (D.outside self.new.disk.now).disk_faults result }
     {
+        let image = self.groups.get(self.index).copy(bytes)?;
         count_names(self.units, &self.geometry, bytes);
         let page = self.units.take(Area::Page);
-        write_unit(
-            self.disk,
-            self.groups,
-            page,
-            1,
-            bytes,
-            self.geometry.page_size,
-        )?;
+        let size = self.geometry.page_size;
+        write_node(self.disk, self.groups, self.index, page, image, size)?;
         Ok(page)
     }
 
@@ -222,7 +259,9 @@ impl<'a, D: Disk> Blocks for Store<'a, D> {
         ensures references { OnOk result (refs_at self.new.units.now ≡ refs_at self.old.units.now) }
         ensures pages { OnOk result (⟦<Store<'a, D> as Ground>⟧.free self.new Page ≡ ⟦<Store<'a, D> as Ground>⟧.free self.old Page) }
         ensures leaves { OnOk result (⟦<Store<'a, D> as Ground>⟧.free self.new Segment + 1 ≡ ⟦<Store<'a, D> as Ground>⟧.free self.old Segment) }
+        ensures once { OnOk result (MakesCalls 1 (D.outside self.old.disk.now) (D.outside self.new.disk.now)) }
         ensures no_damage { IfErr result (λ fault. IsDamage fault → ⊥) }
+        ensures touched { ⟦<Store<'a, D> as Ground>⟧.touched self.new ≡ ⟦<Store<'a, D> as Ground>⟧.touched self.old }
         ensures leads { ⟦<Store<'a, D> as Ground>⟧.leads self.old self.new }
         ensures cause { HasCause (D.outside self.old.disk.now).disk_faults (D.outside self.new.disk.now).disk_faults result }
     {

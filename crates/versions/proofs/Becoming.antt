@@ -1,5 +1,6 @@
 -- A version that becomes one of other bytes: new units are taken, and then its record is written.
 use Rattle.std.proofs.Common.{◌≡◌, ◌≤◌, ◌+◌, ℕ, Bool, true, false, true≢false, List, [], ◌∷◌, ◌++◌, length, Some, None, refl, sym, ap, subst, ◌∙◌, arith, inl, inr, ◌⊎◌}
+use Rattle.std.proofs.lemmas.Bool.{cases_Bool}
 use Rattle.std.specs.Prelude.{Contains, slice_index_or, ◌↔◌}
 use Rattle.std.specs.List.{AllByRecursion, flat_map}
 use Rattle.ex_base.specs.declared.ground.Ground as ground
@@ -17,23 +18,26 @@ use Rattle.file_index.proofs.Counts.{is_counted, count_most}
 use Rattle.file_bodies.specs.Bodies.{Row, bodies_on, bodies_of, pages_in, EditsRow}
 use Rattle.file_bodies.specs.Files.{index_at, IsPageOf, HasFile, HasBody, all_pages}
 use Rattle.file_bodies.proofs.Moving.{Moved, moved, once_of, has_index}
-use Rattle.file_bodies.proofs.Rows.{each_at, each_of, rows_same, contains_times}
+use Rattle.file_bodies.proofs.Rows.{each_at, each_of, rows_same}
 use Rattle.object_records.specs.Record.{Content, Small, Large, Record, BodyOf}
 use Rattle.object_records.specs.Reads.{small_record, large_record}
 use Rattle.object_records.specs.declared.Head.{Head}
 use Rattle.object_records.proofs.RecordLaws.{spelled_reads}
 use Rattle.ex_base.specs.declared.names.Root.{Root}
+use Rattle.ex_base.proofs.Counts.{contains_times}
+use Rattle.ex_base.proofs.Each.{each_as}
 use Rattle.slotted_pages.specs.FilePage.{room_of}
-use Rattle.tree_insert.specs.Roots.{IsRootFor}
+use Rattle.trees.specs.Roots.{IsRootFor}
 use Rattle.tree_insert.proofs.RootEdit.{nothing_turned}
 use Rattle.versions.proofs.Roots.{root_is_for, root_placed}
 use Rattle.versions.proofs.Puts.{body_long, small_most, less_fits}
-use Rattle.tree_model.specs.Trees.{Units, RootSpells, root_units}
-use Rattle.tree_steps.specs.Made.{Extends, Has, IsTaken, AreUsed}
-use Rattle.tree_insert.specs.Grown.{Turned}
-use Rattle.versions.specs.Versions.{HasVersion, EditsVersion, Spells, IsTreeUnit, AreInUse, IsSmall, StaysSmall, FitsIn, record_len, lone_head, place_of, content_units}
+use Rattle.trees.specs.Trees.{Units, RootSpells, root_units}
+use Rattle.trees.specs.Made.{Extends, Has, IsTaken, AreUsed}
+use Rattle.trees.specs.Grown.{Turned}
+use Rattle.trees.proofs.Counts.{counted_after, counted_back}
+use Rattle.trees.proofs.Laid.{extends_refl}
+use Rattle.versions.specs.Versions.{HasVersion, Change, HasShape, EditsVersion, Spells, IsTreeUnit, AreInUse, IsSmall, StaysSmall, FitsIn, record_len, lone_head, place_of, content_units}
 use Rattle.versions.specs.Put.{PutsRecord, IsPlaced}
-use Rattle.versions.proofs.Standing.{each_map}
 use Rattle.versions.proofs.FileRows.{edit_stands}
 
 has_each : (P : ℕ → Type 0) (xs : List ℕ) (p : ℕ) → AllByRecursion P xs → Has xs p → P p
@@ -42,10 +46,6 @@ has_each P (x ∷ xs) p all h = elim h [
   | inl e ↦ subst P e all.0
   | inr r ↦ has_each P xs p all.1 r
 ]
-
-bool_cases : (b : Bool) → (b ≡ true) ⊎ (b ≡ false)
-bool_cases true = inl refl
-bool_cases false = inr refl
 
 -- no tree spells no bytes
 pub none_spells : (geo : Geometry) (units : Units) → RootSpells geo units (record { height = 0; page = None; size = 0 }) []
@@ -103,12 +103,12 @@ module _ {S : Type 0} (g : ground.Ghosts S) where
       absurd (omega (arith, once_of g m index page file, count_most (g.held m page), named, subst (λ (n : ℕ). 1 ≤ times n (pages_of (g.image m) index.level index.root)) same h))))).keys
 
   not_held : (a : S) (p : ℕ) → AreInUse g a → g.used a p ≡ false → g.held a p ≡ false
-  not_held a p in_use free = elim (bool_cases (g.held a p)) [
+  not_held a p in_use free = elim (cases_Bool (g.held a p)) [
     | inl held ↦ absurd (true≢false (sym (in_use p held) ∙ free))
     | inr isnt ↦ isnt
   ]
 
-  module _ (a m c : S) (index : Index) (oid : Oid) (content now : Content) (old bytes : List ℕ) (ext : Extends g a m) (in_use : AreInUse g a) (has : HasVersion g a index oid content old)
+  module _ (a m c : S) (index : Index) (oid : Oid) (content now : Content) (change : Change) (old bytes : List ℕ) (ext : Extends g a m) (in_use : AreInUse g a) (has : HasVersion g a index oid content old)
       (turned : Turned g a m (content_units (g.unit a) content) (content_units (g.unit m) now)) (spells : Spells (g.geometry m) (g.unit m) now bytes)
       (r : PutsRecord g m c index (place_of oid) has.stored.body (record { head = lone_head oid.unique; content = now })) where
     stands_m : HasBody g m index (place_of oid) has.stored.body
@@ -127,21 +127,22 @@ module _ {S : Type 0} (g : ground.Ghosts S) where
 
     turned_c : Turned g a c (content_units (g.unit a) content) (content_units (g.unit m) now)
     turned_c = record {
-      own = each_map (λ p. IsTaken g a m p ⊎ Has (content_units (g.unit a) content) p) (λ p. IsTaken g a c p ⊎ Has (content_units (g.unit a) content) p) (content_units (g.unit m) now) (λ p h. elim h [
+      own = each_as (λ p. IsTaken g a m p ⊎ Has (content_units (g.unit a) content) p) (λ p. IsTaken g a c p ⊎ Has (content_units (g.unit a) content) p) (content_units (g.unit m) now) (λ p h. elim h [
         | inl t ↦ inl (taken_c p t)
         | inr o ↦ inr o
       ]) turned.own;
       all = λ p t. turned.all p (t.0, ap (λ (f : ℕ → Bool). f p) (sym r.put.used) ∙ t.1);
+      counts = λ names. counted_after g a m c r.put.used r.put.refs r.put.units r.put.held (turned.counts names);
     }
 
-    pub edits_version : IsSmall now ↔ StaysSmall g a (place_of oid) content (length bytes) → EditsVersion g a c index oid content bytes
-    edits_version small = record {
+    pub edits_version : IsSmall now ↔ StaysSmall g a (place_of oid) content (length bytes) → HasShape (g.geometry a) change (g.unit a) (g.unit m) content (length bytes) now → EditsVersion g a c index oid content change bytes
+    edits_version small shape = record {
       now = now;
       version = record {
         stored = record { body = r.body; stands = edit_stands g m c index index (place_of oid) (Some has.stored.body) r.body r.edit; spelled = r.spelled; number = refl };
         spells = subst (λ (u : Units). Spells (g.geometry c) u now bytes) (sym r.put.units) (subst (λ (y : Geometry). Spells y (g.unit m) now bytes) (sym (g.leads_geometry m c r.leads)) spells);
         units = subst (λ (u : Units). AllByRecursion (IsTreeUnit g c) (content_units u now)) (sym r.put.units)
-            (each_map (λ p. IsTaken g a m p ⊎ Has (content_units (g.unit a) content) p) (IsTreeUnit g c) (content_units (g.unit m) now) tree_unit turned.own);
+            (each_as (λ p. IsTaken g a m p ⊎ Has (content_units (g.unit a) content) p) (IsTreeUnit g c) (content_units (g.unit m) now) tree_unit turned.own);
       };
       small = small;
       was = has.stored.body;
@@ -154,6 +155,7 @@ module _ {S : Type 0} (g : ground.Ghosts S) where
       used = λ p is. ap (λ (f : ℕ → Bool). f p) r.put.used ∙ ext.used p is;
       kept = λ p is isnt. ap (λ (u : Units). u p) r.put.units ∙ ext.units p is;
       units = subst (λ (u : Units). Turned g a c (content_units (g.unit a) content) (content_units u now)) (sym r.put.units) turned_c;
+      shape = subst (λ (u : Units). HasShape (g.geometry a) change (g.unit a) u content (length bytes) now) (sym r.put.units) shape;
     }
 
   -- ---- a record of a large version
@@ -162,15 +164,16 @@ module _ {S : Type 0} (g : ground.Ghosts S) where
   record_least body r spelled = (spelled_reads body r spelled).0.long
 
   -- the new tree stands, and the record of its root is put in the place of the old one
-  pub becomes_large : (a m c : S) (index : Index) (oid : Oid) (content : Content) (old bytes : List ℕ) (made : Root) (place : Place) (head : Head) → Extends g a m → AreInUse g a → g.tells a → HasVersion g a index oid content old
+  pub becomes_large : (a m c : S) (index : Index) (oid : Oid) (content : Content) (change : Change) (old bytes : List ℕ) (made : Root) (place : Place) (head : Head) → Extends g a m → AreInUse g a → g.tells a → HasVersion g a index oid content old
       → Turned g a m (content_units (g.unit a) content) (content_units (g.unit m) (Large made)) → Spells (g.geometry m) (g.unit m) (Large made) bytes → place ≡ place_of oid → head ≡ lone_head oid.unique
-      → (g.tells m → (index : Index) (was : List ℕ) → HasBody g m index place was → PutsRecord g m c index place was (large_record head made)) → (StaysSmall g a (place_of oid) content (length bytes) → ⊥) → EditsVersion g a c index oid content bytes
-  becomes_large a m c index oid content old bytes made place head ext in_use told has turned spells at lone puts never =
+      → (g.tells m → (index : Index) (was : List ℕ) → HasBody g m index place was → PutsRecord g m c index place was (large_record head made)) → (StaysSmall g a (place_of oid) content (length bytes) → ⊥)
+      → HasShape (g.geometry a) change (g.unit a) (g.unit m) content (length bytes) (Large made) → EditsVersion g a c index oid content change bytes
+  becomes_large a m c index oid content change old bytes made place head ext in_use told has turned spells at lone puts never shape =
       let stands = body_on a m index (place_of oid) has.stored.body ext in_use has.stored.stands in
       let r0 = puts (g.leads_told a m ext.leads told) index has.stored.body (subst (λ (p : Place). HasBody g m index p has.stored.body) (sym at) stands) in
       let r1 = subst (λ (p : Place). PutsRecord g m c index p has.stored.body (large_record head made)) at r0 in
       let r = subst (λ (h : Head). PutsRecord g m c index (place_of oid) has.stored.body (large_record h made)) lone r1 in
-      edits_version a m c index oid content (Large made) old bytes ext in_use has turned spells r ((λ x. absurd x), never)
+      edits_version a m c index oid content (Large made) change old bytes ext in_use has turned spells r ((λ x. absurd x), never) shape
 
   -- so that no damage is told
   pub never_put : (a m : S) (index : Index) (oid : Oid) (content : Content) (old bytes : List ℕ) (made : Root) (place : Place) → Extends g a m → AreInUse g a → HasVersion g a index oid content old
@@ -184,7 +187,7 @@ module _ {S : Type 0} (g : ground.Ghosts S) where
   -- ---- a record of a small version
 
   extends_same : (a : S) → Extends g a a
-  extends_same a = record { leads = g.leads_refl a; used = λ p u. u; units = λ p u. refl; images = λ p u. refl; held = refl }
+  extends_same a = extends_refl g a
 
   pub stays_fits : (s : S) (place : Place) (was held : List ℕ) (head : Head) (n : ℕ) → BodyOf was (small_record head held) → FitsIn g s place.page.0 (length was) n → StaysSmall g s place (Small held) n
   stays_fits s place was held head n spelled fits = subst (λ (k : ℕ). FitsIn g s place.page.0 k n) (body_long was head held spelled) fits
@@ -192,13 +195,13 @@ module _ {S : Type 0} (g : ground.Ghosts S) where
   pub fits_stays : (s : S) (place : Place) (was held : List ℕ) (head : Head) (n : ℕ) → BodyOf was (small_record head held) → StaysSmall g s place (Small held) n → FitsIn g s place.page.0 (length was) n
   fits_stays s place was held head n spelled stays = subst (λ (k : ℕ). FitsIn g s place.page.0 k n) (sym (body_long was head held spelled)) stays
 
-  pub becomes_small : (a c : S) (index : Index) (oid : Oid) (held bytes : List ℕ) (place : Place) (head : Head) → AreInUse g a → HasVersion g a index oid (Small held) held → place ≡ place_of oid → head ≡ lone_head oid.unique
-      → ((index : Index) (was : List ℕ) → HasBody g a index place was → PutsRecord g a c index place was (small_record head bytes)) → StaysSmall g a (place_of oid) (Small held) (length bytes) → EditsVersion g a c index oid (Small held) bytes
-  becomes_small a c index oid held bytes place head in_use has at lone puts stays =
+  pub becomes_small : (a c : S) (index : Index) (oid : Oid) (change : Change) (held bytes : List ℕ) (place : Place) (head : Head) → AreInUse g a → HasVersion g a index oid (Small held) held → place ≡ place_of oid → head ≡ lone_head oid.unique
+      → ((index : Index) (was : List ℕ) → HasBody g a index place was → PutsRecord g a c index place was (small_record head bytes)) → StaysSmall g a (place_of oid) (Small held) (length bytes) → EditsVersion g a c index oid (Small held) change bytes
+  becomes_small a c index oid change held bytes place head in_use has at lone puts stays =
       let r0 = puts index has.stored.body (subst (λ (p : Place). HasBody g a index p has.stored.body) (sym at) has.stored.stands) in
       let r1 = subst (λ (p : Place). PutsRecord g a c index p has.stored.body (small_record head bytes)) at r0 in
       let r = subst (λ (h : Head). PutsRecord g a c index (place_of oid) has.stored.body (small_record h bytes)) lone r1 in
-      edits_version a a c index oid (Small held) (Small bytes) held bytes (extends_same a) in_use has (nothing_turned g a []) refl r ((λ x. stays), (λ x. tt))
+      edits_version a a c index oid (Small held) (Small bytes) change held bytes (extends_same a) in_use has (nothing_turned g a []) refl r ((λ x. stays), (λ x. tt)) tt
 
   -- ---- after a state with the same meanings
 
@@ -217,8 +220,8 @@ module _ {S : Type 0} (g : ground.Ghosts S) where
   pub kept_in_use : (a b : S) → Keeps g a b → AreInUse g a → AreInUse g b
   kept_in_use a b kept in_use = λ p held. ap (λ (f : ℕ → Bool). f p) kept.used ∙ in_use p (ap (λ (f : ℕ → Bool). f p) (sym kept.held) ∙ held)
 
-  pub kept_edited : (a b c : S) (index : Index) (oid : Oid) (content : Content) (bytes : List ℕ) → Keeps g a b → EditsVersion g b c index oid content bytes → EditsVersion g a c index oid content bytes
-  kept_edited a b c index oid content bytes kept e = record {
+  pub kept_edited : (a b c : S) (index : Index) (oid : Oid) (content : Content) (change : Change) (bytes : List ℕ) → Keeps g a b → EditsVersion g b c index oid content change bytes → EditsVersion g a c index oid content change bytes
+  kept_edited a b c index oid content change bytes kept e = record {
     now = e.now;
     version = e.version;
     small = ((λ x. stayed_before a b (place_of oid) content (length bytes) kept (e.small.0 x)), (λ x. e.small.1 (kept_stays a b (place_of oid) content (length bytes) kept x)));
@@ -232,17 +235,20 @@ module _ {S : Type 0} (g : ground.Ghosts S) where
     used = λ p is. e.used p (ap (λ (f : ℕ → Bool). f p) kept.used ∙ is);
     kept = λ p is isnt. e.kept p (ap (λ (f : ℕ → Bool). f p) kept.used ∙ is) (ap (λ (f : ℕ → Bool). f p) kept.held ∙ isnt) ∙ ap (λ (u : Units). u p) kept.units;
     units = subst (λ (u : Units). Turned g a c (content_units u content) (content_units (g.unit c) e.now)) kept.units (record {
-      own = each_map (λ p. IsTaken g b c p ⊎ Has (content_units (g.unit b) content) p) (λ p. IsTaken g a c p ⊎ Has (content_units (g.unit b) content) p) (content_units (g.unit c) e.now) (λ p h. elim h [
+      own = each_as (λ p. IsTaken g b c p ⊎ Has (content_units (g.unit b) content) p) (λ p. IsTaken g a c p ⊎ Has (content_units (g.unit b) content) p) (content_units (g.unit c) e.now) (λ p h. elim h [
         | inl t ↦ inl (ap (λ (f : ℕ → Bool). f p) (sym kept.used) ∙ t.0, t.1)
         | inr o ↦ inr o
       ]) e.units.own;
       all = λ p t. e.units.all p (ap (λ (f : ℕ → Bool). f p) kept.used ∙ t.0, t.1);
+      counts = λ names. counted_back g a b c kept (e.units.counts names);
     });
+    shape = subst (λ (u : Units). HasShape (g.geometry a) change u (g.unit c) content (length bytes) e.now) kept.units
+        (subst (λ (y : Geometry). HasShape y change (g.unit b) (g.unit c) content (length bytes) e.now) (g.leads_geometry a b kept.leads) e.shape);
   }
 
   -- the units of a large version are used
   pub used_units : (s : S) (index : Index) (oid : Oid) (root : Root) (bytes : List ℕ) → HasVersion g s index oid (Large root) bytes → AreUsed (g.used s) (root_units (g.unit s) root)
-  used_units s index oid root bytes has = each_map (IsTreeUnit g s) (λ p. g.used s p ≡ true) (root_units (g.unit s) root) (λ p is. is.0) has.units
+  used_units s index oid root bytes has = each_as (IsTreeUnit g s) (λ p. g.used s p ≡ true) (root_units (g.unit s) root) (λ p is. is.0) has.units
 
   -- what fits in the place of a version's body, and what doesn't
   at_place : (s : S) (index : Index) (oid : Oid) (content : Content) (bytes : List ℕ) (place : Place) → place ≡ place_of oid → HasVersion g s index oid content bytes → (has : HasVersion g s index oid content bytes) → HasBody g s index place has.stored.body

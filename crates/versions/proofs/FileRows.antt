@@ -5,13 +5,12 @@ use Rattle.std.specs.List.{flat_map}
 use Rattle.ex_base.specs.declared.ground.Ground as ground
 use Rattle.ex_base.specs.declared.names.Place.{Place}
 use Rattle.ex_base.specs.Ports.{times}
+use Rattle.ex_base.proofs.Counts.{times_contains, times_here}
 use Rattle.slotted_pages.specs.FilePage.{Slot}
 use Rattle.slotted_pages.specs.Edits.{slots_of}
 use Rattle.file_index.specs.declared.Index.{Index}
-use Rattle.file_index.proofs.Counts.{times_here}
 use Rattle.file_bodies.specs.Bodies.{Row, place_at, bodies_from, bodies_on, bodies_of, pages_in}
 use Rattle.file_bodies.specs.Files.{HasFile, HasBody, EditsFile}
-use Rattle.file_bodies.proofs.Rows.{times_contains}
 
 -- the row stands in the list
 abbrev pub InRows : List Row → Row → Type 0

@@ -8,3 +8,4 @@ pub mod Needed
 pub mod Becoming
 pub mod RowsListed
 pub mod Listed
+pub mod Faults

@@ -8,7 +8,7 @@ use Rattle.object_records.specs.Record.{Record, BodyOf}
 use Rattle.object_records.specs.Reads.{record_on}
 use Rattle.file_index.specs.declared.Index.{Index}
 use Rattle.file_bodies.specs.Bodies.{Row, bodies_of}
-use Rattle.file_bodies.specs.Files.{HasFile, HasFiles, HasBody}
+use Rattle.file_bodies.specs.Files.{HasFile, HasBody}
 use Rattle.file_bodies.specs.Places.{IsFirstFrom, FirstFrom, IsNext}
 use Rattle.file_bodies.proofs.Moving.{kept_file}
 use Rattle.file_bodies.proofs.Ordered.{ordered}
@@ -30,12 +30,12 @@ module _ {S : Type 0} (g : ground.Ghosts S) where
   pub record ListedTo (a b : S) (file_no : ℕ) (after : Option Place) (oids : List Oid) : Type 0 where
     pub kept : Keeps g a b
     pub short : IsShort after
-    pub listed : g.tells a → HasFiles g a → (index : Index) → HasFile g a index → index.file_no ≡ file_no → IsListed (bodies_of (g.image a) index) (key_of after) (slot_of after) oids
+    pub listed : g.tells a → (index : Index) → HasFile g a index → index.file_no ≡ file_no → IsListed (bodies_of (g.image a) index) (key_of after) (slot_of after) oids
 
   pub listed_none : (a : S) (file_no : ℕ) → ListedTo a a file_no None []
-  listed_none a file_no = record { kept = record { units = refl; images = refl; used = refl; refs = refl; held = refl; free = refl; leads = g.leads_refl a }; short = tt; listed = λ told files index file is. none_listed (bodies_of (g.image a) index) }
+  listed_none a file_no = record { kept = record { units = refl; images = refl; used = refl; refs = refl; held = refl; free = refl; touched = refl; leads = g.leads_refl a }; short = tt; listed = λ told index file is. none_listed (bodies_of (g.image a) index) }
 
-  module _ (a b : S) (file_no : ℕ) (after : Option Place) (oids : List Oid) (to : ListedTo a b file_no after oids) (told : g.tells a) (files : HasFiles g a) (index : Index) (file : HasFile g a index) (is : index.file_no ≡ file_no) where
+  module _ (a b : S) (file_no : ℕ) (after : Option Place) (oids : List Oid) (to : ListedTo a b file_no after oids) (told : g.tells a) (index : Index) (file : HasFile g a index) (is : index.file_no ≡ file_no) where
     pub told_b : g.tells b
     told_b = g.leads_told a b to.kept.leads told
 
@@ -46,7 +46,7 @@ module _ {S : Type 0} (g : ground.Ghosts S) where
     same_rows o = subst (λ (f : ℕ → List ℕ). IsNext (bodies_of f index) after o) to.kept.images
 
     pub done : IsNext (bodies_of (g.image b) index) after None → oids ≡ oids_of (bodies_of (g.image a) index)
-    done next = all_listed (bodies_of (g.image a) index) (key_of after) (slot_of after) oids (to.listed told files index file is) (none_next (bodies_of (g.image a) index) after (same_rows None next))
+    done next = all_listed (bodies_of (g.image a) index) (key_of after) (slot_of after) oids (to.listed told index file is) (none_next (bodies_of (g.image a) index) after (same_rows None next))
 
     module _ (place : Place) (next : IsNext (bodies_of (g.image b) index) after (Some place)) where
       pub first : IsFirstFrom (bodies_of (g.image a) index) (key_of after) (slot_of after) place
@@ -62,4 +62,4 @@ module _ {S : Type 0} (g : ground.Ghosts S) where
       readable all = at_mid (λ (row : Row). (r : Record) × BodyOf row.1 r) first.front (place, first.body) first.back (subst AreReadable first.is all)
 
       pub one_more : IsListed (bodies_of (g.image a) index) place.page.0 (place.slot + 1) (oids ++ oids_in place (record_on first.body).head)
-      one_more = next_listed (bodies_of (g.image a) index) (key_of after) (slot_of after) oids place first (ordered g a index file) (to.listed told files index file is)
+      one_more = next_listed (bodies_of (g.image a) index) (key_of after) (slot_of after) oids place first (ordered g a index file) (to.listed told index file is)

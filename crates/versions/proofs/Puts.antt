@@ -10,12 +10,13 @@ use Rattle.ex_base.specs.declared.names.Root.{Root}
 use Rattle.ex_base.specs.Fields.{IsPageField, two_bytes, eight_bytes, zeros, padded, place_field}
 use Rattle.ex_base.proofs.FieldLaws.{two_is, eight_is}
 use Rattle.ex_base.proofs.Places.{length-place_field}
+use Rattle.ex_base.proofs.Counts.{contains_times}
 use Rattle.ex_base.specs.Sizes.{most_page, least_page, leaf_bytes}
 use Rattle.std.proofs.lemmas.Nat.{mul-le}
 use Rattle.ex_base.specs.declared.names.Area.TheVariants.{Page, Segment}
 use Rattle.tree_insert.specs.Need.{need_leaves, need_pages}
 use Rattle.tree_insert.proofs.RootEdit.{div_up}
-use Rattle.versions.specs.Needs.{growth_need}
+use Rattle.ex_base.specs.Needs.{growth_need}
 use Rattle.slotted_pages.specs.FilePage.{Slot, bodies, body_of}
 use Rattle.slotted_pages.specs.Edits.{slots_of}
 use Rattle.object_records.specs.declared.Head.{Head}
@@ -25,8 +26,8 @@ use Rattle.object_records.proofs.RecordLaws.{record_fields}
 use Rattle.file_index.specs.declared.Index.{Index}
 use Rattle.file_bodies.specs.Bodies.{pages_in}
 use Rattle.file_bodies.specs.Files.{HasBody, IsPageOf}
-use Rattle.file_bodies.proofs.Rows.{each_at, contains_times}
-use Rattle.tree_insert.specs.Roots.{IsRootFor}
+use Rattle.file_bodies.proofs.Rows.{each_at}
+use Rattle.trees.specs.Roots.{IsRootFor}
 use Rattle.versions.specs.Versions.{FitsIn}
 
 some_page : (page : Option PageNo) → (page ≡ None → ⊥) → IsSome page

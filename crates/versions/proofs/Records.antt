@@ -6,7 +6,7 @@ use Rattle.object_records.specs.Record.{Content, Small, Large, Record, BodyOf}
 use Rattle.object_records.specs.Reads.{small_record, record_on}
 use Rattle.object_records.specs.declared.Head.{Head}
 use Rattle.object_records.proofs.RecordLaws.{record_read}
-use Rattle.tree_insert.specs.Roots.{IsRootFor}
+use Rattle.trees.specs.Roots.{IsRootFor}
 use Rattle.versions.specs.Found.{HasLimits, IsRecordBody}
 
 -- a body is one record

@@ -1,12 +1,6 @@
 -- What holds of a result that is handed on.
-use Rattle.std.proofs.Common.{◌≡◌, Option, Some, None, Result, Ok, Err, IfOk, OnOk, subst, sym, ap, ◌∙◌}
-use Rattle.std.specs.Prelude.{MatchOption}
-use Rattle.ex_base.specs.declared.names.Area.{Area}
-use Rattle.ex_base.specs.declared.names.Area.TheVariants.{Page, Segment}
-
-pub if_ok_both : {X E : Type 0} (r : Result X E) (P Q R : X → Type 0) → ((x : X) → P x → Q x → R x) → IfOk r P → IfOk r Q → IfOk r R
-if_ok_both (Ok x) P Q R f p q = f x p q
-if_ok_both (Err e) P Q R f p q = tt
+use Rattle.std.proofs.Common.{◌≡◌, Option, Some, None, Result, Ok, Err, IfErr, OnOk, subst, sym, ap, ◌∙◌}
+use Rattle.std.specs.Prelude.{MatchOption, IfSome}
 
 pub match_some : {A : Type 0} (o : Option A) (x : A) (N : Type 0) (P : A → Type 0) → o ≡ Some x → MatchOption o N P → P x
 match_some o x N P is h = subst (λ (p : Option _). MatchOption p N P) is h
@@ -25,21 +19,27 @@ pub same_some : {A : Type 0} (o : Option A) (x y : A) → o ≡ Some x → o ≡
 unfolding value_or
 same_some o x y is also = ap (value_or x) (sym is ∙ also)
 
-pub on_ok_both : {X E : Type 0} (r : Result X E) (P Q R : Type 0) → (P → Q → R) → OnOk r P → OnOk r Q → OnOk r R
-on_ok_both (Ok x) P Q R f p q = f p q
-on_ok_both (Err e) P Q R f p q = tt
+-- what holds anyway
+pub ok_of : {X E : Type 0} (r : Result X E) (P : Type 0) → P → OnOk r P
+ok_of (Ok x) P p = p
+ok_of (Err e) P p = tt
 
-pub if_ok_on_ok : {X E : Type 0} (r : Result X E) (P : X → Type 0) (Q : Type 0) → ((x : X) → P x → Q) → IfOk r P → OnOk r Q
-if_ok_on_ok (Ok x) P Q f p = f x p
-if_ok_on_ok (Err e) P Q f p = tt
+pub err_of : {X E : Type 0} (r : Result X E) (P : E → Type 0) → ((e : E) → P e) → IfErr r P
+err_of (Ok x) P p = tt
+err_of (Err e) P p = p e
 
-pub each_area : (P : Area → Type 0) → P Page → P Segment → (area : Area) → P area
-each_area P page segment Page = page
-each_area P page segment Segment = segment
+-- what two facts on a value that is there make
+pub if_some_both : {X : Type 0} (o : Option X) (P Q : X → Type 0) → ((x : X) → P x → Q x) → IfSome o P → IfSome o Q
+if_some_both None P Q f p = tt
+if_some_both (Some x) P Q f p = f x p
 
--- what holds of the value of a call that answered it
-pub of_ok : {X E : Type 0} (r : Result X E) (x : X) (P : X → Type 0) → r ≡ Ok x → IfOk r P → P x
-of_ok r x P is h = subst (λ s. IfOk s P) is h
+pub at_this : {A : Type 0} (o : Option A) (x : A) (P : A → Type 0) → o ≡ Some x → P x → IfSome o P
+at_this o x P is p = subst (λ (q : Option _). IfSome q P) (sym is) p
 
-pub from_ok : {X E : Type 0} (r : Result X E) (x : X) (P : Type 0) → r ≡ Ok x → OnOk r P → P
-from_ok r x P is h = subst (λ s. OnOk s P) is h
+pub at_nothing : {A : Type 0} (o : Option A) (P : A → Type 0) → o ≡ None → IfSome o P
+at_nothing o P is = subst (λ (q : Option _). IfSome q P) (sym is) tt
+
+-- what was looked for is there or not
+pub of_found : {A : Type 0} (o : Option A) (N : Type 0) (P Q : A → Type 0) (R : Type 0) → MatchOption o N P → IfSome o Q → (N → R) → ((x : A) → P x → Q x → R) → R
+of_found None N P Q R found told never there = never found
+of_found (Some x) N P Q R found told never there = there x found told

@@ -8,14 +8,15 @@ use Rattle.ex_base.specs.declared.geometry.Geometry.{Geometry}
 use Rattle.ex_base.specs.declared.names.PageNo.{PageNo}
 use Rattle.ex_base.specs.declared.names.Root.{Root}
 use Rattle.ex_base.specs.Even.{sum_of}
-use Rattle.ex_base.specs.Sizes.{leaf_bytes, object_most, least_page}
+use Rattle.ex_base.specs.Sizes.{leaf_bytes, object_most}
+use Rattle.ex_base.proofs.Geometries.{leaf_some}
 use Rattle.std.proofs.lemmas.Nat.{mul-le}
-use Rattle.tree_model.specs.Shape.{Subtree, total, IsHalfFull, IsRoot, IsBalanced}
-use Rattle.tree_model.specs.Trees.{Units, RootSpells, RootNamed, RootSized, IsNamed, HasSize, EachChild, for_each_child, root_bytes_at, root_shape_at, shape_on}
-use Rattle.tree_model.proofs.TreeLaws.{AreWhole, length-bytes_on}
+use Rattle.trees.specs.Shape.{Subtree, total, IsHalfFull, IsRoot, IsBalanced}
+use Rattle.trees.specs.Trees.{Units, RootSpells, RootNamed, RootSized, IsNamed, HasSize, EachChild, for_each_child, root_bytes_at, root_shape_at, shape_on}
+use Rattle.trees.proofs.TreeLaws.{AreWhole, length-bytes_on}
 use Rattle.count_nodes.specs.declared.Pair.{Pair}
 use Rattle.count_nodes.specs.Node.{RiseFrom, pairs_on, total_of}
-use Rattle.tree_insert.specs.Roots.{IsRootFor}
+use Rattle.trees.specs.Roots.{IsRootFor}
 use Rattle.versions.specs.Put.{IsPlaced}
 
 -- ---- as many bytes as the root says
@@ -28,9 +29,6 @@ pub root_length : (g : Geometry) (units : Units) (root : Root) (bytes : List ℕ
 root_length g units root bytes whole spells = ap length spells.spelled ∙ length_at g units root.height root.size root.page whole spells.named spells.sized
 
 -- ---- a balanced tree is low
-
-leaf_some : (geo : Geometry) → 512 ≤ leaf_bytes geo
-leaf_some geo = omega (arith, mul-le 1 512 geo.seg_len geo.page_size (omega (arith, geo.some_length)) (least_page geo))
 
 children_total : (u : Units) (l before : ℕ) (pairs : List Pair) → RiseFrom before pairs → EachChild (λ page n. total l (shape_on u l page n) ≡ n) before pairs → 1 ≤ length pairs → before + sum_of (total l) (for_each_child (shape_on u l) before pairs) ≡ total_of pairs
 children_total u l before [] rise each some = absurd (omega arith)

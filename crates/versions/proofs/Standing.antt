@@ -1,24 +1,27 @@
 -- Records and versions that stand in files.
 use Rattle.std.proofs.Common.{◌≡◌, ◌≢◌, ℕ, true, false, List, [], ◌∷◌, length, Option, Some, None, sym, ap, subst, ◌∙◌}
+use Rattle.std.proofs.lemmas.Option.{same_Some}
 use Rattle.std.specs.Prelude.{IfSome, IfNone}
 use Rattle.ex_base.specs.declared.geometry.Geometry.{Geometry}
-use Rattle.tree_model.specs.Trees.{Units}
-use Rattle.tree_model.proofs.TreeLaws.{AreWhole}
+use Rattle.trees.specs.Trees.{Units}
+use Rattle.trees.proofs.TreeLaws.{AreWhole}
 use Rattle.versions.proofs.Roots.{root_length, root_is_for}
 use Rattle.std.specs.List.{AllByRecursion}
 use Rattle.ex_base.specs.Area.{catalog_no}
 use Rattle.ex_base.specs.declared.names.Root.{Root}
-use Rattle.tree_model.specs.Trees.{root_units}
-use Rattle.tree_rows.specs.Damage.{IsWhole}
+use Rattle.trees.specs.Trees.{root_units}
+use Rattle.trees.specs.Damage.{IsWhole}
 use Rattle.file_bodies.specs.Places.{RemovesBody}
 use Rattle.ex_base.specs.declared.ground.Ground as ground
 use Rattle.ex_base.specs.declared.names.Oid.{Oid}
 use Rattle.ex_base.specs.declared.names.Place.{Place}
 use Rattle.ex_base.specs.Ports.{Keeps}
+use Rattle.ex_base.proofs.Each.{each_as}
 use Rattle.object_records.specs.Record.{Content, Small, Large, Record, BodyOf}
 use Rattle.file_index.specs.declared.Index.{Index}
-use Rattle.file_bodies.specs.Files.{index_at, HasFiles, HasBody, HasSomeBody}
-use Rattle.file_bodies.proofs.Moving.{kept_file, kept_body, kept_edits}
+use Rattle.file_bodies.specs.Files.{HasFileOf, HasBody, HasSomeBody}
+use Rattle.file_bodies.proofs.Moving.{kept_body, kept_edits}
+use Rattle.file_bodies.proofs.Belonging.{file_of_body}
 use Rattle.versions.specs.Versions.{HasRecord, HasVersion, HoldsVersion, Spells, IsTreeUnit, lone_head, place_of, content_units}
 use Rattle.versions.specs.Found.{IsTold, HasLimits, IsReadable, found_of, size_of, root_of}
 use Rattle.versions.specs.declared.finding.Found.{Found}
@@ -27,10 +30,6 @@ use Rattle.versions.proofs.Records.{one_record}
 body_value : Option (List ℕ) → List ℕ
 body_value None = []
 body_value (Some body) = body
-
-some_body : (a b : List ℕ) → Some a ≡ Some b → a ≡ b
-unfolding body_value
-some_body a b e = ap body_value e
 
 -- ---- contents
 
@@ -47,20 +46,14 @@ unfolding root_value
 large_content (Small held) root some = absurd (let e : None ≡ Some root = some in cc)
 large_content (Large made) root some = ap Large (ap (root_value root) some)
 
-pub each_map : {A : Type 0} (P Q : A → Type 0) (xs : List A) → ((x : A) → P x → Q x) → AllByRecursion P xs → AllByRecursion Q xs
-each_map P Q [] f each = tt
-each_map P Q (x ∷ xs) f each = (f x each.0, each_map P Q xs f each.1)
-
 module _ {S : Type 0} (g : ground.Ghosts S) where
   -- at a place stands one body
   pub one_body : (s : S) (index : Index) (place : Place) (a b : List ℕ) → HasSomeBody g s place a → HasBody g s index place b → a ≡ b
-  one_body s index place a b some has = some_body a b (sym some.has.stands ∙ has.stands)
+  one_body s index place a b some has = same_Some a b (sym some.has.stands ∙ has.stands)
 
-  pub kept_files : (a b : S) → Keeps g a b → HasFiles g a → HasFiles g b
-  kept_files a b kept files = record {
-    catalog = record { whole = rw kept.images files.catalog.whole; held = rw kept.held files.catalog.held };
-    each = λ file_no index is. kept_file g a b index kept (files.each file_no index (subst (λ (f : ℕ → List ℕ). index_at f file_no ≡ Some index) kept.images is));
-  }
+  -- the file of a body is whole
+  pub file_at : (s : S) (index : Index) (at place : Place) (body : List ℕ) → at ≡ place → HasBody g s index place body → HasFileOf g s at.page.0
+  file_at s index at place body is has = subst (λ (p : Place). HasFileOf g s p.page.0) (sym is) (file_of_body g s index place body has)
 
   pub kept_record : (a b : S) (index : Index) (oid : Oid) (is : Record) → Keeps g a b → HasRecord g a index oid is → HasRecord g b index oid is
   kept_record a b index oid is kept has = record {
@@ -113,7 +106,7 @@ module _ {S : Type 0} (g : ground.Ghosts S) where
   holds_of s index oid content bytes has = record {
     stored = has.stored;
     spells = has.spells;
-    apart = each_map (IsTreeUnit g s) (λ p. g.held s p ≡ false) (content_units (g.unit s) content) (λ p is. is.1) has.units;
+    apart = each_as (IsTreeUnit g s) (λ p. g.held s p ≡ false) (content_units (g.unit s) content) (λ p is. is.1) has.units;
   }
 
   pub kept_spells : (a b : S) (content : Content) (bytes : List ℕ) → Keeps g a b → Spells (g.geometry a) (g.unit a) content bytes → Spells (g.geometry b) (g.unit b) content bytes
@@ -125,7 +118,7 @@ module _ {S : Type 0} (g : ground.Ghosts S) where
     stored = kept_record a b index oid (record { head = lone_head oid.unique; content = content }) kept has.stored;
     spells = kept_spells a b content bytes kept has.spells;
     apart = subst (λ (u : Units). AllByRecursion (λ p. g.held b p ≡ false) (content_units u content)) (sym kept.units)
-        (each_map (λ p. g.held a p ≡ false) (λ p. g.held b p ≡ false) (content_units (g.unit a) content) (λ p is. rw kept.held is) has.apart);
+        (each_as (λ p. g.held a p ≡ false) (λ p. g.held b p ≡ false) (content_units (g.unit a) content) (λ p is. rw kept.held is) has.apart);
   }
 
   pub kept_version : (a b : S) (index : Index) (oid : Oid) (content : Content) (bytes : List ℕ) → Keeps g a b → HasVersion g a index oid content bytes → HasVersion g b index oid content bytes
@@ -133,7 +126,7 @@ module _ {S : Type 0} (g : ground.Ghosts S) where
     stored = kept_record a b index oid (record { head = lone_head oid.unique; content = content }) kept has.stored;
     spells = kept_spells a b content bytes kept has.spells;
     units = subst (λ (u : Units). AllByRecursion (IsTreeUnit g b) (content_units u content)) (sym kept.units)
-        (each_map (IsTreeUnit g a) (IsTreeUnit g b) (content_units (g.unit a) content) (λ p is. (rw kept.used is.0, rw kept.held is.1)) has.units);
+        (each_as (IsTreeUnit g a) (IsTreeUnit g b) (content_units (g.unit a) content) (λ p is. (rw kept.used is.0, rw kept.held is.1)) has.units);
   }
 
   pub kept_removes : (a b c : S) (index : Index) (place : Place) (body : List ℕ) → Keeps g a b → RemovesBody g b c index place body → RemovesBody g a c index place body
@@ -144,7 +137,7 @@ module _ {S : Type 0} (g : ground.Ghosts S) where
   version_whole s index oid root bytes has = record {
     bytes = bytes;
     spells = has.spells.0;
-    avoids = each_map (λ p. g.held s p ≡ false) (λ p. p ≢ catalog_no) (root_units (g.unit s) root) not_held has.apart;
+    avoids = each_as (λ p. g.held s p ≡ false) (λ p. p ≢ catalog_no) (root_units (g.unit s) root) not_held has.apart;
   }
     where
       not_held : (p : ℕ) → g.held s p ≡ false → p ≡ catalog_no → ⊥

@@ -6,7 +6,7 @@ use Rattle.ex_base.specs.declared.names.Place.{Place}
 use Rattle.ex_base.specs.declared.names.Root.{Root}
 use Rattle.object_records.specs.Record.{Content, Small, Large, Record, BodyOf}
 use Rattle.file_bodies.specs.Files.{HasSomeBody}
-use Rattle.tree_insert.specs.Roots.{IsRootFor}
+use Rattle.trees.specs.Roots.{IsRootFor}
 use Rattle.versions.specs.declared.finding.Found.{Found}
 
 -- the bytes of the version

@@ -4,3 +4,4 @@ pub mod Found
 pub mod Edited
 pub mod Listed
 pub mod Put
+pub mod Damage

@@ -1,9 +1,8 @@
 -- The free units that an edit of a version asks for, of which it takes at most so many.
-use Rattle.std.specs.Prelude.{ℕ, ◌+◌, ◌*◌, ◌/◌, ◌-◌, ◌==◌, if◌then◌else◌}
-use Rattle.ex_base.specs.Sizes.{leaf_bytes}
+use Rattle.std.specs.Prelude.{ℕ, ◌==◌, if◌then◌else◌}
+use Rattle.ex_base.specs.Needs.{growth_need, replace_need, delete_need}
 use Rattle.ex_base.specs.declared.geometry.Geometry.{Geometry}
 use Rattle.ex_base.specs.declared.names.Area.{Area}
-use Rattle.ex_base.specs.declared.names.Area.TheVariants.{Page, Segment}
 use Rattle.object_records.specs.Record.{Content, Small, Large}
 use Rattle.versions.specs.Versions.{Change, Inserts, Appends, Replaces, Deletes, count_of}
 
@@ -11,21 +10,6 @@ use Rattle.versions.specs.Versions.{Change, Inserts, Appends, Replaces, Deletes,
 abbrev pub height_in : Content → ℕ
 height_in (Small bytes) = 0
 height_in (Large root) = root.height
-
--- of an insert or an append of n bytes into a tree of height h
-abbrev pub growth_need : Geometry → ℕ → ℕ → Area → ℕ
-growth_need g n h Segment = n / leaf_bytes g + 5
-growth_need g n h Page = (n / leaf_bytes g + 5) / g.fan + 4 * (h + 3)
-
--- of a replace of n bytes
-abbrev pub replace_need : Geometry → ℕ → ℕ → Area → ℕ
-replace_need g n h Segment = 2 * n / leaf_bytes g + 3
-replace_need g n h Page = (2 * n / leaf_bytes g + 3) / (g.fan - 1) + 4 * (h + 1)
-
--- of a delete
-abbrev pub delete_need : ℕ → Area → ℕ
-delete_need h Segment = 4
-delete_need h Page = 8 * (h + 2)
 
 -- of an edit of a version that is large or becomes large; one of no bytes needs nothing
 abbrev pub most_need : Geometry → Change → ℕ → Area → ℕ

@@ -5,7 +5,7 @@ use Rattle.ex_base.specs.declared.ground.Ground as ground
 use Rattle.ex_base.specs.declared.geometry.Geometry.{Geometry}
 use Rattle.ex_base.specs.declared.names.Oid.{Oid}
 use Rattle.ex_base.specs.declared.names.Place.{Place}
-use Rattle.ex_base.specs.Sizes.{object_most}
+use Rattle.ex_base.specs.Sizes.{object_most, leaf_bytes}
 use Rattle.ex_base.specs.Edits.{inserted, deleted, replaced, appended}
 use Rattle.object_records.specs.Record.{Content, Small, Large, Record, BodyOf}
 use Rattle.object_records.specs.declared.Head.{Head}
@@ -13,11 +13,12 @@ use Rattle.object_records.specs.declared.State.TheVariants.{Current}
 use Rattle.slotted_pages.specs.FilePage.{room_of}
 use Rattle.slotted_pages.specs.Edits.{slots_of}
 use Rattle.file_index.specs.declared.Index.{Index}
-use Rattle.tree_model.specs.Trees.{Units, RootSpells, root_units}
-use Rattle.tree_insert.specs.Grown.{Turned}
+use Rattle.trees.specs.Shape.{Shape, ins_shape, app_shape}
+use Rattle.trees.specs.Trees.{Units, RootSpells, root_shape, root_units}
+use Rattle.trees.specs.Grown.{Turned}
 use Rattle.file_bodies.specs.Bodies.{EditsRow, bodies_of, pages_in}
 use Rattle.file_bodies.specs.Files.{HasFile, HasBody}
-use Rattle.file_bodies.specs.Places.{PlacesBody}
+use Rattle.file_bodies.specs.Places.{PlacesBody, PutsBody}
 
 -- ---- a version
 
@@ -77,6 +78,12 @@ pub record CreatesVersion {S : Type 0} (g : ground.Ghosts S) (old new : S) (inde
   pub spelled : BodyOf body (new_record oid.unique)
   pub places : PlacesBody g old new index (place_of oid) body
 
+-- A new object without bytes is put into a file at a place that it hadn't: on some page of the file with room, or on a new one.
+pub record PutsVersion {S : Type 0} (g : ground.Ghosts S) (old new : S) (index : Index) (oid : Oid) : Type 0 where
+  pub body : List ℕ
+  pub spelled : BodyOf body (new_record oid.unique)
+  pub puts : PutsBody g old new index (place_of oid) body
+
 -- ---- an edit
 
 -- what is done to the bytes of a version
@@ -128,9 +135,23 @@ StaysSmall g s place (Large root) n = ⊥
 abbrev pub AreInUse : {S : Type 0} → ground.Ghosts S → S → Type 0
 AreInUse g s = (page : ℕ) → g.held s page ≡ true → g.used s page ≡ true
 
--- The version at a place becomes one of other bytes: in its file one record changes, in its place and under its number; in its tree each unit is one
+-- the shape of a tree after an edit of its bytes; what a delete leaves is free
+abbrev pub IsTreeShape : Geometry → Change → Shape → Shape → Type 0
+IsTreeShape g (Inserts pos given) before after = after ≡ ins_shape g.fan (leaf_bytes g) before pos (length given)
+IsTreeShape g (Appends given) before after = after ≡ app_shape g.fan (leaf_bytes g) before (length given)
+IsTreeShape g (Replaces pos given) before after = after ≡ before
+IsTreeShape g (Deletes pos len) before after = Unit {0}
+
+-- The shape of the tree of a version after an edit, where it has one: a version that becomes large gets that of one append of its n bytes to no tree.
+abbrev pub HasShape : Geometry → Change → Units → Units → Content → ℕ → Content → Type 0
+HasShape g change old new (Small held) n (Small bytes) = Unit {0}
+HasShape g change old new (Large before) n (Small bytes) = Unit {0}
+HasShape g change old new (Small held) n (Large root) = root_shape new root ≡ app_shape g.fan (leaf_bytes g) None n
+HasShape g change old new (Large before) n (Large root) = IsTreeShape g change (root_shape old before) (root_shape new root)
+
+-- The version at a place becomes one of other bytes by a change: in its file one record changes, in its place and under its number; in its tree each unit is one
 -- of before or was free. No other logged page changes, none is taken or given back, and every unit in use keeps its bytes.
-pub record EditsVersion {S : Type 0} (g : ground.Ghosts S) (old new : S) (index : Index) (oid : Oid) (content : Content) (bytes : List ℕ) : Type 0 where
+pub record EditsVersion {S : Type 0} (g : ground.Ghosts S) (old new : S) (index : Index) (oid : Oid) (content : Content) (change : Change) (bytes : List ℕ) : Type 0 where
   pub now : Content
   pub version : HasVersion g new index oid now bytes
   pub small : IsSmall now ↔ StaysSmall g old (place_of oid) content (length bytes)
@@ -144,3 +165,4 @@ pub record EditsVersion {S : Type 0} (g : ground.Ghosts S) (old new : S) (index 
   pub used : (unit : ℕ) → g.used old unit ≡ true → g.used new unit ≡ true
   pub kept : (unit : ℕ) → g.used old unit ≡ true → g.held old unit ≡ false → g.unit new unit ≡ g.unit old unit
   pub units : Turned g old new (content_units (g.unit old) content) (content_units (g.unit new) now)
+  pub shape : HasShape (g.geometry old) change (g.unit old) (g.unit new) content (length bytes) now

@@ -6,15 +6,17 @@ ghost use Rattle.object_records.specs.Record.{BodyOf};
 ghost use Rattle.file_index.specs.declared.Index.{Index};
 ghost use Rattle.file_bodies.specs.Files.{HasFile};
 ghost use Rattle.file_bodies.specs.Places.{IsRoom};
-ghost use Rattle.versions.specs.Versions.{CreatesVersion};
+ghost use Rattle.file_bodies.specs.Placing.{start_of};
+ghost use Rattle.file_bodies.specs.Damage.{IsListedFault, IsPlacingFault};
+ghost use Rattle.versions.specs.Versions.{CreatesVersion, PutsVersion};
 
-use crate::LARGE_LEN;
 use ex_base::{Oid, PortFault, Volume};
 use file_bodies::{Room, place_body};
-use object_records::{Head, State, write_small};
+use object_records::{Head, LARGE_LEN, State, write_small};
 use std::alloc::Global;
 
 /// Puts the record of a new object into the file of `room`: a small version without bytes, under a number that no version has had. It takes at most 7 pages.
+/// Its place is the lowest with room where `room` is true of the file, and else some place that the file hadn't.
 pub fn create<V: Volume>(
     volume: &mut V,
     alloc: Global,
@@ -25,10 +27,14 @@ pub fn create<V: Volume>(
     requires free { 7 ≤ V.free volume.old Page }
     ensures created { IfOk result (λ oid. V.tells volume.old → (index : Index) → HasFile V.Ground volume.old index → index.file_no ≡ room.old.file_no → IsRoom V.Ground volume.old index room.old
         → CreatesVersion V.Ground volume.old volume.new index oid) }
+    ensures anywhere { IfOk result (λ oid. V.tells volume.old → (index : Index) → HasFile V.Ground volume.old index → index.file_no ≡ room.old.file_no
+        → PutsVersion V.Ground volume.old volume.new index oid) }
     ensures number { IfOk result (λ oid. oid.unique ≡ unique) }
     ensures room { IfOk result (λ oid. room.new ≡ record { file_no = room.old.file_no; from = oid.page; len = 36 }) }
     ensures pages { OnOk result (V.free volume.old Page ≤ V.free volume.new Page + 7) }
     ensures sound { IfErr result (λ fault. IsDamage fault → V.tells volume.old → (index : Index) → HasFile V.Ground volume.old index → index.file_no ≡ room.old.file_no → ⊥) }
+    ensures fault { IfErr result (λ fault. V.tells volume.old → IsListedFault (V.image volume.old) room.old.file_no
+        (λ index. IsPlacingFault (V.geometry volume.old) (V.image volume.old) index (start_of room.old 36) fault) fault) }
     ensures leads { V.leads volume.old volume.new }
     ensures cause { HasCause (V.faults volume.old) (V.faults volume.new) result }
 {

@@ -3,23 +3,26 @@ ghost use Rattle.std.specs.Prelude.{◌≡◌, ◌≤◌, ◌<◌, ◌+◌, ◌+
 ghost use Rattle.ex_base.specs.Ports.{Keeps, HasCause, IsDamage};
 ghost use Rattle.ex_base.specs.Sizes.{object_most};
 ghost use Rattle.ex_base.specs.declared.names.Area.{Area};
-ghost use Rattle.object_records.specs.Record.{Content, Small, BodyOf, IsRecord};
+ghost use Rattle.object_records.specs.Record.{Content, Record, Small, BodyOf, IsRecord};
 ghost use Rattle.object_records.specs.Reads.{small_record};
 ghost use Rattle.object_records.specs.declared.Head.{Head};
+ghost use Rattle.object_records.specs.declared.State.TheVariants.{Current};
 ghost use Rattle.file_index.specs.declared.Index.{Index};
-ghost use Rattle.file_bodies.specs.Files.{HasFiles, HasBody};
-ghost use Rattle.versions.specs.Versions.{HasVersion, Stands, AreInUse, EditsVersion, StaysSmall, FitsIn, InRange, changed, count_of, lone_head, place_of};
-ghost use Rattle.versions.specs.Needs.{edit_need, growth_need};
+ghost use Rattle.file_bodies.specs.Files.{HasFileOf, HasBody};
+ghost use Rattle.versions.specs.Versions.{HasRecord, HasVersion, Stands, Change, AreInUse, EditsVersion, StaysSmall, FitsIn, InRange, changed, count_of, lone_head, place_of};
+ghost use Rattle.ex_base.specs.Needs.{growth_need};
+ghost use Rattle.versions.specs.Needs.{edit_need};
 ghost use Rattle.versions.specs.Edited.{change_of, HasNeed};
 ghost use Rattle.versions.specs.Put.{PutsRecord};
+ghost use Rattle.versions.specs.Damage.{no_tree, IsStepFault, IsBytesFault, IsVersionFault};
+ghost use Rattle.file_bodies.specs.Damage.{IsPlaceFault};
 
-use crate::SIZE_MOST;
-use crate::finding::{find, read_small};
+use crate::finding::{Found, find, read_small, stood};
 use crate::growing::{convert, edit_large};
-use crate::recorded::{no_record, place_of};
-use ex_base::{Oid, Place, PortFault, Volume};
+use crate::recorded::{check, place_of};
+use ex_base::{OBJECT_MOST, Oid, Place, PortFault, ReadVolume, Volume};
 use file_bodies::change_body;
-use object_records::{Head, body_len, write_small};
+use object_records::{Head, State, body_len, write_small};
 use std::alloc::Global;
 
 /// What is done to the bytes of a version. Positions and lengths are in bytes.
@@ -55,8 +58,8 @@ impl<'a> Edit<'a> {
     {
         let count = self.count();
         match self {
-            Edit::Insert { pos, .. } => *pos <= size && count <= SIZE_MOST - size,
-            Edit::Append { .. } => count <= SIZE_MOST - size,
+            Edit::Insert { pos, .. } => *pos <= size && count <= OBJECT_MOST - size,
+            Edit::Append { .. } => count <= OBJECT_MOST - size,
             Edit::Replace { pos, .. } | Edit::Delete { pos, .. } => {
                 count <= size && *pos <= size - count
             }
@@ -122,6 +125,7 @@ fn put_small_by<V: Volume>(
     ensures kept { IfOk result (λ done. IsFalse done → Keeps V.Ground volume.old volume.new) }
     ensures free { IfOk result (λ done. V.free volume.new ≡ V.free volume.old) }
     ensures sound { IfErr result (λ fault. IsDamage fault → V.tells volume.old → (index : Index) (was : List ℕ) → HasBody V.Ground volume.old index place was → ⊥) }
+    ensures fault { IfErr result (λ fault. V.tells volume.old → IsPlaceFault (V.geometry volume.old) (V.image volume.old place.page.0) place fault) }
     ensures leads { V.leads volume.old volume.new }
     ensures cause { HasCause (V.faults volume.old) (V.faults volume.new) result }
 {
@@ -145,6 +149,7 @@ fn put_small<V: Volume>(
     ensures kept { IfOk result (λ done. IsFalse done → Keeps V.Ground volume.old volume.new) }
     ensures free { IfOk result (λ done. V.free volume.new ≡ V.free volume.old) }
     ensures sound { IfErr result (λ fault. IsDamage fault → V.tells volume.old → (index : Index) (was : List ℕ) → HasBody V.Ground volume.old index place was → ⊥) }
+    ensures fault { IfErr result (λ fault. V.tells volume.old → IsPlaceFault (V.geometry volume.old) (V.image volume.old place.page.0) place fault) }
     ensures leads { V.leads volume.old volume.new }
     ensures cause { HasCause (V.faults volume.old) (V.faults volume.new) result }
 {
@@ -159,7 +164,7 @@ fn put_small<V: Volume>(
 
 /// Whether an edit that names so many bytes may leave so many of a version whose record stood on a page: more than none, and no more than the page's beside
 /// its own.
-fn is_grown<V: Volume>(volume: &V, count: u64, len: usize) -> bool
+fn is_grown<V: ReadVolume>(volume: &V, count: u64, len: usize) -> bool
     requires ready { V.ready volume.now }
     requires count { count ≤ object_most }
     ensures { IsTrue result ↔ ((1 ≤ len) × (len ≤ count + (V.geometry volume.now).page_size)) }
@@ -182,13 +187,14 @@ fn put_edited<V: Volume>(
     requires limit { length bytes.now ≤ object_most }
     ensures size { IfOk result (λ size. size ≡ length bytes.now) }
     ensures edited { OnOk result (V.tells volume.old → AreInUse V.Ground volume.old → head.now ≡ lone_head oid.now.unique → (index : Index) (held : List ℕ) → HasVersion V.Ground volume.old index oid.now (Small held) held
-        → EditsVersion V.Ground volume.old volume.new index oid.now (Small held) bytes.now) }
+        → (change : Change) → EditsVersion V.Ground volume.old volume.new index oid.now (Small held) change bytes.now) }
     ensures small { OnOk result (V.tells volume.old → (index : Index) (held : List ℕ) → HasVersion V.Ground volume.old index oid.now (Small held) held
         → StaysSmall V.Ground volume.old (place_of oid.now) (Small held) (length bytes.now) → V.free volume.new ≡ V.free volume.old) }
     ensures free { OnOk result ((area : Area) → V.free volume.old area ≤ V.free volume.new area + growth_need (V.geometry volume.old) count 0 area) }
     ensures sound { IfErr result (λ fault. IsDamage fault → V.tells volume.old → AreInUse V.Ground volume.old → (index : Index) (held : List ℕ) → HasVersion V.Ground volume.old index oid.now (Small held) held
         → length bytes.now ≤ length held + count → length (V.image volume.old oid.now.page.0) ≡ (V.geometry volume.old).page_size
         → ((StaysSmall V.Ground volume.old (place_of oid.now) (Small held) (length bytes.now) → ⊥) → (area : Area) → growth_need (V.geometry volume.old) count 0 area ≤ V.free volume.old area) → ⊥) }
+    ensures fault { IfErr result (λ fault. V.tells volume.old → IsBytesFault (V.geometry volume.old) (V.unit volume.old) oid.now no_tree fault) }
     ensures leads { V.leads volume.old volume.new }
     ensures cause { HasCause (V.faults volume.old) (V.faults volume.new) result }
 {
@@ -197,14 +203,12 @@ fn put_edited<V: Volume>(
         Ok(false) => {}
         Err(fault) => return Err(fault),
     }
-    if !is_grown(volume, count, bytes.len()) {
-        return Err(no_record(place_of(oid)));
-    }
+    check(is_grown(volume, count, bytes.len()), place_of(oid))?;
     convert(volume, alloc, oid, head, count, bytes)
 }
 
 /// The bytes of a small version after an edit, by way of its bytes.
-fn edited_by<V: Volume>(
+fn edited_by<V: ReadVolume>(
     volume: &mut V,
     alloc: Global,
     place: Place,
@@ -214,13 +218,14 @@ fn edited_by<V: Volume>(
     requires ready { V.ready volume.old }
     requires range { InRange (change_of edit.now) (length old.old) }
     requires short { length old.old < 65536 }
-    ensures bytes { IfOk result (λ made. V.tells volume.old → HasFiles V.Ground volume.old → (index : Index) (body : List ℕ) (head : Head) (bytes : List ℕ) → HasBody V.Ground volume.old index place body → BodyOf body (small_record head bytes)
+    ensures bytes { IfOk result (λ made. V.tells volume.old → (index : Index) (body : List ℕ) (head : Head) (bytes : List ℕ) → HasBody V.Ground volume.old index place body → BodyOf body (small_record head bytes)
         → length bytes ≡ length old.old → made.items ≡ changed (change_of edit.now) bytes) }
     ensures len { IfOk result (λ made. length made.items ≤ length old.old + count_of (change_of edit.now)) }
     ensures limit { IfOk result (λ made. length made.items ≤ object_most) }
-    ensures sound { IfErr result (λ fault. IsDamage fault → V.tells volume.old → HasFiles V.Ground volume.old → (index : Index) (body : List ℕ) (head : Head) (bytes : List ℕ) → HasBody V.Ground volume.old index place body → BodyOf body (small_record head bytes)
+    ensures sound { IfErr result (λ fault. IsDamage fault → V.tells volume.old → (index : Index) (body : List ℕ) (head : Head) (bytes : List ℕ) → HasBody V.Ground volume.old index place body → BodyOf body (small_record head bytes)
         → length bytes ≡ length old.old → ⊥) }
     ensures page { OnOk result (V.tells volume.old → (index : Index) (body : List ℕ) → HasBody V.Ground volume.old index place body → length (V.image volume.old place.page.0) ≡ (V.geometry volume.old).page_size) }
+    ensures fault { IfErr result (λ fault. V.tells volume.old → IsStepFault (V.geometry volume.old) (V.image volume.old) place fault) }
     ensures kept { Keeps V.Ground volume.old volume.new }
     ensures cause { HasCause (V.faults volume.old) (V.faults volume.new) result }
 {
@@ -231,7 +236,7 @@ fn edited_by<V: Volume>(
 }
 
 /// The bytes of a small version of so many, after an edit.
-fn edited_small<V: Volume>(
+fn edited_small<V: ReadVolume>(
     volume: &mut V,
     alloc: Global,
     place: Place,
@@ -241,13 +246,14 @@ fn edited_small<V: Volume>(
     requires ready { V.ready volume.old }
     requires range { InRange (change_of edit.now) size }
     requires short { size < 65536 }
-    ensures bytes { IfOk result (λ made. V.tells volume.old → HasFiles V.Ground volume.old → (index : Index) (body : List ℕ) (head : Head) (bytes : List ℕ) → HasBody V.Ground volume.old index place body → BodyOf body (small_record head bytes)
+    ensures bytes { IfOk result (λ made. V.tells volume.old → (index : Index) (body : List ℕ) (head : Head) (bytes : List ℕ) → HasBody V.Ground volume.old index place body → BodyOf body (small_record head bytes)
         → length bytes ≡ size → made.items ≡ changed (change_of edit.now) bytes) }
     ensures len { IfOk result (λ made. length made.items ≤ size + count_of (change_of edit.now)) }
     ensures limit { IfOk result (λ made. length made.items ≤ object_most) }
-    ensures sound { IfErr result (λ fault. IsDamage fault → V.tells volume.old → HasFiles V.Ground volume.old → (index : Index) (body : List ℕ) (head : Head) (bytes : List ℕ) → HasBody V.Ground volume.old index place body → BodyOf body (small_record head bytes)
+    ensures sound { IfErr result (λ fault. IsDamage fault → V.tells volume.old → (index : Index) (body : List ℕ) (head : Head) (bytes : List ℕ) → HasBody V.Ground volume.old index place body → BodyOf body (small_record head bytes)
         → length bytes ≡ size → ⊥) }
     ensures page { OnOk result (V.tells volume.old → (index : Index) (body : List ℕ) → HasBody V.Ground volume.old index place body → length (V.image volume.old place.page.0) ≡ (V.geometry volume.old).page_size) }
+    ensures fault { IfErr result (λ fault. V.tells volume.old → IsStepFault (V.geometry volume.old) (V.image volume.old) place fault) }
     ensures kept { Keeps V.Ground volume.old volume.new }
     ensures cause { HasCause (V.faults volume.old) (V.faults volume.new) result }
 {
@@ -270,16 +276,17 @@ fn edit_small<V: Volume>(
     requires head { IsRecord (small_record head.now []) }
     requires range { InRange (change_of edit.now) size }
     requires short { size < 65536 }
-    ensures size { IfOk result (λ n. V.tells volume.old → HasFiles V.Ground volume.old → (index : Index) (bytes : List ℕ) → HasVersion V.Ground volume.old index oid.now (Small bytes) bytes → length bytes ≡ size
+    ensures size { IfOk result (λ n. V.tells volume.old → (index : Index) (bytes : List ℕ) → HasVersion V.Ground volume.old index oid.now (Small bytes) bytes → length bytes ≡ size
         → n ≡ length (changed (change_of edit.now) bytes)) }
-    ensures edited { OnOk result (V.tells volume.old → HasFiles V.Ground volume.old → AreInUse V.Ground volume.old → head.now ≡ lone_head oid.now.unique → (index : Index) (bytes : List ℕ)
-        → HasVersion V.Ground volume.old index oid.now (Small bytes) bytes → length bytes ≡ size → EditsVersion V.Ground volume.old volume.new index oid.now (Small bytes) (changed (change_of edit.now) bytes)) }
-    ensures small { OnOk result (V.tells volume.old → HasFiles V.Ground volume.old → (index : Index) (bytes : List ℕ) → HasVersion V.Ground volume.old index oid.now (Small bytes) bytes → length bytes ≡ size
+    ensures edited { OnOk result (V.tells volume.old → AreInUse V.Ground volume.old → head.now ≡ lone_head oid.now.unique → (index : Index) (bytes : List ℕ)
+        → HasVersion V.Ground volume.old index oid.now (Small bytes) bytes → length bytes ≡ size → EditsVersion V.Ground volume.old volume.new index oid.now (Small bytes) (change_of edit.now) (changed (change_of edit.now) bytes)) }
+    ensures small { OnOk result (V.tells volume.old → (index : Index) (bytes : List ℕ) → HasVersion V.Ground volume.old index oid.now (Small bytes) bytes → length bytes ≡ size
         → StaysSmall V.Ground volume.old (place_of oid.now) (Small bytes) (length (changed (change_of edit.now) bytes)) → V.free volume.new ≡ V.free volume.old) }
     ensures free { OnOk result ((area : Area) → V.free volume.old area ≤ V.free volume.new area + growth_need (V.geometry volume.old) (count_of (change_of edit.now)) 0 area) }
-    ensures sound { IfErr result (λ fault. IsDamage fault → V.tells volume.old → HasFiles V.Ground volume.old → AreInUse V.Ground volume.old → (index : Index) (bytes : List ℕ)
+    ensures sound { IfErr result (λ fault. IsDamage fault → V.tells volume.old → AreInUse V.Ground volume.old → (index : Index) (bytes : List ℕ)
         → HasVersion V.Ground volume.old index oid.now (Small bytes) bytes → length bytes ≡ size
         → ((StaysSmall V.Ground volume.old (place_of oid.now) (Small bytes) (length (changed (change_of edit.now) bytes)) → ⊥) → (area : Area) → growth_need (V.geometry volume.old) (count_of (change_of edit.now)) 0 area ≤ V.free volume.old area) → ⊥) }
+    ensures fault { IfErr result (λ fault. V.tells volume.old → IsVersionFault (V.geometry volume.old) (V.unit volume.old) (V.image volume.old) oid.now fault) }
     ensures leads { V.leads volume.old volume.new }
     ensures cause { HasCause (V.faults volume.old) (V.faults volume.new) result }
 {
@@ -287,6 +294,14 @@ fn edit_small<V: Volume>(
         Ok(bytes) => put_edited(volume, alloc, oid, head, edit.count(), &bytes),
         Err(fault) => Err(fault),
     }
+}
+
+/// Whether a version may be edited: it is a current one, and the edit's range lies inside it.
+fn is_editable(found: &Found, edit: &Edit) -> bool
+    requires { found.now.size ≤ object_most }
+    ensures { IsTrue result ↔ ((found.now.head.state ≡ Current) × InRange (change_of edit.now) found.now.size) }
+{
+    found.head.state == State::Current && edit.is_in_range(found.size)
 }
 
 /// Edits a version, and answers its new size. An edit of no bytes changes nothing. A small version becomes large exactly where its record would not fit
@@ -298,32 +313,30 @@ pub fn apply<V: Volume>(
     edit: &Edit,
 ) -> Result<u64, PortFault>
     requires { V.ready volume.old }
-    ensures stands { OnOk result (V.tells volume.old → HasFiles V.Ground volume.old → Stands V.Ground volume.old oid.now) }
-    ensures size { IfOk result (λ size. V.tells volume.old → HasFiles V.Ground volume.old → (index : Index) (content : Content) (bytes : List ℕ) → HasVersion V.Ground volume.old index oid.now content bytes
+    ensures stands { OnOk result (V.tells volume.old → HasFileOf V.Ground volume.old oid.now.page.0 → Stands V.Ground volume.old oid.now) }
+    ensures asked { OnOk result (V.tells volume.old → (index : Index) (is : Record) → HasRecord V.Ground volume.old index oid.now is → is.head.state ≡ Current) }
+    ensures size { IfOk result (λ size. V.tells volume.old → (index : Index) (content : Content) (bytes : List ℕ) → HasVersion V.Ground volume.old index oid.now content bytes
         → InRange (change_of edit.now) (length bytes) × (size ≡ length (changed (change_of edit.now) bytes))) }
     ensures nothing { OnOk result (count_of (change_of edit.now) ≡ 0 → Keeps V.Ground volume.old volume.new) }
-    ensures edited { OnOk result (1 ≤ count_of (change_of edit.now) → V.tells volume.old → HasFiles V.Ground volume.old → AreInUse V.Ground volume.old
+    ensures edited { OnOk result (1 ≤ count_of (change_of edit.now) → V.tells volume.old → AreInUse V.Ground volume.old
         → (index : Index) (content : Content) (bytes : List ℕ) → HasVersion V.Ground volume.old index oid.now content bytes
-        → EditsVersion V.Ground volume.old volume.new index oid.now content (changed (change_of edit.now) bytes)) }
-    ensures small { OnOk result (V.tells volume.old → HasFiles V.Ground volume.old → (index : Index) (content : Content) (bytes : List ℕ) → HasVersion V.Ground volume.old index oid.now content bytes
+        → EditsVersion V.Ground volume.old volume.new index oid.now content (change_of edit.now) (changed (change_of edit.now) bytes)) }
+    ensures small { OnOk result (V.tells volume.old → (index : Index) (content : Content) (bytes : List ℕ) → HasVersion V.Ground volume.old index oid.now content bytes
         → StaysSmall V.Ground volume.old (place_of oid.now) content (length (changed (change_of edit.now) bytes)) → V.free volume.new ≡ V.free volume.old) }
-    ensures free { OnOk result (V.tells volume.old → HasFiles V.Ground volume.old → (index : Index) (content : Content) (bytes : List ℕ) → HasVersion V.Ground volume.old index oid.now content bytes
+    ensures free { OnOk result (V.tells volume.old → (index : Index) (content : Content) (bytes : List ℕ) → HasVersion V.Ground volume.old index oid.now content bytes
         → (area : Area) → V.free volume.old area ≤ V.free volume.new area + edit_need (V.geometry volume.old) (change_of edit.now) content area) }
-    ensures sound { IfErr result (λ fault. IsDamage fault → V.tells volume.old → HasFiles V.Ground volume.old → AreInUse V.Ground volume.old
+    ensures sound { IfErr result (λ fault. IsDamage fault → V.tells volume.old → AreInUse V.Ground volume.old
         → (index : Index) (content : Content) (bytes : List ℕ) → HasVersion V.Ground volume.old index oid.now content bytes → InRange (change_of edit.now) (length bytes)
         → HasNeed V.Ground volume.old (place_of oid.now) content (change_of edit.now) (length (changed (change_of edit.now) bytes)) → ⊥) }
+    ensures fault { IfErr result (λ fault. V.tells volume.old
+        → IsVersionFault (V.geometry volume.old) (V.unit volume.old) (V.image volume.old) oid.now fault) }
     ensures leads { V.leads volume.old volume.new }
     ensures cause { HasCause (V.faults volume.old) (V.faults volume.new) result }
 {
     let place = place_of(oid);
-    let found = match find(volume, alloc, oid) {
-        Ok(Some(found)) => found,
-        Ok(None) => return Err(no_record(place)),
-        Err(fault) => return Err(fault),
-    };
-    if !edit.is_in_range(found.size) {
-        return Err(no_record(place));
-    }
+    let told = find(volume, alloc, oid)?;
+    let found = stood(told, place)?;
+    check(is_editable(&found, edit), place)?;
     if edit.count() == 0 {
         return Ok(found.size);
     }

@@ -1,22 +1,24 @@
 //! What is told of the version that an OID names, and its bytes.
-ghost use Rattle.std.specs.Prelude.{◌≡◌, ◌↔◌, IsTrue, ◌≤◌, ◌+◌, ℕ, List, length, [], ◌<◌, IfOk, IfErr, IfSome, IfNone, OnOk, Some, None};
+ghost use Rattle.std.specs.Prelude.{◌≡◌, ◌↔◌, IsTrue, ◌≤◌, ◌+◌, ℕ, List, length, [], ◌<◌, IfOk, IfErr, IfSome, IfNone, IsSome, OnOk, Some, None};
 ghost use Rattle.ex_base.specs.Bytes.{bytes_at};
 ghost use Rattle.ex_base.specs.Ports.{Keeps, HasCause, IsDamage};
 ghost use Rattle.object_records.specs.Record.{Content, Record, BodyOf, IsRecord};
 ghost use Rattle.object_records.specs.Reads.{small_record};
 ghost use Rattle.object_records.specs.declared.Head.{Head};
 ghost use Rattle.file_index.specs.declared.Index.{Index};
-ghost use Rattle.file_bodies.specs.Files.{HasFiles, HasBody};
-ghost use Rattle.tree_insert.specs.Roots.{IsRootFor};
+ghost use Rattle.file_bodies.specs.Files.{HasFileOf, HasBody};
+ghost use Rattle.trees.specs.Roots.{IsRootFor};
 ghost use Rattle.versions.specs.Versions.{HasRecord, HoldsVersion, Stands, place_of};
 ghost use Rattle.versions.specs.Found.{IsReadable, IsRecordBody, IsTold, found_of};
+ghost use Rattle.versions.specs.Damage.{record_fault, IsFoundAt, IsBodyFault, IsFindingFault, IsStepFault, IsVersionFault};
 
-use crate::recorded::{no_record, no_root, place_of};
-use ex_base::{Geometry, Oid, Place, PortFault, Root, Volume};
+use crate::recorded::{check, no_record, no_root, place_of};
+use ex_base::{Geometry, Oid, Place, PortFault, ReadVolume, Root};
 use file_bodies::body_at;
 use object_records::{Head, Payload, RecordView};
 use std::alloc::Global;
-use tree_insert::{is_root_for, read};
+use tree_insert::read;
+use trees::is_root_for;
 
 /// What is told of a version.
 #[derive(Clone, Copy, Debug, PartialEq, Eq)]
@@ -33,6 +35,7 @@ fn told_of(body: &[u8], geometry: &Geometry, oid: &Oid) -> Result<Option<Found>,
     ensures some { IfOk result (λ found. IfSome found (λ found. IsTold geometry.now oid.now.unique body.now found)) }
     ensures none { IfOk result (λ found. IfNone found ((is : Record) → BodyOf body.now is → is.head.unique ≡ oid.now.unique → ⊥)) }
     ensures sound { IfErr result (λ fault. IsRecordBody geometry.now body.now → ⊥) }
+    ensures fault { IfErr result (IsBodyFault geometry.now oid.now body.now) }
     ensures cause { (before now : ℕ) → HasCause before now result }
 {
     let Some(view) = RecordView::of(body) else {
@@ -62,17 +65,24 @@ fn told_of(body: &[u8], geometry: &Geometry, oid: &Oid) -> Result<Option<Found>,
 }
 
 /// What is told of the version that an OID names. None exactly where no record with its unique number stands where it leads.
-pub fn find<V: Volume>(volume: &mut V, alloc: Global, oid: &Oid) -> Result<Option<Found>, PortFault>
+pub fn find<V: ReadVolume>(
+    volume: &mut V,
+    alloc: Global,
+    oid: &Oid,
+) -> Result<Option<Found>, PortFault>
     requires { V.ready volume.old }
-    ensures stands { IfOk result (λ found. IfSome found (λ _. V.tells volume.old → HasFiles V.Ground volume.old → Stands V.Ground volume.old oid.now)) }
-    ensures told { IfOk result (λ found. V.tells volume.old → HasFiles V.Ground volume.old → (index : Index) (is : Record) → HasRecord V.Ground volume.old index oid.now is → found ≡ Some (found_of is)) }
-    ensures size { IfOk result (λ found. V.tells volume.old → HasFiles V.Ground volume.old → (index : Index) (content : Content) (bytes : List ℕ) → HoldsVersion V.Ground volume.old index oid.now content bytes
+    ensures stands { IfOk result (λ found. IfSome found (λ _. V.tells volume.old → HasFileOf V.Ground volume.old oid.now.page.0 → Stands V.Ground volume.old oid.now)) }
+    ensures told { IfOk result (λ found. V.tells volume.old → (index : Index) (is : Record) → HasRecord V.Ground volume.old index oid.now is → found ≡ Some (found_of is)) }
+    ensures size { IfOk result (λ found. V.tells volume.old → (index : Index) (content : Content) (bytes : List ℕ) → HoldsVersion V.Ground volume.old index oid.now content bytes
         → IfSome found (λ found. found.size ≡ length bytes)) }
     ensures head { IfOk result (λ found. IfSome found (λ found. IsRecord (small_record found.head []))) }
     ensures small { IfOk result (λ found. IfSome found (λ found. found.root ≡ None → found.size < 65536)) }
     ensures root { IfOk result (λ found. IfSome found (λ found. IfSome found.root (λ root. IsRootFor (V.geometry volume.old) root))) }
     ensures large { IfOk result (λ found. IfSome found (λ found. IfSome found.root (λ root. found.size ≡ root.size))) }
-    ensures sound { IfErr result (λ fault. IsDamage fault → V.tells volume.old → HasFiles V.Ground volume.old → IsReadable V.Ground volume.old (place_of oid.now) → ⊥) }
+    ensures reads { IfOk result (λ found. IfSome found (λ found. V.tells volume.old → IsFoundAt (V.geometry volume.old) (V.image volume.old) oid.now found)) }
+    ensures sound { IfErr result (λ fault. IsDamage fault → V.tells volume.old → HasFileOf V.Ground volume.old oid.now.page.0
+        → IsReadable V.Ground volume.old (place_of oid.now) → ⊥) }
+    ensures fault { IfErr result (λ fault. V.tells volume.old → IsFindingFault (V.geometry volume.old) (V.image volume.old) oid.now fault) }
     ensures kept { Keeps V.Ground volume.old volume.new }
     ensures cause { HasCause (V.faults volume.old) (V.faults volume.new) result }
 {
@@ -84,11 +94,24 @@ pub fn find<V: Volume>(volume: &mut V, alloc: Global, oid: &Oid) -> Result<Optio
     }
 }
 
-/// Copies a part of a small version's bytes out of its record.
-fn copy_small(body: &[u8], place: Place, pos: u64, out: &mut [u8]) -> Result<(), PortFault>
+/// What is told of a version that a call asks for, else the fault of its place.
+pub(crate) fn stood(told: Option<Found>, place: Place) -> Result<Found, PortFault>
+    ensures some { IfOk result (λ found. told ≡ Some found) }
+    ensures fault { IfErr result (λ fault. (told ≡ None) × (fault ≡ record_fault place)) }
+    ensures cause { (before now : ℕ) → HasCause before now result }
+{
+    match told {
+        Some(found) => Ok(found),
+        None => Err(no_record(place)),
+    }
+}
+
+/// Copies a part of a small version's bytes out of the body of its record.
+fn copy_record(body: &[u8], place: Place, pos: u64, out: &mut [u8]) -> Result<(), PortFault>
     ensures bytes { OnOk result ((head : Head) (bytes : List ℕ) → BodyOf body.now (small_record head bytes) → (pos + length out.old ≤ length bytes) × (out.new ≡ bytes_at bytes pos (length out.old))) }
     ensures len { length out.new ≡ length out.old }
     ensures sound { IfErr result (λ fault. (head : Head) (bytes : List ℕ) → BodyOf body.now (small_record head bytes) → pos + length out.old ≤ length bytes → ⊥) }
+    ensures fault { IfErr result (λ fault. fault ≡ record_fault place) }
     ensures cause { (before now : ℕ) → HasCause before now result }
 {
     let Some(view) = RecordView::of(body) else {
@@ -105,8 +128,25 @@ fn copy_small(body: &[u8], place: Place, pos: u64, out: &mut [u8]) -> Result<(),
     Ok(())
 }
 
+/// Copies a part of a small version's bytes out of the body of its record, where one stands at the place.
+fn copy_small(body: Option<&[u8]>, place: Place, pos: u64, out: &mut [u8]) -> Result<(), PortFault>
+    ensures bytes { OnOk result (IfSome body.entry (λ body. (head : Head) (bytes : List ℕ) → BodyOf body.now (small_record head bytes)
+        → (pos + length out.old ≤ length bytes) × (out.new ≡ bytes_at bytes pos (length out.old)))) }
+    ensures len { length out.new ≡ length out.old }
+    ensures sound { IfErr result (λ fault. IfSome body.entry (λ body. (head : Head) (bytes : List ℕ) → BodyOf body.now (small_record head bytes)
+        → pos + length out.old ≤ length bytes → ⊥)) }
+    ensures none { OnOk result (IsSome body.entry) }
+    ensures fault { IfErr result (λ fault. fault ≡ record_fault place) }
+    ensures cause { (before now : ℕ) → HasCause before now result }
+{
+    match body {
+        Some(body) => copy_record(body, place, pos, out),
+        None => Err(no_record(place)),
+    }
+}
+
 /// Reads a part of a small version's bytes.
-pub(crate) fn read_small<V: Volume>(
+pub(crate) fn read_small<V: ReadVolume>(
     volume: &mut V,
     alloc: Global,
     place: Place,
@@ -114,18 +154,18 @@ pub(crate) fn read_small<V: Volume>(
     out: &mut [u8],
 ) -> Result<(), PortFault>
     requires { V.ready volume.old }
-    ensures bytes { OnOk result (V.tells volume.old → HasFiles V.Ground volume.old → (index : Index) (body : List ℕ) (head : Head) (bytes : List ℕ) → HasBody V.Ground volume.old index place body → BodyOf body (small_record head bytes)
+    ensures bytes { OnOk result (V.tells volume.old → (index : Index) (body : List ℕ) (head : Head) (bytes : List ℕ) → HasBody V.Ground volume.old index place body → BodyOf body (small_record head bytes)
         → (pos + length out.old ≤ length bytes) × (out.new ≡ bytes_at bytes pos (length out.old))) }
     ensures page { OnOk result (V.tells volume.old → (index : Index) (body : List ℕ) → HasBody V.Ground volume.old index place body → length (V.image volume.old place.page.0) ≡ (V.geometry volume.old).page_size) }
     ensures len { length out.new ≡ length out.old }
-    ensures sound { IfErr result (λ fault. IsDamage fault → V.tells volume.old → HasFiles V.Ground volume.old → (index : Index) (body : List ℕ) (head : Head) (bytes : List ℕ) → HasBody V.Ground volume.old index place body → BodyOf body (small_record head bytes)
+    ensures sound { IfErr result (λ fault. IsDamage fault → V.tells volume.old → (index : Index) (body : List ℕ) (head : Head) (bytes : List ℕ) → HasBody V.Ground volume.old index place body → BodyOf body (small_record head bytes)
         → pos + length out.old ≤ length bytes → ⊥) }
+    ensures fault { IfErr result (λ fault. V.tells volume.old → IsStepFault (V.geometry volume.old) (V.image volume.old) place fault) }
     ensures kept { Keeps V.Ground volume.old volume.new }
     ensures cause { HasCause (V.faults volume.old) (V.faults volume.new) result }
 {
     match body_at(volume, alloc, place) {
-        Ok(Some(body)) => copy_small(body, place, pos, out),
-        Ok(None) => Err(no_record(place)),
+        Ok(body) => copy_small(body, place, pos, out),
         Err(fault) => Err(fault),
     }
 }
@@ -139,7 +179,7 @@ fn is_inside(pos: u64, len: usize, size: u64) -> bool
 }
 
 /// Reads the bytes of a version from a position on, as many as `out` holds.
-pub fn read_at<V: Volume>(
+pub fn read_at<V: ReadVolume>(
     volume: &mut V,
     alloc: Global,
     oid: &Oid,
@@ -147,24 +187,22 @@ pub fn read_at<V: Volume>(
     out: &mut [u8],
 ) -> Result<(), PortFault>
     requires { V.ready volume.old }
-    ensures stands { OnOk result (V.tells volume.old → HasFiles V.Ground volume.old → Stands V.Ground volume.old oid.now) }
-    ensures bytes { OnOk result (V.tells volume.old → HasFiles V.Ground volume.old → (index : Index) (content : Content) (bytes : List ℕ) → HoldsVersion V.Ground volume.old index oid.now content bytes
+    ensures stands { OnOk result (V.tells volume.old → HasFileOf V.Ground volume.old oid.now.page.0 → Stands V.Ground volume.old oid.now) }
+    ensures bytes { OnOk result (V.tells volume.old → (index : Index) (content : Content) (bytes : List ℕ) → HoldsVersion V.Ground volume.old index oid.now content bytes
         → (pos + length out.old ≤ length bytes) × (out.new ≡ bytes_at bytes pos (length out.old))) }
-    ensures sound { IfErr result (λ fault. IsDamage fault → V.tells volume.old → HasFiles V.Ground volume.old → (index : Index) (content : Content) (bytes : List ℕ) → HoldsVersion V.Ground volume.old index oid.now content bytes
-        → pos + length out.old ≤ length bytes → ⊥) }
+    ensures sound { IfErr result (λ fault. IsDamage fault → V.tells volume.old → (index : Index) (content : Content) (bytes : List ℕ)
+        → HoldsVersion V.Ground volume.old index oid.now content bytes → pos + length out.old ≤ length bytes → ⊥) }
+    ensures fault { IfErr result (λ fault. V.tells volume.old
+        → IsVersionFault (V.geometry volume.old) (V.unit volume.old) (V.image volume.old) oid.now fault) }
     ensures kept { Keeps V.Ground volume.old volume.new }
     ensures cause { HasCause (V.faults volume.old) (V.faults volume.new) result }
 {
-    let found = match find(volume, alloc, oid) {
-        Ok(Some(found)) => found,
-        Ok(None) => return Err(no_record(place_of(oid))),
-        Err(fault) => return Err(fault),
-    };
-    if !is_inside(pos, out.len(), found.size) {
-        return Err(no_record(place_of(oid)));
-    }
+    let place = place_of(oid);
+    let told = find(volume, alloc, oid)?;
+    let found = stood(told, place)?;
+    check(is_inside(pos, out.len(), found.size), place)?;
     match found.root {
-        None => read_small(volume, alloc, place_of(oid), pos, out),
+        None => read_small(volume, alloc, place, pos, out),
         Some(root) => read(volume, alloc, &root, pos, out),
     }
 }

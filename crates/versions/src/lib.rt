@@ -17,19 +17,5 @@ pub use creating::create;
 pub use destroying::destroy;
 pub use editing::{Edit, apply};
 pub use finding::{Found, find, read_at};
+pub use growing::large_need;
 pub use listing::objects;
-
-// The kinds that faults show.
-
-/// What is not what it should be.
-const UNKNOWN_SEEN: u8 = 0;
-
-const RECORD_SEEN: u8 = 4;
-
-const ROOT_SEEN: u8 = 7;
-
-/// The bytes of the record of a large version.
-const LARGE_LEN: usize = 36;
-
-/// The largest size of an object: the largest number of four bytes.
-const SIZE_MOST: u64 = u32::MAX as u64;

@@ -3,12 +3,12 @@ use Rattle.std.proofs.Common.{ℕ, List, [], ◌∷◌, ◌++◌}
 use Rattle.std.specs.Prelude.{Contains}
 use Rattle.std.specs.List.{AllByRecursion}
 use Rattle.ex_base.proofs.Rows.{each-append}
-use Rattle.tree_model.proofs.SameUnits.{split_each}
+use Rattle.ex_base.proofs.Each.{split_each}
+use Rattle.ex_base.proofs.Members.{contains_in, each_in, in_contains, of_each}
 use Rattle.volume_model.specs.Parts.{Apart, AllApart}
-use Rattle.volume_edits.proofs.Lists.{in_contains, contains_in, of_each, each_from}
 
 pub apart_sym : (xs ys : List ℕ) → Apart xs ys → Apart ys xs
-apart_sym xs ys h = each_from (λ y. ¬ Contains xs y) ys (λ y inside c. of_each (λ x. ¬ Contains ys x) y xs h (in_contains y xs c) (contains_in y ys inside))
+apart_sym xs ys h = each_in (λ y. ¬ Contains xs y) ys (λ y inside c. of_each (λ x. ¬ Contains ys x) y xs h (in_contains y xs c) (contains_in y ys inside))
 
 each_less : {A : Type 0} (P : A → Type 0) (xs : List A) (y : A) (zs : List A) → AllByRecursion P (xs ++ (y ∷ zs)) → AllByRecursion P (xs ++ zs)
 each_less P xs y zs h = let both = split_each P xs (y ∷ zs) h in each-append P xs zs both.0 both.1.1

@@ -1,5 +1,6 @@
 -- A volume whose catalog page alone changes.
 use Rattle.std.proofs.Common.{◌≡◌, ◌≢◌, ℕ, ◌<◌, ◌≤◌, Bool, true, false, List, [], ◌∷◌, ◌++◌, refl, sym, ap, subst, ◌∙◌, arith, inl, inr}
+use Rattle.std.proofs.lemmas.Bool.{cases_lt}
 use Rattle.std.specs.Prelude.{map, Contains, ◌↔◌}
 use Rattle.std.specs.List.{flat_map, AllByRecursion, AllZip}
 use Rattle.ex_base.specs.declared.ground.Ground as ground
@@ -8,19 +9,18 @@ use Rattle.ex_base.specs.declared.names.Root.{Root}
 use Rattle.ex_base.specs.Area.{catalog_no, area_end, InPageArea}
 use Rattle.ex_base.specs.Order.{Rising, AllDiffer}
 use Rattle.ex_base.specs.Ports.{times, PutsImage}
+use Rattle.ex_base.proofs.Each.{split_each, each_as, each_parted, each_with, flat_same, map_same, zip_with}
+use Rattle.ex_base.proofs.Counts.{same_or_not, times-append}
+use Rattle.ex_base.proofs.Members.{contains_in}
 use Rattle.op_log.specs.declared.record.LogRecord.{LogRecord}
 use Rattle.file_index.specs.Index.{IsFilesPage}
-use Rattle.file_index.proofs.Counts.{times-append, same_or_not}
 use Rattle.file_bodies.proofs.Moving.{moved}
 use Rattle.file_bodies.proofs.Rows.{each_at}
-use Rattle.file_bodies.proofs.Searching.{lt_or_le}
 use Rattle.object_files.specs.Catalog.{FileEntry, CatalogOf}
-use Rattle.tree_model.specs.Trees.{Units, root_units, RootNamed}
-use Rattle.tree_model.proofs.SameUnits.{split_each}
+use Rattle.trees.specs.Trees.{Units, root_units, RootNamed}
 use Rattle.volume_model.specs.Parts.{HasIndex, HasPages, HasLines, HasNodes, HasBalance, HasUniques, Apart, AllApart, IsLastOf, HoldsOf, content_parts}
 use Rattle.volume_model.specs.Volume.{Stored, Line, FileContent, Volume, line_records, lines_of, stored_in, pages_of_file, file_pages, unique_of, line_number, roots_in, line_units, reach_of, table_of}
 use Rattle.volume_edits.specs.Ported.{IsVolume, IsApart, units_in}
-use Rattle.volume_edits.proofs.Lists.{contains_in, each_as, each_with, each_parts, zip_with, map_same, flat_same}
 use Rattle.volume_edits.proofs.Kept.{RootKept, LineKept, units_of_root, named_root, balance_kept, line_units_same, roots_of_lines, files_same}
 use Rattle.volume_edits.proofs.Counted.{file_lies, in_area}
 use Rattle.volume_edits.proofs.Frames.{past_area}
@@ -55,7 +55,7 @@ module _ {S : Type 0} (g : ground.Ghosts S) (old new : S) (records : List LogRec
   Stays p = U' p ≡ U p
 
   stays : (p : ℕ) → p ≢ catalog_no → Stays p
-  stays p differ = elim (lt_or_le p (area_end (g.geometry old))) [
+  stays p differ = elim (cases_lt p (area_end (g.geometry old))) [
     | inl lt ↦ in_area g new p (subst (λ (gm : Geometry). p < area_end gm) (sym geometry) lt) ∙ puts.images p differ ∙ sym (in_area g old p lt)
     | inr le ↦ past_area g new p (subst (λ (gm : Geometry). area_end gm ≤ p) (sym geometry) le) ∙ ap (λ (f : ℕ → List ℕ). f p) puts.units ∙ sym (past_area g old p le)
   ]
@@ -183,5 +183,5 @@ module _ {S : Type 0} (g : ground.Ghosts S) (old new : S) (records : List LogRec
   pub table_same : table_of U' now ≡ table_of U now
   table_same =
       let kept = subst (AllByRecursion (LineKept U U')) (sym is.lines_same) lines_kept in
-      let files = files_same U U' now.catalog.entries now.files (each_parts (LineKept U U') (λ (file : FileContent). file.lines) now.files kept) in
+      let files = files_same U U' now.catalog.entries now.files (each_parted (LineKept U U') (λ (file : FileContent). file.lines) now.files kept) in
       cc files

@@ -9,27 +9,30 @@ use Rattle.ex_base.specs.declared.names.Place.{Place}
 use Rattle.ex_base.specs.Area.{catalog_no}
 use Rattle.ex_base.specs.Order.{Rising}
 use Rattle.ex_base.specs.Ports.{times}
+use Rattle.ex_base.proofs.Counts.{contains_times, times-append}
+use Rattle.ex_base.proofs.Members.{In, contains_in, in_contains, in_left, in_right, of_each}
+use Rattle.ex_base.proofs.Each.{each_with}
 use Rattle.op_log.specs.declared.record.LogRecord.{LogRecord}
 use Rattle.file_index.specs.declared.Index.{Index}
 use Rattle.file_index.specs.Changes.{count_of}
 use Rattle.file_index.specs.Index.{IsFilesPage, pages_of}
-use Rattle.file_index.proofs.Counts.{times-append, count_most, is_counted}
+use Rattle.file_index.proofs.Counts.{count_most, is_counted}
 use Rattle.file_index.proofs.Heights.{keys_of_pages}
 use Rattle.file_bodies.specs.Bodies.{Row, row_of, pages_in}
 use Rattle.file_bodies.specs.Files.{HasFile, all_pages}
 use Rattle.file_bodies.proofs.Moving.{moved}
-use Rattle.file_bodies.proofs.Rows.{contains_times, each_at}
+use Rattle.file_bodies.proofs.Rows.{each_at}
 use Rattle.object_files.specs.Catalog.{CatalogOf}
 use Rattle.object_records.specs.Record.{Content, Record, BodyOf}
-use Rattle.tree_model.specs.Trees.{Units, root_units}
-use Rattle.tree_steps.specs.Made.{Has, IsTaken}
+use Rattle.trees.specs.Trees.{Units, root_units}
+use Rattle.trees.specs.Made.{Has, IsTaken}
 use Rattle.table_model.specs.Tables.{with_bytes}
-use Rattle.versions.specs.Versions.{HasVersion, EditsVersion, IsTreeUnit, place_of, lone_head, content_units}
+use Rattle.versions.specs.Versions.{HasVersion, Change, EditsVersion, IsTreeUnit, place_of, lone_head, content_units}
 use Rattle.volume_model.specs.Parts.{IsStored}
 use Rattle.volume_model.specs.Volume.{Stored, Volume, file_pages, unique_of, line_number, oid_of, roots_in, root_in, reach_of}
 use Rattle.volume_edits.specs.Ported.{IsVolume, IsApart, units_in}
 use Rattle.volume_edits.specs.Edits.{ChangesVolume, trees_of}
-use Rattle.volume_edits.proofs.Lists.{In, in_contains, contains_in, in_left, in_right, flat_around, each_with, of_each, map_around, Paired, zip_joined}
+use Rattle.volume_edits.proofs.Lists.{flat_around, map_around, Paired, zip_joined}
 use Rattle.volume_edits.proofs.Frames.{Frame}
 use Rattle.volume_edits.proofs.Holes.{Hole, lone, stored_if, filled, catalog_with, lines_with, stored_with, table_filled, pages_filled, roots_filled, stored_first, stored_last, pages_first, pages_last}
 use Rattle.volume_edits.proofs.Counted.{in_area}
@@ -67,7 +70,7 @@ middle_trees units h image index o u inside =
     subst (λ (t : List ℕ). In u t) (sym all) (in_right u (flat_map (root_units units) (roots_in (stored_first h))) (flat_map (root_units units) (roots_in (stored_if o)) ++ flat_map (root_units units) (roots_in (stored_last h))) (in_left u (flat_map (root_units units) (roots_in (stored_if o))) (flat_map (root_units units) (roots_in (stored_last h))) inside))
 
 module _ {S : Type 0} (g : ground.Ghosts S) (old new : S) (records : List LogRecord) (h : Hole) (index : Index) (x : Stored) (vol : IsVolume g old records (filled h (g.image old) index (Some x)))
-    (oid : Oid) (content : Content) (before bytes : List ℕ) (geometry : g.geometry new ≡ g.geometry old) (apart : IsApart g new) (had : HasVersion g old index oid content before) (edit : EditsVersion g old new index oid content bytes)
+    (oid : Oid) (content : Content) (change : Change) (before bytes : List ℕ) (geometry : g.geometry new ≡ g.geometry old) (apart : IsApart g new) (had : HasVersion g old index oid content before) (edit : EditsVersion g old new index oid content change bytes)
     (number : index.file_no ≡ h.file_no) (paired : Paired h.entries_before h.files_before) (front_rows : AllZip IsStored edit.rows.front h.stored_before) (back_rows : AllZip IsStored edit.rows.back h.stored_behind) (own : IsStored (place_of oid, edit.was) x) where
   abbrev U : Units
   U = units_in g old
@@ -218,12 +221,12 @@ pub own_some : (place : Place) (body : List ℕ) (w : Option Stored) → AllZip 
 own_some place body None h = absurd h
 own_some place body (Some x) h = (x, refl, h.0)
 
-module _ {S : Type 0} (g : ground.Ghosts S) (old new : S) (records : List LogRecord) (v : Volume) (vol : IsVolume g old records v) (index : Index) (oid : Oid) (content : Content) (before bytes : List ℕ)
-    (geometry : g.geometry new ≡ g.geometry old) (apart : IsApart g new) (had : HasVersion g old index oid content before) (edit : EditsVersion g old new index oid content bytes) where
+module _ {S : Type 0} (g : ground.Ghosts S) (old new : S) (records : List LogRecord) (v : Volume) (vol : IsVolume g old records v) (index : Index) (oid : Oid) (content : Content) (change : Change) (before bytes : List ℕ)
+    (geometry : g.geometry new ≡ g.geometry old) (apart : IsApart g new) (had : HasVersion g old index oid content before) (edit : EditsVersion g old new index oid content change bytes) where
   pub changes_volume : ChangesVolume g old new records v oid bytes (content_units (g.unit old) content) (content_units (g.unit new) edit.now)
   changes_volume =
       let p : Placed (g.image old) v index edit.rows.front edit.rows.back (place_of oid) (Some edit.was) = placed g old records v vol.shows index edit.rows.front edit.rows.back (place_of oid) (Some edit.was) had.stored.stands.file.entry edit.rows.before in
       let own = own_some (place_of oid) edit.was p.was p.own in
       let same : v ≡ filled p.hole (g.image old) index (Some own.0) = p.same ∙ ap (filled p.hole (g.image old) index) own.1 in
       subst (λ (w : Volume). ChangesVolume g old new records w oid bytes (content_units (g.unit old) content) (content_units (g.unit new) edit.now)) (sym same)
-      (changed_volume g old new records p.hole index own.0 (subst (IsVolume g old records) same vol) oid content before bytes geometry apart had edit p.number p.paired p.front_rows p.back_rows own.2)
+      (changed_volume g old new records p.hole index own.0 (subst (IsVolume g old records) same vol) oid content change before bytes geometry apart had edit p.number p.paired p.front_rows p.back_rows own.2)

@@ -8,13 +8,15 @@ use Rattle.ex_base.specs.declared.geometry.Geometry.{Geometry}
 use Rattle.ex_base.specs.Area.{catalog_no}
 use Rattle.ex_base.specs.Order.{AllDiffer}
 use Rattle.ex_base.specs.Ports.{times}
+use Rattle.ex_base.proofs.Each.{split_each, zip_as}
+use Rattle.ex_base.proofs.Counts.{same_or_not, times-append}
+use Rattle.ex_base.proofs.Members.{In, contains_in}
 use Rattle.op_log.specs.declared.record.LogRecord.{LogRecord}
 use Rattle.slotted_pages.specs.FilePage.{FilePage, SlotsOf}
 use Rattle.slotted_pages.specs.Reads.{page_on}
 use Rattle.slotted_pages.proofs.PageLaws.{page_read_is}
 use Rattle.file_index.specs.declared.Index.{Index}
 use Rattle.file_index.specs.Index.{IsFilesPage, keys_of, pages_of}
-use Rattle.file_index.proofs.Counts.{times-append, same_or_not}
 use Rattle.file_bodies.specs.Bodies.{Row, bodies_on, bodies_of}
 use Rattle.file_bodies.specs.Files.{HasCatalog, HasFile, HasFiles, IsPageOf, index_at, index_in}
 use Rattle.file_bodies.proofs.Entries.{is_catalog, entries_are, in_here, in_rest}
@@ -23,11 +25,10 @@ use Rattle.file_bodies.proofs.Pages.{is_page, number_is, slots_are}
 use Rattle.file_bodies.proofs.Rows.{each_at}
 use Rattle.object_files.specs.Catalog.{FileEntry, CatalogOf, number_of}
 use Rattle.object_files.specs.Edits.{entries_on}
-use Rattle.tree_model.proofs.SameUnits.{split_each}
 use Rattle.volume_model.specs.Parts.{HasIndex, HasPage, HasPages, HasLines, IsStored, bodies_in, bodies_from}
 use Rattle.volume_model.specs.Volume.{FileContent, Volume, pages_of_file, file_pages}
 use Rattle.volume_edits.specs.Ported.{ShowsVolume, units_in, index_named, HasContent}
-use Rattle.volume_edits.proofs.Lists.{In, contains_in, Paired, zip_split, zip_as, times_around}
+use Rattle.volume_edits.proofs.Lists.{Paired, zip_split, times_around}
 use Rattle.volume_edits.proofs.Counted.{file_lies, pages_counted, in_area}
 use Rattle.volume_edits.proofs.Edited.{bodies_read}
 

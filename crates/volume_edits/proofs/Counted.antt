@@ -1,5 +1,6 @@
 -- The pages of a volume are just the logged pages that the working state has, each once.
-use Rattle.std.proofs.Common.{◌≡◌, ◌≢◌, ℕ, zero, suc, ◌<◌, ◌≤◌, Bool, true, false, List, [], ◌∷◌, refl, sym, ap, subst, ◌∙◌, arith, inl, inr, ◌⊎◌, ltb}
+use Rattle.std.proofs.Common.{◌≡◌, ◌≢◌, ℕ, ◌<◌, ◌≤◌, Bool, true, List, [], ◌∷◌, refl, sym, ap, subst, ◌∙◌, arith, inl, inr, ◌⊎◌, ltb}
+use Rattle.std.proofs.lemmas.Bool.{cases_Bool, lt-ltb}
 use Rattle.std.specs.Prelude.{Contains, ◌↔◌}
 use Rattle.std.specs.List.{flat_map, AllByRecursion, AllZip}
 use Rattle.ex_base.specs.declared.ground.Ground as ground
@@ -9,16 +10,18 @@ use Rattle.ex_base.specs.Order.{AllDiffer}
 use Rattle.ex_base.specs.Ports.{times}
 use Rattle.op_log.specs.declared.record.LogRecord.{LogRecord}
 use Rattle.ex_base.proofs.Rows.{each-append}
+use Rattle.ex_base.proofs.Counts.{differ_once, none_or_some, once_differ, times_apart, times_here, same_or_not}
+use Rattle.ex_base.proofs.Members.{contains_in, in_contains}
 use Rattle.file_index.specs.Changes.{count_of}
 use Rattle.file_index.specs.Index.{IsFilesPage}
-use Rattle.file_index.proofs.Counts.{times_here, times_apart, count_most, count_is, is_counted}
+use Rattle.file_index.proofs.Counts.{count_most, count_is, is_counted}
 use Rattle.file_index.proofs.Heights.{keys_of_pages, index_of_pages}
 use Rattle.object_files.specs.Catalog.{FileEntry}
-use Rattle.tree_model.specs.Trees.{Units}
+use Rattle.trees.specs.Trees.{Units}
 use Rattle.volume_model.specs.Parts.{HasIndex}
 use Rattle.volume_model.specs.Volume.{FileContent, Volume, pages_of_file, file_pages}
 use Rattle.volume_edits.specs.Ported.{ShowsVolume, units_in}
-use Rattle.volume_edits.proofs.Lists.{in_contains, contains_in, in_times, times_in, differ_once, once_differ}
+use Rattle.volume_edits.proofs.Lists.{in_times, times_in}
 
 -- ---- the pages of a file
 
@@ -39,16 +42,8 @@ no_catalog g (x ∷ xs) h = omega (arith, times_apart catalog_no x xs (λ same. 
 
 -- ---- counts
 
-either_way : (b : Bool) → (b ≡ true) ⊎ (b ≡ false)
-either_way true = inl refl
-either_way false = inr refl
-
-none_or_some : (m : ℕ) → (m ≡ 0) ⊎ (1 ≤ m)
-none_or_some zero = inl refl
-none_or_some (suc m) = inr (omega arith)
-
 pub counted_from : (n : ℕ) (b : Bool) → n ≤ 1 → (b ≡ true → 1 ≤ n) → (1 ≤ n → b ≡ true) → n ≡ count_of b
-counted_from n b most some held = elim (either_way b) [
+counted_from n b most some held = elim (cases_Bool b) [
   | inl t ↦ omega (arith, count_is b t, some t, most)
   | inr f ↦ elim (none_or_some n) [
     | inl z ↦ (rw f z)
@@ -57,16 +52,10 @@ counted_from n b most some held = elim (either_way b) [
 ]
 
 pub times_once : (p : ℕ) (xs : List ℕ) → times p xs ≤ 1 → times catalog_no xs ≡ 0 → times p (catalog_no ∷ xs) ≤ 1
-times_once p xs once none = elim (same_page p catalog_no) [
+times_once p xs once none = elim (same_or_not p catalog_no) [
   | inl same ↦ (let here = times_here p catalog_no xs same in let zero_here : times p xs ≡ 0 = ap (λ q. times q xs) same ∙ none in omega (arith, here, zero_here))
   | inr differ ↦ omega (arith, times_apart p catalog_no xs differ, once)
 ]
-  where
-    same_page : (m n : ℕ) → (m ≡ n) ⊎ (m ≢ n)
-    same_page zero zero = inl refl
-    same_page zero (suc n) = inr (λ e. absurd (omega arith))
-    same_page (suc m) zero = inr (λ e. absurd (omega arith))
-    same_page (suc m) (suc n) = elim (same_page m n) [ inl e ↦ inl (ap (λ (k : ℕ). suc k) e) | inr d ↦ inr (λ e. d (omega (arith, e))) ]
 
 abbrev pub Counted : {S : Type 0} → ground.Ghosts S → S → List ℕ → Type 0
 Counted g s pages = (p : ℕ) → times p pages ≡ count_of (g.held s p)
@@ -92,7 +81,4 @@ module _ {S : Type 0} (g : ground.Ghosts S) where
   -- ---- what a unit's bytes are
 
   pub in_area : (s : S) (page : ℕ) → page < area_end (g.geometry s) → units_in g s page ≡ g.image s page
-  in_area s page lt = let t : ltb page (area_end (g.geometry s)) ≡ true = search (arith, is_below page (area_end (g.geometry s)) lt) in rw t refl
-    where
-      is_below : (m n : ℕ) → m < n → ltb m n ≡ true
-      is_below m n h = grind arith
+  in_area s page lt = let t : ltb page (area_end (g.geometry s)) ≡ true = search (arith, lt-ltb page (area_end (g.geometry s)) lt) in rw t refl

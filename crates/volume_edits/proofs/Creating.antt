@@ -8,16 +8,16 @@ use Rattle.ex_base.specs.declared.ground.Ground as ground
 use Rattle.ex_base.specs.declared.names.Oid.{Oid}
 use Rattle.ex_base.specs.Order.{Rising, RisingTexts, AllDiffer}
 use Rattle.ex_base.specs.Ports.{times}
+use Rattle.ex_base.proofs.Each.{split_each}
+use Rattle.ex_base.proofs.Counts.{contains_times, times_apart, times_contains}
+use Rattle.ex_base.proofs.Members.{In, contains_in, in_contains}
 use Rattle.op_log.specs.declared.record.LogRecord.{LogRecord}
 use Rattle.file_index.specs.declared.Index.{Index}
-use Rattle.file_index.proofs.Counts.{times_apart}
 use Rattle.file_bodies.specs.Bodies.{Row}
 use Rattle.file_bodies.specs.Files.{HasFile, EditsFile}
-use Rattle.file_bodies.proofs.Rows.{contains_times, times_contains}
 use Rattle.object_files.specs.Catalog.{FileEntry, name_of, number_of}
 use Rattle.object_records.specs.Record.{BodyOf}
-use Rattle.tree_model.specs.Trees.{Units}
-use Rattle.tree_model.proofs.SameUnits.{split_each}
+use Rattle.trees.specs.Trees.{Units}
 use Rattle.table_model.specs.declared.table.Object.{Object}
 use Rattle.table_model.specs.declared.table.TableFile.{TableFile}
 use Rattle.table_model.specs.declared.table.Table.{Table}
@@ -27,7 +27,7 @@ use Rattle.volume_model.specs.Parts.{IsStored}
 use Rattle.volume_model.specs.Volume.{Stored, Line, FileContent, Volume, line_records, stored_in, file_pages, unique_of, line_number, object_of, file_of, table_of}
 use Rattle.volume_edits.specs.Ported.{IsVolume, IsApart, units_in}
 use Rattle.volume_edits.specs.Edits.{MovesVolume, trees_of}
-use Rattle.volume_edits.proofs.Lists.{In, in_contains, contains_in, out_rest, key_differs, each_around, rising_more, Paired, zip_joined}
+use Rattle.volume_edits.proofs.Lists.{out_rest, key_differs, each_around, rising_more, Paired, zip_joined}
 use Rattle.volume_edits.proofs.Holes.{Hole, lone, stored_if, filled, entry_with, catalog_with, lines_with, stored_with, table_with, table_filled, stored_first, stored_last, lines_first, lines_in, stored_filled}
 use Rattle.volume_edits.proofs.Edited.{Edit, edited, table_edited, trees_from}
 use Rattle.volume_edits.proofs.Naming.{texts_differ}

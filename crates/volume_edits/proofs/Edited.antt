@@ -14,12 +14,15 @@ use Rattle.ex_base.specs.Area.{catalog_no}
 use Rattle.ex_base.specs.Order.{Rising, AllDiffer}
 use Rattle.ex_base.specs.Ports.{times}
 use Rattle.ex_base.proofs.Rows.{each-append}
+use Rattle.ex_base.proofs.Each.{split_each, each_as, each_joined, each_parted, each_with, flat_same, map_same, zip_with}
+use Rattle.ex_base.proofs.Counts.{differ_once, once_differ, same_or_not, times-append, times_apart, times_here}
+use Rattle.ex_base.proofs.Members.{In, contains_in, each_in, from_flat, in_contains, in_either, in_left, in_right, into_flat, of_each}
 use Rattle.op_log.specs.declared.record.LogRecord.{LogRecord}
 use Rattle.slotted_pages.specs.FilePage.{FilePage, Slot, SlotsOf}
 use Rattle.slotted_pages.specs.Reads.{page_on}
 use Rattle.file_index.specs.declared.Index.{Index}
 use Rattle.file_index.specs.Index.{IsFilesPage, IsIndex, keys_of, pages_of}
-use Rattle.file_index.proofs.Counts.{times-append, times_here, times_apart, same_or_not, count_most, is_counted}
+use Rattle.file_index.proofs.Counts.{count_most, is_counted}
 use Rattle.file_index.proofs.Heights.{keys_of_pages, index_of_pages}
 use Rattle.file_bodies.specs.Bodies.{Row, bodies_on, bodies_of, pages_in}
 use Rattle.file_bodies.specs.Bodies as rows
@@ -27,12 +30,12 @@ use Rattle.file_bodies.specs.Files.{HasFile, IsPageOf, all_pages}
 use Rattle.file_bodies.proofs.Moving.{moved}
 use Rattle.file_bodies.proofs.Rows.{each_at, each_of}
 use Rattle.object_files.specs.Catalog.{FileEntry, CatalogOf}
-use Rattle.tree_model.specs.Trees.{Units, root_units, RootNamed}
-use Rattle.tree_model.proofs.SameUnits.{Kept, split_each}
+use Rattle.trees.specs.Trees.{Units, root_units, RootNamed}
+use Rattle.trees.proofs.SameUnits.{Kept}
 use Rattle.volume_model.specs.Parts.{HasIndex, HasPage, HasPages, HasLines, IsStored, IsLine, Linked, HasNodes, HasBalance, HasUniques, Apart, AllApart, bodies_from, HoldsOf, content_parts}
 use Rattle.volume_model.specs.Volume.{Stored, Line, FileContent, Volume, line_records, lines_of, stored_in, pages_of_file, file_pages, unique_of, line_number, roots_in, line_units, reach_of, table_of, root_in}
 use Rattle.volume_edits.specs.Ported.{IsVolume, units_in}
-use Rattle.volume_edits.proofs.Lists.{In, in_contains, contains_in, in_left, in_right, each_from, of_each, each_as, each_with, each_parts, each_joined, each_around, each_between, map_same, flat_same, in_either, map_around, flat_around, times_around, Paired, zip_split, zip_joined, zip_with, differ_once, once_differ, permuted_less, permuted_more, from_flat, into_flat}
+use Rattle.volume_edits.proofs.Lists.{each_around, each_between, map_around, flat_around, times_around, Paired, zip_split, zip_joined, permuted_less, permuted_more}
 use Rattle.volume_edits.proofs.Kept.{RootKept, LineKept, units_of_root, named_root, balance_kept, line_units_same, roots_of_lines, files_same, objects_same}
 use Rattle.volume_edits.proofs.Counted.{files_lie, Counted, pages_counted, held_of, differ_of, in_area}
 use Rattle.volume_edits.proofs.Apartness.{apart_less, apart_each, apart_more}
@@ -166,10 +169,10 @@ module _ {S : Type 0} (g : ground.Ghosts S) (old new : S) (records : List LogRec
       page_bytes g old new (all_pages (g.image old) index) (all_pages (g.image new) after) edit.frame p area.0.1 o.0 o.1)
 
   stay_first : AllByRecursion (λ (file : FileContent). AllByRecursion Stays (pages_of_file file)) h.files_before
-  stay_first = each_parts Stays pages_of_file h.files_before (stay (pages_first h) (λ p c. omega arith) (files_lie (g.geometry old) U h.entries_before h.files_before zipped.0))
+  stay_first = each_parted Stays pages_of_file h.files_before (stay (pages_first h) (λ p c. omega arith) (files_lie (g.geometry old) U h.entries_before h.files_before zipped.0))
 
   stay_last : AllByRecursion (λ (file : FileContent). AllByRecursion Stays (pages_of_file file)) h.files_behind
-  stay_last = each_parts Stays pages_of_file h.files_behind (stay (pages_last h) (λ p c. omega arith) (files_lie (g.geometry old) U h.entries_behind h.files_behind zipped.1.1))
+  stay_last = each_parted Stays pages_of_file h.files_behind (stay (pages_last h) (λ p c. omega arith) (files_lie (g.geometry old) U h.entries_behind h.files_behind zipped.1.1))
 
   index_moved : (entry : FileEntry) (file : FileContent) → AllByRecursion Stays (pages_of_file file) → HasIndex (g.geometry old) U entry file → HasIndex (g.geometry new) U' entry file
   index_moved entry file stays has =
@@ -304,7 +307,7 @@ module _ {S : Type 0} (g : ground.Ghosts S) (old new : S) (records : List LogRec
   all_fine = subst (AllByRecursion (λ (root : Root). AllByRecursion IsFine (root_units U' root))) (sym (roots_filled h (g.image new) after is))
       (each_between (λ (root : Root). AllByRecursion IsFine (root_units U' root)) (roots_in (stored_first h)) (roots_in (stored_if is)) (roots_in (stored_last h))
       (each_as IsOther (λ (root : Root). AllByRecursion IsFine (root_units U' root)) (roots_in (stored_first h)) fine_root others.0)
-      (each_parts IsFine (root_units U') (roots_in (stored_if is)) (each_as (IsOwn g old new was) IsFine (flat_map (root_units U') (roots_in (stored_if is))) (λ u o. (o.used, o.held)) edit.own))
+      (each_parted IsFine (root_units U') (roots_in (stored_if is)) (each_as (IsOwn g old new was) IsFine (flat_map (root_units U') (roots_in (stored_if is))) (λ u o. (o.used, o.held)) edit.own))
       (each_as IsOther (λ (root : Root). AllByRecursion IsFine (root_units U' root)) (roots_in (stored_last h)) fine_root others.1))
 
   no_page : (u : ℕ) → IsFine u → ¬ Contains (catalog_no ∷ file_pages v') u
@@ -364,7 +367,7 @@ module _ {S : Type 0} (g : ground.Ghosts S) (old new : S) (records : List LogRec
   was_apart = each was old_apart
     where
       each : (w : Option Stored) → AllApart (units_around U w) → AllByRecursion (λ (xs : List ℕ). (u : ℕ) → In u (flat_map (root_units U) (roots_in (stored_if w))) → ¬ Contains xs u) (map (line_units U) (lines_first h) ++ map (line_units U) (lines_last h))
-      each None a = each_from (λ (xs : List ℕ). (u : ℕ) → In u [] → ¬ Contains xs u) (map (line_units U) (lines_first h) ++ map (line_units U) (lines_last h)) (λ xs k u none. absurd none)
+      each None a = each_in (λ (xs : List ℕ). (u : ℕ) → In u [] → ¬ Contains xs u) (map (line_units U) (lines_first h) ++ map (line_units U) (lines_last h)) (λ xs k u none. absurd none)
       each (Some s) a = each_as (Apart (line_units U (lone s))) (λ (xs : List ℕ). (u : ℕ) → In u (line_units U (lone s)) → ¬ Contains xs u) (map (line_units U) (lines_first h) ++ map (line_units U) (lines_last h))
           (λ xs apart u k. of_each (λ x. ¬ Contains xs x) u (line_units U (lone s)) apart k) (apart_each (map (line_units U) (lines_first h)) (line_units U (lone s)) (map (line_units U) (lines_last h)) a)
 
@@ -437,7 +440,7 @@ module _ {S : Type 0} (g : ground.Ghosts S) (old new : S) (records : List LogRec
 
   reach_used : (u : ℕ) → Contains (reach_of U' v') u → g.used new u ≡ true
   reach_used u c = of_each (λ x. g.used new x ≡ true) u (reach_of U' v') (each-append (λ x. g.used new x ≡ true) (catalog_no ∷ file_pages v') (flat_map (root_units U') (roots_in (stored_in v')))
-      (each_from (λ x. g.used new x ≡ true) (catalog_no ∷ file_pages v') (λ x k. edit.frame.in_use x ((held_of g new (catalog_no ∷ file_pages v') counted_new x).1 (contains_in x (catalog_no ∷ file_pages v') k))))
+      (each_in (λ x. g.used new x ≡ true) (catalog_no ∷ file_pages v') (λ x k. edit.frame.in_use x ((held_of g new (catalog_no ∷ file_pages v') counted_new x).1 (contains_in x (catalog_no ∷ file_pages v') k))))
       (each_joined (λ x. g.used new x ≡ true) (root_units U') (roots_in (stored_in v')) (each_as (λ (root : Root). AllByRecursion IsFine (root_units U' root)) (λ (root : Root). AllByRecursion (λ x. g.used new x ≡ true) (root_units U' root)) (roots_in (stored_in v'))
       (λ root fine. each_as IsFine (λ x. g.used new x ≡ true) (root_units U' root) (λ x f. f.0) fine) all_fine)))
       (in_contains u (reach_of U' v') c)
@@ -474,8 +477,8 @@ module _ {S : Type 0} (g : ground.Ghosts S) (old new : S) (records : List LogRec
   table_edited =
       let first = split_each (LineKept U U') (lines_in h.files_before) h.lines_before kept_first in
       let last = split_each (LineKept U U') h.lines_behind (lines_in h.files_behind) kept_last in
-      let files_first = files_same U U' h.entries_before h.files_before (each_parts (LineKept U U') (λ (file : FileContent). file.lines) h.files_before first.0) in
-      let files_last = files_same U U' h.entries_behind h.files_behind (each_parts (LineKept U U') (λ (file : FileContent). file.lines) h.files_behind last.1) in
+      let files_first = files_same U U' h.entries_before h.files_before (each_parted (LineKept U U') (λ (file : FileContent). file.lines) h.files_before first.0) in
+      let files_last = files_same U U' h.entries_behind h.files_behind (each_parted (LineKept U U') (λ (file : FileContent). file.lines) h.files_behind last.1) in
       let objects_first = objects_same U U' h.lines_before first.1 in
       let objects_last = objects_same U U' h.lines_behind last.0 in
       table_filled U' h (g.image new) after is edit.paired ∙ (let same : table_with U' h (object_if U' is) ≡ table_with U h (object_if U' is) = cc (files_first, files_last, objects_first, objects_last) in same)

@@ -1,10 +1,9 @@
 -- The files of a volume in its table, and which of them have no objects.
-use Rattle.std.proofs.Common.{◌≡◌, ℕ, zero, suc, ◌≤◌, Bool, true, false, cond, ◌||◌, List, [], ◌∷◌, ◌++◌, length, Option, Some, None, refl, sym, ap, subst, ◌∙◌, arith, inl, inr}
+use Rattle.std.proofs.Common.{◌≡◌, ℕ, zero, suc, ◌≤◌, Bool, false, cond, ◌||◌, List, [], ◌∷◌, ◌++◌, length, Option, Some, None, refl, sym, ap, subst, ◌∙◌, arith, inl, inr}
 use Rattle.std.specs.Prelude.{map, find, Contains, IsSome, nat_lt}
 use Rattle.std.specs.List.{flat_map, AllByRecursion, AllZip, zip, list_any}
 use Rattle.std.specs.Option.{is_some}
 use Rattle.std.proofs.lemmas.Bool.{cases_Bool}
-use Rattle.std.proofs.lemmas.Bool.Decides.{nat_tests}
 use Rattle.std.proofs.lemmas.List.{length-append, length-map}
 use Rattle.std.proofs.lemmas.List.Sorted.{length_permutation}
 use Rattle.std.proofs.lemmas.Slice.Eq.{bytes_eq-Decides}
@@ -12,6 +11,9 @@ use Rattle.ex_base.specs.declared.ground.Ground as ground
 use Rattle.ex_base.specs.declared.geometry.Geometry.{Geometry}
 use Rattle.ex_base.specs.declared.names.Oid.{Oid}
 use Rattle.ex_base.specs.declared.names.PageNo.{PageNo}
+use Rattle.ex_base.proofs.Members.{contains_in, in_contains}
+use Rattle.ex_base.proofs.Each.{each_as, each_joined}
+use Rattle.ex_base.proofs.Booleans.{none_below_some}
 use Rattle.op_log.specs.declared.record.LogRecord.{LogRecord}
 use Rattle.slotted_pages.specs.FilePage.{Slot, EndsLive}
 use Rattle.slotted_pages.specs.Edits.{slots_of}
@@ -21,7 +23,7 @@ use Rattle.file_index.specs.Index.{IsUnder, IsIndex, keys_under, keys_of}
 use Rattle.file_bodies.specs.Bodies.{Row, row_of, place_at, bodies_from, bodies_on, bodies_of, pages_in}
 use Rattle.file_bodies.specs.Files.{IsPageOf}
 use Rattle.object_files.specs.Catalog.{FileEntry, name_of}
-use Rattle.tree_model.specs.Trees.{Units}
+use Rattle.trees.specs.Trees.{Units}
 use Rattle.table_model.specs.declared.table.Version.{Version}
 use Rattle.table_model.specs.declared.table.Object.{Object}
 use Rattle.table_model.specs.declared.table.TableFile.{TableFile}
@@ -30,7 +32,7 @@ use Rattle.table_model.specs.Refusals.{has_objects}
 use Rattle.volume_model.specs.Parts.{HasIndex, HasPages, HasLines, IsStored}
 use Rattle.volume_model.specs.Volume.{Stored, Line, FileContent, Volume, line_records, lines_of, version_of, object_of, file_of, table_of}
 use Rattle.volume_edits.specs.Ported.{ShowsVolume, units_in, index_named}
-use Rattle.volume_edits.proofs.Lists.{in_contains, contains_in, each_joined, each_as, Paired}
+use Rattle.volume_edits.proofs.Lists.{Paired}
 use Rattle.volume_edits.proofs.Contents.{Beside, content_of, pairs, at_beside}
 use Rattle.volume_edits.proofs.Finding.{versions_are, objects_are}
 use Rattle.volume_edits.proofs.Listed.{file_there, beside_entry, lone_is}
@@ -67,9 +69,6 @@ some_under g file_no image (suc level) least page h = among g file_no image leve
 no_root : (g : Geometry) (image : ℕ → List ℕ) (file_no level : ℕ) (root : Option PageNo) → IsIndex g image file_no level root → length (keys_of image level root) ≡ 0 → root ≡ None
 no_root g image file_no level None h none = refl
 no_root g image file_no level (Some page) h none = absurd (omega (arith, none, some_under g file_no image level None page.0 h.whole))
-
-above_none : (n : ℕ) → nat_lt 0 (suc n) ≡ true
-above_none n = grind (arith, nat_tests)
 
 -- ---- names
 
@@ -153,7 +152,7 @@ module _ {S : Type 0} (g : ground.Ghosts S) (s : S) (records : List LogRecord) (
       by_root zero None to from = refl
       by_root zero (Some page) to from = absurd (let e : Some page ≡ None = to refl in cc)
       by_root (suc n) None to from = absurd (omega (arith, from refl))
-      by_root (suc n) (Some page) to from = above_none n
+      by_root (suc n) (Some page) to from = none_below_some n
 
       own : (d : FileEntry) (c : FileContent) → Beside v.catalog.entries v.files d c → nat_lt 0 (length (map (object_of U) c.lines)) ≡ is_some d.root
       own d c b = by_root (length (map (object_of U) c.lines)) d.root

@@ -8,18 +8,19 @@ use Rattle.std.proofs.lemmas.List.Concat.{flat_map-append}
 use Rattle.std.proofs.lemmas.List.Sorted.{Contains-permutation, IsPermutation-sym}
 use Rattle.ex_base.specs.declared.names.Oid.{Oid}
 use Rattle.ex_base.specs.declared.names.Place.{Place}
+use Rattle.ex_base.proofs.Members.{In, contains_in, from_flat, in_contains, in_right, into_flat, of_each}
 use Rattle.slotted_pages.specs.FilePage.{Slot}
 use Rattle.slotted_pages.specs.Edits.{slots_of}
 use Rattle.file_bodies.specs.Bodies.{Row, place_at, row_of, bodies_from, bodies_on}
 use Rattle.object_files.specs.Catalog.{FileEntry}
-use Rattle.tree_model.specs.Trees.{Units}
+use Rattle.trees.specs.Trees.{Units}
 use Rattle.table_model.specs.declared.table.Version.{Version}
 use Rattle.table_model.specs.declared.table.Object.{Object}
 use Rattle.table_model.specs.declared.table.TableFile.{TableFile}
 use Rattle.table_model.specs.Tables.{same_oid, versions_of, versions_in, objects_of}
 use Rattle.volume_model.specs.Parts.{HasLines, IsStored}
 use Rattle.volume_model.specs.Volume.{Stored, Line, FileContent, Volume, line_records, lines_of, stored_in, version_of, object_of, file_of, table_of}
-use Rattle.volume_edits.proofs.Lists.{In, in_contains, contains_in, in_right, from_flat, into_flat, of_each, Paired}
+use Rattle.volume_edits.proofs.Lists.{Paired}
 use Rattle.volume_edits.proofs.Holes.{lone}
 use Rattle.volume_edits.proofs.Contents.{Beside}
 

@@ -1,5 +1,6 @@
 -- What an edit of one file leaves of a volume's pages and units.
-use Rattle.std.proofs.Common.{◌≡◌, ℕ, ◌+◌, ◌<◌, ◌≤◌, Bool, true, false, List, ◌∷◌, refl, sym, subst, ◌∙◌, arith, inl, inr, ◌⊎◌, ltb}
+use Rattle.std.proofs.Common.{◌≡◌, ℕ, ◌+◌, ◌<◌, ◌≤◌, true, false, List, ◌∷◌, refl, sym, subst, ◌∙◌, arith, inl, inr, ◌⊎◌, ltb}
+use Rattle.std.proofs.lemmas.Bool.{cases_Bool, le-ltb}
 use Rattle.std.specs.Prelude.{Contains}
 use Rattle.std.specs.List.{flat_map, AllByRecursion}
 use Rattle.ex_base.specs.declared.ground.Ground as ground
@@ -7,13 +8,14 @@ use Rattle.ex_base.specs.declared.geometry.Geometry.{Geometry}
 use Rattle.ex_base.specs.declared.names.Root.{Root}
 use Rattle.ex_base.specs.Area.{catalog_no, area_end, IsUnit}
 use Rattle.ex_base.specs.Ports.{times}
+use Rattle.ex_base.proofs.Members.{contains_in, each_in, in_right}
+use Rattle.ex_base.proofs.Each.{each_parted, each_with}
 use Rattle.op_log.specs.declared.record.LogRecord.{LogRecord}
 use Rattle.file_index.specs.Changes.{count_of}
-use Rattle.tree_model.specs.Trees.{root_units, RootNamed}
+use Rattle.trees.specs.Trees.{root_units, RootNamed}
 use Rattle.volume_model.specs.Parts.{Apart}
 use Rattle.volume_model.specs.Volume.{Volume, file_pages, roots_in, stored_in, reach_of}
 use Rattle.volume_edits.specs.Ported.{ShowsVolume, IsVolume, IsApart, units_in}
-use Rattle.volume_edits.proofs.Lists.{contains_in, in_right, each_from, each_with, each_parts}
 use Rattle.volume_edits.proofs.Kept.{root_placed}
 use Rattle.volume_edits.proofs.Counted.{in_area}
 
@@ -40,17 +42,10 @@ IsPlacedUnit g s u = IsUnit (g.geometry s) u × (g.held s u ≡ false)
 abbrev pub IsTreeOf : {S : Type 0} → ground.Ghosts S → S → ℕ → Type 0
 IsTreeOf g s u = IsUnit (g.geometry s) u × (g.used s u ≡ true) × (g.held s u ≡ false)
 
-either_way : (b : Bool) → (b ≡ true) ⊎ (b ≡ false)
-either_way true = inl refl
-either_way false = inr refl
-
 module _ {S : Type 0} (g : ground.Ghosts S) where
   -- behind the page area the unit's own bytes
   pub past_area : (s : S) (unit : ℕ) → area_end (g.geometry s) ≤ unit → units_in g s unit ≡ g.unit s unit
-  past_area s unit le = let t : ltb unit (area_end (g.geometry s)) ≡ false = not_below unit (area_end (g.geometry s)) le in rw t refl
-    where
-      not_below : (m n : ℕ) → n ≤ m → ltb m n ≡ false
-      not_below m n h = grind arith
+  past_area s unit le = let t : ltb unit (area_end (g.geometry s)) ≡ false = le-ltb unit (area_end (g.geometry s)) le in rw t refl
 
   -- the bytes of a unit that is no logged page
   pub own_bytes : (s : S) (unit : ℕ) → IsApart g s → IsUnit (g.geometry s) unit → g.held s unit ≡ false → units_in g s unit ≡ g.unit s unit
@@ -66,7 +61,7 @@ module _ {S : Type 0} (g : ground.Ghosts S) where
       (λ root named apart. each_with (IsUnit (g.geometry s)) (λ u. ¬ Contains (catalog_no ∷ file_pages v) u) (IsPlacedUnit g s) (root_units (units_in g s) root) (λ u unit lacks. (unit, not_held u lacks)) (root_placed (g.geometry s) (units_in g s) root.height root.page named) apart) nodes.named nodes.no_file_page
     where
       not_held : (u : ℕ) → (Contains (catalog_no ∷ file_pages v) u → ⊥) → g.held s u ≡ false
-      not_held u lacks = elim (either_way (g.held s u)) [ inl t ↦ absurd (lacks ((is.held u).0 t)) | inr f ↦ f ]
+      not_held u lacks = elim (cases_Bool (g.held s u)) [ inl t ↦ absurd (lacks ((is.held u).0 t)) | inr f ↦ f ]
 
   -- the units of every tree of a volume
   pub tree_units : (s : S) (records : List LogRecord) (v : Volume) → IsVolume g s records v → AllByRecursion (λ (root : Root). AllByRecursion (IsTreeOf g s) (root_units (units_in g s) root)) (roots_in (stored_in v))
@@ -75,8 +70,8 @@ module _ {S : Type 0} (g : ground.Ghosts S) where
       (λ (root : Root). AllByRecursion (IsTreeOf g s) (root_units (units_in g s) root)) (roots_in (stored_in v))
       (λ root placed used. each_with (IsPlacedUnit g s) (λ u. g.used s u ≡ true) (IsTreeOf g s) (root_units (units_in g s) root) (λ u p t. (p.0, t, p.1)) placed used)
       (placed_units s records v is.shows)
-      (each_parts (λ u. g.used s u ≡ true) (root_units (units_in g s)) (roots_in (stored_in v))
-      (each_from (λ u. g.used s u ≡ true) (flat_map (root_units (units_in g s)) (roots_in (stored_in v)))
+      (each_parted (λ u. g.used s u ≡ true) (root_units (units_in g s)) (roots_in (stored_in v))
+      (each_in (λ u. g.used s u ≡ true) (flat_map (root_units (units_in g s)) (roots_in (stored_in v)))
       (λ u inside. is.used u (contains_in u (reach_of (units_in g s) v) (in_right u (catalog_no ∷ file_pages v) (flat_map (root_units (units_in g s)) (roots_in (stored_in v))) inside)))))
 
   module _ (old new : S) (before after : List ℕ) (frame : Frame g old new before after) where

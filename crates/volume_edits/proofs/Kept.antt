@@ -8,16 +8,16 @@ use Rattle.ex_base.specs.declared.names.Root.{Root}
 use Rattle.ex_base.specs.declared.geometry.Geometry.{Geometry}
 use Rattle.ex_base.specs.Area.{IsUnit}
 use Rattle.ex_base.specs.Sizes.{leaf_bytes}
+use Rattle.ex_base.proofs.Each.{each_as, each_joined, each_parted, flat_same, map_same}
 use Rattle.count_nodes.specs.declared.Pair.{Pair}
 use Rattle.count_nodes.specs.Node.{pairs_on}
 use Rattle.object_files.specs.Catalog.{FileEntry}
 use Rattle.object_records.specs.Record.{Content, Small, Large}
-use Rattle.tree_model.specs.Shape.{IsBalanced}
-use Rattle.tree_model.specs.Trees.{Units, units_on, IsNamed, root_units, root_units_at, root_shape_at, root_bytes_at, RootNamed, RootSized, RootSpells}
-use Rattle.tree_model.proofs.SameUnits.{Kept, units_same, bytes_same, shape_same, named_same, sized_same}
+use Rattle.trees.specs.Shape.{IsBalanced}
+use Rattle.trees.specs.Trees.{Units, units_on, IsNamed, root_units, root_units_at, root_shape_at, root_bytes_at, RootNamed, RootSized, RootSpells}
+use Rattle.trees.proofs.SameUnits.{Kept, units_same, bytes_same, shape_same, named_same, sized_same}
 use Rattle.volume_model.specs.Parts.{HasBalance}
 use Rattle.volume_model.specs.Volume.{Stored, Line, FileContent, line_records, root_in, roots_in, line_units, content_in, version_of, object_of, file_of}
-use Rattle.volume_edits.proofs.Lists.{each_parts, each_joined, each_as, map_same, flat_same}
 
 -- ---- a tree's units are units of the volume
 
@@ -94,7 +94,7 @@ version_same old new s kept = let content = content_same old new s.body.content 
 
 pub object_same : (old new : Units) (line : Line) → LineKept old new line → object_of new line ≡ object_of old line
 object_same old new line kept =
-    let each = each_parts (RootKept old new) (λ (s : Stored). root_in s.body.content) (line_records line) kept in
+    let each = each_parted (RootKept old new) (λ (s : Stored). root_in s.body.content) (line_records line) kept in
     let versions : map (version_of new) (line_records line) ≡ map (version_of old) (line_records line) = map_same (version_of old) (version_of new) (λ s. RootsKept old new (root_in s.body.content)) (line_records line) (λ s k. version_same old new s k) each in
     cc versions
 
@@ -114,7 +114,7 @@ files_same old new (entry ∷ entries) (file ∷ files) kept =
 
 -- the roots of lines, line by line
 pub roots_of_lines : (P : Root → Type 0) (lines : List Line) → AllByRecursion P (roots_in (flat_map line_records lines)) → AllByRecursion (λ (line : Line). AllByRecursion P (roots_in (line_records line))) lines
-roots_of_lines P lines h = each_parts P (λ (line : Line). roots_in (line_records line)) lines (subst (AllByRecursion P) (joined lines) h)
+roots_of_lines P lines h = each_parted P (λ (line : Line). roots_in (line_records line)) lines (subst (AllByRecursion P) (joined lines) h)
   where
     joined : (ls : List Line) → roots_in (flat_map line_records ls) ≡ flat_map (λ (line : Line). roots_in (line_records line)) ls
     joined [] = refl

@@ -10,6 +10,8 @@ use Rattle.ex_base.specs.declared.ground.Ground as ground
 use Rattle.ex_base.specs.declared.names.Oid.{Oid}
 use Rattle.ex_base.specs.declared.names.Place.{Place}
 use Rattle.ex_base.specs.Order.{Rising, RisingTexts, AllDiffer}
+use Rattle.ex_base.proofs.Each.{split_each}
+use Rattle.ex_base.proofs.Members.{In, contains_in, each_in, in_contains, of_each}
 use Rattle.op_log.specs.declared.record.LogRecord.{LogRecord}
 use Rattle.file_index.specs.declared.Index.{Index}
 use Rattle.file_bodies.specs.Bodies.{Row, bodies_of}
@@ -19,8 +21,7 @@ use Rattle.object_records.specs.declared.State.TheVariants.{Current}
 use Rattle.object_records.specs.Record.{Record}
 use Rattle.object_records.specs.Reads.{record_on}
 use Rattle.object_records.proofs.RecordLaws.{record_read}
-use Rattle.tree_model.specs.Trees.{Units}
-use Rattle.tree_model.proofs.SameUnits.{split_each}
+use Rattle.trees.specs.Trees.{Units}
 use Rattle.table_model.specs.declared.table.Object.{Object}
 use Rattle.table_model.specs.declared.table.TableFile.{TableFile}
 use Rattle.table_model.specs.Tables.{current, has_name, file_at}
@@ -29,7 +30,7 @@ use Rattle.versions.specs.Listed.{oid_at, oids_by, oids_in, oids_of, AreByNumber
 use Rattle.volume_model.specs.Parts.{HasLines, IsStored, IsLine}
 use Rattle.volume_model.specs.Volume.{Stored, Line, FileContent, Volume, line_records, line_number, oid_of, object_of, file_of, table_of}
 use Rattle.volume_edits.specs.Ported.{ShowsVolume, units_in, index_named, HasContent}
-use Rattle.volume_edits.proofs.Lists.{In, in_contains, contains_in, of_each, each_from, Paired, zip_append}
+use Rattle.volume_edits.proofs.Lists.{Paired, zip_append}
 use Rattle.volume_edits.proofs.Holes.{lone}
 use Rattle.volume_edits.proofs.Edited.{differ_permuted}
 use Rattle.volume_edits.proofs.Naming.{texts_differ}
@@ -183,7 +184,7 @@ module _ {S : Type 0} (g : ground.Ghosts S) (s : S) (records : List LogRecord) (
       ap (find (has_name e.name)) files ∙ find_past (has_name e.name) (map (file_of U) (zip b.entries_before b.files_before)) (file_of U (e, f)) (map (file_of U) (zip b.entries_behind b.files_behind)) (named_files U e.name b.entries_before b.files_before names.0) ((bytes_eq-Decides e.name e.name).1 refl)
 
   all_current : (f : FileContent) → HasLines f → AllByRecursion IsCurrent f.stored
-  all_current f h = each_from IsCurrent f.stored (λ x k. (of_each IsLine (lone x) f.lines h.lines (line_of f x h k)).linked.0)
+  all_current f h = each_in IsCurrent f.stored (λ x k. (of_each IsLine (lone x) f.lines h.lines (line_of f x h k)).linked.0)
 
   pub file_listed : (e : FileEntry) (index : Index) (oids : List Oid) → Contains v.catalog.entries e → HasFile g s index → index.file_no ≡ e.file_no → IsPermutation (oids_of (bodies_of (g.image s) index)) oids → AreByNumber oids
       → oids ≡ flat_map (λ (o : Object). current_oids (current o.versions)) (objects_if (file_at (table_of U v) e.name))

@@ -10,12 +10,14 @@ use Rattle.std.proofs.lemmas.List.{length-append}
 use Rattle.ex_base.specs.declared.ground.Ground as ground
 use Rattle.ex_base.specs.declared.geometry.Geometry.{Geometry}
 use Rattle.ex_base.specs.Order.{Rising}
+use Rattle.ex_base.proofs.Members.{In, contains_in}
+use Rattle.ex_base.proofs.Each.{zip_as}
 use Rattle.op_log.specs.declared.record.LogRecord.{LogRecord}
 use Rattle.file_index.specs.Index.{keys_of, pages_of}
 use Rattle.object_files.specs.Catalog.{FileEntry}
 use Rattle.object_files.specs.Edits.{with_entries, new_file, has_name, entry_inserted, without_name}
 use Rattle.slotted_pages.specs.FilePage.{FilePage}
-use Rattle.tree_model.specs.Trees.{Units}
+use Rattle.trees.specs.Trees.{Units}
 use Rattle.table_model.specs.declared.table.TableFile.{TableFile}
 use Rattle.table_model.specs.declared.table.Table.{Table}
 use Rattle.table_model.specs.Tables.{file_inserted, with_file, without_file}
@@ -24,7 +26,6 @@ use Rattle.volume_model.specs.Parts.{HasIndex, HasPages, HasLines, IsStored, bod
 use Rattle.volume_model.specs.Volume.{Stored, Line, FileContent, Volume, line_records, line_number, pages_of_file, file_of, table_of}
 use Rattle.volume_edits.specs.Ported.{IsVolume, units_in}
 use Rattle.volume_edits.specs.Edits.{WritesCatalog, RecatalogsVolume, catalog_numbered, table_numbered, IsRootless}
-use Rattle.volume_edits.proofs.Lists.{In, contains_in, zip_as}
 use Rattle.volume_edits.proofs.Catalogs.{Recataloged, recataloged, table_same, trees_same}
 
 -- ---- a file more

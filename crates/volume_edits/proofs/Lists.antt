@@ -1,5 +1,5 @@
 -- Lists: membership, counts, and one item among others.
-use Rattle.std.proofs.Common.{◌≡◌, ◌≢◌, ℕ, zero, suc, ◌+◌, ◌<◌, ◌≤◌, List, [], ◌∷◌, ◌++◌, map, refl, sym, ap, subst, ◌∙◌, arith, inl, inr, ◌⊎◌}
+use Rattle.std.proofs.Common.{◌≡◌, ◌≢◌, ℕ, ◌+◌, ◌<◌, ◌≤◌, List, [], ◌∷◌, ◌++◌, map, refl, sym, ap, subst, ◌∙◌, arith, inl, inr, ◌⊎◌}
 use Rattle.std.specs.Prelude.{Contains}
 use Rattle.std.specs.List.{flat_map, AllByRecursion, AllZip, zip}
 use Rattle.std.specs.List.Sorted.{IsPermutation}
@@ -9,59 +9,12 @@ use Rattle.std.proofs.lemmas.List.Concat.{flat_map-append}
 use Rattle.ex_base.specs.Order.{Rising, AllDiffer}
 use Rattle.ex_base.specs.Ports.{times}
 use Rattle.ex_base.proofs.Rows.{each-append}
-use Rattle.file_index.proofs.Counts.{times-append, times_here, times_apart, same_or_not}
-use Rattle.tree_model.proofs.SameUnits.{split_each}
+use Rattle.ex_base.proofs.Each.{split_each}
+use Rattle.ex_base.proofs.Counts.{differ_once, once_differ, same_or_not, times-append, times_apart, times_here}
+use Rattle.ex_base.proofs.Members.{In, contains_in, in_contains, in_either, in_left, in_right}
+use Rattle.ex_base.proofs.Lists.{rising_tail}
 
 -- ---- membership
-
-abbrev pub In : {A : Type 0} → A → List A → Type 0
-In x [] = ⊥
-In x (y ∷ ys) = (x ≡ y) ⊎ In x ys
-
-pub in_contains : {A : Type 0} (x : A) (xs : List A) → Contains xs x → In x xs
-in_contains x [] (k, lt, e) = absurd (omega arith)
-in_contains x (y ∷ ys) (zero, lt, e) = inl (sym e)
-in_contains x (y ∷ ys) (suc k, lt, e) = inr (in_contains x ys (k, omega arith, e))
-
-pub contains_in : {A : Type 0} (x : A) (xs : List A) → In x xs → Contains xs x
-contains_in x [] h = absurd h
-contains_in x (y ∷ ys) (inl e) = (0, omega arith, sym e)
-contains_in x (y ∷ ys) (inr h) = let rest = contains_in x ys h in (suc rest.0, omega (arith, rest.1), rest.2)
-
-pub in_either : {A : Type 0} (x : A) (xs ys : List A) → In x (xs ++ ys) → In x xs ⊎ In x ys
-in_either x [] ys h = inr h
-in_either x (y ∷ xs) ys (inl e) = inl (inl e)
-in_either x (y ∷ xs) ys (inr h) = elim (in_either x xs ys h) [ inl k ↦ inl (inr k) | inr k ↦ inr k ]
-
-pub in_left : {A : Type 0} (x : A) (xs ys : List A) → In x xs → In x (xs ++ ys)
-in_left x [] ys h = absurd h
-in_left x (y ∷ xs) ys (inl e) = inl e
-in_left x (y ∷ xs) ys (inr h) = inr (in_left x xs ys h)
-
-pub in_right : {A : Type 0} (x : A) (xs ys : List A) → In x ys → In x (xs ++ ys)
-in_right x [] ys h = h
-in_right x (y ∷ xs) ys h = inr (in_right x xs ys h)
-
-pub from_flat : {A B : Type 0} (f : A → List B) (y : B) (xs : List A) → In y (flat_map f xs) → (x : A) × In x xs × In y (f x)
-from_flat f y [] h = absurd h
-from_flat f y (x ∷ xs) h = elim (in_either y (f x) (flat_map f xs) h) [
-  | inl k ↦ (x, inl refl, k)
-  | inr k ↦ let rest = from_flat f y xs k in (rest.0, inr rest.1, rest.2)
-]
-
-pub into_flat : {A B : Type 0} (f : A → List B) (y : B) (x : A) (xs : List A) → In x xs → In y (f x) → In y (flat_map f xs)
-into_flat f y x [] h k = absurd h
-into_flat f y x (z ∷ xs) (inl e) k = in_left y (f z) (flat_map f xs) (subst (λ w. In y (f w)) e k)
-into_flat f y x (z ∷ xs) (inr h) k = in_right y (f z) (flat_map f xs) (into_flat f y x xs h k)
-
-pub of_each : {A : Type 0} (P : A → Type 0) (x : A) (xs : List A) → AllByRecursion P xs → In x xs → P x
-of_each P x [] each h = absurd h
-of_each P x (y ∷ xs) each (inl e) = subst P (sym e) each.0
-of_each P x (y ∷ xs) each (inr h) = of_each P x xs each.1 h
-
-pub each_from : {A : Type 0} (P : A → Type 0) (xs : List A) → ((x : A) → In x xs → P x) → AllByRecursion P xs
-each_from P [] h = tt
-each_from P (x ∷ xs) h = (h x (inl refl), each_from P xs (λ y k. h y (inr k)))
 
 pub in_times : (x : ℕ) (xs : List ℕ) → In x xs → 1 ≤ times x xs
 in_times x [] h = absurd h
@@ -80,40 +33,12 @@ times_in x (y ∷ xs) h = elim (same_or_not x y) [
 
 -- ---- what holds of each item
 
-pub each_with : {A : Type 0} (P Q R : A → Type 0) (xs : List A) → ((x : A) → P x → Q x → R x) → AllByRecursion P xs → AllByRecursion Q xs → AllByRecursion R xs
-each_with P Q R [] f p q = tt
-each_with P Q R (x ∷ xs) f p q = (f x p.0 q.0, each_with P Q R xs f p.1 q.1)
-
-pub each_as : {A : Type 0} (P Q : A → Type 0) (xs : List A) → ((x : A) → P x → Q x) → AllByRecursion P xs → AllByRecursion Q xs
-each_as P Q [] f p = tt
-each_as P Q (x ∷ xs) f p = (f x p.0, each_as P Q xs f p.1)
-
-pub each_parts : {A B : Type 0} (P : B → Type 0) (f : A → List B) (xs : List A) → AllByRecursion P (flat_map f xs) → AllByRecursion (λ x. AllByRecursion P (f x)) xs
-each_parts P f [] h = tt
-each_parts P f (x ∷ xs) h = let both = split_each P (f x) (flat_map f xs) h in (both.0, each_parts P f xs both.1)
-
-pub each_joined : {A B : Type 0} (P : B → Type 0) (f : A → List B) (xs : List A) → AllByRecursion (λ x. AllByRecursion P (f x)) xs → AllByRecursion P (flat_map f xs)
-each_joined P f [] h = tt
-each_joined P f (x ∷ xs) h = each-append P (f x) (flat_map f xs) h.0 (each_joined P f xs h.1)
-
-pub each_mapped : {A B : Type 0} (P : B → Type 0) (f : A → B) (xs : List A) → AllByRecursion (λ x. P (f x)) xs → AllByRecursion P (map f xs)
-each_mapped P f [] h = tt
-each_mapped P f (x ∷ xs) h = (h.0, each_mapped P f xs h.1)
-
 -- the three parts of a list
 pub each_around : {A : Type 0} (P : A → Type 0) (xs ys zs : List A) → AllByRecursion P (xs ++ (ys ++ zs)) → AllByRecursion P xs × AllByRecursion P ys × AllByRecursion P zs
 each_around P xs ys zs h = let one = split_each P xs (ys ++ zs) h in let two = split_each P ys zs one.1 in (one.0, two.0, two.1)
 
 pub each_between : {A : Type 0} (P : A → Type 0) (xs ys zs : List A) → AllByRecursion P xs → AllByRecursion P ys → AllByRecursion P zs → AllByRecursion P (xs ++ (ys ++ zs))
 each_between P xs ys zs p q r = each-append P xs (ys ++ zs) p (each-append P ys zs q r)
-
-pub map_same : {A B : Type 0} (f g : A → B) (K : A → Type 0) (xs : List A) → ((x : A) → K x → g x ≡ f x) → AllByRecursion K xs → map g xs ≡ map f xs
-map_same f g K [] same k = refl
-map_same f g K (x ∷ xs) same k = let here = same x k.0 in let rest = map_same f g K xs same k.1 in cc (here, rest)
-
-pub flat_same : {A B : Type 0} (f g : A → List B) (K : A → Type 0) (xs : List A) → ((x : A) → K x → g x ≡ f x) → AllByRecursion K xs → flat_map g xs ≡ flat_map f xs
-flat_same f g K [] same k = refl
-flat_same f g K (x ∷ xs) same k = let here = same x k.0 in let rest = flat_same f g K xs same k.1 in cc (here, rest)
 
 pub map_around : {A B : Type 0} (f : A → B) (xs ys zs : List A) → map f (xs ++ (ys ++ zs)) ≡ map f xs ++ (map f ys ++ map f zs)
 map_around {B = B} f xs ys zs = map-append f xs (ys ++ zs) ∙ ap (λ (t : List B). map f xs ++ t) (map-append f ys zs)
@@ -146,43 +71,6 @@ zip_append [] ys [] vs p = refl
 zip_append [] ys (u ∷ us) vs p = absurd p
 zip_append (x ∷ xs) ys [] vs p = absurd p
 zip_append (x ∷ xs) ys (u ∷ us) vs p = let rest = zip_append xs ys us vs p.1 in cc rest
-
-pub zip_as : {A B : Type 0} (P R : A → B → Type 0) (xs : List A) (ys : List B) → ((x : A) (y : B) → P x y → R x y) → AllZip P xs ys → AllZip R xs ys
-zip_as P R [] [] f p = tt
-zip_as P R [] (y ∷ ys) f p = p
-zip_as P R (x ∷ xs) [] f p = p
-zip_as P R (x ∷ xs) (y ∷ ys) f p = (f x y p.0, zip_as P R xs ys f p.1)
-
-pub zip_with : {A B : Type 0} (K : B → Type 0) (P R : A → B → Type 0) (xs : List A) (ys : List B) → ((x : A) (y : B) → K y → P x y → R x y) → AllByRecursion K ys → AllZip P xs ys → AllZip R xs ys
-zip_with K P R [] [] f k p = tt
-zip_with K P R [] (y ∷ ys) f k p = p
-zip_with K P R (x ∷ xs) [] f k p = p
-zip_with K P R (x ∷ xs) (y ∷ ys) f k p = (f x y k.0 p.0, zip_with K P R xs ys f k.1 p.1)
-
--- ---- lists whose numbers differ
-
-pub differ_once : (xs : List ℕ) → AllDiffer xs → (n : ℕ) → times n xs ≤ 1
-differ_once [] h n = omega arith
-differ_once (x ∷ xs) h n = elim (same_or_not n x) [
-  | inl same ↦
-      let none : times n xs ≡ 0 = absent n xs (λ c. h.0 (subst (Contains xs) same c)) in
-      omega (arith, times_here n x xs same)
-  | inr differ ↦ omega (arith, times_apart n x xs differ, differ_once xs h.1 n)
-]
-  where
-    none_or_some : (m : ℕ) → (m ≡ 0) ⊎ (1 ≤ m)
-    none_or_some zero = inl refl
-    none_or_some (suc m) = inr (omega arith)
-
-    absent : (m : ℕ) (ys : List ℕ) → (Contains ys m → ⊥) → times m ys ≡ 0
-    absent m ys lacks = elim (none_or_some (times m ys)) [ inl z ↦ z | inr some ↦ absurd (lacks (contains_in m ys (times_in m ys some))) ]
-
-pub once_differ : (xs : List ℕ) → ((n : ℕ) → times n xs ≤ 1) → AllDiffer xs
-once_differ [] h = tt
-once_differ (x ∷ xs) h = (
-  (λ c. absurd (omega (arith, h x, times_here x x xs refl, in_times x xs (in_contains x xs c)))),
-  once_differ xs (λ n. omega (arith, h n)),
-)
 
 -- ---- two lists of the same items
 
@@ -263,10 +151,6 @@ permuted_more x xs ys us vs h =
     (IsPermutation-trans (x ∷ (xs ++ ys)) (x ∷ (us ++ vs)) (us ++ (x ∷ vs)) (IsPermutation-cons x (xs ++ ys) (us ++ vs) h) (IsPermutation-sym (us ++ (x ∷ vs)) (x ∷ (us ++ vs)) (IsPermutation-middle us x vs)))
 
 -- ---- rising numbers
-
-rising_tail : (x : ℕ) (xs : List ℕ) → Rising (x ∷ xs) → Rising xs
-rising_tail x [] h = tt
-rising_tail x (y ∷ xs) h = h.1
 
 pub rising_less : (xs : List ℕ) (y : ℕ) (zs : List ℕ) → Rising (xs ++ (y ∷ zs)) → Rising (xs ++ zs)
 rising_less [] y zs h = rising_tail y zs h

@@ -10,8 +10,8 @@ use Rattle.std.proofs.lemmas.Cmp.{nat_list_cmp_total}
 use Rattle.std.proofs.lemmas.Map.Text.{is_eq-slice_cmp}
 use Rattle.std.proofs.lemmas.Slice.Eq.{bytes_eq-Decides}
 use Rattle.ex_base.specs.Order.{RisingTexts}
-use Rattle.tree_model.proofs.SameUnits.{split_each}
-use Rattle.volume_edits.proofs.Lists.{each_as}
+use Rattle.ex_base.proofs.Each.{split_each, each_as}
+use Rattle.ex_base.proofs.Lists.{texts_tail}
 
 abbrev pub Before : List ℕ → List ℕ → Type 0
 Before a b = slice_cmp nat_cmp a b ≡ Less
@@ -24,10 +24,6 @@ differ_behind a b before = elim (cases_Bool (bytes_eq b a)) [
   | inl same ↦ absurd (true≢false (sym ((bytes_eq-Decides a b).1 (sym ((bytes_eq-Decides b a).0 same))) ∙ differ_before a b before))
   | inr differs ↦ differs
 ]
-
-pub texts_tail : (x : List ℕ) (xs : List (List ℕ)) → RisingTexts (x ∷ xs) → RisingTexts xs
-texts_tail x [] h = tt
-texts_tail x (y ∷ xs) h = h.1
 
 -- the first comes before all others
 pub texts_head : (x : List ℕ) (xs : List (List ℕ)) → RisingTexts (x ∷ xs) → AllByRecursion (Before x) xs

@@ -5,6 +5,7 @@ use Rattle.std.specs.List.{AllZip}
 use Rattle.std.proofs.lemmas.List.{append-nil}
 use Rattle.ex_base.specs.declared.ground.Ground as ground
 use Rattle.ex_base.specs.declared.names.Place.{Place}
+use Rattle.ex_base.proofs.Members.{In, in_left, in_right}
 use Rattle.op_log.specs.declared.record.LogRecord.{LogRecord}
 use Rattle.slotted_pages.specs.FilePage.{FilePage, Slot}
 use Rattle.slotted_pages.specs.Reads.{page_on}
@@ -16,7 +17,7 @@ use Rattle.object_files.specs.Catalog.{FileEntry}
 use Rattle.volume_model.specs.Parts.{IsStored}
 use Rattle.volume_model.specs.Volume.{Stored, Line, FileContent, Volume}
 use Rattle.volume_edits.specs.Ported.{ShowsVolume, index_named}
-use Rattle.volume_edits.proofs.Lists.{In, in_left, in_right, cut_at, Paired}
+use Rattle.volume_edits.proofs.Lists.{cut_at, Paired}
 use Rattle.volume_edits.proofs.Holes.{Hole, lone, stored_if, lines_if, filled, entry_with, file_with}
 use Rattle.volume_edits.proofs.Contents.{Beside, found_at, content_of}
 use Rattle.volume_edits.proofs.Finding.{line_of}

@@ -6,21 +6,22 @@ use Rattle.ex_base.specs.declared.ground.Ground as ground
 use Rattle.ex_base.specs.declared.names.Oid.{Oid}
 use Rattle.ex_base.specs.Order.{Rising}
 use Rattle.ex_base.specs.Ports.{times}
+use Rattle.ex_base.proofs.Counts.{contains_times, times_contains}
+use Rattle.ex_base.proofs.Members.{In, contains_in, in_contains}
 use Rattle.op_log.specs.declared.record.LogRecord.{LogRecord}
 use Rattle.file_index.specs.declared.Index.{Index}
 use Rattle.file_bodies.specs.Bodies.{Row}
 use Rattle.file_bodies.specs.Files.{HasFile, EditsFile}
 use Rattle.file_bodies.specs.Places.{RemovesBody}
-use Rattle.file_bodies.proofs.Rows.{contains_times, times_contains}
 use Rattle.object_records.specs.Record.{Content, Record}
-use Rattle.tree_model.specs.Trees.{root_units}
+use Rattle.trees.specs.Trees.{root_units}
 use Rattle.table_model.specs.Tables.{without_object}
 use Rattle.versions.specs.Versions.{HasVersion, AreInUse, place_of, lone_head, content_units}
 use Rattle.volume_model.specs.Parts.{IsStored}
 use Rattle.volume_model.specs.Volume.{Stored, Volume, file_pages, unique_of, line_number, table_of, roots_in, root_in}
 use Rattle.volume_edits.specs.Ported.{IsVolume, IsApart, units_in}
 use Rattle.volume_edits.specs.Edits.{MovesVolume, trees_of}
-use Rattle.volume_edits.proofs.Lists.{in_contains, contains_in, map_around, rising_less, Paired, zip_joined, In}
+use Rattle.volume_edits.proofs.Lists.{map_around, rising_less, Paired, zip_joined}
 use Rattle.std.proofs.lemmas.List.{map-append}
 use Rattle.volume_edits.proofs.Holes.{Hole, lone, filled, stored_with, table_filled, stored_first, stored_last, stored_if}
 use Rattle.volume_edits.proofs.Edited.{Edit, edited, table_edited, trees_from, left_units}

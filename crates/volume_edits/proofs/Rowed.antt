@@ -1,5 +1,5 @@
 -- A file in whose list of bodies one place changes, as one of a volume.
-use Rattle.std.proofs.Common.{◌≡◌, ◌≢◌, ℕ, zero, suc, ◌+◌, ◌≤◌, Bool, true, false, List, [], ◌∷◌, ◌++◌, Option, refl, sym, ap, subst, ◌∙◌, arith, inl, inr, ◌⊎◌, eq-eqb}
+use Rattle.std.proofs.Common.{◌≡◌, ◌≢◌, ℕ, ◌+◌, ◌≤◌, Bool, true, false, List, [], ◌∷◌, ◌++◌, Option, refl, sym, ap, subst, ◌∙◌, arith, inl, inr, ◌⊎◌, eq-eqb}
 use Rattle.std.specs.Prelude.{map}
 use Rattle.std.specs.List.{AllByRecursion}
 use Rattle.std.proofs.lemmas.List.{map-append}
@@ -10,11 +10,13 @@ use Rattle.ex_base.specs.declared.names.Place.{Place}
 use Rattle.ex_base.specs.Area.{catalog_no}
 use Rattle.ex_base.specs.Order.{AllDiffer}
 use Rattle.ex_base.specs.Ports.{times}
+use Rattle.ex_base.proofs.Counts.{none_or_some, not_equal, same_or_not, times-append, times_apart, times_here}
+use Rattle.ex_base.proofs.Members.{each_in, in_left, in_right}
 use Rattle.op_log.specs.declared.record.LogRecord.{LogRecord}
 use Rattle.slotted_pages.specs.FilePage.{Slot}
 use Rattle.file_index.specs.declared.Index.{Index}
 use Rattle.file_index.specs.Changes.{count_of}
-use Rattle.file_index.proofs.Counts.{times-append, times_here, times_apart, same_or_not, not_equal, count_most, count_is}
+use Rattle.file_index.proofs.Counts.{count_most, count_is}
 use Rattle.file_bodies.specs.Files.{HasFile, EditsFile, all_pages, with_index}
 use Rattle.object_files.specs.Catalog.{FileEntry, Catalog, CatalogOf, number_of}
 use Rattle.object_files.specs.Reads.{catalog_on}
@@ -23,14 +25,10 @@ use Rattle.object_files.proofs.CatalogLaws.{catalog_read}
 use Rattle.versions.specs.Versions.{AreInUse}
 use Rattle.volume_model.specs.Volume.{Stored, file_pages}
 use Rattle.volume_edits.specs.Ported.{ShowsVolume, IsApart}
-use Rattle.volume_edits.proofs.Lists.{in_left, in_right, each_from, key_differs}
+use Rattle.volume_edits.proofs.Lists.{key_differs}
 use Rattle.volume_edits.proofs.Frames.{Frame, IsStill}
 use Rattle.volume_edits.proofs.Holes.{Hole, filled, entry_with, catalog_with, times_filled, pages_first, pages_last}
 use Rattle.volume_edits.proofs.Counted.{in_area}
-
-none_or_some : (m : ℕ) → (m ≡ 0) ⊎ (1 ≤ m)
-none_or_some zero = inl refl
-none_or_some (suc m) = inr (omega arith)
 
 not_counted : (b : Bool) → count_of b ≡ 0 → b ≡ false
 not_counted true e = absurd (omega arith)
@@ -48,8 +46,8 @@ indexed_others n level root (e ∷ es) others =
 pub indexed_with : (h : Hole) (index after : Index) → after.file_no ≡ h.file_no → AllDiffer (map number_of (catalog_with h index).entries) → with_index (catalog_with h index) after ≡ catalog_with h after
 indexed_with h index after number differ =
     let e : FileEntry = entry_with h index in
-    let first = indexed_others after.file_no after.level after.root h.entries_before (each_from (λ (d : FileEntry). d.file_no ≢ after.file_no) h.entries_before (λ d k same. key_differs number_of d (entry_with h index) h.entries_before h.entries_behind differ (in_left d h.entries_before h.entries_behind k) (same ∙ number))) in
-    let last = indexed_others after.file_no after.level after.root h.entries_behind (each_from (λ (d : FileEntry). d.file_no ≢ after.file_no) h.entries_behind (λ d k same. key_differs number_of d (entry_with h index) h.entries_before h.entries_behind differ (in_right d h.entries_before h.entries_behind k) (same ∙ number))) in
+    let first = indexed_others after.file_no after.level after.root h.entries_before (each_in (λ (d : FileEntry). d.file_no ≢ after.file_no) h.entries_before (λ d k same. key_differs number_of d (entry_with h index) h.entries_before h.entries_behind differ (in_left d h.entries_before h.entries_behind k) (same ∙ number))) in
+    let last = indexed_others after.file_no after.level after.root h.entries_behind (each_in (λ (d : FileEntry). d.file_no ≢ after.file_no) h.entries_behind (λ d k same. key_differs number_of d (entry_with h index) h.entries_before h.entries_behind differ (in_right d h.entries_before h.entries_behind k) (same ∙ number))) in
     let own : indexed after.file_no after.level after.root (entry_with h index) ≡ entry_with h after = own_entry in
     let made : List FileEntry → Catalog = λ es. record { next_unique = h.next; last = h.last; entries = es } in
     ap made (

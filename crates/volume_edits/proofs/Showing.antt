@@ -11,9 +11,11 @@ use Rattle.file_index.specs.declared.Index.{Index}
 use Rattle.file_bodies.specs.Bodies.{bodies_of, pages_in}
 use Rattle.object_records.specs.declared.Head.{Head}
 use Rattle.object_records.specs.Record.{Content, Small, Large, Record, BodyOf}
-use Rattle.tree_model.specs.Trees.{Units, root_units, RootNamed}
+use Rattle.trees.specs.Trees.{Units, root_units, RootNamed}
 use Rattle.object_files.specs.Catalog.{FileEntry}
 use Rattle.ex_base.specs.declared.names.PageNo.{PageNo}
+use Rattle.ex_base.proofs.Members.{In, in_right, into_flat, of_each}
+use Rattle.ex_base.proofs.Each.{each_as, each_parted, each_with}
 use Rattle.object_records.proofs.RecordLaws.{record_read}
 use Rattle.table_model.specs.declared.table.Object.{Object}
 use Rattle.table_model.specs.declared.table.Version.{Version}
@@ -23,7 +25,6 @@ use Rattle.volume_model.specs.Parts.{HasLines, IsLine, HasBalance}
 use Rattle.volume_model.specs.Volume.{Stored, FileContent, Volume, lines_of, stored_in, object_of, unique_of, oid_of, version_of, content_in, table_of, root_in, roots_in}
 use Rattle.volume_edits.specs.Ported.{ShowsVolume, IsVolume, units_in, index_named}
 use Rattle.volume_edits.specs.Shown.{HasShown, ReadsVersion, SameShape}
-use Rattle.volume_edits.proofs.Lists.{In, of_each, each_as, each_with, each_parts, into_flat, in_right}
 use Rattle.volume_edits.proofs.Kept.{RootKept, units_of_root, spelled_root, shape_of_root}
 use Rattle.volume_edits.proofs.Frames.{IsPlacedUnit, IsTreeOf, placed_units, tree_units, own_bytes}
 use Rattle.volume_edits.proofs.Holes.{lone}
@@ -88,7 +89,7 @@ module _ {S : Type 0} (g : ground.Ghosts S) (s : S) (records : List LogRecord) (
 
   -- the volume's records of large contents have its roots
   roots_here : (x : Stored) → In x (stored_in v) → AllByRecursion IsRoot (root_in x.body.content)
-  roots_here x inside = of_each (λ (y : Stored). AllByRecursion IsRoot (root_in y.body.content)) x (stored_in v) (each_parts IsRoot (λ (y : Stored). root_in y.body.content) (stored_in v) roots) inside
+  roots_here x inside = of_each (λ (y : Stored). AllByRecursion IsRoot (root_in y.body.content)) x (stored_in v) (each_parted IsRoot (λ (y : Stored). root_in y.body.content) (stored_in v) roots) inside
 
   file_in : (e : FileEntry) (f : FileContent) → Beside v.catalog.entries v.files e f → In f v.files
   file_in e f b = subst (λ (t : List FileContent). In f t) (sym b.files_are) (in_right f b.files_before (f ∷ b.files_behind) (inl refl))
@@ -190,7 +191,7 @@ module _ {S : Type 0} (g : ground.Ghosts S) (s : S) (records : List LogRecord) (
 
     trees_here : (x : Stored) → In x (stored_in v) → AllByRecursion (λ (root : Root). AllByRecursion (IsTreeOf g s) (root_units U root)) (root_in x.body.content)
     trees_here x inside = of_each (λ (y : Stored). AllByRecursion (λ (root : Root). AllByRecursion (IsTreeOf g s) (root_units U root)) (root_in y.body.content)) x (stored_in v)
-        (each_parts (λ (root : Root). AllByRecursion (IsTreeOf g s) (root_units U root)) (λ (y : Stored). root_in y.body.content) (stored_in v) (tree_units g s records v whole)) inside
+        (each_parted (λ (root : Root). AllByRecursion (IsTreeOf g s) (root_units U root)) (λ (y : Stored). root_in y.body.content) (stored_in v) (tree_units g s records v whole)) inside
 
     pub version_found : (oid : Oid) (version : Version) → version_at (table_of U v) oid ≡ Some version → HasShown g s oid version
     version_found oid version is =

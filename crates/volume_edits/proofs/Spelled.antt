@@ -9,17 +9,18 @@ use Rattle.ex_base.specs.declared.names.Root.{Root}
 use Rattle.ex_base.specs.Area.{IsUnit}
 use Rattle.ex_base.specs.Order.{Rising}
 use Rattle.ex_base.specs.Ports.{times}
+use Rattle.ex_base.proofs.Each.{split_each, each_parted, each_with}
+use Rattle.ex_base.proofs.Counts.{differ_once, times_here}
+use Rattle.ex_base.proofs.Members.{In, in_right, of_each}
 use Rattle.op_log.specs.declared.record.LogRecord.{LogRecord}
 use Rattle.file_index.specs.declared.Index.{Index}
-use Rattle.file_index.proofs.Counts.{times_here}
 use Rattle.file_bodies.specs.Bodies.{Row, bodies_of, pages_in}
 use Rattle.object_records.specs.Record.{Content, Small, Large, Record, BodyOf}
-use Rattle.tree_model.specs.Trees.{root_units, RootNamed}
-use Rattle.tree_model.proofs.SameUnits.{split_each}
+use Rattle.trees.specs.Trees.{root_units, RootNamed}
 use Rattle.versions.specs.Versions.{HasRecord, Spells, IsTreeUnit, place_of, content_units}
 use Rattle.volume_model.specs.Volume.{Stored, FileContent, line_records, stored_in, unique_of, line_number, root_in, content_in}
 use Rattle.volume_edits.specs.Ported.{ShowsVolume, IsApart, units_in}
-use Rattle.volume_edits.proofs.Lists.{In, in_right, of_each, each_with, each_parts, map_around, times_around, differ_once}
+use Rattle.volume_edits.proofs.Lists.{map_around, times_around}
 use Rattle.volume_edits.proofs.Kept.{RootKept, root_placed, units_of_root, spelled_root}
 use Rattle.volume_edits.proofs.Frames.{own_bytes}
 use Rattle.volume_edits.proofs.Holes.{Hole, filled, lines_with, file_with, stored_first, stored_last, lines_first, lines_last, lines_in, stored_filled}
@@ -98,13 +99,13 @@ differ_all n (x ∷ xs) none = (λ same. absurd (omega (arith, times_here n (uni
 
 pub lacks_around : (oid : Oid) (h : Hole) → times oid.unique (map unique_of (stored_first h)) + times oid.unique (map unique_of (stored_last h)) ≡ 0 → LacksAround oid h
 lacks_around oid h none =
-    let first : AllByRecursion (LineLacks oid) (lines_first h) = each_parts (λ (y : Stored). unique_of y ≢ oid.unique) line_records (lines_first h) (differ_all oid.unique (stored_first h) (omega arith)) in
-    let last : AllByRecursion (LineLacks oid) (lines_last h) = each_parts (λ (y : Stored). unique_of y ≢ oid.unique) line_records (lines_last h) (differ_all oid.unique (stored_last h) (omega arith)) in
+    let first : AllByRecursion (LineLacks oid) (lines_first h) = each_parted (λ (y : Stored). unique_of y ≢ oid.unique) line_records (lines_first h) (differ_all oid.unique (stored_first h) (omega arith)) in
+    let last : AllByRecursion (LineLacks oid) (lines_last h) = each_parted (λ (y : Stored). unique_of y ≢ oid.unique) line_records (lines_last h) (differ_all oid.unique (stored_last h) (omega arith)) in
     let one = split_each (LineLacks oid) (lines_in h.files_before) h.lines_before first in
     let two = split_each (LineLacks oid) h.lines_behind (lines_in h.files_behind) last in
     record {
-      files_before = each_parts (LineLacks oid) (λ (file : FileContent). file.lines) h.files_before one.0;
-      files_behind = each_parts (LineLacks oid) (λ (file : FileContent). file.lines) h.files_behind two.1;
+      files_before = each_parted (LineLacks oid) (λ (file : FileContent). file.lines) h.files_before one.0;
+      files_behind = each_parted (LineLacks oid) (λ (file : FileContent). file.lines) h.files_behind two.1;
       lines_before = one.1;
       lines_behind = two.0;
     }

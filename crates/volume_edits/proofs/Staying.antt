@@ -1,5 +1,6 @@
 -- A volume stays where nothing that it reaches changes.
 use Rattle.std.proofs.Common.{◌≡◌, ℕ, ◌<◌, ◌≤◌, Bool, true, List, ◌∷◌, ◌++◌, sym, ap, subst, ◌∙◌, arith, inl, inr}
+use Rattle.std.proofs.lemmas.Bool.{cases_lt}
 use Rattle.std.specs.Prelude.{Contains}
 use Rattle.std.specs.List.{flat_map, AllByRecursion}
 use Rattle.ex_base.specs.declared.ground.Ground as ground
@@ -7,18 +8,17 @@ use Rattle.ex_base.specs.declared.geometry.Geometry.{Geometry}
 use Rattle.ex_base.specs.declared.names.Root.{Root}
 use Rattle.ex_base.specs.Area.{catalog_no, area_end, InPageArea}
 use Rattle.ex_base.specs.Ports.{times, Keeps, GivesUnit}
+use Rattle.ex_base.proofs.Each.{split_each, each_parted, each_with, flat_same, map_same, zip_with}
+use Rattle.ex_base.proofs.Counts.{times-append}
+use Rattle.ex_base.proofs.Members.{contains_in, each_in}
 use Rattle.op_log.specs.declared.record.LogRecord.{LogRecord}
-use Rattle.file_index.proofs.Counts.{times-append}
 use Rattle.file_bodies.proofs.Moving.{moved}
 use Rattle.file_bodies.proofs.Rows.{each_at}
-use Rattle.file_bodies.proofs.Searching.{lt_or_le}
 use Rattle.object_files.specs.Catalog.{FileEntry, CatalogOf}
-use Rattle.tree_model.specs.Trees.{Units, root_units, RootNamed}
-use Rattle.tree_model.proofs.SameUnits.{split_each}
+use Rattle.trees.specs.Trees.{Units, root_units, RootNamed}
 use Rattle.volume_model.specs.Parts.{HasIndex, HasPages, HasNodes, HasBalance, Apart, AllApart, HoldsOf, content_parts}
 use Rattle.volume_model.specs.Volume.{FileContent, Volume, lines_of, stored_in, pages_of_file, file_pages, roots_in, line_units, reach_of, table_of}
 use Rattle.volume_edits.specs.Ported.{ShowsVolume, IsVolume, IsApart, KeepsReach, units_in}
-use Rattle.volume_edits.proofs.Lists.{contains_in, each_with, each_from, each_parts, zip_with, map_same, flat_same}
 use Rattle.volume_edits.proofs.Kept.{RootKept, LineKept, units_of_root, named_root, balance_kept, line_units_same, roots_of_lines, files_same}
 use Rattle.volume_edits.proofs.Counted.{in_area}
 use Rattle.volume_edits.proofs.Frames.{past_area}
@@ -35,10 +35,10 @@ module _ {S : Type 0} (g : ground.Ghosts S) (old new : S) (records : List LogRec
   Stays u = U' u ≡ U u
 
   reach_stays : AllByRecursion Stays (catalog_no ∷ file_pages v) × AllByRecursion Stays (flat_map (root_units U) (roots_in (stored_in v)))
-  reach_stays = split_each Stays (catalog_no ∷ file_pages v) (flat_map (root_units U) (roots_in (stored_in v))) (each_from Stays (reach_of U v) (λ u inside. keeps.units u (contains_in u (reach_of U v) inside)))
+  reach_stays = split_each Stays (catalog_no ∷ file_pages v) (flat_map (root_units U) (roots_in (stored_in v))) (each_in Stays (reach_of U v) (λ u inside. keeps.units u (contains_in u (reach_of U v) inside)))
 
   files_stay : AllByRecursion (λ (f : FileContent). AllByRecursion Stays (pages_of_file f)) v.files
-  files_stay = each_parts Stays pages_of_file v.files reach_stays.0.1
+  files_stay = each_parted Stays pages_of_file v.files reach_stays.0.1
 
   index_moved : (e : FileEntry) (f : FileContent) → AllByRecursion Stays (pages_of_file f) → HasIndex (g.geometry old) U e f → HasIndex (g.geometry new) U' e f
   index_moved e f stay has =
@@ -46,7 +46,7 @@ module _ {S : Type 0} (g : ground.Ghosts S) (old new : S) (records : List LogRec
       subst (λ (gm : Geometry). HasIndex gm U' e f) (sym keeps.geometry) (record { whole = m.whole has.whole; numbers = has.numbers ∙ sym m.keys; index_pages = has.index_pages ∙ sym m.pages })
 
   roots_kept : AllByRecursion (RootKept U U') (roots_in (stored_in v))
-  roots_kept = each_parts Stays (root_units U) (roots_in (stored_in v)) reach_stays.1
+  roots_kept = each_parted Stays (root_units U) (roots_in (stored_in v)) reach_stays.1
 
   lines_kept : AllByRecursion (LineKept U U') (lines_of v)
   lines_kept = roots_of_lines (RootKept U U') (lines_of v) roots_kept
@@ -100,7 +100,7 @@ module _ {S : Type 0} (g : ground.Ghosts S) (old new : S) (records : List LogRec
 
   pub table_stays : table_of U' v ≡ table_of U v
   table_stays =
-      let files = files_same U U' v.catalog.entries v.files (each_parts (LineKept U U') (λ (file : FileContent). file.lines) v.files lines_kept) in
+      let files = files_same U U' v.catalog.entries v.files (each_parted (LineKept U U') (λ (file : FileContent). file.lines) v.files lines_kept) in
       cc files
 
 -- ---- where nothing changes, and where a unit is given back that the volume doesn't reach
@@ -108,7 +108,7 @@ module _ {S : Type 0} (g : ground.Ghosts S) (old new : S) (records : List LogRec
 module _ {S : Type 0} (g : ground.Ghosts S) (old new : S) (v : Volume) where
   -- the bytes of a unit whose image and own bytes stay
   same_unit : (u : ℕ) → g.geometry new ≡ g.geometry old → g.image new u ≡ g.image old u → g.unit new u ≡ g.unit old u → units_in g new u ≡ units_in g old u
-  same_unit u geometry image unit = elim (lt_or_le u (area_end (g.geometry old))) [
+  same_unit u geometry image unit = elim (cases_lt u (area_end (g.geometry old))) [
     | inl lt ↦ in_area g new u (subst (λ (gm : Geometry). u < area_end gm) (sym geometry) lt) ∙ image ∙ sym (in_area g old u lt)
     | inr le ↦ past_area g new u (subst (λ (gm : Geometry). area_end gm ≤ u) (sym geometry) le) ∙ unit ∙ sym (past_area g old u le)
   ]

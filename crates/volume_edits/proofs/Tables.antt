@@ -6,15 +6,15 @@ use Rattle.std.proofs.lemmas.Bool.{cases_Bool, eqb-true, and_parts}
 use Rattle.std.proofs.lemmas.List.{map-append}
 use Rattle.std.proofs.lemmas.List.Elements.{filter-append}
 use Rattle.ex_base.specs.declared.names.Oid.{Oid}
+use Rattle.ex_base.proofs.Each.{each_as, each_mapped}
 use Rattle.object_files.specs.Catalog.{FileEntry}
-use Rattle.tree_model.specs.Trees.{Units}
+use Rattle.trees.specs.Trees.{Units}
 use Rattle.table_model.specs.declared.table.Version.{Version}
 use Rattle.table_model.specs.declared.table.Object.{Object}
 use Rattle.table_model.specs.declared.table.TableFile.{TableFile}
 use Rattle.table_model.specs.declared.table.Table.{Table}
 use Rattle.table_model.specs.Tables.{has_oid, some_has_oid, is_current_of, with_objects, with_versions, in_each_file, bytes_changed, with_bytes, without_object}
 use Rattle.volume_model.specs.Volume.{Stored, Line, FileContent, line_records, unique_of, oid_of, version_of, content_in, object_of, file_of}
-use Rattle.volume_edits.proofs.Lists.{each_as, each_mapped}
 use Rattle.volume_edits.proofs.Holes.{Hole, lone, table_with}
 use Rattle.volume_edits.proofs.Finding.{same_as_oid}
 

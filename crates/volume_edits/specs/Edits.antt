@@ -9,7 +9,7 @@ use Rattle.op_log.specs.declared.record.LogRecord.{LogRecord}
 use Rattle.file_index.specs.declared.Index.{Index}
 use Rattle.file_bodies.specs.Files.{with_index}
 use Rattle.object_files.specs.Catalog.{FileEntry, Catalog, CatalogOf}
-use Rattle.tree_model.specs.Trees.{Units, root_units}
+use Rattle.trees.specs.Trees.{Units, root_units}
 use Rattle.table_model.specs.declared.table.Table.{Table}
 use Rattle.table_model.specs.Tables.{with_bytes}
 use Rattle.volume_model.specs.Volume.{Volume, lines_of, file_pages, reach_of, roots_in, stored_in, table_of}

@@ -10,7 +10,7 @@ use Rattle.file_index.specs.Index.{pages_of}
 use Rattle.file_bodies.specs.Bodies.{bodies_of, pages_in}
 use Rattle.file_bodies.specs.Files.{HasFile, index_at}
 use Rattle.object_files.specs.Catalog.{FileEntry}
-use Rattle.tree_model.specs.Trees.{Units}
+use Rattle.trees.specs.Trees.{Units}
 use Rattle.volume_model.specs.Parts.{HoldsOf, content_parts, IsStored, bodies_in}
 use Rattle.volume_model.specs.Volume.{FileContent, Volume, file_pages, reach_of}
 

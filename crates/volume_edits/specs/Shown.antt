@@ -5,7 +5,7 @@ use Rattle.ex_base.specs.declared.ground.Ground as ground
 use Rattle.ex_base.specs.declared.names.Oid.{Oid}
 use Rattle.file_index.specs.declared.Index.{Index}
 use Rattle.object_records.specs.Record.{Content, Small, Large}
-use Rattle.tree_model.specs.Trees.{Units, root_shape}
+use Rattle.trees.specs.Trees.{Units, root_shape}
 use Rattle.table_model.specs.declared.table.Version.{Version}
 use Rattle.versions.specs.Versions.{HasRecord, HasVersion, Spells, content_units, lone_head}
 use Rattle.volume_edits.specs.Ported.{units_in}

@@ -21,7 +21,7 @@ ghost use Rattle.table_model.specs.Refusals.{has_objects};
 ghost use Rattle.table_model.specs.Steps.{current_oids, objects_if};
 ghost use Rattle.table_model.specs.Tables.{version_at, object_at, current, file_at, is_current, with_object, without_object, with_file, without_file};
 ghost use Rattle.versions.specs.Listed.{oids_of, AreByNumber};
-ghost use Rattle.versions.specs.Versions.{Stands, HasVersion, EditsVersion, CreatesVersion, AreInUse, content_units, place_of};
+ghost use Rattle.versions.specs.Versions.{Stands, HasVersion, Change, EditsVersion, CreatesVersion, AreInUse, content_units, place_of};
 ghost use Rattle.volume_model.specs.Volume.{Stored, Volume, reach_of, stored_in, table_of, unique_of};
 ghost use Rattle.volume_edits.specs.Ported.{ShowsVolume, IsVolume, IsApart, HasContent, KeepsReach, units_in};
 ghost use Rattle.volume_edits.specs.Shown.{HasShown, ReadsVersion};
@@ -97,8 +97,8 @@ pub fn a_volume_without_a_unit<P: Ground>()
 /// An edit of a version makes a volume whose table has the new bytes in that version and is else the same. The volume has the same catalog and the same
 /// pages, and each unit of its trees is one of before or was free. It reaches no unit that the version's tree has lost.
 pub fn an_edited_version<P: Ground>()
-    ensures { (old new : P) (records : List LogRecord) (v : Volume) (index : Index) (oid : Oid) (content : Content) (before bytes : List ℕ) → IsVolume P.Ground old records v
-        → P.Ground.geometry new ≡ P.Ground.geometry old → IsApart P.Ground new → HasVersion P.Ground old index oid content before → (edit : EditsVersion P.Ground old new index oid content bytes)
+    ensures { (old new : P) (records : List LogRecord) (v : Volume) (index : Index) (oid : Oid) (content : Content) (change : Change) (before bytes : List ℕ) → IsVolume P.Ground old records v
+        → P.Ground.geometry new ≡ P.Ground.geometry old → IsApart P.Ground new → HasVersion P.Ground old index oid content before → (edit : EditsVersion P.Ground old new index oid content change bytes)
         → ChangesVolume P.Ground old new records v oid bytes (content_units (P.Ground.unit old) content) (content_units (P.Ground.unit new) edit.now) }
 {}
 

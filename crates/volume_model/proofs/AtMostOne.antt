@@ -11,7 +11,7 @@ use Rattle.op_log.proofs.OneList.{one_list}
 use Rattle.slotted_pages.specs.FilePage.{FilePage}
 use Rattle.object_files.specs.Catalog.{Catalog, FileEntry}
 use Rattle.volume_model.proofs.OneReading.{one_catalog}
-use Rattle.tree_model.specs.Trees.{Units}
+use Rattle.trees.specs.Trees.{Units}
 use Rattle.table_model.specs.declared.table.Table.{Table}
 use Rattle.volume_model.specs.Parts.{HasIndex, HasPages, HasLines, HoldsOf, content_parts, Decodes, StandsFor}
 use Rattle.volume_model.specs.Volume.{Stored, Line, FileContent, Volume, Decoded, line_number, units_after, units_of, table_of}

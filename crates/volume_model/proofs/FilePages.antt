@@ -6,7 +6,7 @@ use Rattle.ex_base.proofs.Rows.{each-append}
 use Rattle.file_index.specs.Index.{IsFilesPage}
 use Rattle.file_index.proofs.Heights.{keys_of_pages, index_of_pages}
 use Rattle.object_files.specs.Catalog.{FileEntry}
-use Rattle.tree_model.specs.Trees.{Units}
+use Rattle.trees.specs.Trees.{Units}
 use Rattle.volume_model.specs.Parts.{HasIndex}
 use Rattle.volume_model.specs.Volume.{FileContent, Volume, file_pages, pages_of_file}
 

@@ -1,6 +1,7 @@
 -- A volume as it is made stands for the empty table.
-use Rattle.std.proofs.Common.{◌≡◌, ◌≢◌, ℕ, ◌≤◌, Bool, true, false, cond, ltb, List, [], length, slice_index, refl, sym, ap, subst, ◌∙◌, arith, add-zero}
+use Rattle.std.proofs.Common.{◌≡◌, ◌≢◌, ℕ, ◌≤◌, ltb, List, [], length, slice_index, refl, sym, ap, subst, ◌∙◌, arith, add-zero}
 use Rattle.std.proofs.lemmas.Bool.Decides.{nat_tests}
+use Rattle.std.proofs.lemmas.Bool.{cond-true}
 use Rattle.ex_base.specs.declared.geometry.Geometry.{Geometry}
 use Rattle.ex_base.specs.Area.{catalog_no, area_end, page_at}
 use Rattle.ex_base.specs.Bytes.{part}
@@ -24,12 +25,8 @@ no_records g disk large closed = says_of g [] disk tt tt (record {
   closed = λ is. closed (ap (λ (i : ℕ). slice_index disk i) (sym (add-zero g.page_size)) ∙ is);
 })
 
-chosen : {A : Type 0} (b : Bool) (x y : A) → b ≡ true → cond b x y ≡ x
-chosen true x y is = refl
-chosen false x y is = absurd (cc)
-
 catalog_unit : (g : Geometry) (disk : List ℕ) → units_of (fresh g) disk catalog_no ≡ page_at g disk catalog_no
-catalog_unit g disk = chosen (ltb catalog_no (area_end g)) _ _ (let some = g.some_pages in grind (arith, nat_tests))
+catalog_unit g disk = cond-true (ltb catalog_no (area_end g)) _ _ (let some = g.some_pages in grind (arith, nat_tests))
 
 pub fresh_stands : (g : Geometry) (disk : List ℕ) → SuperOf disk g → slice_index disk g.page_size ≢ 1 → CatalogOf (page_at g disk catalog_no) fresh_catalog → StandsFor disk empty_table
 fresh_stands g disk super closed catalog =

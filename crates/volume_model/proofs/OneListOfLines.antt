@@ -1,67 +1,21 @@
 -- The lines of a file's records are determined.
-use Rattle.std.proofs.Common.{◌≡◌, ℕ, zero, suc, ◌+◌, ◌<◌, List, [], ◌∷◌, ◌++◌, length, Option, Some, None, refl, sym, ap, subst, ◌∙◌, arith, inl, inr, ◌⊎◌}
-use Rattle.std.specs.Prelude.{map, Contains, slice_get}
+use Rattle.std.proofs.Common.{◌≡◌, ℕ, suc, ◌+◌, ◌<◌, List, [], ◌∷◌, ◌++◌, length, Option, Some, None, refl, sym, ap, subst, ◌∙◌, arith, inl, inr, ◌⊎◌}
+use Rattle.std.specs.Prelude.{map, slice_get}
 use Rattle.std.specs.List.{flat_map, AllByRecursion, AllZip, zip}
 use Rattle.std.proofs.lemmas.List.{append-nil}
 use Rattle.std.proofs.lemmas.List.Sorted.{Contains-permutation, IsPermutation-sym}
 use Rattle.ex_base.specs.declared.names.Place.{Place}
 use Rattle.ex_base.specs.Order.{Rising}
 use Rattle.ex_base.proofs.Rows.{each-append}
+use Rattle.ex_base.proofs.Members.{In, contains_in, each_in, from_flat, in_contains, in_either, in_left, in_right, into_flat, of_each}
 use Rattle.slotted_pages.specs.FilePage.{FilePage, Slot, SlotsOf}
 use Rattle.object_records.specs.declared.State.TheVariants.{Current, Frozen}
 use Rattle.object_records.specs.Record.{Record, BodyOf}
 use Rattle.volume_model.proofs.OneReading.{one_page, one_record}
 use Rattle.object_files.specs.Catalog.{FileEntry}
-use Rattle.tree_model.specs.Trees.{Units}
+use Rattle.trees.specs.Trees.{Units}
 use Rattle.volume_model.specs.Parts.{Linked, IsLine, HasLines, HasPage, HasPages, bodies_from, bodies_in, IsStored}
 use Rattle.volume_model.specs.Volume.{Stored, Line, FileContent, line_records, line_number}
-
--- ---- membership
-
-abbrev pub In : {A : Type 0} → A → List A → Type 0
-In x [] = ⊥
-In x (y ∷ ys) = (x ≡ y) ⊎ In x ys
-
-pub in_contains : {A : Type 0} (x : A) (xs : List A) → Contains xs x → In x xs
-in_contains x [] (k, lt, e) = absurd (omega arith)
-in_contains x (y ∷ ys) (zero, lt, e) = inl (sym e)
-in_contains x (y ∷ ys) (suc k, lt, e) = inr (in_contains x ys (k, omega arith, e))
-
-pub contains_in : {A : Type 0} (x : A) (xs : List A) → In x xs → Contains xs x
-contains_in x [] h = absurd h
-contains_in x (y ∷ ys) (inl e) = (0, omega arith, sym e)
-contains_in x (y ∷ ys) (inr h) = let rest = contains_in x ys h in (suc rest.0, omega (arith, rest.1), rest.2)
-
-pub in_either : {A : Type 0} (x : A) (xs ys : List A) → In x (xs ++ ys) → In x xs ⊎ In x ys
-in_either x [] ys h = inr h
-in_either x (y ∷ xs) ys (inl e) = inl (inl e)
-in_either x (y ∷ xs) ys (inr h) = elim (in_either x xs ys h) [ inl k ↦ inl (inr k) | inr k ↦ inr k ]
-
-in_left : {A : Type 0} (x : A) (xs ys : List A) → In x xs → In x (xs ++ ys)
-in_left x [] ys h = absurd h
-in_left x (y ∷ xs) ys (inl e) = inl e
-in_left x (y ∷ xs) ys (inr h) = inr (in_left x xs ys h)
-
-in_right : {A : Type 0} (x : A) (xs ys : List A) → In x ys → In x (xs ++ ys)
-in_right x [] ys h = h
-in_right x (y ∷ xs) ys h = inr (in_right x xs ys h)
-
-pub from_flat : {A B : Type 0} (f : A → List B) (y : B) (xs : List A) → In y (flat_map f xs) → (x : A) × In x xs × In y (f x)
-from_flat f y [] h = absurd h
-from_flat f y (x ∷ xs) h = elim (in_either y (f x) (flat_map f xs) h) [
-  | inl k ↦ (x, inl refl, k)
-  | inr k ↦ let rest = from_flat f y xs k in (rest.0, inr rest.1, rest.2)
-]
-
-into_flat : {A B : Type 0} (f : A → List B) (y : B) (x : A) (xs : List A) → In x xs → In y (f x) → In y (flat_map f xs)
-into_flat f y x [] h k = absurd h
-into_flat f y x (z ∷ xs) (inl e) k = in_left y (f z) (flat_map f xs) (subst (λ w. In y (f w)) e k)
-into_flat f y x (z ∷ xs) (inr h) k = in_right y (f z) (flat_map f xs) (into_flat f y x xs h k)
-
-pub of_each : {A : Type 0} (P : A → Type 0) (x : A) (xs : List A) → AllByRecursion P xs → In x xs → P x
-of_each P x [] each h = absurd h
-of_each P x (y ∷ xs) each (inl e) = subst P (sym e) each.0
-of_each P x (y ∷ xs) each (inr h) = of_each P x xs each.1 h
 
 -- ---- two rising lists of the same items
 
@@ -237,10 +191,6 @@ one_line units a b p q current x y =
     let same : made_line a.frozen a.current ≡ made_line b.frozen b.current = cc (frozen, current) in
     same
 
-each_from : {A : Type 0} (P : A → Type 0) (xs : List A) → ((x : A) → In x xs → P x) → AllByRecursion P xs
-each_from P [] h = tt
-each_from P (x ∷ xs) h = (h x (inl refl), each_from P xs (λ y k. h y (inr k)))
-
 -- a record of a line of the file is one of the file's records
 in_stored : (file : FileContent) (line : Line) (s : Stored) → HasLines file → In line file.lines → In s (line_records line) → In s file.stored
 in_stored file line s h inside k =
@@ -251,7 +201,7 @@ line_of : (file : FileContent) (s : Stored) → HasLines file → In s file.stor
 line_of file s h k = from_flat line_records s file.lines (in_contains s (flat_map line_records file.lines) (Contains-permutation file.stored (flat_map line_records file.lines) s h.each_once (contains_in s file.stored k)))
 
 frozen_at : (units : Units) (file : FileContent) (line : Line) → HasLines file → AllByRecursion (StoredAt units) file.stored → In line file.lines → AllByRecursion (StoredAt units) line.frozen
-frozen_at units file line h at inside = each_from (StoredAt units) line.frozen (λ s k. of_each (StoredAt units) s file.stored at (in_stored file line s h inside (in_left s line.frozen (line.current ∷ []) k)))
+frozen_at units file line h at inside = each_in (StoredAt units) line.frozen (λ s k. of_each (StoredAt units) s file.stored at (in_stored file line s h inside (in_left s line.frozen (line.current ∷ []) k)))
 
 -- each line of the one listing stands in the other
 line_in : (units : Units) (a b : FileContent) → HasLines a → HasLines b → a.stored ≡ b.stored → AllByRecursion (StoredAt units) a.stored → (line : Line) → In line a.lines → In line b.lines

@@ -1,46 +1,24 @@
 -- What a disk decodes as is determined, up to the order in which a file's records are listed as lines.
-use Rattle.std.proofs.Common.{◌≡◌, ℕ, ◌-◌, ◌≤◌, List, [], ◌∷◌, ◌++◌, drop, refl, sym, ap, subst, ◌∙◌, arith, append_assoc, IsTrue, true}
+use Rattle.std.proofs.Common.{◌≡◌, ℕ, ◌-◌, ◌≤◌, List, [], ◌∷◌, ◌++◌, drop, refl, sym, ap, subst, ◌∙◌, arith, append_assoc}
 use Rattle.std.specs.List.{AllZip}
 use Rattle.std.proofs.lemmas.List.{take-append-drop}
-use Rattle.std.proofs.Math.Bridge.{le_prop}
-use Rattle.std.proofs.Math.Bool.{Bool-set}
-use mathlib.Core.HLevel.{is_prop→PathP}
 use Rattle.ex_base.specs.declared.geometry.Geometry.{Geometry}
 use Rattle.ex_base.specs.declared.names.Place.{Place}
 use Rattle.ex_base.specs.Bytes.{part}
 use Rattle.ex_base.specs.Fields.{four_bytes, zeros}
-use Rattle.ex_base.specs.Limits.{is_page_size, fan_most}
 use Rattle.ex_base.specs.Sizes.{most_page}
 use Rattle.ex_base.specs.Superblock.{magic, super_rest, super_page}
 use Rattle.ex_base.proofs.FieldLaws.{same_front, same_four}
+use Rattle.ex_base.proofs.Geometries.{same_numbers}
 use Rattle.slotted_pages.specs.FilePage.{FilePage}
 use Rattle.object_records.specs.Record.{Record}
 use Rattle.volume_model.proofs.OneReading.{one_page, one_record}
 use Rattle.object_files.specs.Catalog.{FileEntry}
-use Rattle.tree_model.specs.Trees.{Units}
+use Rattle.trees.specs.Trees.{Units}
 use Rattle.volume_model.specs.Parts.{SuperOf, HasIndex, HasPage, HasPages, IsStored, HasLines, bodies_in}
 use Rattle.volume_model.specs.Volume.{Stored, FileContent}
 
 -- ---- the superblock
-
--- a geometry is its numbers
-same_geometry : (a b : Geometry) → a.page_size ≡ b.page_size → a.pages ≡ b.pages → a.segs ≡ b.segs → a.seg_len ≡ b.seg_len → a.fan ≡ b.fan → a ≡ b
-same_geometry a b size pages segs len fan =
-    λ i. record {
-      page_size = size i;
-      pages = pages i;
-      segs = segs i;
-      seg_len = len i;
-      fan = fan i;
-      a_page_size = is_prop→PathP (λ j. IsTrue (is_page_size (size j))) (λ j. Bool-set (is_page_size (size j)) true) a.a_page_size b.a_page_size i;
-      some_pages = is_prop→PathP (λ j. 1 ≤ pages j) (λ j. le_prop) a.some_pages b.some_pages i;
-      few_pages = is_prop→PathP (λ j. pages j ≤ 4000000) (λ j. le_prop) a.few_pages b.few_pages i;
-      few_segs = is_prop→PathP (λ j. segs j ≤ 4000000) (λ j. le_prop) a.few_segs b.few_segs i;
-      some_length = is_prop→PathP (λ j. 1 ≤ len j) (λ j. le_prop) a.some_length b.some_length i;
-      short = is_prop→PathP (λ j. len j ≤ 16) (λ j. le_prop) a.short b.short i;
-      two = is_prop→PathP (λ j. 2 ≤ fan j) (λ j. le_prop) a.two b.two i;
-      narrow = is_prop→PathP (λ j. fan j ≤ fan_most (size j)) (λ j. le_prop) a.narrow b.narrow i;
-    }
 
 pub super_fields : (g : Geometry) (x : List ℕ) → super_page g ++ x ≡ magic ++ (four_bytes g.page_size ++ (four_bytes g.pages ++ (four_bytes g.segs ++ (four_bytes g.seg_len ++ (four_bytes g.fan ++ (four_bytes 1 ++ (zeros (g.page_size - 32) ++ x)))))))
 unfolding super_page super_rest
@@ -60,7 +38,7 @@ same_super a b x y is =
     let segs = same_four a.segs b.segs _ _ (omega (arith, a.few_segs)) (omega (arith, b.few_segs)) pages.1 in
     let len = same_four a.seg_len b.seg_len _ _ (omega (arith, a.short)) (omega (arith, b.short)) segs.1 in
     let fan = same_four a.fan b.fan _ _ (omega (arith, a.narrow, most_page a)) (omega (arith, b.narrow, most_page b)) len.1 in
-    same_geometry a b size.0 pages.0 segs.0 len.0 fan.0
+    same_numbers a b size.0 pages.0 segs.0 len.0 fan.0
 
 pub one_geometry : (disk : List ℕ) (a b : Geometry) → SuperOf disk a → SuperOf disk b → a ≡ b
 one_geometry disk a b p q = same_super a b (drop a.page_size disk) (drop b.page_size disk) (super_front disk a p ∙ sym (super_front disk b q))

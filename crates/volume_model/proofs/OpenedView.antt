@@ -7,15 +7,15 @@ use Rattle.ex_base.specs.declared.geometry.Geometry.{Geometry}
 use Rattle.ex_base.specs.declared.names.Root.{Root}
 use Rattle.ex_base.specs.declared.names.Area.TheVariants.{Page, Segment}
 use Rattle.ex_base.specs.Area.{catalog_no, unit_at}
+use Rattle.ex_base.proofs.Members.{In, contains_in, from_flat, in_contains, in_either, of_each}
 use Rattle.op_log.specs.State.{LogState}
 use Rattle.table_model.specs.declared.machine.BoundName.{BoundName}
 use Rattle.table_model.specs.declared.table.Table.{Table}
 use Rattle.table_model.specs.Machines.{start, main, IsMachine, IsScan, IsGroup}
 use Rattle.table_model.specs.Tables.{IsTable}
 use Rattle.table_model.specs.Words.{is_name}
-use Rattle.tree_model.specs.Trees.{Units, root_units}
+use Rattle.trees.specs.Trees.{Units, root_units}
 use Rattle.volume_model.proofs.AtMostOne.{one_table}
-use Rattle.volume_model.proofs.OneListOfLines.{In, contains_in, from_flat, in_contains, in_either, of_each}
 use Rattle.volume_model.proofs.RulesOfTable.{decodes_with_rules}
 use Rattle.volume_model.specs.Committed.{Committed, with_records}
 use Rattle.volume_model.specs.FreshView.{KnowsUnits, OpenedView, fresh_view}

@@ -1,5 +1,5 @@
 -- The table of a volume keeps the rules of tables.
-use Rattle.std.proofs.Common.{◌≡◌, ◌≢◌, ◌∙◌, ◌<◌, ◌≤◌, ℕ, suc, Bool, true, ◌&&◌, List, [], ◌∷◌, ◌++◌, length, map, All, AllPairs, IsTrue, Option, Some, None, refl, sym, ap, subst, arith}
+use Rattle.std.proofs.Common.{◌≡◌, ◌≢◌, ◌∙◌, ◌<◌, ◌≤◌, ℕ, suc, true, ◌&&◌, List, [], ◌∷◌, ◌++◌, length, map, All, AllPairs, IsTrue, Option, Some, None, refl, sym, ap, subst, arith}
 use Rattle.std.specs.Prelude.{Contains, flat_map, nat_le}
 use Rattle.std.specs.List.{AllByRecursion, AllZip, list_all, zip}
 use Rattle.std.specs.Cmp.Lexicographic.{slice_cmp, nat_list_cmp_total}
@@ -19,6 +19,8 @@ use Rattle.ex_base.specs.declared.names.Place.{Place}
 use Rattle.ex_base.specs.declared.names.Root.{Root}
 use Rattle.ex_base.specs.Area.{catalog_no}
 use Rattle.ex_base.proofs.Rows.{each-append}
+use Rattle.ex_base.proofs.Each.{split_each}
+use Rattle.ex_base.proofs.Booleans.{three_true}
 use Rattle.object_files.specs.Catalog.{FileEntry, IsEntry, IsName, name_of}
 use Rattle.object_records.specs.Record.{Content, Small, Large, IsContent}
 use Rattle.op_log.specs.declared.record.LogRecord.{LogRecord}
@@ -30,9 +32,8 @@ use Rattle.table_model.specs.declared.table.TableFile.{TableFile}
 use Rattle.table_model.specs.declared.table.Version.{Version}
 use Rattle.table_model.specs.Tables as tables
 use Rattle.table_model.specs.Words.{is_name, is_name_byte}
-use Rattle.tree_model.specs.Trees.{Units, RootNamed, RootSized, root_bytes_at}
-use Rattle.tree_model.proofs.SameUnits.{split_each}
-use Rattle.tree_model.proofs.TreeLaws.{AreWhole, length-bytes_on}
+use Rattle.trees.specs.Trees.{Units, RootNamed, RootSized, root_bytes_at}
+use Rattle.trees.proofs.TreeLaws.{AreWhole, length-bytes_on}
 use Rattle.volume_model.proofs.OneListOfLines.{StoredAt, file_at, one_at}
 use Rattle.volume_model.proofs.OneVolume.{one_geometry}
 use Rattle.volume_model.proofs.WholeUnits.{are_whole, catalog_len}
@@ -45,11 +46,8 @@ each_byte : (bytes : List ℕ) → AllByRecursion (λ b. is_name_byte b ≡ true
 each_byte [] h = refl
 each_byte (b ∷ bytes) h = let here = h.0 in let rest = each_byte bytes h.1 in rw here rest
 
-both_true : (a b c : Bool) → a ≡ true → b ≡ true → c ≡ true → (a && b && c) ≡ true
-both_true a b c x y z = cc (x, y, z)
-
 name_passes : (name : List ℕ) → IsName name → IsTrue (is_name name)
-name_passes name h = both_true (nat_le 1 (length name)) (nat_le (length name) 32) (list_all is_name_byte name) (let some = h.some in grind (arith, nat_tests)) (let short = h.short in grind (arith, nat_tests)) (each_byte name h.bytes)
+name_passes name h = three_true (nat_le 1 (length name)) (nat_le (length name) 32) (list_all is_name_byte name) (let some = h.some in grind (arith, nat_tests)) (let short = h.short in grind (arith, nat_tests)) (each_byte name h.bytes)
 
 module _ (units : Units) where
   abbrev table_files : List FileEntry → List FileContent → List TableFile

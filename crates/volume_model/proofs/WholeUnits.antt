@@ -2,18 +2,17 @@
 use Rattle.std.proofs.Common.{◌≡◌, ℕ, ◌+◌, ◌*◌, ◌<◌, ◌≤◌, suc, suc-mul, List, [], ◌∷◌, length, Option, Some, None, arith}
 use Rattle.std.specs.Prelude.{unwrap_or, ◌==◌, if◌then◌else◌}
 use Rattle.std.specs.List.{AllByRecursion, list_any}
-use Rattle.std.proofs.lemmas.Bool.{lt-ltb, le-ltb}
+use Rattle.std.proofs.lemmas.Bool.{lt-ltb, le-ltb, cond_both}
 use Rattle.std.proofs.Math.Nat.{mul-le-mul_right, add-mul}
 use Rattle.ex_base.specs.declared.geometry.Geometry.{Geometry}
 use Rattle.ex_base.specs.Area.{catalog_no, area_end, page_at}
 use Rattle.ex_base.specs.Bytes.{length-part}
 use Rattle.ex_base.specs.Sizes.{leaf_bytes, volume_bytes}
-use Rattle.ex_base.proofs.Rows.{pick}
 use Rattle.op_log.specs.declared.record.LogRecord.{LogRecord}
 use Rattle.op_log.specs.declared.record.PageImage.{PageImage}
 use Rattle.op_log.specs.AfterLog.{image_in, logged, logged_from, page_after}
 use Rattle.op_log.specs.Records.{IsImage, IsLogRecord, number_of, page_of}
-use Rattle.tree_model.proofs.TreeLaws.{AreWhole}
+use Rattle.trees.proofs.TreeLaws.{AreWhole}
 use Rattle.volume_model.specs.Parts.{Decodes}
 use Rattle.volume_model.specs.Volume.{Decoded, units_of}
 
@@ -25,12 +24,11 @@ IsSized g (Some image) = length image ≡ g.page_size
 
 image_sized : (g : Geometry) (entries : List PageImage) (page : ℕ) → AllByRecursion (IsImage g) entries → IsSized g (image_in entries page)
 image_sized g [] page h = tt
-image_sized g (entry ∷ entries) page h = pick (IsSized g) (page_of entry == page) (Some entry.image) (image_in entries page) (λ _. h.0.1) (λ _. image_sized g entries page h.1)
+image_sized g (entry ∷ entries) page h = cond_both (page_of entry == page) (Some entry.image) (image_in entries page) (IsSized g) (λ _. h.0.1) (λ _. image_sized g entries page h.1)
 
 after_sized : (g : Geometry) (r : LogRecord) (page : ℕ) (so_far : Option (List ℕ)) → IsLogRecord g r → IsSized g so_far → IsSized g (page_after r page so_far)
 after_sized g r page so_far h sized =
-    pick (IsSized g) (list_any (λ freed. number_of freed == page) r.freed) None (if list_any (λ entry. page_of entry == page) r.pages then image_in r.pages page else so_far) (λ _. tt)
-    (λ _. pick (IsSized g) (list_any (λ entry. page_of entry == page) r.pages) (image_in r.pages page) so_far (λ _. image_sized g r.pages page h.images) (λ _. sized))
+    cond_both (list_any (λ freed. number_of freed == page) r.freed) None (if list_any (λ entry. page_of entry == page) r.pages then image_in r.pages page else so_far) (IsSized g) (λ _. tt) (λ _. cond_both (list_any (λ entry. page_of entry == page) r.pages) (image_in r.pages page) so_far (IsSized g) (λ _. image_sized g r.pages page h.images) (λ _. sized))
 
 logged_sized : (g : Geometry) (so_far : Option (List ℕ)) (records : List LogRecord) (page : ℕ) → AllByRecursion (IsLogRecord g) records → IsSized g so_far → IsSized g (logged_from so_far records page)
 logged_sized g so_far [] page h sized = sized

@@ -11,7 +11,7 @@ use Rattle.op_log.specs.Log.{log_end}
 use Rattle.op_log.specs.State.{LogState}
 use Rattle.op_log.specs.declared.record.LogRecord.{LogRecord}
 use Rattle.op_log.specs.declared.record.PageImage.{PageImage}
-use Rattle.tree_model.specs.Trees.{root_units}
+use Rattle.trees.specs.Trees.{root_units}
 use Rattle.volume_model.specs.Durable.{Agrees}
 use Rattle.volume_model.specs.Parts.{Decodes, HoldsOf, StandsFor, content_parts}
 use Rattle.volume_model.specs.Shown.{PageRow, WorkingRow, IsWorkingPage, working_units}

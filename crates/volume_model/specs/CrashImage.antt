@@ -1,24 +1,20 @@
 -- An image that agrees with a disk on the bytes that no crash may change decodes as the disk does.
-use Rattle.std.proofs.Common.{◌≡◌, inl, inr, ℕ, suc, ◌+◌, ◌-◌, ◌*◌, ◌<◌, ◌≤◌, Bool, true, false, cond, ltb, List, [], ◌∷◌, length, drop, slice_index, min, Option, Some, None, refl, sym, ◌∙◌, arith}
+use Rattle.std.proofs.Common.{◌≡◌, inl, inr, ℕ, ◌+◌, ◌-◌, ◌*◌, ◌<◌, ◌≤◌, Bool, true, false, cond, ltb, List, [], ◌∷◌, length, drop, slice_index, min, Option, Some, None, refl, sym, ◌∙◌, arith}
 use Rattle.std.specs.Prelude.{Contains, unwrap_or}
-use Rattle.std.specs.List.{AllByRecursion}
 use Rattle.std.proofs.lemmas.Bool.{ltb-true, ltb-false}
 use Rattle.std.proofs.lemmas.List.{ext_get_or, length-take, length-drop}
 use Rattle.ex_base.specs.Area.{area_end, page_at, leaf_at}
 use Rattle.ex_base.specs.Bytes.{part, get-part}
 use Rattle.ex_base.specs.Sizes.{volume_bytes, least_volume, leaf_bytes}
+use Rattle.ex_base.proofs.Each.{each_from}
 use Rattle.op_log.specs.AfterLog.{logged, after_log}
 use Rattle.op_log.specs.Gates.{front_of, front_kept, says_of}
 use Rattle.op_log.specs.Log.{SaysLog}
-use Rattle.tree_model.proofs.SameUnits.{Kept}
+use Rattle.trees.proofs.SameUnits.{Kept}
 use Rattle.volume_model.specs.Durable.{Agrees}
 use Rattle.volume_model.specs.Parts.{SuperOf, Decodes, StandsFor}
 use Rattle.volume_model.specs.SameVolume.{kept_from_reach, parts_kept, table_kept}
 use Rattle.volume_model.specs.Volume.{Decoded, units_of, reach_of, table_of}
-
-pub each_contained : {A : Type 0} (P : A → Type 0) (xs : List A) → ((x : A) → Contains xs x → P x) → AllByRecursion P xs
-each_contained P [] h = tt
-each_contained P (x ∷ xs) h = (h x (0, omega arith, refl), each_contained P xs (λ y (k, lt, is). h y (suc k, omega arith, is)))
 
 length-part_within : (l : List ℕ) (at n : ℕ) → length (part l at n) ≡ min n (length l - at)
 unfolding part
@@ -41,7 +37,7 @@ from_home None a b h = h refl
 from_home (Some image) a b h = refl
 
 reach_kept : (d : Decoded) (disk image : List ℕ) → Agrees d disk image → Kept (units_of d disk) (units_of d image) (reach_of (units_of d disk) d.volume)
-reach_kept d disk image agrees = each_contained (λ u. units_of d image u ≡ units_of d disk u) (reach_of (units_of d disk) d.volume) (λ u reached.
+reach_kept d disk image agrees = each_from (λ u. units_of d image u ≡ units_of d disk u) (reach_of (units_of d disk) d.volume) (λ u reached.
     either_way (ltb u (area_end d.geometry)) (after_log d.geometry d.records image u) (leaf_at d.geometry image u) (after_log d.geometry d.records disk u) (leaf_at d.geometry disk u)
     (λ e. from_home (logged d.records u) (page_at d.geometry image u) (page_at d.geometry disk u) (λ none. home u reached (ltb-true u (area_end d.geometry) e) none))
     (λ e. leaf u reached (ltb-false u (area_end d.geometry) e)))

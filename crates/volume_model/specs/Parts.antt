@@ -17,8 +17,8 @@ use Rattle.object_records.specs.declared.State.TheVariants.{Current, Frozen}
 use Rattle.object_records.specs.Record.{BodyOf}
 use Rattle.file_index.specs.Index.{IsIndex, keys_of, pages_of}
 use Rattle.object_files.specs.Catalog.{FileEntry, CatalogOf}
-use Rattle.tree_model.specs.Shape.{IsBalanced}
-use Rattle.tree_model.specs.Trees.{Units, RootNamed, RootSized, root_shape, root_units}
+use Rattle.trees.specs.Shape.{IsBalanced}
+use Rattle.trees.specs.Trees.{Units, RootNamed, RootSized, root_shape, root_units}
 use Rattle.table_model.specs.declared.table.Table.{Table}
 use Rattle.session_views.specs.declared.Part.{Part}
 use Rattle.session_views.specs.declared.Part.TheVariants.{Super, Log, Catalog, File, Page, Body, Node, Balance, Unique}

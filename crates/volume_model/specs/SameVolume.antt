@@ -10,42 +10,19 @@ use Rattle.ex_base.specs.Area.{catalog_no}
 use Rattle.ex_base.specs.Order.{Rising}
 use Rattle.ex_base.specs.Ports.{times}
 use Rattle.ex_base.specs.Sizes.{leaf_bytes}
+use Rattle.ex_base.proofs.Each.{split_each, each_parted, each_with, flat_same, map_same, zip_with}
+use Rattle.ex_base.proofs.Counts.{same_or_not, times_apart}
 use Rattle.op_log.specs.declared.record.LogRecord.{LogRecord}
 use Rattle.slotted_pages.specs.FilePage.{FilePage, SlotsOf}
 use Rattle.file_index.specs.Index.{IsRoot, IsIndex, keys_of, pages_of}
-use Rattle.file_index.proofs.Counts.{same_or_not, times_apart}
 use Rattle.file_index.proofs.Frame.{same_under}
 use Rattle.object_files.specs.Catalog.{FileEntry, CatalogOf}
 use Rattle.object_records.specs.Record.{Content, Small, Large}
-use Rattle.tree_model.specs.Shape.{IsBalanced}
-use Rattle.tree_model.specs.Trees.{Units, root_units, root_units_at, root_shape_at, root_bytes_at, RootNamed, RootSized}
-use Rattle.tree_model.proofs.SameUnits.{Kept, split_each, units_same, bytes_same, shape_same, named_same, sized_same}
+use Rattle.trees.specs.Shape.{IsBalanced}
+use Rattle.trees.specs.Trees.{Units, root_units, root_units_at, root_shape_at, root_bytes_at, RootNamed, RootSized}
+use Rattle.trees.proofs.SameUnits.{Kept, units_same, bytes_same, shape_same, named_same, sized_same}
 use Rattle.volume_model.specs.Parts.{HasIndex, HasPage, HasPages, Apart, AllApart, HasNodes, HasBalance, HoldsOf, content_parts}
 use Rattle.volume_model.specs.Volume.{Stored, Line, FileContent, Volume, line_records, lines_of, stored_in, pages_of_file, file_pages, root_in, roots_in, line_units, reach_of, content_in, version_of, object_of, file_of, table_of}
-
--- ---- lists
-
-parts_of : {A B : Type 0} (P : B → Type 0) (f : A → List B) (xs : List A) → AllByRecursion P (flat_map f xs) → AllByRecursion (λ x. AllByRecursion P (f x)) xs
-parts_of P f [] h = tt
-parts_of P f (x ∷ xs) h = let both = split_each P (f x) (flat_map f xs) h in (both.0, parts_of P f xs both.1)
-
-each_with : {A : Type 0} (P Q R : A → Type 0) (xs : List A) → ((x : A) → P x → Q x → R x) → AllByRecursion P xs → AllByRecursion Q xs → AllByRecursion R xs
-each_with P Q R [] f p q = tt
-each_with P Q R (x ∷ xs) f p q = (f x p.0 q.0, each_with P Q R xs f p.1 q.1)
-
-zip_with : {A B : Type 0} (K : B → Type 0) (P R : A → B → Type 0) (xs : List A) (ys : List B) → ((x : A) (y : B) → K y → P x y → R x y) → AllByRecursion K ys → AllZip P xs ys → AllZip R xs ys
-zip_with K P R [] [] f k p = tt
-zip_with K P R [] (y ∷ ys) f k p = p
-zip_with K P R (x ∷ xs) [] f k p = p
-zip_with K P R (x ∷ xs) (y ∷ ys) f k p = (f x y k.0 p.0, zip_with K P R xs ys f k.1 p.1)
-
-pub flat_same : {A : Type 0} (f g : A → List ℕ) (K : A → Type 0) (xs : List A) → ((x : A) → K x → g x ≡ f x) → AllByRecursion K xs → flat_map g xs ≡ flat_map f xs
-flat_same f g K [] same k = refl
-flat_same f g K (x ∷ xs) same k = let here = same x k.0 in let rest = flat_same f g K xs same k.1 in cc (here, rest)
-
-map_same : {A B : Type 0} (f g : A → B) (K : A → Type 0) (xs : List A) → ((x : A) → K x → g x ≡ f x) → AllByRecursion K xs → map g xs ≡ map f xs
-map_same f g K [] same k = refl
-map_same f g K (x ∷ xs) same k = let here = same x k.0 in let rest = map_same f g K xs same k.1 in cc (here, rest)
 
 -- ---- roots
 
@@ -106,7 +83,7 @@ version_same old new s kept = let content = content_same old new s.body.content 
 
 object_same : (old new : Units) (line : Line) → LineKept old new line → object_of new line ≡ object_of old line
 object_same old new line kept =
-    let each = parts_of (RootKept old new) (λ (s : Stored). root_in s.body.content) (line_records line) kept in
+    let each = each_parted (RootKept old new) (λ (s : Stored). root_in s.body.content) (line_records line) kept in
     let versions : map (version_of new) (line_records line) ≡ map (version_of old) (line_records line) = map_same (version_of old) (version_of new) (λ s. RootsKept old new (root_in s.body.content)) (line_records line) (λ s k. version_same old new s k) each in
     cc versions
 
@@ -186,8 +163,8 @@ kept_from_reach old new v h =
     let both = split_each (λ u. new u ≡ old u) (catalog_no ∷ file_pages v) (flat_map (root_units old) (roots_in (stored_in v))) h in
     record {
       catalog = both.0.0;
-      pages = parts_of (λ u. new u ≡ old u) pages_of_file v.files both.0.1;
-      roots = parts_of (λ u. new u ≡ old u) (root_units old) (roots_in (stored_in v)) both.1;
+      pages = each_parted (λ u. new u ≡ old u) pages_of_file v.files both.0.1;
+      roots = each_parted (λ u. new u ≡ old u) (root_units old) (roots_in (stored_in v)) both.1;
     }
 
 nodes_kept : (g : Geometry) (old new : Units) (v : Volume) → IsKept old new v → HasNodes g old v → HasNodes g new v
@@ -224,7 +201,7 @@ parts_kept g records old new v kept (catalog, (file, (page, (body, (node, (balan
 pub table_kept : (old new : Units) (v : Volume) → IsKept old new v → table_of new v ≡ table_of old v
 table_kept old new v kept =
     let lines = lines_kept old new (lines_of v) kept.roots in
-    let each = parts_of (LineKept old new) (λ (file : FileContent). file.lines) v.files lines in
+    let each = each_parted (LineKept old new) (λ (file : FileContent). file.lines) v.files lines in
     let files = files_same old new v.catalog.entries v.files each in
     cc files
 

@@ -13,7 +13,7 @@ use Rattle.ex_base.specs.Sizes.{units}
 use Rattle.op_log.specs.AfterLog.{logged, after_log}
 use Rattle.op_log.specs.Log.{log_end}
 use Rattle.op_log.specs.State.{LogState}
-use Rattle.tree_model.specs.Trees.{Units, RootSpells, root_units, units_from}
+use Rattle.trees.specs.Trees.{Units, RootSpells, root_units, units_from}
 use Rattle.table_model.specs.declared.machine.BoundName.{BoundName}
 use Rattle.table_model.specs.declared.machine.GroupRow.{GroupRow}
 use Rattle.table_model.specs.declared.machine.ScanRow.{ScanRow}

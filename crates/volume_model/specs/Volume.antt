@@ -11,7 +11,7 @@ use Rattle.op_log.specs.AfterLog.{after_log}
 use Rattle.slotted_pages.specs.FilePage.{FilePage}
 use Rattle.object_records.specs.Record.{Record, Content, Small, Large}
 use Rattle.object_files.specs.Catalog.{Catalog, FileEntry}
-use Rattle.tree_model.specs.Trees.{Units, root_bytes, root_units, units_from}
+use Rattle.trees.specs.Trees.{Units, root_bytes, root_units, units_from}
 use Rattle.table_model.specs.declared.table.Version.{Version}
 use Rattle.table_model.specs.declared.table.Object.{Object}
 use Rattle.table_model.specs.declared.table.TableFile.{TableFile}

@@ -1,14 +1,14 @@
 -- What a port is after one of its calls.
-use Rattle.std.proofs.Common.{◌≡◌, ◌≢◌, ◌≤◌, ◌<◌, ℕ, Bool, true, false, List, length, Option, Some, None, IsSome, nat_eq, slice_set, Result, Ok, Err, refl, sym, ap, subst, ◌∙◌, ⊎_elim}
-use Rattle.std.specs.Result.{IfOk}
+use Rattle.std.proofs.Common.{◌≡◌, ◌≢◌, ◌≤◌, ◌<◌, ℕ, Bool, true, false, List, length, Option, Some, None, IsSome, nat_eq, slice_set, refl, sym, ap, subst, ◌∙◌, arith, ⊎_elim}
 use Rattle.std.specs.Borrow.{MutBor}
 use Rattle.std.specs.Map.{lookup}
-use Rattle.std.proofs.lemmas.Bool.{cases_Bool, cases_eq}
+use Rattle.std.proofs.lemmas.Bool.{cases_Bool, cases_eq, both_ways}
 use Rattle.std.proofs.lemmas.List.{get_or-set_same, get_or-set_other, length-set}
 use Rattle.ex_base.specs.declared.geometry.Geometry.{Geometry}
 use Rattle.ex_base.specs.declared.ground.Ground as ground
 use Rattle.ex_base.specs.Area.{area_end, catalog_no}
 use Rattle.ex_base.specs.Ports.{refs_most}
+use Rattle.ex_base.proofs.Options.{some_apart, some_apart_inside}
 use Rattle.meta_pages.specs.Overlays.{Overlays}
 use Rattle.meta_pages.specs.Rows.{with_row}
 use Rattle.page_alloc.specs.UnitSet.{UnitSet, used_at, refs_at, updated}
@@ -17,14 +17,6 @@ use Rattle.tree_store.specs.Stored.{IsCounted, NoUnit}
 use Rattle.volume_port.specs.Logged.{LoggedSet, is_held, is_taken}
 use Rattle.volume_port.specs.Ported.{IsReady, IsLoose, Moves, IsUntouched, unchanged}
 use Rattle.volume_port.proofs.WorkingRows.{put_here, put_other, put_touches}
-
-pub true_false : {x : Bool} → x ≡ true → x ≡ false → ⊥
-true_false h t = cc
-
--- two facts of a value that was returned
-pub ok_from : {T E : Type 0} (P Q R : T → Type 0) (r : Result T E) → IfOk r P → IfOk r Q → ((x : T) → P x → Q x → R x) → IfOk r R
-ok_from P Q R (Ok x) p q f = f x p q
-ok_from P Q R (Err e) p q f = tt
 
 -- ---- the flags of pages
 
@@ -48,12 +40,6 @@ module _ (k l : LoggedSet) (page : ℕ) (held taken : Bool) (is : l ≡ record {
   taken_long = ap (λ (s : LoggedSet). length s.taken) is ∙ length-set k.taken page taken
 
 -- ---- the working images
-
-some_none : (x : List ℕ) → Some (Some x) ≡ Some None → ⊥
-some_none x is = cc
-
-not_none : (x : List ℕ) → Some x ≡ None → ⊥
-not_none x is = cc
 
 inner : (v : Option (List ℕ)) (o : Option (List ℕ)) → Some v ≡ Some o → v ≡ o
 inner v o is = cc
@@ -130,7 +116,7 @@ module _ {S : Type 0} (g : ground.Ghosts S) where
         (λ (here : p ≡ page). ap (is_held k) here ∙ there)
         (λ (differ : p ≢ page). is.images p image (sym (row_other m n page (Some x) changed p differ) ∙ row)) (cases_eq p page);
     gone = λ p row. ⊎_elim
-        (λ (here : p ≡ page). absurd (some_none x (sym (row_here m n page (Some x) changed) ∙ ap (λ q. lookup (nat_eq q) n.working) (sym here) ∙ row)))
+        (λ (here : p ≡ page). absurd (some_apart_inside x (sym (row_here m n page (Some x) changed) ∙ ap (λ q. lookup (nat_eq q) n.working) (sym here) ∙ row)))
         (λ (differ : p ≢ page). is.gone p (sym (row_other m n page (Some x) changed p differ) ∙ row)) (cases_eq p page);
     taken = λ p taken. row_touches m n page (Some x) changed p (is.taken p taken);
     there = is.there;
@@ -146,7 +132,7 @@ module _ {S : Type 0} (g : ground.Ghosts S) where
     fixed = λ unit is. is;
     held = λ p stays is. is;
     given_back = λ p known now. ⊎_elim
-        (λ (here : p ≡ page). absurd (true_false (ap (is_held k.now) here ∙ there) now))
+        (λ (here : p ≡ page). absurd (both_ways _ now (ap (is_held k.now) here ∙ there)))
         (λ (differ : p ≢ page). row_other m.now n.now page (Some x) changed p differ ∙ unchanged m.now k.now p known now) (cases_eq p page);
     untouched = untouched_before m.now n.now page (Some x) changed k.now k.now (λ p differ. refl);
     committed = ap (λ (o : Overlays). o.committed) changed;
@@ -194,16 +180,16 @@ module _ {S : Type 0} (g : ground.Ghosts S) where
     pages = pages;
     room = refl;
     fixed = λ unit is.
-        let differ : unit ≢ page = λ same. true_false is.in_use (ap (g.used a) same ∙ free) in
+        let differ : unit ≢ page = λ same. both_ways _ (ap (g.used a) same ∙ free) is.in_use in
         record { in_use = others unit differ ∙ is.in_use; not_taken = taken_other k.now l.now page true true set unit differ ∙ is.not_taken; stays = is.stays };
     held = λ p stays is held. ⊎_elim (λ (here : p ≡ page). ap (g.used b) here ∙ used)
         (λ (differ : p ≢ page). others p differ ∙ is (sym (held_other k.now l.now page true true set p differ) ∙ held)) (cases_eq p page);
     given_back = λ p known now. ⊎_elim
-        (λ (here : p ≡ page). absurd (true_false (ap (is_held l.now) here ∙ held_here k.now l.now page true true set inside) now))
+        (λ (here : p ≡ page). absurd (both_ways _ now (ap (is_held l.now) here ∙ held_here k.now l.now page true true set inside)))
         (λ (differ : p ≢ page). row_other m.now n.now page (Some x) changed p differ ∙ unchanged m.now k.now p known (sym (held_other k.now l.now page true true set p differ) ∙ now)) (cases_eq p page);
     untouched = untouched_before m.now n.now page (Some x) changed k.now l.now (λ p differ. held_other k.now l.now page true true set p differ);
     committed = ap (λ (o : Overlays). o.committed) changed;
-    ready = flags_ready NoUnit a b m.now n.now k.now l.now r.now page (Some x) true true other inside (λ y is. refl) (λ is. absurd (not_none x is)) (λ is. refl) (g.frees_leads NoUnit a b leads) changed set;
+    ready = flags_ready NoUnit a b m.now n.now k.now l.now r.now page (Some x) true true other inside (λ y is. refl) (λ is. absurd (some_apart x is)) (λ is. refl) (g.frees_leads NoUnit a b leads) changed set;
   }
 
   pub give_moves : (a b : S) (m n : MutBor Overlays) (k l : MutBor LoggedSet) (r : MutBor (List ℕ)) (page : ℕ) → n.ghost_name ≡ m.ghost_name → l.ghost_name ≡ k.ghost_name → page ≢ catalog_no
@@ -212,7 +198,7 @@ module _ {S : Type 0} (g : ground.Ghosts S) where
       → n.now ≡ record m.now { working = with_row page None m.now.working } → l.now ≡ record { held = slice_set k.now.held page false; taken = slice_set k.now.taken page false }
       → Moves g NoUnit a b m n k l r r
   give_moves a b m n k l r page meta pages other in_held in_taken x kept others changed set = record {
-    store = g.frees_more (IsTakenPage k.now page) (IsLoose NoUnit (g.used a) k.now) (λ unit freed is. true_false freed.1 (sym (ap (is_taken k.now) freed.0) ∙ is.not_taken)) a b x;
+    store = g.frees_more (IsTakenPage k.now page) (IsLoose NoUnit (g.used a) k.now) (λ unit freed is. both_ways _ (sym (ap (is_taken k.now) freed.0) ∙ is.not_taken) freed.1) a b x;
     meta = meta;
     pages = pages;
     room = refl;
@@ -224,22 +210,30 @@ module _ {S : Type 0} (g : ground.Ghosts S) where
         })
         (λ (differ : unit ≢ page). record { in_use = others unit differ ∙ is.in_use; not_taken = taken_other k.now l.now page false false set unit differ ∙ is.not_taken; stays = is.stays }) (cases_eq unit page);
     held = λ p stays is held. ⊎_elim
-        (λ (here : p ≡ page). absurd (true_false held (ap (is_held l.now) here ∙ held_here k.now l.now page false false set in_held)))
+        (λ (here : p ≡ page). absurd (both_ways _ (ap (is_held l.now) here ∙ held_here k.now l.now page false false set in_held) held))
         (λ (differ : p ≢ page). others p differ ∙ is (sym (held_other k.now l.now page false false set p differ) ∙ held)) (cases_eq p page);
     given_back = λ p known now. ⊎_elim
         (λ (here : p ≡ page). ap (λ q. lookup (nat_eq q) n.now.working) here ∙ row_here m.now n.now page None changed)
         (λ (differ : p ≢ page). row_other m.now n.now page None changed p differ ∙ unchanged m.now k.now p known (sym (held_other k.now l.now page false false set p differ) ∙ now)) (cases_eq p page);
     untouched = untouched_before m.now n.now page None changed k.now l.now (λ p differ. held_other k.now l.now page false false set p differ);
     committed = ap (λ (o : Overlays). o.committed) changed;
-    ready = flags_ready (IsTakenPage k.now page) a b m.now n.now k.now l.now r.now page None false false other in_held (λ y is. absurd (not_none y (sym is))) (λ is. refl) (λ is. is) x changed set;
+    ready = flags_ready (IsTakenPage k.now page) a b m.now n.now k.now l.now r.now page None false false other in_held (λ y is. absurd (some_apart y (sym is))) (λ is. refl) (λ is. is) x changed set;
   }
 
 -- ---- the units
 
-pub freed_counted : (h : Geometry) (u v : UnitSet) → v.geometry ≡ u.geometry → ((p : ℕ) → used_at v p ≡ true → used_at u p ≡ true) → refs_at v ≡ refs_at u → IsCounted h u → IsCounted h v
-freed_counted h u v geometry used refs counted = record {
+-- a unit that has references stays as it is when a page is given back
+pub named_stays : (u v : UnitSet) (page : ℕ) → (refs_at u page ≢ 0 → v ≡ u) → ((p : ℕ) → p ≢ page → used_at v p ≡ used_at u p) → (p : ℕ) → 1 ≤ refs_at u p → used_at v p ≡ used_at u p
+named_stays u v page named others p some = ⊎_elim
+    (λ (here : p ≡ page). ap (λ (w : UnitSet). used_at w p) (named (λ none. absurd (omega (arith, some, none, ap (refs_at u) here)))))
+    (λ (differ : p ≢ page). others p differ) (cases_eq p page)
+
+pub freed_counted : (h : Geometry) (u v : UnitSet) → v.geometry ≡ u.geometry → ((p : ℕ) → used_at v p ≡ true → used_at u p ≡ true) → refs_at v ≡ refs_at u → ((p : ℕ) → 1 ≤ refs_at u p → used_at v p ≡ used_at u p)
+    → IsCounted h u → IsCounted h v
+freed_counted h u v geometry used refs stays counted = record {
   geometry = geometry ∙ counted.geometry;
   named = λ p is. counted.named p (used p is);
+  owned = λ p some. let was : 1 ≤ refs_at u p = subst (λ (f : ℕ → ℕ). 1 ≤ f p) refs some in stays p was ∙ counted.owned p was;
   few = λ p. subst (λ n. n ≤ refs_most) (sym (ap (λ (f : ℕ → ℕ). f p) refs)) (counted.few p);
 }
 

@@ -6,20 +6,21 @@ use Rattle.std.proofs.lemmas.Bool.{ltb-true, ltb-false}
 use Rattle.ex_base.specs.declared.geometry.Geometry.{Geometry}
 use Rattle.ex_base.specs.Area.{IsUnit, area_end, catalog_no, leaf_at, page_at}
 use Rattle.ex_base.specs.Sizes.{least_volume, leaf_bytes}
+use Rattle.ex_base.proofs.Each.{each_from, flat_same}
 use Rattle.disk_model.specs.Outside.{Outside, IsWorld, Leaves}
 use Rattle.disk_model.specs.Changes.{ChangesWithin, InRange, SameBut, leaves_changes}
 use Rattle.op_log.specs.AfterLog.{after_log, logged}
 use Rattle.op_log.specs.Gates.{front_of}
 use Rattle.op_log.specs.State.{LogState}
 use Rattle.page_alloc.specs.UnitSet.{UnitSet, used_at}
-use Rattle.tree_model.specs.Trees.{root_units}
-use Rattle.tree_model.proofs.SameUnits.{Kept}
+use Rattle.trees.specs.Trees.{root_units}
+use Rattle.trees.proofs.SameUnits.{Kept}
 use Rattle.tree_store.specs.Stored.{InRest, InUnit, IsCounted, unit_len}
 use Rattle.volume_model.specs.Committed.{Committed, StandsForVolume}
-use Rattle.volume_model.specs.CrashImage.{agrees_decodes, agrees_stands, agrees_table, each_contained, either_way, from_home, same_part}
+use Rattle.volume_model.specs.CrashImage.{agrees_decodes, agrees_stands, agrees_table, either_way, from_home, same_part}
 use Rattle.volume_model.specs.Durable.{Agrees, InFront, InHome, InLeaf, IsDurable}
 use Rattle.volume_model.specs.Parts.{Decodes}
-use Rattle.volume_model.specs.SameVolume.{RootKept, flat_same, kept_from_reach, units_of_root}
+use Rattle.volume_model.specs.SameVolume.{RootKept, kept_from_reach, units_of_root}
 use Rattle.volume_model.specs.Shown.{PageRow}
 use Rattle.volume_model.specs.Volume.{Decoded, file_pages, reach_of, roots_in, stored_in, units_of}
 use Rattle.volume_port.specs.Logged.{LoggedSet}
@@ -90,7 +91,7 @@ module _ (d : Decoded) (disk : List ℕ) (freed : ℕ → Type 0) (units : UnitS
         (λ i from to. same.each i (fixed_apart unit i is_fixed (leaf_unit d.geometry unit i (ltb-false unit (area_end d.geometry) is) (from, to)))))
 
     kept : Kept (units_of d disk) (units_of d later) (reach_of (units_of d disk) d.volume)
-    kept = each_contained (λ u. units_of d later u ≡ units_of d disk u) (reach_of (units_of d disk) d.volume) (λ u reached. units_later u (fixed u reached))
+    kept = each_from (λ u. units_of d later u ≡ units_of d disk u) (reach_of (units_of d disk) d.volume) (λ u reached. units_later u (fixed u reached))
 
     pub reach_later : reach_of (units_of d later) d.volume ≡ reach_of (units_of d disk) d.volume
     reach_later =

@@ -5,18 +5,13 @@ use Rattle.std.specs.Map.{lookup}
 use Rattle.std.proofs.lemmas.Bool.{lt-ltb, le-ltb, ltb-false, cases_eq}
 use Rattle.ex_base.specs.declared.geometry.Geometry.{Geometry}
 use Rattle.ex_base.specs.Area.{InPageArea, IsUnit, area_end}
+use Rattle.ex_base.proofs.Lists.{lookup_off}
 use Rattle.meta_pages.specs.Overlays.{Overlays, image_at, over, committed_image}
 use Rattle.meta_pages.specs.Rows.{with_row}
 use Rattle.tree_store.specs.Stored.{unit_bytes}
 use Rattle.volume_port.specs.Ported.{in_pages, image_over}
 
 module _ {V : Type 0} where
-  lookup_off : (row : ℕ × V) (rows : List (ℕ × V)) (p : ℕ) → row.0 ≢ p → lookup (nat_eq p) (row ∷ rows) ≡ lookup (nat_eq p) rows
-  lookup_off row rows p differ = (elim (nat_eq p row.0) as (λ b. nat_eq p row.0 ≡ b → cond b (Some row.1) (lookup (nat_eq p) rows) ≡ lookup (nat_eq p) rows) [
-    | true ↦ λ t. absurd (differ (sym (eqb-true p row.0 t)))
-    | false ↦ λ t. refl
-  ]) refl
-
   pub put_here : (page : ℕ) (v : V) (rows : List (ℕ × V)) → lookup (nat_eq page) (with_row page v rows) ≡ Some v
   put_here page v [] = rw (eq-eqb page page refl) refl
   put_here page v (row ∷ rows) = (elim (nat_lt row.0 page) as (λ b. nat_lt row.0 page ≡ b → lookup (nat_eq page) (cond b (row ∷ with_row page v rows) (cond (nat_eq page row.0) ((page, v) ∷ rows) ((page, v) ∷ row ∷ rows))) ≡ Some v) [

@@ -1,7 +1,7 @@
 -- The meanings of a session's port, over its store and what the session keeps of its logged pages.
 use Rattle.std.specs.Prelude.{◌≡◌, ℕ, Bool, true, false, not, ◌&&◌, nat_lt, nat_eq, if◌then◌else◌, List, [], length, unwrap_or, ◌⊎◌, Some, None, IsSome, refl}
 use Rattle.std.proofs.Common.{◌∙◌, inl, inr, ⊎_elim}
-use Rattle.std.proofs.lemmas.Bool.{cases_Bool}
+use Rattle.std.proofs.lemmas.Bool.{cases_Bool, both_ways}
 use Rattle.std.specs.Borrow.{MutBor}
 use Rattle.std.specs.Map.{lookup}
 use Rattle.ex_base.specs.declared.geometry.Geometry.{Geometry}
@@ -70,12 +70,9 @@ pub record Moves {S : Type 0} (g : ground.Ghosts S) (freed : ℕ → Type 0) (a 
   pub committed : n.now.committed ≡ m.now.committed
   pub ready : IsReady g a m.now k.now r.now → IsReady g b n.now l.now t.now
 
-true_false : {x : Bool} → x ≡ true → x ≡ false → ⊥
-true_false h t = cc
-
 -- where neither the flags nor the working images changed
 pub unchanged : (meta : Overlays) (pages : LoggedSet) (page : ℕ) → IsKnown meta pages page → is_held pages page ≡ false → lookup (nat_eq page) meta.working ≡ Some None
-unchanged meta pages page known now = ⊎_elim (λ there. absurd (true_false there now)) (λ row. row) known
+unchanged meta pages page known now = ⊎_elim (λ there. absurd (both_ways _ now there)) (λ row. row) known
 
 -- what is loose later was loose before
 loose_before : {freed : ℕ → Type 0} {used later : ℕ → Bool} {k l : LoggedSet} → ((unit : ℕ) → IsFixed freed used k unit → IsFixed freed later l unit)

@@ -1,11 +1,8 @@
 -- The meanings of a port for reading alone.
-use Rattle.std.specs.Prelude.{◌≡◌, ◌≤◌, ◌<◌, ℕ, Bool, ◌&&◌, ◌==◌, if◌then◌else◌, List, length, All, refl, IsSome}
+use Rattle.std.specs.Prelude.{◌≡◌, ◌≤◌, ◌<◌, ℕ, List, length, All, refl, IsSome}
 use Rattle.std.proofs.Common.{◌∙◌, sym, subst, ap, arith}
 use Rattle.std.specs.Borrow.{MutBor}
 use Rattle.ex_base.specs.declared.geometry.Geometry.{Geometry}
-use Rattle.ex_base.specs.declared.names.Area.{Area}
-use Rattle.ex_base.specs.declared.names.Area.TheVariants.{Page, Segment}
-use Rattle.ex_base.specs.Area.{catalog_no}
 use Rattle.ex_base.specs.Sizes.{volume_bytes}
 use Rattle.disk_model.specs.Outside.{Outside, ReadsOnly}
 use Rattle.disk_model.specs.Runs.{reads_refl, reads_trans}
@@ -17,19 +14,6 @@ use Rattle.volume_port.specs.Logged.{LoggedSet}
 -- the disk tells its bytes, and each frame lends them
 abbrev pub TellsBytes : Outside → List Frames → Type 0
 TellsBytes o groups = IsSome o.disk × All (Lends o.disk) groups
-
--- a port for reading alone tells of no unit as used but that of the catalog,
-abbrev pub is_told_used : Bool → ℕ → Bool
-is_told_used catalog_used page = catalog_used && page == catalog_no
-
--- of no references but to that,
-abbrev pub refs_told : ℕ → ℕ → ℕ
-refs_told catalog_refs page = if page == catalog_no then catalog_refs else 0
-
--- and of one free unit in each area, but of none in the page area where the catalog's is used
-abbrev pub free_told : Bool → Area → ℕ
-free_told catalog_used Page = if catalog_used then 0 else 1
-free_told catalog_used Segment = 1
 
 -- The parts are of one geometry, the disk has room for its volume, and no frame is of the superblock or the log.
 pub record CanRead (g : Geometry) (disk_size : ℕ) (groups : List Frames) (index : ℕ) (meta : Overlays) (room : List ℕ) : Type 0 where

@@ -1,16 +1,12 @@
 //! Tree pages, by the store.
 use crate::port::VolumePort;
 use disk_model::Disk;
-use ex_base::{Area, Blocks, Geometry, PageNo, PortFault};
+use ex_base::{Area, Blocks, Geometry, PageNo, PortFault, ReadBlocks};
 use std::alloc::Global;
 
-impl<'a, D: Disk> Blocks for VolumePort<'a, D> {
+impl<'a, D: Disk> ReadBlocks for VolumePort<'a, D> {
     fn geometry(&self) -> Geometry {
         self.store.geometry()
-    }
-
-    fn free(&self, area: Area) -> u32 {
-        self.store.free(area)
     }
 
     fn node(&mut self, alloc: Global, page: PageNo) -> Result<&[u8], PortFault> {
@@ -26,6 +22,12 @@ impl<'a, D: Disk> Blocks for VolumePort<'a, D> {
         out: &mut [u8],
     ) -> Result<(), PortFault> {
         self.store.leaf_into(alloc, page, from, out)
+    }
+}
+
+impl<'a, D: Disk> Blocks for VolumePort<'a, D> {
+    fn free(&self, area: Area) -> u32 {
+        self.store.free(area)
     }
 
     fn new_node(&mut self, bytes: &[u8]) -> Result<PageNo, PortFault> {

@@ -5,6 +5,7 @@ use ex_base::Ground;
 use tree_store::Store;
 
 impl<'a, D: Disk> Ground for VolumePort<'a, D> {
+    ghost use Rattle.std.specs.Prelude.{length};
     ghost use Rattle.tree_store.specs.Stored.{NoUnit};
     ghost use Rattle.volume_port.specs.Logged.{is_held};
     ghost use Rattle.volume_port.specs.Ported.{IsReady, IsLoose, Moves, image_over, moves_same, moves_on, moves_more};
@@ -28,6 +29,8 @@ impl<'a, D: Disk> Ground for VolumePort<'a, D> {
     ghost held = { λ s. is_held s.pages.now };
 
     ghost free = { λ s. ⟦<Store<'a, D> as Ground>⟧.free s.store };
+
+    ghost touched = { λ s. length s.meta.now.working };
 
     ghost faults = { λ s. ⟦<Store<'a, D> as Ground>⟧.faults s.store };
 

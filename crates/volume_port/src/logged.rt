@@ -6,9 +6,6 @@ use ex_base::{Geometry, PageNo};
 use std::alloc::{AllocError, Global};
 use std::marker::Model;
 
-/// The page of the catalog, the first one of the page area.
-const CATALOG: u32 = 257;
-
 /// Which logged pages the working state has, and which of them the open transaction took. Contracts see two lists of flags, by page number.
 #[derive(Drop)]
 pub struct LoggedPages {
@@ -35,9 +32,9 @@ impl LoggedPages {
         ensures held_len { IfOk result (λ s. length s.held ≡ area_end geometry.now) }
         ensures taken_len { IfOk result (λ s. length s.taken ≡ area_end geometry.now) }
     {
-        let pages = (CATALOG + geometry.pages) as usize;
+        let pages = (PageNo::CATALOG.0 + geometry.pages) as usize;
         let mut held = vec![in alloc; false; pages]?;
-        held[CATALOG as usize] = true;
+        held[PageNo::CATALOG.0 as usize] = true;
         Ok(LoggedPages {
             held,
             taken: vec![in alloc; false; pages]?,

@@ -9,12 +9,9 @@ ghost use Rattle.page_alloc.specs.UnitSet.{used_at, refs_at, free_count};
 use crate::port::VolumePort;
 use crate::reading::read_page;
 use disk_model::Disk;
-use ex_base::{Area, Ground, PageNo, Pages, PortFault, Volume};
+use ex_base::{Area, Ground, PageNo, Pages, PortFault, ReadPages, ReadVolume, Volume};
 use page_alloc::Units;
 use std::alloc::Global;
-
-/// The page of the catalog, the first one of the page area.
-const CATALOG: u32 = 257;
 
 impl<'a, D: Disk> VolumePort<'a, D> {
     // Copies a page, as the transaction has it, into the room.
@@ -55,21 +52,23 @@ fn free_taken(units: &mut Units, page: PageNo, taken: bool)
     }
 }
 
-impl<'a, D: Disk> Pages for VolumePort<'a, D> {
-    ghost use Rattle.volume_port.specs.Logged.{is_taken};
-
+impl<'a, D: Disk> ReadPages for VolumePort<'a, D> {
     fn page_size(&self) -> u32 {
         self.store.geometry.page_size
     }
 
     fn in_area(&self, page: PageNo) -> bool {
-        CATALOG <= page.0 && page.0 - CATALOG < self.store.geometry.pages
+        self.store.geometry.in_page_area(page)
     }
 
     fn get(&mut self, alloc: Global, page: PageNo) -> Result<&[u8], PortFault> {
         self.fill(alloc, page)?;
         Ok(self.filled())
     }
+}
+
+impl<'a, D: Disk> Pages for VolumePort<'a, D> {
+    ghost use Rattle.volume_port.specs.Logged.{is_taken};
 
     // A page that the working state does not have is not changed.
     fn put(&mut self, alloc: Global, page: PageNo, image: &[u8]) -> Result<(), PortFault> {
@@ -90,6 +89,7 @@ impl<'a, D: Disk> Pages for VolumePort<'a, D> {
         ensures pages { OnOk result (⟦<VolumePort<'a, D> as Ground>⟧.free self.new Page + 1 ≡ ⟦<VolumePort<'a, D> as Ground>⟧.free self.old Page) }
         ensures leaves { OnOk result (⟦<VolumePort<'a, D> as Ground>⟧.free self.new Segment ≡ ⟦<VolumePort<'a, D> as Ground>⟧.free self.old Segment) }
         ensures no_damage { IfErr result (λ fault. IsDamage fault → ⊥) }
+        ensures touched { ⟦<VolumePort<'a, D> as Ground>⟧.touched self.new ≤ ⟦<VolumePort<'a, D> as Ground>⟧.touched self.old + 1 }
         ensures leads { ⟦<VolumePort<'a, D> as Ground>⟧.leads self.old self.new }
         ensures cause { HasCause (⟦<VolumePort<'a, D> as Ground>⟧.faults self.old) (⟦<VolumePort<'a, D> as Ground>⟧.faults self.new) result }
     {
@@ -112,6 +112,7 @@ impl<'a, D: Disk> Pages for VolumePort<'a, D> {
             → used_at self.new.store.units.now page.0 ≡ false) }
         ensures kept { OnOk result (is_taken self.old.pages.now page.0 ≡ false → self.new.store.units.now ≡ self.old.store.units.now) }
         ensures no_damage { IfErr result (λ fault. IsDamage fault → ⊥) }
+        ensures touched { ⟦<VolumePort<'a, D> as Ground>⟧.touched self.new ≤ ⟦<VolumePort<'a, D> as Ground>⟧.touched self.old + 1 }
         ensures leads { ⟦<VolumePort<'a, D> as Ground>⟧.leads self.old self.new }
         ensures cause { HasCause (⟦<VolumePort<'a, D> as Ground>⟧.faults self.old) (⟦<VolumePort<'a, D> as Ground>⟧.faults self.new) result }
     {
@@ -122,5 +123,7 @@ impl<'a, D: Disk> Pages for VolumePort<'a, D> {
         Ok(())
     }
 }
+
+impl<'a, D: Disk> ReadVolume for VolumePort<'a, D> {}
 
 impl<'a, D: Disk> Volume for VolumePort<'a, D> {}

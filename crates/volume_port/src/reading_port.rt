@@ -1,5 +1,5 @@
 //! A port for reading alone.
-ghost use Rattle.std.specs.Prelude.{◌≡◌, length, true, false, OnOk, IfErr, IfOk};
+ghost use Rattle.std.specs.Prelude.{◌≡◌, length, false, OnOk, IfErr, IfOk};
 ghost use Rattle.ex_base.specs.Area.{InPageArea};
 ghost use Rattle.ex_base.specs.Ports.{Keeps, HasCause, IsDamage};
 ghost use Rattle.buffer_groups.specs.Groups.{HasFrame};
@@ -8,15 +8,12 @@ use crate::logged::LoggedPages;
 use crate::reading::read_image;
 use buffer_groups::Groups;
 use disk_model::Disk;
-use ex_base::{Area, Blocks, Geometry, Ground, PageNo, Pages, PortFault, Volume};
+use ex_base::{Geometry, Ground, PageNo, PortFault, ReadBlocks, ReadPages, ReadVolume};
 use meta_pages::Meta;
 use std::alloc::Global;
 
-/// The page of the catalog, the first one of the page area.
-const CATALOG: u32 = 257;
-
-/// The units and the logged pages of a session, lent for reading alone: of the disk nothing is written. A call that is to take a unit or to change a
-/// page answers that memory is wanting. Of all units at most the catalog's is told as used, and each area has one to give at most.
+/// The units and the logged pages of a session, lent for reading alone: of the disk nothing is written. It tells of no unit as used, of no reference and
+/// of no free unit.
 #[derive(Drop)]
 pub struct ReadingPort<'a, D: Disk> {
     pub disk: &'a mut D,
@@ -28,18 +25,15 @@ pub struct ReadingPort<'a, D: Disk> {
     pub geometry: Geometry,
     pub meta: &'a Meta,
     pub pages: &'a LoggedPages,
-    /// Whether the unit of the catalog is told as used, and the references that are told of it.
-    pub catalog_used: bool,
-    pub catalog_refs: u32,
 }
 
 impl<'a, D: Disk> Ground for ReadingPort<'a, D> {
-    ghost use Rattle.tree_store.specs.Names.{names_on};
+    ghost use Rattle.count_nodes.specs.Names.{names_on};
     ghost use Rattle.tree_store.specs.Stored.{unit_bytes};
     ghost use Rattle.tree_store.specs.Whole.{leaf_whole};
     ghost use Rattle.volume_port.specs.Logged.{is_held};
     ghost use Rattle.volume_port.specs.Ported.{image_over};
-    ghost use Rattle.volume_port.specs.Reading.{CanRead, Reads, TellsBytes, free_told, is_told_used, refs_told, reads_same, reads_on, reads_ready};
+    ghost use Rattle.volume_port.specs.Reading.{CanRead, Reads, TellsBytes, reads_same, reads_on, reads_ready};
 
     ghost geometry = { λ s. s.geometry };
 
@@ -51,15 +45,17 @@ impl<'a, D: Disk> Ground for ReadingPort<'a, D> {
 
     ghost image = { λ s. image_over s.geometry s.meta.now (unit_bytes s.geometry (D.outside s.disk.now).disk) };
 
-    ghost used = { λ s p. is_told_used s.catalog_used p };
+    ghost used = { λ s p. false };
 
-    ghost refs = { λ s p. refs_told s.catalog_refs p };
+    ghost refs = { λ s p. 0 };
 
-    ghost names = { names_on };
+    ghost names = { λ g bytes. names_on bytes };
 
     ghost held = { λ s. is_held s.pages.now };
 
-    ghost free = { λ s area. free_told s.catalog_used area };
+    ghost free = { λ s area. 0 };
+
+    ghost touched = { λ s. 0 };
 
     ghost faults = { λ s. (D.outside s.disk.now).disk_faults };
 
@@ -152,16 +148,9 @@ impl<'a, D: Disk> ReadingPort<'a, D> {
     }
 }
 
-impl<'a, D: Disk> Blocks for ReadingPort<'a, D> {
+impl<'a, D: Disk> ReadBlocks for ReadingPort<'a, D> {
     fn geometry(&self) -> Geometry {
         self.geometry
-    }
-
-    fn free(&self, area: Area) -> u32 {
-        if self.catalog_used && area == Area::Page {
-            return 0;
-        }
-        1
     }
 
     fn node(&mut self, alloc: Global, page: PageNo) -> Result<&[u8], PortFault> {
@@ -182,59 +171,21 @@ impl<'a, D: Disk> Blocks for ReadingPort<'a, D> {
             Err(_) => Err(PortFault::Disk),
         }
     }
-
-    fn new_node(&mut self, _bytes: &[u8]) -> Result<PageNo, PortFault> {
-        Err(PortFault::Memory)
-    }
-
-    fn new_leaf(&mut self, _bytes: &[u8]) -> Result<PageNo, PortFault> {
-        Err(PortFault::Memory)
-    }
-
-    fn add_ref(&mut self, page: PageNo) {
-        if page.0 == CATALOG && self.catalog_used && self.catalog_refs < u32::MAX {
-            self.catalog_refs += 1;
-        }
-    }
-
-    fn drop_ref(&mut self, page: PageNo) -> bool {
-        if page.0 != CATALOG || self.catalog_refs == 0 {
-            return false;
-        }
-        self.catalog_refs -= 1;
-        self.catalog_refs == 0
-    }
-
-    fn give_unit(&mut self, _page: PageNo) {
-        self.catalog_used = false;
-    }
 }
 
-impl<'a, D: Disk> Pages for ReadingPort<'a, D> {
+impl<'a, D: Disk> ReadPages for ReadingPort<'a, D> {
     fn page_size(&self) -> u32 {
         self.geometry.page_size
     }
 
     fn in_area(&self, page: PageNo) -> bool {
-        CATALOG <= page.0 && page.0 - CATALOG < self.geometry.pages
+        self.geometry.in_page_area(page)
     }
 
     fn get(&mut self, alloc: Global, page: PageNo) -> Result<&[u8], PortFault> {
         self.fill(alloc, page)?;
         Ok(self.filled())
     }
-
-    fn put(&mut self, _alloc: Global, _page: PageNo, _image: &[u8]) -> Result<(), PortFault> {
-        Err(PortFault::Memory)
-    }
-
-    fn take_page(&mut self, _alloc: Global, _image: &[u8]) -> Result<PageNo, PortFault> {
-        Err(PortFault::Memory)
-    }
-
-    fn give_page(&mut self, _alloc: Global, _page: PageNo) -> Result<(), PortFault> {
-        Err(PortFault::Memory)
-    }
 }
 
-impl<'a, D: Disk> Volume for ReadingPort<'a, D> {}
+impl<'a, D: Disk> ReadVolume for ReadingPort<'a, D> {}

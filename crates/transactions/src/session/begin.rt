@@ -1,7 +1,6 @@
 //! A transaction is opened, and one is given up.
 ghost use Rattle.std.specs.Prelude.{◌≡◌, ◌≤◌, true, false};
 ghost use Rattle.ex_base.specs.Sizes.{volume_bytes};
-ghost use Rattle.table_model.specs.Machines.{kept};
 
 use super::Session;
 use super::catalog::view_of;
@@ -9,14 +8,7 @@ use super::settle::take_back;
 use disk_model::Host;
 use session_views::Stop;
 use std::alloc::Global;
-use table_model::{BoundName, Refusal, Reply};
-
-/// Unbinds the names that the open transaction bound.
-fn unbind_marked(names: &mut Vec<BoundName>)
-    ensures { names.new.items ≡ kept names.old.items }
-{
-    names.retain(|name| !name.marked);
-}
+use table_model::{Refusal, Reply};
 
 impl Session {
     ghost use Rattle.table_model.specs.Requests as request;
@@ -56,7 +48,7 @@ impl Session {
         }
         take_back(&self.meta, &mut self.units, &mut self.pages, &self.kept);
         self.meta.undo();
-        unbind_marked(&mut self.names);
+        self.names.unbind_marked();
         self.notes.clear();
         self.opened = false;
         Reply::Abort

@@ -11,9 +11,10 @@ ghost use Rattle.object_files.specs.Edits.{IsCatalogPage};
 ghost use Rattle.object_files.specs.Reads.{catalog_on};
 ghost use Rattle.ex_base.specs.Area.{catalog_no};
 ghost use Rattle.commits.specs.Room.{AreBehindLog};
-ghost use Rattle.transactions.specs.Catalogs.{seen_catalog, seen_none, stop_of, catalog_over, ReadingStops};
+ghost use Rattle.ex_base.specs.Seen.{catalog_seen, nothing_seen};
+ghost use Rattle.transactions.specs.Catalogs.{stop_of, catalog_over, ReadingStops};
 
-use super::{CATALOG, MAIN, Session};
+use super::{MAIN, Session};
 use buffer_groups::{FetchFault, Groups};
 use disk_model::Disk;
 use ex_base::{PageNo, Seen};
@@ -21,9 +22,6 @@ use meta_pages::Meta;
 use object_files::CatalogView;
 use session_views::Stop;
 use std::alloc::Global;
-
-/// The kind of the catalog page.
-const CATALOG_KIND: u8 = 1;
 
 /// A copy of a logged page as the open transaction has it, or else as the last commit left it.
 fn copy_of<D: Disk>(
@@ -51,22 +49,12 @@ fn copy_of<D: Disk>(
 
 /// What the session is to stop at where the catalog is outside of its grammar.
 fn damaged_catalog() -> Stop
-    ensures { result ≡ Stop.Damaged (record { 0 = catalog_no }) seen_catalog seen_none }
+    ensures { result ≡ Stop.Damaged (record { 0 = catalog_no }) catalog_seen nothing_seen }
 {
-    let want = Seen {
-        kind: CATALOG_KIND,
-        level: 0,
-        total: 0,
-    };
-    let got = Seen {
-        kind: 0,
-        level: 0,
-        total: 0,
-    };
     Stop::Damaged {
-        page: CATALOG,
-        want,
-        got,
+        page: PageNo::CATALOG,
+        want: Seen::CATALOG,
+        got: Seen::NOTHING,
     }
 }
 
@@ -110,7 +98,7 @@ fn read_catalog<D: Disk>(
     ensures read { IfOk result (λ page. (d : List ℕ) → (D.outside disk.old).disk ≡ Some d → All (Lends (D.outside disk.old).disk) groups.old → page.items ≡ catalog_over meta.now.geometry meta.now d) }
     ensures stops { IfErr result (ReadingStops (D.outside disk.old) (D.outside disk.new) groups.old (catalog_over meta.now.geometry meta.now)) }
 {
-    let page = match copy_of(alloc, groups, meta, disk, CATALOG) {
+    let page = match copy_of(alloc, groups, meta, disk, PageNo::CATALOG) {
         Ok(page) => page,
         Err(fault) => return Err(unread(fault)),
     };

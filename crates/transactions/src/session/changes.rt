@@ -6,11 +6,11 @@ ghost use Rattle.versions.specs.Edited.{change_of};
 
 use super::Session;
 use super::needs::{note_of, reply_of, size_after};
+use data_words::data_bytes;
 use disk_model::Host;
 use object_updates::ObjectUpdate;
 use session_views::Stop;
 use std::alloc::Global;
-use table_lists::data_bytes;
 use table_model::{Refusal, Reply, Subject};
 use versions::Edit;
 

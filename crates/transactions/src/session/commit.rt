@@ -4,18 +4,18 @@ ghost use Rattle.ex_base.specs.Sizes.{volume_bytes};
 ghost use Rattle.object_files.specs.Catalog.{CatalogOf};
 ghost use Rattle.object_files.specs.Edits.{IsCatalogPage};
 ghost use Rattle.object_files.specs.Reads.{catalog_on, with_numbers};
-ghost use Rattle.table_model.specs.Machines.{unmarked};
 ghost use Rattle.transactions.specs.Commits.{stop_of};
 
+use super::Session;
 use super::catalog::view_of;
 use super::settle::settle;
-use super::{CATALOG, Session};
 use commits::{CommitFault, checkpoint, commit};
 use disk_model::Host;
+use ex_base::{Oid, PageNo, Seen};
 use object_files::set_numbers;
 use session_views::Stop;
 use std::alloc::Global;
-use table_model::{BoundName, Refusal, Reply};
+use table_model::{Refusal, Reply};
 
 /// Puts the number of the next commit into a copy of the catalog, and answers it.
 fn number_next(page: &mut Vec<u8>) -> u64
@@ -30,15 +30,6 @@ fn number_next(page: &mut Vec<u8>) -> u64
     let number = catalog.last_txn() + 1;
     set_numbers(page, next_unique, number);
     number
-}
-
-/// Takes the marks off the names: what the transaction bound stays bound.
-fn unmark(names: &mut Vec<BoundName>)
-    ensures { names.new.items ≡ unmarked names.old.items }
-{
-    for index in 0..names.len() {
-        names[index].marked = false;
-    }
 }
 
 /// What the session is to stop at where a transaction could not be committed.
@@ -74,7 +65,7 @@ impl Session {
             Err(stop) => return Err(stop),
         };
         let number = number_next(&mut page);
-        if self.meta.edit(alloc, CATALOG, &page).is_err() {
+        if self.meta.edit(alloc, PageNo::CATALOG, &page).is_err() {
             return Err(Stop::Memory);
         }
         // From here on the transaction is committed, or the session is down.
@@ -92,7 +83,7 @@ impl Session {
             self.meta.undo();
             return Err(uncommitted(fault));
         }
-        unmark(&mut self.names);
+        self.names.unmark();
         self.notes.clear();
         Ok(Reply::Commit { number })
     }

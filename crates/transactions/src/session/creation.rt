@@ -4,19 +4,19 @@ ghost use Rattle.ex_base.specs.Sizes.{volume_bytes};
 ghost use Rattle.table_model.specs.Words.{is_name};
 ghost use Rattle.transactions.specs.Editing.{is_taken_by, new_object_in};
 
+use super::Session;
 use super::catalog::view_of;
 use super::edits::Need;
 use super::refuse::entry_named;
 use super::removal::object_note;
-use super::{CATALOG, Session};
+use bound_names::NameMap;
 use disk_model::Host;
-use ex_base::{Oid, PageNo};
+use ex_base::Oid;
 use object_files::CatalogView;
 use object_updates::ObjectUpdate;
 use session_views::Stop;
-use std::alloc::{AllocError, Global};
-use table_lists::is_bound;
-use table_model::{BoundName, Name, OBJECT_MADE, Refusal, Reply};
+use std::alloc::Global;
+use table_model::{OBJECT_MADE, Refusal, Reply};
 
 /// The name of the group that every session has.
 const MAIN_NAME: &[u8] = b"main";
@@ -26,13 +26,6 @@ const CREATION_NEED: Need = Need {
     charge: 16,
     pages: 16,
     segs: 0,
-};
-
-/// No version: an object that isn't made yet has none.
-const NO_OID: Oid = Oid {
-    page: PageNo(0),
-    slot: 0,
-    unique: 0,
 };
 
 /// The file that a new object is put into, and its number.
@@ -60,23 +53,10 @@ fn new_object(catalog: &CatalogView<'_>, file: &[u8]) -> Result<NewObject, Refus
 }
 
 /// Whether a version is bound to a name, or the name is that of the group that every session has.
-fn is_taken(names: &[BoundName], name: &[u8]) -> bool
+fn is_taken(names: &NameMap, name: &[u8]) -> bool
     ensures { result ≡ is_taken_by names.now name.now }
 {
-    name == MAIN_NAME || is_bound(names, name)
-}
-
-/// Binds a name in the open transaction.
-fn bind(alloc: Global, names: &mut Vec<BoundName>, name: &[u8], oid: Oid) -> Result<(), AllocError>
-    ensures { OnOk result (names.new.items ≡ names.old.items ++ record { name = name.now; oid = oid; marked = true } ∷ []) }
-{
-    let name = Name::of_bytes(alloc, name)?;
-    names.push(BoundName {
-        name,
-        oid,
-        marked: true,
-    })?;
-    Ok(())
+    name == MAIN_NAME || names.is_bound(name)
 }
 
 impl Session {
@@ -114,7 +94,7 @@ impl Session {
             return Ok(Reply::No(why));
         }
         let limit = self.limit(&CREATION_NEED);
-        let note = object_note(OBJECT_MADE, &NO_OID);
+        let note = object_note(OBJECT_MADE, &Oid::NONE);
         let update = ObjectUpdate::Create {
             file_no: made.file_no,
             unique: made.unique,
@@ -123,7 +103,7 @@ impl Session {
             Ok(oid) => oid,
             Err(stop) => return Err(stop),
         };
-        match bind(alloc, &mut self.names, name, oid) {
+        match self.names.bind(alloc, name, oid) {
             Ok(()) => Ok(Reply::Create { oid }),
             Err(_) => Err(Stop::Memory),
         }

@@ -15,26 +15,23 @@ ghost use Rattle.versions.specs.Versions.{count_of, record_len};
 ghost use Rattle.transactions.specs.Editing.{bytes_refusal, is_outside, root_height, room_beside, fits_beside, size_after};
 
 use super::moving::Limit;
-use super::needs::{count_of, is_inside, large_need, size_after};
+use super::needs::{count_of, is_inside, size_after};
 use super::objects::{Named, stopped};
 use super::{MAIN, Session};
 use buffer_groups::Groups;
 use disk_model::{Disk, Host};
-use ex_base::{Area, Geometry, Oid, PageNo, Pages, PortFault, Seen, Volume};
+use ex_base::{Area, Geometry, OBJECT_MOST, Oid, PageNo, PortFault, ReadPages, ReadVolume, Seen};
 use meta_pages::Meta;
 use object_records::State;
 use session_views::Stop;
 use slotted_pages::SlottedView;
 use std::alloc::Global;
-use table_model::{OBJECT_MOST, Refusal, Subject};
-use versions::{Edit, Found};
+use table_model::{Refusal, Subject};
+use versions::{Edit, Found, large_need};
 use volume_port::{LoggedPages, ReadingPort};
 
 /// The logged pages that an edit may touch.
 const EDIT_CHARGE: u32 = 1;
-
-/// The kind of a file page.
-const FILE_PAGE_SEEN: u8 = 3;
 
 /// The least bytes that the record of a small version has room for.
 const SMALL_LEAST: u64 = 12;
@@ -61,21 +58,13 @@ fn no_file_page(page: PageNo) -> PortFault
 {
     PortFault::Damaged {
         page,
-        want: Seen {
-            kind: FILE_PAGE_SEEN,
-            level: 0,
-            total: 0,
-        },
-        got: Seen {
-            kind: 0,
-            level: 0,
-            total: 0,
-        },
+        want: Seen::file_page(0),
+        got: Seen::NOTHING,
     }
 }
 
 /// The bytes that more bodies may take on a page of a file.
-fn room_at<P: Pages>(pages: &mut P, alloc: Global, page: PageNo) -> Result<u32, PortFault>
+fn room_at<P: ReadPages>(pages: &mut P, alloc: Global, page: PageNo) -> Result<u32, PortFault>
     requires { P.ready pages.old }
     ensures room { IfOk result (λ room. P.tells pages.old → room ≡ room_of (P.geometry pages.old).page_size (slots_of (P.image pages.old page.0))) }
     ensures area { OnOk result (InPageArea (P.geometry pages.old) page.0) }
@@ -93,7 +82,7 @@ fn room_at<P: Pages>(pages: &mut P, alloc: Global, page: PageNo) -> Result<u32, 
 }
 
 // The bytes that more bodies may take on the page of a version, of a volume.
-fn room_in<V: Volume>(volume: &mut V, alloc: Global, oid: &Oid) -> Result<u32, PortFault>
+fn room_in<V: ReadVolume>(volume: &mut V, alloc: Global, oid: &Oid) -> Result<u32, PortFault>
     requires { V.ready volume.old }
     ensures room { (before : View SessionState) → PortShows V.Ground volume.old before → IfOk result (λ room. room ≡ room_beside before oid.now) }
     ensures sound { (before : View SessionState) → PortShows V.Ground volume.old before → IfLive before oid.now (λ bytes. IfErr result (λ fault. IsDamage fault → ⊥)) }
@@ -128,8 +117,6 @@ fn room_on<D: Disk>(
         geometry: *geometry,
         meta,
         pages,
-        catalog_used: false,
-        catalog_refs: 0,
     };
     room_in(&mut port, alloc, oid)
 }

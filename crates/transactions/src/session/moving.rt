@@ -21,10 +21,10 @@ ghost use Rattle.transactions.specs.Updates.{AreReady, HasRoomFor, HoldsTable, I
 
 use super::objects::stopped;
 use super::settle::take_back;
-use super::{CATALOG, MAIN, Session};
+use super::{MAIN, Session};
 use buffer_groups::Groups;
 use disk_model::{Disk, Host};
-use ex_base::{Area, Geometry, Oid, OpNote, PortFault};
+use ex_base::{Area, Geometry, Oid, OpNote, PageNo, PortFault};
 use meta_pages::Meta;
 use object_files::CatalogView;
 use object_updates::{ObjectUpdate, perform};
@@ -41,7 +41,7 @@ pub(super) fn has_work(meta: &Meta) -> bool
     let Some((page, Some(image))) = meta.touched_at(0) else {
         return false;
     };
-    if page.0 != CATALOG.0 {
+    if page.0 != PageNo::CATALOG.0 {
         return false;
     }
     match CatalogView::of(image) {

@@ -6,7 +6,7 @@ ghost use Rattle.ex_base.specs.Sizes.{volume_bytes, object_most};
 ghost use Rattle.session_views.specs.View.{View};
 ghost use Rattle.volume_port.specs.Reading.{CanRead};
 ghost use Rattle.table_model.specs.Requests.{reference_of};
-ghost use Rattle.tree_insert.specs.Roots.{IsRootFor};
+ghost use Rattle.trees.specs.Roots.{IsRootFor};
 ghost use Rattle.object_files.specs.Edits.{IsCatalogPage, has_name};
 ghost use Rattle.object_files.specs.Reads.{catalog_on};
 ghost use Rattle.transactions.specs.Lines.{HasParts, IfFile, IfLive, IfPortFile, IfShown, IsFound, PortShows, IsUnnamed, LeavesFrames, oid_among, oids_listed, stop_at};
@@ -15,14 +15,14 @@ ghost use Rattle.transactions.specs.Sessions.{SessionState};
 use super::catalog::view_of;
 use super::refuse::entry_named;
 use super::{MAIN, Session};
+use bound_names::NameMap;
 use buffer_groups::Groups;
 use disk_model::{Disk, Host};
-use ex_base::{Geometry, Items, Oid, PageNo, PortFault, Volume};
+use ex_base::{Geometry, Items, Oid, PageNo, PortFault, ReadVolume};
 use meta_pages::Meta;
 use session_views::Stop;
 use std::alloc::Global;
-use table_lists::bound_named;
-use table_model::{BoundName, Refusal, Reply, Subject};
+use table_model::{Refusal, Reply, Subject};
 use versions::{Found, find, objects, read_at};
 use volume_port::{LoggedPages, ReadingPort};
 
@@ -53,12 +53,12 @@ fn oid_of(page: u64, slot: u64, unique: u64) -> Option<Oid>
 }
 
 /// The identifier that a line gives, or why it names no version.
-fn oid_named(names: &[BoundName], x: &Subject<'_>) -> Result<Oid, Refusal>
+fn oid_named(names: &NameMap, x: &Subject<'_>) -> Result<Oid, Refusal>
     ensures { MatchResult result (λ oid. oid_among names.now (reference_of x.now) ≡ Some oid) (IsUnnamed names.now (reference_of x.now)) }
 {
     match x {
-        Subject::Name(name) => match bound_named(names, name) {
-            Some(bound) => Ok(bound.oid),
+        Subject::Name(name) => match names.oid_of(name) {
+            Some(oid) => Ok(oid),
             None => Err(Refusal::NoName),
         },
         Subject::Number { page, slot, unique } => match oid_of(*page, *slot, *unique) {
@@ -69,7 +69,11 @@ fn oid_named(names: &[BoundName], x: &Subject<'_>) -> Result<Oid, Refusal>
 }
 
 // Looks in a volume for the version that an OID names.
-fn look_in<V: Volume>(volume: &mut V, alloc: Global, oid: &Oid) -> Result<Option<Found>, PortFault>
+fn look_in<V: ReadVolume>(
+    volume: &mut V,
+    alloc: Global,
+    oid: &Oid,
+) -> Result<Option<Found>, PortFault>
     requires { V.ready volume.old }
     ensures found { (before : View SessionState) → PortShows V.Ground volume.old before → IfOk result (IsFound before oid.now) }
     ensures sound { (before : View SessionState) → PortShows V.Ground volume.old before → IfErr result (λ fault. IsDamage fault → ⊥) }
@@ -108,14 +112,12 @@ fn look_on<D: Disk>(
         geometry: *geometry,
         meta,
         pages,
-        catalog_used: false,
-        catalog_refs: 0,
     };
     look_in(&mut port, alloc, oid)
 }
 
 // Reads bytes of a version of a volume.
-fn read_in<V: Volume>(
+fn read_in<V: ReadVolume>(
     volume: &mut V,
     alloc: Global,
     oid: &Oid,
@@ -161,14 +163,16 @@ fn read_on<D: Disk>(
         geometry: *geometry,
         meta,
         pages,
-        catalog_used: false,
-        catalog_refs: 0,
     };
     read_in(&mut port, alloc, oid, pos, out)
 }
 
 // Lists the current versions of a file of a volume.
-fn list_in<V: Volume>(volume: &mut V, alloc: Global, file_no: u32) -> Result<Vec<Oid>, PortFault>
+fn list_in<V: ReadVolume>(
+    volume: &mut V,
+    alloc: Global,
+    file_no: u32,
+) -> Result<Vec<Oid>, PortFault>
     requires { V.ready volume.old }
     ensures oids { IfOk result (λ oids. IfPortFile V.Ground volume.old file_no (λ before name. oids.items ≡ oids_listed before.machine name)) }
     ensures sound { IfErr result (λ fault. IfPortFile V.Ground volume.old file_no (λ before name. IsDamage fault → ⊥)) }
@@ -205,8 +209,6 @@ fn list_on<D: Disk>(
         geometry: *geometry,
         meta,
         pages,
-        catalog_used: false,
-        catalog_refs: 0,
     };
     list_in(&mut port, alloc, file_no)
 }

@@ -4,20 +4,15 @@ ghost use Rattle.object_files.specs.Edits.{has_name};
 ghost use Rattle.object_files.specs.Reads.{entry_of};
 
 use super::Session;
-use ex_base::Area;
+use ex_base::{Area, TOUCHED_MOST, UPDATES_MOST};
 use object_files::{CatalogView, Entry};
-use table_model::{Refusal, TOUCHED_MOST, UPDATES_MOST};
+use table_model::Refusal;
 
 /// The pages that `file` may take.
 const FILE_NEED: u32 = 2;
 
 /// The logged pages that `file` and `unfile` may touch.
 const FILE_CHARGE: u32 = 2;
-
-/// The bytes of the catalog page before its entries, and those of an entry.
-const CATALOG_HEAD: u32 = 32;
-
-const ENTRY_LEN: u32 = 48;
 
 /// The file with a name.
 pub(super) fn entry_named<'a>(catalog: &CatalogView<'a>, name: &[u8]) -> Option<Entry<'a>>
@@ -42,7 +37,7 @@ impl Session {
         if entry_named(catalog, name).is_some() {
             return Some(Refusal::FileExists);
         }
-        if catalog.len() >= (self.geometry.page_size - CATALOG_HEAD) / ENTRY_LEN {
+        if catalog.len() >= self.geometry.files_most() {
             return Some(Refusal::FilesFull);
         }
         if let Some(why) = self.refuses_touching(FILE_CHARGE) {

@@ -4,7 +4,7 @@ ghost use Rattle.ex_base.specs.Ports.{Keeps, HasCause, IsDamage};
 ghost use Rattle.ex_base.specs.Sizes.{volume_bytes};
 ghost use Rattle.session_views.specs.View.{View};
 ghost use Rattle.table_model.specs.Requests.{reference_of};
-ghost use Rattle.tree_insert.specs.Roots.{IsRootFor};
+ghost use Rattle.trees.specs.Roots.{IsRootFor};
 ghost use Rattle.transactions.specs.Lines.{HasParts, IfRoot, IfShown, LeavesFrames, PortShows, TellsShape};
 ghost use Rattle.transactions.specs.Sessions.{SessionState};
 ghost use Rattle.volume_port.specs.Reading.{CanRead};
@@ -13,7 +13,7 @@ use super::objects::stopped;
 use super::{MAIN, Session};
 use buffer_groups::Groups;
 use disk_model::{Disk, Host};
-use ex_base::{Geometry, Items, PortFault, Root, Volume};
+use ex_base::{Geometry, Items, PortFault, ReadVolume, Root};
 use meta_pages::Meta;
 use session_views::Stop;
 use std::alloc::Global;
@@ -25,7 +25,7 @@ use volume_port::{LoggedPages, ReadingPort};
 const LEAVES_TOLD: usize = 16;
 
 // The number of leaves of a version's tree in a volume, and the lengths of the first ones.
-fn shape_in<V: Volume>(
+fn shape_in<V: ReadVolume>(
     volume: &mut V,
     alloc: Global,
     root: &Root,
@@ -70,8 +70,6 @@ fn shape_on<D: Disk>(
         geometry: *geometry,
         meta,
         pages,
-        catalog_used: false,
-        catalog_refs: 0,
     };
     shape_in(&mut port, alloc, root, first)
 }

@@ -7,21 +7,14 @@ ghost use Rattle.object_files.specs.Reads.{catalog_on};
 ghost use Rattle.table_model.specs.Machines.{updates_most, touched_most};
 ghost use Rattle.table_model.specs.Words.{is_name};
 
+use super::Session;
 use super::catalog::view_of;
-use super::{CATALOG, Session};
 use disk_model::Host;
 use ex_base::{Oid, OpNote, PageNo};
 use object_files::{add_file, remove_file};
 use session_views::Stop;
 use std::alloc::{AllocError, Global};
 use table_model::{FILE_MADE, FILE_REMOVED, Name, Refusal, Reply};
-
-/// No version: the note of a file names none.
-const NO_OID: Oid = Oid {
-    page: PageNo(0),
-    slot: 0,
-    unique: 0,
-};
 
 /// Adds a file without pages to a copy of the catalog.
 fn put_file(page: &mut Vec<u8>, name: &[u8]) -> u32
@@ -120,10 +113,10 @@ impl Session {
         ensures log { self.new.log ≡ self.old.log }
         ensures down { self.new.down ≡ self.old.down }
     {
-        self.meta.edit(alloc, CATALOG, catalog)?;
+        self.meta.edit(alloc, PageNo::CATALOG, catalog)?;
         self.notes.push(OpNote {
             kind,
-            oid: NO_OID,
+            oid: Oid::NONE,
             first: 0,
             second: 0,
         })?;

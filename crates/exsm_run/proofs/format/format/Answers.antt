@@ -1,7 +1,8 @@
 use Rattle.std.proofs.Common.{◌∙◌, sym}
 use Rattle.disk_model.specs.Runs.{honest_on, rests_sent}
-use Rattle.exsm_run.proofs.Making.{read_so_far, laid_so_far, sent_so_far, if_no_error}
+use Rattle.exsm_run.proofs.Making.{read_so_far, laid_so_far, sent_so_far}
 use Rattle.exsm_run.proofs.format.format.Goals as goal
+use Rattle.ex_base.proofs.Results.{if_no_error}
 
 pub returns-then-is_err-clause-any_moment : goal.returns-then-is_err-clause-any_moment
 returns-then-is_err-clause-any_moment g c d was rests without sent =

@@ -3,12 +3,13 @@ use Rattle.std.specs.Prelude.{OnOk}
 use Rattle.disk_model.specs.Changes.{ChangesWithin, InRange}
 use Rattle.ex_base.specs.Sizes.{least_page, least_volume}
 use Rattle.ex_base.specs.Superblock.{magic}
+use Rattle.ex_base.proofs.Results.{on_ok_both}
 use Rattle.disk_model.specs.Outside.{Only}
 use Rattle.disk_model.specs.Calls.{Wrote}
 use Rattle.disk_model.specs.Runs.{honest_on, leaves_trans}
 use Rattle.exsm_run.specs.EmptyVolume.{IsUnmadeOrEmpty}
 use Rattle.exsm_run.specs.Format.{IsFormatted}
-use Rattle.exsm_run.proofs.Making.{leaves_unmade, leaves_made, made_of, on_ok_two}
+use Rattle.exsm_run.proofs.Making.{leaves_unmade, leaves_made, made_of}
 use Rattle.exsm_run.proofs.format.lay_out.Goals as goal
 
 pub returns-in_err-prepare-clause-any_moment : goal.returns-in_err-prepare-clause-any_moment
@@ -17,9 +18,7 @@ returns-in_err-prepare-clause-any_moment g c d rests unmade =
     leaves_unmade geo (g.D.World.is_world c.args.disk.now) d rests unmade (omega (arith, c.requires.room, least_volume geo, least_page geo)) c.prepare.ensures.changes
 
 pub returns-clause-formatted : goal.returns-clause-formatted
-returns-clause-formatted g c = on_ok_two c.write_settled.result made
-    (subst (λ (bytes : List ℕ). OnOk c.write_settled.result (Wrote 0 bytes (g.D.World.outside c.prepare.new.disk) (g.D.World.outside c.write_settled.new.disk))) c.magic_of.ensures c.write_settled.ensures.written)
-    c.write_settled.ensures.settled
+returns-clause-formatted g c = on_ok_both c.write_settled.result _ _ _ made (subst (λ (bytes : List ℕ). OnOk c.write_settled.result (Wrote 0 bytes (g.D.World.outside c.prepare.new.disk) (g.D.World.outside c.write_settled.new.disk))) c.magic_of.ensures c.write_settled.ensures.written) c.write_settled.ensures.settled
   where
     made : Wrote 0 magic (g.D.World.outside c.prepare.new.disk) (g.D.World.outside c.write_settled.new.disk)
         → (IsTrue (g.D.World.outside c.prepare.new.disk).honest → (d : List ℕ) → (g.D.World.outside c.write_settled.new.disk).disk ≡ Some d → Only d (g.D.World.outside c.write_settled.new.disk).images)

@@ -2,9 +2,9 @@ use Rattle.std.proofs.Common.{subst}
 use Rattle.ex_base.specs.declared.geometry.Geometry.{Geometry}
 use Rattle.disk_model.specs.Outside.{Along}
 use Rattle.exsm_run.specs.Format.{IsFormatted, IsFormatMoment}
-use Rattle.exsm_run.specs.Words.{texts}
+use Rattle.command_line.specs.Words.{texts}
 use Rattle.exsm_run.proofs.Ending.{no_usage, starts_on, completes_on}
-use Rattle.exsm_run.proofs.Grammar.{one_format}
+use Rattle.command_line.proofs.Grammar.{one_format}
 use Rattle.exsm_run.proofs.top_call.run.Goals as goal
 
 pub returns-in-Outside-clause-format_answers : goal.returns-in-Outside-clause-format_answers

@@ -1,6 +1,6 @@
 use Rattle.std.proofs.Common.{sym, ap, ◌∙◌, arith, length}
 use Rattle.file_bodies.proofs.Pages.{is_page, slots_are, number_is, viewed_is, page_is_of}
-use Rattle.file_bodies.specs.Damage.{page_seen}
+use Rattle.ex_base.specs.Seen.{file_page_seen}
 use Rattle.file_bodies.proofs.Blame.{blames_page, blames_foreign}
 use Rattle.file_bodies.proofs.page.page_checked.Goals as goal
 
@@ -24,6 +24,6 @@ returns-then-slots-eq0-clause-fault c = λ g area.
 pub returns-then-found-file_no-clause-fault : goal.returns-then-found-file_no-clause-fault
 returns-then-found-file_no-clause-fault c = λ g area.
     let number = number_is c.args.bytes.now c.in-Some.view.page c.in-Some.ensures.found.1 in
-    blames_foreign g c.args.bytes.now c.args.file_no c.args.page c.page_seen.result c.page_seen-then-found-file_no.result area
+    blames_foreign g c.args.bytes.now c.args.file_no c.args.page c.file_page.result c.file_page-then-found-file_no.result area
     (record { spelled = is_page c.args.bytes.now c.in-Some.view.page c.in-Some.ensures.found.1; some = omega (arith, ap length (slots_are c.args.bytes.now c.in-Some.view.page c.in-Some.ensures.found.1), c.slots.ensures, c.if-slots-eq0.false) })
-    (λ same. c.if-found-file_no.true (c.file_no-found.ensures ∙ sym number ∙ same)) c.page_seen.ensures (c.page_seen-then-found-file_no.ensures ∙ ap page_seen (c.file_no-found.ensures ∙ sym number))
+    (λ same. c.if-found-file_no.true (c.file_no-found.ensures ∙ sym number ∙ same)) c.file_page.ensures (c.file_page-then-found-file_no.ensures ∙ ap file_page_seen (c.file_no-found.ensures ∙ sym number))

@@ -1,9 +1,9 @@
 use Rattle.std.proofs.Common.{ℕ, length, subst, sym}
 use Rattle.file_index.specs.declared.Index.{Index}
-use Rattle.file_bodies.specs.Places.{NoRoom, PlacesBody}
+use Rattle.file_bodies.specs.Places.{NoRoom, PlacesBody, PutsBody}
 use Rattle.file_bodies.specs.Placing.{start_of}
 use Rattle.file_bodies.proofs.Belonging.{the_index, found_file}
-use Rattle.file_bodies.proofs.Placed.{kept_places, none_kept, room_serves}
+use Rattle.file_bodies.proofs.Placed.{kept_places, kept_puts, none_kept, room_serves}
 use Rattle.file_bodies.specs.Damage.{listed, IsPlacing, IsPlacingFault}
 use Rattle.file_bodies.proofs.Blame.{carried}
 use Rattle.file_bodies.proofs.placing.place_body.Goals as goal
@@ -21,6 +21,16 @@ returns-in-Ok-place_from-clause-placed g c = λ told index file number is.
     let placed = c.in-Ok-place_from.ensures.placed told_b here (none_kept g.P.Ground c.args.pages.now c.index_of.new.pages c.in-Ok.index (length c.args.body.now) 0 c.start-from.result kept from) in
     subst (λ (i : Index). PlacesBody g.P.Ground c.args.pages.now c.place_from.new.pages i c.in-Ok-place_from.place c.args.body.now) (sym same)
     (kept_places g.P.Ground c.args.pages.now c.index_of.new.pages c.place_from.new.pages c.in-Ok.index c.in-Ok-place_from.place c.args.body.now kept placed)
+
+pub returns-in-Ok-place_from-clause-anywhere : goal.returns-in-Ok-place_from-clause-anywhere
+returns-in-Ok-place_from-clause-anywhere g c = λ told index file number.
+    let kept = c.index_of.ensures.kept in
+    let at = c.in-Ok.ensures.found told in
+    let told_b = g.P.Ground.leads_told c.args.pages.now c.index_of.new.pages kept.leads told in
+    let same = the_index g.P.Ground c.args.pages.now index c.in-Ok.index c.args.room.now.file_no file number at in
+    let here = found_file g.P.Ground c.args.pages.now c.index_of.new.pages index c.in-Ok.index c.args.room.now.file_no file number at kept in
+    subst (λ (i : Index). PutsBody g.P.Ground c.args.pages.now c.place_from.new.pages i c.in-Ok-place_from.place c.args.body.now) (sym same)
+    (kept_puts g.P.Ground c.args.pages.now c.index_of.new.pages c.place_from.new.pages c.in-Ok.index c.in-Ok-place_from.place c.args.body.now kept (c.in-Ok-place_from.ensures.puts told_b here))
 
 pub returns-in-Err-place_from-clause-sound : goal.returns-in-Err-place_from-clause-sound
 returns-in-Err-place_from-clause-sound g c = λ damage told index file number.

@@ -3,11 +3,12 @@ use Rattle.slotted_pages.specs.FilePage.{SlotsOf}
 use Rattle.slotted_pages.specs.Reads.{page_on}
 use Rattle.slotted_pages.specs.Edits.{slots_of, with_slot, with_slots}
 use Rattle.file_index.specs.Least.{IsAtLeast}
-use Rattle.file_bodies.proofs.Searching.{keeps_trans, file_now, told_now, none_left, passed_to, passed_page, page_named, load_sound, slot_read}
+use Rattle.file_bodies.proofs.Searching.{file_now, told_now, none_left, passed_to, passed_page, page_named, load_sound, slot_read}
 use Rattle.file_index.specs.Damage.{IsIndexFault}
 use Rattle.file_bodies.specs.Damage.{lost_way, IsLook, IsLookFault}
 use Rattle.file_bodies.proofs.Blame.{carried, moved_on, look_from, look_ends, look_here, look_on, look_blames}
 use Rattle.file_bodies.proofs.placing.put_in_room.Goals as goal
+use Rattle.ex_base.proofs.Keeping.{keeps_on}
 
 pub returns-in-Ok-None-clause-none : goal.returns-in-Ok-None-clause-none
 returns-in-Ok-None-clause-none g c = λ told file.
@@ -28,7 +29,7 @@ returns-in-Some-clause-placed g c = λ told file.
     let file_b = file_now g.P.Ground c.args.pages.now c.searched.pages c.args.index.now (length c.args.body.now) c.args.from c.searched.key c.searched.invariant told file in
     let told_c = g.P.Ground.leads_told c.searched.pages c.at_least.new.pages c.at_least.ensures.kept.leads told_b in
     let least = c.in-Ok-Some.ensures.least told_b file_b.whole in
-    let kept_c = keeps_trans g.P.Ground c.args.pages.now c.searched.pages c.at_least.new.pages c.searched.invariant.kept c.at_least.ensures.kept in
+    let kept_c = keeps_on g.P.Ground c.args.pages.now c.searched.pages c.at_least.new.pages c.searched.invariant.kept c.at_least.ensures.kept in
     let read : c.load_page.new.out ≡ g.P.Ground.image c.at_least.new.pages c.in-Ok-Some.page.0 = c.in-Ok.ensures.bytes told_c in
     let size : length c.load_page.new.out ≡ (g.P.Ground.geometry c.args.pages.now).page_size = omega (arith, c.load_page.auto.out, c.searched.auto.image, c.requires.image) in
     let at : g.P.Ground.image c.at_least.new.pages c.in-Ok-Some.page.0 ≡ g.P.Ground.image c.args.pages.now c.in-Ok-Some.page.0 = rw kept_c.images refl in
@@ -42,9 +43,9 @@ returns-in-Some-clause-placed g c = λ told file.
 
 pub searched-preserved : goal.searched-preserved
 searched-preserved g c =
-    let kept_c = keeps_trans g.P.Ground c.args.pages.now c.searched.pages c.at_least.new.pages c.searched.invariant.kept c.at_least.ensures.kept in
+    let kept_c = keeps_on g.P.Ground c.args.pages.now c.searched.pages c.at_least.new.pages c.searched.invariant.kept c.at_least.ensures.kept in
     record {
-      kept = keeps_trans g.P.Ground c.args.pages.now c.at_least.new.pages c.load_page.new.pages kept_c c.load_page.ensures.kept;
+      kept = keeps_on g.P.Ground c.args.pages.now c.at_least.new.pages c.load_page.new.pages kept_c c.load_page.ensures.kept;
       reached =
           let up : c.searched.key ≤ c.in-Ok-Some.page.0 = subst (IsAtLeast c.searched.key) c.in-Ok-Some.field-0-is c.in-Ok-Some.ensures.above in
           omega (arith, up, c.searched.invariant.reached);

@@ -1,16 +1,16 @@
 use Rattle.std.proofs.Common.{subst, sym}
+use Rattle.std.proofs.lemmas.Result.{on_ok_weaker}
 use Rattle.std.specs.Prelude.{Contains}
 use Rattle.file_index.specs.declared.Index.{Index}
 use Rattle.file_index.specs.Edits.{take_out}
 use Rattle.file_bodies.specs.Bodies.{pages_in}
 use Rattle.file_bodies.specs.Removing.{LeavesFile}
-use Rattle.file_bodies.proofs.Pages.{on_ok}
-use Rattle.file_bodies.proofs.Rows.{contains_times}
 use Rattle.file_bodies.proofs.Moving.{has_index}
 use Rattle.file_bodies.proofs.Belonging.{the_index, found_file}
 use Rattle.file_bodies.proofs.Indexing.{root_placed, reindexed, still_whole, still_index}
 use Rattle.file_bodies.proofs.Leaving.{left, kept_leaves}
 use Rattle.ex_base.specs.declared.geometry.Geometry.{Geometry}
+use Rattle.ex_base.proofs.Counts.{contains_times}
 use Rattle.file_index.specs.Index.{HasPlacedRoot}
 use Rattle.file_index.specs.Damage.{IsRemovalFault}
 use Rattle.file_bodies.specs.Damage.{listed, removing, bad_root}
@@ -37,7 +37,7 @@ returns-in-Err-change_index-clause-sound g c = λ damage told index file number.
     (still_index g.P.Ground c.index_of.new.pages c.remove.new.pages (take_out c.args.page.0) c.in-Ok.index c.in-Ok-remove.left here edits)
 
 pub returns-clause-leaves : goal.returns-clause-leaves
-returns-clause-leaves g c = on_ok c.give_page.result _ _ (λ given told index file number named.
+returns-clause-leaves g c = on_ok_weaker c.give_page.result (λ given told index file number named.
     let kept = c.index_of.ensures.kept in
     let told_b = g.P.Ground.leads_told c.args.pages.now c.index_of.new.pages kept.leads told in
     let told_c = g.P.Ground.leads_told c.index_of.new.pages c.remove.new.pages c.remove.ensures.leads told_b in

@@ -1,10 +1,10 @@
 use Rattle.std.proofs.Common.{◌≡◌, ℕ, List, [], length, arith, None, subst, sym, ap, ◌∙◌}
+use Rattle.std.proofs.lemmas.Result.{IfErr-weaker, on_ok_weaker}
 use Rattle.std.specs.Prelude.{Contains}
 use Rattle.slotted_pages.specs.Reads.{page_on}
 use Rattle.slotted_pages.specs.Edits.{slots_of, with_slot, with_slots, trimmed}
 use Rattle.file_bodies.specs.Bodies.{pages_in}
-use Rattle.file_bodies.proofs.Pages.{is_page, slots_are, on_ok, if_err}
-use Rattle.file_bodies.proofs.Rows.{contains_times}
+use Rattle.file_bodies.proofs.Pages.{is_page, slots_are}
 use Rattle.file_bodies.proofs.Moving.{kept_file}
 use Rattle.file_bodies.proofs.Slots.{page_of, body_sound, body_removed}
 use Rattle.file_bodies.proofs.Leaving.{left_edits, kept_leaves}
@@ -12,6 +12,7 @@ use Rattle.file_index.specs.Damage.{HasWay}
 use Rattle.file_bodies.specs.Damage.{leaving, IsListedFault, IsLeavingFault, HasListed}
 use Rattle.file_bodies.proofs.Blame.{carried}
 use Rattle.file_bodies.proofs.removing.remove_by.Goals as goal
+use Rattle.ex_base.proofs.Counts.{contains_times}
 
 pub returns-in-Err-clause-sound : goal.returns-in-Err-clause-sound
 returns-in-Err-clause-sound g c = λ damage told index body has. body_sound g.P.Ground c.args.pages.now index c.args.place body has (c.in-Err.ensures.sound damage told)
@@ -20,14 +21,14 @@ pub has_slots-requires : goal.has_slots-requires
 has_slots-requires g c = is_page c.remove_body.new.image _ c.remove_body.ensures
 
 pub returns-then-has_slots-clause-removes : goal.returns-then-has_slots-clause-removes
-returns-then-has_slots-clause-removes g c = on_ok c.put.result _ _ (λ put told index body has. record {
+returns-then-has_slots-clause-removes g c = on_ok_weaker c.put.result (λ put told index body has. record {
   after = index;
   edit = body_removed g.P.Ground c.args.pages.now c.load_body_page.new.pages c.put.new.self index c.args.place body c.load_body_page.new.out c.remove_body.new.image has c.load_body_page.ensures.kept told
       (c.in-Ok.ensures.bytes told) c.remove_body.ensures (c.has_slots.ensures.some c.if-has_slots.true) put c.put.ensures.leads;
 }) c.put.ensures.put
 
 pub returns-clause-removes : goal.returns-clause-removes
-returns-clause-removes g c = on_ok c.drop_page.result _ _ (λ leaves told index body has.
+returns-clause-removes g c = on_ok_weaker c.drop_page.result (λ leaves told index body has.
     let kept = c.load_body_page.ensures.kept in
     let told_b = g.P.Ground.leads_told c.args.pages.now c.load_body_page.new.pages kept.leads told in
     let read = c.in-Ok.ensures.bytes told in
@@ -41,7 +42,7 @@ returns-clause-removes g c = on_ok c.drop_page.result _ _ (λ leaves told index 
     (subst (λ (t : List ℕ). trimmed (with_slot (slots_of t) c.args.place.slot None) ≡ []) read empty)) c.drop_page.ensures.leaves
 
 pub returns-clause-sound : goal.returns-clause-sound
-returns-clause-sound g c = if_err c.drop_page.result _ _ (λ fault never damage told index body has.
+returns-clause-sound g c = IfErr-weaker c.drop_page.result _ _ (λ fault never damage told index body has.
     let kept = c.load_body_page.ensures.kept in
     let told_b = g.P.Ground.leads_told c.args.pages.now c.load_body_page.new.pages kept.leads told in
     let read = c.in-Ok.ensures.bytes told in
@@ -50,7 +51,7 @@ returns-clause-sound g c = if_err c.drop_page.result _ _ (λ fault never damage 
     never damage told_b index (kept_file g.P.Ground c.args.pages.now c.load_body_page.new.pages index kept has.file) number) c.drop_page.ensures.sound
 
 pub returns-clause-fault : goal.returns-clause-fault
-returns-clause-fault g c = if_err c.drop_page.result _ _ (λ fault h told.
+returns-clause-fault g c = IfErr-weaker c.drop_page.result _ _ (λ fault h told.
     let read = c.in-Ok.ensures.bytes told in
     let number : c.in-Ok.file_no ≡ (page_on (g.P.Ground.image c.args.pages.now c.args.place.page.0)).file_no = sym c.in-Ok.ensures.file ∙ ap (λ (t : List ℕ). (page_on t).file_no) read in
     leaving (c.in-Ok.ensures.has told)
@@ -58,13 +59,13 @@ returns-clause-fault g c = if_err c.drop_page.result _ _ (λ fault h told.
     (carried g.P.Ground c.args.pages.now c.load_body_page.new.pages (λ y u. IsListedFault u c.in-Ok.file_no (λ index. IsLeavingFault y u (g.P.Ground.image c.drop_page.new.pages) index c.args.place.page.0 fault) fault) c.load_body_page.ensures.kept h told))) c.drop_page.ensures.fault
 
 pub returns-then-has_slots-clause-way : goal.returns-then-has_slots-clause-way
-returns-then-has_slots-clause-way g c = on_ok c.put.result _ _ (λ put told last.
+returns-then-has_slots-clause-way g c = on_ok_weaker c.put.result (λ put told last.
     let empty : trimmed (with_slot (slots_of c.load_body_page.new.out) c.args.place.slot None) ≡ [] = subst (λ (t : List ℕ). trimmed (with_slot (slots_of t) c.args.place.slot None) ≡ []) (sym (c.in-Ok.ensures.bytes told)) last in
     let none = slots_are c.remove_body.new.image (with_slots (page_on c.load_body_page.new.out) (trimmed (with_slot (slots_of c.load_body_page.new.out) c.args.place.slot None))) c.remove_body.ensures ∙ empty in
     absurd (omega (arith, c.has_slots.ensures.some c.if-has_slots.true, ap length none))) c.put.ensures.put
 
 pub returns-clause-way : goal.returns-clause-way
-returns-clause-way g c = on_ok c.drop_page.result _ _ (λ h told last.
+returns-clause-way g c = on_ok_weaker c.drop_page.result (λ h told last.
     let read = c.in-Ok.ensures.bytes told in
     let number : c.in-Ok.file_no ≡ (page_on (g.P.Ground.image c.args.pages.now c.args.place.page.0)).file_no = sym c.in-Ok.ensures.file ∙ ap (λ (t : List ℕ). (page_on t).file_no) read in
     subst (λ (n : ℕ). HasListed (g.P.Ground.image c.args.pages.now) n (λ index. HasWay (g.P.Ground.geometry c.args.pages.now) (g.P.Ground.image c.args.pages.now) index c.args.place.page.0)) number

@@ -2,13 +2,13 @@ use Rattle.std.proofs.Common.{◌≡◌, ◌≢◌, ◌<◌, ◌-◌, suc, List,
 use Rattle.index_pages.specs.declared.Entry.{Entry}
 use Rattle.ex_base.specs.declared.geometry.Geometry.{Geometry}
 use Rattle.ex_base.specs.Sizes.{least_page}
+use Rattle.ex_base.proofs.Results.{if_ok_on_ok}
 use Rattle.file_index.specs.Index.{IsFilesPage}
 use Rattle.file_index.specs.Edits.{put_in}
 use Rattle.file_index.specs.Nodes.{IsPlace, Stored}
 use Rattle.file_index.specs.Damage.{place_in, IsWay, IsWayFault}
 use Rattle.file_index.proofs.Blame.{way_here}
 use Rattle.file_index.proofs.Ways.{child_at, page_way, page_fault}
-use Rattle.file_index.proofs.Descent.{on_ok}
 use Rattle.file_index.proofs.Lists.{put_local}
 use Rattle.file_index.proofs.Descending.{never_read, row_below, stays_below, held_below, written_below, first_key_is}
 use Rattle.file_index.proofs.Leaves.{leaf_added}
@@ -16,7 +16,7 @@ use Rattle.file_index.proofs.adding.+add_among.Goals as goal
 
 pub returns-then-level-eq1-clause-adds : goal.returns-then-level-eq1-clause-adds
 returns-then-level-eq1-clause-adds g t c =
-    on_ok c.add_leaf.result _ _ (λ changed puts told files row.
+    if_ok_on_ok c.add_leaf.result _ _ (λ changed puts told files row.
     leaf_added g.P.Ground c.args.pages.now c.args.file_no (c.args.level - 1) c.args.key c.place_of-at.result c.index-child.result.now c.args.entries.now.items c.add_leaf.new.entries.items changed
     (omega (arith, c.if-level-eq1.true)) (subst (λ (l : List Entry). IsPlace c.args.key l c.place_of-at.result) c.deref.ensures.value c.place_of-at.ensures.place) c.index-child.ensures puts files row) c.add_leaf.ensures.added
 

@@ -1,13 +1,14 @@
 use Rattle.std.proofs.Common.{◌≡◌, ◌≢◌, None, ◌-◌, suc, List, [], ◌∷◌, Option, subst, sym, ap, ◌∙◌, arith}
+use Rattle.std.proofs.lemmas.Result.{IfOk-weaker}
 use Rattle.ex_base.specs.declared.geometry.Geometry.{Geometry}
 use Rattle.ex_base.specs.declared.names.PageNo.{PageNo}
+use Rattle.ex_base.proofs.Results.{if_ok_on_ok}
 use Rattle.index_pages.specs.declared.Entry.{Entry}
 use Rattle.file_index.specs.Index.{IsFilesPage}
 use Rattle.file_index.specs.declared.Index.{Index}
 use Rattle.file_index.specs.Edits.{EditsIndex, put_in}
 use Rattle.file_index.proofs.Blame.{way_here}
 use Rattle.file_index.proofs.Ways.{page_way, page_fault, root_way, root_fault}
-use Rattle.file_index.proofs.Descent.{if_ok, on_ok}
 use Rattle.file_index.specs.Nodes.{Stored, heads, entries_of, first_key}
 use Rattle.file_index.specs.Changes.{Changes}
 use Rattle.file_index.proofs.Tops.{row_top, held_top, same_top, written_top, raised_top}
@@ -56,7 +57,7 @@ returns-in-Ok-None-clause-adds g c = λ told files has.
     (omega (arith, c.in-Ok-entries_at.ensures.few, c.in-Ok-true.ensures.more))
 
 pub returns-clause-adds : goal.returns-clause-adds
-returns-clause-adds g c = if_ok c.take_root.result _ _ (λ added made told files has.
+returns-clause-adds g c = IfOk-weaker c.take_root.result _ _ (λ added made told files has.
     let step : suc (c.args.index.now.level - 1) ≡ c.args.index.now.level = omega (arith, c.requires.level) in
     let leads = c.entries_at.ensures.kept.leads in
     let told_b = g.P.Ground.leads_told c.args.pages.now c.entries_at.new.pages leads told in
@@ -93,7 +94,7 @@ returns-in-Ok-None-clause-way g c =
 pub returns-clause-way : goal.returns-clause-way
 returns-clause-way g c =
     let above : c.args.index.now.level ≢ 0 = λ none. omega (arith, c.requires.level) in
-    on_ok c.take_root.result _ _ (λ made is told. root_way (g.P.Ground.geometry c.args.pages.now) (g.P.Ground.image c.args.pages.now) c.args.index.now.file_no c.args.key.0 c.args.index.now.level c.args.index.now.root c.args.root c.requires.root
+    if_ok_on_ok c.take_root.result _ _ (λ made is told. root_way (g.P.Ground.geometry c.args.pages.now) (g.P.Ground.image c.args.pages.now) c.args.index.now.file_no c.args.key.0 c.args.index.now.level c.args.index.now.root c.args.root c.requires.root
     (page_way g.P.Ground c.args.pages.now c.entries_at.new.pages c.args.index.now.file_no c.args.index.now.level None c.args.root.0 c.args.key.0 c.in-Ok-entries_at.entries.items above c.entries_at.ensures.kept c.in-Ok-entries_at.ensures.entries
     (λ told_a. record { area = c.in-Ok-entries_at.ensures.area; named = c.in-Ok-entries_at.ensures.named told_a }) c.in-Ok-true.ensures.way told)) c.take_root.ensures.made
 

@@ -1,16 +1,17 @@
-use Rattle.file_index.proofs.Descent.{if_ok, if_err, sound_here, sound_below, least_below_is}
+use Rattle.file_index.proofs.Descent.{sound_here, sound_below, least_below_is}
 use Rattle.file_index.proofs.Blame.{way_here}
-use Rattle.file_index.proofs.Ways.{on_same, fault_down, way_down, found_down}
+use Rattle.file_index.proofs.Ways.{fault_down, way_down, found_down}
 use Rattle.file_index.proofs.least.+least_below.Goals as goal
+use Rattle.std.proofs.lemmas.Result.{IfErr-weaker, IfOk-weaker, on_ok_weaker}
 
 pub returns-clause-least : goal.returns-clause-least
 returns-clause-least g t c =
-    if_ok c.least_below.result _ _ (λ answer below. least_below_is g.P.Ground c.args.pages.now c.step_at.new.pages c.args.named.file_no c.args.named.level c.args.named.least c.args.named.page.0 c.args.key c.args.next c.in-Ok.step answer
+    IfOk-weaker c.least_below.result _ _ (λ answer below. least_below_is g.P.Ground c.args.pages.now c.step_at.new.pages c.args.named.file_no c.args.named.level c.args.named.least c.args.named.page.0 c.args.key c.args.next c.in-Ok.step answer
     c.if-named-eq0.false c.step_at.ensures.kept c.in-Ok.ensures.step below) c.least_below.ensures.least
 
 pub returns-clause-sound : goal.returns-clause-sound
 returns-clause-sound g t c =
-    if_err c.least_below.result _ _ (λ fault never damage. sound_below g.P.Ground c.args.pages.now c.step_at.new.pages c.args.named.file_no c.args.named.level c.args.named.least c.args.named.page.0 c.args.key c.args.next c.in-Ok.step
+    IfErr-weaker c.least_below.result _ _ (λ fault never damage. sound_below g.P.Ground c.args.pages.now c.step_at.new.pages c.args.named.file_no c.args.named.level c.args.named.least c.args.named.page.0 c.args.key c.args.next c.in-Ok.step
     c.if-named-eq0.false c.step_at.ensures.kept c.in-Ok.ensures.step (never damage)) c.least_below.ensures.sound
 
 pub returns-in-Err-clause-sound : goal.returns-in-Err-clause-sound
@@ -23,15 +24,15 @@ returns-in-Err-clause-fault g t c = λ told.
 
 pub returns-clause-fault : goal.returns-clause-fault
 returns-clause-fault g t c =
-    if_err c.least_below.result _ _ (λ fault below. fault_down g.P.Ground c.args.pages.now c.step_at.new.pages c.args.named.file_no c.args.named.level c.args.named.least c.args.named.page.0 c.args.key c.args.next c.in-Ok.step
+    IfErr-weaker c.least_below.result _ _ (λ fault below. fault_down g.P.Ground c.args.pages.now c.step_at.new.pages c.args.named.file_no c.args.named.level c.args.named.least c.args.named.page.0 c.args.key c.args.next c.in-Ok.step
     fault c.if-named-eq0.false c.step_at.ensures.kept c.in-Ok.ensures.step c.in-Ok.ensures.way below) c.least_below.ensures.fault
 
 pub returns-clause-way : goal.returns-clause-way
 returns-clause-way g t c =
-    on_same c.least_below.result _ _ (λ below. way_down g.P.Ground c.args.pages.now c.step_at.new.pages c.args.named.file_no c.args.named.level c.args.named.least c.args.named.page.0 c.args.key c.args.next c.in-Ok.step
+    on_ok_weaker c.least_below.result (λ below. way_down g.P.Ground c.args.pages.now c.step_at.new.pages c.args.named.file_no c.args.named.level c.args.named.least c.args.named.page.0 c.args.key c.args.next c.in-Ok.step
     c.if-named-eq0.false c.step_at.ensures.kept c.in-Ok.ensures.step c.in-Ok.ensures.way below) c.least_below.ensures.way
 
 pub returns-clause-found : goal.returns-clause-found
 returns-clause-found g t c =
-    if_ok c.least_below.result _ _ (λ answer below. found_down g.P.Ground c.args.pages.now c.step_at.new.pages c.args.named.file_no c.args.named.level c.args.named.least c.args.named.page.0 c.args.key c.args.next c.in-Ok.step
+    IfOk-weaker c.least_below.result _ _ (λ answer below. found_down g.P.Ground c.args.pages.now c.step_at.new.pages c.args.named.file_no c.args.named.level c.args.named.least c.args.named.page.0 c.args.key c.args.next c.in-Ok.step
     answer c.if-named-eq0.false c.step_at.ensures.kept c.in-Ok.ensures.step below) c.least_below.ensures.found

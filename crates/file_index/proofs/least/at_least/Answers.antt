@@ -1,8 +1,8 @@
 use Rattle.std.proofs.Common.{Option, Some, sym, subst}
+use Rattle.std.proofs.lemmas.Result.{IfOk-weaker}
 use Rattle.ex_base.specs.declared.names.PageNo.{PageNo}
 use Rattle.file_index.specs.Index.{IsIndex, keys_under, keys_of}
 use Rattle.file_index.specs.Least.{IsLeastFrom}
-use Rattle.file_index.proofs.Descent.{if_ok}
 use Rattle.file_index.proofs.Picking.{least_is, rises_of}
 use Rattle.file_index.proofs.least.at_least.Goals as goal
 
@@ -10,7 +10,7 @@ pub returns-in-Some-clause-least : goal.returns-in-Some-clause-least
 returns-in-Some-clause-least g c =
     let image = g.P.Ground.image c.args.pages.now in
     let level = c.args.index.now.level in
-    if_ok c.least_below.result _ _ (λ answer found told index.
+    IfOk-weaker c.least_below.result _ _ (λ answer found told index.
     let at : IsIndex (g.P.Ground.geometry c.args.pages.now) (g.P.Ground.image c.args.pages.now) c.args.index.now.file_no c.args.index.now.level (Some c.in-Some.page) =
     subst (λ (r : Option PageNo). IsIndex (g.P.Ground.geometry c.args.pages.now) (g.P.Ground.image c.args.pages.now) c.args.index.now.file_no c.args.index.now.level r) c.in-Some.is index in
     subst (λ (r : Option PageNo). IsLeastFrom (keys_of (g.P.Ground.image c.args.pages.now) c.args.index.now.level r) c.args.key.0 answer) (sym c.in-Some.is)

@@ -1,4 +1,5 @@
 use Rattle.std.proofs.Common.{◌≡◌, ◌≢◌, ◌<◌, Some, length, inl, inr, ◌+◌, ◌-◌, suc, List, take, drop, None, subst, sym, ap, ◌∙◌, refl, arith}
+use Rattle.std.proofs.lemmas.Result.{on_ok_weaker}
 use Rattle.std.specs.Prelude.{◌==◌, if◌then◌else◌}
 use Rattle.ex_base.specs.declared.geometry.Geometry.{Geometry}
 use Rattle.index_pages.specs.declared.Entry.{Entry}
@@ -7,7 +8,7 @@ use Rattle.file_index.specs.Edits.{take_out}
 use Rattle.file_index.specs.Nodes.{IsPlace, IsWritten, first_key}
 use Rattle.file_index.specs.Damage.{place_in, beside_in, IsWay, IsWayFault, IsEntryFault}
 use Rattle.file_index.proofs.Blame.{way_here}
-use Rattle.file_index.proofs.Ways.{on_same, child_at, beside_at, page_way, page_removal, under_removal, entry_fault}
+use Rattle.file_index.proofs.Ways.{child_at, beside_at, page_way, page_removal, under_removal, entry_fault}
 use Rattle.file_index.proofs.Descent.{on_three}
 use Rattle.file_index.proofs.Lists.{out_local}
 use Rattle.file_index.proofs.Descending.{never_read, row_below, stays_below, written_below}
@@ -122,7 +123,7 @@ returns-then-len-most_entries-clause-way g t c =
     let above : c.args.level - 1 ≢ 0 = λ none. omega (arith, c.requires.level, c.if-level-eq1.false) in
     let child = child_at c.args.key c.args.entries.now.items c.place_of-at.result c.index-child.result.now (c.place_of-at.ensures.is ∙ ap (place_in c.args.key) c.deref.ensures.value)
     (subst (λ (l : List Entry). c.place_of-at.result < length l) c.deref.ensures.value c.place_of-at.ensures.place.inside) c.index-child.ensures in
-    on_same c.write_child.result _ _ (λ written told. subst (λ (e : Entry). IsWay (g.P.Ground.geometry c.args.pages.now) (g.P.Ground.image c.args.pages.now) c.args.file_no c.args.key (c.args.level - 1) (Some e.key) e.page.0) child
+    on_ok_weaker c.write_child.result (λ written told. subst (λ (e : Entry). IsWay (g.P.Ground.geometry c.args.pages.now) (g.P.Ground.image c.args.pages.now) c.args.file_no c.args.key (c.args.level - 1) (Some e.key) e.page.0) child
     (page_way g.P.Ground c.args.pages.now c.entries_at.new.pages c.args.file_no (c.args.level - 1) (Some c.index-child.result.now.key) c.index-child.result.now.page.0 c.args.key c.in-Ok.below.items above c.entries_at.ensures.kept c.in-Ok.ensures.entries
     (λ told_a. record { area = c.in-Ok.ensures.area; named = c.in-Ok.ensures.named told_a }) c.in-Ok-true.ensures.way told)) c.write_child.ensures.written
 

@@ -1,4 +1,5 @@
 use Rattle.std.proofs.Common.{◌∙◌, ℕ, List, refl, sym, ap, subst, arith}
+use Rattle.std.proofs.lemmas.List.{drop_all, drop_more}
 use Rattle.std.specs.Prelude.{slice_index_or}
 use Rattle.ex_base.specs.declared.geometry.Geometry.{Geometry}
 use Rattle.ex_base.specs.Area.{catalog_no}
@@ -6,8 +7,10 @@ use Rattle.page_alloc.specs.UnitSet.{used_at}
 use Rattle.index_pages.specs.IndexPage.{entries_on}
 use Rattle.file_index.specs.Index.{IsNamed}
 use Rattle.file_walk.specs.Indexes.{AddsIndex, AddsPages, IsFreeIndex}
-use Rattle.file_walk.proofs.Lists.{at_some, at_none, on_some, drop_at, drop_past}
-use Rattle.file_walk.proofs.Units.{units_on, keeps_on, same_geometry, tells_on, cause_on}
+use Rattle.file_walk.proofs.Lists.{on_some}
+use Rattle.ex_base.proofs.Keeping.{keeps_on, same_geometry}
+use Rattle.ex_base.proofs.Options.{at_none, at_some}
+use Rattle.file_walk.proofs.Units.{units_on, tells_on, cause_on}
 use Rattle.file_walk.proofs.Walking.{adds_number, adds_index_page, adds_on, not_named, walk_starts, walk_steps, walk_ends, walk_fails, WalkedTo, child_of}
 use Rattle.file_walk.proofs.indexes.+walk_under.Goals as goal
 
@@ -62,7 +65,7 @@ pub returns-then-not-whole-clause-bad : goal.returns-then-not-whole-clause-bad
 returns-then-not-whole-clause-bad g t c = λ e images told free.
     let geo = same_geometry g.P.Ground c.args.pages.now c.loop-entry.pages c.loop-entry.invariant.kept in
     walk_fails (g.P.Ground.geometry c.args.pages.now) images c.args.named c.args.walked.now c.args.units.now c.loop-entry.units c.loop-entry.walked _ _ c.if-named-eq0.false
-    (subst (WalkedTo (g.P.Ground.geometry c.args.pages.now) images c.args.named c.args.walked.now c.loop-entry.walked) (drop_at c.deref-entry-items.result.now c.loop-entry.entry-index (record { key = 0; page = record { 0 = 0 } }) c.loop-entry-test.true) (c.loop-entry.invariant.told images told))
+    (subst (WalkedTo (g.P.Ground.geometry c.args.pages.now) images c.args.named c.args.walked.now c.loop-entry.walked) (drop_more c.deref-entry-items.result.now c.loop-entry.entry-index (record { key = 0; page = record { 0 = 0 } }) c.loop-entry-test.true) (c.loop-entry.invariant.told images told))
     c.loop-entry.invariant.pages
     (λ child. c.in-Ok.ensures.bad c.if-not-whole.true images (tells_on g.P.Ground c.args.pages.now c.loop-entry.pages images c.loop-entry.invariant.kept told)
     (subst (λ (y : Geometry). IsFreeIndex y images (used_at c.loop-entry.units) (child_of c.args.named (slice_index_or c.deref-entry-items.result.now c.loop-entry.entry-index (record { key = 0; page = record { 0 = 0 } })))) (sym geo) child)) free
@@ -83,14 +86,14 @@ loop-entry-preserved g t c =
           (subst (λ (y : Geometry). AddsPages y c.loop-entry.units c.walk_under.new.units c.loop-entry.walked c.walk_under.new.walked) geo (c.in-Ok.ensures.pages c.if-not-whole.false));
       told = λ images told.
           walk_steps (g.P.Ground.geometry c.args.pages.now) images c.args.named c.args.walked.now c.loop-entry.walked c.walk_under.new.walked _ _
-          (subst (WalkedTo (g.P.Ground.geometry c.args.pages.now) images c.args.named c.args.walked.now c.loop-entry.walked) (drop_at c.deref-entry-items.result.now c.loop-entry.entry-index (record { key = 0; page = record { 0 = 0 } }) c.loop-entry-test.true) (c.loop-entry.invariant.told images told))
+          (subst (WalkedTo (g.P.Ground.geometry c.args.pages.now) images c.args.named c.args.walked.now c.loop-entry.walked) (drop_more c.deref-entry-items.result.now c.loop-entry.entry-index (record { key = 0; page = record { 0 = 0 } }) c.loop-entry-test.true) (c.loop-entry.invariant.told images told))
           (subst (λ (y : Geometry). AddsIndex y images (child_of c.args.named (slice_index_or c.deref-entry-items.result.now c.loop-entry.entry-index (record { key = 0; page = record { 0 = 0 } }))) c.loop-entry.walked c.walk_under.new.walked) geo (c.in-Ok.ensures.added c.if-not-whole.false images (tells_on g.P.Ground c.args.pages.now c.loop-entry.pages images c.loop-entry.invariant.kept told)));
     }
 
 pub returns-clause-added : goal.returns-clause-added
 returns-clause-added g t c = λ e images told.
     walk_ends (g.P.Ground.geometry c.args.pages.now) images c.args.named c.args.walked.now c.loop-entry.walked c.if-named-eq0.false (c.if-not-claim.ensures.area refl)
-    (subst (WalkedTo (g.P.Ground.geometry c.args.pages.now) images c.args.named c.args.walked.now c.loop-entry.walked) (drop_past c.deref-entry-items.result.now c.loop-entry.entry-index c.loop-entry-test.false) (c.loop-entry.invariant.told images told))
+    (subst (WalkedTo (g.P.Ground.geometry c.args.pages.now) images c.args.named c.args.walked.now c.loop-entry.walked) (drop_all c.loop-entry.entry-index c.deref-entry-items.result.now c.loop-entry-test.false) (c.loop-entry.invariant.told images told))
 
 pub returns-clause-pages : goal.returns-clause-pages
 returns-clause-pages g t c = λ e. c.loop-entry.invariant.pages

@@ -1,6 +1,6 @@
 use Rattle.std.proofs.Common.{drop}
 use Rattle.ex_base.specs.Ports.{Keeps}
-use Rattle.tree_model.specs.Trees.{Units}
+use Rattle.trees.specs.Trees.{Units}
 use Rattle.file_walk.specs.Indexes.{AddsPages}
 use Rattle.file_walk.specs.Walk.{Tells, KeepsUnits}
 use Rattle.file_walk.proofs.Walking.{WalkedTo}

@@ -1,4 +1,5 @@
 use Rattle.std.proofs.Common.{◌+◌, [], ◌∷◌, List, length, drop, sym, ap, subst, ◌∙◌, arith, length-append}
+use Rattle.std.proofs.lemmas.List.{drop_all}
 use Rattle.std.specs.List.{flat_map, AllByRecursion}
 use Rattle.ex_base.specs.declared.geometry.Geometry.{Geometry}
 use Rattle.ex_base.proofs.Rows.{each-append}
@@ -6,8 +7,10 @@ use Rattle.page_alloc.specs.UnitSet.{used_at}
 use Rattle.object_files.specs.Catalog.{FileEntry}
 use Rattle.object_files.specs.Reads.{entry_of}
 use Rattle.file_walk.specs.Indexes.{IsWalked, IsInArea, AreFreeIndexes, walked_pages}
-use Rattle.file_walk.proofs.Lists.{at_some, at_none, drop_get, drop_past}
-use Rattle.file_walk.proofs.Units.{units_on, keeps_on, same_geometry, tells_on}
+use Rattle.file_walk.proofs.Lists.{drop_get}
+use Rattle.ex_base.proofs.Keeping.{keeps_on, same_geometry}
+use Rattle.ex_base.proofs.Options.{at_none, at_some}
+use Rattle.file_walk.proofs.Units.{units_on, tells_on}
 use Rattle.file_walk.proofs.Walking.{IndexesTo, indexes_step, indexes_end, indexes_fail, counted_on, pages_push}
 use Rattle.file_walk.proofs.indexes.walk_indexes.Goals as goal
 
@@ -45,4 +48,4 @@ pub returns-clause-walked : goal.returns-clause-walked
 returns-clause-walked g c = λ images told.
     indexes_end (g.P.Ground.geometry c.args.pages.now) images c.args.catalog.now.entries c.loop-at.files.items
     (subst (λ (left : List FileEntry). IndexesTo (g.P.Ground.geometry c.args.pages.now) images c.args.catalog.now.entries left c.loop-at.files.items)
-    (drop_past c.args.catalog.now.entries c.loop-at.at (omega (arith, c.loop-at-test.false, c.len-at-end.ensures))) (c.loop-at.invariant.told images told))
+    (drop_all c.loop-at.at c.args.catalog.now.entries (omega (arith, c.loop-at-test.false, c.len-at-end.ensures))) (c.loop-at.invariant.told images told))

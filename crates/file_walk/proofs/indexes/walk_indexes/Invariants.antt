@@ -1,7 +1,7 @@
 use Rattle.std.proofs.Common.{◌≡◌, [], drop, length}
 use Rattle.std.specs.List.{flat_map, AllByRecursion}
 use Rattle.ex_base.specs.Ports.{Keeps}
-use Rattle.tree_model.specs.Trees.{Units}
+use Rattle.trees.specs.Trees.{Units}
 use Rattle.file_walk.specs.Indexes.{IsInArea, walked_pages}
 use Rattle.file_walk.specs.Walk.{Tells, KeepsUnits, CountsUsed}
 use Rattle.file_walk.proofs.Walking.{IndexesTo}

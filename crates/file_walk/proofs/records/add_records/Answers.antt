@@ -1,9 +1,9 @@
 use Rattle.std.proofs.Common.{◌≡◌, ◌<◌, ◌+◌, ℕ, List, [], ◌∷◌, ◌++◌, length, drop, Some, None, ap, sym, ◌∙◌, arith}
+use Rattle.std.proofs.lemmas.List.{drop_all, drop_more}
 use Rattle.std.specs.Prelude.{slice_index_or}
 use Rattle.slotted_pages.specs.FilePage.{Slot}
 use Rattle.volume_model.specs.Parts.{bodies_from}
 use Rattle.file_walk.specs.declared.Found.{Found}
-use Rattle.file_walk.proofs.Lists.{drop_at, drop_past}
 use Rattle.file_walk.proofs.Rows.{rows_start, rows_step, rows_end, rows_bad, rows_as, slot_vacant, slot_live, row_at}
 use Rattle.file_walk.proofs.records.add_records.Goals as goal
 
@@ -11,7 +11,7 @@ pub loop-slot-init : goal.loop-slot-init
 loop-slot-init c = rows_start c.args.records.now.items (bodies_from c.args.page.0 0 c.args.view.now.page.slots)
 
 here : (slots : List Slot) (i : ℕ) (s : Slot) → i < length slots → s ≡ slice_index_or slots i None → drop i slots ≡ s ∷ drop (i + 1) slots
-here slots i s lt is = drop_at slots i None lt ∙ ap (λ (t : Slot). t ∷ drop (i + 1) slots) (sym is)
+here slots i s lt is = drop_more slots i None lt ∙ ap (λ (t : Slot). t ∷ drop (i + 1) slots) (sym is)
 
 pub loop-slot-preserved-in_default : goal.loop-slot-preserved-in_default
 loop-slot-preserved-in_default c =
@@ -39,4 +39,4 @@ pub returns-clause-good : goal.returns-clause-good
 returns-clause-good c = λ e.
     rows_end c.args.records.now.items c.loop-slot.records.items (bodies_from c.args.page.0 0 c.args.view.now.page.slots)
     (rows_as c.args.records.now.items c.loop-slot.records.items (bodies_from c.args.page.0 0 c.args.view.now.page.slots) _ _
-    (ap (bodies_from c.args.page.0 c.loop-slot.slot) (drop_past c.args.view.now.page.slots c.loop-slot.slot (omega (arith, c.loop-slot-test.false, c.slots-slot-end.ensures)))) c.loop-slot.invariant)
+    (ap (bodies_from c.args.page.0 c.loop-slot.slot) (drop_all c.loop-slot.slot c.args.view.now.page.slots (omega (arith, c.loop-slot-test.false, c.slots-slot-end.ensures)))) c.loop-slot.invariant)

@@ -3,7 +3,7 @@ use Rattle.std.specs.List.{AllByRecursion}
 use Rattle.ex_base.specs.Area.{InPageArea}
 use Rattle.ex_base.specs.Ports.{Keeps}
 use Rattle.object_files.specs.Reads.{entry_of}
-use Rattle.tree_model.specs.Trees.{Units}
+use Rattle.trees.specs.Trees.{Units}
 use Rattle.file_walk.specs.Records.{AreRooted}
 use Rattle.file_walk.specs.Walk.{Tells, page_numbers}
 use Rattle.file_walk.proofs.Reading.{PagesTo}

@@ -1,12 +1,16 @@
 use Rattle.std.proofs.Common.{true≢false, sym, ◌+◌, ◌<◌, [], ◌∷◌, length, drop, subst, arith}
+use Rattle.std.proofs.lemmas.List.{drop_all}
 use Rattle.std.specs.List.{AllByRecursion, flat_map}
 use Rattle.object_files.specs.Reads.{entry_of}
 use Rattle.file_walk.specs.Indexes.{IsInArea}
 use Rattle.file_walk.specs.Records.{rows_of}
-use Rattle.file_walk.proofs.Lists.{at_some, at_none, on_some, drop_get, drop_item, drop_past}
+use Rattle.file_walk.proofs.Lists.{on_some, drop_get}
 use Rattle.file_walk.proofs.Reading.{files_as, files_good, files_bad}
 use Rattle.file_walk.proofs.Rows.{rows_end}
-use Rattle.file_walk.proofs.Units.{keeps_on, tells_on}
+use Rattle.ex_base.proofs.Keeping.{keeps_on}
+use Rattle.ex_base.proofs.Options.{at_none, at_some}
+use Rattle.ex_base.proofs.Lists.{drop_item}
+use Rattle.file_walk.proofs.Units.{tells_on}
 use Rattle.file_walk.proofs.records.read_files.Goals as goal
 
 pub returns-in-Ok-None-clause-none : goal.returns-in-Ok-None-clause-none
@@ -50,14 +54,14 @@ loop-at-preserved g c =
 
 pub returns-clause-of_files : goal.returns-clause-of_files
 returns-clause-of_files g c = λ images told.
-    let to = files_as images c.loop-at.good c.args.records.now.items c.loop-at.records.items c.args.catalog.now.entries _ [] c.args.files.now _ [] (drop_past c.args.catalog.now.entries c.loop-at.at (omega (arith, c.loop-at-test.false, c.len-at-end.ensures)))
-    (drop_past c.args.files.now c.loop-at.at (omega (arith, c.loop-at-test.false, c.len-at-end.ensures, c.requires.len))) (c.loop-at.invariant.told images told) in
+    let to = files_as images c.loop-at.good c.args.records.now.items c.loop-at.records.items c.args.catalog.now.entries _ [] c.args.files.now _ [] (drop_all c.loop-at.at c.args.catalog.now.entries (omega (arith, c.loop-at-test.false, c.len-at-end.ensures)))
+    (drop_all c.loop-at.at c.args.files.now (omega (arith, c.loop-at-test.false, c.len-at-end.ensures, c.requires.len))) (c.loop-at.invariant.told images told) in
     to.each tt
 
 pub returns-clause-good : goal.returns-clause-good
 returns-clause-good g c = λ is images told.
-    let to = files_as images c.loop-at.good c.args.records.now.items c.loop-at.records.items c.args.catalog.now.entries _ [] c.args.files.now _ [] (drop_past c.args.catalog.now.entries c.loop-at.at (omega (arith, c.loop-at-test.false, c.len-at-end.ensures)))
-    (drop_past c.args.files.now c.loop-at.at (omega (arith, c.loop-at-test.false, c.len-at-end.ensures, c.requires.len))) (c.loop-at.invariant.told images told) in
+    let to = files_as images c.loop-at.good c.args.records.now.items c.loop-at.records.items c.args.catalog.now.entries _ [] c.args.files.now _ [] (drop_all c.loop-at.at c.args.catalog.now.entries (omega (arith, c.loop-at-test.false, c.len-at-end.ensures)))
+    (drop_all c.loop-at.at c.args.files.now (omega (arith, c.loop-at-test.false, c.len-at-end.ensures, c.requires.len))) (c.loop-at.invariant.told images told) in
     rows_end c.args.records.now.items c.loop-at.records.items (flat_map (rows_of images) c.args.files.now) (to.gathered.yes is)
 
 pub returns-clause-bad : goal.returns-clause-bad

@@ -1,7 +1,7 @@
 use Rattle.std.proofs.Common.{drop, IsTrue}
 use Rattle.std.specs.List.{AllByRecursion}
 use Rattle.ex_base.specs.Ports.{Keeps}
-use Rattle.tree_model.specs.Trees.{Units}
+use Rattle.trees.specs.Trees.{Units}
 use Rattle.file_walk.specs.Indexes.{IsInArea}
 use Rattle.file_walk.specs.Records.{AreRooted}
 use Rattle.file_walk.specs.Walk.{Tells}

@@ -1,9 +1,10 @@
 use Rattle.std.proofs.Common.{◌≡◌, ℕ, List, ◌++◌, ap, sym, ◌∙◌, append_assoc}
 use Rattle.std.specs.List.{flat_map}
 use Rattle.ex_base.specs.declared.names.PageNo.{PageNo}
+use Rattle.ex_base.proofs.Lists.{drop_item}
 use Rattle.file_walk.specs.Indexes.{walked_pages}
 use Rattle.file_walk.specs.Walk.{page_numbers}
-use Rattle.file_walk.proofs.Lists.{drop_item, gather_step, gather_end, numbers-append}
+use Rattle.file_walk.proofs.Lists.{gather_step, gather_end, numbers-append}
 use Rattle.file_walk.proofs.walk.pages_of.Goals as goal
 
 pub loop-file-init : goal.loop-file-init

@@ -1,6 +1,7 @@
 use Rattle.std.proofs.Common.{◌≡◌, ℕ, Bool, List, [], sym, ap, subst, ◌∙◌}
 use Rattle.std.specs.List.{AllZip, flat_map, AllByRecursion}
 use Rattle.ex_base.specs.Area.{catalog_no, InPageArea}
+use Rattle.ex_base.proofs.Options.{at_none, at_some}
 use Rattle.session_views.specs.declared.part.Part.TheVariants.{File, Page, Body}
 use Rattle.session_views.specs.declared.opener.OpenFault.TheVariants.{Disk}
 use Rattle.file_walk.specs.declared.Found.{Found}
@@ -9,7 +10,7 @@ use Rattle.file_walk.specs.Indexes.{walked_pages}
 use Rattle.file_walk.specs.Parts.{IsBadFiles}
 use Rattle.file_walk.specs.Records.{AreFilePages, AreRooted, AddsRows, IsGoodRow, rows_of}
 use Rattle.file_walk.specs.Walk.{IsCause, page_numbers}
-use Rattle.file_walk.proofs.Lists.{at_some, at_none, on_some}
+use Rattle.file_walk.proofs.Lists.{on_some}
 use Rattle.file_walk.proofs.Parts.{bad_file, bad_page, bad_body, has_walked, used_are}
 use Rattle.file_walk.proofs.Walking.{pages_inside}
 use Rattle.file_walk.proofs.Units.{tells_on, cause_on}

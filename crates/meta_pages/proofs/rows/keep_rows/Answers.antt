@@ -1,6 +1,7 @@
 use Rattle.std.proofs.Common.{sym, ◌∙◌, vec_capacity}
-use Rattle.meta_pages.proofs.Keeping.{keeps_image, keeps_gone, room_here, if_no_error, never}
+use Rattle.meta_pages.proofs.Keeping.{keeps_image, keeps_gone, room_here, never}
 use Rattle.meta_pages.proofs.rows.keep_rows.Goals as goal
+use Rattle.ex_base.proofs.Results.{if_no_error}
 
 pub loop-page-preserved-else-is_err : goal.loop-page-preserved-else-is_err
 loop-page-preserved-else-is_err c =

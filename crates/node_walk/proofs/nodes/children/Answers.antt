@@ -1,5 +1,5 @@
 use Rattle.std.proofs.Common.{arith, ◌+◌, sym, subst}
-use Rattle.tree_rows.proofs.Parts.{ChildrenSoFar, rise_at, next_child, all_children}
+use Rattle.trees.proofs.Parts.{ChildrenSoFar, rise_at, next_child, all_children}
 use Rattle.node_walk.proofs.nodes.children.Goals as goal
 
 pub overflow_sub-part : goal.overflow_sub-part

@@ -1,4 +1,4 @@
-use Rattle.tree_rows.proofs.Parts.{ChildrenSoFar}
+use Rattle.trees.proofs.Parts.{ChildrenSoFar}
 use Rattle.node_walk.proofs.nodes.children.Given as goal
 
 abbrev pub invariant-loop-index : goal.invariant-loop-index

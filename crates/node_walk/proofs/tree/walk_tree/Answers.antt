@@ -3,17 +3,17 @@ use Rattle.std.specs.Prelude.{Contains}
 use Rattle.std.specs.HashMap.{get}
 use Rattle.std.proofs.lemmas.List.{append-nil}
 use Rattle.page_alloc.specs.UnitSet.{used_at}
-use Rattle.tree_model.specs.Trees.{units_on}
+use Rattle.trees.specs.Trees.{units_on}
 use Rattle.node_walk.specs.declared.nodes.Met.{Met}
 use Rattle.node_walk.specs.TreesNamed.{AreFree}
 use Rattle.node_walk.specs.Walk.{Notes}
 use Rattle.node_walk.proofs.Facts.{handed_err, within, is_within}
-use Rattle.node_walk.proofs.Lists.{each_of}
 use Rattle.node_walk.proofs.Whole.{whole_named, whole_free, whole_used, whole_full, whole_thin}
 use Rattle.node_walk.proofs.Balance.{root_least}
 use Rattle.node_walk.proofs.Roots.{tree_of, named_root, root_named, units_root, balance_root, root_balance}
 use Rattle.node_walk.proofs.tree.walk_tree.Goals as goal
 use Rattle.node_walk.proofs.tree.walk_tree.Goals.{then-balanced, else-balanced}
+use Rattle.ex_base.proofs.Each.{each_of}
 
 -- no unit has a note
 none_noted : (known : Notes) → ((p : ℕ) → known p ≡ None) → (p : ℕ) (met : Met) → known p ≡ Some met → ⊥

@@ -1,8 +1,8 @@
 use Rattle.std.proofs.Common.{◌-◌, List, [], ◌∷◌, sym, subst, ◌∙◌, get_or, take_all, nat_eq, true≢false, arith}
 use Rattle.std.specs.HashMap.{get}
 use Rattle.page_alloc.specs.UnitSet.{used_at}
-use Rattle.tree_rows.specs.declared.rows.Part.{Part}
-use Rattle.tree_rows.proofs.Reading.{no_part}
+use Rattle.trees.specs.declared.rows.Part.{Part}
+use Rattle.trees.proofs.Reading.{no_part}
 use Rattle.node_walk.specs.declared.least.Least.{Least}
 use Rattle.node_walk.specs.Walk.{Walked, Meets, level_below, below_least}
 use Rattle.node_walk.proofs.Facts.{handed_err, BothOf, both_then, both_else, both_swapped}

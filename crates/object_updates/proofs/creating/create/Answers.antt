@@ -1,13 +1,12 @@
 use Rattle.std.proofs.Common.{ap, subst, sym, ◌∙◌}
-use Rattle.std.proofs.lemmas.Result.{err_from_is_err_and}
+use Rattle.std.proofs.lemmas.Result.{err_from_is_err_and, IfErr-weaker}
 use Rattle.file_bodies.specs.declared.placing.Room.{Room}
 use Rattle.file_bodies.specs.Places.{IsRoom}
-use Rattle.file_bodies.proofs.Pages.{if_err}
-use Rattle.versions.proofs.Results.{if_ok_both}
 use Rattle.volume_edits.specs.Ported.{index_named}
 use Rattle.volume_edits.proofs.Contents.{has_catalog}
 use Rattle.object_updates.proofs.Making.{any_room, becomes, its_file}
 use Rattle.object_updates.proofs.creating.create.Goals as goal
+use Rattle.ex_base.proofs.Results.{if_ok_both}
 
 pub returns-in_err-count_number-clause-updates : goal.returns-in_err-count_number-clause-updates
 returns-in_err-count_number-clause-updates g c = λ name.
@@ -29,7 +28,7 @@ returns-clause-updates g c = λ name.
           becomes G old mid records v vol name c.args.file_no c.args.unique asks writes new oid number (G.leads_geometry mid new c.create.ensures.leads) apart in_use
           (creates (G.leads_told old mid c.count_number.ensures.leads told) (index_named asks.entry) (its_file G old mid records v vol name c.args.file_no c.args.unique asks writes) (asks.number ∙ sym (ap (λ (r : Room). r.file_no) c.of_file-room.ensures))
           (subst (IsRoom G mid (index_named asks.entry)) (sym c.of_file-room.ensures) (any_room G mid (index_named asks.entry) c.args.file_no)))) c.create.ensures.created c.create.ensures.number;
-      sound = if_err c.create.result _ _ (λ fault never damage records v told vol asks room.
+      sound = IfErr-weaker c.create.result _ _ (λ fault never damage records v told vol asks room.
           let writes = c.in_ok-count_number.ensures.counts told in
           never damage (G.leads_told old mid c.count_number.ensures.leads told) (index_named asks.entry) (its_file G old mid records v vol name c.args.file_no c.args.unique asks writes) (asks.number ∙ sym (ap (λ (r : Room). r.file_no) c.of_file-room.ensures))) c.create.ensures.sound;
     }

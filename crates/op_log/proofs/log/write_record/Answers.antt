@@ -1,7 +1,7 @@
-use Rattle.std.proofs.Common.{length, ◌+◌, ◌++◌, ◌∷◌, []}
+use Rattle.std.proofs.Common.{length, ◌+◌, ◌++◌, ◌∷◌, [], arith}
 use Rattle.std.proofs.lemmas.Result.{on_ok_weaker}
 use Rattle.disk_model.specs.Changes.{InRange}
-use Rattle.disk_model.specs.Runs.{leaves_wider}
+use Rattle.disk_model.specs.Runs.{leaves_wider, calls_trans, at_most_trans, at_most_wider}
 use Rattle.op_log.specs.Log.{AddsHere, SaysEither}
 use Rattle.op_log.proofs.Moments.{first_leaves, second_leaves, adds_says, then_says, first_changes, both_changes}
 use Rattle.op_log.proofs.log.write_record.Goals as goal
@@ -47,3 +47,12 @@ returns-clause-says g c =
     then_says (g.D.World.outside c.args.disk.now) (g.D.World.outside c.write_settled.new.disk) (g.D.World.outside c.write_settled-2.new.disk) c.args.gate c.args.bytes.now adds
     (g.D.World.is_world c.args.disk.now) large says c.in_ok-write_settled.ensures.written written)
     c.write_settled-2.ensures.written
+
+pub returns-in_err-write_settled-clause-at_most_four : goal.returns-in_err-write_settled-clause-at_most_four
+returns-in_err-write_settled-clause-at_most_four g c = at_most_wider 4 (omega arith) c.write_settled.ensures.at_most_twice
+
+pub returns-clause-at_most_four : goal.returns-clause-at_most_four
+returns-clause-at_most_four g c = at_most_trans c.write_settled.ensures.at_most_twice c.write_settled-2.ensures.at_most_twice
+
+pub returns-clause-four : goal.returns-clause-four
+returns-clause-four g c = on_ok_weaker c.write_settled-2.result (λ twice. calls_trans c.in_ok-write_settled.ensures.twice twice) c.write_settled-2.ensures.twice

@@ -2,10 +2,11 @@ use Rattle.std.proofs.Common.{◌<◌, ◌+◌, List, take, sym, subst, arith}
 use Rattle.std.proofs.lemmas.List.{take_all, take_more}
 use Rattle.ex_base.specs.Area.{area_end}
 use Rattle.ex_base.specs.declared.names.PageNo.{PageNo}
+use Rattle.ex_base.proofs.Each.{each_at}
 use Rattle.file_walk.specs.Walk.{page_numbers}
 use Rattle.volume_port.specs.Logged.{LoggedSet}
 use Rattle.restart.specs.Content.{AreHeld}
-use Rattle.restart.proofs.Adopting.{AreAdopted, adopted_next, each_at, none_adopted}
+use Rattle.restart.proofs.Adopting.{AreAdopted, adopted_next, none_adopted}
 use Rattle.restart.proofs.content.logged_pages.Goals as goal
 
 abbrev none : PageNo

@@ -11,13 +11,14 @@ use Rattle.file_walk.specs.Walk.{page_numbers}
 use Rattle.node_walk.specs.TreesNamed.{AreBalanced, AreNamed, FailsFirst, ShowsPages, UsesTrees}
 use Rattle.page_alloc.specs.UnitSet.{IsFitting, used_at}
 use Rattle.session_views.specs.declared.part.Part.TheVariants.{Unique}
-use Rattle.tree_model.specs.Trees.{Units as Bytes}
+use Rattle.trees.specs.Trees.{Units as Bytes}
 use Rattle.restart.specs.declared.content.Reached.{Reached}
 use Rattle.restart.specs.Content.{AreHeld, IsFirstBad, roots_found}
 use Rattle.restart.proofs.FilesTested.{UsedAre, files_bad, files_reached, trees_bad, unique_bad, used_are}
 use Rattle.restart.proofs.Superblocks.{fault_of, same_fault}
 use Rattle.restart.proofs.UnitsNamed.{counted}
-use Rattle.restart.proofs.PortKept.{inside_of, keeps_on, shows_on, tells_of}
+use Rattle.ex_base.proofs.Keeping.{keeps_on}
+use Rattle.restart.proofs.PortKept.{inside_of, shows_on, tells_of}
 use Rattle.restart.proofs.content.read_content.Given as given
 use Rattle.restart.proofs.content.read_content.Goals as goal
 use Rattle.restart.proofs.content.read_content.Goals.{After-walk_trees}

@@ -6,11 +6,12 @@ use Rattle.runs.specs.Script.{TakenBy}
 use Rattle.runs.specs.Stops.{CausedBy, IsOpeningStop, IsSessionStop, IsSoundStop}
 use Rattle.runs.specs.declared.stopped.Stopped.{Stopped}
 use Rattle.runs.specs.declared.stopped.Stopped.TheVariants.{Memory, ScriptLong}
-use Rattle.runs.proofs.Stopping.{opening_stop, opening_sound, opening_caused, opening_short, session_part, session_short, bad_fault, caused_later, memory_if, part_of_whole, on_ok_from, if_err_from}
+use Rattle.runs.proofs.Stopping.{opening_stop, opening_sound, opening_caused, opening_short, session_part, session_short, bad_fault, caused_later, memory_if, part_of_whole, if_err_from}
 use Rattle.runs.proofs.Taking.{told_script}
 use Rattle.runs.proofs.Going.{cut_ending}
 use Rattle.runs.proofs.Whole.{leaves_table, leaves_bad, unopened, opens_of, stepped_whole, stepped_cut}
 use Rattle.runs.proofs.run.run_volume.Goals as goal
+use Rattle.ex_base.proofs.Results.{on_ok_from}
 
 -- ---- no memory was there for lines
 

@@ -1,5 +1,5 @@
 use Rattle.std.proofs.Common.{◌≡◌, take}
-use Rattle.tree_rows.specs.Rows.{row_size}
+use Rattle.trees.specs.Rows.{row_size}
 use Rattle.tree_delete.proofs.cut.bytes_of.Given as goal
 
 abbrev pub invariant-loop-part : goal.invariant-loop-part

@@ -1,7 +1,7 @@
 use Rattle.std.proofs.Common.{◌≡◌, ◌⊎◌, ℕ, arith, ap, ◌∙◌, max, refl, ◌-◌, inl, inr, take, drop, ◌++◌, [], List}
 use Rattle.std.proofs.lemmas.Bool.{cases_lt}
-use Rattle.tree_rows.specs.declared.rows.Part.{Part}
-use Rattle.tree_rows.specs.Rows.{row_size}
+use Rattle.trees.specs.declared.rows.Part.{Part}
+use Rattle.trees.specs.Rows.{row_size}
 use Rattle.tree_delete.proofs.CutLaws.{cut_is, order_is, gone_fits, piece_most, no_more, rest_is, right_fits}
 use Rattle.tree_delete.proofs.cut.cut_through.Goals as goal
 

@@ -1,5 +1,5 @@
 use Rattle.std.proofs.Common.{◌≡◌, ◌+◌, take}
-use Rattle.tree_rows.specs.Rows.{row_size}
+use Rattle.trees.specs.Rows.{row_size}
 use Rattle.tree_delete.proofs.cut.place.Given as goal
 
 -- the position lies behind each tree so far

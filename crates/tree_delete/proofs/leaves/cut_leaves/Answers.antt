@@ -2,16 +2,16 @@ use Rattle.std.proofs.Common.{◌/◌, arith, ℕ, ◌⊎◌, ◌+◌, ◌<◌, 
 use Rattle.std.specs.List.{AllByRecursion}
 use Rattle.ex_base.specs.Edits.{deleted}
 use Rattle.ex_base.specs.Sizes.{leaf_bytes}
-use Rattle.tree_rows.specs.declared.rows.Part.{Part}
-use Rattle.tree_rows.specs.Rows.{row_size, row_bytes}
-use Rattle.tree_steps.specs.Made.{Holds}
+use Rattle.trees.specs.declared.rows.Part.{Part}
+use Rattle.trees.specs.Rows.{row_size, row_bytes}
+use Rattle.trees.specs.Made.{Holds}
 use Rattle.tree_delete.specs.Leaves.{IsWider, AreEven}
-use Rattle.tree_rows.specs.Damage.{IsSoundWay, IsWalkFault}
+use Rattle.trees.specs.Damage.{IsSoundWay, IsWalkFault}
 use Rattle.ex_base.specs.Area.{NamesLeaf}
+use Rattle.ex_base.proofs.Results.{if_err_handed}
 use Rattle.tree_delete.proofs.Ends.{leaf_ends}
 use Rattle.tree_delete.specs.Cuts.{all_of}
 use Rattle.tree_delete.proofs.Faults.{walk_run, walk_leaves}
-use Rattle.tree_delete.proofs.Results.{err_on}
 use Rattle.tree_delete.proofs.LeafLaws.{run_most, run_fits, leaves_left_of, leaves_roots, leaves_left}
 use Rattle.tree_delete.specs.Beside.{TakesNear}
 use Rattle.tree_delete.proofs.Beside.{beside_leaf}
@@ -58,14 +58,14 @@ pub returns-clause-left : goal.returns-clause-left
 returns-clause-left g c = λ told holds.
     leaves_left g.B.Ground c.args.blocks.now c.write_leaves.new.blocks c.args.cut c.in_ok-cut.cut c.in_ok-made.made.items c.in_ok-joined.field-0.items c.in_ok-lengths.lengths.items c.requires.ready told (subst (λ k. IsWider k c.args.cut c.in_ok-cut.cut) c.requires.buffer c.in_ok-cut.ensures.wider) c.requires.cut_at.inside
     (subst (λ k. AreEven k (row_size c.in_ok-cut.cut.run.items - c.in_ok-cut.cut.len) c.in_ok-lengths.lengths.items) c.requires.buffer (subst (λ n. AreEven (length c.args.buffer.now) n c.in_ok-lengths.lengths.items) (omega (arith, c.bytes_of.ensures, ap row_size c.deref.ensures.value)) c.in_ok-lengths.ensures))
-    c.in_ok-made.ensures.extends (c.in_ok-made.ensures.sizes ∙ c.deref-3.ensures.value) c.in_ok-made.ensures.named c.in_ok-made.ensures.took
+    c.in_ok-made.ensures.extends (c.in_ok-made.ensures.sizes ∙ c.deref-3.ensures.value) c.in_ok-made.ensures.named c.in_ok-made.ensures.took c.in_ok-made.ensures.counts
     (λ held. c.in_ok-made.ensures.bytes told (subst (Holds g.B.Ground c.args.blocks.now 0) (sym c.deref-2.ensures.value) held) ∙ ap (λ (r : List Part). deleted (row_bytes (g.B.Ground.unit c.args.blocks.now) 0 r) c.in_ok-cut.cut.at c.in_ok-cut.cut.len) c.deref-2.ensures.value)
     (c.in_ok-joined.ensures ∙ ap (λ (xs : List Part). xs ++ (c.deref-5.result.now ++ c.deref-6.result.now)) c.deref-4.ensures.value ∙ ap (λ (xs : List Part). c.in_ok-cut.cut.left.items ++ (xs ++ c.deref-6.result.now)) c.deref-5.ensures.value ∙ ap (λ (xs : List Part). c.in_ok-cut.cut.left.items ++ (c.in_ok-made.made.items ++ xs)) c.deref-6.ensures.value)
     holds
 
 pub returns-in_err-made-clause-fault : goal.returns-in_err-made-clause-fault
 returns-in_err-made-clause-fault g c =
-    err_on c.from_residual-in_err-made.result _ c.in_err-made.field-0.0 c.from_residual-in_err-made.ensures.1
+    if_err_handed c.from_residual-in_err-made.result _ c.in_err-made.field-0.0 c.from_residual-in_err-made.ensures.1
     (λ told least. walk_leaves (g.B.Ground.geometry c.args.blocks.now) (g.B.Ground.unit c.args.blocks.now) 0 least (all_of c.args.cut) c.in_err-made.field-0.0
     (subst (λ r. IsWalkFault (g.B.Ground.geometry c.args.blocks.now) (g.B.Ground.unit c.args.blocks.now) 0 0 r c.in_err-made.field-0.0) c.in_ok-cut.ensures.wider.row
     (walk_run (g.B.Ground.geometry c.args.blocks.now) (g.B.Ground.unit c.args.blocks.now) 0 0 c.in_ok-cut.cut c.in_err-made.field-0.0 (subst (λ r. IsWalkFault (g.B.Ground.geometry c.args.blocks.now) (g.B.Ground.unit c.args.blocks.now) 0 0 r c.in_err-made.field-0.0) c.deref-2.ensures.value (c.in_err-made.ensures.fault told)))))

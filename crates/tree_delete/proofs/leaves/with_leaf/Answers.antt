@@ -1,7 +1,7 @@
 use Rattle.std.proofs.Common.{arith, rules, ap, refl, sym, ◌≤◌, ◌∙◌, ◌++◌, ◌∷◌, [], List, inl, inr, length, true≢false}
 use Rattle.std.proofs.lemmas.List.{append-nil}
-use Rattle.tree_rows.specs.declared.rows.Part.{Part}
-use Rattle.tree_rows.specs.Rows.{row_size}
+use Rattle.trees.specs.declared.rows.Part.{Part}
+use Rattle.trees.specs.Rows.{row_size}
 use Rattle.tree_delete.specs.Beside.{takes_none, takes_before, takes_behind}
 use Rattle.std.specs.Vec.{vec_len}
 use Rattle.tree_delete.proofs.Beside.{none_there}

@@ -1,8 +1,8 @@
 use Rattle.std.proofs.Common.{arith, take_all, ◌≡◌, [], sym, subst}
-use Rattle.tree_rows.proofs.Blame.{walk_back, walk_node}
+use Rattle.trees.proofs.Blame.{walk_back, walk_node}
 use Rattle.ex_base.specs.Area.{NamesLeaf}
-use Rattle.tree_rows.specs.Damage.{IsSoundWay}
-use Rattle.tree_delete.proofs.Results.{err_on}
+use Rattle.ex_base.proofs.Results.{if_err_handed}
+use Rattle.trees.specs.Damage.{IsSoundWay}
 use Rattle.tree_delete.proofs.NodeLaws.{OpenedSoFar, opened_start, opened_more}
 use Rattle.tree_delete.specs.Beside.{AreNodesAt, children_on}
 use Rattle.tree_delete.proofs.nodes.children_of.Goals as goal
@@ -19,7 +19,7 @@ loop-part-preserved g c =
 
 pub returns-in_err-children-clause-fault : goal.returns-in_err-children-clause-fault
 returns-in_err-children-clause-fault g c =
-    err_on c.from_residual.result _ c.in_err-children.field-0.0 c.from_residual.ensures.1
+    if_err_handed c.from_residual.result _ c.in_err-children.field-0.0 c.from_residual.ensures.1
     (walk_back g.B.Ground c.args.blocks.now c.loop-part.blocks c.args.level c.args.least c.args.row.now c.in_err-children.field-0.0 c.loop-part.invariant.kept
     (λ told. walk_node (g.B.Ground.geometry c.loop-part.blocks) (g.B.Ground.unit c.loop-part.blocks) c.args.level c.args.least c.loop-part.part-index c.args.row.now c.in_err-children.field-0.0 (λ none. omega (arith, none, c.requires.level)) c.loop-part-test.true (c.in_err-children.ensures.fault told)))
 

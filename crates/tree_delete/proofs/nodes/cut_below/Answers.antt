@@ -1,12 +1,12 @@
 use Rattle.std.proofs.Common.{◌∙◌, ◌+◌, ◌-◌, ◌*◌, ◌≤◌, suc, length, ap, sym, subst, arith}
 use Rattle.std.proofs.Math.Nat.{mul-le-mul_right}
 use Rattle.count_nodes.specs.Split.{most_pairs}
-use Rattle.tree_rows.specs.Rows.{row_size}
-use Rattle.tree_steps.specs.Made.{Holds}
+use Rattle.trees.specs.Rows.{row_size}
+use Rattle.trees.specs.Made.{Holds}
 use Rattle.tree_delete.specs.Cuts.{IsOpened, IsCutOf}
 use Rattle.tree_delete.proofs.CutLaws.{size_cut, length_cut}
 use Rattle.tree_delete.proofs.LeafLaws.{run_most}
-use Rattle.tree_rows.specs.Damage.{IsSoundWay, IsWalkFault}
+use Rattle.trees.specs.Damage.{IsSoundWay, IsWalkFault}
 use Rattle.ex_base.specs.Area.{NamesLeaf}
 use Rattle.tree_delete.proofs.Ends.{ends_of_cut}
 use Rattle.tree_delete.proofs.Faults.{walk_cut}

@@ -1,16 +1,17 @@
 use Rattle.std.proofs.Common.{true≢false, inl, inr, ◌-◌, ◌≤◌, suc, List, [], ◌∷◌, ◌++◌, length, ap, sym, subst, ◌∙◌, arith}
 use Rattle.std.proofs.lemmas.List.{append-nil}
 use Rattle.ex_base.specs.declared.geometry.Geometry.{Geometry}
-use Rattle.tree_rows.specs.declared.rows.Part.{Part}
-use Rattle.tree_steps.specs.Made.{Holds}
+use Rattle.ex_base.proofs.Results.{if_err_handed}
+use Rattle.trees.specs.declared.rows.Part.{Part}
+use Rattle.trees.specs.Made.{Holds}
 use Rattle.tree_delete.specs.Cuts.{all_of, AreChildren, HasSoundEnds}
-use Rattle.tree_delete.proofs.Growing.{holds_split}
+use Rattle.trees.proofs.Growing.{holds_split}
 use Rattle.tree_delete.proofs.LeafLaws.{first_gone}
-use Rattle.tree_delete.proofs.NodeLaws.{holds_kept, opened_back}
-use Rattle.tree_rows.specs.Damage.{IsNodeAt, IsWalkFault}
-use Rattle.tree_rows.proofs.Blame.{walk_back}
+use Rattle.trees.proofs.Growing.{holds_kept}
+use Rattle.tree_delete.proofs.NodeLaws.{opened_back}
+use Rattle.trees.specs.Damage.{IsNodeAt, IsWalkFault}
+use Rattle.trees.proofs.Blame.{walk_back}
 use Rattle.tree_delete.proofs.Faults.{walk_run, walk_either, walks_back, walk_near_left, walk_near_right}
-use Rattle.tree_delete.proofs.Results.{err_on}
 use Rattle.tree_delete.proofs.OpenLaws.{all_left, all_right, opens_here, opens_left, opens_right, opened_here, opened_left, opened_right}
 use Rattle.std.specs.Vec.{vec_len}
 use Rattle.tree_delete.specs.Beside.{enough, widens_before, widens_behind, AreNodesAt, IsSoundBeside}
@@ -102,13 +103,13 @@ returns-clause-walk g c = λ told fault h.
 
 pub returns-in_err-below-clause-fault : goal.returns-in_err-below-clause-fault
 returns-in_err-below-clause-fault g c =
-    err_on c.from_residual.result _ c.in_err-below.field-0.0 c.from_residual.ensures.1
+    if_err_handed c.from_residual.result _ c.in_err-below.field-0.0 c.from_residual.ensures.1
     (λ told. walk_run (g.B.Ground.geometry c.args.blocks.now) (g.B.Ground.unit c.args.blocks.now) c.args.level (g.B.Ground.geometry c.args.blocks.now).fan c.args.cut c.in_err-below.field-0.0
     (subst (λ k. IsWalkFault (g.B.Ground.geometry c.args.blocks.now) (g.B.Ground.unit c.args.blocks.now) c.args.level k c.args.cut.run.items c.in_err-below.field-0.0) (ap (λ (k : Geometry). k.fan) c.geometry-fan.ensures) (c.in_err-below.ensures.fault told)))
 
 pub returns-in_err-row-clause-fault : goal.returns-in_err-row-clause-fault
 returns-in_err-row-clause-fault g c =
-    err_on c.from_residual-in_err-row.result _ c.in_err-row.field-0.0 c.from_residual-in_err-row.ensures.1
+    if_err_handed c.from_residual-in_err-row.result _ c.in_err-row.field-0.0 c.from_residual-in_err-row.ensures.1
     (λ told. walk_near_left (g.B.Ground.geometry c.args.blocks.now) (g.B.Ground.unit c.args.blocks.now) c.args.level (g.B.Ground.geometry c.args.blocks.now).fan c.args.cut c.pop.new.self.items c.in-Some.near c.in_err-row.field-0.0 c.in-Some.ensures.items
     (subst (λ k. IsWalkFault (g.B.Ground.geometry c.args.blocks.now) (g.B.Ground.unit c.args.blocks.now) c.args.level k (c.in-Some.near ∷ []) c.in_err-row.field-0.0) (ap (λ (k : Geometry). k.fan) c.geometry-fan.ensures)
     (walk_back g.B.Ground c.args.blocks.now c.cut_below.new.blocks c.args.level c.geometry-fan.result.fan (c.in-Some.near ∷ []) c.in_err-row.field-0.0 c.in_ok-below.ensures.kept c.in_err-row.ensures.fault told)))
@@ -117,7 +118,7 @@ pub returns-in_err-row-2-clause-fault : goal.returns-in_err-row-2-clause-fault
 returns-in_err-row-2-clause-fault g c =
     let some : 1 ≤ length c.args.cut.right.items = omega (arith, c.remove-near.ensures.len, c.args.cut.right.ok.0) in
     let right = first_gone c.args.cut.right.items c.remove-near.new.self.items c.remove-near.result some c.remove-near.ensures.value c.remove-near.ensures.items in
-    err_on c.from_residual-in_err-row-2.result _ c.in_err-row-2.field-0.0 c.from_residual-in_err-row-2.ensures.1
+    if_err_handed c.from_residual-in_err-row-2.result _ c.in_err-row-2.field-0.0 c.from_residual-in_err-row-2.ensures.1
     (λ told. walk_near_right (g.B.Ground.geometry c.args.blocks.now) (g.B.Ground.unit c.args.blocks.now) c.args.level (g.B.Ground.geometry c.args.blocks.now).fan c.args.cut c.remove-near.new.self.items c.remove-near.result c.in_err-row-2.field-0.0 right
     (subst (λ k. IsWalkFault (g.B.Ground.geometry c.args.blocks.now) (g.B.Ground.unit c.args.blocks.now) c.args.level k (c.remove-near.result ∷ []) c.in_err-row-2.field-0.0) (ap (λ (k : Geometry). k.fan) c.geometry-fan.ensures)
     (walk_back g.B.Ground c.args.blocks.now c.cut_below.new.blocks c.args.level c.geometry-fan.result.fan (c.remove-near.result ∷ []) c.in_err-row-2.field-0.0 c.in_ok-below.ensures.kept c.in_err-row-2.ensures.fault told)))

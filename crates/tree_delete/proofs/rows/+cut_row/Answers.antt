@@ -2,30 +2,31 @@ use Rattle.std.proofs.Common.{arith, rules, ℕ, List, [], ◌≡◌, ◌≤◌,
 use Rattle.std.specs.Vec.{vec_len}
 use Rattle.std.proofs.lemmas.Bool.{eqb-true}
 use Rattle.std.proofs.lemmas.List.{length-take-le}
+use Rattle.std.proofs.lemmas.Result.{IfOk-at_ok, on_ok_weaker}
 use Rattle.ex_base.specs.declared.geometry.Geometry.{Geometry}
 use Rattle.ex_base.specs.declared.names.Area.{Area}
 use Rattle.ex_base.specs.declared.names.Area.TheVariants.{Page, Segment}
 use Rattle.ex_base.specs.Sizes.{leaf_bytes}
+use Rattle.ex_base.proofs.Results.{if_err_handed, if_ok_from}
+use Rattle.ex_base.proofs.Geometries.{page_le}
 use Rattle.count_nodes.specs.Split.{nodes_for}
-use Rattle.tree_rows.specs.declared.rows.Part.{Part}
-use Rattle.tree_rows.specs.Rows.{row_size}
-use Rattle.tree_steps.proofs.Laid.{extends_on, extends_kept}
+use Rattle.trees.specs.declared.rows.Part.{Part}
+use Rattle.trees.specs.Rows.{row_size}
+use Rattle.trees.proofs.Laid.{extends_on, extends_kept}
 use Rattle.tree_delete.specs.Cuts.{all_of, sides, HasSoundEnds, IsCutAt}
-use Rattle.tree_delete.proofs.Paid.{some_node}
-use Rattle.tree_rows.proofs.Reading.{on_ok}
+use Rattle.trees.proofs.Paid.{some_node}
 use Rattle.tree_delete.proofs.Ends.{ends_kept, ends_low, ends_nowhere}
-use Rattle.tree_delete.proofs.Results.{if_ok_on, ok_of, err_on}
-use Rattle.tree_rows.specs.Damage.{IsWalkFault}
-use Rattle.tree_rows.proofs.Blame.{walk_back}
-use Rattle.tree_delete.proofs.RowLaws.{empty_row, no_size, left_at, whole_left, tree_left, node_left_of, page_le, made_few}
+use Rattle.trees.specs.Damage.{IsWalkFault}
+use Rattle.trees.proofs.Blame.{walk_back}
+use Rattle.tree_delete.proofs.RowLaws.{empty_row, no_size, left_at, whole_left, tree_left, node_left_of, made_few}
 use Rattle.tree_delete.specs.Beside.{OpensSound}
 use Rattle.tree_delete.proofs.Beside.{beside_low, beside_nowhere, opens_kept}
 use Rattle.tree_delete.proofs.rows.+cut_row.Goals as goal
 
 pub returns-then-level-eq0-clause-left : goal.returns-then-level-eq0-clause-left
 returns-then-level-eq0-clause-left g t c =
-    if_ok_on c.cut_leaves.result _ (λ made is told l same holds.
-    left_at g.B.Ground c.args.blocks.now c.cut_leaves.new.blocks c.args.level l 0 c.args.cut made.items c.if-level-eq0.true same (ok_of c.cut_leaves.result made _ is c.cut_leaves.ensures.left told) holds)
+    if_ok_from c.cut_leaves.result _ (λ made is told l same holds.
+    left_at g.B.Ground c.args.blocks.now c.cut_leaves.new.blocks c.args.level l 0 c.args.cut made.items c.if-level-eq0.true same (IfOk-at_ok _ is c.cut_leaves.ensures.left told) holds)
 
 pub returns-then-is_empty-clause-left : goal.returns-then-is_empty-clause-left
 returns-then-is_empty-clause-left g t c = λ told l same holds.
@@ -103,13 +104,13 @@ pub returns-clause-left : goal.returns-clause-left
 returns-clause-left g t c = λ told l same holds.
     tree_left g.B.Ground c.args.blocks.now c.open.new.blocks c.cut_row.new.blocks c.nodes_over.new.blocks c.args.level l c.args.cut c.in_ok-left.field-0 c.in_ok-kept.kept.items c.deref-2.result.now c.in_ok-made.made.items c.in_ok-joined-2.field-0.items
     told same c.if-level-eq0.false c.in_ok-left.ensures.kept c.in_ok-kept.ensures.extends c.in_ok-made.ensures.extends c.in_ok-left.ensures.opened c.in_ok-kept.ensures.left
-    (omega (arith, c.in_ok-kept.ensures.left_of.many, c.in_ok-left.ensures.counted.enough)) (omega (arith, c.in_ok-left.ensures.counted.enough, (g.B.Ground.geometry c.args.blocks.now).two)) c.deref-2.ensures.value c.in_ok-made.ensures.took c.in_ok-made.ensures.built
+    (omega (arith, c.in_ok-kept.ensures.left_of.many, c.in_ok-left.ensures.counted.enough)) (omega (arith, c.in_ok-left.ensures.counted.enough, (g.B.Ground.geometry c.args.blocks.now).two)) c.deref-2.ensures.value c.in_ok-made.ensures.took c.in_ok-made.ensures.built c.in_ok-made.ensures.counts
     (c.in_ok-joined-2.ensures ∙ ap (λ (xs : List Part). xs ++ (c.deref-4.result.now ++ c.deref-5.result.now)) c.deref-3.ensures.value ∙ ap (λ (xs : List Part). c.in_ok-left.field-0.left.items ++ (xs ++ c.deref-5.result.now)) c.deref-4.ensures.value ∙ ap (λ (xs : List Part). c.in_ok-left.field-0.left.items ++ (c.in_ok-made.made.items ++ xs)) c.deref-5.ensures.value)
     holds
 
 pub returns-in_err-kept-clause-fault : goal.returns-in_err-kept-clause-fault
 returns-in_err-kept-clause-fault g t c =
-    err_on c.from_residual-in_err-kept.result _ c.in_err-kept.field-0.0 c.from_residual-in_err-kept.ensures.1
+    if_err_handed c.from_residual-in_err-kept.result _ c.in_err-kept.field-0.0 c.from_residual-in_err-kept.ensures.1
     (λ told least only. subst (λ k. IsWalkFault (g.B.Ground.geometry c.args.blocks.now) (g.B.Ground.unit c.args.blocks.now) c.args.level k (all_of c.args.cut) c.in_err-kept.field-0.0) (sym (only (omega (arith, c.if-level-eq0.false))))
     (c.in_ok-left.ensures.walk told c.in_err-kept.field-0.0
     (walk_back g.B.Ground c.args.blocks.now c.open.new.blocks (c.args.level - 1) (g.B.Ground.geometry c.args.blocks.now).fan (all_of c.in_ok-left.field-0.below) c.in_err-kept.field-0.0 c.in_ok-left.ensures.kept
@@ -117,7 +118,7 @@ returns-in_err-kept-clause-fault g t c =
 
 pub returns-then-level-eq0-clause-way : goal.returns-then-level-eq0-clause-way
 returns-then-level-eq0-clause-way g t c =
-    on_ok c.cut_leaves.result _ _ (λ way told least only. ends_low (g.B.Ground.geometry c.args.blocks.now) (g.B.Ground.unit c.args.blocks.now) c.args.level 0 least c.args.cut c.if-level-eq0.true (way told)) c.cut_leaves.ensures.way
+    on_ok_weaker c.cut_leaves.result (λ way told least only. ends_low (g.B.Ground.geometry c.args.blocks.now) (g.B.Ground.unit c.args.blocks.now) c.args.level 0 least c.args.cut c.if-level-eq0.true (way told)) c.cut_leaves.ensures.way
 
 pub returns-then-is_empty-clause-way : goal.returns-then-is_empty-clause-way
 returns-then-is_empty-clause-way g t c = λ told least only.
@@ -132,7 +133,7 @@ returns-clause-way g t c = λ told least only.
 
 pub returns-then-level-eq0-clause-beside : goal.returns-then-level-eq0-clause-beside
 returns-then-level-eq0-clause-beside g t c =
-    on_ok c.cut_leaves.result _ _ (λ beside told least only. beside_low (g.B.Ground.geometry c.args.blocks.now) (g.B.Ground.unit c.args.blocks.now) c.args.level 0 least c.args.cut c.if-level-eq0.true (beside told)) c.cut_leaves.ensures.beside
+    on_ok_weaker c.cut_leaves.result (λ beside told least only. beside_low (g.B.Ground.geometry c.args.blocks.now) (g.B.Ground.unit c.args.blocks.now) c.args.level 0 least c.args.cut c.if-level-eq0.true (beside told)) c.cut_leaves.ensures.beside
 
 pub returns-then-is_empty-clause-beside : goal.returns-then-is_empty-clause-beside
 returns-then-is_empty-clause-beside g t c = λ told least only.

@@ -1,15 +1,15 @@
 use Rattle.std.proofs.Common.{◌∙◌, ap, subst, ◌≤◌, ◌+◌, ◌*◌, ◌-◌, arith, ◌≡◌, length, inl, inr}
+use Rattle.std.proofs.lemmas.Result.{IfErr-weaker, IfOk-at_ok, on_ok_weaker}
 use Rattle.std.specs.Vec.{vec_len}
-use Rattle.tree_steps.proofs.Laid.{extends_on, extends_kept}
+use Rattle.trees.proofs.Laid.{extends_on, extends_kept}
 use Rattle.tree_delete.proofs.OpenLaws.{three_sizes}
 use Rattle.count_nodes.specs.Split.{most_pairs}
-use Rattle.tree_rows.proofs.Reading.{on_ok}
 use Rattle.tree_delete.proofs.Ends.{ends_kept}
-use Rattle.tree_delete.proofs.Results.{if_ok_on, on_ok_on, ok_of, on_of, err_on}
 use Rattle.tree_delete.proofs.RowLaws.{empty_row, no_size, no_len, some_len}
 use Rattle.ex_base.specs.declared.geometry.Geometry.{Geometry}
-use Rattle.tree_rows.specs.Damage.{IsWalkFault}
-use Rattle.tree_rows.proofs.Blame.{if_err_on, walk_back}
+use Rattle.ex_base.proofs.Results.{from_ok, if_err_handed, if_ok_from, on_ok_from}
+use Rattle.trees.specs.Damage.{IsWalkFault}
+use Rattle.trees.proofs.Blame.{walk_back}
 use Rattle.tree_delete.specs.Cuts.{all_of, HasSoundEnds}
 use Rattle.tree_delete.proofs.Faults.{walk_run}
 use Rattle.tree_delete.proofs.TreeLaws.{trimmed_here, trimmed_below}
@@ -30,25 +30,25 @@ returns-then-level-eq0-clause-trimmed g t c = λ told l same holds halves have m
 
 pub returns-clause-extends : goal.returns-clause-extends
 returns-clause-extends g t c =
-    on_ok_on c.cut_tree.result _ (λ made is. extends_on g.B.Ground c.args.blocks.now c.cut_below.new.blocks c.cut_tree.new.blocks (extends_kept g.B.Ground c.args.blocks.now c.cut_below.new.blocks c.in_ok-below.ensures.kept) (on_of c.cut_tree.result made _ is c.cut_tree.ensures.extends))
+    on_ok_from c.cut_tree.result _ (λ made is. extends_on g.B.Ground c.args.blocks.now c.cut_below.new.blocks c.cut_tree.new.blocks (extends_kept g.B.Ground c.args.blocks.now c.cut_below.new.blocks c.in_ok-below.ensures.kept) (from_ok c.cut_tree.result made _ is c.cut_tree.ensures.extends))
 
 pub returns-clause-sum : goal.returns-clause-sum
 returns-clause-sum g t c =
     let left : length c.args.cut.left.items ≡ 0 = no_len (vec_len c.args.cut.left) c.args.cut.left.items (omega (arith, c.args.cut.left.ok.0)) c.if-not-is_empty.ensures in
     let right : length c.args.cut.right.items ≡ 0 = no_len (vec_len c.args.cut.right) c.args.cut.right.items (omega (arith, c.args.cut.right.ok.0)) c.if-not-is_empty-2.ensures in
-    if_ok_on c.cut_tree.result _ (λ made is. omega (arith, ok_of c.cut_tree.result made _ is c.cut_tree.ensures.sum, c.in_ok-below.ensures.sum, three_sizes c.args.cut, no_size c.args.cut.left.items left, no_size c.args.cut.right.items right))
+    if_ok_from c.cut_tree.result _ (λ made is. omega (arith, IfOk-at_ok _ is c.cut_tree.ensures.sum, c.in_ok-below.ensures.sum, three_sizes c.args.cut, no_size c.args.cut.left.items left, no_size c.args.cut.right.items right))
 
 pub returns-clause-trimmed : goal.returns-clause-trimmed
 returns-clause-trimmed g t c =
     let left : length c.args.cut.left.items ≡ 0 = no_len (vec_len c.args.cut.left) c.args.cut.left.items (omega (arith, c.args.cut.left.ok.0)) c.if-not-is_empty.ensures in
     let right : length c.args.cut.right.items ≡ 0 = no_len (vec_len c.args.cut.right) c.args.cut.right.items (omega (arith, c.args.cut.right.ok.0)) c.if-not-is_empty-2.ensures in
-    if_ok_on c.cut_tree.result _ (λ made is told l same holds halves have m to_m.
+    if_ok_from c.cut_tree.result _ (λ made is told l same holds halves have m to_m.
     trimmed_below g.B.Ground c.args.blocks.now c.cut_below.new.blocks c.cut_tree.new.blocks c.args.level l m c.args.cut c.in_ok-below.below made.1.items told same c.if-level-eq0.false c.in_ok-below.ensures.kept (omega arith) holds have c.in_ok-below.ensures.below
-    (λ told_b n to_n held half having. ok_of c.cut_tree.result made _ is c.cut_tree.ensures.trimmed told_b n to_n held half having m to_m))
+    (λ told_b n to_n held half having. IfOk-at_ok _ is c.cut_tree.ensures.trimmed told_b n to_n held half having m to_m))
 
 pub returns-in_err-row-clause-fault : goal.returns-in_err-row-clause-fault
 returns-in_err-row-clause-fault g t c =
-    err_on c.from_residual.result _ c.in_err-row.field-0.0 c.from_residual.ensures.1
+    if_err_handed c.from_residual.result _ c.in_err-row.field-0.0 c.from_residual.ensures.1
     (λ told. c.in_err-row.ensures.fault told c.args.least (λ high. c.requires.least (elim c.then-level-eq0.branch [
       | then-level-eq0-via-then-level-eq0 w ↦ absurd (omega (arith, w.if-level-eq0.true, high))
       | then-level-eq0-via-else-level-eq0+then-not-is_empty w ↦ omega (arith, some_len (vec_len c.args.cut.left) c.args.cut.left.items (omega (arith, c.args.cut.left.ok.0)) w.if-not-is_empty.ensures)
@@ -57,7 +57,7 @@ returns-in_err-row-clause-fault g t c =
 
 pub returns-clause-fault : goal.returns-clause-fault
 returns-clause-fault g t c =
-    if_err_on c.cut_tree.result _ _ (λ f h told.
+    IfErr-weaker c.cut_tree.result _ _ (λ f h told.
     walk_run (g.B.Ground.geometry c.args.blocks.now) (g.B.Ground.unit c.args.blocks.now) c.args.level c.args.least c.args.cut f
     (c.in_ok-below.ensures.walk told f
     (walk_back g.B.Ground c.args.blocks.now c.cut_below.new.blocks (c.args.level - 1) (g.B.Ground.geometry c.args.blocks.now).fan (all_of c.in_ok-below.below) f c.in_ok-below.ensures.kept
@@ -74,14 +74,14 @@ returns-then-level-eq0-clause-way g t c = λ told.
 
 pub returns-clause-way : goal.returns-clause-way
 returns-clause-way g t c =
-    on_ok c.cut_tree.result _ _ (λ way told. c.in_ok-below.ensures.way told
+    on_ok_weaker c.cut_tree.result (λ way told. c.in_ok-below.ensures.way told
     (ends_kept g.B.Ground c.args.blocks.now c.cut_below.new.blocks (c.args.level - 1) (g.B.Ground.geometry c.args.blocks.now).fan c.in_ok-below.below c.in_ok-below.ensures.kept
     (λ told_b. subst (λ k. HasSoundEnds (g.B.Ground.geometry c.cut_below.new.blocks) (g.B.Ground.unit c.cut_below.new.blocks) (c.args.level - 1) k c.in_ok-below.below)
     (ap (λ (k : Geometry). k.fan) (c.geometry-fan.ensures ∙ g.B.Ground.leads_geometry c.args.blocks.now c.cut_below.new.blocks c.in_ok-below.ensures.kept.leads)) (way told_b)) told)) c.cut_tree.ensures.way
 
 pub returns-clause-few : goal.returns-clause-few
 returns-clause-few g t c =
-    if_ok_on c.cut_tree.result _ (λ made is. subst (λ (k : Geometry). length made.1.items ≤ 2 * most_pairs k.fan + 4) (g.B.Ground.leads_geometry c.args.blocks.now c.cut_below.new.blocks c.in_ok-below.ensures.kept.leads) (ok_of c.cut_tree.result made _ is c.cut_tree.ensures.few))
+    if_ok_from c.cut_tree.result _ (λ made is. subst (λ (k : Geometry). length made.1.items ≤ 2 * most_pairs k.fan + 4) (g.B.Ground.leads_geometry c.args.blocks.now c.cut_below.new.blocks c.in_ok-below.ensures.kept.leads) (IfOk-at_ok _ is c.cut_tree.ensures.few))
 
 pub returns-then-level-eq0-clause-beside : goal.returns-then-level-eq0-clause-beside
 returns-then-level-eq0-clause-beside g t c = λ told.
@@ -95,7 +95,7 @@ pub returns-clause-beside : goal.returns-clause-beside
 returns-clause-beside g t c =
     let left = empty_row c.args.cut.left.items (no_len (vec_len c.args.cut.left) c.args.cut.left.items (omega (arith, c.args.cut.left.ok.0)) c.if-not-is_empty.ensures) in
     let right = empty_row c.args.cut.right.items (no_len (vec_len c.args.cut.right) c.args.cut.right.items (omega (arith, c.args.cut.right.ok.0)) c.if-not-is_empty-2.ensures) in
-    on_ok c.cut_tree.result _ _ (λ beside told.
+    on_ok_weaker c.cut_tree.result (λ beside told.
     let nodes = c.in_ok-below.ensures.nodes told in
     beside_up (g.B.Ground.geometry c.args.blocks.now) (g.B.Ground.unit c.args.blocks.now) c.args.level c.args.least c.args.cut c.in_ok-below.below (omega (arith, c.if-level-eq0.false)) nodes.0 nodes.1
     (alone left right

@@ -1,44 +1,46 @@
 use Rattle.std.proofs.Common.{[], ◌∷◌, inl, inr, arith, List, ◌≤◌, ◌<◌, ◌+◌, ◌*◌, ◌^◌, ap, sym, subst, refl, length}
+use Rattle.std.proofs.lemmas.Result.{IfOk-at_ok}
 use Rattle.ex_base.specs.declared.geometry.Geometry.{Geometry}
 use Rattle.ex_base.specs.declared.names.Area.TheVariants.{Page}
+use Rattle.ex_base.proofs.Results.{from_ok, if_ok_from, on_ok_from}
 use Rattle.count_nodes.specs.Split.{most_pairs}
-use Rattle.tree_rows.specs.declared.rows.Part.{Part}
-use Rattle.tree_rows.specs.Damage.{IsSoundEnd}
-use Rattle.tree_rows.specs.Rows.{row_size}
-use Rattle.tree_steps.specs.Made.{Holds}
-use Rattle.tree_steps.proofs.Laid.{extends_on}
-use Rattle.tree_insert.specs.Grown.{IsRooted}
+use Rattle.trees.specs.declared.rows.Part.{Part}
+use Rattle.trees.specs.Damage.{IsSoundEnd}
+use Rattle.trees.specs.Rows.{row_size}
+use Rattle.trees.specs.Made.{Holds}
+use Rattle.trees.proofs.Laid.{extends_on}
+use Rattle.trees.specs.Grown.{IsRooted}
 use Rattle.tree_delete.specs.declared.cut.Cut.{Cut}
-use Rattle.tree_delete.proofs.Paid.{rise_first}
-use Rattle.tree_delete.proofs.Results.{if_ok_on, on_ok_on, ok_of, on_of}
-use Rattle.tree_delete.proofs.TopLaws.{few_sizes, some_rest, roots_free, roots_seven, root_of, tree_cut, tree_have}
+use Rattle.trees.proofs.Paid.{rise_first}
+use Rattle.trees.proofs.Parts.{narrow}
+use Rattle.tree_delete.proofs.TopLaws.{some_rest, roots_free, roots_seven, root_of, tree_cut, tree_have}
 use Rattle.tree_delete.specs.Beside.{IsSoundBeside}
 use Rattle.tree_delete.proofs.tree.without.Goals as goal
 
 pub rooted-requires-clause-rise : goal.rooted-requires-clause-rise
 rooted-requires-clause-rise g c =
     rise_first c.in_ok-level.level (length c.deref.result.now) (omega (arith, c.in_ok-level.ensures.low, c.requires.low))
-    (subst (λ (r : List Part). length r < 2 ^ 32) (sym c.deref.ensures.value) (few_sizes c.in_ok-level.row.items c.in_ok-level.ensures.sizes (omega (arith, c.in_ok-level.ensures.sum, ap row_size (tree_cut (record { left = c.new.result; run = c.in_ok-joined.field-0; right = c.new-2.result; at = c.args.pos; len = c.args.len }) c.args.tree c.new.ensures.items c.in_ok-joined.ensures c.new-2.ensures.items), c.requires.limit))))
+    (omega (arith, ap length c.deref.ensures.value, c.in_ok-level.ensures.few, narrow (g.B.Ground.geometry c.args.blocks.now)))
 
 pub returns-clause-extends : goal.returns-clause-extends
 returns-clause-extends g c =
-    on_ok_on c.rooted.result _ (λ made is. extends_on g.B.Ground c.args.blocks.now c.cut_tree.new.blocks c.rooted.new.blocks c.in_ok-level.ensures.extends (on_of c.rooted.result made _ is c.rooted.ensures.extends))
+    on_ok_from c.rooted.result _ (λ made is. extends_on g.B.Ground c.args.blocks.now c.cut_tree.new.blocks c.rooted.new.blocks c.in_ok-level.ensures.extends (from_ok c.rooted.result made _ is c.rooted.ensures.extends))
 
 pub returns-clause-pages : goal.returns-clause-pages
 returns-clause-pages g c =
-    on_ok_on c.rooted.result _ (λ made is.
+    on_ok_from c.rooted.result _ (λ made is.
     let geo = g.B.Ground.leads_geometry c.args.blocks.now c.cut_tree.new.blocks c.in_ok-level.ensures.extends.leads in
     let few : length c.deref.result.now ≤ 2 * most_pairs (g.B.Ground.geometry c.cut_tree.new.blocks).fan + 4 =
     subst (λ (k : Geometry). length c.deref.result.now ≤ 2 * most_pairs k.fan + 4) (sym geo) (omega (arith, ap length c.deref.ensures.value, c.in_ok-level.ensures.few)) in
     let all = tree_cut (record { left = c.new.result; run = c.in_ok-joined.field-0; right = c.new-2.result; at = c.args.pos; len = c.args.len }) c.args.tree c.new.ensures.items c.in_ok-joined.ensures c.new-2.ensures.items in
     let some : 1 ≤ length c.deref.result.now = some_rest c.deref.result.now (omega (arith, ap row_size c.deref.ensures.value, c.in_ok-level.ensures.sum, ap row_size all, c.requires.rest)) in
     let seven = roots_seven (g.B.Ground.geometry c.cut_tree.new.blocks).fan (length c.deref.result.now) (g.B.Ground.free c.cut_tree.new.blocks Page) (g.B.Ground.free c.rooted.new.blocks Page) (omega (arith, (g.B.Ground.geometry c.cut_tree.new.blocks).two)) some few
-    (on_of c.rooted.result made _ is c.rooted.ensures.lone) (on_of c.rooted.result made _ is c.rooted.ensures.pages) in
+    (from_ok c.rooted.result made _ is c.rooted.ensures.lone) (from_ok c.rooted.result made _ is c.rooted.ensures.pages) in
     omega (arith, c.in_ok-level.ensures.pages))
 
 pub returns-clause-edited : goal.returns-clause-edited
 returns-clause-edited g c =
-    if_ok_on c.rooted.result _ (λ made is told l same spells.
+    if_ok_from c.rooted.result _ (λ made is told l same spells.
     let cut : Cut = record { left = c.new.result; run = c.in_ok-joined.field-0; right = c.new-2.result; at = c.args.pos; len = c.args.len } in
     let all = tree_cut (record { left = c.new.result; run = c.in_ok-joined.field-0; right = c.new-2.result; at = c.args.pos; len = c.args.len }) c.args.tree c.new.ensures.items c.in_ok-joined.ensures c.new-2.ensures.items in
     let told_b = g.B.Ground.leads_told c.args.blocks.now c.cut_tree.new.blocks c.in_ok-level.ensures.extends.leads told in
@@ -46,13 +48,13 @@ returns-clause-edited g c =
     let trimmed = c.in_ok-level.ensures.trimmed told l same (subst (Holds g.B.Ground c.args.blocks.now l) (sym all) spells.holds) (λ side. absurd (omega (arith, side, ap length c.new.ensures.items, ap length c.new-2.ensures.items)))
     (tree_have g.B.Ground c.args.blocks.now l (record { left = c.new.result; run = c.in_ok-joined.field-0; right = c.new-2.result; at = c.args.pos; len = c.args.len }) c.args.tree c.in_ok-joined.ensures spells) c.in_ok-level.level refl in
     root_of g.B.Ground c.args.blocks.now c.cut_tree.new.blocks c.rooted.new.blocks l c.in_ok-level.level (record { left = c.new.result; run = c.in_ok-joined.field-0; right = c.new-2.result; at = c.args.pos; len = c.args.len }) c.args.tree c.args.pos c.args.len c.in_ok-level.row.items made
-    c.new.ensures.items c.in_ok-joined.ensures c.new-2.ensures.items refl refl c.in_ok-level.ensures.extends (on_of c.rooted.result made _ is c.rooted.ensures.extends) some spells trimmed
+    c.new.ensures.items c.in_ok-joined.ensures c.new-2.ensures.items refl refl c.in_ok-level.ensures.extends (from_ok c.rooted.result made _ is c.rooted.ensures.extends) some spells trimmed
     (λ held. subst (λ r. IsRooted g.B.Ground c.cut_tree.new.blocks c.rooted.new.blocks c.in_ok-level.level r made) c.deref.ensures.value
-    (ok_of c.rooted.result made _ is c.rooted.ensures.rooted told_b c.in_ok-level.level refl (subst (Holds g.B.Ground c.cut_tree.new.blocks c.in_ok-level.level) (sym c.deref.ensures.value) held))))
+    (IfOk-at_ok _ is c.rooted.ensures.rooted told_b c.in_ok-level.level refl (subst (Holds g.B.Ground c.cut_tree.new.blocks c.in_ok-level.level) (sym c.deref.ensures.value) held))))
 
 pub returns-clause-way : goal.returns-clause-way
 returns-clause-way g c =
-    on_ok_on c.rooted.result _ (λ made is told end which.
+    on_ok_from c.rooted.result _ (λ made is told end which.
     let ends = c.in_ok-level.ensures.way told in
     subst (λ r. IsSoundEnd (g.B.Ground.geometry c.args.blocks.now) (g.B.Ground.unit c.args.blocks.now) c.args.height 2 r end) c.in_ok-joined.ensures (elim which [
       | inl at ↦ subst (λ k. IsSoundEnd (g.B.Ground.geometry c.args.blocks.now) (g.B.Ground.unit c.args.blocks.now) c.args.height 2 c.in_ok-joined.field-0.items k) (sym at) ends.0
@@ -68,7 +70,7 @@ rooted-requires-clause-free g c = λ two.
 
 pub returns-clause-beside : goal.returns-clause-beside
 returns-clause-beside g c =
-    on_ok_on c.rooted.result _ (λ made is told.
+    on_ok_from c.rooted.result _ (λ made is told.
     subst (λ r. IsSoundBeside (g.B.Ground.geometry c.args.blocks.now) (g.B.Ground.unit c.args.blocks.now) c.args.height 2 r (c.args.tree ∷ []) [] c.args.pos c.args.len) c.new.ensures.items
     (subst (λ r. IsSoundBeside (g.B.Ground.geometry c.args.blocks.now) (g.B.Ground.unit c.args.blocks.now) c.args.height 2 c.new.result.items r [] c.args.pos c.args.len) c.in_ok-joined.ensures
     (subst (λ r. IsSoundBeside (g.B.Ground.geometry c.args.blocks.now) (g.B.Ground.unit c.args.blocks.now) c.args.height 2 c.new.result.items c.in_ok-joined.field-0.items r c.args.pos c.args.len) c.new-2.ensures.items (c.in_ok-level.ensures.beside told))))

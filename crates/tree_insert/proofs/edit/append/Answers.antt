@@ -1,12 +1,11 @@
 use Rattle.std.proofs.Common.{rules, ◌≡◌, length}
-use Rattle.tree_model.specs.Trees.{root_shape, root_units}
+use Rattle.std.proofs.lemmas.Result.{IfErr-weaker, IfOk-at_ok, on_ok_weaker}
+use Rattle.trees.specs.Trees.{root_shape, root_units}
 use Rattle.ex_base.specs.Sizes.{leaf_bytes}
+use Rattle.ex_base.proofs.Results.{from_ok, if_ok_from, on_ok_from}
 use Rattle.tree_insert.specs.declared.layout.Growth.TheVariants.{Append}
-use Rattle.tree_insert.proofs.Results.{if_ok_on, on_ok_on, ok_of, on_of}
 use Rattle.tree_insert.proofs.RootEdit.{root_stays, nothing_changes, nothing_turned, spells_end}
-use Rattle.tree_rows.proofs.Reading.{on_ok}
-use Rattle.tree_rows.proofs.Blame.{if_err_on}
-use Rattle.tree_rows.proofs.Sound.{sound_root}
+use Rattle.trees.proofs.Sound.{sound_root}
 use Rattle.tree_insert.proofs.edit.append.Goals as goal
 
 pub returns-then-is_empty-clause-shape : goal.returns-then-is_empty-clause-shape
@@ -18,20 +17,20 @@ pub returns-then-is_empty-clause-units : goal.returns-then-is_empty-clause-units
 returns-then-is_empty-clause-units g c = λ told bytes spells used. nothing_turned g.B.Ground c.args.blocks.now (root_units (g.B.Ground.unit c.args.blocks.now) c.args.root.now)
 
 pub returns-clause-spells : goal.returns-clause-spells
-returns-clause-spells g c = if_ok_on c.grow.result _ (λ made is told bytes spells used. spells_end g.B.Ground c.args.blocks.now c.grow.new.blocks c.args.root.now made bytes c.args.given.now c.requires.ready told spells (ok_of c.grow.result made _ is c.grow.ensures.edited told bytes spells used).spells)
+returns-clause-spells g c = if_ok_from c.grow.result _ (λ made is told bytes spells used. spells_end g.B.Ground c.args.blocks.now c.grow.new.blocks c.args.root.now made bytes c.args.given.now c.requires.ready told spells (IfOk-at_ok _ is c.grow.ensures.edited told bytes spells used).spells)
 
 pub returns-clause-shape : goal.returns-clause-shape
-returns-clause-shape g c = if_ok_on c.grow.result _ (λ made is told bytes spells used. (ok_of c.grow.result made _ is c.grow.ensures.edited told bytes spells used).shape)
+returns-clause-shape g c = if_ok_from c.grow.result _ (λ made is told bytes spells used. (IfOk-at_ok _ is c.grow.ensures.edited told bytes spells used).shape)
 
 pub returns-clause-units : goal.returns-clause-units
-returns-clause-units g c = if_ok_on c.grow.result _ (λ made is told bytes spells used. (ok_of c.grow.result made _ is c.grow.ensures.edited told bytes spells used).units)
+returns-clause-units g c = if_ok_from c.grow.result _ (λ made is told bytes spells used. (IfOk-at_ok _ is c.grow.ensures.edited told bytes spells used).units)
 
 pub returns-clause-old : goal.returns-clause-old
 returns-clause-old g c =
-    on_ok_on c.grow.result _ (λ made is told bytes spells used. root_stays g.B.Ground c.args.blocks.now c.grow.new.blocks c.args.root.now bytes (on_of c.grow.result made _ is c.grow.ensures.extends) used spells)
+    on_ok_from c.grow.result _ (λ made is told bytes spells used. root_stays g.B.Ground c.args.blocks.now c.grow.new.blocks c.args.root.now bytes (from_ok c.grow.result made _ is c.grow.ensures.extends) used spells)
 
 pub returns-clause-sound : goal.returns-clause-sound
-returns-clause-sound g c = if_err_on c.grow.result _ _ (λ f h told whole. sound_root (g.B.Ground.geometry c.args.blocks.now) (g.B.Ground.unit c.args.blocks.now) c.args.root.now f whole (h told)) c.grow.ensures.fault
+returns-clause-sound g c = IfErr-weaker c.grow.result _ _ (λ f h told whole. sound_root (g.B.Ground.geometry c.args.blocks.now) (g.B.Ground.unit c.args.blocks.now) c.args.root.now f whole (h told)) c.grow.ensures.fault
 
 pub returns-clause-way : goal.returns-clause-way
-returns-clause-way g c = on_ok c.grow.result _ _ (λ way told some. way told) c.grow.ensures.way
+returns-clause-way g c = on_ok_weaker c.grow.result (λ way told some. way told) c.grow.ensures.way

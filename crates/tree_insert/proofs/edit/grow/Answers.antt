@@ -1,17 +1,18 @@
 use Rattle.std.proofs.Common.{arith, List, ◌≤◌, ◌+◌, ◌*◌, ap, sym, subst, refl, length}
+use Rattle.std.proofs.lemmas.Result.{IfOk-at_ok}
 use Rattle.ex_base.specs.declared.geometry.Geometry.{Geometry}
 use Rattle.ex_base.specs.declared.names.Area.TheVariants.{Page}
 use Rattle.ex_base.specs.Sizes.{leaf_bytes}
-use Rattle.tree_rows.specs.declared.rows.Part.{Part}
-use Rattle.tree_rows.specs.Rows.{row_size}
-use Rattle.tree_steps.specs.Made.{Holds}
-use Rattle.tree_steps.specs.Built.{AreSome}
-use Rattle.tree_steps.proofs.Laid.{extends_on}
-use Rattle.tree_steps.proofs.Over.{length_small}
-use Rattle.tree_insert.specs.Grown.{IsRooted}
+use Rattle.ex_base.proofs.Results.{from_ok, if_ok_from, on_ok_from}
+use Rattle.trees.specs.declared.rows.Part.{Part}
+use Rattle.trees.specs.Rows.{row_size}
+use Rattle.trees.specs.Made.{Holds}
+use Rattle.trees.specs.Built.{AreSome}
+use Rattle.trees.proofs.Laid.{extends_on}
+use Rattle.trees.proofs.Over.{length_small}
+use Rattle.trees.specs.Grown.{IsRooted}
 use Rattle.tree_insert.specs.Need.{need_leaves, counted}
-use Rattle.tree_insert.proofs.Paid.{rise_first}
-use Rattle.tree_insert.proofs.Results.{if_ok_on, on_ok_on, ok_of, on_of}
+use Rattle.trees.proofs.Paid.{rise_first}
 use Rattle.tree_insert.proofs.RootEdit.{edited, enough_pages, enough_roots, taken_pages}
 use Rattle.tree_insert.proofs.edit.grow.Goals as goal
 
@@ -29,23 +30,23 @@ rooted-requires-clause-free g c = λ two.
     (enough_roots (g.B.Ground.geometry c.args.blocks.now).fan (need_leaves (leaf_bytes (g.B.Ground.geometry c.args.blocks.now)) (counted (g.B.Ground.geometry c.args.blocks.now) c.args.root.now.page (length c.args.given.now))) c.args.root.now.height (g.B.Ground.free c.args.blocks.now Page) (length c.deref.result.now) (g.B.Ground.free c.new_parts.new.blocks Page) (omega (arith, (g.B.Ground.geometry c.args.blocks.now).two)) c.requires.pages (subst (λ k. (g.B.Ground.geometry c.args.blocks.now).fan * g.B.Ground.free c.args.blocks.now Page + k ≤ (need_leaves (leaf_bytes (g.B.Ground.geometry c.args.blocks.now)) (counted (g.B.Ground.geometry c.args.blocks.now) c.args.root.now.page (length c.args.given.now))) + c.args.root.now.height * (2 * (g.B.Ground.geometry c.args.blocks.now).fan) + (g.B.Ground.geometry c.args.blocks.now).fan * g.B.Ground.free c.new_parts.new.blocks Page) (sym (ap length c.deref.ensures.value)) c.in_ok-row.ensures.paid))
 
 pub returns-clause-extends : goal.returns-clause-extends
-returns-clause-extends g c = on_ok_on c.rooted.result _ (λ made is. extends_on g.B.Ground c.args.blocks.now c.new_parts.new.blocks c.rooted.new.blocks c.in_ok-row.ensures.extends (on_of c.rooted.result made _ is c.rooted.ensures.extends))
+returns-clause-extends g c = on_ok_from c.rooted.result _ (λ made is. extends_on g.B.Ground c.args.blocks.now c.new_parts.new.blocks c.rooted.new.blocks c.in_ok-row.ensures.extends (from_ok c.rooted.result made _ is c.rooted.ensures.extends))
 
 pub returns-clause-pages : goal.returns-clause-pages
 returns-clause-pages g c =
-    on_ok_on c.rooted.result _ (λ made is.
+    on_ok_from c.rooted.result _ (λ made is.
     taken_pages (g.B.Ground.geometry c.args.blocks.now).fan (need_leaves (leaf_bytes (g.B.Ground.geometry c.args.blocks.now)) (counted (g.B.Ground.geometry c.args.blocks.now) c.args.root.now.page (length c.args.given.now))) c.args.root.now.height (g.B.Ground.free c.args.blocks.now Page) (length c.deref.result.now) (g.B.Ground.free c.new_parts.new.blocks Page) (g.B.Ground.free c.rooted.new.blocks Page) (omega (arith, (g.B.Ground.geometry c.args.blocks.now).two)) (omega (arith, ap length c.deref.ensures.value, c.in_ok-row.ensures.some)) (subst (λ k. (g.B.Ground.geometry c.args.blocks.now).fan * g.B.Ground.free c.args.blocks.now Page + k ≤ (need_leaves (leaf_bytes (g.B.Ground.geometry c.args.blocks.now)) (counted (g.B.Ground.geometry c.args.blocks.now) c.args.root.now.page (length c.args.given.now))) + c.args.root.now.height * (2 * (g.B.Ground.geometry c.args.blocks.now).fan) + (g.B.Ground.geometry c.args.blocks.now).fan * g.B.Ground.free c.new_parts.new.blocks Page) (sym (ap length c.deref.ensures.value)) c.in_ok-row.ensures.paid)
-    (on_of c.rooted.result made _ is c.rooted.ensures.lone)
-    (subst (λ (geo : Geometry). 2 ≤ length c.deref.result.now → geo.fan * g.B.Ground.free c.new_parts.new.blocks Page + 2 ≤ length c.deref.result.now + geo.fan + geo.fan * g.B.Ground.free c.rooted.new.blocks Page) (g.B.Ground.leads_geometry c.args.blocks.now c.new_parts.new.blocks c.in_ok-row.ensures.extends.leads) (on_of c.rooted.result made _ is c.rooted.ensures.pages)))
+    (from_ok c.rooted.result made _ is c.rooted.ensures.lone)
+    (subst (λ (geo : Geometry). 2 ≤ length c.deref.result.now → geo.fan * g.B.Ground.free c.new_parts.new.blocks Page + 2 ≤ length c.deref.result.now + geo.fan + geo.fan * g.B.Ground.free c.rooted.new.blocks Page) (g.B.Ground.leads_geometry c.args.blocks.now c.new_parts.new.blocks c.in_ok-row.ensures.extends.leads) (from_ok c.rooted.result made _ is c.rooted.ensures.pages)))
 
 pub returns-clause-edited : goal.returns-clause-edited
 returns-clause-edited g c =
-    if_ok_on c.rooted.result _ (λ made is told bytes spells used.
+    if_ok_from c.rooted.result _ (λ made is told bytes spells used.
     let row = c.in_ok-row.ensures in
     let told_m = g.B.Ground.leads_told c.args.blocks.now c.new_parts.new.blocks row.leads told in
     let roots : Holds g.B.Ground c.new_parts.new.blocks c.args.root.now.height c.in_ok-row.row.items → IsRooted g.B.Ground c.new_parts.new.blocks c.rooted.new.blocks c.args.root.now.height c.in_ok-row.row.items made =
-    subst (λ (r : List Part). Holds g.B.Ground c.new_parts.new.blocks c.args.root.now.height r → IsRooted g.B.Ground c.new_parts.new.blocks c.rooted.new.blocks c.args.root.now.height r made) c.deref.ensures.value (ok_of c.rooted.result made _ is c.rooted.ensures.rooted told_m c.args.root.now.height refl) in
-    edited g.B.Ground c.args.blocks.now c.new_parts.new.blocks c.rooted.new.blocks c.args.growth c.args.root.now.height c.args.root.now made c.in_ok-row.row.items bytes c.args.pos c.args.given.now row.extends (on_of c.rooted.result made _ is c.rooted.ensures.extends) spells (row.grew told bytes spells used c.args.root.now.height refl) roots)
+    subst (λ (r : List Part). Holds g.B.Ground c.new_parts.new.blocks c.args.root.now.height r → IsRooted g.B.Ground c.new_parts.new.blocks c.rooted.new.blocks c.args.root.now.height r made) c.deref.ensures.value (IfOk-at_ok _ is c.rooted.ensures.rooted told_m c.args.root.now.height refl) in
+    edited g.B.Ground c.args.blocks.now c.new_parts.new.blocks c.rooted.new.blocks c.args.growth c.args.root.now.height c.args.root.now made c.in_ok-row.row.items bytes c.args.pos c.args.given.now row.extends (from_ok c.rooted.result made _ is c.rooted.ensures.extends) spells (row.grew told bytes spells used c.args.root.now.height refl) roots)
 
 pub returns-clause-way : goal.returns-clause-way
-returns-clause-way g c = on_ok_on c.rooted.result _ (λ made is told. c.in_ok-row.ensures.way told)
+returns-clause-way g c = on_ok_from c.rooted.result _ (λ made is told. c.in_ok-row.ensures.way told)

@@ -1,44 +1,48 @@
 use Rattle.std.proofs.Common.{arith, [], ◌∷◌, ℕ, List, ◌≡◌, ◌≤◌, ◌+◌, ◌-◌, ◌*◌, ◌∙◌, ap, sym, subst, refl, suc, length}
 use Rattle.std.proofs.lemmas.List.{length-take-le}
+use Rattle.std.proofs.lemmas.Result.{IfOk-at_ok, on_ok_weaker}
 use Rattle.ex_base.specs.Edits.{inserted}
 use Rattle.ex_base.specs.declared.geometry.Geometry.{Geometry}
 use Rattle.ex_base.specs.declared.names.Area.{Area}
 use Rattle.ex_base.specs.declared.names.Area.TheVariants.{Page, Segment}
 use Rattle.ex_base.specs.Sizes.{leaf_bytes}
 use Rattle.count_nodes.specs.Split.{nodes_for}
-use Rattle.tree_rows.specs.declared.rows.Part.{Part}
-use Rattle.tree_rows.specs.Rows.{row_size, row_bytes, row_shape, FitLeaves}
-use Rattle.tree_rows.proofs.Parts.{narrow, below_fit}
-use Rattle.tree_steps.specs.Made.{Holds}
-use Rattle.tree_steps.specs.Built.{AreSome, Built, even_lens}
-use Rattle.tree_steps.proofs.Laid.{extends_on, extends_kept}
-use Rattle.tree_insert.specs.Grown.{Grew}
+use Rattle.trees.specs.declared.rows.Part.{Part}
+use Rattle.trees.specs.Rows.{row_size, row_bytes, row_shape, FitLeaves}
+use Rattle.trees.proofs.Parts.{narrow, below_fit}
+use Rattle.trees.specs.Made.{Holds}
+use Rattle.trees.specs.Built.{AreSome, Built, even_lens}
+use Rattle.trees.proofs.Laid.{extends_on, extends_kept}
+use Rattle.trees.specs.Counted.{Counted, NamesPairs}
+use Rattle.trees.specs.Grown.{Grew}
 use Rattle.tree_insert.specs.Growth.{IsSpot, row_by}
 use Rattle.tree_insert.specs.Need.{need_leaves}
-use Rattle.tree_insert.proofs.Paid.{some_node, level_up, node_free, node_paid}
-use Rattle.tree_insert.proofs.PaidRows.{page_le, paid_at}
+use Rattle.trees.proofs.Paid.{some_node}
+use Rattle.tree_insert.proofs.Paid.{level_up, node_free, node_paid}
+use Rattle.tree_insert.proofs.PaidRows.{paid_at}
 use Rattle.ex_base.specs.Area.{NamesLeaf}
-use Rattle.tree_rows.specs.Damage.{IsSoundWay}
-use Rattle.tree_rows.proofs.Reading.{on_ok}
-use Rattle.tree_rows.proofs.Ways.{way_kept, way_low, way_one}
-use Rattle.tree_insert.proofs.Results.{if_ok_on, on_ok_on, ok_of, on_of, cause_on}
+use Rattle.trees.specs.Damage.{IsSoundWay}
+use Rattle.trees.proofs.Ways.{way_kept, way_low, way_one}
+use Rattle.ex_base.proofs.Keeping.{cause_on}
+use Rattle.ex_base.proofs.Geometries.{page_le}
+use Rattle.ex_base.proofs.Results.{from_ok, if_ok_from, on_ok_from}
 use Rattle.tree_insert.proofs.RootGrow.{lone_grew, root_grew}
 use Rattle.tree_insert.proofs.edit.grow_root.Goals as goal
 
 pub returns-then-height-eq0-clause-paid : goal.returns-then-height-eq0-clause-paid
 returns-then-height-eq0-clause-paid g c =
-    if_ok_on c.grow_leaves.result _ (λ made is. record {
+    if_ok_from c.grow_leaves.result _ (λ made is. record {
       parts = need_leaves (leaf_bytes (g.B.Ground.geometry c.args.blocks.now)) (length c.args.given.now);
       some = omega arith;
-      count = ok_of c.grow_leaves.result made _ is c.grow_leaves.ensures.count;
-      paid = omega (arith, ap (λ k. (g.B.Ground.geometry c.args.blocks.now).fan * k) (on_of c.grow_leaves.result made _ is c.grow_leaves.ensures.pages));
+      count = IfOk-at_ok _ is c.grow_leaves.ensures.count;
+      paid = omega (arith, ap (λ k. (g.B.Ground.geometry c.args.blocks.now).fan * k) (from_ok c.grow_leaves.result made _ is c.grow_leaves.ensures.pages));
     })
 
 pub returns-then-height-eq0-clause-grew : goal.returns-then-height-eq0-clause-grew
 returns-then-height-eq0-clause-grew g c =
-    if_ok_on c.grow_leaves.result _ (λ made is told l same holds.
+    if_ok_from c.grow_leaves.result _ (λ made is told l same holds.
     lone_grew g.B.Ground c.args.blocks.now c.grow_leaves.new.blocks c.args.growth (g.B.Ground.geometry c.args.blocks.now).fan (leaf_bytes (g.B.Ground.geometry c.args.blocks.now)) (length c.args.given.now) c.args.height l c.args.tree made.items c.args.pos c.args.given.now c.if-height-eq0.true same
-    (ok_of c.grow_leaves.result made _ is c.grow_leaves.ensures.grew told) holds)
+    (IfOk-at_ok _ is c.grow_leaves.ensures.grew told) holds)
 
 pub grow_row-requires-clause-buffer : goal.grow_row-requires-clause-buffer
 grow_row-requires-clause-buffer g c = c.requires.buffer ∙ ap leaf_bytes (sym (g.B.Ground.leads_geometry c.args.blocks.now c.row_of.new.blocks c.in_ok-below.ensures.kept.leads))
@@ -91,7 +95,7 @@ nodes_over-requires-clause-free g c =
 
 pub returns-clause-extends : goal.returns-clause-extends
 returns-clause-extends g c =
-    on_ok_on c.nodes_over.result _ (λ made is. extends_on g.B.Ground c.args.blocks.now c.row_of.new.blocks c.nodes_over.new.blocks (extends_kept g.B.Ground c.args.blocks.now c.row_of.new.blocks c.in_ok-below.ensures.kept) (extends_on g.B.Ground c.row_of.new.blocks c.grow_row.new.blocks c.nodes_over.new.blocks c.in_ok-grown.ensures.extends (on_of c.nodes_over.result made _ is c.nodes_over.ensures.extends)))
+    on_ok_from c.nodes_over.result _ (λ made is. extends_on g.B.Ground c.args.blocks.now c.row_of.new.blocks c.nodes_over.new.blocks (extends_kept g.B.Ground c.args.blocks.now c.row_of.new.blocks c.in_ok-below.ensures.kept) (extends_on g.B.Ground c.row_of.new.blocks c.grow_row.new.blocks c.nodes_over.new.blocks c.in_ok-grown.ensures.extends (from_ok c.nodes_over.result made _ is c.nodes_over.ensures.extends)))
 
 pub returns-clause-leads : goal.returns-clause-leads
 returns-clause-leads g c =
@@ -105,24 +109,24 @@ returns-clause-cause g c =
 
 pub returns-clause-grown : goal.returns-clause-grown
 returns-clause-grown g c =
-    if_ok_on c.nodes_over.result _ (λ made is. record {
-      sum = omega (arith, ok_of c.nodes_over.result made _ is c.nodes_over.ensures.sum, ap row_size c.deref-2.ensures.value, c.in_ok-grown.ensures.grown.sum, ap row_size c.deref.ensures.value, c.in_ok-below.ensures.counted.sum);
-      sizes = ok_of c.nodes_over.result made _ is c.nodes_over.ensures.sizes;
-      some = omega (arith, ok_of c.nodes_over.result made _ is c.nodes_over.ensures.count, some_node (g.B.Ground.geometry c.grow_row.new.blocks).fan (length c.deref-2.result.now) (omega (arith, ap length c.deref-2.ensures.value, c.in_ok-grown.ensures.grown.some)));
+    if_ok_from c.nodes_over.result _ (λ made is. record {
+      sum = omega (arith, IfOk-at_ok _ is c.nodes_over.ensures.sum, ap row_size c.deref-2.ensures.value, c.in_ok-grown.ensures.grown.sum, ap row_size c.deref.ensures.value, c.in_ok-below.ensures.counted.sum);
+      sizes = IfOk-at_ok _ is c.nodes_over.ensures.sizes;
+      some = omega (arith, IfOk-at_ok _ is c.nodes_over.ensures.count, some_node (g.B.Ground.geometry c.grow_row.new.blocks).fan (length c.deref-2.result.now) (omega (arith, ap length c.deref-2.ensures.value, c.in_ok-grown.ensures.grown.some)));
     })
 
 pub returns-clause-leaves : goal.returns-clause-leaves
 returns-clause-leaves g c =
-    on_ok_on c.nodes_over.result _ (λ made is.
+    on_ok_from c.nodes_over.result _ (λ made is.
     let later : g.B.Ground.free c.row_of.new.blocks Segment ≤ g.B.Ground.free c.grow_row.new.blocks Segment + need_leaves (leaf_bytes (g.B.Ground.geometry c.args.blocks.now)) (length c.args.given.now) =
     subst (λ (geo : Geometry). g.B.Ground.free c.row_of.new.blocks Segment ≤ g.B.Ground.free c.grow_row.new.blocks Segment + need_leaves (leaf_bytes geo) (length c.args.given.now)) (g.B.Ground.leads_geometry c.args.blocks.now c.row_of.new.blocks c.in_ok-below.ensures.kept.leads) c.in_ok-grown.ensures.leaves in
-    omega (arith, (on_of c.nodes_over.result made _ is c.nodes_over.ensures.spent).of_leaves, ap (λ (f : Area → ℕ). f Segment) c.in_ok-below.ensures.kept.free))
+    omega (arith, (from_ok c.nodes_over.result made _ is c.nodes_over.ensures.spent).of_leaves, ap (λ (f : Area → ℕ). f Segment) c.in_ok-below.ensures.kept.free))
 
 pub returns-clause-paid : goal.returns-clause-paid
 returns-clause-paid g c =
-    if_ok_on c.nodes_over.result _ (λ made is.
+    if_ok_from c.nodes_over.result _ (λ made is.
     let paid = (paid_at g.B.Ground c.args.blocks.now c.row_of.new.blocks c.grow_row.new.blocks c.args.height (length c.args.given.now) (length c.deref.result.now) (length c.in_ok-grown.grown.items) c.in_ok-below.ensures.kept c.in_ok-grown.ensures.paid) in
-    let count = ok_of c.nodes_over.result made _ is c.nodes_over.ensures.count in
+    let count = IfOk-at_ok _ is c.nodes_over.ensures.count in
     let many : length made.items ≡ nodes_for (g.B.Ground.geometry c.args.blocks.now).fan (length c.in_ok-grown.grown.items) =
     count ∙ ap (λ (k : Geometry). nodes_for k.fan (length c.deref-2.result.now)) (g.B.Ground.leads_geometry c.row_of.new.blocks c.grow_row.new.blocks c.in_ok-grown.ensures.extends.leads ∙ (g.B.Ground.leads_geometry c.args.blocks.now c.row_of.new.blocks c.in_ok-below.ensures.kept.leads)) ∙ ap (nodes_for (g.B.Ground.geometry c.args.blocks.now).fan) (ap length c.deref-2.ensures.value) in
     record {
@@ -130,12 +134,12 @@ returns-clause-paid g c =
       some = omega (arith, many, some_node (g.B.Ground.geometry c.args.blocks.now).fan (length c.in_ok-grown.grown.items) c.in_ok-grown.ensures.grown.some);
       count = omega arith;
       paid = node_paid (g.B.Ground.geometry c.args.blocks.now).fan (need_leaves (leaf_bytes (g.B.Ground.geometry c.args.blocks.now)) (length c.args.given.now)) c.args.height paid.parts (length c.in_ok-grown.grown.items) (length c.deref.result.now) (length made.items) (g.B.Ground.free c.args.blocks.now Page) (g.B.Ground.free c.grow_row.new.blocks Page) (g.B.Ground.free c.nodes_over.new.blocks Page)
-          (omega (arith, (g.B.Ground.geometry c.args.blocks.now).two)) c.if-height-eq0.false paid.some paid.count (omega (arith, ap length c.deref.ensures.value, c.in_ok-below.ensures.counted.few)) many (omega (arith, (on_of c.nodes_over.result made _ is c.nodes_over.ensures.spent).of_pages, count)) paid.paid;
+          (omega (arith, (g.B.Ground.geometry c.args.blocks.now).two)) c.if-height-eq0.false paid.some paid.count (omega (arith, ap length c.deref.ensures.value, c.in_ok-below.ensures.counted.few)) many (omega (arith, (from_ok c.nodes_over.result made _ is c.nodes_over.ensures.spent).of_pages, count)) paid.paid;
     })
 
 pub returns-clause-grew : goal.returns-clause-grew
 returns-clause-grew g c =
-    if_ok_on c.nodes_over.result _ (λ made is told l same holds.
+    if_ok_from c.nodes_over.result _ (λ made is told l same holds.
     let b = g.B.Ground in
     let kept = c.in_ok-below.ensures.kept in
     let told_b = b.leads_told c.args.blocks.now c.row_of.new.blocks kept.leads told in
@@ -147,16 +151,18 @@ returns-clause-grew g c =
     (subst (λ (r : List Part). (m : ℕ) → c.args.height - 1 ≡ m → Holds g.B.Ground c.row_of.new.blocks m r → Grew g.B.Ground c.row_of.new.blocks c.grow_row.new.blocks m r c.in_ok-grown.grown.items (inserted (row_bytes (g.B.Ground.unit c.row_of.new.blocks) m r) c.args.pos c.args.given.now)
     (row_by c.args.growth (g.B.Ground.geometry c.row_of.new.blocks).fan (leaf_bytes (g.B.Ground.geometry c.row_of.new.blocks)) (length c.args.given.now) m (row_shape (g.B.Ground.unit c.row_of.new.blocks) m r) c.args.pos)) c.deref.ensures.value (c.in_ok-grown.ensures.grew told_b)) in
     let built : (m : ℕ) → c.args.height ≡ suc m → Holds g.B.Ground c.grow_row.new.blocks m c.in_ok-grown.grown.items → Built g.B.Ground c.nodes_over.new.blocks m (even_lens (g.B.Ground.geometry c.grow_row.new.blocks).fan (length c.in_ok-grown.grown.items)) c.in_ok-grown.grown.items made.items =
-    subst (λ (r : List Part). (m : ℕ) → c.args.height ≡ suc m → Holds g.B.Ground c.grow_row.new.blocks m r → Built g.B.Ground c.nodes_over.new.blocks m (even_lens (g.B.Ground.geometry c.grow_row.new.blocks).fan (length r)) r made.items) c.deref-2.ensures.value (ok_of c.nodes_over.result made _ is c.nodes_over.ensures.built told_c) in
+    subst (λ (r : List Part). (m : ℕ) → c.args.height ≡ suc m → Holds g.B.Ground c.grow_row.new.blocks m r → Built g.B.Ground c.nodes_over.new.blocks m (even_lens (g.B.Ground.geometry c.grow_row.new.blocks).fan (length r)) r made.items) c.deref-2.ensures.value (IfOk-at_ok _ is c.nodes_over.ensures.built told_c) in
+    let counts : (m : ℕ) → c.args.height ≡ suc m → Holds g.B.Ground c.grow_row.new.blocks m c.in_ok-grown.grown.items → NamesPairs g.B.Ground → Counted g.B.Ground c.grow_row.new.blocks c.nodes_over.new.blocks =
+    subst (λ (r : List Part). (m : ℕ) → c.args.height ≡ suc m → Holds g.B.Ground c.grow_row.new.blocks m r → NamesPairs g.B.Ground → Counted g.B.Ground c.grow_row.new.blocks c.nodes_over.new.blocks) c.deref-2.ensures.value (from_ok c.nodes_over.result made _ is c.nodes_over.ensures.counts told_c) in
     root_grew g.B.Ground c.args.blocks.now c.row_of.new.blocks c.grow_row.new.blocks c.nodes_over.new.blocks c.args.growth (g.B.Ground.geometry c.args.blocks.now).fan (leaf_bytes (g.B.Ground.geometry c.args.blocks.now)) c.args.height l c.args.tree c.in_ok-below.below.items c.in_ok-grown.grown.items made.items c.args.pos c.args.given.now
-    same c.if-height-eq0.false kept c.in_ok-grown.ensures.extends (on_of c.nodes_over.result made _ is c.nodes_over.ensures.extends) refl (c.in_ok-below.ensures.found told) grew (ok_of c.nodes_over.result made _ is c.nodes_over.ensures.took) built holds)
+    same c.if-height-eq0.false kept c.in_ok-grown.ensures.extends (from_ok c.nodes_over.result made _ is c.nodes_over.ensures.extends) refl (c.in_ok-below.ensures.found told) grew (IfOk-at_ok _ is c.nodes_over.ensures.took) built counts holds)
 
 pub returns-then-height-eq0-clause-way : goal.returns-then-height-eq0-clause-way
 returns-then-height-eq0-clause-way g c =
-    on_ok c.grow_leaves.result _ _ (λ way told. way_low (g.B.Ground.geometry c.args.blocks.now) (g.B.Ground.unit c.args.blocks.now) (NamesLeaf (g.B.Ground.geometry c.args.blocks.now)) c.args.height 0 2 (c.args.tree ∷ []) (c.args.pos - 1) (c.args.pos - 1) c.if-height-eq0.true (way told)) c.grow_leaves.ensures.way
+    on_ok_weaker c.grow_leaves.result (λ way told. way_low (g.B.Ground.geometry c.args.blocks.now) (g.B.Ground.unit c.args.blocks.now) (NamesLeaf (g.B.Ground.geometry c.args.blocks.now)) c.args.height 0 2 (c.args.tree ∷ []) (c.args.pos - 1) (c.args.pos - 1) c.if-height-eq0.true (way told)) c.grow_leaves.ensures.way
 
 pub returns-clause-way : goal.returns-clause-way
-returns-clause-way g c = on_ok_on c.nodes_over.result _ (λ made is told.
+returns-clause-way g c = on_ok_from c.nodes_over.result _ (λ made is told.
     way_one (g.B.Ground.geometry c.args.blocks.now) (g.B.Ground.unit c.args.blocks.now) (NamesLeaf (g.B.Ground.geometry c.args.blocks.now)) c.args.height 2 c.args.tree c.in_ok-below.below.items (c.args.pos - 1) (c.args.pos - 1) c.if-height-eq0.false c.in_ok-below.ensures.area (c.in_ok-below.ensures.found told) c.in_ok-below.ensures.counted.filled
     (way_kept g.B.Ground NamesLeaf c.args.blocks.now c.row_of.new.blocks (c.args.height - 1) (g.B.Ground.geometry c.args.blocks.now).fan c.in_ok-below.below.items (c.args.pos - 1) (c.args.pos - 1) c.in_ok-below.ensures.kept
     (λ later. subst (λ k. IsSoundWay (g.B.Ground.geometry c.row_of.new.blocks) (g.B.Ground.unit c.row_of.new.blocks) (NamesLeaf (g.B.Ground.geometry c.row_of.new.blocks)) (c.args.height - 1) k c.in_ok-below.below.items (c.args.pos - 1) (c.args.pos - 1)) (ap (λ (geo : Geometry). geo.fan) (g.B.Ground.leads_geometry c.args.blocks.now c.row_of.new.blocks c.in_ok-below.ensures.kept.leads))

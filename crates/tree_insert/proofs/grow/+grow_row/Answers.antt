@@ -1,32 +1,35 @@
 use Rattle.std.proofs.Common.{arith, rules, ℕ, List, ◌≡◌, ◌≤◌, ◌<◌, ◌+◌, ◌-◌, ◌*◌, ◌^◌, ◌++◌, ◌∙◌, ap, sym, subst, refl, suc, length, take, drop, get_or, Result, Ok, Err, IfOk, OnOk}
 use Rattle.std.proofs.lemmas.List.{length-take-le}
+use Rattle.std.proofs.lemmas.Result.{on_ok_weaker}
 use Rattle.ex_base.specs.Edits.{inserted}
 use Rattle.ex_base.specs.declared.geometry.Geometry.{Geometry}
 use Rattle.ex_base.specs.declared.names.Area.{Area}
 use Rattle.ex_base.specs.declared.names.Area.TheVariants.{Page, Segment}
 use Rattle.ex_base.specs.Sizes.{leaf_bytes}
 use Rattle.count_nodes.specs.Split.{nodes_for}
-use Rattle.tree_rows.specs.declared.rows.Part.{Part}
-use Rattle.tree_rows.specs.Damage.{IsNodeFault, IsSoundWay, IsWalkFault}
-use Rattle.tree_rows.proofs.Blame.{walk_back, walk_node, walk_below}
-use Rattle.tree_rows.specs.Rows.{IsFilled, row_size, row_bytes, row_shape, FitLeaves}
-use Rattle.tree_rows.proofs.Parts.{narrow, below_fit}
-use Rattle.tree_steps.specs.Made.{Holds}
-use Rattle.tree_steps.specs.Built.{AreSome, Built, even_lens}
-use Rattle.tree_steps.proofs.Laid.{extends_on, extends_kept}
-use Rattle.tree_insert.specs.Grown.{Grew}
+use Rattle.trees.specs.declared.rows.Part.{Part}
+use Rattle.trees.specs.Damage.{IsNodeFault, IsSoundWay, IsWalkFault}
+use Rattle.trees.proofs.Blame.{walk_back, walk_node, walk_below}
+use Rattle.trees.specs.Rows.{IsFilled, row_size, row_bytes, row_shape, FitLeaves}
+use Rattle.trees.proofs.Parts.{narrow, below_fit}
+use Rattle.trees.specs.Made.{Holds}
+use Rattle.trees.specs.Built.{AreSome, Built, even_lens}
+use Rattle.trees.proofs.Laid.{extends_on, extends_kept}
+use Rattle.trees.specs.Counted.{Counted, NamesPairs}
+use Rattle.trees.specs.Grown.{Grew}
 use Rattle.tree_insert.specs.Growth.{IsSpot, row_by}
 use Rattle.tree_insert.specs.Need.{need_leaves}
 use Rattle.tree_insert.proofs.PlaceLaws.{read_size, read_most}
-use Rattle.tree_insert.proofs.Paid.{some_node, level_up, node_free, node_paid}
-use Rattle.tree_insert.proofs.PaidRows.{page_le, paid_at}
+use Rattle.trees.proofs.Paid.{some_node}
+use Rattle.tree_insert.proofs.Paid.{level_up, node_free, node_paid}
+use Rattle.tree_insert.proofs.PaidRows.{paid_at}
 use Rattle.tree_insert.proofs.NodeStep.{spot_below, tree_grown, tree_count, tree_grew}
-use Rattle.tree_insert.proofs.PlaceLaws.{no_part}
+use Rattle.trees.proofs.Reading.{no_part}
 use Rattle.ex_base.specs.Area.{NamesLeaf}
-use Rattle.tree_rows.proofs.Reading.{on_ok}
-use Rattle.tree_rows.proofs.Ways.{way_kept, way_low, way_one}
+use Rattle.ex_base.proofs.Geometries.{page_le}
+use Rattle.ex_base.proofs.Results.{if_err_handed}
+use Rattle.trees.proofs.Ways.{way_kept, way_low, way_one}
 use Rattle.tree_insert.proofs.SoundWays.{place_way}
-use Rattle.tree_insert.proofs.Results.{err_on}
 use Rattle.tree_insert.proofs.grow.+grow_row.Goals as goal
 
 if_ok_with : {X E : Type 0} (r : Result X E) (A : Type 0) (P Q : X → Type 0) → ((x : X) → A → P x → Q x) → OnOk r A → IfOk r P → IfOk r Q
@@ -149,18 +152,20 @@ returns-clause-grew g t c = λ told l same holds.
     (row_by c.args.growth (g.B.Ground.geometry c.row_of.new.blocks).fan (leaf_bytes (g.B.Ground.geometry c.row_of.new.blocks)) (length c.args.given.now) m (row_shape (g.B.Ground.unit c.row_of.new.blocks) m r) c.tree_at-index.result.1)) c.deref.ensures.value (c.in_ok-grown.ensures.grew told_b)) in
     let built : (m : ℕ) → c.args.level ≡ suc m → Holds g.B.Ground c.grow_row.new.blocks m c.in_ok-grown.grown.items → Built g.B.Ground c.nodes_over.new.blocks m (even_lens (g.B.Ground.geometry c.grow_row.new.blocks).fan (length c.in_ok-grown.grown.items)) c.in_ok-grown.grown.items c.in_ok-made.made.items =
     subst (λ (r : List Part). (m : ℕ) → c.args.level ≡ suc m → Holds g.B.Ground c.grow_row.new.blocks m r → Built g.B.Ground c.nodes_over.new.blocks m (even_lens (g.B.Ground.geometry c.grow_row.new.blocks).fan (length r)) r c.in_ok-made.made.items) c.deref-2.ensures.value (made.built told_c) in
+    let counts : (m : ℕ) → c.args.level ≡ suc m → Holds g.B.Ground c.grow_row.new.blocks m c.in_ok-grown.grown.items → NamesPairs g.B.Ground → Counted g.B.Ground c.grow_row.new.blocks c.nodes_over.new.blocks =
+    subst (λ (r : List Part). (m : ℕ) → c.args.level ≡ suc m → Holds g.B.Ground c.grow_row.new.blocks m r → NamesPairs g.B.Ground → Counted g.B.Ground c.grow_row.new.blocks c.nodes_over.new.blocks) c.deref-2.ensures.value (made.counts told_c) in
     tree_grew g.B.Ground c.args.blocks.now c.row_of.new.blocks c.grow_row.new.blocks c.nodes_over.new.blocks c.args.growth (g.B.Ground.geometry c.args.blocks.now).fan (leaf_bytes (g.B.Ground.geometry c.args.blocks.now)) c.args.level l c.args.row.now c.args.pos c.tree_at-index.result.0 c.tree_at-index.result.1 c.args.given.now c.in_ok-below.below.items c.in_ok-grown.grown.items c.in_ok-made.made.items c.in_ok-spliced.field-0.items
-    c.requires.ready told same c.if-level-eq0.false kept c.in_ok-grown.ensures.extends made.extends refl (c.in_ok-below.ensures.found told) holds c.requires.sizes c.requires.spot c.tree_at-index.ensures grew made.took built (c.in_ok-spliced.ensures ∙ ap (λ m. (take c.tree_at-index.result.0 c.args.row.now ++ m) ++ drop (c.tree_at-index.result.0 + 1) c.args.row.now) c.deref-3.ensures.value)
+    c.requires.ready told same c.if-level-eq0.false kept c.in_ok-grown.ensures.extends made.extends refl (c.in_ok-below.ensures.found told) holds c.requires.sizes c.requires.spot c.tree_at-index.ensures grew made.took built counts (c.in_ok-spliced.ensures ∙ ap (λ m. (take c.tree_at-index.result.0 c.args.row.now ++ m) ++ drop (c.tree_at-index.result.0 + 1) c.args.row.now) c.deref-3.ensures.value)
 
 pub returns-in_err-below-clause-fault : goal.returns-in_err-below-clause-fault
 returns-in_err-below-clause-fault g t c =
-    err_on c.from_residual.result _ c.in_err-below.field-0.0 c.from_residual.ensures.1
+    if_err_handed c.from_residual.result _ c.in_err-below.field-0.0 c.from_residual.ensures.1
     (λ told. walk_node (g.B.Ground.geometry c.args.blocks.now) (g.B.Ground.unit c.args.blocks.now) c.args.level (g.B.Ground.geometry c.args.blocks.now).fan c.tree_at-index.result.0 c.args.row.now c.in_err-below.field-0.0 c.if-level-eq0.false c.tree_at-index.ensures.inside
     (subst (λ (x : Geometry). IsNodeFault (g.B.Ground.geometry c.args.blocks.now) (g.B.Ground.unit c.args.blocks.now (get_or c.args.row.now c.tree_at-index.result.0 no_part).page.0) c.args.level (get_or c.args.row.now c.tree_at-index.result.0 no_part).size x.fan (get_or c.args.row.now c.tree_at-index.result.0 no_part).page.0 c.in_err-below.field-0.0) c.geometry-geometry.ensures (c.in_err-below.ensures.fault told)))
 
 pub returns-in_err-grown-clause-fault : goal.returns-in_err-grown-clause-fault
 returns-in_err-grown-clause-fault g t c =
-    err_on c.from_residual-in_err-grown.result _ c.in_err-grown.field-0.0 c.from_residual-in_err-grown.ensures.1
+    if_err_handed c.from_residual-in_err-grown.result _ c.in_err-grown.field-0.0 c.from_residual-in_err-grown.ensures.1
     (λ told. walk_below (g.B.Ground.geometry c.args.blocks.now) (g.B.Ground.unit c.args.blocks.now) c.args.level (g.B.Ground.geometry c.args.blocks.now).fan c.tree_at-index.result.0 c.args.row.now c.in_ok-below.below.items c.in_err-grown.field-0.0 c.if-level-eq0.false c.tree_at-index.ensures.inside c.in_ok-below.ensures.area (c.in_ok-below.ensures.found told)
     (subst (λ (x : Geometry). IsFilled (g.B.Ground.geometry c.args.blocks.now) c.args.level x.fan c.in_ok-below.below.items) c.geometry-geometry.ensures c.in_ok-below.ensures.counted.filled)
     (walk_back g.B.Ground c.args.blocks.now c.row_of.new.blocks (c.args.level - 1) (g.B.Ground.geometry c.args.blocks.now).fan c.in_ok-below.below.items c.in_err-grown.field-0.0 c.in_ok-below.ensures.kept
@@ -169,7 +174,7 @@ returns-in_err-grown-clause-fault g t c =
 
 pub returns-then-level-eq0-clause-way : goal.returns-then-level-eq0-clause-way
 returns-then-level-eq0-clause-way g t c =
-    on_ok c.grow_leaves.result _ _ (λ way told. way_low (g.B.Ground.geometry c.args.blocks.now) (g.B.Ground.unit c.args.blocks.now) (NamesLeaf (g.B.Ground.geometry c.args.blocks.now)) c.args.level 0 (g.B.Ground.geometry c.args.blocks.now).fan c.args.row.now (c.args.pos - 1) (c.args.pos - 1) c.if-level-eq0.true (way told)) c.grow_leaves.ensures.way
+    on_ok_weaker c.grow_leaves.result (λ way told. way_low (g.B.Ground.geometry c.args.blocks.now) (g.B.Ground.unit c.args.blocks.now) (NamesLeaf (g.B.Ground.geometry c.args.blocks.now)) c.args.level 0 (g.B.Ground.geometry c.args.blocks.now).fan c.args.row.now (c.args.pos - 1) (c.args.pos - 1) c.if-level-eq0.true (way told)) c.grow_leaves.ensures.way
 
 pub returns-clause-way : goal.returns-clause-way
 returns-clause-way g t c = λ told.

@@ -2,21 +2,22 @@ use Rattle.std.proofs.Common.{arith, inl, inr, ◌≡◌, ◌≤◌, ◌+◌, �
 use Rattle.std.specs.List.{AllByRecursion}
 use Rattle.ex_base.specs.Even.{sum_of}
 use Rattle.ex_base.proofs.Spread.{plain, Between}
+use Rattle.ex_base.proofs.Geometries.{leaf_some}
+use Rattle.ex_base.proofs.Results.{if_err_handed}
 use Rattle.leaf_segments.specs.Layout.{layout_of}
-use Rattle.tree_rows.specs.declared.rows.Part.{Part}
-use Rattle.tree_rows.specs.Damage.{IsWalkFault}
-use Rattle.tree_rows.proofs.Blame.{walk_part}
-use Rattle.tree_rows.specs.Rows.{row_size, row_bytes, row_shape}
-use Rattle.tree_steps.specs.Made.{Holds, changed, sizes_of}
-use Rattle.tree_insert.specs.Grown.{Grew}
+use Rattle.trees.specs.declared.rows.Part.{Part}
+use Rattle.trees.specs.Damage.{IsWalkFault}
+use Rattle.trees.proofs.Blame.{walk_part}
+use Rattle.trees.specs.Rows.{row_size, row_bytes, row_shape}
+use Rattle.trees.specs.Made.{Holds, changed, sizes_of}
+use Rattle.trees.specs.Grown.{Grew}
 use Rattle.tree_insert.specs.Growth.{row_by}
 use Rattle.ex_base.specs.Edits.{inserted}
 use Rattle.tree_insert.specs.Places.{last_of, first_of, size_at}
-use Rattle.tree_insert.proofs.LeafStep.{leaf_step, leaf_some, left_there, right_there, step_count, step_grown, leaves_grew}
+use Rattle.tree_insert.proofs.LeafStep.{leaf_step, left_there, right_there, step_count, step_grown, leaves_grew}
 use Rattle.ex_base.specs.Area.{NamesLeaf}
 use Rattle.std.proofs.lemmas.Bool.{cases_lt}
 use Rattle.tree_insert.proofs.SoundWays.{leaves_way_at}
-use Rattle.tree_insert.proofs.Results.{err_on}
 use Rattle.tree_insert.proofs.grow.grow_leaves.Goals as goal
 
 pub run_of-run-requires-clause-left : goal.run_of-run-requires-clause-left
@@ -114,11 +115,11 @@ returns-clause-grew g c = λ told holds.
     subst (λ k. Grew g.B.Ground c.args.blocks.now c.write_leaves.new.blocks 0 c.args.row.now c.in_ok-spliced.field-0.items (inserted (row_bytes (g.B.Ground.unit c.args.blocks.now) 0 c.args.row.now) c.args.pos c.args.given.now)
     (row_by c.args.growth (g.B.Ground.geometry c.args.blocks.now).fan k (length c.args.given.now) 0 (row_shape (g.B.Ground.unit c.args.blocks.now) 0 c.args.row.now) c.args.pos)) c.requires.buffer
     (leaves_grew g.B.Ground c.args.blocks.now c.write_leaves.new.blocks c.args.growth (g.B.Ground.geometry c.args.blocks.now).fan (length c.args.buffer.now) c.args.row.now c.args.pos c.run_of-run.result.first c.run_of-run.result.end c.run_of-run.result.at c.args.given.now
-    (layout_of (length c.args.buffer.now) c.plan_for-plan.result).lengths c.in_ok-made.made.items c.in_ok-spliced.field-0.items c.requires.ready told c.requires.buffer step made.extends holds (c.in_ok-spliced.ensures ∙ ap (λ m. (take c.run_of-run.result.first c.args.row.now ++ m) ++ drop c.run_of-run.result.end c.args.row.now) c.deref-2.ensures.value) (c.in_ok-made.ensures.sizes ∙ c.deref.ensures.value ∙ c.in_ok-lengths.ensures) made.named made.took bytes)
+    (layout_of (length c.args.buffer.now) c.plan_for-plan.result).lengths c.in_ok-made.made.items c.in_ok-spliced.field-0.items c.requires.ready told c.requires.buffer step made.extends holds (c.in_ok-spliced.ensures ∙ ap (λ m. (take c.run_of-run.result.first c.args.row.now ++ m) ++ drop c.run_of-run.result.end c.args.row.now) c.deref-2.ensures.value) (c.in_ok-made.ensures.sizes ∙ c.deref.ensures.value ∙ c.in_ok-lengths.ensures) made.named made.took made.counts bytes)
 
 pub returns-in_err-made-clause-fault : goal.returns-in_err-made-clause-fault
 returns-in_err-made-clause-fault g c =
-    err_on c.from_residual-in_err-made.result _ c.in_err-made.field-0.0 c.from_residual-in_err-made.ensures.1
+    if_err_handed c.from_residual-in_err-made.result _ c.in_err-made.field-0.0 c.from_residual-in_err-made.ensures.1
     (λ told. walk_part (g.B.Ground.geometry c.args.blocks.now) (g.B.Ground.unit c.args.blocks.now) 0 0 c.run_of-run.result.first (c.run_of-run.result.end - c.run_of-run.result.first) c.args.row.now c.in_err-made.field-0.0
     (subst (λ r. IsWalkFault (g.B.Ground.geometry c.args.blocks.now) (g.B.Ground.unit c.args.blocks.now) 0 0 r c.in_err-made.field-0.0) c.piece-old.ensures (c.in_err-made.ensures.fault told)))
 

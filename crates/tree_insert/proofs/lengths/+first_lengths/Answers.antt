@@ -1,27 +1,28 @@
 use Rattle.std.proofs.Common.{rules, arith, [], ◌∷◌, ◌++◌, ◌≤◌, ◌<◌, ◌-◌, ◌^◌, ◌∙◌, ap, sym, subst, take, get_or, take_all}
 use Rattle.ex_base.specs.declared.geometry.Geometry.{Geometry}
-use Rattle.tree_rows.specs.declared.rows.Part.{Part}
-use Rattle.tree_rows.specs.Damage.{IsWalkFault}
-use Rattle.tree_rows.specs.Rows.{row_size, IsRowOn, IsFilled}
-use Rattle.tree_rows.proofs.Blame.{walk_back, walk_below}
-use Rattle.tree_steps.specs.Built.{AreSome}
-use Rattle.tree_steps.proofs.Laid.{each_at}
+use Rattle.ex_base.proofs.Each.{each_at}
+use Rattle.ex_base.proofs.Results.{if_err_handed}
+use Rattle.trees.specs.declared.rows.Part.{Part}
+use Rattle.trees.specs.Damage.{IsWalkFault}
+use Rattle.trees.specs.Rows.{row_size, IsRowOn, IsFilled}
+use Rattle.trees.proofs.Blame.{walk_back, walk_below}
+use Rattle.trees.specs.Built.{AreSome}
 use Rattle.tree_insert.proofs.BelowRows.{walk_one}
 use Rattle.tree_insert.proofs.Counting.{leaves_in, leaf_front, front_step, front_node}
-use Rattle.tree_insert.proofs.PlaceLaws.{no_part, read_most}
-use Rattle.tree_insert.proofs.Results.{err_on}
+use Rattle.trees.proofs.Reading.{no_part}
+use Rattle.tree_insert.proofs.PlaceLaws.{read_most}
 use Rattle.tree_insert.proofs.lengths.+first_lengths.Goals as goal
 
 pub first_lengths-requires : goal.first_lengths-requires
 first_lengths-requires g t c κs within =
     let ready : g.B.Ground.ready c.loop-child.blocks = g.B.Ground.leads_ready c.args.blocks.now c.loop-child.blocks c.loop-child.invariant.kept.leads c.requires.ready in
-    let some : 1 ≤ (get_or c.deref-child-items.result.now c.loop-child.child-index no_part).size = each_at (λ (part : Part). 1 ≤ part.size) c.deref-child-items.result.now c.loop-child.child-index no_part (subst AreSome (sym c.deref-child-items.ensures.value) c.in_ok-below.ensures.counted.some) c.loop-child-test.true in
+    let some : 1 ≤ (get_or c.deref-child-items.result.now c.loop-child.child-index no_part).size = each_at (λ (part : Part). 1 ≤ part.size) c.deref-child-items.result.now c.loop-child.child-index no_part c.loop-child-test.true (subst AreSome (sym c.deref-child-items.ensures.value) c.in_ok-below.ensures.counted.some) in
     let limit : (get_or c.deref-child-items.result.now c.loop-child.child-index no_part).size < 2 ^ 32 = omega (arith, read_most c.deref-child-items.result.now c.loop-child.child-index, ap row_size c.deref-child-items.ensures.value, c.in_ok-below.ensures.counted.sum, c.requires.limit) in
     search rules
 
 pub returns-in_err-first_lengths-clause-fault : goal.returns-in_err-first_lengths-clause-fault
 returns-in_err-first_lengths-clause-fault g t c =
-    err_on c.from_residual-in_err-first_lengths.result _ c.in_err-first_lengths.field-0.0 c.from_residual-in_err-first_lengths.ensures.1
+    if_err_handed c.from_residual-in_err-first_lengths.result _ c.in_err-first_lengths.field-0.0 c.from_residual-in_err-first_lengths.ensures.1
     (λ told. walk_below (g.B.Ground.geometry c.args.blocks.now) (g.B.Ground.unit c.args.blocks.now) c.args.level c.args.least 0 (c.args.tree ∷ []) c.deref-child-items.result.now c.in_err-first_lengths.field-0.0 c.if-level-eq0.false (omega arith) c.in_ok-below.ensures.area (subst (IsRowOn (g.B.Ground.geometry c.args.blocks.now) ((g.B.Ground.unit c.args.blocks.now) c.args.tree.page.0) c.args.level c.args.tree.size) (sym c.deref-child-items.ensures.value) (c.in_ok-below.ensures.found told)) (subst (IsFilled (g.B.Ground.geometry c.args.blocks.now) c.args.level c.args.least) (sym c.deref-child-items.ensures.value) c.in_ok-below.ensures.counted.filled)
     (walk_back g.B.Ground c.args.blocks.now c.loop-child.blocks (c.args.level - 1) (g.B.Ground.geometry c.args.blocks.now).fan c.deref-child-items.result.now c.in_err-first_lengths.field-0.0 c.loop-child.invariant.kept
     (λ later. walk_one (g.B.Ground.geometry c.loop-child.blocks) (g.B.Ground.unit c.loop-child.blocks) (c.args.level - 1) (g.B.Ground.geometry c.args.blocks.now).fan c.loop-child.child-index c.deref-child-items.result.now c.in_err-first_lengths.field-0.0 c.loop-child-test.true

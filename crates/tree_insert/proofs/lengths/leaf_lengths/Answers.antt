@@ -1,39 +1,39 @@
 use Rattle.std.proofs.Common.{rules, arith, [], ◌∷◌, ◌++◌, ◌≡◌, ◌∙◌, Option, Some, None, ap, sym, subst, refl, length, take, drop, nat_eq}
+use Rattle.std.proofs.lemmas.Result.{IfErr-weaker, IfOk-at_ok, on_ok_weaker}
 use Rattle.std.specs.HashMap.{get}
 use Rattle.ex_base.specs.declared.names.PageNo.{PageNo}
-use Rattle.tree_rows.specs.Damage.{AnyPage, IsWalkFault, root_row_at}
-use Rattle.tree_rows.proofs.Reading.{on_ok}
-use Rattle.tree_rows.proofs.Ways.{way_kept}
+use Rattle.ex_base.proofs.Results.{if_err_handed, if_ok_from, on_ok_from}
+use Rattle.trees.specs.Damage.{AnyPage, IsWalkFault, root_row_at}
+use Rattle.trees.proofs.Ways.{way_kept}
 use Rattle.tree_insert.proofs.SoundWays.{root_way}
-use Rattle.tree_rows.proofs.Blame.{if_err_on, walk_back}
-use Rattle.tree_rows.proofs.Sound.{sound_root}
-use Rattle.tree_model.specs.Shape.{joined, leaves_of}
-use Rattle.tree_model.specs.Trees.{root_shape, shape_on}
+use Rattle.trees.proofs.Blame.{walk_back}
+use Rattle.trees.proofs.Sound.{sound_root}
+use Rattle.trees.specs.Shape.{joined, leaves_of}
+use Rattle.trees.specs.Trees.{root_shape, shape_on}
 use Rattle.tree_insert.proofs.Counting.{root_trees, root_leaves, root_count, front_filled}
-use Rattle.tree_insert.proofs.Results.{err_on, if_ok_on, on_ok_on, ok_of}
 use Rattle.tree_insert.proofs.lengths.leaf_lengths.Goals as goal
 
 pub returns-in_err-first_lengths-clause-sound : goal.returns-in_err-first_lengths-clause-sound
 returns-in_err-first_lengths-clause-sound g c =
-    err_on c.from_residual.result _ c.in_err-first_lengths.field-0.0 c.from_residual.ensures.1
+    if_err_handed c.from_residual.result _ c.in_err-first_lengths.field-0.0 c.from_residual.ensures.1
     (λ told whole. sound_root (g.B.Ground.geometry c.args.blocks.now) (g.B.Ground.unit c.args.blocks.now) c.args.root.now c.in_err-first_lengths.field-0.0 whole
     (subst (λ (p : Option PageNo). IsWalkFault (g.B.Ground.geometry c.args.blocks.now) (g.B.Ground.unit c.args.blocks.now) c.args.root.now.height 2 (root_row_at c.args.root.now.size p) c.in_err-first_lengths.field-0.0) (sym c.in-Some.is) (c.in_err-first_lengths.ensures.fault told)))
 
 pub returns-clause-sound : goal.returns-clause-sound
 returns-clause-sound g c =
-    if_err_on c.count_leaves.result _ _ (λ f h told whole. sound_root (g.B.Ground.geometry c.args.blocks.now) (g.B.Ground.unit c.args.blocks.now) c.args.root.now f whole
+    IfErr-weaker c.count_leaves.result _ _ (λ f h told whole. sound_root (g.B.Ground.geometry c.args.blocks.now) (g.B.Ground.unit c.args.blocks.now) c.args.root.now f whole
     (subst (λ (p : Option PageNo). IsWalkFault (g.B.Ground.geometry c.args.blocks.now) (g.B.Ground.unit c.args.blocks.now) c.args.root.now.height 2 (root_row_at c.args.root.now.size p) f) (sym c.in-Some.is) (walk_back g.B.Ground c.args.blocks.now c.first_lengths.new.blocks c.args.root.now.height 2 (record { size = c.args.root.now.size; page = c.in-Some.page } ∷ []) f c.in_ok-first_lengths.ensures.kept h told))) c.count_leaves.ensures.fault
 
 pub returns-clause-count : goal.returns-clause-count
 returns-clause-count g c =
-    if_ok_on c.count_leaves.result _ (λ n is told bytes spells.
+    if_ok_from c.count_leaves.result _ (λ n is told bytes spells.
     let told_b = g.B.Ground.leads_told c.args.blocks.now c.first_lengths.new.blocks c.in_ok-first_lengths.ensures.kept.leads told in
     root_count g.B.Ground c.args.blocks.now c.first_lengths.new.blocks c.args.root.now c.in-Some.page bytes n c.in-Some.is c.in_ok-first_lengths.ensures.kept spells
-    (λ trees. ok_of c.count_leaves.result n _ is c.count_leaves.ensures.count told_b (λ p x there. let none : get nat_eq c.new-known.result p ≡ None = search rules in let clash : Some x ≡ None = sym there ∙ none in absurd cc) c.args.root.now.height refl trees))
+    (λ trees. IfOk-at_ok _ is c.count_leaves.ensures.count told_b (λ p x there. let none : get nat_eq c.new-known.result p ≡ None = search rules in let clash : Some x ≡ None = sym there ∙ none in absurd cc) c.args.root.now.height refl trees))
 
 pub returns-clause-lengths : goal.returns-clause-lengths
 returns-clause-lengths g c =
-    on_ok_on c.count_leaves.result _ (λ n is told bytes spells.
+    on_ok_from c.count_leaves.result _ (λ n is told bytes spells.
     let listed : c.first_lengths.new.lengths.items ≡ take (length c.args.first.now) (c.new-lengths.result.items ++ (joined c.args.root.now.height (shape_on (g.B.Ground.unit c.args.blocks.now) c.args.root.now.height c.in-Some.page.0 c.args.root.now.size))) =
     c.in_ok-first_lengths.ensures.lengths told c.args.root.now.height refl (root_trees (g.B.Ground.geometry c.args.blocks.now) (g.B.Ground.unit c.args.blocks.now) c.args.root.now c.in-Some.page bytes c.in-Some.is spells) in
     let copied : c.copy_from_slice.new.self ≡ c.first_lengths.new.lengths.items = c.copy_from_slice.ensures.after ∙ c.deref.ensures.value in
@@ -44,7 +44,7 @@ returns-clause-lengths g c =
 
 pub returns-clause-way : goal.returns-clause-way
 returns-clause-way g c =
-    on_ok c.count_leaves.result _ _ (λ way told byte.
+    on_ok_weaker c.count_leaves.result (λ way told byte.
     root_way (g.B.Ground.geometry c.args.blocks.now) (g.B.Ground.unit c.args.blocks.now) AnyPage c.args.root.now c.in-Some.page byte byte c.in-Some.is
     (way_kept g.B.Ground (λ geo. AnyPage) c.args.blocks.now c.first_lengths.new.blocks c.args.root.now.height 2 (record { size = c.args.root.now.size; page = c.in-Some.page } ∷ []) byte byte c.in_ok-first_lengths.ensures.kept
     (λ later. way later (g.B.Ground.geometry c.first_lengths.new.blocks).two (λ p x there. let none : get nat_eq c.new-known.result p ≡ None = search rules in let clash : Some x ≡ None = sym there ∙ none in absurd cc) byte) told)) c.count_leaves.ensures.way

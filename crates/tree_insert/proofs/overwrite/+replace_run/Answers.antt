@@ -1,5 +1,6 @@
 use Rattle.std.proofs.Common.{rules, arith, ℕ, List, ◌≡◌, ◌≤◌, ◌<◌, ◌+◌, ◌-◌, ◌*◌, ◌^◌, ◌++◌, ◌∙◌, ap, sym, subst, suc, length, take, drop}
 use Rattle.std.proofs.lemmas.List.{length-take-le}
+use Rattle.std.proofs.lemmas.Result.{IfOk-at_ok, on_ok_weaker}
 use Rattle.ex_base.specs.Bytes.{written}
 use Rattle.ex_base.specs.Sizes.{leaf_bytes}
 use Rattle.ex_base.specs.declared.geometry.Geometry.{Geometry}
@@ -7,31 +8,33 @@ use Rattle.ex_base.specs.declared.names.Area.{Area}
 use Rattle.ex_base.specs.declared.names.Area.TheVariants.{Page, Segment}
 use Rattle.ex_base.proofs.Spread.{Between}
 use Rattle.count_nodes.specs.Split.{most_pairs}
-use Rattle.tree_rows.specs.declared.rows.Part.{Part}
-use Rattle.tree_rows.specs.Damage.{AnyPage, IsSoundEnd, IsSoundWay, IsWalkFault}
-use Rattle.tree_rows.specs.Rows.{row_size, row_bytes, row_shape}
-use Rattle.tree_steps.specs.Built.{AreSome, Built, IsCut}
-use Rattle.tree_steps.specs.Made.{Holds}
-use Rattle.tree_steps.proofs.Laid.{extends_on, extends_kept, each_same}
-use Rattle.tree_insert.specs.Grown.{Grew}
+use Rattle.trees.specs.declared.rows.Part.{Part}
+use Rattle.trees.specs.Damage.{AnyPage, IsSoundEnd, IsSoundWay, IsWalkFault}
+use Rattle.trees.specs.Rows.{row_size, row_bytes, row_shape}
+use Rattle.trees.specs.Built.{AreSome, Built, IsCut}
+use Rattle.trees.specs.Made.{Holds}
+use Rattle.trees.proofs.Laid.{extends_on, extends_kept}
+use Rattle.trees.specs.Counted.{Counted, NamesPairs}
+use Rattle.trees.specs.Grown.{Grew}
 use Rattle.tree_insert.specs.Replaced.{IsSpan, IsTouched, IsSpent, AreLeaves, touched_leaves}
 use Rattle.tree_insert.proofs.BelowRows.{size_below, count_below, lens_below, as_many, some_below}
-use Rattle.tree_insert.proofs.PaidRows.{page_le}
 use Rattle.tree_insert.proofs.Paid.{level_up}
 use Rattle.tree_insert.proofs.ReplacedLeaves.{few_leaves}
 use Rattle.tree_insert.proofs.ReplacedRuns.{run_replaced, same_row, touched_count, touched_sum, touched_some, touched_leaves_fit, spent_at, few_up, enough_nodes, nodes_spent, walk_touched}
 use Rattle.ex_base.specs.Area.{NamesLeaf}
-use Rattle.tree_rows.proofs.Reading.{on_ok}
-use Rattle.tree_rows.proofs.Ways.{way_any, way_kept, way_low}
+use Rattle.trees.proofs.Ways.{way_any, way_kept, way_low}
 use Rattle.tree_insert.proofs.SoundWays.{run_way, touched_end, touched_way}
-use Rattle.tree_insert.proofs.Results.{if_ok_on, on_ok_on, ok_of, on_of, cause_on, err_on}
+use Rattle.ex_base.proofs.Keeping.{cause_on}
+use Rattle.ex_base.proofs.Each.{each_as}
+use Rattle.ex_base.proofs.Geometries.{page_le}
+use Rattle.ex_base.proofs.Results.{from_ok, if_err_handed, if_ok_from, on_ok_from}
 use Rattle.tree_insert.proofs.overwrite.+replace_run.Goals as goal
 
 pub returns-then-level-eq0-clause-spent : goal.returns-then-level-eq0-clause-spent
 returns-then-level-eq0-clause-spent g t c =
-    on_ok_on c.replace_leaves.result _ (λ made is.
+    on_ok_from c.replace_leaves.result _ (λ made is.
     let few = few_leaves (g.B.Ground.geometry c.args.blocks.now) c.args.run.now c.args.pos (length c.args.given.now) (subst (λ k. AreLeaves (g.B.Ground.geometry c.args.blocks.now) k c.args.run.now) c.if-level-eq0.true c.requires.leaves) c.requires.touched in
-    omega (arith, ap (λ k. ((g.B.Ground.geometry c.args.blocks.now).fan - 1) * k) (on_of c.replace_leaves.result made _ is c.replace_leaves.ensures.pages), ap (λ k. k * (2 * ((g.B.Ground.geometry c.args.blocks.now).fan - 1))) c.if-level-eq0.true))
+    omega (arith, ap (λ k. ((g.B.Ground.geometry c.args.blocks.now).fan - 1) * k) (from_ok c.replace_leaves.result made _ is c.replace_leaves.ensures.pages), ap (λ k. k * (2 * ((g.B.Ground.geometry c.args.blocks.now).fan - 1))) c.if-level-eq0.true))
 
 pub span_of-span-requires-clause-all : goal.span_of-span-requires-clause-all
 span_of-span-requires-clause-all g t c = omega (arith, ap row_size c.deref.ensures.value, size_below (g.B.Ground.geometry c.args.blocks.now) c.args.level c.args.least c.args.run.now c.in_ok-below.below.lens.items c.in_ok-below.below.row.items c.in_ok-below.ensures.counted, c.requires.touched.all)
@@ -61,7 +64,7 @@ replace_run-requires g t c κs within =
 
 pub returns-in_err-made-clause-fault : goal.returns-in_err-made-clause-fault
 returns-in_err-made-clause-fault g t c =
-    err_on c.from_residual-in_err-made.result _ c.in_err-made.field-0.0 c.from_residual-in_err-made.ensures.1
+    if_err_handed c.from_residual-in_err-made.result _ c.in_err-made.field-0.0 c.from_residual-in_err-made.ensures.1
     (walk_touched g.B.Ground c.args.blocks.now c.row_below.new.blocks c.args.level c.args.least c.args.run.now c.in_ok-below.below.lens.items c.in_ok-below.below.row.items c.span_of-span.result.first (c.span_of-span.result.end - c.span_of-span.result.first) c.in_err-made.field-0.0 c.if-level-eq0.false c.in_ok-below.ensures.kept c.in_ok-below.ensures.counted c.in_ok-below.ensures.found c.in_ok-below.ensures.area
     (λ told. subst (λ r. IsWalkFault (g.B.Ground.geometry c.row_below.new.blocks) (g.B.Ground.unit c.row_below.new.blocks) (c.args.level - 1) (g.B.Ground.geometry c.args.blocks.now).fan r c.in_err-made.field-0.0) (c.piece-touched.ensures ∙ ap (λ r. take (c.span_of-span.result.end - c.span_of-span.result.first) (drop c.span_of-span.result.first r)) c.deref-2.ensures.value)
     (subst (λ (x : Geometry). IsWalkFault (g.B.Ground.geometry c.row_below.new.blocks) (g.B.Ground.unit c.row_below.new.blocks) (c.args.level - 1) x.fan c.piece-touched.result.now c.in_err-made.field-0.0) c.geometry-geometry.ensures (c.in_err-made.ensures.fault told))))
@@ -85,7 +88,7 @@ nodes_by-requires-clause-lens g t c =
     subst (λ (x : Geometry). IsCut (most_pairs x.fan) (length c.deref-5.result.now) c.deref-6.result.now) (sym ((g.B.Ground.leads_geometry c.row_below.new.blocks c.replace_run.new.blocks c.in_ok-made.ensures.extends.leads ∙ (g.B.Ground.leads_geometry c.args.blocks.now c.row_below.new.blocks c.in_ok-below.ensures.kept.leads))))
     (subst (λ k. IsCut (most_pairs (g.B.Ground.geometry c.args.blocks.now).fan) k c.deref-6.result.now) (sym (ap length c.deref-5.ensures.value ∙ (same_row c.in_ok-below.below.row.items c.in_ok-made.made.items c.in_ok-row.row.items c.span_of-span.result.first c.span_of-span.result.end c.span_of-span.ensures.order (omega (arith, c.span_of-span.ensures.within, ap length c.deref.ensures.value)) (c.in_ok-row.ensures ∙ ap (λ r. (take c.span_of-span.result.first r ++ c.deref-4.result.now) ++ drop c.span_of-span.result.end r) c.deref-3.ensures.value ∙ ap (λ m. (take c.span_of-span.result.first c.in_ok-below.below.row.items ++ m) ++ drop c.span_of-span.result.end c.in_ok-below.below.row.items) c.deref-4.ensures.value) (c.in_ok-made.ensures.sum ∙ ap row_size (c.piece-touched.ensures ∙ ap (λ r. take (c.span_of-span.result.end - c.span_of-span.result.first) (drop c.span_of-span.result.first r)) c.deref-2.ensures.value)) (c.in_ok-made.ensures.count ∙ ap length (c.piece-touched.ensures ∙ ap (λ r. take (c.span_of-span.result.end - c.span_of-span.result.first) (drop c.span_of-span.result.first r)) c.deref-2.ensures.value)) (some_below (g.B.Ground.geometry c.args.blocks.now) c.args.level c.args.least c.args.run.now c.in_ok-below.below.lens.items c.in_ok-below.below.row.items c.in_ok-below.ensures.counted) c.in_ok-made.ensures.sizes).count))
     (subst (IsCut (most_pairs (g.B.Ground.geometry c.args.blocks.now).fan) (length c.in_ok-below.below.row.items)) (sym c.deref-6.ensures.value) (record {
-      each = each_same _ (Between 1 (most_pairs (g.B.Ground.geometry c.args.blocks.now).fan)) c.in_ok-below.below.lens.items (λ k h. (omega (arith, h.0, c.requires.some), h.1)) (lens_below (g.B.Ground.geometry c.args.blocks.now) c.args.level c.args.least c.args.run.now c.in_ok-below.below.lens.items c.in_ok-below.below.row.items c.in_ok-below.ensures.counted);
+      each = each_as _ (Between 1 (most_pairs (g.B.Ground.geometry c.args.blocks.now).fan)) c.in_ok-below.below.lens.items (λ k h. (omega (arith, h.0, c.requires.some), h.1)) (lens_below (g.B.Ground.geometry c.args.blocks.now) c.args.level c.args.least c.args.run.now c.in_ok-below.below.lens.items c.in_ok-below.below.row.items c.in_ok-below.ensures.counted);
       sum = count_below (g.B.Ground.geometry c.args.blocks.now) c.args.level c.args.least c.args.run.now c.in_ok-below.below.lens.items c.in_ok-below.below.row.items c.in_ok-below.ensures.counted;
     })))
 
@@ -97,26 +100,26 @@ nodes_by-requires-clause-free g t c =
 
 pub returns-clause-extends : goal.returns-clause-extends
 returns-clause-extends g t c =
-    on_ok_on c.nodes_by.result _ (λ made is. extends_on g.B.Ground c.args.blocks.now c.row_below.new.blocks c.nodes_by.new.blocks (extends_kept g.B.Ground c.args.blocks.now c.row_below.new.blocks c.in_ok-below.ensures.kept) (extends_on g.B.Ground c.row_below.new.blocks c.replace_run.new.blocks c.nodes_by.new.blocks c.in_ok-made.ensures.extends (on_of c.nodes_by.result made _ is c.nodes_by.ensures.extends)))
+    on_ok_from c.nodes_by.result _ (λ made is. extends_on g.B.Ground c.args.blocks.now c.row_below.new.blocks c.nodes_by.new.blocks (extends_kept g.B.Ground c.args.blocks.now c.row_below.new.blocks c.in_ok-below.ensures.kept) (extends_on g.B.Ground c.row_below.new.blocks c.replace_run.new.blocks c.nodes_by.new.blocks c.in_ok-made.ensures.extends (from_ok c.nodes_by.result made _ is c.nodes_by.ensures.extends)))
 
 pub returns-clause-sum : goal.returns-clause-sum
-returns-clause-sum g t c = if_ok_on c.nodes_by.result _ (λ made is. omega (arith, ok_of c.nodes_by.result made _ is c.nodes_by.ensures.sum, ap row_size c.deref-5.ensures.value, (same_row c.in_ok-below.below.row.items c.in_ok-made.made.items c.in_ok-row.row.items c.span_of-span.result.first c.span_of-span.result.end c.span_of-span.ensures.order (omega (arith, c.span_of-span.ensures.within, ap length c.deref.ensures.value)) (c.in_ok-row.ensures ∙ ap (λ r. (take c.span_of-span.result.first r ++ c.deref-4.result.now) ++ drop c.span_of-span.result.end r) c.deref-3.ensures.value ∙ ap (λ m. (take c.span_of-span.result.first c.in_ok-below.below.row.items ++ m) ++ drop c.span_of-span.result.end c.in_ok-below.below.row.items) c.deref-4.ensures.value) (c.in_ok-made.ensures.sum ∙ ap row_size (c.piece-touched.ensures ∙ ap (λ r. take (c.span_of-span.result.end - c.span_of-span.result.first) (drop c.span_of-span.result.first r)) c.deref-2.ensures.value)) (c.in_ok-made.ensures.count ∙ ap length (c.piece-touched.ensures ∙ ap (λ r. take (c.span_of-span.result.end - c.span_of-span.result.first) (drop c.span_of-span.result.first r)) c.deref-2.ensures.value)) (some_below (g.B.Ground.geometry c.args.blocks.now) c.args.level c.args.least c.args.run.now c.in_ok-below.below.lens.items c.in_ok-below.below.row.items c.in_ok-below.ensures.counted) c.in_ok-made.ensures.sizes).sum, size_below (g.B.Ground.geometry c.args.blocks.now) c.args.level c.args.least c.args.run.now c.in_ok-below.below.lens.items c.in_ok-below.below.row.items c.in_ok-below.ensures.counted))
+returns-clause-sum g t c = if_ok_from c.nodes_by.result _ (λ made is. omega (arith, IfOk-at_ok _ is c.nodes_by.ensures.sum, ap row_size c.deref-5.ensures.value, (same_row c.in_ok-below.below.row.items c.in_ok-made.made.items c.in_ok-row.row.items c.span_of-span.result.first c.span_of-span.result.end c.span_of-span.ensures.order (omega (arith, c.span_of-span.ensures.within, ap length c.deref.ensures.value)) (c.in_ok-row.ensures ∙ ap (λ r. (take c.span_of-span.result.first r ++ c.deref-4.result.now) ++ drop c.span_of-span.result.end r) c.deref-3.ensures.value ∙ ap (λ m. (take c.span_of-span.result.first c.in_ok-below.below.row.items ++ m) ++ drop c.span_of-span.result.end c.in_ok-below.below.row.items) c.deref-4.ensures.value) (c.in_ok-made.ensures.sum ∙ ap row_size (c.piece-touched.ensures ∙ ap (λ r. take (c.span_of-span.result.end - c.span_of-span.result.first) (drop c.span_of-span.result.first r)) c.deref-2.ensures.value)) (c.in_ok-made.ensures.count ∙ ap length (c.piece-touched.ensures ∙ ap (λ r. take (c.span_of-span.result.end - c.span_of-span.result.first) (drop c.span_of-span.result.first r)) c.deref-2.ensures.value)) (some_below (g.B.Ground.geometry c.args.blocks.now) c.args.level c.args.least c.args.run.now c.in_ok-below.below.lens.items c.in_ok-below.below.row.items c.in_ok-below.ensures.counted) c.in_ok-made.ensures.sizes).sum, size_below (g.B.Ground.geometry c.args.blocks.now) c.args.level c.args.least c.args.run.now c.in_ok-below.below.lens.items c.in_ok-below.below.row.items c.in_ok-below.ensures.counted))
 
 pub returns-clause-count : goal.returns-clause-count
-returns-clause-count g t c = if_ok_on c.nodes_by.result _ (λ made is. omega (arith, ok_of c.nodes_by.result made _ is c.nodes_by.ensures.count, ap length c.deref-6.ensures.value, as_many (g.B.Ground.geometry c.args.blocks.now) c.args.level c.args.least c.args.run.now c.in_ok-below.below.lens.items c.in_ok-below.below.row.items c.in_ok-below.ensures.counted))
+returns-clause-count g t c = if_ok_from c.nodes_by.result _ (λ made is. omega (arith, IfOk-at_ok _ is c.nodes_by.ensures.count, ap length c.deref-6.ensures.value, as_many (g.B.Ground.geometry c.args.blocks.now) c.args.level c.args.least c.args.run.now c.in_ok-below.below.lens.items c.in_ok-below.below.row.items c.in_ok-below.ensures.counted))
 
 pub returns-clause-leaves : goal.returns-clause-leaves
 returns-clause-leaves g t c =
-    on_ok_on c.nodes_by.result _ (λ made is.
+    on_ok_from c.nodes_by.result _ (λ made is.
     let later : g.B.Ground.free c.row_below.new.blocks Segment ≤ g.B.Ground.free c.replace_run.new.blocks Segment + (touched_leaves (leaf_bytes (g.B.Ground.geometry c.args.blocks.now)) (length c.args.given.now)) = subst (λ (x : Geometry). g.B.Ground.free c.row_below.new.blocks Segment ≤ g.B.Ground.free c.replace_run.new.blocks Segment + touched_leaves (leaf_bytes x) (length c.args.given.now)) (g.B.Ground.leads_geometry c.args.blocks.now c.row_below.new.blocks c.in_ok-below.ensures.kept.leads) c.in_ok-made.ensures.leaves in
-    omega (arith, (on_of c.nodes_by.result made _ is c.nodes_by.ensures.spent).of_leaves, ap (λ (f : Area → ℕ). f Segment) c.in_ok-below.ensures.kept.free))
+    omega (arith, (from_ok c.nodes_by.result made _ is c.nodes_by.ensures.spent).of_leaves, ap (λ (f : Area → ℕ). f Segment) c.in_ok-below.ensures.kept.free))
 
 pub returns-clause-spent : goal.returns-clause-spent
 returns-clause-spent g t c =
-    on_ok_on c.nodes_by.result _ (λ made is.
+    on_ok_from c.nodes_by.result _ (λ made is.
     let span = (subst (λ r. IsSpan r c.args.pos (length c.args.given.now) c.span_of-span.result.first c.span_of-span.result.end c.span_of-span.result.at) c.deref.ensures.value c.span_of-span.ensures) in
     nodes_spent ((g.B.Ground.geometry c.args.blocks.now).fan - 1) (touched_leaves (leaf_bytes (g.B.Ground.geometry c.args.blocks.now)) (length c.args.given.now)) c.args.level (g.B.Ground.free c.args.blocks.now Page) (g.B.Ground.free c.replace_run.new.blocks Page) (g.B.Ground.free c.nodes_by.new.blocks Page) (length c.args.run.now) (c.span_of-span.result.end - c.span_of-span.result.first) (omega (arith, (g.B.Ground.geometry c.args.blocks.now).two)) c.if-level-eq0.false c.requires.touched.some (omega (arith, span.order)) (few_up (g.B.Ground.geometry c.args.blocks.now) c.args.level c.args.least c.args.run.now c.in_ok-below.below.lens.items c.in_ok-below.below.row.items c.args.pos (length c.args.given.now) c.span_of-span.result.first c.span_of-span.result.end c.span_of-span.result.at c.in_ok-below.ensures.counted c.requires.touched span c.requires.least)
-    (omega (arith, (on_of c.nodes_by.result made _ is c.nodes_by.ensures.spent).of_pages, ap length c.deref-6.ensures.value, as_many (g.B.Ground.geometry c.args.blocks.now) c.args.level c.args.least c.args.run.now c.in_ok-below.below.lens.items c.in_ok-below.below.row.items c.in_ok-below.ensures.counted)) (subst (λ x. IsSpent (g.B.Ground.geometry c.args.blocks.now).fan (touched_leaves (leaf_bytes (g.B.Ground.geometry c.args.blocks.now)) (length c.args.given.now)) (c.args.level - 1) (g.B.Ground.free c.args.blocks.now Page) (g.B.Ground.free c.replace_run.new.blocks Page) x) (ap length (c.piece-touched.ensures ∙ ap (λ r. take (c.span_of-span.result.end - c.span_of-span.result.first) (drop c.span_of-span.result.first r)) c.deref-2.ensures.value) ∙ touched_count c.in_ok-below.below.row.items c.span_of-span.result.first c.span_of-span.result.end c.span_of-span.ensures.order (omega (arith, c.span_of-span.ensures.within, ap length c.deref.ensures.value))) (spent_at g.B.Ground c.args.blocks.now c.row_below.new.blocks c.replace_run.new.blocks c.args.level (length c.args.given.now) (length c.piece-touched.result.now) c.in_ok-below.ensures.kept c.in_ok-made.ensures.spent)))
+    (omega (arith, (from_ok c.nodes_by.result made _ is c.nodes_by.ensures.spent).of_pages, ap length c.deref-6.ensures.value, as_many (g.B.Ground.geometry c.args.blocks.now) c.args.level c.args.least c.args.run.now c.in_ok-below.below.lens.items c.in_ok-below.below.row.items c.in_ok-below.ensures.counted)) (subst (λ x. IsSpent (g.B.Ground.geometry c.args.blocks.now).fan (touched_leaves (leaf_bytes (g.B.Ground.geometry c.args.blocks.now)) (length c.args.given.now)) (c.args.level - 1) (g.B.Ground.free c.args.blocks.now Page) (g.B.Ground.free c.replace_run.new.blocks Page) x) (ap length (c.piece-touched.ensures ∙ ap (λ r. take (c.span_of-span.result.end - c.span_of-span.result.first) (drop c.span_of-span.result.first r)) c.deref-2.ensures.value) ∙ touched_count c.in_ok-below.below.row.items c.span_of-span.result.first c.span_of-span.result.end c.span_of-span.ensures.order (omega (arith, c.span_of-span.ensures.within, ap length c.deref.ensures.value))) (spent_at g.B.Ground c.args.blocks.now c.row_below.new.blocks c.replace_run.new.blocks c.args.level (length c.args.given.now) (length c.piece-touched.result.now) c.in_ok-below.ensures.kept c.in_ok-made.ensures.spent)))
 
 pub returns-clause-leads : goal.returns-clause-leads
 returns-clause-leads g t c = g.B.Ground.leads_trans c.args.blocks.now c.row_below.new.blocks c.nodes_by.new.blocks c.in_ok-below.ensures.kept.leads (g.B.Ground.leads_trans c.row_below.new.blocks c.replace_run.new.blocks c.nodes_by.new.blocks c.in_ok-made.ensures.leads c.nodes_by.ensures.leads)
@@ -129,27 +132,29 @@ returns-clause-cause g t c =
 
 pub returns-clause-grew : goal.returns-clause-grew
 returns-clause-grew g t c =
-    if_ok_on c.nodes_by.result _ (λ made is told l same holds.
+    if_ok_from c.nodes_by.result _ (λ made is told l same holds.
     let told_b = g.B.Ground.leads_told c.args.blocks.now c.row_below.new.blocks c.in_ok-below.ensures.kept.leads told in
     let told_c = g.B.Ground.leads_told c.row_below.new.blocks c.replace_run.new.blocks c.in_ok-made.ensures.leads told_b in
     let grew : (m : ℕ) → c.args.level - 1 ≡ m → Holds g.B.Ground c.row_below.new.blocks m (take (c.span_of-span.result.end - c.span_of-span.result.first) (drop c.span_of-span.result.first c.in_ok-below.below.row.items)) → Grew g.B.Ground c.row_below.new.blocks c.replace_run.new.blocks m (take (c.span_of-span.result.end - c.span_of-span.result.first) (drop c.span_of-span.result.first c.in_ok-below.below.row.items)) c.in_ok-made.made.items (written (row_bytes (g.B.Ground.unit c.row_below.new.blocks) m (take (c.span_of-span.result.end - c.span_of-span.result.first) (drop c.span_of-span.result.first c.in_ok-below.below.row.items))) c.span_of-span.result.at c.args.given.now) (row_shape (g.B.Ground.unit c.row_below.new.blocks) m (take (c.span_of-span.result.end - c.span_of-span.result.first) (drop c.span_of-span.result.first c.in_ok-below.below.row.items))) =
     subst (λ (r : List Part). (m : ℕ) → c.args.level - 1 ≡ m → Holds g.B.Ground c.row_below.new.blocks m r → Grew g.B.Ground c.row_below.new.blocks c.replace_run.new.blocks m r c.in_ok-made.made.items (written (row_bytes (g.B.Ground.unit c.row_below.new.blocks) m r) c.span_of-span.result.at c.args.given.now) (row_shape (g.B.Ground.unit c.row_below.new.blocks) m r)) (c.piece-touched.ensures ∙ ap (λ r. take (c.span_of-span.result.end - c.span_of-span.result.first) (drop c.span_of-span.result.first r)) c.deref-2.ensures.value) (c.in_ok-made.ensures.grew told_b) in
     let built : (m : ℕ) → c.args.level ≡ suc m → Holds g.B.Ground c.replace_run.new.blocks m c.in_ok-row.row.items → Built g.B.Ground c.nodes_by.new.blocks m c.in_ok-below.below.lens.items c.in_ok-row.row.items made.items =
     subst (λ (ls : List ℕ). (m : ℕ) → c.args.level ≡ suc m → Holds g.B.Ground c.replace_run.new.blocks m c.in_ok-row.row.items → Built g.B.Ground c.nodes_by.new.blocks m ls c.in_ok-row.row.items made.items) c.deref-6.ensures.value
-    (subst (λ (r : List Part). (m : ℕ) → c.args.level ≡ suc m → Holds g.B.Ground c.replace_run.new.blocks m r → Built g.B.Ground c.nodes_by.new.blocks m c.deref-6.result.now r made.items) c.deref-5.ensures.value (ok_of c.nodes_by.result made _ is c.nodes_by.ensures.built told_c)) in
+    (subst (λ (r : List Part). (m : ℕ) → c.args.level ≡ suc m → Holds g.B.Ground c.replace_run.new.blocks m r → Built g.B.Ground c.nodes_by.new.blocks m c.deref-6.result.now r made.items) c.deref-5.ensures.value (IfOk-at_ok _ is c.nodes_by.ensures.built told_c)) in
+    let counts : (m : ℕ) → c.args.level ≡ suc m → Holds g.B.Ground c.replace_run.new.blocks m c.in_ok-row.row.items → NamesPairs g.B.Ground → Counted g.B.Ground c.replace_run.new.blocks c.nodes_by.new.blocks =
+    subst (λ (r : List Part). (m : ℕ) → c.args.level ≡ suc m → Holds g.B.Ground c.replace_run.new.blocks m r → NamesPairs g.B.Ground → Counted g.B.Ground c.replace_run.new.blocks c.nodes_by.new.blocks) c.deref-5.ensures.value (from_ok c.nodes_by.result made _ is c.nodes_by.ensures.counts told_c) in
     run_replaced g.B.Ground c.args.blocks.now c.row_below.new.blocks c.replace_run.new.blocks c.nodes_by.new.blocks c.args.level l c.args.run.now c.in_ok-below.below.row.items c.in_ok-below.below.lens.items c.args.pos c.span_of-span.result.first c.span_of-span.result.end c.span_of-span.result.at c.args.given.now c.in_ok-made.made.items c.in_ok-row.row.items made.items
-    c.requires.ready told same c.if-level-eq0.false c.in_ok-below.ensures.kept c.in_ok-made.ensures.extends (on_of c.nodes_by.result made _ is c.nodes_by.ensures.extends) (c.in_ok-below.ensures.found told) holds (subst (λ r. IsSpan r c.args.pos (length c.args.given.now) c.span_of-span.result.first c.span_of-span.result.end c.span_of-span.result.at) c.deref.ensures.value c.span_of-span.ensures) grew (ok_of c.nodes_by.result made _ is c.nodes_by.ensures.took) built (c.in_ok-row.ensures ∙ ap (λ r. (take c.span_of-span.result.first r ++ c.deref-4.result.now) ++ drop c.span_of-span.result.end r) c.deref-3.ensures.value ∙ ap (λ m. (take c.span_of-span.result.first c.in_ok-below.below.row.items ++ m) ++ drop c.span_of-span.result.end c.in_ok-below.below.row.items) c.deref-4.ensures.value))
+    c.requires.ready told same c.if-level-eq0.false c.in_ok-below.ensures.kept c.in_ok-made.ensures.extends (from_ok c.nodes_by.result made _ is c.nodes_by.ensures.extends) (c.in_ok-below.ensures.found told) holds (subst (λ r. IsSpan r c.args.pos (length c.args.given.now) c.span_of-span.result.first c.span_of-span.result.end c.span_of-span.result.at) c.deref.ensures.value c.span_of-span.ensures) grew (IfOk-at_ok _ is c.nodes_by.ensures.took) built counts (c.in_ok-row.ensures ∙ ap (λ r. (take c.span_of-span.result.first r ++ c.deref-4.result.now) ++ drop c.span_of-span.result.end r) c.deref-3.ensures.value ∙ ap (λ m. (take c.span_of-span.result.first c.in_ok-below.below.row.items ++ m) ++ drop c.span_of-span.result.end c.in_ok-below.below.row.items) c.deref-4.ensures.value))
 
 pub returns-then-level-eq0-clause-way : goal.returns-then-level-eq0-clause-way
 returns-then-level-eq0-clause-way g t c =
-    on_ok_on c.replace_leaves.result _ (λ made is told byte low high. way_any (g.B.Ground.geometry c.args.blocks.now) (g.B.Ground.unit c.args.blocks.now) AnyPage c.args.level c.args.least c.args.run.now byte byte c.if-level-eq0.true (λ p. tt))
+    on_ok_from c.replace_leaves.result _ (λ made is told byte low high. way_any (g.B.Ground.geometry c.args.blocks.now) (g.B.Ground.unit c.args.blocks.now) AnyPage c.args.level c.args.least c.args.run.now byte byte c.if-level-eq0.true (λ p. tt))
 
 pub returns-then-level-eq0-clause-ends : goal.returns-then-level-eq0-clause-ends
 returns-then-level-eq0-clause-ends g t c =
-    on_ok c.replace_leaves.result _ _ (λ ends told end which some. way_low (g.B.Ground.geometry c.args.blocks.now) (g.B.Ground.unit c.args.blocks.now) (NamesLeaf (g.B.Ground.geometry c.args.blocks.now)) c.args.level 0 c.args.least c.args.run.now (end - 1) end c.if-level-eq0.true (ends told end which some)) c.replace_leaves.ensures.ends
+    on_ok_weaker c.replace_leaves.result (λ ends told end which some. way_low (g.B.Ground.geometry c.args.blocks.now) (g.B.Ground.unit c.args.blocks.now) (NamesLeaf (g.B.Ground.geometry c.args.blocks.now)) c.args.level 0 c.args.least c.args.run.now (end - 1) end c.if-level-eq0.true (ends told end which some)) c.replace_leaves.ensures.ends
 
 pub returns-clause-way : goal.returns-clause-way
-returns-clause-way g t c = on_ok_on c.nodes_by.result _ (λ made is told byte low high.
+returns-clause-way g t c = on_ok_from c.nodes_by.result _ (λ made is told byte low high.
     run_way (g.B.Ground.geometry c.args.blocks.now) (g.B.Ground.unit c.args.blocks.now) AnyPage c.args.level c.args.least c.args.run.now c.in_ok-below.below.lens.items c.in_ok-below.below.row.items byte byte c.if-level-eq0.false c.in_ok-below.ensures.counted (c.in_ok-below.ensures.found told) c.in_ok-below.ensures.area
     (touched_way (g.B.Ground.geometry c.args.blocks.now) (g.B.Ground.unit c.args.blocks.now) AnyPage (c.args.level - 1) (g.B.Ground.geometry c.args.blocks.now).fan c.in_ok-below.below.row.items c.args.pos (length c.args.given.now) c.span_of-span.result.first c.span_of-span.result.end c.span_of-span.result.at byte (subst (λ r. IsSpan r c.args.pos (length c.args.given.now) c.span_of-span.result.first c.span_of-span.result.end c.span_of-span.result.at) c.deref.ensures.value c.span_of-span.ensures) low high
     (λ b from to. way_kept g.B.Ground (λ geo. AnyPage) c.args.blocks.now c.row_below.new.blocks (c.args.level - 1) (g.B.Ground.geometry c.args.blocks.now).fan (take (c.span_of-span.result.end - c.span_of-span.result.first) (drop c.span_of-span.result.first c.in_ok-below.below.row.items)) b b c.in_ok-below.ensures.kept
@@ -157,7 +162,7 @@ returns-clause-way g t c = on_ok_on c.nodes_by.result _ (λ made is told byte lo
     (subst (λ (x : Geometry). IsSoundWay (g.B.Ground.geometry c.row_below.new.blocks) (g.B.Ground.unit c.row_below.new.blocks) AnyPage (c.args.level - 1) x.fan c.piece-touched.result.now b b) c.geometry-geometry.ensures (c.in_ok-made.ensures.way later b from to))) told)))
 
 pub returns-clause-ends : goal.returns-clause-ends
-returns-clause-ends g t c = on_ok_on c.nodes_by.result _ (λ made is told end which some.
+returns-clause-ends g t c = on_ok_from c.nodes_by.result _ (λ made is told end which some.
     run_way (g.B.Ground.geometry c.args.blocks.now) (g.B.Ground.unit c.args.blocks.now) (NamesLeaf (g.B.Ground.geometry c.args.blocks.now)) c.args.level c.args.least c.args.run.now c.in_ok-below.below.lens.items c.in_ok-below.below.row.items (end - 1) end c.if-level-eq0.false c.in_ok-below.ensures.counted (c.in_ok-below.ensures.found told) c.in_ok-below.ensures.area
     (touched_end (g.B.Ground.geometry c.args.blocks.now) (g.B.Ground.unit c.args.blocks.now) (c.args.level - 1) (g.B.Ground.geometry c.args.blocks.now).fan c.in_ok-below.below.row.items c.args.pos (length c.args.given.now) c.span_of-span.result.first c.span_of-span.result.end c.span_of-span.result.at end c.requires.given (subst (λ r. IsSpan r c.args.pos (length c.args.given.now) c.span_of-span.result.first c.span_of-span.result.end c.span_of-span.result.at) c.deref.ensures.value c.span_of-span.ensures) which
     (λ b here one. way_kept g.B.Ground NamesLeaf c.args.blocks.now c.row_below.new.blocks (c.args.level - 1) (g.B.Ground.geometry c.args.blocks.now).fan (take (c.span_of-span.result.end - c.span_of-span.result.first) (drop c.span_of-span.result.first c.in_ok-below.below.row.items)) (b - 1) b c.in_ok-below.ensures.kept

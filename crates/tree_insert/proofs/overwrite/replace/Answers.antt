@@ -2,13 +2,13 @@ use Rattle.std.proofs.Common.{rules, arith, Option, ◌≡◌, ◌≤◌, ◌-�
 use Rattle.ex_base.specs.Sizes.{leaf_bytes}
 use Rattle.ex_base.specs.declared.names.Area.TheVariants.{Page}
 use Rattle.ex_base.specs.declared.names.PageNo.{PageNo}
-use Rattle.tree_model.specs.Trees.{root_units}
-use Rattle.tree_rows.specs.Damage.{AnyPage, IsWalkFault, root_row_at}
-use Rattle.tree_rows.proofs.Sound.{sound_root}
+use Rattle.trees.specs.Trees.{root_units}
+use Rattle.trees.specs.Damage.{AnyPage, IsWalkFault, root_row_at}
+use Rattle.trees.proofs.Sound.{sound_root}
 use Rattle.tree_insert.specs.Replaced.{touched_leaves}
 use Rattle.ex_base.specs.Area.{NamesLeaf}
+use Rattle.ex_base.proofs.Results.{if_err_handed}
 use Rattle.tree_insert.proofs.SoundWays.{root_way}
-use Rattle.tree_insert.proofs.Results.{err_on}
 use Rattle.tree_insert.proofs.ReplacedRuns.{enough_touched, taken_touched, spells_nothing}
 use Rattle.tree_insert.proofs.RootEdit.{root_stays, nothing_turned}
 use Rattle.tree_insert.proofs.overwrite.replace.Goals as goal
@@ -28,7 +28,7 @@ replace_run-requires-clause-pages g c =
 
 pub returns-in_err-made-clause-sound : goal.returns-in_err-made-clause-sound
 returns-in_err-made-clause-sound g c =
-    err_on c.from_residual-in_err-made.result _ c.in_err-made.field-0.0 c.from_residual-in_err-made.ensures.1
+    if_err_handed c.from_residual-in_err-made.result _ c.in_err-made.field-0.0 c.from_residual-in_err-made.ensures.1
     (λ told whole. sound_root (g.B.Ground.geometry c.args.blocks.now) (g.B.Ground.unit c.args.blocks.now) c.args.root.now c.in_err-made.field-0.0 whole
     (subst (λ (p : Option PageNo). IsWalkFault (g.B.Ground.geometry c.args.blocks.now) (g.B.Ground.unit c.args.blocks.now) c.args.root.now.height 2 (root_row_at c.args.root.now.size p) c.in_err-made.field-0.0) (sym c.in-Some.is) (c.in_err-made.ensures.fault told)))
 

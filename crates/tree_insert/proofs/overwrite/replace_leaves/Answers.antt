@@ -1,13 +1,13 @@
 use Rattle.std.proofs.Common.{arith, [], ◌∷◌, ◌≡◌, ◌+◌, ◌-◌, ◌∙◌, ◌++◌, ap, subst, take, drop, length, get_or, take_all}
-use Rattle.tree_rows.specs.Damage.{IsSoundEnd}
-use Rattle.tree_rows.specs.Rows.{row_bytes}
-use Rattle.tree_steps.specs.Made.{Holds, changed}
-use Rattle.tree_steps.proofs.Kept.{leaves_back}
+use Rattle.trees.specs.Damage.{IsSoundEnd}
+use Rattle.trees.specs.Rows.{row_bytes}
+use Rattle.trees.specs.Made.{Holds, changed}
+use Rattle.trees.proofs.Kept.{leaves_back}
 use Rattle.tree_insert.proofs.BelowRows.{walk_one}
-use Rattle.tree_insert.proofs.PlaceLaws.{no_part}
+use Rattle.trees.proofs.Reading.{no_part}
 use Rattle.tree_insert.proofs.ReplacedLeaves.{leaf_here, piece_here, few_leaves, replaced_more, replaced_all, same_sizes, same_sum, same_some, same_count}
-use Rattle.tree_insert.proofs.Results.{err_on, err_cause}
 use Rattle.tree_insert.proofs.overwrite.replace_leaves.Goals as goal
+use Rattle.ex_base.proofs.Results.{cause_handed, if_err_handed}
 
 pub overflow_sub-len : goal.overflow_sub-len
 overflow_sub-len g c =
@@ -30,7 +30,7 @@ write_leaves-requires-clause-free g c =
 
 pub returns-in_err-new-clause-fault : goal.returns-in_err-new-clause-fault
 returns-in_err-new-clause-fault g c =
-    err_on c.from_residual.result _ c.in_err-new.field-0.0 c.from_residual.ensures.1
+    if_err_handed c.from_residual.result _ c.in_err-new.field-0.0 c.from_residual.ensures.1
     (λ told. walk_one (g.B.Ground.geometry c.args.blocks.now) (g.B.Ground.unit c.args.blocks.now) 0 0 c.loop-leaf.leaf-index c.args.run.now c.in_err-new.field-0.0 c.loop-leaf-test.true
     (leaves_back g.B.Ground c.args.blocks.now c.loop-leaf.blocks (get_or c.args.run.now c.loop-leaf.leaf-index no_part ∷ []) c.in_err-new.field-0.0 c.loop-leaf.invariant.extends.leads c.in_err-new.ensures.fault told))
 
@@ -39,7 +39,7 @@ returns-in_err-new-clause-leads g c = g.B.Ground.leads_trans c.args.blocks.now c
 
 pub returns-in_err-new-clause-cause : goal.returns-in_err-new-clause-cause
 returns-in_err-new-clause-cause g c =
-    err_cause (g.B.Ground.faults c.args.blocks.now) (g.B.Ground.faults c.loop-leaf.blocks) (g.B.Ground.faults c.write_leaves.new.blocks) c.from_residual.result c.in_err-new.field-0.0 c.from_residual.ensures.1
+    cause_handed (g.B.Ground.faults c.args.blocks.now) (g.B.Ground.faults c.loop-leaf.blocks) (g.B.Ground.faults c.write_leaves.new.blocks) c.from_residual.result c.in_err-new.field-0.0 c.from_residual.ensures.1
     (g.B.Ground.leads_faults c.args.blocks.now c.loop-leaf.blocks c.loop-leaf.invariant.extends.leads) c.in_err-new.ensures.cause
 
 pub overflow_add-start : goal.overflow_add-start
@@ -52,7 +52,7 @@ loop-leaf-preserved g c =
     let h = leaf_here c.args.run.now c.args.pos (length c.args.given.now) c.loop-leaf.leaf-index c.loop-leaf.start c.loop-leaf-test.true c.requires.touched c.loop-leaf.invariant.start_is in
     replaced_more g.B.Ground c.args.blocks.now c.loop-leaf.blocks c.write_leaves.new.blocks c.args.run.now c.args.pos c.args.given.now c.loop-leaf.leaf-index c.loop-leaf.start c.saturating_sub-at.result c.saturating_sub-done.result c.min-cut.result c.loop-leaf.made.items c.extend_from_slice.new.self.items c.in_ok-new.new.items
     c.requires.ready c.loop-leaf-test.true c.requires.touched c.loop-leaf.invariant (piece_here c.args.run.now c.args.pos (length c.args.given.now) c.loop-leaf.leaf-index c.loop-leaf.start c.saturating_sub-at.result c.saturating_sub-done.result c.min-cut.result h c.saturating_sub-at.ensures c.saturating_sub-done.ensures c.min-cut.ensures)
-    c.in_ok-new.ensures.extends c.in_ok-new.ensures.spent c.in_ok-new.ensures.sizes c.in_ok-new.ensures.named c.in_ok-new.ensures.took
+    c.in_ok-new.ensures.extends c.in_ok-new.ensures.spent c.in_ok-new.ensures.sizes c.in_ok-new.ensures.named c.in_ok-new.ensures.took c.in_ok-new.ensures.counts
     (subst (λ k. g.B.Ground.tells c.loop-leaf.blocks → Holds g.B.Ground c.loop-leaf.blocks 0 (get_or c.args.run.now c.loop-leaf.leaf-index no_part ∷ [])
     → row_bytes (g.B.Ground.unit c.write_leaves.new.blocks) 0 c.in_ok-new.new.items ≡ changed (row_bytes (g.B.Ground.unit c.loop-leaf.blocks) 0 (get_or c.args.run.now c.loop-leaf.leaf-index no_part ∷ [])) c.saturating_sub-at.result c.min-cut.result (take k (drop c.saturating_sub-done.result c.args.given.now)))
     {x = c.saturating_sub-done.result + c.min-cut.result - c.saturating_sub-done.result} {y = c.min-cut.result} (omega arith) c.in_ok-new.ensures.bytes)

@@ -1,12 +1,12 @@
 use Rattle.std.proofs.Common.{rules, arith, ap, ◌∙◌, ◌++◌}
-use Rattle.tree_rows.proofs.Blame.{walk_back, walk_node}
+use Rattle.trees.proofs.Blame.{walk_back, walk_node}
 use Rattle.tree_insert.proofs.BelowRows.{below_more}
-use Rattle.tree_insert.proofs.Results.{err_on}
 use Rattle.tree_insert.proofs.overwrite.row_below.Goals as goal
+use Rattle.ex_base.proofs.Results.{if_err_handed}
 
 pub returns-in_err-children-clause-fault : goal.returns-in_err-children-clause-fault
 returns-in_err-children-clause-fault g c =
-    err_on c.from_residual.result _ c.in_err-children.field-0.0 c.from_residual.ensures.1
+    if_err_handed c.from_residual.result _ c.in_err-children.field-0.0 c.from_residual.ensures.1
     (walk_back g.B.Ground c.args.blocks.now c.loop-part.blocks c.args.level c.args.least c.args.run.now c.in_err-children.field-0.0 c.loop-part.invariant.kept
     (λ told. walk_node (g.B.Ground.geometry c.loop-part.blocks) (g.B.Ground.unit c.loop-part.blocks) c.args.level c.args.least c.loop-part.part-index c.args.run.now c.in_err-children.field-0.0 (λ none. omega (arith, none, c.requires.level)) c.loop-part-test.true (c.in_err-children.ensures.fault told)))
 

@@ -1,19 +1,18 @@
 use Rattle.std.proofs.Common.{Option, sym, subst}
+use Rattle.std.proofs.lemmas.Result.{IfErr-weaker, on_ok_weaker}
 use Rattle.ex_base.specs.declared.names.PageNo.{PageNo}
-use Rattle.tree_rows.specs.Damage.{IsWalkFault, root_row_at}
+use Rattle.trees.specs.Damage.{IsWalkFault, root_row_at}
 use Rattle.ex_base.specs.Area.{NamesLeaf}
-use Rattle.tree_rows.proofs.Reading.{on_ok}
 use Rattle.tree_insert.proofs.SoundWays.{root_way}
-use Rattle.tree_rows.proofs.Blame.{if_err_on}
-use Rattle.tree_rows.proofs.Sound.{sound_root}
+use Rattle.trees.proofs.Sound.{sound_root}
 use Rattle.tree_insert.proofs.root_read.read.Goals as goal
 
 pub returns-clause-sound : goal.returns-clause-sound
 returns-clause-sound g c =
-    if_err_on c.read_row.result _ _ (λ f h told whole.
+    IfErr-weaker c.read_row.result _ _ (λ f h told whole.
     sound_root (g.B.Ground.geometry c.args.blocks.now) (g.B.Ground.unit c.args.blocks.now) c.args.root.now f whole
     (subst (λ (p : Option PageNo). IsWalkFault (g.B.Ground.geometry c.args.blocks.now) (g.B.Ground.unit c.args.blocks.now) c.args.root.now.height 2 (root_row_at c.args.root.now.size p) f) (sym c.in-Some.is) (h told))) c.read_row.ensures.fault
 
 pub returns-clause-way : goal.returns-clause-way
 returns-clause-way g c =
-    on_ok c.read_row.result _ _ (λ way told byte low high. root_way (g.B.Ground.geometry c.args.blocks.now) (g.B.Ground.unit c.args.blocks.now) (NamesLeaf (g.B.Ground.geometry c.args.blocks.now)) c.args.root.now c.in-Some.page byte byte c.in-Some.is (way told byte low high)) c.read_row.ensures.way
+    on_ok_weaker c.read_row.result (λ way told byte low high. root_way (g.B.Ground.geometry c.args.blocks.now) (g.B.Ground.unit c.args.blocks.now) (NamesLeaf (g.B.Ground.geometry c.args.blocks.now)) c.args.root.now c.in-Some.page byte byte c.in-Some.is (way told byte low high)) c.read_row.ensures.way

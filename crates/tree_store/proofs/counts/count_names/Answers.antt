@@ -1,25 +1,27 @@
-use Rattle.std.proofs.Common.{◌-◌, ◌/◌, min, length, true≢false, sym, ap, ◌∙◌}
-use Rattle.ex_base.specs.Fields.{number_at}
+use Rattle.std.proofs.Common.{true≢false, sym, ◌∙◌, arith}
+use Rattle.count_nodes.specs.Names.{names_on}
+use Rattle.ex_base.specs.Sizes.{least_page}
 use Rattle.tree_store.proofs.Counting.{counted_all, counted_one, counted_skip}
 use Rattle.tree_store.proofs.counts.count_names.Goals.{then-names_unit, else-names_unit}
 use Rattle.tree_store.proofs.counts.count_names.Goals as goal
 
+pub names_len-index-end-requires : goal.names_len-index-end-requires
+names_len-index-end-requires c = omega (arith, c.requires.page, least_page c.args.geometry.now)
+
 pub loop-index-preserved : goal.loop-index-preserved
 loop-index-preserved c =
     let geometry = c.args.geometry.now in
-    let bytes = c.args.bytes.now in
+    let names = names_on c.args.bytes.now in
     let index = c.loop-index.index in
     elim c.if-names_unit.branch [
       | then-names_unit w ↦ rw w.units-is
-          (counted_one geometry bytes c.args.units.now c.loop-index.units w.add_ref.new.self c.min-pairs.result index c.get_u32.result c.loop-index.invariant c.loop-index-test.true c.get_u32.ensures
+          (counted_one geometry names c.args.units.now c.loop-index.units w.add_ref.new.self index c.name_at-page.result.0 c.loop-index.invariant c.name_at-page.ensures
           w.add_ref.ensures.geometry w.add_ref.ensures.used w.add_ref.ensures.refs)
       | else-names_unit w ↦ rw w.units-is
-          (counted_skip geometry bytes c.args.units.now c.loop-index.units c.min-pairs.result index c.get_u32.result c.loop-index.invariant c.loop-index-test.true c.get_u32.ensures
+          (counted_skip geometry names c.args.units.now c.loop-index.units index c.name_at-page.result.0 c.loop-index.invariant c.name_at-page.ensures
           (λ unit. true≢false (sym (c.names_unit.ensures.1 unit) ∙ w.if-names_unit.false)))
     ]
 
 pub returns-clause-refs : goal.returns-clause-refs
 returns-clause-refs c =
-    let bytes = c.args.bytes.now in
-    counted_all c.args.geometry.now bytes c.args.units.now c.loop-index.units c.min-pairs.result c.loop-index.index c.loop-index.invariant c.loop-index-test.false
-    (c.min-pairs.ensures ∙ ap (λ n. min n ((length bytes - 8) / 8)) c.get_u16.ensures ∙ ap (λ n. min (number_at 2 bytes 2) ((n - 8) / 8)) c.requires.page)
+    counted_all c.args.geometry.now (names_on c.args.bytes.now) c.args.units.now c.loop-index.units c.loop-index.index c.loop-index.invariant (omega (arith, c.loop-index-test.false, c.names_len-index-end.ensures))

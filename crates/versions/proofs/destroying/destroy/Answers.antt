@@ -1,34 +1,66 @@
-use Rattle.std.proofs.Common.{subst, sym}
+use Rattle.std.proofs.Common.{◌≡◌, true, false, subst, sym, ap, ◌∙◌}
 use Rattle.ex_base.specs.declared.names.Place.{Place}
+use Rattle.ex_base.proofs.Results.{if_err_handed}
 use Rattle.file_bodies.specs.Files.{HasBody}
 use Rattle.file_bodies.specs.Places.{RemovesBody}
-use Rattle.file_bodies.proofs.Pages.{on_ok, if_err}
+use Rattle.std.proofs.lemmas.Result.{on_ok_weaker, IfErr-weaker}
 use Rattle.file_bodies.proofs.Moving.{kept_body}
 use Rattle.versions.specs.Versions.{place_of}
-use Rattle.versions.proofs.Results.{none_some}
+use Rattle.versions.specs.Damage.{record_fault, finding, unasked, taking}
+use Rattle.file_bodies.specs.Damage.{IsTakingFault}
+use Rattle.file_bodies.proofs.Blame.{carried}
+use Rattle.versions.proofs.Results.{none_some, same_some, ok_of}
+use Rattle.versions.specs.declared.finding.Found.{Found}
+use Rattle.file_bodies.proofs.Belonging.{file_of_body}
 use Rattle.versions.proofs.Standing.{kept_removes, version_readable, holds_of}
 use Rattle.versions.proofs.destroying.destroy.Goals as goal
 
-pub returns-in-Ok-Some-clause-removes : goal.returns-in-Ok-Some-clause-removes
-returns-in-Ok-Some-clause-removes g c = on_ok c.remove_from_file.result _ _ (λ removes told files index is has.
+pub returns-clause-removes : goal.returns-clause-removes
+returns-clause-removes g c = on_ok_weaker c.remove_from_file.result (λ removes told index is has.
     let kept = c.find.ensures.kept in
     let told_b = g.V.Ground.leads_told c.args.volume.now c.find.new.volume kept.leads told in
-    let stands = subst (λ (p : Place). HasBody g.V.Ground c.find.new.volume index p has.body) (sym c.place_of.ensures) (kept_body g.V.Ground c.args.volume.now c.find.new.volume index (place_of c.args.oid.now) has.body kept has.stands) in
+    let stands = subst (λ (p : Place). HasBody g.V.Ground c.find.new.volume index p has.body) (sym c.place_of-place.ensures) (kept_body g.V.Ground c.args.volume.now c.find.new.volume index (place_of c.args.oid.now) has.body kept has.stands) in
     kept_removes g.V.Ground c.args.volume.now c.find.new.volume c.remove_from_file.new.pages index (place_of c.args.oid.now) has.body kept
-    (subst (λ (p : Place). RemovesBody g.V.Ground c.find.new.volume c.remove_from_file.new.pages index p has.body) c.place_of.ensures (removes told_b index has.body stands))) c.remove_from_file.ensures.removes
+    (subst (λ (p : Place). RemovesBody g.V.Ground c.find.new.volume c.remove_from_file.new.pages index p has.body) c.place_of-place.ensures (removes told_b index has.body stands))) c.remove_from_file.ensures.removes
 
-pub returns-in-Ok-Some-clause-sound : goal.returns-in-Ok-Some-clause-sound
-returns-in-Ok-Some-clause-sound g c = if_err c.remove_from_file.result _ _ (λ fault never damage told files index content bytes has.
+pub returns-clause-sound : goal.returns-clause-sound
+returns-clause-sound g c = IfErr-weaker c.remove_from_file.result _ _ (λ fault never damage told index content bytes has.
     let kept = c.find.ensures.kept in
     let told_b = g.V.Ground.leads_told c.args.volume.now c.find.new.volume kept.leads told in
-    let stands = subst (λ (p : Place). HasBody g.V.Ground c.find.new.volume index p has.stored.body) (sym c.place_of.ensures) (kept_body g.V.Ground c.args.volume.now c.find.new.volume index (place_of c.args.oid.now) has.stored.body kept has.stored.stands) in
+    let stands = subst (λ (p : Place). HasBody g.V.Ground c.find.new.volume index p has.stored.body) (sym c.place_of-place.ensures) (kept_body g.V.Ground c.args.volume.now c.find.new.volume index (place_of c.args.oid.now) has.stored.body kept has.stored.stands) in
     never damage told_b index has.stored.body stands) c.remove_from_file.ensures.sound
 
-pub returns-in-Ok-None-clause-sound : goal.returns-in-Ok-None-clause-sound
-returns-in-Ok-None-clause-sound g c = λ damage told files index content bytes has. none_some c.in-Ok-None.field-0 _ c.in-Ok-None.field-0-is (c.in-Ok-None.ensures.told told files index _ has.stored)
+pub returns-in_err-found-clause-sound : goal.returns-in_err-found-clause-sound
+returns-in_err-found-clause-sound g c = if_err_handed c.from_residual-in_err-found.result _ _ c.from_residual-in_err-found.ensures.1 (λ damage told index content bytes has. none_some c.in_ok-told.told _ c.in_err-found.ensures.fault.0 (c.in_ok-told.ensures.told told index _ has.stored))
 
-pub returns-in-Ok-None-clause-cause : goal.returns-in-Ok-None-clause-cause
-returns-in-Ok-None-clause-cause g c = c.no_record.ensures.cause _ _
+pub returns-in_err-told-clause-sound : goal.returns-in_err-told-clause-sound
+returns-in_err-told-clause-sound g c = if_err_handed c.from_residual.result _ _ c.from_residual.ensures.1 (λ damage told index content bytes has.
+    c.in_err-told.ensures.sound damage told (file_of_body g.V.Ground c.args.volume.now index (place_of c.args.oid.now) has.stored.body has.stored.stands)
+    (version_readable g.V.Ground c.args.volume.now index c.args.oid.now content bytes (holds_of g.V.Ground c.args.volume.now index c.args.oid.now content bytes has)))
 
-pub returns-in-Err-clause-sound : goal.returns-in-Err-clause-sound
-returns-in-Err-clause-sound g c = λ damage told files index content bytes has. c.in-Err.ensures.sound damage told files (version_readable g.V.Ground c.args.volume.now index c.args.oid.now content bytes (holds_of g.V.Ground c.args.volume.now index c.args.oid.now content bytes has))
+pub returns-in_err-check-clause-sound : goal.returns-in_err-check-clause-sound
+returns-in_err-check-clause-sound g c = if_err_handed c.from_residual-in_err-check.result _ _ c.from_residual-in_err-check.ensures.1 (λ damage told index content bytes has.
+    let f_is = same_some c.in_ok-told.told c.in_ok-found.found _ c.in_ok-found.ensures.some (c.in_ok-told.ensures.told told index _ has.stored) in
+    let yes : c.is_destroyable.result ≡ true = c.is_destroyable.ensures.1 (ap (λ (f : Found). f.head.state) f_is, ap (λ (f : Found). f.head.older) f_is) in
+    let isnt : c.is_destroyable.result ≡ false = c.in_err-check.ensures.fault.0 in
+    cc)
+
+pub returns-clause-asked : goal.returns-clause-asked
+returns-clause-asked g c = ok_of c.remove_from_file.result _ (λ told index is has.
+    let f_is = same_some c.in_ok-told.told c.in_ok-found.found _ c.in_ok-found.ensures.some (c.in_ok-told.ensures.told told index is has) in
+    let asked = c.is_destroyable.ensures.0 c.in_ok-check.ensures.holds in
+    (sym (ap (λ (f : Found). f.head.state) f_is) ∙ asked.0, sym (ap (λ (f : Found). f.head.older) f_is) ∙ asked.1))
+
+pub returns-in_err-told-clause-fault : goal.returns-in_err-told-clause-fault
+returns-in_err-told-clause-fault g c = if_err_handed c.from_residual.result _ _ c.from_residual.ensures.1 (λ told. finding (c.in_err-told.ensures.fault told))
+
+pub returns-in_err-found-clause-fault : goal.returns-in_err-found-clause-fault
+returns-in_err-found-clause-fault g c = if_err_handed c.from_residual-in_err-found.result _ _ c.from_residual-in_err-found.ensures.1 (λ told. unasked (c.in_err-found.ensures.fault.1 ∙ ap record_fault c.place_of-place.ensures))
+
+pub returns-in_err-check-clause-fault : goal.returns-in_err-check-clause-fault
+returns-in_err-check-clause-fault g c = if_err_handed c.from_residual-in_err-check.result _ _ c.from_residual-in_err-check.ensures.1 (λ told. unasked (c.in_err-check.ensures.fault.1 ∙ ap record_fault c.place_of-place.ensures))
+
+pub returns-clause-fault : goal.returns-clause-fault
+returns-clause-fault g c = IfErr-weaker c.remove_from_file.result _ _ (λ fault h told.
+    taking (subst (λ (p : Place). IsTakingFault (g.V.Ground.geometry c.args.volume.now) (g.V.Ground.image c.args.volume.now) (g.V.Ground.image c.remove_from_file.new.pages) p fault) c.place_of-place.ensures
+    (carried g.V.Ground c.args.volume.now c.find.new.volume (λ y u. IsTakingFault y u (g.V.Ground.image c.remove_from_file.new.pages) c.place_of-place.result fault) c.find.ensures.kept h told))) c.remove_from_file.ensures.fault

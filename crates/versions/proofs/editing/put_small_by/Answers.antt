@@ -1,6 +1,6 @@
-use Rattle.versions.proofs.Results.{if_ok_both}
 use Rattle.versions.proofs.Puts.{small_fits}
 use Rattle.versions.proofs.editing.put_small_by.Goals as goal
+use Rattle.ex_base.proofs.Results.{if_ok_both}
 
 pub write_small-requires-clause-fits : goal.write_small-requires-clause-fits
 write_small-requires-clause-fits g c = small_fits c.args.head.now c.args.bytes.now c.requires.head c.requires.short

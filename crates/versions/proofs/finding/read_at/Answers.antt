@@ -1,65 +1,84 @@
-use Rattle.std.proofs.Common.{◌≡◌, length, true, false, subst, sym, arith}
+use Rattle.std.proofs.Common.{◌≡◌, length, true, false, subst, sym, ap, ◌∙◌, arith}
+use Rattle.std.proofs.lemmas.Result.{IfErr-weaker, on_ok_weaker}
 use Rattle.ex_base.specs.declared.names.Place.{Place}
+use Rattle.ex_base.proofs.Options.{at_some}
+use Rattle.ex_base.proofs.Results.{if_err_handed}
 use Rattle.object_records.specs.Record.{Small, Large}
 use Rattle.file_bodies.specs.Files.{HasBody}
-use Rattle.versions.specs.Versions.{lone_head}
-use Rattle.file_bodies.proofs.Pages.{on_ok, if_err, at_some}
+use Rattle.versions.specs.Versions.{lone_head, place_of}
+use Rattle.file_bodies.proofs.Belonging.{file_of_body}
+use Rattle.versions.specs.Damage.{record_fault, looking, small, large, unlike, in_tree}
+use Rattle.versions.proofs.Faults.{root_at, step_version, tree_kept, version_kept}
 use Rattle.versions.proofs.Results.{none_some, same_some}
-use Rattle.versions.proofs.Standing.{version_readable, version_whole, kept_files, kept_holds, small_version, large_version}
+use Rattle.versions.proofs.Standing.{version_readable, version_whole, kept_holds, small_version, large_version}
 use Rattle.versions.proofs.finding.read_at.Goals as goal
 
-pub returns-in-Ok-None-clause-sound : goal.returns-in-Ok-None-clause-sound
-returns-in-Ok-None-clause-sound g c = λ damage told files index content bytes has range. none_some c.in-Ok-None.field-0 _ c.in-Ok-None.field-0-is (c.in-Ok-None.ensures.told told files index _ has.stored)
+pub returns-in_err-found-clause-sound : goal.returns-in_err-found-clause-sound
+returns-in_err-found-clause-sound g c = if_err_handed c.from_residual-in_err-found.result _ _ c.from_residual-in_err-found.ensures.1 (λ damage told index content bytes has range. none_some c.in_ok-told.told _ c.in_err-found.ensures.fault.0 (c.in_ok-told.ensures.told told index _ has.stored))
 
-pub returns-in-Ok-None-clause-cause : goal.returns-in-Ok-None-clause-cause
-returns-in-Ok-None-clause-cause g c = c.no_record.ensures.cause _ _
+pub returns-in_err-told-clause-sound : goal.returns-in_err-told-clause-sound
+returns-in_err-told-clause-sound g c = if_err_handed c.from_residual.result _ _ c.from_residual.ensures.1 (λ damage told index content bytes has range.
+    c.in_err-told.ensures.sound damage told (file_of_body g.V.Ground c.args.volume.now index (place_of c.args.oid.now) has.stored.body has.stored.stands)
+    (version_readable g.V.Ground c.args.volume.now index c.args.oid.now content bytes has))
 
-pub returns-in-Err-clause-sound : goal.returns-in-Err-clause-sound
-returns-in-Err-clause-sound g c = λ damage told files index content bytes has range. c.in-Err.ensures.sound damage told files (version_readable g.V.Ground c.args.volume.now index c.args.oid.now content bytes has)
-
-pub returns-then-not-is_inside-clause-sound : goal.returns-then-not-is_inside-clause-sound
-returns-then-not-is_inside-clause-sound g c = λ damage told files index content bytes has range.
-    let size : c.in-Ok-Some.found.size ≡ length bytes = at_some c.in-Ok-Some.field-0 c.in-Ok-Some.found _ c.in-Ok-Some.field-0-is (c.in-Ok-Some.ensures.size told files index content bytes has) in
+pub returns-in_err-check-clause-sound : goal.returns-in_err-check-clause-sound
+returns-in_err-check-clause-sound g c = if_err_handed c.from_residual-in_err-check.result _ _ c.from_residual-in_err-check.ensures.1 (λ damage told index content bytes has range.
+    let size : c.in_ok-found.found.size ≡ length bytes = at_some c.in_ok-told.told c.in_ok-found.found _ c.in_ok-found.ensures.some (c.in_ok-told.ensures.size told index content bytes has) in
     let yes : c.is_inside.result ≡ true = c.is_inside.ensures.1 (omega (arith, range, size)) in
-    let isnt : c.is_inside.result ≡ false = c.if-not-is_inside.true in
-    cc
-
-pub returns-then-not-is_inside-clause-cause : goal.returns-then-not-is_inside-clause-cause
-returns-then-not-is_inside-clause-cause g c = c.no_record-then-not-is_inside.ensures.cause _ _
+    let isnt : c.is_inside.result ≡ false = c.in_err-check.ensures.fault.0 in
+    cc)
 
 pub returns-in-None-clause-bytes : goal.returns-in-None-clause-bytes
-returns-in-None-clause-bytes g c = on_ok c.read_small.result _ _ (λ b told files index content bytes has.
+returns-in-None-clause-bytes g c = on_ok_weaker c.read_small.result (λ b told index content bytes has.
     let kept = c.find.ensures.kept in
     let told_b = g.V.Ground.leads_told c.args.volume.now c.find.new.volume kept.leads told in
-    let f_is = same_some c.in-Ok-Some.field-0 c.in-Ok-Some.found _ c.in-Ok-Some.field-0-is (c.in-Ok-Some.ensures.told told files index _ has.stored) in
-    let files_b = kept_files g.V.Ground c.args.volume.now c.find.new.volume kept files in
-    let small = kept_holds g.V.Ground c.args.volume.now c.find.new.volume index c.args.oid.now (Small bytes) bytes kept (small_version g.V.Ground c.args.volume.now index c.args.oid.now content bytes c.in-Ok-Some.found f_is c.in-None.is has) in
-    let stands = subst (λ (p : Place). HasBody g.V.Ground c.find.new.volume index p small.stored.body) (sym c.place_of-in-None.ensures) small.stored.stands in
-    b told_b files_b index small.stored.body (lone_head c.args.oid.now.unique) bytes stands small.stored.spelled) c.read_small.ensures.bytes
+    let f_is = same_some c.in_ok-told.told c.in_ok-found.found _ c.in_ok-found.ensures.some (c.in_ok-told.ensures.told told index _ has.stored) in
+    let small = kept_holds g.V.Ground c.args.volume.now c.find.new.volume index c.args.oid.now (Small bytes) bytes kept (small_version g.V.Ground c.args.volume.now index c.args.oid.now content bytes c.in_ok-found.found f_is c.in-None.is has) in
+    let stands = subst (λ (p : Place). HasBody g.V.Ground c.find.new.volume index p small.stored.body) (sym c.place_of-place.ensures) small.stored.stands in
+    b told_b index small.stored.body (lone_head c.args.oid.now.unique) bytes stands small.stored.spelled) c.read_small.ensures.bytes
 
 pub returns-in-None-clause-sound : goal.returns-in-None-clause-sound
-returns-in-None-clause-sound g c = if_err c.read_small.result _ _ (λ fault never damage told files index content bytes has range.
+returns-in-None-clause-sound g c = IfErr-weaker c.read_small.result _ _ (λ fault never damage told index content bytes has range.
     let kept = c.find.ensures.kept in
     let told_b = g.V.Ground.leads_told c.args.volume.now c.find.new.volume kept.leads told in
-    let f_is = same_some c.in-Ok-Some.field-0 c.in-Ok-Some.found _ c.in-Ok-Some.field-0-is (c.in-Ok-Some.ensures.told told files index _ has.stored) in
-    let files_b = kept_files g.V.Ground c.args.volume.now c.find.new.volume kept files in
-    let small = kept_holds g.V.Ground c.args.volume.now c.find.new.volume index c.args.oid.now (Small bytes) bytes kept (small_version g.V.Ground c.args.volume.now index c.args.oid.now content bytes c.in-Ok-Some.found f_is c.in-None.is has) in
-    let stands = subst (λ (p : Place). HasBody g.V.Ground c.find.new.volume index p small.stored.body) (sym c.place_of-in-None.ensures) small.stored.stands in
-    never damage told_b files_b index small.stored.body (lone_head c.args.oid.now.unique) bytes stands small.stored.spelled range) c.read_small.ensures.sound
+    let f_is = same_some c.in_ok-told.told c.in_ok-found.found _ c.in_ok-found.ensures.some (c.in_ok-told.ensures.told told index _ has.stored) in
+    let small = kept_holds g.V.Ground c.args.volume.now c.find.new.volume index c.args.oid.now (Small bytes) bytes kept (small_version g.V.Ground c.args.volume.now index c.args.oid.now content bytes c.in_ok-found.found f_is c.in-None.is has) in
+    let stands = subst (λ (p : Place). HasBody g.V.Ground c.find.new.volume index p small.stored.body) (sym c.place_of-place.ensures) small.stored.stands in
+    never damage told_b index small.stored.body (lone_head c.args.oid.now.unique) bytes stands small.stored.spelled range) c.read_small.ensures.sound
 
 pub returns-in-Some-clause-bytes : goal.returns-in-Some-clause-bytes
-returns-in-Some-clause-bytes g c = on_ok c.read.result _ _ (λ b told files index content bytes has.
+returns-in-Some-clause-bytes g c = on_ok_weaker c.read.result (λ b told index content bytes has.
     let kept = c.find.ensures.kept in
     let told_b = g.V.Ground.leads_told c.args.volume.now c.find.new.volume kept.leads told in
-    let f_is = same_some c.in-Ok-Some.field-0 c.in-Ok-Some.found _ c.in-Ok-Some.field-0-is (c.in-Ok-Some.ensures.told told files index _ has.stored) in
-    let large = kept_holds g.V.Ground c.args.volume.now c.find.new.volume index c.args.oid.now (Large c.in-Some.root) bytes kept (large_version g.V.Ground c.args.volume.now index c.args.oid.now content bytes c.in-Ok-Some.found c.in-Some.root f_is c.in-Some.is has) in
-    let size : c.in-Ok-Some.found.size ≡ length bytes = at_some c.in-Ok-Some.field-0 c.in-Ok-Some.found _ c.in-Ok-Some.field-0-is (c.in-Ok-Some.ensures.size told files index content bytes has) in
-    (omega (arith, size, c.is_inside.ensures.0 c.if-not-is_inside.false), b told_b bytes large.spells.0)) c.read.ensures.bytes
+    let f_is = same_some c.in_ok-told.told c.in_ok-found.found _ c.in_ok-found.ensures.some (c.in_ok-told.ensures.told told index _ has.stored) in
+    let large = kept_holds g.V.Ground c.args.volume.now c.find.new.volume index c.args.oid.now (Large c.in-Some.root) bytes kept (large_version g.V.Ground c.args.volume.now index c.args.oid.now content bytes c.in_ok-found.found c.in-Some.root f_is c.in-Some.is has) in
+    let size : c.in_ok-found.found.size ≡ length bytes = at_some c.in_ok-told.told c.in_ok-found.found _ c.in_ok-found.ensures.some (c.in_ok-told.ensures.size told index content bytes has) in
+    (omega (arith, size, c.is_inside.ensures.0 c.in_ok-check.ensures.holds), b told_b bytes large.spells.0)) c.read.ensures.bytes
 
 pub returns-in-Some-clause-sound : goal.returns-in-Some-clause-sound
-returns-in-Some-clause-sound g c = if_err c.read.result _ _ (λ fault never damage told files index content bytes has range.
+returns-in-Some-clause-sound g c = IfErr-weaker c.read.result _ _ (λ fault never damage told index content bytes has range.
     let kept = c.find.ensures.kept in
     let told_b = g.V.Ground.leads_told c.args.volume.now c.find.new.volume kept.leads told in
-    let f_is = same_some c.in-Ok-Some.field-0 c.in-Ok-Some.found _ c.in-Ok-Some.field-0-is (c.in-Ok-Some.ensures.told told files index _ has.stored) in
-    let large = kept_holds g.V.Ground c.args.volume.now c.find.new.volume index c.args.oid.now (Large c.in-Some.root) bytes kept (large_version g.V.Ground c.args.volume.now index c.args.oid.now content bytes c.in-Ok-Some.found c.in-Some.root f_is c.in-Some.is has) in
+    let f_is = same_some c.in_ok-told.told c.in_ok-found.found _ c.in_ok-found.ensures.some (c.in_ok-told.ensures.told told index _ has.stored) in
+    let large = kept_holds g.V.Ground c.args.volume.now c.find.new.volume index c.args.oid.now (Large c.in-Some.root) bytes kept (large_version g.V.Ground c.args.volume.now index c.args.oid.now content bytes c.in_ok-found.found c.in-Some.root f_is c.in-Some.is has) in
     never told_b (version_whole g.V.Ground c.find.new.volume index c.args.oid.now c.in-Some.root bytes large) damage) c.read.ensures.sound
+
+pub returns-in_err-told-clause-fault : goal.returns-in_err-told-clause-fault
+returns-in_err-told-clause-fault g c = if_err_handed c.from_residual.result _ _ c.from_residual.ensures.1 (λ told. looking (c.in_err-told.ensures.fault told))
+
+pub returns-in_err-found-clause-fault : goal.returns-in_err-found-clause-fault
+returns-in_err-found-clause-fault g c = if_err_handed c.from_residual-in_err-found.result _ _ c.from_residual-in_err-found.ensures.1 (λ told. small (unlike (c.in_err-found.ensures.fault.1 ∙ ap record_fault c.place_of-place.ensures)))
+
+pub returns-in_err-check-clause-fault : goal.returns-in_err-check-clause-fault
+returns-in_err-check-clause-fault g c = if_err_handed c.from_residual-in_err-check.result _ _ c.from_residual-in_err-check.ensures.1 (λ told. small (unlike (c.in_err-check.ensures.fault.1 ∙ ap record_fault c.place_of-place.ensures)))
+
+pub returns-in-None-clause-fault : goal.returns-in-None-clause-fault
+returns-in-None-clause-fault g c = IfErr-weaker c.read_small.result _ _ (λ fault h told.
+    version_kept g.V.Ground c.args.volume.now c.find.new.volume c.find.ensures.kept c.args.oid.now fault
+    (λ told_b. step_version (g.V.Ground.geometry c.find.new.volume) (g.V.Ground.unit c.find.new.volume) (g.V.Ground.image c.find.new.volume) c.place_of-place.result c.args.oid.now fault c.place_of-place.ensures (h told_b)) told) c.read_small.ensures.fault
+
+pub returns-in-Some-clause-fault : goal.returns-in-Some-clause-fault
+returns-in-Some-clause-fault g c = IfErr-weaker c.read.result _ _ (λ fault h told.
+    let at = at_some c.in_ok-told.told c.in_ok-found.found _ c.in_ok-found.ensures.some c.in_ok-told.ensures.reads told in
+    large c.in-Some.root (root_at (g.V.Ground.geometry c.args.volume.now) (g.V.Ground.image c.args.volume.now) c.args.oid.now c.in_ok-found.found c.in-Some.root at c.in-Some.is)
+    (in_tree (tree_kept g.V.Ground c.args.volume.now c.find.new.volume c.find.ensures.kept c.in-Some.root fault h told))) c.read.ensures.fault

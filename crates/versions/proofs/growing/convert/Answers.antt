@@ -1,37 +1,47 @@
-use Rattle.std.proofs.Common.{◌≤◌, ◌+◌, ℕ, [], length, ap, arith}
+use Rattle.std.proofs.Common.{◌≤◌, ◌+◌, ℕ, [], length, ap, ◌∙◌, arith}
 use Rattle.ex_base.specs.declared.names.Area.{Area}
 use Rattle.ex_base.specs.declared.names.Area.TheVariants.{Page, Segment}
 use Rattle.ex_base.specs.Sizes.{object_most}
 use Rattle.object_records.specs.Record.{Small}
-use Rattle.versions.specs.Needs.{growth_need}
-use Rattle.versions.proofs.Results.{each_area}
+use Rattle.ex_base.specs.Needs.{growth_need}
+use Rattle.ex_base.proofs.Results.{if_err_handed}
+use Rattle.ex_base.proofs.Geometries.{each_area}
 use Rattle.versions.proofs.Puts.{first_leaves_need, first_pages_need}
+use Rattle.versions.specs.Damage.{no_tree, record_fault, in_tree, unlike}
+use Rattle.versions.proofs.Faults.{put_later}
 use Rattle.versions.proofs.Becoming.{becomes_large, never_put, none_spells}
 use Rattle.versions.proofs.growing.convert.Goals as goal
 
-pub returns-then-not-has_first_units-clause-cause : goal.returns-then-not-has_first_units-clause-cause
-returns-then-not-has_first_units-clause-cause g c = c.no_record.ensures.cause _ _
-
 pub append-requires-clause-pages : goal.append-requires-clause-pages
 append-requires-clause-pages g c = λ some.
-    omega (arith, c.has_first_units.ensures.yes c.if-not-has_first_units.false Page, first_pages_need (g.V.Ground.geometry c.args.volume.now) (length c.args.bytes.now) c.args.count c.requires.page)
+    omega (arith, c.has_first_units.ensures.yes c.in_ok-check.ensures.holds Page, first_pages_need (g.V.Ground.geometry c.args.volume.now) (length c.args.bytes.now) c.args.count c.requires.page)
 
-pub returns-in-Ok-put_root-clause-edited : goal.returns-in-Ok-put_root-clause-edited
-returns-in-Ok-put_root-clause-edited g c = λ told in_use lone index held has never.
+pub returns-clause-edited : goal.returns-clause-edited
+returns-clause-edited g c = λ told in_use lone index held has never change.
     let none = none_spells (g.V.Ground.geometry c.args.volume.now) (g.V.Ground.unit c.args.volume.now) in
-    let size : c.in-Ok.made.size ≤ object_most = omega (arith, c.in-Ok.ensures.size, c.requires.limit) in
-    becomes_large g.V.Ground c.args.volume.now c.append.new.blocks c.put_root.new.volume index c.args.oid.now (Small held) held c.args.bytes.now c.in-Ok.made c.place_of-2.result c.args.head.now
-    c.in-Ok.ensures.extends in_use told has (c.in-Ok.ensures.units told [] none tt) (c.in-Ok.ensures.spells told [] none tt, size) c.place_of-2.ensures lone c.in-Ok-put_root.ensures.put never
+    let size : c.in_ok-made.made.size ≤ object_most = omega (arith, c.in_ok-made.ensures.size, c.requires.limit) in
+    becomes_large g.V.Ground c.args.volume.now c.append.new.blocks c.put_root.new.volume index c.args.oid.now (Small held) change held c.args.bytes.now c.in_ok-made.made c.place_of-place.result c.args.head.now
+    c.in_ok-made.ensures.extends in_use told has (c.in_ok-made.ensures.units told [] none tt) (c.in_ok-made.ensures.spells told [] none tt, size) c.place_of-place.ensures lone c.in_ok-put_root.ensures.put never (c.in_ok-made.ensures.shape told [] none tt)
 
-pub returns-in-Ok-put_root-clause-free : goal.returns-in-Ok-put_root-clause-free
-returns-in-Ok-put_root-clause-free g c = each_area (λ area. g.V.Ground.free c.args.volume.now area ≤ g.V.Ground.free c.put_root.new.volume area + growth_need (g.V.Ground.geometry c.args.volume.now) c.args.count 0 area)
-    (omega (arith, c.in-Ok.ensures.pages, ap (λ (f : Area → ℕ). f Page) c.in-Ok-put_root.ensures.free, first_pages_need (g.V.Ground.geometry c.args.volume.now) (length c.args.bytes.now) c.args.count c.requires.page))
-    (omega (arith, c.in-Ok.ensures.leaves, ap (λ (f : Area → ℕ). f Segment) c.in-Ok-put_root.ensures.free, first_leaves_need (g.V.Ground.geometry c.args.volume.now) (length c.args.bytes.now) c.args.count c.requires.page))
+pub returns-clause-free : goal.returns-clause-free
+returns-clause-free g c = each_area (λ area. g.V.Ground.free c.args.volume.now area ≤ g.V.Ground.free c.put_root.new.volume area + growth_need (g.V.Ground.geometry c.args.volume.now) c.args.count 0 area)
+    (omega (arith, c.in_ok-made.ensures.pages, ap (λ (f : Area → ℕ). f Page) c.in_ok-put_root.ensures.free, first_pages_need (g.V.Ground.geometry c.args.volume.now) (length c.args.bytes.now) c.args.count c.requires.page))
+    (omega (arith, c.in_ok-made.ensures.leaves, ap (λ (f : Area → ℕ). f Segment) c.in_ok-put_root.ensures.free, first_leaves_need (g.V.Ground.geometry c.args.volume.now) (length c.args.bytes.now) c.args.count c.requires.page))
 
-pub returns-in-Err-put_root-clause-sound : goal.returns-in-Err-put_root-clause-sound
-returns-in-Err-put_root-clause-sound g c = λ damage told in_use index held has units.
+pub returns-in_err-put_root-clause-sound : goal.returns-in_err-put_root-clause-sound
+returns-in_err-put_root-clause-sound g c = if_err_handed c.from_residual-in_err-put_root.result _ _ c.from_residual-in_err-put_root.ensures.1 (λ damage told in_use index held has units.
     let none = none_spells (g.V.Ground.geometry c.args.volume.now) (g.V.Ground.unit c.args.volume.now) in
-    let size : c.in-Ok.made.size ≤ object_most = omega (arith, c.in-Ok.ensures.size, c.requires.limit) in
-    never_put g.V.Ground c.args.volume.now c.append.new.blocks index c.args.oid.now (Small held) held c.args.bytes.now c.in-Ok.made c.place_of-2.result
-    c.in-Ok.ensures.extends in_use has (c.in-Ok.ensures.spells told [] none tt, size) c.place_of-2.ensures
-    (c.in-Err-put_root.ensures.sound damage (g.V.Ground.leads_told c.args.volume.now c.append.new.blocks c.append.ensures.leads told))
+    let size : c.in_ok-made.made.size ≤ object_most = omega (arith, c.in_ok-made.ensures.size, c.requires.limit) in
+    never_put g.V.Ground c.args.volume.now c.append.new.blocks index c.args.oid.now (Small held) held c.args.bytes.now c.in_ok-made.made c.place_of-place.result
+    c.in_ok-made.ensures.extends in_use has (c.in_ok-made.ensures.spells told [] none tt, size) c.place_of-place.ensures
+    (c.in_err-put_root.ensures.sound damage (g.V.Ground.leads_told c.args.volume.now c.append.new.blocks c.append.ensures.leads told)))
+
+pub returns-in_err-check-clause-fault : goal.returns-in_err-check-clause-fault
+returns-in_err-check-clause-fault g c = if_err_handed c.from_residual.result _ _ c.from_residual.ensures.1 (λ told. unlike (c.in_err-check.ensures.fault.1 ∙ ap record_fault c.place_of-place.ensures))
+
+pub returns-in_err-made-clause-fault : goal.returns-in_err-made-clause-fault
+returns-in_err-made-clause-fault g c = if_err_handed c.from_residual-in_err-made.result _ _ c.from_residual-in_err-made.ensures.1 (λ told. in_tree (c.in_err-made.ensures.fault told))
+
+pub returns-in_err-put_root-clause-fault : goal.returns-in_err-put_root-clause-fault
+returns-in_err-put_root-clause-fault g c = if_err_handed c.from_residual-in_err-put_root.result _ _ c.from_residual-in_err-put_root.ensures.1 (λ told.
+    put_later g.V.Ground c.args.volume.now c.append.new.blocks c.place_of-place.result c.args.oid.now c.in_ok-made.made no_tree _ c.append.ensures.leads c.place_of-place.ensures c.in_err-put_root.ensures.fault told)

@@ -1,28 +1,39 @@
+use Rattle.std.proofs.Common.{subst, sym}
+use Rattle.std.proofs.lemmas.Result.{IfErr-weaker, on_ok_weaker}
+use Rattle.ex_base.specs.declared.geometry.Geometry.{Geometry}
+use Rattle.ex_base.proofs.Results.{if_err_handed}
+use Rattle.trees.specs.Roots.{IsRootFor}
+use Rattle.versions.specs.Damage.{no_limits, no_place}
+use Rattle.versions.proofs.Faults.{place_put}
 use Rattle.versions.proofs.Puts.{root_record}
 use Rattle.versions.proofs.growing.put_root.Goals as goal
 
-pub returns-then-not-is_kept_root-clause-cause : goal.returns-then-not-is_kept_root-clause-cause
-returns-then-not-is_kept_root-clause-cause g c = c.no_root.ensures.cause _ _
-
 pub write_large-requires-clause-fits : goal.write_large-requires-clause-fits
 write_large-requires-clause-fits g c =
-    let kept = c.is_kept_root.ensures.yes c.if-not-is_kept_root.false in
+    let kept = c.in_ok-check_root.ensures.kept in
     root_record c.geometry-geometry.result c.args.head.now c.args.root.now c.requires.head kept.0 kept.1
 
-pub returns-in-Ok-true-clause-put : goal.returns-in-Ok-true-clause-put
-returns-in-Ok-true-clause-put g c = λ told index was has.
-    let put = c.in-Ok-true.ensures.put c.in-Ok-true.field-0-test in
+pub returns-in_err-check_root-clause-fault : goal.returns-in_err-check_root-clause-fault
+returns-in_err-check_root-clause-fault g c = if_err_handed c.from_residual.result _ _ c.from_residual.ensures.1 (λ told.
+    no_limits (λ for. c.in_err-check_root.ensures.never (subst (λ (y : Geometry). IsRootFor y c.args.root.now) (sym c.geometry-geometry.ensures) for)) c.in_err-check_root.ensures.fault)
+
+pub returns-in_err-done-clause-fault : goal.returns-in_err-done-clause-fault
+returns-in_err-done-clause-fault g c = if_err_handed c.from_residual-in_err-done.result _ _ c.from_residual-in_err-done.ensures.1 (λ told. place_put (g.V.Ground.geometry c.args.volume.now) (g.V.Ground.image c.args.volume.now c.args.place.page.0) c.args.place c.args.root.now _ (c.in_err-done.ensures.fault told))
+
+pub returns-clause-fault : goal.returns-clause-fault
+returns-clause-fault g c = IfErr-weaker c.check.result _ _ (λ fault h told. no_place h.1) c.check.ensures.fault
+
+pub returns-clause-put : goal.returns-clause-put
+returns-clause-put g c = on_ok_weaker c.check.result (λ holds told index was has.
+    let put = c.in_ok-done.ensures.put holds in
     record {
       body = c.write_large.new.out;
       spelled = c.write_large.ensures;
-      edit = c.in-Ok-true.ensures.changed c.in-Ok-true.field-0-test told index was has;
+      edit = c.in_ok-done.ensures.changed holds told index was has;
       image = put.0;
       put = put.1;
       leads = c.change_body.ensures.leads;
-    }
+    }) c.check.ensures.holds
 
-pub returns-in-Ok-false-clause-cause : goal.returns-in-Ok-false-clause-cause
-returns-in-Ok-false-clause-cause g c = c.no_record.ensures.cause _ _
-
-pub returns-in-Err-clause-sound : goal.returns-in-Err-clause-sound
-returns-in-Err-clause-sound g c = λ damage told index was has long for placed. c.in-Err.ensures.sound damage told index was has
+pub returns-in_err-done-clause-sound : goal.returns-in_err-done-clause-sound
+returns-in_err-done-clause-sound g c = if_err_handed c.from_residual-in_err-done.result _ _ c.from_residual-in_err-done.ensures.1 (λ damage told index was has long for placed. c.in_err-done.ensures.sound damage told index was has)

@@ -1,20 +1,34 @@
-use Rattle.versions.proofs.Results.{match_some, match_none}
-use Rattle.versions.proofs.Standing.{one_body}
-use Rattle.versions.proofs.Records.{head_there}
-use Rattle.std.proofs.Common.{ℕ, List, ap, ◌∙◌}
+use Rattle.std.proofs.Common.{ℕ, List, subst, sym, ap, ◌∙◌}
+use Rattle.object_records.specs.Record.{BodyOf}
 use Rattle.object_records.specs.Reads.{record_on}
+use Rattle.std.proofs.lemmas.Result.{IfOk-weaker, IfErr-weaker}
+use Rattle.file_bodies.proofs.Belonging.{file_of_body}
+use Rattle.versions.specs.Damage.{of_page, unread}
+use Rattle.versions.proofs.Results.{of_found}
+use Rattle.versions.proofs.Standing.{one_body}
 use Rattle.versions.proofs.listing.head_at.Goals as goal
 
-pub returns-in-Some-clause-head : goal.returns-in-Some-clause-head
-returns-in-Some-clause-head g c = λ told files index body has.
-    let some = match_some c.in-Ok-Some.field-0 c.in-Ok-Some.body _ _ c.in-Ok-Some.field-0-is (c.in-Ok-Some.ensures.found told files) in
-    head_there c.in-Ok-Some.body.now c.in-Some.view _ c.in-Some.ensures.found c.head.ensures ∙ ap (λ (b : List ℕ). (record_on b).head) (one_body g.V.Ground c.args.volume.now index c.args.place c.in-Ok-Some.body.now body some has)
+pub returns-in-Ok-clause-head : goal.returns-in-Ok-clause-head
+returns-in-Ok-clause-head g c = IfOk-weaker c.head_on.result _ _ (λ head h told index body has.
+    of_found c.in-Ok.body _ _ _ _ (c.in-Ok.ensures.found told (file_of_body g.V.Ground c.args.volume.now index c.args.place body has)) h
+    (λ never. absurd (never body (record { index = index; has = has })))
+    (λ b some is. is ∙ ap (λ (t : List ℕ). (record_on t).head) (one_body g.V.Ground c.args.volume.now index c.args.place b.now body some has))) c.head_on.ensures.head
 
-pub returns-in-None-clause-cause : goal.returns-in-None-clause-cause
-returns-in-None-clause-cause g c = c.no_record.ensures.cause _ _
+pub returns-in-Ok-clause-sound : goal.returns-in-Ok-clause-sound
+returns-in-Ok-clause-sound g c = IfErr-weaker c.head_on.result _ _ (λ fault h damage told index body is has spelled.
+    of_found c.in-Ok.body _ _ _ _ (c.in-Ok.ensures.found told (file_of_body g.V.Ground c.args.volume.now index c.args.place body has)) h
+    (λ never. never body (record { index = index; has = has }))
+    (λ b some never. never is (subst (λ (t : List ℕ). BodyOf t is) (sym (one_body g.V.Ground c.args.volume.now index c.args.place b.now body some has)) spelled))) c.head_on.ensures.sound
 
-pub returns-in-Ok-None-clause-sound : goal.returns-in-Ok-None-clause-sound
-returns-in-Ok-None-clause-sound g c = λ damage told files index body is has spelled. match_none c.in-Ok-None.field-0 _ _ c.in-Ok-None.field-0-is (c.in-Ok-None.ensures.found told files) body (record { index = index; has = has })
+pub returns-in-Err-clause-sound : goal.returns-in-Err-clause-sound
+returns-in-Err-clause-sound g c = λ damage told index body is has spelled.
+    c.in-Err.ensures.sound damage told (file_of_body g.V.Ground c.args.volume.now index c.args.place body has)
 
-pub returns-in-Ok-None-clause-cause : goal.returns-in-Ok-None-clause-cause
-returns-in-Ok-None-clause-cause g c = c.no_record-in-Ok-None.ensures.cause _ _
+pub returns-in-Ok-clause-fault : goal.returns-in-Ok-clause-fault
+returns-in-Ok-clause-fault g c = IfErr-weaker c.head_on.result _ _ (λ fault is told. unread is) c.head_on.ensures.fault
+
+pub returns-in-Err-clause-fault : goal.returns-in-Err-clause-fault
+returns-in-Err-clause-fault g c = λ told. of_page (c.in-Err.ensures.fault told)
+
+pub returns-in-Ok-clause-cause : goal.returns-in-Ok-clause-cause
+returns-in-Ok-clause-cause g c = c.head_on.ensures.cause _ _

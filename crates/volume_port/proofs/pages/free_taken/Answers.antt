@@ -1,9 +1,8 @@
 use Rattle.std.proofs.Common.{◌≡◌, ◌≢◌, ℕ, Bool, false, sym, ap, ◌∙◌, arith, ⊎_elim}
-use Rattle.std.proofs.lemmas.Bool.{cases_eq}
+use Rattle.std.proofs.lemmas.Bool.{cases_eq, both_ways}
 use Rattle.ex_base.specs.declared.names.Area.TheVariants.{Segment}
 use Rattle.page_alloc.specs.UnitSet.{used_at, refs_at, updated}
 use Rattle.tree_store.proofs.Taking.{updated_here, updated_other, updated_same}
-use Rattle.volume_port.proofs.Moving.{true_false}
 use Rattle.volume_port.proofs.pages.free_taken.Goals as goal
 
 pub returns-then-refs-eq0-clause-freed : goal.returns-then-refs-eq0-clause-freed
@@ -17,7 +16,7 @@ returns-then-refs-eq0-clause-no_more c = λ p is.
     let page = c.args.page.0 in
     let used = used_at c.args.units.now in
     ⊎_elim
-    (λ (same : p ≡ page). absurd (true_false is (ap (λ (f : ℕ → Bool). f p) c.give.ensures.used ∙ ap (λ q. updated used page false q) same ∙ updated_here used page false)))
+    (λ (same : p ≡ page). absurd (both_ways _ (ap (λ (f : ℕ → Bool). f p) c.give.ensures.used ∙ ap (λ q. updated used page false q) same ∙ updated_here used page false) is))
     (λ (differ : p ≢ page). sym (updated_other used page false p differ) ∙ sym (ap (λ (f : ℕ → Bool). f p) c.give.ensures.used) ∙ is) (cases_eq p page)
 
 pub returns-then-refs-eq0-clause-refs : goal.returns-then-refs-eq0-clause-refs

@@ -14,6 +14,7 @@ returns-in_err-read_image-clause-kept g c =
       refs = refl;
       held = refl;
       free = refl;
+      touched = refl;
       leads = read_leads g.D.World.outside s.disk _ s.units s.groups _ s.index s.geometry refl refl read.only read.keeps read.behind;
     }
 
@@ -28,5 +29,6 @@ returns-clause-kept g c =
       refs = refl;
       held = refl;
       free = refl;
+      touched = refl;
       leads = read_leads g.D.World.outside s.disk _ s.units s.groups _ s.index s.geometry refl refl read.only read.keeps read.behind;
     }

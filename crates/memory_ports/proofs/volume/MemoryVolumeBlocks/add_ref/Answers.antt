@@ -22,6 +22,7 @@ returns c =
       others = λ p differ. ap (λ (f : ℕ → ℕ). f p) added.refs ∙ updated_other (refs_at m.units) page more p differ;
       held = refl;
       free = fun_ext (λ area. same_free m.geometry m.units c.add_ref.new.self area c.requires.ready.counted (counted c.requires.ready.counted) added.used);
+      touched = refl;
       faults = refl;
       leads = follows_on_parts m.geometry m.units c.add_ref.new.self m.bytes.items m.bytes.items m.images.items m.images.items m.held.items m.held.items counted refl refl refl;
     }

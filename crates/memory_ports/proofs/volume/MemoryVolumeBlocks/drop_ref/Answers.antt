@@ -13,7 +13,7 @@ returns-clause-counts c =
     let less = refs_at m.units page - 1 in
     let dropped = c.drop_ref.ensures in
     let few : less ≤ refs_most = omega (arith, c.requires.ready.counted.few page) in
-    let counted = recounted m.geometry m.units c.drop_ref.new.self page less dropped.geometry dropped.used dropped.refs few in
+    let counted = recounted m.geometry m.units c.drop_ref.new.self page less dropped.geometry dropped.used dropped.refs few (λ some. c.requires.ready.counted.owned page (omega (arith, some))) in
     record {
       units = refl;
       images = refl;
@@ -22,6 +22,7 @@ returns-clause-counts c =
       others = λ p differ. ap (λ (f : ℕ → ℕ). f p) dropped.refs ∙ updated_other (refs_at m.units) page less p differ;
       held = refl;
       free = fun_ext (λ area. same_free m.geometry m.units c.drop_ref.new.self area c.requires.ready.counted (counted c.requires.ready.counted) dropped.used);
+      touched = refl;
       faults = refl;
       leads = follows_on_parts m.geometry m.units c.drop_ref.new.self m.bytes.items m.bytes.items m.images.items m.images.items m.held.items m.held.items counted refl refl refl;
     }

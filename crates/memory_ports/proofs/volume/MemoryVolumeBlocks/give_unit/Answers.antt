@@ -12,7 +12,7 @@ returns c =
     let page = c.args.page.0 in
     let given = c.give.ensures in
     let refs : refs_at c.give.new.self ≡ refs_at m.units = given.refs ∙ updated_same (refs_at m.units) page 0 c.requires.unnamed in
-    let counted = given_counted m.geometry m.units c.give.new.self page given.geometry given.used refs in
+    let counted = given_counted m.geometry m.units c.give.new.self page given.geometry given.used refs c.requires.unnamed in
     let geometry = c.requires.ready.counted.geometry in
     record {
       gone = ap (λ (f : ℕ → Bool). f page) given.used ∙ updated_here (used_at m.units) page false;
@@ -23,6 +23,7 @@ returns c =
       held = refl;
       freed = λ area there. given.free area (subst (λ (h : Geometry). InArea h area page) (sym geometry) there);
       kept = λ area away. given.other_free area (λ there. away (subst (λ (h : Geometry). InArea h area page) geometry there));
+      touched = refl;
       faults = refl;
       frees = follows_on_parts m.geometry m.units c.give.new.self m.bytes.items m.bytes.items m.images.items m.images.items m.held.items m.held.items counted refl refl refl;
     }

@@ -10,8 +10,8 @@ use Rattle.memory_ports.specs.InMemory.{image_in}
 use Rattle.memory_ports.proofs.Writing.{follows_on_parts, image_fits, image_put, image_stays}
 use Rattle.memory_ports.proofs.volume.MemoryVolumePages.take_page.Goals as goal
 
-pub returns-then-page-eq-CATALOG-clause-leads : goal.returns-then-page-eq-CATALOG-clause-leads
-returns-then-page-eq-CATALOG-clause-leads c =
+pub returns-then-page-clause-leads : goal.returns-then-page-clause-leads
+returns-then-page-clause-leads c =
     let m = c.args.self.now in
     let g = m.geometry in
     let p = c.take-page.result.0 in
@@ -48,7 +48,7 @@ returns-clause-taken c =
     let inside : p < length m.held.items = omega (arith, area.1, c.requires.ready.flags_len) in
     record {
       area = area;
-      other = c.if-page-eq-CATALOG.false;
+      other = c.if-page.false;
       was_free = took.lowest.free;
       now_used = ap (λ (f : ℕ → Bool). f p) took.used ∙ updated_here (used_at m.units) p true;
       was_not_held = ap (slice_index_or m.held.items p) (sym c.if-index.false) ∙ sym c.index.ensures ∙ c.if-index.false;

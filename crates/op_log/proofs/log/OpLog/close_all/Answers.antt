@@ -3,7 +3,7 @@ use Rattle.std.proofs.lemmas.List.{nil_from_length}
 use Rattle.disk_model.specs.Changes.{ChangesWithin, InRange}
 use Rattle.disk_model.specs.Calls.{Wrote}
 use Rattle.disk_model.specs.Outside.{Leaves}
-use Rattle.disk_model.specs.Runs.{honest_on}
+use Rattle.disk_model.specs.Runs.{honest_on, no_calls, calls_at_most, at_most_wider}
 use Rattle.op_log.specs.declared.record.LogRecord.{LogRecord}
 use Rattle.op_log.specs.Log.{SaysLog, SaysEither, KeepsLog, DiskSays}
 use Rattle.op_log.specs.Gates.{image_says, has_log}
@@ -67,3 +67,11 @@ pub returns-clause-after : goal.returns-clause-after
 returns-clause-after g c rs count keeps x here =
     let says = says_none g (goal.at.returns-clause-after g c).In_ok-write_settled rs keeps.on_disk in
     settled_says (g.D.World.outside c.write_settled.new.disk) x says (c.in_ok-write_settled.ensures.settled keeps.honest) here
+
+pub returns-then-self-eq0-clause-at_most_twice : goal.returns-then-self-eq0-clause-at_most_twice
+returns-then-self-eq0-clause-at_most_twice g c = at_most_wider 2 (omega arith) (calls_at_most (no_calls (g.D.World.outside c.args.disk.now)))
+
+pub returns-then-self-eq0-clause-twice : goal.returns-then-self-eq0-clause-twice
+returns-then-self-eq0-clause-twice g c = λ some.
+    let counts : c.self.inside.count ≡ c.args.self.now.count = ap (λ (t : LogState). t.count) c.self.view_is in
+    absurd (let none : ⊥ = omega (arith, c.if-self-eq0.true, counts, some) in none)

@@ -4,11 +4,11 @@ use Rattle.table_model.specs.declared.reply.Refusal.TheVariants as refusal
 use Rattle.transactions.specs.contracts.session.Session as session
 use Rattle.transactions.specs.Sessions.{SessionState}
 use Rattle.transactions.proofs.Sessions.{not_begun, is_begun, seen, still_closed, number_left, begun_is, if_error, read_last, started_with}
-use Rattle.meta_pages.proofs.Keeping.{if_no_error}
 use Rattle.transactions.proofs.Quiet.{refused_at_once}
 use Rattle.transactions.proofs.Refusing.{open_refused}
 use Rattle.transactions.proofs.Accepted.{begin_quietly, begin_spent}
 use Rattle.transactions.proofs.session.Session.begin.Goals as goal
+use Rattle.ex_base.proofs.Results.{if_no_error}
 
 pub returns-then-self : goal.returns-then-self
 returns-then-self g c =

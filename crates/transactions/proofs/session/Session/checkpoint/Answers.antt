@@ -1,5 +1,4 @@
 use Rattle.std.proofs.Common.{◌∙◌, ap, sym, refl}
-use Rattle.meta_pages.proofs.Keeping.{if_no_error}
 use Rattle.table_model.specs.Requests as request
 use Rattle.table_model.specs.declared.reply.Refusal.TheVariants as refusal
 use Rattle.transactions.specs.contracts.session.Session as session
@@ -9,6 +8,7 @@ use Rattle.transactions.proofs.Refusing.{checkpoint_refused}
 use Rattle.transactions.proofs.Sessions.{seen, if_error}
 use Rattle.transactions.proofs.Writing.{checkpoint_failed, checkpoint_done}
 use Rattle.transactions.proofs.session.Session.checkpoint.Goals as goal
+use Rattle.ex_base.proofs.Results.{if_no_error}
 
 pub returns-then-self-clause-steps : goal.returns-then-self-clause-steps
 returns-then-self-clause-steps g c =

@@ -1,27 +1,25 @@
-use Rattle.std.proofs.Common.{◌≡◌, ◌∙◌, ap, sym, subst, refl, true, false, ℕ, List, ◌≤◌, length, Err, Bool, arith}
+use Rattle.std.proofs.Common.{◌≡◌, ◌∙◌, ap, sym, subst, refl, true, false, ℕ, List, ◌≤◌, length, Err, Bool, arith, ◌++◌, take, drop}
 use Rattle.std.specs.List.{AllByRecursion}
 use Rattle.ex_base.specs.declared.names.OpNote.{OpNote}
+use Rattle.ex_base.proofs.Results.{if_no_error}
 use Rattle.op_log.specs.Records.{IsNote}
 use Rattle.table_model.specs.Machines.{updates_most}
-use Rattle.meta_pages.proofs.Keeping.{if_no_error}
 use Rattle.table_model.specs.Requests as request
 use Rattle.session_views.specs.declared.engine.Stop.TheVariants as stop
 use Rattle.transactions.specs.contracts.session.Session as session
-use Rattle.transactions.specs.Sessions.{SessionState}
+use Rattle.transactions.specs.Sessions.{SessionState, Settled}
 use Rattle.transactions.proofs.Accepted.{no_open_txn}
 use Rattle.transactions.proofs.Quiet.{quietly, quiet_stop}
 use Rattle.transactions.proofs.Refusing.{closed_refused}
 use Rattle.transactions.proofs.Sessions.{seen, ready, after_commit}
 use Rattle.transactions.proofs.Settling.{taken_kept}
-use Rattle.transactions.specs.Sessions.{Settled}
-use Rattle.commits.specs.Room.{IsLogged}
-use Rattle.std.proofs.Common.{◌++◌, take, drop}
+use Rattle.commits.specs.Room.{IsLogged, AreBehindLog}
 use Rattle.transactions.proofs.Writing.{WasKept, commit_stopped, commit_done, commit_noted, moments_at, commits_at, frames_at, closed_as, settled_at}
 use Rattle.transactions.proofs.Committing.{Commits, numbered_pages}
 use Rattle.meta_pages.specs.Overlays.{Overlays}
-use Rattle.commits.specs.Room.{AreBehindLog}
 use Rattle.commits.specs.declared.keep.CommitFault.{CommitFault}
 use Rattle.transactions.proofs.session.Session.commit.Goals as goal
+use Rattle.std.proofs.lemmas.Bool.{both_ways}
 
 pub returns-then-not-self-clause-steps : goal.returns-then-not-self-clause-steps
 returns-then-not-self-clause-steps g c =
@@ -145,13 +143,10 @@ returns-clause-steps g c =
     c.in_default.ensures.working
     (frames_at (g.H.World.outside c.catalog.new.disk) (g.H.World.outside c.commit.new.disk) c.args.self.now c.catalog.new.self (session.the_view c.self-2.inside) c.edit.new.self c.commit.new.groups c.catalog.ensures.frames.same c.self-2.view_is (ap (λ (o : Overlays). o.geometry) edited) c.self-2.invariant.meta c.commit.ensures.lends c.commit.ensures.sizes)
     (settled_at c.args.self.now c.catalog.new.self two c.edit.new.self c.number_next-number.new.page.items flags c.settle.new.pages c.settle.new.units c.catalog.ensures.frames.same c.self-2.view_is edited settled)
-    (closed_as c.args.self.now c.catalog.new.self (session.the_view c.self-2.inside) c.commit.new.log c.commit.new.meta c.commit.new.groups flags c.settle.new.pages c.settle.new.units c.clear.new.self.items c.unmark.new.names.items c.catalog.ensures.frames.same c.self-2.view_is c.clear.ensures.items c.unmark.ensures)
+    (closed_as c.args.self.now c.catalog.new.self (session.the_view c.self-2.inside) c.commit.new.log c.commit.new.meta c.commit.new.groups flags c.settle.new.pages c.settle.new.units c.clear.new.self.items c.unmark.new.self c.catalog.ensures.frames.same c.self-2.view_is c.clear.ensures.items c.unmark.ensures)
 
 pub returns-then-not-self-clause-noted : goal.returns-then-not-self-clause-noted
-returns-then-not-self-clause-noted g c = λ before from now opened. let closed = ap (λ (s : SessionState). s.opened) (sym c.self.view_is) ∙ c.if-not-self.true in absurd (both opened closed)
-  where
-    both : {b : Bool} → b ≡ true → b ≡ false → ⊥
-    both one other = cc
+returns-then-not-self-clause-noted g c = λ before from now opened. let closed = ap (λ (s : SessionState). s.opened) (sym c.self.view_is) ∙ c.if-not-self.true in absurd (both_ways _ closed opened)
 
 pub returns-clause-noted : goal.returns-clause-noted
 returns-clause-noted g c = λ before from now opened_there.

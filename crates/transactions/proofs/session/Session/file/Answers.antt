@@ -3,7 +3,6 @@ use Rattle.std.specs.Prelude.{Contains}
 use Rattle.object_files.specs.Catalog.{name_of}
 use Rattle.object_files.specs.Edits.{IsCatalogPage}
 use Rattle.std.proofs.Common.{◌∙◌, ap, sym, subst, List, ℕ}
-use Rattle.meta_pages.proofs.Keeping.{if_no_error}
 use Rattle.object_files.specs.Catalog.{Catalog}
 use Rattle.object_files.specs.Reads.{catalog_on}
 use Rattle.table_model.specs.Requests as request
@@ -13,6 +12,7 @@ use Rattle.transactions.proofs.Files.{name_is, name_unused, edited_page, edited_
 use Rattle.transactions.proofs.Refusing.{closed_refused}
 use Rattle.transactions.proofs.Sessions.{seen, viewed}
 use Rattle.transactions.proofs.session.Session.file.Goals as goal
+use Rattle.ex_base.proofs.Results.{if_no_error}
 
 pub returns-then-not-self : goal.returns-then-not-self
 returns-then-not-self g c =

@@ -1,12 +1,11 @@
 use Rattle.std.proofs.Common.{refl}
-use Rattle.transactions.proofs.Finding.{mapped_error, over_parts}
-use Rattle.transactions.proofs.Listing.{file_on, mapped_if_ok}
+use Rattle.std.proofs.lemmas.Result.{IfErr-weaker, IfOk-weaker}
+use Rattle.transactions.proofs.Finding.{over_parts}
+use Rattle.transactions.proofs.Listing.{file_on}
 use Rattle.transactions.proofs.session.objects.list_on.Goals as goal
 
 pub returns-clause-oids : goal.returns-clause-oids
-returns-clause-oids g c = λ old has. mapped_if_ok c.list_in.result
-    (λ oids each. file_on _ _ (over_parts _ _ (g.D.World.outside c.args.disk.now) old c.args.geometry.now c.args.meta.now c.args.pages.now c.args.groups.now has refl refl refl refl (λ h. h)) c.args.file_no _ each) c.list_in.ensures.oids
+returns-clause-oids g c = λ old has. IfOk-weaker c.list_in.result _ _ (λ oids each. file_on _ _ (over_parts _ _ (g.D.World.outside c.args.disk.now) old c.args.geometry.now c.args.meta.now c.args.pages.now c.args.groups.now has refl refl refl refl (λ h. h)) c.args.file_no _ each) c.list_in.ensures.oids
 
 pub returns-clause-sound : goal.returns-clause-sound
-returns-clause-sound g c = λ old has. mapped_error c.list_in.result
-    (λ fault each. file_on _ _ (over_parts _ _ (g.D.World.outside c.args.disk.now) old c.args.geometry.now c.args.meta.now c.args.pages.now c.args.groups.now has refl refl refl refl (λ h. h)) c.args.file_no _ each) c.list_in.ensures.sound
+returns-clause-sound g c = λ old has. IfErr-weaker c.list_in.result _ _ (λ fault each. file_on _ _ (over_parts _ _ (g.D.World.outside c.args.disk.now) old c.args.geometry.now c.args.meta.now c.args.pages.now c.args.groups.now has refl refl refl refl (λ h. h)) c.args.file_no _ each) c.list_in.ensures.sound

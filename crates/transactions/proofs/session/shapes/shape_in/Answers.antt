@@ -1,7 +1,7 @@
 use Rattle.versions.proofs.Standing.{version_whole}
-use Rattle.transactions.proofs.Finding.{mapped_error}
 use Rattle.transactions.proofs.Shaping.{holds, reads, shape_told}
 use Rattle.transactions.proofs.session.shapes.shape_in.Goals as goal
+use Rattle.std.proofs.lemmas.Result.{IfErr-weaker}
 
 pub returns-clause-shape : goal.returns-clause-shape
 returns-clause-shape g c = λ before shows oid version is rooted.
@@ -11,5 +11,4 @@ returns-clause-shape g c = λ before shows oid version is rooted.
 pub returns-clause-sound : goal.returns-clause-sound
 returns-clause-sound g c = λ before shows oid version is rooted.
     let read = reads g.V.Ground c.args.volume.now shows oid c.args.root.now version is rooted in
-    mapped_error c.leaf_lengths.result
-    (λ fault sound. sound shows.tells (version_whole g.V.Ground c.args.volume.now read.index oid c.args.root.now version.bytes (holds g.V.Ground c.args.volume.now shows oid c.args.root.now version is rooted))) c.leaf_lengths.ensures.sound
+    IfErr-weaker c.leaf_lengths.result _ _ (λ fault sound. sound shows.tells (version_whole g.V.Ground c.args.volume.now read.index oid c.args.root.now version.bytes (holds g.V.Ground c.args.volume.now shows oid c.args.root.now version is rooted))) c.leaf_lengths.ensures.sound

@@ -20,6 +20,7 @@ returns-in_err-bring-clause-kept g c =
       refs = refl;
       held = refl;
       free = refl;
+      touched = refl;
       leads = read_leads g.D.World.outside s.disk _ s.units s.groups _ s.index s.geometry refl refl brought.only brought.keeps
           (groups_not_brought s.groups.now _ s.index c.args.page.0 c.requires.ready.group c.in_err-bring.ensures.err);
     }
@@ -35,6 +36,7 @@ returns-clause-kept g c =
       refs = refl;
       held = refl;
       free = refl;
+      touched = refl;
       leads = read_leads g.D.World.outside s.disk _ s.units s.groups _ s.index s.geometry refl refl brought.only brought.keeps
           (groups_brought (g.D.World.outside s.disk.now).disk s.groups.now _ s.index c.args.page.0 c.requires.ready.group c.requires.page.0 c.in_ok-bring.ensures.ok);
     }

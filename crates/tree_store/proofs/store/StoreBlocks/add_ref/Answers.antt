@@ -22,6 +22,7 @@ returns g c =
       others = λ p differ. ap (λ (f : ℕ → ℕ). f p) added.refs ∙ updated_other (refs_at s.units.now) page more p differ;
       held = refl;
       free = fun_ext (λ area. same_free s.geometry s.units.now c.add_ref.new.self area c.requires.ready.counted (counted c.requires.ready.counted) added.used);
+      touched = refl;
       faults = refl;
       leads = counts_frees g.D.World.outside NoUnit s.disk s.units _ s.groups s.index s.geometry refl (λ p is stays. ap (λ (f : ℕ → Bool). f p) added.used ∙ is) counted;
     }

@@ -13,7 +13,7 @@ returns-clause-counts g c =
     let less = refs_at s.units.now page - 1 in
     let dropped = c.drop_ref.ensures in
     let few : less ≤ refs_most = omega (arith, c.requires.ready.counted.few page) in
-    let counted = recounted s.geometry s.units.now c.drop_ref.new.self page less dropped.geometry dropped.used dropped.refs few in
+    let counted = recounted s.geometry s.units.now c.drop_ref.new.self page less dropped.geometry dropped.used dropped.refs few (λ some. c.requires.ready.counted.owned page (omega (arith, some))) in
     record {
       units = refl;
       images = refl;
@@ -22,6 +22,7 @@ returns-clause-counts g c =
       others = λ p differ. ap (λ (f : ℕ → ℕ). f p) dropped.refs ∙ updated_other (refs_at s.units.now) page less p differ;
       held = refl;
       free = fun_ext (λ area. same_free s.geometry s.units.now c.drop_ref.new.self area c.requires.ready.counted (counted c.requires.ready.counted) dropped.used);
+      touched = refl;
       faults = refl;
       leads = counts_frees g.D.World.outside NoUnit s.disk s.units _ s.groups s.index s.geometry refl (λ p is stays. ap (λ (f : ℕ → Bool). f p) dropped.used ∙ is) counted;
     }

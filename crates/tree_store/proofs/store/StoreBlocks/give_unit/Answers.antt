@@ -11,7 +11,7 @@ returns-clause-given g c =
     let page = c.args.page.0 in
     let given = c.give.ensures in
     let refs : refs_at c.give.new.self ≡ refs_at s.units.now = given.refs ∙ updated_same (refs_at s.units.now) page 0 c.requires.unnamed in
-    let counted = given_counted s.geometry s.units.now c.give.new.self page given.geometry given.used refs in
+    let counted = given_counted s.geometry s.units.now c.give.new.self page given.geometry given.used refs c.requires.unnamed in
     let geometry = c.requires.ready.counted.geometry in
     record {
       gone = ap (λ (f : ℕ → Bool). f page) given.used ∙ updated_here (used_at s.units.now) page false;
@@ -22,6 +22,7 @@ returns-clause-given g c =
       held = refl;
       freed = λ area there. given.free area (subst (λ (h : Geometry). InArea h area page) (sym geometry) there);
       kept = λ area away. given.other_free area (λ there. away (subst (λ (h : Geometry). InArea h area page) geometry there));
+      touched = refl;
       faults = refl;
       frees = counts_frees g.D.World.outside (λ p. p ≡ page) s.disk s.units _ s.groups s.index s.geometry refl
           (λ p is stays. ap (λ (f : ℕ → Bool). f p) given.used ∙ updated_other (used_at s.units.now) page false p stays ∙ is) counted;

@@ -16,6 +16,7 @@ returns g c =
       others = done.others;
       held = refl;
       free = done.free;
+      touched = refl;
       faults = done.faults;
       leads = store_moves _ NoUnit s.store c.add_ref.new.self s.meta s.pages s.room s.room refl refl done.leads (λ p is stays. done.leads.used p is stays);
     }

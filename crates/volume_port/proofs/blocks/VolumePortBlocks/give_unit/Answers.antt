@@ -17,6 +17,7 @@ returns g c =
       held = refl;
       freed = done.freed;
       kept = done.kept;
+      touched = refl;
       faults = done.faults;
       frees = store_moves _ (λ p. p ≡ c.args.page.0) s.store c.give_unit.new.self s.meta s.pages s.room s.room refl refl done.frees (λ p is stays. done.frees.used p is stays);
     }

@@ -1,14 +1,15 @@
 use Rattle.std.proofs.Common.{refl}
 use Rattle.tree_store.specs.Stored.{NoUnit, unit_bytes}
-use Rattle.volume_port.proofs.Moving.{ok_from, store_moves}
+use Rattle.volume_port.proofs.Moving.{store_moves}
 use Rattle.volume_port.proofs.WorkingRows.{image_stays}
 use Rattle.volume_port.proofs.blocks.VolumePortBlocks.new_leaf.Goals as goal
+use Rattle.ex_base.proofs.Results.{if_ok_both}
 
 pub returns-clause-taken : goal.returns-clause-taken
 returns-clause-taken g c =
     let s = c.args.self.now in
     let done = c.new_leaf.ensures in
-    ok_from _ _ _ c.new_leaf.result done.taken done.others (λ page taken others. record {
+    if_ok_both c.new_leaf.result _ _ _ (λ page taken others. record {
       named = taken.named;
       was_free = taken.was_free;
       now_used = taken.now_used;
@@ -18,7 +19,7 @@ returns-clause-taken g c =
           (unit_bytes c.new_leaf.new.self.geometry (g.D.World.outside c.new_leaf.new.self.disk.now).disk) p done.leads.geometry (λ unit. others p unit differ);
       used = taken.used;
       held = refl;
-    })
+    }) done.taken done.others
 
 pub returns-clause-leads : goal.returns-clause-leads
 returns-clause-leads g c =

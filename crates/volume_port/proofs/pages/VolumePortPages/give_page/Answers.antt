@@ -3,7 +3,7 @@ use Rattle.page_alloc.specs.UnitSet.{UnitSet, used_at}
 use Rattle.tree_store.specs.Stored.{unit_bytes}
 use Rattle.tree_store.proofs.Taking.{counts_frees}
 use Rattle.volume_port.specs.Logged.{is_taken}
-use Rattle.volume_port.proofs.Moving.{IsTakenPage, freed_counted, give_moves, held_here, held_other, row_here, still_used}
+use Rattle.volume_port.proofs.Moving.{IsTakenPage, freed_counted, named_stays, give_moves, held_here, held_other, row_here, still_used}
 use Rattle.volume_port.proofs.WorkingRows.{images_put}
 use Rattle.volume_port.proofs.pages.VolumePortPages.give_page.Goals as goal
 
@@ -36,7 +36,7 @@ returns-clause-leads g c =
     let in_taken : page < length s.pages.now.taken = omega (arith, c.requires.page.1, c.requires.ready.taken_len) in
     let frees = counts_frees g.D.World.outside (IsTakenPage s.pages.now page) store.disk store.units _ store.groups store.index store.geometry refl
     (still_used store.units.now c.free_taken.new.units s.pages.now page kept freed.others)
-    (freed_counted store.geometry store.units.now c.free_taken.new.units freed.geometry freed.no_more freed.refs) in
+    (freed_counted store.geometry store.units.now c.free_taken.new.units freed.geometry freed.no_more freed.refs (named_stays store.units.now c.free_taken.new.units page freed.named freed.others)) in
     give_moves _ store _ s.meta _ s.pages _ s.room page refl refl c.requires.other in_held in_taken frees
     (λ away. ap (λ (w : UnitSet). used_at w page) (kept away)) freed.others c.in_ok-gone.ensures.ok c.give.ensures
 

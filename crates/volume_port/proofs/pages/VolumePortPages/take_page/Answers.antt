@@ -1,4 +1,5 @@
 use Rattle.std.proofs.Common.{◌≢◌, ◌<◌, ℕ, Bool, true, length, refl, sym, ap, ◌∙◌, arith}
+use Rattle.std.proofs.lemmas.Bool.{both_ways}
 use Rattle.ex_base.specs.declared.names.Area.TheVariants.{Page, Segment}
 use Rattle.ex_base.specs.Area.{catalog_no}
 use Rattle.page_alloc.specs.UnitSet.{used_at}
@@ -6,7 +7,7 @@ use Rattle.tree_store.specs.Stored.{NoUnit, unit_bytes}
 use Rattle.tree_store.proofs.Places.{area_unit}
 use Rattle.tree_store.proofs.Taking.{counts_frees, taken_area, taken_counted, updated_here, updated_other}
 use Rattle.volume_port.specs.Logged.{is_held}
-use Rattle.volume_port.proofs.Moving.{held_here, held_other, store_moves, take_grows, take_moves, taken_here, true_false}
+use Rattle.volume_port.proofs.Moving.{held_here, held_other, store_moves, take_grows, take_moves, taken_here}
 use Rattle.volume_port.proofs.WorkingRows.{image_put, images_put}
 use Rattle.volume_port.proofs.pages.VolumePortPages.take_page.Goals as goal
 
@@ -55,7 +56,7 @@ returns-clause-taken g c =
     let area = taken_area store.geometry store.units.now Page page c.requires.ready.ready.counted.geometry took.lowest in
     let free = took.lowest.free in
     let apart = sym c.holds.ensures ∙ c.if-holds.false in
-    let other : page ≢ catalog_no = λ same. true_false c.requires.ready.catalog (ap (is_held s.pages.now) (sym same) ∙ apart) in
+    let other : page ≢ catalog_no = λ same. both_ways _ (ap (is_held s.pages.now) (sym same) ∙ apart) c.requires.ready.catalog in
     let inside : page < length s.pages.now.held = omega (arith, area.1, c.requires.ready.held_len) in
     let unit = unit_bytes store.geometry (g.D.World.outside store.disk.now).disk in
     record {
@@ -85,7 +86,7 @@ returns-clause-leads g c =
     (λ p is stays. take_grows store.units.now c.take-page.new.self page took.used free p is)
     (λ before. taken_counted store.geometry store.units.now c.take-page.new.self page before (area_unit store.geometry Page page area) took.geometry took.used took.refs) in
     let apart = sym c.holds.ensures ∙ c.if-holds.false in
-    let other : page ≢ catalog_no = λ same. true_false c.requires.ready.catalog (ap (is_held s.pages.now) (sym same) ∙ apart) in
+    let other : page ≢ catalog_no = λ same. both_ways _ (ap (is_held s.pages.now) (sym same) ∙ apart) c.requires.ready.catalog in
     let inside : page < length s.pages.now.held = omega (arith, area.1, c.requires.ready.held_len) in
     take_moves _ store _ s.meta _ s.pages _ s.room page c.args.image.now refl refl other inside frees free
     (ap (λ (f : ℕ → Bool). f page) took.used ∙ updated_here (used_at store.units.now) page true)

@@ -15,5 +15,6 @@ returns-clause-kept g c =
       refs = kept.refs;
       held = refl;
       free = kept.free;
+      touched = refl;
       leads = store_moves _ NoUnit s.store c.read_page.new.store s.meta s.pages s.room _ refl c.read_page.ensures.len kept.leads (λ p is stays. kept.leads.used p is stays);
     }

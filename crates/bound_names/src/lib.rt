@@ -1,0 +1,6 @@
+//! The names that a session binds to versions.
+#![tactic(auto)]
+
+mod names;
+
+pub use names::NameMap;

@@ -1,0 +1,4 @@
+pub mod Status
+pub mod Numerals
+pub mod Words
+pub mod Texts

@@ -1,0 +1,16 @@
+-- The units that stand on a page as children.
+use Rattle.std.specs.Prelude.{ℕ, ◌-◌, ◌/◌, min, List, length, map, drop}
+use Rattle.ex_base.specs.Fields.{number_at}
+use Rattle.count_nodes.specs.declared.Pair.{Pair}
+use Rattle.count_nodes.specs.Node.{read_pairs}
+
+abbrev pub page_of_pair : Pair → ℕ
+page_of_pair pair = pair.page.0
+
+-- how many pairs are read from a page: as many as it says, and no more than it has room for
+abbrev pub pairs_read : List ℕ → ℕ
+pairs_read page = min (number_at 2 page 2) ((length page - 8) / 8)
+
+-- the units of the pairs that stand on a page, whether it is a node or not
+unfoldable pub names_on : List ℕ → List ℕ
+names_on page = map page_of_pair (read_pairs (pairs_read page) (drop 8 page))

@@ -1,0 +1,5 @@
+mod Choosing
+mod Images
+mod Inside
+mod Leaves
+mod Writes

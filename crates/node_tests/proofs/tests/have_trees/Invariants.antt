@@ -1,7 +1,0 @@
-use Rattle.std.specs.Prelude.{take}
-use Rattle.std.specs.List.{AllByRecursion}
-use Rattle.object_records.specs.Record.{IsRootField}
-use Rattle.node_tests.proofs.tests.have_trees.Given as goal
-
-abbrev pub invariant-loop-root : goal.invariant-loop-root
-invariant-loop-root l = AllByRecursion IsRootField (take l.root-index l.roots)

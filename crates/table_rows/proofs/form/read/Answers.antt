@@ -1,5 +1,0 @@
-use Rattle.table_rows.proofs.Forms.{read_form}
-use Rattle.table_rows.proofs.form.read.Goals as goal
-
-pub returns-clause-form : goal.returns-clause-form
-returns-clause-form c = read_form c.args.line.now c.parse_any.result c.parse_any.ensures.says

@@ -1,6 +1,0 @@
-use Rattle.table_model.specs.Requests.{request_of}
-use Rattle.table_rows.proofs.Allowed.{allows_after}
-use Rattle.table_rows.proofs.picks.is_allowed.Goals as goal
-
-pub returns-clause-allows : goal.returns-clause-allows
-returns-clause-allows c = allows_after c.args.machine.now (request_of c.args.command.now) c.args.pick.now c.test_of.result c.test_of.ensures

@@ -1,0 +1,7 @@
+//! Tests of the program's two commands over a host in memory.
+#![tactic(auto)]
+
+#[cfg(test)]
+mod formats;
+#[cfg(test)]
+mod scripts;

@@ -1,0 +1,320 @@
+// Trees whose nodes are written byte by byte: one that names a few nodes often, and some with a page that isn't what names it.
+
+use crate::tests::{LENGTHS_MOST, SIZE_MOST, grown, leaves_of, replaced, shortened};
+use ex_base::{Area, Blocks, Geometry, PageNo, PortFault, Root, Seen};
+use memory_ports::MemoryVolume;
+use std::alloc::Global;
+use std::process::Abort;
+use std::test::Fail;
+use tree_insert::{leaf_lengths, read};
+use trees::is_root_for;
+
+/// A tree below a node: how many bytes it spells, and its page.
+#[derive(Clone, Copy)]
+struct Tree {
+    size: u32,
+    page: PageNo,
+}
+
+/// The most pairs of a node on the smallest page.
+const PAIRS_MOST: usize = 63;
+
+/// The page of a node: its kind, its level, how many pairs it has, four zeros, and for each pair the count of the bytes up to its end and its page.
+fn node_page(alloc: Global, page_size: u32, level: u8, row: &[Tree]) -> Result<Vec<u8>, Fail> {
+    if row.len() > PAIRS_MOST {
+        return Err("too many pairs")?;
+    }
+    let mut page = Vec::new(alloc);
+    page.extend_from_slice(&[Seen::NODE_KIND, level, 0, row.len() as u8, 0, 0, 0, 0])?;
+    let mut count = 0u32;
+    for tree in row {
+        count = count.wrapping_add(tree.size);
+        page.extend_from_slice(&count.to_be_bytes())?;
+        page.extend_from_slice(&tree.page.0.to_be_bytes())?;
+    }
+    let rest = (page_size as usize).saturating_sub(page.len());
+    let zeros = vec![in alloc; 0u8; rest]?;
+    page.extend_from_slice(&zeros)?;
+    Ok(page)
+}
+
+/// Writes a node of a level over a row.
+fn put_node<B: Blocks>(blocks: &mut B, alloc: Global, level: u8, row: &[Tree]) -> Result<Tree, Fail>
+    requires { B.ready blocks.old }
+    ensures { B.leads blocks.old blocks.new }
+{
+    let page_size = blocks.geometry().page_size;
+    let bytes = node_page(alloc, page_size, level, row)?;
+    if bytes.len() != page_size as usize || blocks.free(Area::Page) == 0 {
+        return Err("no room")?;
+    }
+    let mut size = 0u32;
+    for tree in row {
+        size = size.wrapping_add(tree.size);
+    }
+    let page = blocks.new_node(&bytes)?;
+    Ok(Tree { size, page })
+}
+
+/// Writes a full leaf.
+fn put_leaf<B: Blocks>(blocks: &mut B, alloc: Global) -> Result<Tree, Fail>
+    requires { B.ready blocks.old }
+    ensures { B.leads blocks.old blocks.new }
+{
+    let size = blocks.geometry().leaf_bytes();
+    let bytes = vec![in alloc; 97u8; size as usize]?;
+    if bytes.is_empty() || blocks.free(Area::Segment) == 0 {
+        return Err("no room")?;
+    }
+    let page = blocks.new_leaf(&bytes)?;
+    Ok(Tree { size, page })
+}
+
+/// A tree so many times, and another one behind.
+fn repeated(alloc: Global, tree: Tree, times: usize, last: Tree) -> Result<Vec<Tree>, Fail> {
+    let mut row = vec![in alloc; tree; times]?;
+    row.push(last)?;
+    Ok(row)
+}
+
+/// The root over a tree of this height.
+fn root_over(height: u8, tree: Tree) -> Root {
+    Root {
+        height,
+        page: Some(tree.page),
+        size: u64::from(tree.size),
+    }
+}
+
+/// How many levels of nodes are below the root of the tree that names its nodes often.
+const LEVELS: u8 = 4;
+
+/// The largest object over one leaf of 512 bytes: a root of 8 trees, and 32 trees below each other node. A level has two nodes: one over full trees, and
+/// one whose last tree lacks a byte.
+fn largest<B: Blocks>(blocks: &mut B, alloc: Global) -> Result<Root, Fail>
+    requires { B.ready blocks.old }
+    ensures { B.leads blocks.old blocks.new }
+{
+    let mut full = put_leaf(blocks, alloc)?;
+    let mut short = Tree {
+        size: full.size.wrapping_sub(1),
+        page: full.page,
+    };
+    for below in 0..LEVELS {
+        let shorts = repeated(alloc, full, 31, short)?;
+        let fulls = repeated(alloc, full, 31, full)?;
+        short = put_node(blocks, alloc, below + 1, &shorts)?;
+        full = put_node(blocks, alloc, below + 1, &fulls)?;
+    }
+    let row = repeated(alloc, full, 7, short)?;
+    let root = put_node(blocks, alloc, LEVELS + 1, &row)?;
+    Ok(root_over(LEVELS + 1, root))
+}
+
+#[test]
+fn leaves_that_are_named_often_are_counted_at_once(rt: HostRuntime) -> Result<(), Fail> {
+    let alloc = rt.alloc();
+    let geometry = Geometry::make(512, 64, 4, 1, 16).map_err(|_| "geometry")?;
+    let volume = &mut MemoryVolume::make(alloc, &geometry)?;
+    let root = largest(volume, alloc)?;
+    assert_eq!(&rt; root.size, SIZE_MOST);
+    let (leaves, lengths) = leaves_of(volume, alloc, &root)?;
+    assert_eq!(&rt; leaves, 8_388_608);
+    assert_eq!(&rt; lengths, [512; LENGTHS_MOST]);
+    Ok(())
+}
+
+/// A call on a tree.
+#[derive(Clone, Copy, PartialEq, Eq)]
+enum Call {
+    Read,
+    Append,
+    Insert,
+    Replace,
+    Delete,
+    Count,
+}
+
+/// Each of the calls.
+const CALLS: [Call; 6] = [
+    Call::Read,
+    Call::Append,
+    Call::Insert,
+    Call::Replace,
+    Call::Delete,
+    Call::Count,
+];
+
+/// Where the calls go: inside the first leaf.
+const POS: u64 = 1;
+
+/// A byte that the calls give.
+const GIVEN: [u8; 1] = [98];
+
+/// The fault of a call that answers a value.
+fn fault_of<T>(answer: Result<T, PortFault>) -> Option<PortFault>
+where
+    T: Drop,
+{
+    match answer {
+        Ok(_) => None,
+        Err(fault) => Some(fault),
+    }
+}
+
+/// The fault of an edit of one byte inside the first leaf, or behind the last one.
+fn edit_fault<B: Blocks>(
+    blocks: &mut B,
+    alloc: Global,
+    root: &Root,
+    call: Call,
+) -> Result<Option<PortFault>, Fail>
+    requires { B.ready blocks.old }
+    ensures { B.leads blocks.old blocks.new }
+{
+    let made = match call {
+        Call::Append => grown(blocks, alloc, root, None, &GIVEN)?,
+        Call::Insert => grown(blocks, alloc, root, Some(POS), &GIVEN)?,
+        Call::Replace => replaced(blocks, alloc, root, POS, &GIVEN)?,
+        _ => shortened(blocks, alloc, root, POS, 1)?,
+    };
+    let Some(made) = made else {
+        return Err("no room")?;
+    };
+    Ok(fault_of(made))
+}
+
+/// The fault of a call.
+fn fault_by<B: Blocks>(
+    blocks: &mut B,
+    alloc: Global,
+    root: &Root,
+    call: Call,
+) -> Result<Option<PortFault>, Fail>
+    requires { B.ready blocks.old }
+    ensures { B.leads blocks.old blocks.new }
+{
+    let geometry = blocks.geometry();
+    if !is_root_for(&geometry, root) || root.size <= POS {
+        return Err("no root")?;
+    }
+    match call {
+        Call::Read => Ok(fault_of(read(blocks, alloc, root, POS, &mut [0u8]))),
+        Call::Count => Ok(fault_of(leaf_lengths(blocks, alloc, root, &mut []))),
+        _ => edit_fault(blocks, alloc, root, call),
+    }
+}
+
+/// Takes each call on a tree with a damaged page, and compares what it tells. A damaged leaf isn't read where leaves are counted.
+fn check_damage<B: Blocks>(
+    rt: &impl Abort,
+    alloc: Global,
+    blocks: &mut B,
+    root: &Root,
+    told: PortFault,
+    is_leaf: bool,
+) -> Result<(), Fail>
+    requires { B.ready blocks.old }
+    ensures { B.leads blocks.old blocks.new }
+{
+    for call in &CALLS {
+        let want = if is_leaf && *call == Call::Count {
+            None
+        } else {
+            Some(told)
+        };
+        assert_eq!(rt; fault_by(blocks, alloc, root, *call)?, want);
+    }
+    Ok(())
+}
+
+/// Takes the calls on a root of a level over two trees that a page isn't, as it was found.
+fn check_child<B: Blocks>(
+    rt: &impl Abort,
+    alloc: Global,
+    blocks: &mut B,
+    level: u8,
+    tree: Tree,
+    got: Seen,
+) -> Result<(), Fail>
+    requires { B.ready blocks.old }
+    ensures { B.leads blocks.old blocks.new }
+{
+    let row = repeated(alloc, tree, 1, tree)?;
+    let root = root_over(level, put_node(blocks, alloc, level, &row)?);
+    let is_leaf = level == 1;
+    let want = if is_leaf {
+        Seen::LEAF
+    } else {
+        Seen::node(level.saturating_sub(1), u64::from(tree.size))
+    };
+    let told = PortFault::Damaged {
+        page: tree.page,
+        want,
+        got,
+    };
+    check_damage(rt, alloc, blocks, &root, told, is_leaf)
+}
+
+/// A page of zeros among those where nodes may lie.
+const FREE_PAGE: PageNo = PageNo(300);
+
+/// Takes the calls on trees where a page is another node than the one that is named.
+fn check_other_nodes<B: Blocks>(rt: &impl Abort, alloc: Global, blocks: &mut B) -> Result<(), Fail>
+    requires { B.ready blocks.old }
+    ensures { B.leads blocks.old blocks.new }
+{
+    let leaf = put_leaf(blocks, alloc)?;
+    let node = put_node(blocks, alloc, 1, &[leaf, leaf])?;
+    let longer = Tree { size: 1536, ..node };
+    check_child(rt, alloc, blocks, 2, longer, Seen::node(1, 1024))?;
+    check_child(rt, alloc, blocks, 3, node, Seen::node(1, 1024))?;
+    let told = PortFault::Damaged {
+        page: node.page,
+        want: Seen::node(1, 1536),
+        got: Seen::node(1, 1024),
+    };
+    check_damage(rt, alloc, blocks, &root_over(1, longer), told, false)
+}
+
+/// Takes the calls on trees where a page has no node, may have none, or has one with too few pairs.
+fn check_no_nodes<B: Blocks>(rt: &impl Abort, alloc: Global, blocks: &mut B) -> Result<(), Fail>
+    requires { B.ready blocks.old }
+    ensures { B.leads blocks.old blocks.new }
+{
+    let leaf = put_leaf(blocks, alloc)?;
+    let thin = put_node(blocks, alloc, 1, &[leaf])?;
+    check_child(rt, alloc, blocks, 2, thin, Seen::NOTHING)?;
+    let empty = Tree {
+        size: 1024,
+        page: FREE_PAGE,
+    };
+    check_child(rt, alloc, blocks, 2, empty, Seen::NOTHING)?;
+    let catalog = Tree {
+        size: 1024,
+        page: PageNo::CATALOG,
+    };
+    check_child(rt, alloc, blocks, 2, catalog, Seen::NOTHING)
+}
+
+/// Takes the calls on a tree that names a page as a leaf where none may lie.
+fn check_no_leaf<B: Blocks>(rt: &impl Abort, alloc: Global, blocks: &mut B) -> Result<(), Fail>
+    requires { B.ready blocks.old }
+    ensures { B.leads blocks.old blocks.new }
+{
+    let leaf = Tree {
+        size: 512,
+        page: FREE_PAGE,
+    };
+    check_child(rt, alloc, blocks, 1, leaf, Seen::NOTHING)
+}
+
+#[test]
+fn damage_is_told_as_it_was_wanted_and_found(rt: HostRuntime) -> Result<(), Fail> {
+    let alloc = rt.alloc();
+    let geometry = Geometry::make(512, 256, 64, 1, 2).map_err(|_| "geometry")?;
+    let volume = &mut MemoryVolume::make(alloc, &geometry)?;
+    check_other_nodes(&rt, alloc, volume)?;
+    check_no_nodes(&rt, alloc, volume)?;
+    check_no_leaf(&rt, alloc, volume)
+}

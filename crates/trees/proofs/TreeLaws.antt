@@ -1,0 +1,34 @@
+-- A tree spells as many bytes as its size says.
+use Rattle.std.proofs.Common.{◌≡◌, ℕ, zero, suc, ◌+◌, ◌-◌, ◌≤◌, List, [], ◌∷◌, length, arith}
+use Rattle.std.specs.List.{concat, AllByRecursion}
+use Rattle.std.proofs.lemmas.List.{length-append, length-take}
+use Rattle.ex_base.specs.declared.geometry.Geometry.{Geometry}
+use Rattle.ex_base.specs.Area.{NamesLeaf}
+use Rattle.ex_base.specs.Sizes.{leaf_bytes}
+use Rattle.count_nodes.specs.declared.Pair.{Pair}
+use Rattle.count_nodes.specs.Node.{pairs_on, total_of, RiseFrom}
+use Rattle.trees.specs.Trees.{Units, for_each_child, EachChild, IsNamed, HasSize, bytes_on}
+
+-- the units that leaves name are whole
+abbrev pub AreWhole : Geometry → Units → Type 0
+AreWhole g units = (page : ℕ) → NamesLeaf g page → leaf_bytes g ≤ length (units page)
+
+-- what is known of each child
+abbrev Known : (ℕ → ℕ → List ℕ) → ℕ → List Pair → Type 0
+Known make before pairs = EachChild (λ page n. length (make page n) ≡ n) before pairs
+
+children_length : (make : ℕ → ℕ → List ℕ) (before : ℕ) (pairs : List Pair) → RiseFrom before pairs → Known make before pairs → 1 ≤ length pairs → length (concat (for_each_child make before pairs)) + before ≡ total_of pairs
+children_length make before [] rise known some = absurd (omega arith)
+children_length make before (pair ∷ []) rise known some = omega (arith, known.0, rise.0, length-append (make pair.page.0 (pair.count - before)) [])
+children_length make before (pair ∷ next ∷ pairs) rise known some =
+    omega (arith, known.0, rise.0, children_length make pair.count (next ∷ pairs) rise.1 known.1 (omega arith), length-append (make pair.page.0 (pair.count - before)) (concat (for_each_child make pair.count (next ∷ pairs))))
+
+known_from : (g : Geometry) (units : Units) (l before : ℕ) (pairs : List Pair) → ((page n : ℕ) → IsNamed g units l page → HasSize g units l page n → length (bytes_on units l page n) ≡ n) → AllByRecursion (λ pair. IsNamed g units l pair.page.0) pairs → EachChild (HasSize g units l) before pairs → Known (bytes_on units l) before pairs
+known_from g units l before [] below named sized = tt
+known_from g units l before (pair ∷ pairs) below named sized = (below pair.page.0 (pair.count - before) named.0 sized.0, known_from g units l pair.count pairs below named.1 sized.1)
+
+pub length-bytes_on : (g : Geometry) (units : Units) (l page n : ℕ) → AreWhole g units → IsNamed g units l page → HasSize g units l page n → length (bytes_on units l page n) ≡ n
+length-bytes_on g units zero page n whole named sized = omega (arith, length-take n (units page), whole page named, sized.1)
+length-bytes_on g units (suc l) page n whole named sized =
+    let known = known_from g units l 0 (pairs_on (units page)) (λ p m a b. length-bytes_on g units l p m whole a b) named.2 sized.1 in
+    omega (arith, children_length (bytes_on units l) 0 (pairs_on (units page)) named.1.fits.rising known named.1.fits.some, sized.0)

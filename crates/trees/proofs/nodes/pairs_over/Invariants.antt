@@ -1,0 +1,5 @@
+use Rattle.trees.proofs.Over.{PairsSoFar}
+use Rattle.trees.proofs.nodes.pairs_over.Given as goal
+
+abbrev pub invariant-loop-part : goal.invariant-loop-part
+invariant-loop-part l = PairsSoFar l.row l.part-index l.pairs.items l.count

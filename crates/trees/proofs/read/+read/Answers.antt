@@ -1,0 +1,63 @@
+use Rattle.std.proofs.Common.{arith, rules, [], ◌∷◌, ◌≡◌, ◌+◌, ◌-◌, ◌∙◌, ap, sym, subst, length, min, take, drop, get_or}
+use Rattle.std.proofs.lemmas.List.{length-take-le, length-drop}
+use Rattle.std.proofs.lemmas.Result.{on_ok_weaker}
+use Rattle.ex_base.specs.Area.{NamesLeaf}
+use Rattle.ex_base.proofs.Results.{if_err_handed}
+use Rattle.trees.specs.Rows.{row_size, FitLeaves}
+use Rattle.trees.specs.Damage.{IsSoundWay, IsWalkFault}
+use Rattle.trees.proofs.Ways.{way_inner, way_kept}
+use Rattle.trees.proofs.Parts.{below_fit}
+use Rattle.trees.proofs.Reading.{no_part}
+use Rattle.trees.proofs.RowReads.{ReadSoFar, node_read, read_more, read_past, part_put, walk_tree}
+use Rattle.trees.proofs.Blame.{walk_back}
+use Rattle.trees.proofs.read.+read.Goals.{read_row-then-n-ne0+in_ok-read_tree, read_row-else-n-ne0}
+use Rattle.trees.proofs.read.+read.Goals as goal
+
+pub read_row-returns-in_err-read_tree-clause-fault : goal.read_row-returns-in_err-read_tree-clause-fault
+read_row-returns-in_err-read_tree-clause-fault g t c =
+    if_err_handed c.from_residual.result _ c.in_err-read_tree.field-0.0 c.from_residual.ensures.1
+    (λ told. walk_tree (g.B.Ground.geometry c.args.blocks.now) (g.B.Ground.unit c.args.blocks.now) c.args.level c.args.least c.loop-part.part-index c.args.row.now c.in_err-read_tree.field-0.0 c.loop-part-test.true
+    (walk_back g.B.Ground c.args.blocks.now c.loop-part.blocks c.args.level c.args.least (get_or c.args.row.now c.loop-part.part-index no_part ∷ []) c.in_err-read_tree.field-0.0 c.loop-part.invariant.kept c.in_err-read_tree.ensures.fault told))
+
+pub read_row-loop-part-preserved : goal.read_row-loop-part-preserved
+read_row-loop-part-preserved g t c =
+    let so_far = c.loop-part.invariant in
+    let size = (get_or c.args.row.now c.loop-part.part-index no_part).size in
+    let n_is : c.min-n.result ≡ min (length c.loop-part.out - c.loop-part.done) ((get_or c.args.row.now c.loop-part.part-index no_part).size - c.loop-part.at) =
+    c.min-n.ensures ∙ ap (λ k. min (length c.loop-part.out - c.loop-part.done) k) c.saturating_sub.ensures in
+    elim c.if-n-ne0.branch [
+      | read_row-then-n-ne0+in_ok-read_tree w ↦ rw w.blocks-is
+          (subst (λ k. ReadSoFar g.B.Ground c.args.blocks.now w.read_tree.new.blocks c.args.level c.args.least c.args.row.now c.args.pos c.args.out.now c.if-n-ne0.out (c.loop-part.part-index + 1) k (c.loop-part.done + c.min-n.result)) (sym c.saturating_sub-at.ensures)
+          (read_more g.B.Ground c.args.blocks.now c.loop-part.blocks w.read_tree.new.blocks c.args.level c.args.least c.args.row.now c.args.pos c.args.out.now c.loop-part.out c.if-n-ne0.out w.read_tree.new.out c.loop-part.part-index c.loop-part.at c.loop-part.done c.min-n.result _
+          c.requires.ready (length-take-le (c.loop-part.done + c.min-n.result - c.loop-part.done) (drop c.loop-part.done c.loop-part.out) (omega (arith, length-drop c.loop-part.done c.loop-part.out, n_is)) ∙ omega arith) c.loop-part-test.true n_is w.if-n-ne0.true so_far w.in_ok-read_tree.ensures.kept (search rules)
+          w.in_ok-read_tree.ensures.bytes w.in_ok-read_tree.ensures.way (part_put c.loop-part.out w.read_tree.new.out c.if-n-ne0.out c.loop-part.done c.min-n.result w.out-is)))
+      | read_row-else-n-ne0 w ↦ rw (w.blocks-is, w.out-is)
+          (subst (λ k. ReadSoFar g.B.Ground c.args.blocks.now c.loop-part.blocks c.args.level c.args.least c.args.row.now c.args.pos c.args.out.now c.loop-part.out (c.loop-part.part-index + 1) k (c.loop-part.done + c.min-n.result)) (sym c.saturating_sub-at.ensures)
+          (read_past g.B.Ground c.args.blocks.now c.loop-part.blocks c.args.level c.args.least c.args.row.now c.args.pos c.args.out.now c.loop-part.out c.loop-part.part-index c.loop-part.at c.loop-part.done c.min-n.result c.loop-part-test.true n_is w.if-n-ne0.false so_far))
+    ]
+
+pub read_tree-read_row-requires : goal.read_tree-read_row-requires
+read_tree-read_row-requires g t c κs within =
+    let counted = c.in_ok-below.ensures.counted in
+    let items = c.deref.ensures.value in
+    let above = c.if-level-eq0.false in
+    let fit : FitLeaves (g.B.Ground.geometry c.row_of.new.blocks) (c.args.level - 1) c.deref.result.now =
+    subst (λ geo. FitLeaves geo (c.args.level - 1) c.deref.result.now) (sym (g.B.Ground.leads_geometry c.args.blocks.now c.row_of.new.blocks c.in_ok-below.ensures.kept.leads))
+    (subst (FitLeaves (g.B.Ground.geometry c.args.blocks.now) (c.args.level - 1)) (sym items) (below_fit (g.B.Ground.geometry c.args.blocks.now) c.args.level _ _ c.in_ok-below.below.items c.if-level-eq0.false counted)) in
+    let size : row_size c.deref.result.now ≡ c.args.tree.size = ap row_size items ∙ counted.sum in
+    search rules
+
+pub read_tree-returns-clause-bytes : goal.read_tree-returns-clause-bytes
+read_tree-returns-clause-bytes g t c =
+    on_ok_weaker c.read_row.result (λ read told.
+    node_read g.B.Ground c.args.blocks.now c.row_of.new.blocks c.args.level c.args.tree c.in_ok-below.below.items c.deref.result.now c.args.pos (length c.args.out.now) c.read_row.new.out
+    c.if-level-eq0.false c.deref.ensures.value c.in_ok-below.ensures.kept c.in_ok-below.ensures.found read told) c.read_row.ensures.bytes
+
+pub read_tree-returns-clause-way : goal.read_tree-returns-clause-way
+read_tree-returns-clause-way g t c =
+    let b = g.B.Ground in
+    on_ok_weaker c.read_row.result (λ read told at low high.
+    way_inner (b.geometry c.args.blocks.now) (b.unit c.args.blocks.now) (NamesLeaf (b.geometry c.args.blocks.now)) c.args.level c.args.least c.args.tree c.in_ok-below.below.items at at c.if-level-eq0.false c.in_ok-below.ensures.area (c.in_ok-below.ensures.found told) c.in_ok-below.ensures.counted.filled
+    (λ inside. way_kept b NamesLeaf c.args.blocks.now c.row_of.new.blocks (c.args.level - 1) (b.geometry c.args.blocks.now).fan c.in_ok-below.below.items at at c.in_ok-below.ensures.kept
+    (λ later. subst (λ k. IsSoundWay (b.geometry c.row_of.new.blocks) (b.unit c.row_of.new.blocks) (NamesLeaf (b.geometry c.row_of.new.blocks)) (c.args.level - 1) k c.in_ok-below.below.items at at) (ap (λ geo. geo.fan) (c.geometry-fan.ensures ∙ b.leads_geometry c.args.blocks.now c.row_of.new.blocks c.in_ok-below.ensures.kept.leads))
+    (subst (λ r. IsSoundWay (b.geometry c.row_of.new.blocks) (b.unit c.row_of.new.blocks) (NamesLeaf (b.geometry c.row_of.new.blocks)) (c.args.level - 1) c.geometry-fan.result.fan r at at) c.deref.ensures.value (read later at low high))) told)) c.read_row.ensures.way

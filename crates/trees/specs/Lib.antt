@@ -1,0 +1,10 @@
+pub mod Shape
+pub mod Trees
+pub mod Rows
+pub mod Damage
+pub mod Made
+pub mod Built
+pub mod Roots
+pub mod Owners
+pub mod Counted
+pub mod Grown

@@ -1,0 +1,105 @@
+-- What a fault of a call on versions says of the page, the record or the root that isn't what names it.
+use Rattle.std.specs.Prelude.{◌≡◌, ℕ, List, Option, Some, None, slice_index_or}
+use Rattle.ex_base.specs.declared.faults.PortFault.{PortFault}
+use Rattle.ex_base.specs.declared.faults.PortFault.TheVariants.{Damaged}
+use Rattle.ex_base.specs.declared.geometry.Geometry.{Geometry}
+use Rattle.ex_base.specs.declared.names.Oid.{Oid}
+use Rattle.ex_base.specs.declared.names.PageNo.{PageNo}
+use Rattle.ex_base.specs.declared.names.Place.{Place}
+use Rattle.ex_base.specs.declared.names.Root.{Root}
+use Rattle.ex_base.specs.Ports.{IsDamage}
+use Rattle.slotted_pages.specs.Edits.{slots_of}
+use Rattle.object_records.specs.Record.{Large, Record, BodyOf}
+use Rattle.ex_base.specs.Seen.{header_seen, nothing_seen, record_seen}
+use Rattle.file_bodies.specs.Damage.{page_from, IsBelongingFault, IsListedFault, IsLookFault, IsTakingFault}
+use Rattle.trees.specs.Trees.{Units}
+use Rattle.trees.specs.Damage.{IsRootFault}
+use Rattle.trees.specs.Roots.{IsRootFor}
+use Rattle.versions.specs.Versions.{place_of}
+use Rattle.versions.specs.Found.{IsTold}
+use Rattle.versions.specs.Put.{IsPlaced}
+use Rattle.versions.specs.declared.finding.Found.{Found}
+
+-- ---- what is told
+
+-- the fault of a place where the record doesn't stand that a call asks for
+abbrev pub record_fault : Place → PortFault
+record_fault place = Damaged place.page (record_seen place.slot) nothing_seen
+
+-- the fault of a header, on a page, whose numbers are out of their limits
+abbrev pub root_fault : PageNo → Root → PortFault
+root_fault page root = Damaged page (header_seen root.height root.size) nothing_seen
+
+-- ---- what stands where an OID leads
+
+-- the slot of a place has this body
+abbrev pub StandsOn : (ℕ → List ℕ) → Place → List ℕ → Type 0
+StandsOn image place body = slice_index_or (slots_of (image place.page.0)) place.slot None ≡ Some body
+
+-- The body in the slot that an OID leads to is a record with its number, of which this is told.
+pub record IsFoundAt (g : Geometry) (image : ℕ → List ℕ) (oid : Oid) (found : Found) : Type 0 where
+  pub body : List ℕ
+  pub stands : StandsOn image (place_of oid) body
+  pub told : IsTold g oid.unique body found
+
+-- The body in the slot that an OID leads to is the record of a large version with this root.
+pub record IsRootAt (image : ℕ → List ℕ) (oid : Oid) (root : Root) : Type 0 where
+  pub body : List ℕ
+  pub stands : StandsOn image (place_of oid) body
+  pub is : Record
+  pub spelled : BodyOf body is
+  pub large : is.content ≡ Large root
+
+-- ---- what the calls tell
+
+-- What is told of a body that stands where an OID leads: it is no record; or the numbers of its root are out of their limits.
+pub data IsBodyFault (g : Geometry) (oid : Oid) (body : List ℕ) (fault : PortFault) : Type 0 where
+  no_record : ((is : Record) → BodyOf body is → ⊥) → fault ≡ record_fault (place_of oid) → IsBodyFault g oid body fault
+  bad_root : (is : Record) (root : Root) → BodyOf body is → is.head.unique ≡ oid.unique → is.content ≡ Large root → (IsRootFor g root → ⊥) → fault ≡ root_fault oid.page root → IsBodyFault g oid body fault
+
+-- What a look for the version of an OID tells: of the file of its page, or of the body where it leads.
+pub data IsFindingFault (g : Geometry) (image : ℕ → List ℕ) (oid : Oid) (fault : PortFault) : Type 0 where
+  in_file : IsBelongingFault g image oid.page.0 fault → IsFindingFault g image oid fault
+  at_place : (body : List ℕ) → StandsOn image (place_of oid) body → IsBodyFault g oid body fault → IsFindingFault g image oid fault
+
+-- What is told where the record of a root is written at a place: the port's own faults; that no record stands there; or that the root is out of its limits.
+pub data IsPutFault (g : Geometry) (place : Place) (root : Root) (fault : PortFault) : Type 0 where
+  ports : (IsDamage fault → ⊥) → IsPutFault g place root fault
+  no_place : fault ≡ record_fault place → IsPutFault g place root fault
+  no_limits : (IsRootFor g root → IsPlaced root.page → ⊥) → fault ≡ root_fault place.page root → IsPutFault g place root fault
+
+-- What a call on the bytes of a root tells: the port's own faults; of its tree; that the record of the version isn't as the call asks; or that the root
+-- that it made is out of its limits.
+pub data IsBytesFault (g : Geometry) (units : Units) (oid : Oid) (root : Root) (fault : PortFault) : Type 0 where
+  ports_own : (IsDamage fault → ⊥) → IsBytesFault g units oid root fault
+  in_tree : IsRootFault g units root fault → IsBytesFault g units oid root fault
+  unlike : fault ≡ record_fault (place_of oid) → IsBytesFault g units oid root fault
+  bad_made : (made : Root) → (IsRootFor g made → IsPlaced made.page → ⊥) → fault ≡ root_fault oid.page made → IsBytesFault g units oid root fault
+
+-- the root of a version without a tree
+abbrev pub no_tree : Root
+no_tree = record { height = 0; page = None; size = 0 }
+
+-- What a call on the bytes of a version tells: what a look for it tells; of a small one what a call on no tree tells; of a large one of its tree.
+pub data IsVersionFault (g : Geometry) (units : Units) (image : ℕ → List ℕ) (oid : Oid) (fault : PortFault) : Type 0 where
+  looking : IsFindingFault g image oid fault → IsVersionFault g units image oid fault
+  small : IsBytesFault g units oid no_tree fault → IsVersionFault g units image oid fault
+  large : (root : Root) → IsRootAt image oid root → IsBytesFault g units oid root fault → IsVersionFault g units image oid fault
+
+-- What a call tells that destroys a version: what a look for it tells; that its record isn't as the call asks; or what is told of its file (`now` is what
+-- stands when it is told).
+pub data IsDestroyingFault (g : Geometry) (image now : ℕ → List ℕ) (oid : Oid) (fault : PortFault) : Type 0 where
+  finding : IsFindingFault g image oid fault → IsDestroyingFault g image now oid fault
+  unasked : fault ≡ record_fault (place_of oid) → IsDestroyingFault g image now oid fault
+  taking : IsTakingFault g image now (place_of oid) fault → IsDestroyingFault g image now oid fault
+
+-- What is told of a place that a walk over a file comes to: of the file of its page; or that no record stands there that comes behind the one before.
+pub data IsStepFault (g : Geometry) (image : ℕ → List ℕ) (place : Place) (fault : PortFault) : Type 0 where
+  own : (IsDamage fault → ⊥) → IsStepFault g image place fault
+  of_page : IsBelongingFault g image place.page.0 fault → IsStepFault g image place fault
+  unread : fault ≡ record_fault place → IsStepFault g image place fault
+
+-- What a walk over the versions of a file tells: of its pages, or of a place that the walk comes to.
+pub data IsListingFault (g : Geometry) (image : ℕ → List ℕ) (file_no : ℕ) (fault : PortFault) : Type 0 where
+  walking : (after : Option Place) → IsListedFault image file_no (λ index. IsLookFault g image index (page_from after) fault) fault → IsListingFault g image file_no fault
+  stepping : (place : Place) → IsStepFault g image place fault → IsListingFault g image file_no fault

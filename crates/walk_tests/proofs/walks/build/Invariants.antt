@@ -1,4 +1,0 @@
-use Rattle.walk_tests.proofs.walks.build.Given as goal
-
-abbrev pub invariant-loop-page : goal.invariant-loop-page
-invariant-loop-page g l = g.V.Ground.leads l.initial.volume l.volume
