@@ -7,12 +7,13 @@ work=$(mktemp -d)
 trap 'rm -rf "$work"' EXIT
 mkdir -p "$work/crates/frame_bench/src" "$work/crates/frame_bench/proofs/rounds/rounds"
 cp "$root/HANDLES" "$work/"
-cp -r "$root/crates/ex_base" "$root/crates/disk_model" "$root/crates/buffer_groups" "$work/crates/"
+cp -r "$root/crates/ex_base" "$root/crates/disk_model" "$root/crates/memory_host" "$root/crates/buffer_groups" "$work/crates/"
 cat > "$work/crates.txt" <<'EOF'
 ex_base: byteorder thiserror
 disk_model: ex_base
+memory_host: ex_base disk_model
 buffer_groups: ex_base disk_model lru
-frame_bench: ex_base disk_model buffer_groups
+frame_bench: ex_base disk_model memory_host buffer_groups
 EOF
 cd "$work/crates/frame_bench"
 cat > src/main.rt <<'EOF'
@@ -22,7 +23,7 @@ cat > src/main.rt <<'EOF'
 mod rounds;
 
 use buffer_groups::{Group, Policy};
-use disk_model::MemoryHost;
+use memory_host::MemoryHost;
 use std::io;
 use std::time::Instant;
 

@@ -7,18 +7,18 @@ work=$(mktemp -d)
 trap 'rm -rf "$work"' EXIT
 mkdir -p "$work/crates/line_bench/src"
 cp "$root/HANDLES" "$work/"
-for crate in ex_base disk_model table_model script_lines script_lang script_replies; do
+for crate in ex_base disk_model memory_host table_model data_words script_lines script_lang script_replies; do
     cp -r "$root/crates/$crate" "$work/crates/"
     grep "^$crate:" "$root/crates.txt" >> "$work/crates.txt"
 done
-echo 'line_bench: ex_base disk_model table_model script_lines script_lang script_replies' >> "$work/crates.txt"
+echo 'line_bench: ex_base disk_model memory_host table_model script_lines script_lang script_replies' >> "$work/crates.txt"
 cd "$work/crates/line_bench"
 cat > src/main.rt <<'EOF'
 // Times the reader of lines, the parser and the longest reply.
 #![tactic(auto)]
 
-use disk_model::MemoryHost;
 use ex_base::Items;
+use memory_host::MemoryHost;
 use script_lang::parse_any;
 use script_lines::{LineRef, Lines};
 use script_replies::reply_text;

@@ -123,6 +123,6 @@ use Rattle.placing_bench.proofs.rounds.place_all.Given as goal
 abbrev pub invariant-loop-placed : goal.invariant-loop-placed
 invariant-loop-placed g l = g.V.Ground.leads l.initial.volume l.volume
 EOS
-cp "$root/crates/file_tests/proofs/bodies/with_file/Answers.antt" proofs/rounds/with_file/Answers.antt
-sed -i 's/Rattle.file_tests.proofs.bodies.with_file/Rattle.placing_bench.proofs.rounds.with_file/' proofs/rounds/with_file/Answers.antt
+cp "$root/crates/test_files/proofs/bodies/with_file/Answers.antt" proofs/rounds/with_file/Answers.antt
+sed -i 's/Rattle.test_files.proofs.bodies.with_file/Rattle.placing_bench.proofs.rounds.with_file/' proofs/rounds/with_file/Answers.antt
 rt run

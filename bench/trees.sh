@@ -7,7 +7,7 @@ work=$(mktemp -d)
 trap 'rm -rf "$work"' EXIT
 mkdir -p "$work/crates/tree_bench/src"
 cp "$root/HANDLES" "$work/"
-for name in ex_base disk_model buffer_groups page_alloc count_nodes leaf_segments tree_model tree_store tree_rows tree_steps tree_insert memory_ports; do
+for name in ex_base disk_model buffer_groups page_alloc count_nodes leaf_segments trees tree_store tree_insert memory_ports; do
     cp -r "$root/crates/$name" "$work/crates/"
 done
 cat > "$work/crates.txt" <<'EOF'
@@ -17,11 +17,9 @@ page_alloc: ex_base
 buffer_groups: ex_base disk_model lru
 count_nodes: ex_base
 leaf_segments: ex_base
-tree_model: ex_base count_nodes leaf_segments
+trees: ex_base count_nodes leaf_segments
 tree_store: ex_base disk_model buffer_groups page_alloc count_nodes
-tree_rows: ex_base count_nodes tree_model
-tree_steps: ex_base count_nodes tree_model tree_rows
-tree_insert: ex_base count_nodes leaf_segments tree_model tree_rows tree_steps
+tree_insert: ex_base count_nodes leaf_segments trees
 memory_ports: ex_base buffer_groups page_alloc count_nodes tree_store
 tree_bench: ex_base memory_ports tree_insert
 EOF
@@ -167,7 +165,7 @@ pub fn inserts<B: Blocks>(blocks: &mut B, alloc: Global, root: Root, rounds: u32
 }
 EOF
 mkdir -p proofs/rounds/grown proofs/rounds/built proofs/rounds/inserts
-sed 's/tree_tests\.proofs\.tests/tree_bench.proofs.rounds/' "$root/crates/tree_tests/proofs/tests/grown/Answers.antt" > proofs/rounds/grown/Answers.antt
+sed 's/test_trees\.proofs\.tests/tree_bench.proofs.rounds/' "$root/crates/test_trees/proofs/tests/grown/Answers.antt" > proofs/rounds/grown/Answers.antt
 # Each loop's volume leads on from where the loop began.
 invariant() {
     cat > "proofs/rounds/$1/Invariants.antt" <<EOF

@@ -1,0 +1,457 @@
+#!/usr/bin/env python3
+"""Times exsm on whole workloads, beside SQLite where python3 has it, and draws how the times grow.
+
+    python3 bench/all.py PROGRAM [PROGRAM ..] [--folder FOLDER] [--plot FILE.svg] [--runs N] [--quick]
+
+Each PROGRAM is a built exsm, so that two builds can be compared; the first one stands first in the ratios. Volumes and databases lie in a new folder
+below FOLDER (/dev/shm where there is none given): in memory, where syncs cost nothing, a time is the program's own. A time of exsm is that of a whole
+process with its pipe, the least of N runs, less the least run of an empty script on the same volume. A time of SQLite is that of the calls in this
+process, the least of N runs: a write-ahead log, synchronous=FULL, an object as rows of 4,096 bytes, whose lengths the caller keeps. Each time is given
+by the clock and, in brackets, by the processor; ratios and plots are of the processor's, which other work on the machine hardly changes.
+"""
+import argparse
+import math
+import os
+import random
+import shutil
+import subprocess
+import sys
+import tempfile
+import time
+
+try:
+    import sqlite3
+except ImportError:
+    sqlite3 = None
+
+MIB = 1 << 20
+SIZE = 12 * MIB
+PIECE = 4096
+OBJECT = "258.0.1"
+
+
+# ---- scripts
+
+
+def appended(size, piece=256 * 1024):
+    """An object of so many bytes, given in hexadecimal digits."""
+    lines = ["begin", "file docs", "create docs as @d"]
+    digits = bytes(i * 31 % 256 for i in range(piece)).hex()
+    lines += [f"append @d hex:{digits[: 2 * min(piece, size - at)]}" for at in range(0, size, piece)]
+    return lines + ["commit"]
+
+
+def repeated(size):
+    """The same by lines that repeat one byte."""
+    most = 16 * MIB
+    lines = ["begin", "file docs", "create docs as @d"]
+    lines += [f"append @d rep:{min(most, size - at)}:61" for at in range(0, size, most)]
+    return lines + ["commit"]
+
+
+def inserts(count, at):
+    return ["begin", *[f"insert {OBJECT} {at} hex:2a"] * count, "commit"]
+
+
+def commits(places):
+    return [line for at in places for line in ("begin", f"insert {OBJECT} {at} rep:100:62", "commit")]
+
+
+def reads(places, length):
+    return [f"read {OBJECT} {at} {length}" for at in places]
+
+
+def deletes(places):
+    return ["begin", *[f"delete {OBJECT} {at} {PIECE}" for at in places], "commit"]
+
+
+def creations(count, block=40):
+    """Objects of 100 bytes in one file, so many a transaction."""
+    lines = ["begin", "file small", "commit"]
+    for first in range(0, count, block):
+        lines.append("begin")
+        for number in range(first, min(first + block, count)):
+            lines += [f"create small as @n{number}", f"append @n{number} rep:100:63"]
+        lines.append("commit")
+    return lines
+
+
+# ---- exsm
+
+
+class Exsm:
+    """A built program. Its volumes lie in a folder."""
+
+    def __init__(self, program, folder):
+        self.program = os.path.abspath(program)
+        self.name = os.path.basename(program)
+        self.folder = folder
+
+    def volume(self, script=None, page_size=4096, pages=16384, segs=65536):
+        """A new volume, on which a script ran."""
+        path = os.path.join(self.folder, "volume")
+        words = ["format", path, "--page-size", page_size, "--pages", pages, "--segs", segs, "--seg-len", 1, "--fan", 169]
+        if os.path.exists(path):
+            os.remove(path)
+        subprocess.run([self.program, *map(str, words)], check=True, stdout=subprocess.DEVNULL)
+        if script:
+            self.run(path, script)
+        return path
+
+    def run(self, volume, lines):
+        """The seconds of one run: of the clock, and of the processor."""
+        script = os.path.join(self.folder, "script")
+        with open(script, "w") as out:
+            out.write("".join(line + "\n" for line in lines))
+        replies = os.path.join(self.folder, "replies")
+        with open(script) as source, open(replies, "w") as sink:
+            start = time.perf_counter()
+            child = subprocess.Popen([self.program, "run", volume], stdin=source, stdout=sink)
+            _, status, used = os.wait4(child.pid, 0)
+            wall = time.perf_counter() - start
+            child.returncode = os.waitstatus_to_exitcode(status)
+        with open(replies) as told:
+            refused = next((line for line in told if line.startswith("no ")), None)
+        if child.returncode or refused:
+            sys.exit(f"all.py: {self.program} ended with {child.returncode}, {refused}")
+        return wall, used.ru_utime + used.ru_stime
+
+    def best(self, made, lines, runs):
+        """The least seconds of a script on copies of a volume, less those of an empty one."""
+        kept = shutil.copy(made, os.path.join(self.folder, "kept"))
+        empty = self.opening(made, runs)
+        whole = least([self.run(shutil.copy(kept, made), lines) for _ in range(runs)])
+        return max(0, whole[0] - empty[0]), max(0, whole[1] - empty[1])
+
+    def opening(self, made, runs):
+        return least([self.run(made, []) for _ in range(runs)])
+
+
+# ---- SQLite
+
+
+class Pieces:
+    """An object as rows of a database. The lengths of the rows are kept by blocks, so that a position is found in few steps."""
+
+    BLOCK = 64
+
+    def __init__(self, path):
+        self.base = sqlite3.connect(path, isolation_level=None)
+        for line in ("journal_mode=WAL", "synchronous=FULL", "page_size=4096", "cache_size=-65536"):
+            self.base.execute("pragma " + line)
+        self.base.execute("create table if not exists piece(place real primary key, bytes blob) without rowid")
+        self.base.execute("create table if not exists small(number integer primary key, bytes blob)")
+        self.places, self.lengths, self.sums = [], [], []
+
+    def close(self):
+        self.base.close()
+
+    def fill(self, size, step=PIECE):
+        self.base.execute("begin")
+        whole = bytes(i * 31 % 256 for i in range(step))
+        for at in range(0, size, step):
+            self.base.execute("insert into piece values(?, ?)", (float(at), whole[: size - at]))
+            self.places.append(float(at))
+            self.lengths.append(min(step, size - at))
+        self.base.execute("commit")
+        self.recount()
+
+    def recount(self):
+        self.sums = [sum(self.lengths[i : i + self.BLOCK]) for i in range(0, len(self.lengths), self.BLOCK)]
+
+    def find(self, at):
+        """The row that has a byte, and the byte's index in it."""
+        block = 0
+        while at >= self.sums[block]:
+            at -= self.sums[block]
+            block += 1
+        row = block * self.BLOCK
+        while at >= self.lengths[row]:
+            at -= self.lengths[row]
+            row += 1
+        return row, at
+
+    def splice(self, at, more, less=0):
+        """Takes bytes of a row away and puts others there. A row of more than two pieces is cut."""
+        row, index = self.find(at)
+        (old,) = self.base.execute("select bytes from piece where place = ?", (self.places[row],)).fetchone()
+        new = old[:index] + more + old[index + less :]
+        if len(new) > 2 * PIECE:
+            later = self.places[row + 1] if row + 1 < len(self.places) else self.places[row] + PIECE
+            middle = (self.places[row] + later) / 2
+            self.base.execute("insert into piece values(?, ?)", (middle, new[PIECE:]))
+            self.places.insert(row + 1, middle)
+            self.lengths.insert(row + 1, len(new) - PIECE)
+            new = new[:PIECE]
+            self.lengths[row] = len(new)
+            self.recount()
+        else:
+            self.sums[row // self.BLOCK] += len(new) - self.lengths[row]
+            self.lengths[row] = len(new)
+        self.base.execute("update piece set bytes = ? where place = ?", (new, self.places[row]))
+
+    def delete(self, at, length):
+        while length > 0:
+            row, index = self.find(at)
+            part = min(length, self.lengths[row] - index)
+            self.splice(at, b"", part)
+            length -= part
+
+    def read(self, at, length):
+        row, index = self.find(at)
+        last = self.places[min(row + length // PIECE + 1, len(self.places) - 1)]
+        found = self.base.execute("select bytes from piece where place between ? and ? order by place", (self.places[row], last))
+        return b"".join(part[0] for part in found)[index : index + length]
+
+
+def seconds(work):
+    """What it takes: by the clock, and by the processor."""
+    start, used = time.perf_counter(), time.process_time()
+    work()
+    return time.perf_counter() - start, time.process_time() - used
+
+
+def least(times):
+    return min(t[0] for t in times), min(t[1] for t in times)
+
+
+class Sqlite:
+    def __init__(self, folder):
+        self.folder = folder
+
+    def fresh(self, size=0):
+        for name in ("base", "base-wal", "base-shm"):
+            path = os.path.join(self.folder, name)
+            if os.path.exists(path):
+                os.remove(path)
+        pieces = Pieces(os.path.join(self.folder, "base"))
+        if size:
+            pieces.fill(size)
+        return pieces
+
+    def best(self, size, work, runs):
+        times = []
+        for _ in range(runs):
+            pieces = self.fresh(size)
+            times.append(seconds(lambda: work(pieces)))
+            pieces.close()
+        return least(times)
+
+    @staticmethod
+    def inserts(count, at):
+        def work(pieces):
+            pieces.base.execute("begin")
+            for _ in range(count):
+                pieces.splice(at, b"*")
+            pieces.base.execute("commit")
+
+        return work
+
+    @staticmethod
+    def commits(places):
+        def work(pieces):
+            for at in places:
+                pieces.base.execute("begin")
+                pieces.splice(at, b"b" * 100)
+                pieces.base.execute("commit")
+
+        return work
+
+    @staticmethod
+    def reads(places, length):
+        def work(pieces):
+            for at in places:
+                pieces.read(at, length).hex()
+
+        return work
+
+    @staticmethod
+    def deletes(places):
+        def work(pieces):
+            pieces.base.execute("begin")
+            for at in places:
+                pieces.delete(at, PIECE)
+            pieces.base.execute("commit")
+
+        return work
+
+    @staticmethod
+    def creations(count, block=40):
+        def work(pieces):
+            for first in range(0, count, block):
+                pieces.base.execute("begin")
+                for number in range(first, min(first + block, count)):
+                    pieces.base.execute("insert into small values(?, x'')", (number,))
+                    pieces.base.execute("update small set bytes = bytes || ? where number = ?", (b"c" * 100, number))
+                pieces.base.execute("commit")
+
+        return work
+
+    def opening(self, size, runs):
+        self.fresh(size).close()
+        path = os.path.join(self.folder, "base")
+
+        def work():
+            base = sqlite3.connect(path)
+            base.execute("select count(*) from piece").fetchone()
+            base.close()
+
+        return least([seconds(work) for _ in range(runs)])
+
+
+# ---- workloads
+
+
+def places(count, size, seed=1):
+    chance = random.Random(seed)
+    return [chance.randrange(size) for _ in range(count)]
+
+
+def workloads(quick):
+    """Each: its name, how many parts it has, the size of the object that stands before, the script, and SQLite's work."""
+    spots = places(1000, SIZE - 65536)
+    gone = places(100, SIZE - 200 * PIECE)
+    rows = range(0, SIZE, 65536)
+    few = [1000] if quick else [1000, 10000]
+    yield "append 12 MiB, hex", 12, 0, appended(SIZE), lambda p: p.fill(SIZE, 65536)
+    yield "append 12 MiB, rep", 12, 0, repeated(SIZE), lambda p: p.fill(SIZE, 65536)
+    yield "512 inserts, one transaction", 512, SIZE, inserts(512, 6000000), Sqlite.inserts(512, 6000000)
+    yield "insert and commit", 300, SIZE, commits(spots[:300]), Sqlite.commits(spots[:300])
+    yield "random read of 4 KiB", 1000, SIZE, reads(spots, 4096), Sqlite.reads(spots, 4096)
+    yield "sequential read of 64 KiB", len(rows), SIZE, reads(rows, 65536), Sqlite.reads(rows, 65536)
+    yield "100 deletes of 4 KiB, one transaction", 100, SIZE, deletes(gone), Sqlite.deletes(gone)
+    yield "size", 20000, SIZE, [f"size {OBJECT}"] * 20000, None
+    for count in few:
+        yield f"create and append, {count} objects", count, 0, creations(count), Sqlite.creations(count)
+
+
+def unit(value):
+    if value is None:
+        return "-"
+    return f"{value * 1000:.2f} ms" if value >= 0.001 else f"{value * 1e6:.2f} us"
+
+
+def ratio(one, other):
+    return f"{one / other:.2f}" if one and other else "-"
+
+
+def both(times, parts):
+    return f"{unit(times[0] / parts)} ({unit(times[1] / parts)})" if times else "-"
+
+
+def tell(name, parts, times, peer):
+    """One row: the times of one part, and the ratios of the first program's processor time to the others'."""
+    cells = [both(own, parts) for own in times]
+    ratios = [ratio(times[0][1], other[1]) for other in times[1:]]
+    print(" | ".join([name, *cells, *ratios, both(peer, parts), ratio(times[0][1], peer and peer[1])]), flush=True)
+
+
+def compare(programs, peer, runs, quick):
+    heads = [f"{p.name}: clock (processor)" for p in programs] + [f"to {p.name}" for p in programs[1:]]
+    print(" | ".join(["one part of", *heads, "SQLite", "to SQLite"]), flush=True)
+    for name, parts, size, lines, work in workloads(quick):
+        times = [p.best(p.volume(appended(size) if size else None), lines, runs) for p in programs]
+        tell(name, parts, times, peer.best(size, work, runs) if peer and work else None)
+    times = [p.opening(p.volume(appended(SIZE)), runs) for p in programs]
+    tell("opening 12 MiB", 1, times, peer.opening(SIZE, runs) if peer else None)
+
+
+# ---- growth
+
+
+def growth(programs, peer, runs, quick):
+    """Panels of the plot: a title, and for each label pairs of a size or a number and a time."""
+    sizes = [1, 4, 16] if quick else [1, 4, 16, 64, 256]
+    counts = [500, 1000, 2000] if quick else [1000, 2000, 5000, 10000, 20000]
+    edits, looks, makes = {}, {}, {}
+    for p in programs:
+        for mib in sizes:
+            made = p.volume(repeated(mib * MIB), pages=4096, segs=16384 + mib * 256)
+            spots = places(200, mib * MIB - 4096)
+            kept = shutil.copy(made, made + "-made")
+            edits.setdefault(p.name, []).append((mib, p.best(made, commits(spots), runs)[1] / 200))
+            shutil.move(kept, made)
+            looks.setdefault(p.name, []).append((mib, p.best(made, reads(spots * 5, 4096), runs)[1] / 1000))
+        for count in counts:
+            makes.setdefault(p.name, []).append((count, p.best(p.volume(), creations(count), 1)[1] / count))
+    for mib in sizes if peer else []:
+        spots = places(200, mib * MIB - 4096)
+        edits.setdefault("SQLite", []).append((mib, peer.best(mib * MIB, Sqlite.commits(spots), runs)[1] / 200))
+        looks.setdefault("SQLite", []).append((mib, peer.best(mib * MIB, Sqlite.reads(spots * 5, 4096), runs)[1] / 1000))
+    for count in counts if peer else []:
+        makes.setdefault("SQLite", []).append((count, peer.best(0, Sqlite.creations(count), runs)[1] / count))
+    return [
+        ("insert and commit, us by MiB of the object", edits),
+        ("read of 4 KiB, us by MiB of the object", looks),
+        ("create and append, us by objects in the file", makes),
+    ]
+
+
+# ---- the plot
+
+COLOURS = ["#1f5fa8", "#c0504d", "#4f9a4f", "#8064a2"]
+WIDTH, HEIGHT, LEFT, TOP = 360, 260, 60, 40
+
+
+def span(values):
+    """Whole powers of ten round the values."""
+    low, high = math.floor(math.log10(min(values))), math.ceil(math.log10(max(values)))
+    return low, max(high, low + 1)
+
+
+def panel(title, series, across):
+    """One plot, both axes by powers of ten, as lines of SVG."""
+    xs = [x for points in series.values() for x, _ in points]
+    ys = [max(y * 1e6, 0.01) for points in series.values() for _, y in points]
+    (x0, x1), (y0, y1) = span(xs), span(ys)
+    left, right, top, bottom = across + LEFT, across + WIDTH - 20, TOP, HEIGHT - 30
+
+    def place(x, y):
+        over = left + (math.log10(x) - x0) / (x1 - x0) * (right - left)
+        down = bottom - (math.log10(max(y, 0.01)) - y0) / (y1 - y0) * (bottom - top)
+        return f"{over:.1f},{down:.1f}"
+
+    out = [f'<text x="{left}" y="{TOP - 20}">{title}</text>']
+    for power in range(y0, y1 + 1):
+        _, down = place(10**x0, 10**power).split(",")
+        out.append(f'<path d="M{left} {down}H{right}" stroke="#ddd"/><text x="{left - 6}" y="{down}" text-anchor="end">{10.0**power:g}</text>')
+    for power in range(x0, x1 + 1):
+        over, _ = place(10**power, 10**y0).split(",")
+        out.append(f'<path d="M{over} {top}V{bottom}" stroke="#ddd"/><text x="{over}" y="{bottom + 16}" text-anchor="middle">{10.0**power:g}</text>')
+    for index, (label, points) in enumerate(series.items()):
+        colour = COLOURS[index % len(COLOURS)]
+        line = " ".join(place(x, y * 1e6) for x, y in points)
+        out.append(f'<polyline points="{line}" fill="none" stroke="{colour}" stroke-width="2"/>')
+        out.append(f'<text x="{left + 8}" y="{top + 12 + 14 * index}" fill="{colour}">{label}</text>')
+    return out
+
+
+def plot(path, panels):
+    lines = [line for index, (title, series) in enumerate(panels) for line in panel(title, series, index * WIDTH)]
+    head = f'<svg xmlns="http://www.w3.org/2000/svg" width="{WIDTH * len(panels)}" height="{HEIGHT}" font-family="sans-serif" font-size="11">'
+    with open(path, "w") as out:
+        out.write("\n".join([head, '<rect width="100%" height="100%" fill="white"/>', *lines, "</svg>"]) + "\n")
+
+
+def main():
+    words = argparse.ArgumentParser(description=__doc__, formatter_class=argparse.RawDescriptionHelpFormatter)
+    words.add_argument("program", nargs="+")
+    words.add_argument("--folder", default="/dev/shm" if os.path.isdir("/dev/shm") else None)
+    words.add_argument("--plot")
+    words.add_argument("--runs", type=int, default=5)
+    words.add_argument("--quick", action="store_true", help="fewer and smaller workloads")
+    asked = words.parse_args()
+    with tempfile.TemporaryDirectory(dir=asked.folder) as folder:
+        programs = [Exsm(path, folder) for path in asked.program]
+        peer = Sqlite(folder) if sqlite3 else None
+        compare(programs, peer, asked.runs, asked.quick)
+        if asked.plot:
+            panels = growth(programs, peer, asked.runs, asked.quick)
+            for title, series in panels:
+                for label, points in series.items():
+                    print(f"{title} | {label} | " + ", ".join(f"{x}: {y * 1e6:.2f}" for x, y in points))
+            plot(asked.plot, panels)
+
+
+if __name__ == "__main__":
+    main()

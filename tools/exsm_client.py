@@ -1,0 +1,323 @@
+"""Drives one run of exsm, line by line: a reply is read before the next line is sent.
+
+    with Store("v") as store:
+        with store.transaction():
+            store.file("docs")
+            note = store.create("docs")
+            store.append(note, b"some bytes")
+        store.read(note, 5, 5)                   # b"bytes"
+
+A line that is refused raises `Refused`, and the transaction that it stands in is then aborted.
+Where the program ends before its script does, `Ended` has its status and what it said.
+"""
+from __future__ import annotations
+
+import itertools
+import os
+import shutil
+import subprocess
+import sys
+import tempfile
+from contextlib import contextmanager
+from pathlib import Path
+from typing import Iterator, NamedTuple, NoReturn, Optional, Union
+
+LINE_MOST = 1_048_576
+"""Bytes of a line, without its line feed."""
+
+UPDATES_MOST = 512
+"""Updates of a transaction."""
+
+WORDS_ROOM = 128
+"""What a line of data needs at most beside its digits: its word, an identifier, a position."""
+
+PIECE = (LINE_MOST - WORDS_ROOM) // 2
+"""Bytes of data that fit on a line, each as two digits."""
+
+READ_PIECE = 1 << 20
+"""Bytes that `Store.pieces` asks for at a time; a line may ask for at most 16,777,216."""
+
+SHOWN_MOST = 72
+"""Characters of a line that the text of `Refused` shows."""
+
+STATUS_NAMES = {
+    2: "usage", 3: "script fault", 4: "output fault", 5: "disk fault", 6: "bad volume",
+    7: "memory", 8: "damaged", 9: "already a volume", 10: "too small", 11: "script long",
+}
+"""The program's statuses but 0, as the README has them."""
+
+Words = list[str]
+"""Words of a reply."""
+
+AnyPath = Union[str, "os.PathLike[str]"]
+
+
+class Refused(Exception):
+    """A line was answered `no NUMBER NAME VALUE..`. It changed nothing, and the run goes on."""
+
+    def __init__(self, line: str, number: int, name: str, values: Words) -> None:
+        self.line, self.number, self.name, self.values = line, number, name, values
+        super().__init__(f"{shortened(line)}: {' '.join([str(number), name, *values])}")
+
+
+class Ended(Exception):
+    """The program ended before its script did, with `status`; below 0 it is a signal's number.
+
+    `text` is what the program wrote to standard error. Its last line is `exsm: status CODE NAME`.
+    """
+
+    def __init__(self, status: int, text: str) -> None:
+        self.status, self.text = status, text.strip()
+        super().__init__(self.text or f"exsm: {status_words(status)}")
+
+
+class Broken(Exception):
+    """A line was sent whose reply wasn't read, so no later reply can be told from it."""
+
+
+class ProgramMissing(Exception):
+    """There is no program `exsm` where the tools look for one."""
+
+
+class Space(NamedTuple):
+    """Units in use, and all that there are."""
+
+    pages: int
+    of_pages: int
+    segs: int
+    of_segs: int
+
+
+class Shape(NamedTuple):
+    """What `stat` tells of an object. A small one has no height and no leaves."""
+
+    size: int
+    height: Optional[int]
+    leaves: int
+    first_lengths: list[int]
+
+
+def shortened(line: str) -> str:
+    """The line, or its beginning and its length where it is long."""
+    if len(line) <= SHOWN_MOST:
+        return line
+    return f"{line[:SHOWN_MOST]} .. ({len(line)} bytes)"
+
+
+def status_words(status: int) -> str:
+    """A status in words: `status 5 disk fault`, or the signal that ended the program."""
+    if status < 0:
+        return f"ended by signal {-status}"
+    return f"status {status} {STATUS_NAMES.get(status, '')}".rstrip()
+
+
+def is_answered(line: bytes) -> bool:
+    """Whether a line gets a reply: it has a word, and the first doesn't begin with `#`.
+
+    One carriage return at the end is no part of a word. A line that is over the limit is refused,
+    whatever it holds.
+    """
+    if len(line) > LINE_MOST:
+        return True
+    words = (line[:-1] if line.endswith(b"\r") else line).strip(b" \t")
+    return words != b"" and not words.startswith(b"#")
+
+
+def find_program() -> str:
+    """The program: `$EXSM`, else the one that this repository built or installed, else `PATH`'s."""
+    tools = Path(__file__).resolve().parent
+    built = tools.parent / "crates" / "exsm" / "out" / "exsm"
+    installed = tools.parent.parent / "bin" / "exsm"
+    if "EXSM" in os.environ:
+        return os.environ["EXSM"]
+    for program in (built, installed):
+        if os.access(program, os.X_OK):
+            return str(program)
+    found = shutil.which("exsm")
+    if found is None:
+        raise ProgramMissing("there is no program exsm: build it by ./exsm, or name it by EXSM")
+    return found
+
+
+def leave_output() -> None:
+    """Leaves standard output, whose reader is gone: what is still to be written goes nowhere."""
+    os.dup2(os.open(os.devnull, os.O_WRONLY), sys.stdout.fileno())
+
+
+class Store:
+    """One run of `exsm run VOLUME`. No other run may have the volume meanwhile."""
+
+    def __init__(self, volume: AnyPath, program: Optional[str] = None) -> None:
+        self._said = tempfile.TemporaryFile()
+        self._run = subprocess.Popen(
+            [program or find_program(), "run", os.fspath(volume)],
+            stdin=subprocess.PIPE, stdout=subprocess.PIPE, stderr=self._said)
+        self._names = itertools.count(1)
+        self._waits = False
+
+    # Lines.
+
+    def exchange(self, line: bytes) -> Optional[str]:
+        """Sends a line, which has no line feed, and gives its reply, or None where none comes."""
+        if b"\n" in line:
+            raise ValueError("a line has no line feed")
+        if self._waits:
+            raise Broken("an earlier line was sent whose reply wasn't read")
+        self._waits = True
+        self._send(line)
+        reply = self._receive() if is_answered(line) else None
+        self._waits = False
+        return reply
+
+    def ask(self, line: str) -> Words:
+        """Sends a line, and gives the words of its reply behind `ok` and the first word."""
+        sent = line.encode("ascii")
+        if not is_answered(sent):
+            raise ValueError(f"no reply comes to this line: {shortened(line)}")
+        words = (self.exchange(sent) or "").split()
+        if words[0] == "no":
+            raise Refused(line, int(words[1]), words[2], words[3:])
+        return words[2:]
+
+    def _send(self, line: bytes) -> None:
+        try:
+            self._run.stdin.write(line + b"\n")
+            self._run.stdin.flush()
+        except BrokenPipeError:
+            self._ended()
+
+    def _receive(self) -> str:
+        reply = self._run.stdout.readline()
+        if not reply.endswith(b"\n"):
+            self._ended()
+        return reply[:-1].decode("ascii")
+
+    def _ended(self) -> NoReturn:
+        """Raises `Ended` once the program has ended."""
+        status = self._run.wait()
+        self._said.seek(0)
+        raise Ended(status, self._said.read().decode(errors="replace"))
+
+    def close(self) -> None:
+        """Ends the script, which aborts an open transaction. `Ended` tells a status but 0."""
+        if self._said.closed:
+            return
+        try:
+            try:
+                self._run.stdin.close()
+            except BrokenPipeError:
+                pass                               # what was left to send: its status tells why
+            self._run.stdout.read()                # a reply that wasn't read is no output fault
+            if self._run.wait() != 0:
+                self._ended()
+        finally:
+            self._run.stdout.close()
+            self._said.close()
+
+    def __enter__(self) -> Store:
+        return self
+
+    def __exit__(self, kind: object, *_: object) -> None:
+        try:
+            self.close()
+        except Ended:
+            if kind is None:                       # else the first fault is the one to tell
+                raise
+
+    # Transactions and files.
+
+    @contextmanager
+    def transaction(self) -> Iterator[Store]:
+        """Commits what is done within; a fault of any kind aborts it and goes on to the caller."""
+        self.ask("begin")
+        try:
+            yield self
+        except (Ended, Broken):
+            raise
+        except BaseException:
+            if not self._waits:
+                self.ask("abort")
+            raise
+        self.ask("commit")
+
+    def checkpoint(self) -> None:
+        """Writes logged pages home and empties the log."""
+        self.ask("checkpoint")
+
+    def log(self) -> int:
+        """The records of the log that count."""
+        return int(self.ask("log")[0])
+
+    def space(self) -> Space:
+        """Units in use, and all that there are."""
+        words = self.ask("space")
+        return Space(int(words[1]), int(words[3]), int(words[5]), int(words[7]))
+
+    def file(self, name: str) -> None:
+        """Makes an empty file."""
+        self.ask(f"file {name}")
+
+    def unfile(self, name: str) -> None:
+        """Removes a file without objects."""
+        self.ask(f"unfile {name}")
+
+    def files(self) -> Words:
+        """The names of all files, in byte order."""
+        return self.ask("files")[1:]
+
+    def list(self, name: str) -> Words:
+        """The identifiers of a file's objects, in order of their numbers."""
+        return self.ask(f"list {name}")[1:]
+
+    # Objects. An object is named by its identifier, as `create` and `list` give it.
+
+    def create(self, file: str) -> str:
+        """Makes an empty object in a file, and gives its identifier."""
+        return self.ask(f"create {file} as @client_{next(self._names)}")[0]
+
+    def destroy(self, oid: str) -> None:
+        """Removes an object."""
+        self.ask(f"destroy {oid}")
+
+    def size(self, oid: str) -> int:
+        """The bytes of an object."""
+        return int(self.ask(f"size {oid}")[0])
+
+    def stat(self, oid: str) -> Shape:
+        """Whether an object is small or large, and how a large one lies."""
+        form, size, *words = self.ask(f"stat {oid}")
+        if form == "small":
+            return Shape(int(size), None, 0, [])
+        return Shape(int(size), int(words[1]), int(words[3]), [int(word) for word in words[4:]])
+
+    def append(self, oid: str, data: bytes) -> None:
+        """Puts bytes at the end, in as many lines as they need."""
+        for start in range(0, len(data), PIECE):
+            self.ask(f"append {oid} hex:{data[start:start + PIECE].hex()}")
+
+    def insert(self, oid: str, position: int, data: bytes) -> None:
+        """Puts bytes in before the one at a position, in as many lines as they need."""
+        for start in range(0, len(data), PIECE):
+            self.ask(f"insert {oid} {position + start} hex:{data[start:start + PIECE].hex()}")
+
+    def replace(self, oid: str, position: int, data: bytes) -> None:
+        """Puts bytes over those from a position on, in as many lines as they need."""
+        for start in range(0, len(data), PIECE):
+            self.ask(f"replace {oid} {position + start} hex:{data[start:start + PIECE].hex()}")
+
+    def delete(self, oid: str, position: int, length: int) -> None:
+        """Takes bytes out."""
+        self.ask(f"delete {oid} {position} {length}")
+
+    def pieces(self, oid: str, position: int = 0, length: Optional[int] = None) -> Iterator[bytes]:
+        """The bytes from a position on, as many as told or all, a piece at a time."""
+        end = self.size(oid) if length is None else position + length
+        while position < end:
+            asked = min(READ_PIECE, end - position)
+            piece = bytes.fromhex(self.ask(f"read {oid} {position} {asked}")[1])
+            position += len(piece)
+            yield piece
+
+    def read(self, oid: str, position: int = 0, length: Optional[int] = None) -> bytes:
+        """The bytes from a position on, as many as told or all."""
+        return b"".join(self.pieces(oid, position, length))

@@ -1,0 +1,87 @@
+"""What the lines of a script look like, and what a refusal means, in words."""
+from __future__ import annotations
+
+import difflib
+
+FORMS = {
+    "begin": "begin",
+    "commit": "commit",
+    "abort": "abort",
+    "checkpoint": "checkpoint",
+    "log": "log",
+    "files": "files",
+    "space": "space",
+    "file": "file NAME",
+    "unfile": "unfile NAME",
+    "list": "list FILE",
+    "create": "create FILE as @NAME",
+    "destroy": "destroy X",
+    "size": "size X",
+    "stat": "stat X",
+    "read": "read X POS LEN",
+    "insert": "insert X POS DATA",
+    "append": "append X DATA",
+    "replace": "replace X POS DATA",
+    "delete": "delete X POS LEN",
+}
+"""The lines that the program takes, by their first word."""
+
+LATER = ("digest", "freeze", "versions", "drop", "group", "scan", "next", "close")
+"""Lines of docs/RULES.md that the program doesn't take yet."""
+
+WORDS = ("X is @NAME or page.slot.unique; DATA is hex:DIGITS, two a byte, or rep:COUNT:BYTE; "
+         "NAME and FILE are 1 to 32 of a-z 0-9 _")
+"""What the words of the forms stand for."""
+
+MEANINGS = {
+    "line_long": "a line has at most 1,048,576 bytes: give data in pieces of at most 524,000 bytes",
+    "data_limit": "a line gives or asks for at most 16,777,216 bytes: use several lines",
+    "no_txn": "no transaction is open: send `begin` first",
+    "txn_open": "a transaction is open: `commit` or `abort` it first",
+    "no_name": "no `create` of this run bound the name: names last for one run, and those of an "
+               "aborted transaction are gone; `list FILE` tells identifiers",
+    "name_taken": "the name is bound already in this run, also where its object is gone: take "
+                  "another",
+    "no_file": "there is no such file: `files` tells them",
+    "file_exists": "the file is there already",
+    "files_full": "the catalog is full: a volume has at most (page size - 32) / 48 files",
+    "no_object": "no object has this identifier: `list FILE` tells them",
+    "frozen": "a frozen version keeps its bytes: name the object's current one",
+    "current": "this is the object's current version: `destroy` removes the object",
+    "not_empty": "the file has objects: `destroy` them first",
+    "has_versions": "the object has frozen versions: `drop` them first",
+    "no_scan": "no open scan has the name",
+    "no_group": "no group of frames has the name",
+    "range": "the place is behind the end: `size X` tells the size",
+    "too_large": "an object has at most 4,294,967,295 bytes",
+    "too_many": "there are as many {0} as there may be: `close` one first",
+    "ids_spent": "the numbers of this volume are spent",
+    "long_txn": "the transaction is full (at most 512 updates and 128 pages; it has {0} and {1}): "
+                "`commit`, and go on in the next one",
+    "full": "the line may need {1} {0}, and {2} are free: use a larger volume, or less in one "
+            "line; what this run's edits left is free when the volume is opened again",
+}
+"""What each refusal means, but `syntax`; {0} on are its values."""
+
+FULL_AREAS = {"pages": "pages", "segs": "segment units"}
+
+
+def meaning(line: str, name: str, values: list[str]) -> str:
+    """What a refusal of a line means, and what helps."""
+    if name == "syntax":
+        return syntax_meaning(line)
+    if name == "full":
+        values = [FULL_AREAS.get(values[0], values[0]), *values[1:]]
+    return MEANINGS[name].format(*values)
+
+
+def syntax_meaning(line: str) -> str:
+    """What is wrong with a line that spells no command: its form, or the word that was meant."""
+    word = (line.split() or [""])[0]
+    if word in FORMS:
+        return f"the form is `{FORMS[word]}`; {WORDS}"
+    if word in LATER:
+        return f"`{word}` isn't built yet"
+    near = difflib.get_close_matches(word.lower(), list(FORMS), 1)
+    hint = f"did you mean `{FORMS[near[0]]}`? " if near else ""
+    return f"{hint}Lines begin with: {' '.join(FORMS)}"

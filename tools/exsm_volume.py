@@ -1,0 +1,514 @@
+#!/usr/bin/env python3
+"""Reads a volume file as docs/FORMATS.md describes it, without exsm. It never writes to the volume.
+
+    exsm_volume.py VOLUME check          tells each fault that it finds; status 1 where there is one
+    exsm_volume.py VOLUME list           tells the objects that can be read: size, identifier, file
+    exsm_volume.py VOLUME get OID        writes an object's bytes to standard output
+    exsm_volume.py VOLUME save FOLDER    writes each object that can be read to FOLDER/FILE/OID
+
+It reads volumes that exsm refuses as bad, and media that can't be written. Of an object with a
+fault in its tree, `save` writes what the rest of the tree names, each byte at its position, to
+FOLDER/FILE/OID.damaged, and tells the ranges that are missing, which are zeros there.
+"""
+from __future__ import annotations
+
+import os
+import re
+import signal
+import struct
+import sys
+from dataclasses import dataclass
+from typing import Callable, Iterator, NamedTuple, Optional
+
+MAGIC = b"EXSMVOL1"
+FORMAT = 1
+PAGE_SIZES = (512, 1024, 2048, 4096, 8192)
+SUPERBLOCK = struct.Struct(">8s6I")
+LOG_PAGES = 256
+CATALOG = 1 + LOG_PAGES
+CATALOG_HEAD = struct.Struct(">BxH4xQQ8x")
+ENTRY = struct.Struct(">B32sBxxII4x")
+FILE_PAGE_HEAD = struct.Struct(">BxH4xI4x")
+SLOT = struct.Struct(">HH")
+INDEX_HEAD = struct.Struct(">BBH4xI4x")
+INDEX_ENTRY = struct.Struct(">II")
+RECORD_HEAD = struct.Struct(">BBQIHIHH")
+LARGE_BODY = struct.Struct(">QI")
+NODE_HEAD = struct.Struct(">BBH4x")
+PAIR = struct.Struct(">II")
+LOG_HEAD = struct.Struct(">BBIQHHH")
+NOTE_BYTES = 31
+PAGE_NUMBER = struct.Struct(">I")
+NAME = re.compile(rb"[a-z0-9_]{1,32}")
+KIND_CATALOG, KIND_NODE, KIND_FILE_PAGE, KIND_INDEX = 1, 2, 3, 4
+FORM_SMALL, FORM_LARGE = 1, 2
+BODY_LEAST = LARGE_BODY.size
+HEIGHT_MOST = 255
+STATE_CURRENT = 1
+OBJECT_MOST = (1 << 32) - 1
+
+
+class BadVolume(Exception):
+    """What the file holds isn't what names it. The text begins with the part that fails."""
+
+
+class NoObject(Exception):
+    """No object that can be read has the identifier."""
+
+
+@dataclass(frozen=True)
+class Geometry:
+    """The five numbers of a volume, and its areas."""
+
+    page_size: int
+    pages: int
+    segs: int
+    seg_len: int
+    fan: int
+
+    @property
+    def unit(self) -> int:
+        """The bytes of a full leaf."""
+        return self.seg_len * self.page_size
+
+    @property
+    def first_unit(self) -> int:
+        """The first page of the segment area."""
+        return CATALOG + self.pages
+
+    @property
+    def bytes(self) -> int:
+        """The bytes of the volume."""
+        return (CATALOG + self.pages + self.segs * self.seg_len) * self.page_size
+
+    def has_page(self, page: int) -> bool:
+        """Whether a page of the page area, but the catalog, has the number."""
+        return CATALOG < page < self.first_unit
+
+    def has_unit(self, page: int) -> bool:
+        """Whether a unit of the segment area begins at the page."""
+        place = page - self.first_unit
+        return 0 <= place < self.segs * self.seg_len and place % self.seg_len == 0
+
+
+class LogRecord(NamedTuple):
+    """A record of the log that counts: where it stands, and what it says."""
+
+    offset: int
+    length: int
+    transaction: int
+    notes: int
+    images: dict[int, bytes]
+    freed: list[int]
+
+
+class Entry(NamedTuple):
+    """A file, as the catalog has it."""
+
+    name: str
+    level: int
+    root: int
+    number: int
+
+
+class Pair(NamedTuple):
+    """A child of a node: the bytes up to its end within the node's part, and where it lies."""
+
+    count: int
+    page: int
+
+
+class Leaf(NamedTuple):
+    """Bytes of an object in a unit: their position in the object, the unit's page, their number."""
+
+    position: int
+    page: int
+    length: int
+
+
+@dataclass(frozen=True)
+class Record:
+    """An object's record. A small object has no height, and its bytes in `data`."""
+
+    page: int
+    slot: int
+    unique: int
+    size: int
+    height: Optional[int] = None
+    root: int = 0
+    data: bytes = b""
+
+    @property
+    def oid(self) -> str:
+        """The object's identifier."""
+        return f"{self.page}.{self.slot}.{self.unique}"
+
+
+class Use(NamedTuple):
+    """What a page or a unit is in use for: its kind, the file or object, the bytes it holds."""
+
+    kind: str
+    owner: str
+    used: int
+
+
+class Volume:
+    """What a volume file holds. Faults below the catalog are gathered in `faults`."""
+
+    def __init__(self, path: str) -> None:
+        self.path = path
+        self.faults: list[str] = []
+        self.uses: dict[int, Use] = {}
+        self._file = open(path, "rb")
+        self.disk_bytes = os.fstat(self._file.fileno()).st_size
+        self.geometry = self._superblock()
+        self.records, self.images = self._log()
+        self.next_unique, self.last_commit, self.files = self._catalog()
+        self.objects = {entry.name: self._objects_of(entry) for entry in self.files}
+
+    def __enter__(self) -> Volume:
+        return self
+
+    def __exit__(self, *_: object) -> None:
+        self._file.close()
+
+    # Pages.
+
+    def _read(self, position: int, length: int) -> bytes:
+        self._file.seek(position)
+        return self._file.read(length)
+
+    def home(self, page: int) -> bytes:
+        """A page as it stands at its place."""
+        return self._read(page * self.geometry.page_size, self.geometry.page_size)
+
+    def page(self, page: int) -> bytes:
+        """A page as the log leaves it."""
+        return self.images.get(page) or self.home(page)
+
+    def guarded(self, step: Callable[[], None]) -> None:
+        """Makes a step, and notes its fault; what was read before the fault stays."""
+        try:
+            step()
+        except BadVolume as fault:
+            self.faults.append(str(fault))
+
+    # The superblock, the log, the catalog: without them nothing can be read.
+
+    def _superblock(self) -> Geometry:
+        head = self._read(0, SUPERBLOCK.size)
+        if len(head) < SUPERBLOCK.size or not head.startswith(MAGIC):
+            raise BadVolume("super: the file doesn't begin as a volume does")
+        _, page_size, pages, segs, seg_len, fan, form = SUPERBLOCK.unpack(head)
+        if form != FORMAT:
+            raise BadVolume(f"super: format {form}")
+        if page_size not in PAGE_SIZES or not pages or not 1 <= seg_len <= 16:
+            raise BadVolume(f"super: page size {page_size}, {pages} pages, {seg_len} pages a unit")
+        geometry = Geometry(page_size, pages, segs, seg_len, fan)
+        if self.disk_bytes < geometry.bytes:
+            raise BadVolume(f"super: the file has {self.disk_bytes} bytes, "
+                            f"the volume {geometry.bytes}")
+        return geometry
+
+    def _log(self) -> tuple[list[LogRecord], dict[int, bytes]]:
+        """The records that count, and the images that they leave. A fault ends the log there."""
+        log = self._read(self.geometry.page_size, LOG_PAGES * self.geometry.page_size)
+        records: list[LogRecord] = []
+        images: dict[int, bytes] = {}
+        offset = 0
+        while log[offset] == 1:
+            try:
+                record = self._log_record(log, offset)
+            except BadVolume as fault:
+                self.faults.append(str(fault))
+                break
+            records.append(record)
+            images.update(record.images)
+            for page in record.freed:
+                images.pop(page, None)
+            offset += record.length
+        return records, images
+
+    def _log_record(self, log: bytes, offset: int) -> LogRecord:
+        page_size = self.geometry.page_size
+        head = log[offset:offset + LOG_HEAD.size]
+        if len(head) < LOG_HEAD.size:
+            raise BadVolume(f"log: no room for a record at {offset}")
+        _, kind, length, transaction, notes, pages, freed = LOG_HEAD.unpack(head)
+        first = offset + LOG_HEAD.size + NOTE_BYTES * notes
+        behind = first + (PAGE_NUMBER.size + page_size) * pages
+        end = behind + PAGE_NUMBER.size * freed
+        if kind != 1 or length != end - offset or end >= len(log):
+            raise BadVolume(f"log: no record at {offset}")
+        images: dict[int, bytes] = {}
+        for at in range(first, behind, PAGE_NUMBER.size + page_size):
+            image = at + PAGE_NUMBER.size
+            images[PAGE_NUMBER.unpack_from(log, at)[0]] = log[image:image + page_size]
+        numbers = [number for number, in PAGE_NUMBER.iter_unpack(log[behind:end])]
+        return LogRecord(offset, length, transaction, notes, images, numbers)
+
+    def _catalog(self) -> tuple[int, int, list[Entry]]:
+        page = self.page(CATALOG)
+        kind, count, next_unique, last_commit = CATALOG_HEAD.unpack_from(page)
+        if kind != KIND_CATALOG or CATALOG_HEAD.size + count * ENTRY.size > len(page):
+            raise BadVolume(f"catalog: page {CATALOG} is of kind {kind} and has {count} files")
+        files = []
+        for place in range(count):
+            at = CATALOG_HEAD.size + place * ENTRY.size
+            length, name, level, root, number = ENTRY.unpack_from(page, at)
+            files.append(Entry(self._name(place, name[:length], files), level, root, number))
+        self.uses[CATALOG] = Use("catalog", "", CATALOG_HEAD.size + count * ENTRY.size)
+        return next_unique, last_commit, files
+
+    def _name(self, place: int, name: bytes, before: list[Entry]) -> str:
+        """The name of an entry; where it can't be one, or stands before too, one by its place."""
+        text = name.decode("latin-1")
+        if NAME.fullmatch(name) and text not in (entry.name for entry in before):
+            return text
+        self.faults.append(f"catalog: entry {place} has the name {text!r}")
+        return f"entry_{place}"
+
+    # Files.
+
+    def _objects_of(self, entry: Entry) -> list[Record]:
+        """The objects of a file whose records can be read, in order of their numbers."""
+        pages: list[int] = []
+        records: list[Record] = []
+        if entry.root != 0:
+            self.guarded(lambda: self._index(entry, entry.root, entry.level, pages))
+        for page in pages:
+            self.guarded(lambda page=page: self._file_page(entry, page, records))
+        return sorted(records, key=lambda record: record.unique)
+
+    def _index(self, entry: Entry, page: int, level: int, pages: list[int]) -> None:
+        """Gathers the pages of a file below a page of its index."""
+        if not self.geometry.has_page(page) or page in self.uses:
+            raise BadVolume(f"file: {entry.name} names page {page}, which can't be its own")
+        if level == 0:
+            self.uses[page] = Use("file page", entry.name, 0)
+            pages.append(page)
+            return
+        image = self.page(page)
+        kind, there, count, number = INDEX_HEAD.unpack_from(image)
+        size = INDEX_HEAD.size + count * INDEX_ENTRY.size
+        if (kind, there, number) != (KIND_INDEX, level, entry.number) or size > len(image):
+            raise BadVolume(f"file: page {page} isn't of level {level} of {entry.name}'s index")
+        self.uses[page] = Use("index", entry.name, size)
+        for _, child in INDEX_ENTRY.iter_unpack(image[INDEX_HEAD.size:size]):
+            self.guarded(lambda child=child: self._index(entry, child, level - 1, pages))
+
+    def _file_page(self, entry: Entry, page: int, records: list[Record]) -> None:
+        """Gathers the records of a page of a file."""
+        image = self.page(page)
+        kind, count, number = FILE_PAGE_HEAD.unpack_from(image)
+        used = FILE_PAGE_HEAD.size + count * SLOT.size
+        if (kind, number) != (KIND_FILE_PAGE, entry.number) or used > len(image):
+            raise BadVolume(f"page: {page} is no page of file {entry.name}")
+        for slot in range(count):
+            offset, length = SLOT.unpack_from(image, len(image) - SLOT.size * (slot + 1))
+            if offset != 0:
+                body = image[offset:offset + length]
+                used += length
+                self.guarded(lambda slot=slot, body=body:
+                             records.append(record_of(page, slot, body)))
+        self.uses[page] = Use("file page", entry.name, used)
+
+    # Trees.
+
+    def node(self, record: Record, page: int, level: int, size: int) -> list[Pair]:
+        """The pairs of a node that is to have a level and a number of bytes."""
+        image = self.home(page) if self.geometry.has_page(page) else bytes(NODE_HEAD.size)
+        kind, there, count = NODE_HEAD.unpack_from(image)
+        end = NODE_HEAD.size + count * PAIR.size
+        if (kind, there) != (KIND_NODE, level) or not 1 <= count <= 2 * self.geometry.fan + 1:
+            raise BadVolume(f"node: page {page} of {record.oid} is no node of level {level}")
+        pairs = [Pair(*pair) for pair in PAIR.iter_unpack(image[NODE_HEAD.size:end])]
+        counts = [0, *(pair.count for pair in pairs)]
+        if end > len(image) or any(low >= high for low, high in zip(counts, counts[1:])):
+            raise BadVolume(f"node: page {page} of {record.oid} has counts that don't rise")
+        if counts[-1] != size:
+            raise BadVolume(f"balance: page {page} of {record.oid} has {counts[-1]} bytes, "
+                            f"not {size}")
+        return pairs
+
+    def leaves(self, record: Record, fault: Callable[[BadVolume, int, int], None],
+               seen: Callable[[int, Use], bool] = lambda page, use: True) -> Iterator[Leaf]:
+        """The leaves of a large object, from left to right.
+
+        `fault` is told of each fault with the range of positions that it hides, and `seen` of each
+        page and unit with its use; where it answers false, what lies below is left out.
+        """
+        todo = [(0, record.root, record.height or 0, record.size)] if record.root else []
+        while todo:
+            position, page, level, size = todo.pop()
+            try:
+                if level == 0:
+                    self._test_leaf(record, page, size)
+                    if seen(page, Use("leaf", record.oid, size)):
+                        yield Leaf(position, page, size)
+                    continue
+                pairs = self.node(record, page, level, size)
+            except BadVolume as found:
+                fault(found, position, position + size)
+                continue
+            if seen(page, Use("node", record.oid, NODE_HEAD.size + len(pairs) * PAIR.size)):
+                starts = [0, *(pair.count for pair in pairs)]
+                todo.extend((position + start, pair.page, level - 1, pair.count - start)
+                            for start, pair in reversed(list(zip(starts, pairs))))
+
+    def _test_leaf(self, record: Record, page: int, size: int) -> None:
+        if not self.geometry.has_unit(page) or not 0 < size <= self.geometry.unit:
+            raise BadVolume(f"node: {record.oid} names leaf {page} of {size} bytes")
+
+    def walk(self) -> Volume:
+        """Notes the use of each page and unit of all trees, and the faults of their nodes."""
+        for record in self.all():
+            for _ in self.leaves(record, self._note_fault, self._note):
+                pass
+        return self
+
+    def _note_fault(self, fault: BadVolume, *_: int) -> None:
+        self.faults.append(str(fault))
+
+    def _note(self, page: int, use: Use) -> bool:
+        """Notes a use. What is noted already isn't walked again: another object's is a fault."""
+        there = self.uses.setdefault(page, use)
+        if there is not use and there.owner != use.owner:
+            self.faults.append(f"node: {use.owner} names {page}, a {there.kind} of {there.owner}")
+        return there is use
+
+    # Objects.
+
+    def all(self) -> list[Record]:
+        """All objects whose records can be read, file by file."""
+        return [record for records in self.objects.values() for record in records]
+
+    def find(self, oid: str) -> Record:
+        """The object of an identifier."""
+        for record in self.all():
+            if record.oid == oid:
+                return record
+        raise NoObject(f"no object has the identifier {oid}")
+
+    def pieces(self, record: Record) -> Iterator[bytes]:
+        """The bytes of an object, a piece at a time. A fault in its tree is raised."""
+        if record.height is None:
+            yield record.data
+        for leaf in self.leaves(record, raised):
+            yield self._read(leaf.page * self.geometry.page_size, leaf.length)
+
+    def bytes_of(self, record: Record) -> bytes:
+        """The bytes of an object. A fault in its tree is raised."""
+        return b"".join(self.pieces(record))
+
+    def save(self, record: Record, path: str) -> list[tuple[int, int]]:
+        """Writes what can be read of an object to a file, and gives the ranges that can't be."""
+        missing: list[tuple[int, int]] = []
+        with open(path, "wb") as out:
+            out.write(record.data)
+            for leaf in self.leaves(record, lambda _, *bounds: missing.append(bounds)):
+                out.seek(leaf.position)
+                out.write(self._read(leaf.page * self.geometry.page_size, leaf.length))
+            out.truncate(record.size)
+        return missing
+
+
+def raised(fault: BadVolume, *_: int) -> None:
+    """Raises a fault of a tree."""
+    raise fault
+
+
+def record_of(page: int, slot: int, body: bytes) -> Record:
+    """The record that a slot's bytes are."""
+    where = f"body: page {page}, slot {slot}"
+    if len(body) < RECORD_HEAD.size + BODY_LEAST:
+        raise BadVolume(f"{where} has {len(body)} bytes")
+    form, state, unique, *_, number = RECORD_HEAD.unpack_from(body)
+    if state != STATE_CURRENT or form not in (FORM_SMALL, FORM_LARGE):
+        raise BadVolume(f"{where} has form {form} and state {state}")
+    wanted = RECORD_HEAD.size + (max(BODY_LEAST, number) if form == FORM_SMALL else BODY_LEAST)
+    if len(body) != wanted:
+        raise BadVolume(f"{where} has {len(body)} bytes, not {wanted}")
+    if form == FORM_SMALL:
+        data = body[RECORD_HEAD.size:RECORD_HEAD.size + number]
+        return Record(page, slot, unique, number, data=data)
+    size, root = LARGE_BODY.unpack_from(body, RECORD_HEAD.size)
+    if size > OBJECT_MOST or number > HEIGHT_MOST or (root == 0) != (size == 0):
+        raise BadVolume(f"{where} has size {size}, height {number}, root {root}")
+    return Record(page, slot, unique, size, number, root)
+
+
+# The commands.
+
+def check(volume: Volume, _: list[str]) -> int:
+    """`check`"""
+    volume.walk()
+    for fault in volume.faults:
+        print(fault)
+    print(f"{len(volume.faults)} faults, {len(volume.all())} objects")
+    return 1 if volume.faults else 0
+
+
+def list_objects(volume: Volume, _: list[str]) -> int:
+    """`list`"""
+    for name, records in volume.objects.items():
+        for record in records:
+            print(f"{record.size:10}  {record.oid:14} {name}")
+    return 0
+
+
+def get(volume: Volume, words: list[str]) -> int:
+    """`get OID`"""
+    sys.stdout.buffer.writelines(volume.pieces(volume.find(words[0])))
+    sys.stdout.buffer.flush()
+    return 0
+
+
+def save_object(volume: Volume, record: Record, folder: str) -> bool:
+    """Saves what can be read of an object, and tells what can't be; whether it is whole."""
+    path = os.path.join(folder, record.oid)
+    missing = volume.save(record, path)
+    for start, end in missing:
+        print(f"{record.oid}: bytes {start} to {end - 1} of {record.size} are missing")
+    if missing:
+        os.replace(path, f"{path}.damaged")
+    return not missing
+
+
+def save_all(volume: Volume, words: list[str]) -> int:
+    """`save FOLDER`"""
+    whole = damaged = 0
+    for name, records in volume.objects.items():
+        folder = os.path.join(words[0], name)
+        os.makedirs(folder, exist_ok=True)
+        for record in records:
+            if save_object(volume, record, folder):
+                whole += 1
+            else:
+                damaged += 1
+    for fault in volume.faults:
+        print(fault)
+    print(f"{whole} objects saved whole, {damaged} in part")
+    return 1 if damaged or volume.faults else 0
+
+
+COMMANDS: dict[str, tuple[Callable[[Volume, list[str]], int], int]] = {
+    "check": (check, 0), "list": (list_objects, 0), "get": (get, 1), "save": (save_all, 1),
+}
+"""What each command does, and the number of its words."""
+
+
+def main(words: list[str]) -> int:
+    """Does what the words say, and gives the exit status."""
+    if len(words) < 2 or words[1] not in COMMANDS or len(words) - 2 != COMMANDS[words[1]][1]:
+        sys.exit(__doc__)
+    try:
+        with Volume(words[0]) as volume:
+            return COMMANDS[words[1]][0](volume, words[2:])
+    except (BadVolume, NoObject, OSError) as fault:
+        sys.exit(f"exsm_volume: {words[0]}: {fault}")
+
+
+if __name__ == "__main__":
+    signal.signal(signal.SIGPIPE, signal.SIG_DFL)
+    sys.exit(main(sys.argv[1:]))

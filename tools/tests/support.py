@@ -1,0 +1,95 @@
+"""What the tests share: a folder of their own, and runs of programs there."""
+from __future__ import annotations
+
+import os
+import pty
+import select
+import subprocess
+import sys
+import tempfile
+import time
+import unittest
+from pathlib import Path
+
+TOOLS = Path(__file__).resolve().parent.parent
+TOP = TOOLS.parent
+SECONDS = 60
+
+
+class Ran:
+    """How a program ended, and what it wrote."""
+
+    def __init__(self, status: int, out: bytes, err: bytes) -> None:
+        self.status, self.out, self.errors = status, out, err.decode().splitlines()
+
+    @property
+    def lines(self) -> list[str]:
+        """The lines of standard output."""
+        return self.out.decode().splitlines()
+
+
+class InFolder(unittest.TestCase):
+    """A test that runs in a new folder."""
+
+    def setUp(self) -> None:
+        room = tempfile.TemporaryDirectory(prefix="exsm-test-")
+        self.addCleanup(room.cleanup)
+        self.addCleanup(os.chdir, os.getcwd())
+        self.folder = Path(room.name)
+        os.chdir(room.name)
+
+    def run_words(self, *words: object, given: bytes = b"") -> Ran:
+        """Runs a program on bytes of standard input."""
+        run = subprocess.run([str(word) for word in words], input=given, capture_output=True,
+                             timeout=SECONDS, check=False)
+        return Ran(run.returncode, run.stdout, run.stderr)
+
+    def tool(self, name: str, *words: object, given: bytes = b"") -> Ran:
+        """Runs a tool."""
+        return self.run_words(sys.executable, TOOLS / f"{name}.py", *words, given=given)
+
+    def exsm(self, *words: object, given: bytes = b"") -> Ran:
+        """Runs the program."""
+        return self.run_words(os.environ["EXSM"], *words, given=given)
+
+    def format(self, volume: str = "v", page_size: int = 512, pages: int = 600, segs: int = 600,
+               seg_len: int = 1, fan: int = 3) -> str:
+        """Makes a volume."""
+        ran = self.exsm("format", volume, "--page-size", page_size, "--pages", pages,
+                        "--segs", segs, "--seg-len", seg_len, "--fan", fan)
+        self.assertEqual((ran.status, ran.errors), (0, []))
+        return volume
+
+
+class Terminal:
+    """The runner in a terminal, its history in the folder of the test."""
+
+    def __init__(self, volume: str) -> None:
+        self.side, other = pty.openpty()
+        variables = {**os.environ, "HOME": ".", "TERM": "dumb", "COLUMNS": "200"}
+        self.run = subprocess.Popen(
+            [sys.executable, str(TOOLS / "exsm_do.py"), volume], stdin=other, stdout=other,
+            stderr=other, start_new_session=True, env=variables)
+        os.close(other)
+        self.read_to("exsm> ")
+
+    def type(self, keys: str, until: str) -> str:
+        """Types keys, and gives what comes up to a prompt that ends it."""
+        os.write(self.side, keys.encode())
+        return self.read_to(until)
+
+    def read_to(self, until: str, seconds: float = 10) -> str:
+        """What comes until it ends with a text."""
+        seen, end = "", time.monotonic() + seconds
+        while not (seen.endswith(until) and "\n" in seen or seen == until) and until:
+            if not select.select([self.side], [], [], end - time.monotonic())[0]:
+                raise AssertionError(f"no {until!r} came, but {seen!r}")
+            seen += os.read(self.side, 65536).decode(errors="replace")
+        return seen
+
+    def close(self) -> None:
+        """Ends the runner where it is there, and closes the terminal."""
+        if self.run.poll() is None:
+            self.run.kill()
+            self.run.wait()
+        os.close(self.side)

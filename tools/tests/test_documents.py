@@ -1,0 +1,232 @@
+"""The documents for users: their sessions, their lists, their numbers."""
+from __future__ import annotations
+
+import os
+import re
+import shutil
+import subprocess
+from pathlib import Path
+
+import exsm_client
+import exsm_lines
+import exsm_new
+from exsm_client import Refused, Store
+from tests import transcripts
+from tests.support import TOOLS, TOP, InFolder, Terminal
+
+README = TOP / "README.md"
+RULES, FORMATS, TUTORIAL, MANUAL = (
+    TOP / "docs" / name for name in ("RULES.md", "FORMATS.md", "TUTORIAL.md", "exsm.1"))
+PROMPT = re.compile(r"^exsm\*?> ")
+EXAMPLE_PAGE = 512
+IMAGES_IN_LOG = {257 * EXAMPLE_PAGE: 660, 258 * EXAMPLE_PAGE: 1176}
+LINE_FORMS = {"X": "1.1.1", "POS": "0", "LEN": "0", "DATA": "hex:", "F": "f", "S": "s", "G": "g",
+              "N": "1"}
+
+
+def text_of(path: Path) -> str:
+    """The text of a document."""
+    return path.read_text(encoding="utf-8")
+
+
+def section(document: Path, title: str) -> str:
+    """The text of a section, up to the next one."""
+    return text_of(document).split(f"\n## {title}\n")[1].split("\n## ")[0]
+
+
+def rules_lines() -> dict[str, str]:
+    """The lines of RULES by their first word, each as one of its kind may be sent."""
+    lines: dict[str, str] = {}
+    for row in re.findall(r"^\| (`.*?) \|", section(RULES, "Commands"), re.M):
+        form = re.findall(r"`(.*?)`", row)[0]
+        lines[form.split()[0]] = " ".join(
+            LINE_FORMS.get(word, "@w" if word.startswith("@") else word) for word in form.split())
+    return lines
+
+
+class DocumentsTest(InFolder):
+    def needs(self, *programs: str) -> None:
+        """Skips the test where the machine lacks a program."""
+        for program in programs:
+            if shutil.which(program) is None:
+                self.skipTest(f"there is no {program} here")
+
+    def built_lines(self) -> list[str]:
+        """The first words of the lines of RULES that the program takes."""
+        self.format()
+        built = []
+        with Store("v") as store:
+            for word, line in rules_lines().items():
+                try:
+                    store.ask(line)
+                except Refused as no:
+                    if no.name == "syntax":
+                        continue
+                built.append(word)
+        return sorted(built)
+
+    def test_lines(self) -> None:
+        """lines of README, manual page, completion and RULES are those that the program takes"""
+        built = self.built_lines()
+        self.assertGreater(len(built), 15)
+        self.assertEqual(sorted(exsm_lines.FORMS), built)
+        self.assertEqual(sorted([*exsm_lines.LATER, *built]), sorted(rules_lines()))
+        manual = text_of(MANUAL).split(".Sh LINES")[1].split(".Sh")[0]
+        self.assertEqual(sorted(re.findall(r"^\.It Cm (\w+)", manual, re.M)), built)
+        rows = section(README, "The lines of a script").splitlines()
+        readme = "".join(row.split("|")[1] for row in rows if row.startswith("| `"))
+        self.assertEqual(sorted(form.split()[0] for form in re.findall(r"`(.*?)`", readme)), built)
+
+    def test_statuses(self) -> None:
+        """the statuses of README, manual page and client are the same"""
+        rows = re.findall(r"^\| (\d+) \| ([a-z ]+) \|", section(README, "The program"), re.M)
+        readme = {int(code): name for code, name in rows}
+        self.assertEqual({0: "done", **exsm_client.STATUS_NAMES}, readme)
+        manual = text_of(MANUAL).split(".Sh EXIT STATUS")[1].split(".Sh")[0]
+        self.assertEqual({int(code): name for code, name in
+                          re.findall(r"^\.It (\d+)\n([a-z ]+):", manual, re.M)}, readme)
+
+    def test_sizes(self) -> None:
+        """the table of sizes has what exsm_new.py makes"""
+        rows = re.findall(r"^\| (\d+[MG]) \| (.*) \|$", section(README, "Sizes"), re.M)
+        self.assertEqual([size for size, _ in rows], ["80M", "1G", "16G"])
+        for size, cells in rows:
+            numbers = exsm_new.geometry_of(exsm_new.size_of(size))
+            made = (numbers.page_size, numbers.pages, numbers.segs, numbers.seg_len, numbers.fan,
+                    numbers.bytes)
+            self.assertEqual(cells, " | ".join(f"{number:,}" for number in made))
+
+    def test_readme(self) -> None:
+        """the session of README is what comes"""
+        self.needs("xxd")
+        os.symlink(os.environ["EXSM"], "exsm")
+        self.compare(README)
+
+    def test_tutorial(self) -> None:
+        """the tutorial's commands write what it prints, and draw its pictures"""
+        self.needs("xxd", "awk", "dd")
+        os.symlink(os.environ["EXSM"], "exsm")
+        for name in ("tools", "docs"):
+            os.symlink(TOP / name, name)
+        self.compare(TUTORIAL)
+        for when in ("before", "after"):
+            drawn = text_of(self.folder / "hour" / f"{when}.svg")
+            self.assertEqual(drawn, text_of(TOP / "docs" / f"map-{when}.svg"))
+
+        for volume, lines in transcripts.terminals(text_of(TUTORIAL)).items():
+            self.assertEqual(self.terminal(str(self.folder / "hour" / volume), lines), lines)
+
+    def terminal(self, volume: str, lines: list[str]) -> list[str]:
+        """Types what a session of the runner shows behind its prompts, and gives all that comes."""
+        typed = [PROMPT.sub("", line) for line in lines if PROMPT.match(line)]
+        prompts = [line.split(" ")[0] + " " for line in lines if PROMPT.match(line)]
+        talk = Terminal(volume)
+        try:
+            came = prompts[0]
+            for text, prompt in zip(typed, [*prompts[1:], "quit\r\n"]):
+                came += talk.type(text + "\n", prompt)
+            return came.replace("\r", "").splitlines()
+        finally:
+            talk.close()
+
+    def compare(self, document: Path) -> None:
+        """Runs the commands of a document, and compares what they write."""
+        steps = transcripts.steps_of(text_of(document))
+        variables = {
+            "PATH": os.environ["PATH"], "HOME": str(self.folder), "EXSM": os.environ["EXSM"],
+            "EXSM_HOME": str(self.folder), "LC_ALL": "C.UTF-8", "PYTHONDONTWRITEBYTECODE": "1"}
+        wrote = transcripts.run(steps, self.folder, variables)
+        for place, step in enumerate(steps):
+            if isinstance(step, transcripts.Command):
+                with self.subTest(f"{document.name}, line {step.line}: {step.text}"):
+                    came = wrote.get(place, ["(it wasn't run)"])
+                    self.assertTrue(transcripts.fits(step.wanted, came), "\n".join(came))
+
+    def test_examples(self) -> None:
+        """the examples, each on its own volume, write what is stored"""
+        for script in sorted((TOP / "examples").iterdir()):
+            crate = TOP / "crates" / f"example_{script.name}"
+            shutil.copy(crate / "data" / "v", script.name)
+            os.chmod(script.name, 0o600)
+            ran = self.exsm("run", script.name, given=script.read_bytes())
+            self.assertEqual((ran.status, ran.out), (0, (crate / "stdout").read_bytes()), script.name)
+
+    def test_formats(self) -> None:
+        """the example of FORMATS is what stands in the volume of README, byte for byte"""
+        os.symlink(os.environ["EXSM"], "exsm")
+        session = transcripts.steps_of(text_of(README))[:2]
+        transcripts.run(session, self.folder, {"PATH": os.environ["PATH"]})
+        first, later = (dict(re.findall(r"^\| (\d+) \| `([0-9a-f ]+)` \|", part, re.M))
+                        for part in section(FORMATS, "An example").split("After the next opening"))
+        images = {str(int(at) - page + image): digits for page, image in IMAGES_IN_LOG.items()
+                  for at, digits in later.items() if page <= int(at) < page + EXAMPLE_PAGE}
+        volume = Path("v").read_bytes()
+        self.assertEqual(self.without(volume, {**first, **images}).strip(b"\0"), b"")
+        self.exsm("run", "v")
+        self.without(Path("v").read_bytes(), later)
+
+    def without(self, volume: bytes, rows: dict[str, str]) -> bytes:
+        """Compares rows with a volume, and gives the volume with zeros in their places."""
+        rest = bytearray(volume)
+        self.assertGreater(len(rows), 6)
+        for place, digits in rows.items():
+            at, wanted = int(place), bytes.fromhex(digits)
+            self.assertEqual(volume[at:at + len(wanted)].hex(), wanted.hex(), f"byte {at}")
+            rest[at:at + len(wanted)] = bytes(len(wanted))
+        return bytes(rest)
+
+    def test_manual(self) -> None:
+        """man prints no warning of the manual page"""
+        self.needs("man")
+        ran = self.run_words("man", "--warnings", "-l", MANUAL)
+        if ran.status != 0:
+            self.skipTest(f"man can't show a file here: {ran.errors[:1]}")
+        self.assertEqual(ran.errors, [])
+        self.assertIn("keep storage objects on a volume file", ran.out.decode(errors="replace"))
+
+
+COMPLETE = r"""
+. "$1"
+shift
+COMP_WORDS=("$@")
+COMP_CWORD=$(($# - 1))
+COMPREPLY=()
+compopt() { :; }
+$(complete -p "$1" | sed 's/.*-F \([a-z_]*\) .*/\1/')
+printf '%s\n' "${COMPREPLY[@]}"
+"""
+COMPLETIONS = [
+    ("exsm|", ["format", "run"]), ("exsm|f", ["format"]), ("exsm|run|", ["other", "v"]),
+    ("exsm|format|v|", ["--page-size"]), ("exsm|format|v|--page-size|8", ["8192"]),
+    ("exsm|format|v|--page-size|512|", ["--pages"]), ("exsm|run|v|", [""]),
+    ("exsm_files.py|v|", ["get", "ls", "put", "rm"]), ("exsm_new.py|v|", ["16G", "1G", "80M"]),
+    ("exsm_volume.py|v|s", ["save"]), ("exsm_do.py|o", ["other"]),
+]
+
+
+class InstallTest(InFolder):
+    def test_completion(self) -> None:
+        """bash completes the words of the program and of the tools"""
+        for name in ("v", "other"):
+            Path(name).touch()
+        for words, offers in COMPLETIONS:
+            ran = self.run_words("bash", "-c", COMPLETE, "bash", TOOLS / "exsm.bash",
+                                 *words.split("|"))
+            self.assertEqual((sorted(ran.lines), ran.errors), (offers, []), words)
+
+    def test_install(self) -> None:
+        """what is installed runs without the repository, and lies where it is looked for"""
+        ran = self.run_words(TOOLS / "install", "there/prefix")
+        self.assertEqual((ran.status, ran.errors), (0, []))
+        prefix = self.folder / "there" / "prefix"
+        path = f"{prefix / 'bin'}:{os.environ['PATH']}"
+        variables = {"PATH": path, "PYTHONDONTWRITEBYTECODE": "1"}
+        Path("one").write_text("files\n", encoding="ascii")
+        for line in ("exsm_new.py v 4M", "exsm_files.py v put one", "exsm_do.py v one",
+                     "exsm_map.py v", "exsm_volume.py v check"):
+            done = subprocess.run(line.split(), env=variables, capture_output=True, check=False)
+            self.assertEqual(done.returncode, 0, done.stderr)
+        completion = "share/bash-completion/completions/exsm_files.py"
+        for name in ("share/man/man1/exsm.1", completion, "bin/exsm"):
+            self.assertTrue((prefix / name).is_file(), name)
+        self.assertEqual(self.run_words(TOOLS / "install").status, 2)

@@ -1,0 +1,185 @@
+"""The reader of the bytes: damaged volumes, what it saves, what it draws."""
+from __future__ import annotations
+
+import os
+import random
+import shutil
+import unittest
+from pathlib import Path
+from xml.etree import ElementTree
+
+from exsm_client import Ended, Store
+from exsm_map import picture, usage
+from exsm_volume import BadVolume, Record, Volume
+from tests.support import InFolder
+
+FLIPS = 150
+FLIPPED_BYTES = 64
+PEOPLE = 200
+
+
+def bytes_by_oid(volume: Volume) -> dict[str, bytes]:
+    """The bytes of all objects."""
+    return {record.oid: volume.bytes_of(record) for record in volume.all()}
+
+
+class ReaderTest(InFolder):
+    def setUp(self) -> None:
+        super().setUp()
+        chance = random.Random(3)
+        self.format(page_size=512, pages=900, segs=1200, seg_len=2, fan=6)
+        with Store("v") as store:
+            with store.transaction():
+                for name in ("documents", "empty", "people"):
+                    store.file(name)
+                for size in (0, 5, 30_000, 150_000):
+                    store.append(store.create("documents"), chance.randbytes(size))
+            with store.transaction():
+                for _ in range(PEOPLE):
+                    store.append(store.create("people"), chance.randbytes(chance.randint(20, 60)))
+            for oid in store.list("people")[:3]:
+                with store.transaction():
+                    store.append(oid, b"!")
+            self.wanted = {oid: store.read(oid)
+                           for name in store.files() for oid in store.list(name)}
+
+    def test_whole(self) -> None:
+        """a whole volume: check, list, get, save"""
+        ran = self.tool("exsm_volume", "v", "check")
+        self.assertEqual((ran.status, ran.lines), (0, [f"0 faults, {len(self.wanted)} objects"]))
+        rows = [line.split() for line in self.tool("exsm_volume", "v", "list").lines]
+        self.assertEqual({row[1]: int(row[0]) for row in rows},
+                         {oid: len(data) for oid, data in self.wanted.items()})
+        oid, data = max(self.wanted.items(), key=lambda item: len(item[1]))
+        self.assertEqual(self.tool("exsm_volume", "v", "get", oid).out, data)
+        self.assertEqual(self.tool("exsm_volume", "v", "get", "1.1.1").status, 1)
+        self.assertEqual(self.tool("exsm_volume", "v", "save", "s").status, 0)
+        saved = {path.name: path.read_bytes() for path in Path("s").glob("*/*")}
+        self.assertEqual(saved, self.wanted)
+
+    def test_no_volume(self) -> None:
+        """a file that holds no volume, one that is cut off, one that isn't there"""
+        shutil.copy("v", "cut")
+        os.truncate("cut", 400_000)
+        with open("other", "wb") as out:
+            out.write(b"x" * 100)
+        for name, part in (("cut", "super: the file has 400000 bytes"),
+                           ("other", "super: the file doesn't"), ("missing", "[Errno 2]")):
+            for tool, words in (("exsm_volume", ["check"]), ("exsm_map", [])):
+                ran = self.tool(tool, name, *words)
+                self.assertEqual((ran.status, ran.lines, len(ran.errors)), (1, [], 1))
+                self.assertIn(part, ran.errors[0])
+
+    @unittest.skipIf(os.getuid() == 0, "root may write to any file")
+    def test_read_only(self) -> None:
+        """a file that can't be written is read"""
+        os.chmod("v", 0o444)
+        self.assertEqual(self.tool("exsm_volume", "v", "check").status, 0)
+
+    def test_flips(self) -> None:
+        """single flipped bits: no crash of the reader; where the program opens, both agree"""
+        chance = random.Random(5)
+        with Volume("v") as volume:
+            pages = sorted(page for page in volume.walk().uses if page < volume.geometry.first_unit)
+            size = volume.geometry.page_size
+        most = opened = 0
+        for _ in range(FLIPS):
+            place = chance.choice([0, 1, *pages]) * size + chance.randrange(FLIPPED_BYTES)
+            with open("v", "r+b") as file:
+                self.flip(file, place, bit := 1 << chance.randrange(8))
+                right = self.read_damaged()
+                opened += self.agrees()
+                self.flip(file, place, bit)
+            most += right >= len(self.wanted) - 1
+        self.assertGreater(most, FLIPS // 3)
+        self.assertGreater(opened, FLIPS // 20)
+        with Volume("v") as volume:
+            self.assertEqual((volume.walk().faults, bytes_by_oid(volume)), ([], self.wanted))
+
+    def flip(self, file: object, place: int, bit: int) -> None:
+        """Flips a bit of a file."""
+        file.seek(place)
+        byte = file.read(1)[0]
+        file.seek(place)
+        file.write(bytes([byte ^ bit]))
+        file.flush()
+
+    def agrees(self) -> bool:
+        """Whether the program opens the volume; then it reads what the reader does."""
+        shutil.copy("v", "opened")
+        try:
+            with Store("opened") as store:
+                read = {oid: store.read(oid) for name in store.files() for oid in store.list(name)}
+        except Ended:
+            return False
+        with Volume("v") as volume:
+            self.assertEqual((volume.walk().faults, bytes_by_oid(volume)), ([], read))
+        return True
+
+    def read_damaged(self) -> int:
+        """Reads and draws a damaged volume; how many objects come whole and right."""
+        try:
+            with Volume("v") as volume:
+                volume.walk()
+                self.assertIn("</svg>", picture(volume))
+                self.assertNotEqual("", "\n".join(usage(volume)))
+                return sum(self.is_right(volume, record) for record in volume.all())
+        except BadVolume:
+            return 0
+
+    def is_right(self, volume: Volume, record: Record) -> bool:
+        """Whether an object's bytes are read as they were; one with a fault is saved."""
+        try:
+            return volume.bytes_of(record) == self.wanted.get(record.oid)
+        except BadVolume:
+            self.assertNotEqual(volume.save(record, "saved"), [])
+            return False
+
+    def test_names(self) -> None:
+        """names that can't be are told, and lead to no other folder"""
+        self.exsm("run", "v")                      # a checkpoint, so that the catalog is at home
+        with open("v", "r+b") as file:
+            for place, name in ((0, b"../../up"), (1, b"people")):
+                file.seek(257 * 512 + 32 + 48 * place)
+                file.write(bytes([len(name)]) + name)
+        ran = self.tool("exsm_volume", "v", "save", "s")
+        self.assertEqual(ran.status, 1)
+        self.assertIn("catalog: entry 0 has the name '../../up'", ran.lines)
+        self.assertIn("catalog: entry 2 has the name 'people'", ran.lines)
+        self.assertEqual(sorted(os.listdir("s")), ["entry_0", "entry_2", "people"])
+        self.assertEqual(sorted(os.listdir()), ["s", "v"])
+
+    def test_saved_in_part(self) -> None:
+        """of an object with a damaged node all but the node's bytes are saved"""
+        with Volume("v") as volume:
+            record = max(volume.all(), key=lambda record: record.size)
+            pairs = volume.node(record, record.root, record.height, record.size)
+            size = volume.geometry.page_size
+        start, child = pairs[0].count, pairs[1]
+        with open("v", "r+b") as file:
+            self.flip(file, child.page * size, 1)
+        ran = self.tool("exsm_volume", "v", "save", "s")
+        self.assertEqual(ran.status, 1)
+        self.assertEqual(ran.lines, [
+            f"{record.oid}: bytes {start} to {child.count - 1} of {record.size} are missing",
+            f"{len(self.wanted) - 1} objects saved whole, 1 in part"])
+        data = self.wanted[record.oid]
+        with open(f"s/documents/{record.oid}.damaged", "rb") as saved:
+            hole = bytes(child.count - start)
+            self.assertEqual(saved.read(), data[:start] + hole + data[child.count:])
+        self.assertEqual(self.exsm("run", "v").status, 6)
+
+    def test_map(self) -> None:
+        """use as text and as a picture"""
+        ran = self.tool("exsm_map", "v", "map.svg")
+        self.assertEqual((ran.status, ran.errors), (0, []))
+        self.assertIn("3 files, 204 objects", ran.lines[1])
+        with Volume("v") as volume:
+            uses = volume.walk().uses
+        root = ElementTree.parse("map.svg").getroot()
+        titles = [title.text for title in root.iter("{http://www.w3.org/2000/svg}title")]
+        for page, use in uses.items():
+            self.assertEqual(sum(f" {page}: {use.kind}" in title for title in titles), 1)
+        with Store("v") as store:
+            space = store.space()
+        self.assertEqual(len(uses), space.pages + space.segs)
