@@ -15,7 +15,8 @@ from dataclasses import dataclass
 from html import escape
 from typing import Iterator, NamedTuple
 
-from exsm_volume import CATALOG, LOG_PAGES, BadVolume, Record, Use, Volume
+from exsm_geometry import CATALOG, LOG_PAGES
+from exsm_volume import BadVolume, Record, Use, Volume
 
 PAGE_COLORS = {"catalog": "#1b1b1b", "index": "#7b4ea3", "file page": "#c7761b", "node": "#2f6db5"}
 FREE, LOG, LEAVES, TEXT, WHITE = "#ececec", "#b03a48", "#3f8f4f", "#222", "#fff"

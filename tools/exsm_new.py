@@ -10,15 +10,14 @@ import os
 import re
 import subprocess
 import sys
-from dataclasses import dataclass
 from typing import Optional
 
 from exsm_client import ProgramMissing, find_program
+from exsm_geometry import CATALOG, Geometry
 
 PAGE_SIZE = 4096
 FAN = (PAGE_SIZE - 20) // 24
 UNITS_MOST = 4_000_000
-HEAD_PAGES = 257
 UNIT_PAGES = (1, 2, 4, 8, 16)
 
 PAGES_PART = 5
@@ -26,27 +25,6 @@ PAGES_PART = 5
 
 SMALLEST, LARGEST = "2M", "259G"
 UNITS_OF_SIZE = {"": 1, "K": 1 << 10, "M": 1 << 20, "G": 1 << 30}
-
-
-@dataclass(frozen=True)
-class Geometry:
-    """The five numbers of a volume."""
-
-    page_size: int
-    pages: int
-    segs: int
-    seg_len: int
-    fan: int
-
-    @property
-    def bytes(self) -> int:
-        """The bytes of the volume."""
-        return (HEAD_PAGES + self.pages + self.segs * self.seg_len) * self.page_size
-
-    def words(self) -> list[str]:
-        """The five options of `exsm format`."""
-        return ["--page-size", str(self.page_size), "--pages", str(self.pages), "--segs",
-                str(self.segs), "--seg-len", str(self.seg_len), "--fan", str(self.fan)]
 
 
 def size_of(word: str) -> Optional[int]:
@@ -57,7 +35,7 @@ def size_of(word: str) -> Optional[int]:
 
 def geometry_of(size: int) -> Geometry:
     """The numbers of a volume of at most so many bytes: the shortest units that reach so far."""
-    room = size // PAGE_SIZE - HEAD_PAGES
+    room = size // PAGE_SIZE - CATALOG
     for seg_len in UNIT_PAGES:
         pages = min(room // PAGES_PART, UNITS_MOST)
         segs = (room - pages) // seg_len

@@ -20,12 +20,12 @@ import sys
 from dataclasses import dataclass
 from typing import Callable, Iterator, NamedTuple, Optional
 
+from exsm_geometry import CATALOG, LOG_PAGES, Geometry
+
 MAGIC = b"EXSMVOL1"
 FORMAT = 1
 PAGE_SIZES = (512, 1024, 2048, 4096, 8192)
 SUPERBLOCK = struct.Struct(">8s6I")
-LOG_PAGES = 256
-CATALOG = 1 + LOG_PAGES
 CATALOG_HEAD = struct.Struct(">BxH4xQQ8x")
 ENTRY = struct.Struct(">B32sBxxII4x")
 FILE_PAGE_HEAD = struct.Struct(">BxH4xI4x")
@@ -54,41 +54,6 @@ class BadVolume(Exception):
 
 class NoObject(Exception):
     """No object that can be read has the identifier."""
-
-
-@dataclass(frozen=True)
-class Geometry:
-    """The five numbers of a volume, and its areas."""
-
-    page_size: int
-    pages: int
-    segs: int
-    seg_len: int
-    fan: int
-
-    @property
-    def unit(self) -> int:
-        """The bytes of a full leaf."""
-        return self.seg_len * self.page_size
-
-    @property
-    def first_unit(self) -> int:
-        """The first page of the segment area."""
-        return CATALOG + self.pages
-
-    @property
-    def bytes(self) -> int:
-        """The bytes of the volume."""
-        return (CATALOG + self.pages + self.segs * self.seg_len) * self.page_size
-
-    def has_page(self, page: int) -> bool:
-        """Whether a page of the page area, but the catalog, has the number."""
-        return CATALOG < page < self.first_unit
-
-    def has_unit(self, page: int) -> bool:
-        """Whether a unit of the segment area begins at the page."""
-        place = page - self.first_unit
-        return 0 <= place < self.segs * self.seg_len and place % self.seg_len == 0
 
 
 class LogRecord(NamedTuple):
