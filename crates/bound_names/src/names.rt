@@ -59,7 +59,8 @@ impl NameMap {
     /// Binds a name in the open transaction. Where there is no memory, nothing changes.
     pub fn bind(&mut self, alloc: Global, name: &[u8], oid: Oid) -> Result<(), AllocError>
         requires { is_bound self.old name.now ≡ false }
-        ensures ok { OnOk result (self.new ≡ self.old ++ record { name = name.now; oid = oid; marked = true } ∷ []) }
+        ensures ok { OnOk result (self.new ≡ self.old
+            ++ record { name = name.now; oid = oid; marked = true } ∷ []) }
         ensures err { OnErr result (self.new ≡ self.old) }
     {
         let key = Vec::from_slice(alloc, name)?;

@@ -57,7 +57,8 @@ impl Group {
     ) -> Result<Group, AllocError>
         requires some { 0 < frames }
         requires few { frames ≤ 1024 }
-        ensures { IfOk result (λ g. g ≡ record { entries = []; cap = frames; page_size = page_size; policy = policy }) }
+        ensures { IfOk result
+            (λ g. g ≡ record { entries = []; cap = frames; page_size = page_size; policy = policy }) }
     {
         let cap = NonZeroUsize::new(frames as usize).unwrap();
         Ok(Group {
@@ -86,17 +87,22 @@ impl Group {
         page: PageNo,
     ) -> Result<&[u8], FetchFault>
         requires { (page.0 + 1) * self.old.page_size ≤ (D.outside disk.old).size }
-        ensures* after { sem 𝓛 (GroupRests self.entry (λ new. KeepsLending (D.outside disk.old).disk self.old new × MatchResult result
+        ensures* after { sem 𝓛 (GroupRests self.entry
+            (λ new. KeepsLending (D.outside disk.old).disk self.old new × MatchResult result
             (λ s. Brought (D.outside disk.old).disk self.old new page.0 s.now)
             (λ _. NotBrought self.old new page.0))) }
-        ensures bytes { IfOk result (λ s. (Lends (D.outside disk.old).disk self.old) → (held : List ℕ) → (D.outside disk.old).disk ≡ Some held → s.now ≡ page_of held self.old.page_size page.0) }
+        ensures bytes { IfOk result (λ s. (Lends (D.outside disk.old).disk self.old)
+            → (held : List ℕ) → (D.outside disk.old).disk ≡ Some held
+            → s.now ≡ page_of held self.old.page_size page.0) }
         ensures len { IfOk result (λ s. length s.now ≡ self.old.page_size) }
         ensures no_memory { IsSome (lookup (nat_eq page.0) self.old.entries) → IsOk result }
         ensures hit { IsSome (lookup (nat_eq page.0) self.old.entries) → disk.new ≡ disk.old }
-        ensures miss { IsAbsent self.old page.0 → OnOk result (MakesCalls 1 (D.outside disk.old) (D.outside disk.new)) }
+        ensures miss { IsAbsent self.old page.0
+            → OnOk result (MakesCalls 1 (D.outside disk.old) (D.outside disk.new)) }
         ensures at_most_once { MakesAtMost 1 (D.outside disk.old) (D.outside disk.new) }
         ensures only { ReadsOnly (D.outside disk.old) (D.outside disk.new) }
-        ensures cause { HasFetchCause (D.outside disk.old).disk_faults (D.outside disk.new).disk_faults result }
+        ensures cause { HasFetchCause (D.outside disk.old).disk_faults
+            (D.outside disk.new).disk_faults result }
     {
         self.bring(alloc, disk, page)?;
         Ok(self.frame(page))
@@ -110,15 +116,18 @@ impl Group {
         page: PageNo,
     ) -> Result<(), FetchFault>
         requires { (page.0 + 1) * self.old.page_size ≤ (D.outside disk.old).size }
-        ensures ok { OnOk result ((bytes : _) × Brought (D.outside disk.old).disk self.old self.new page.0 bytes) }
+        ensures ok { OnOk result ((bytes : _)
+            × Brought (D.outside disk.old).disk self.old self.new page.0 bytes) }
         ensures err { OnErr result (NotBrought self.old self.new page.0) }
         ensures keeps { KeepsLending (D.outside disk.old).disk self.old self.new }
         ensures no_memory { IsSome (lookup (nat_eq page.0) self.old.entries) → IsOk result }
         ensures hit { IsSome (lookup (nat_eq page.0) self.old.entries) → disk.new ≡ disk.old }
-        ensures miss { IsAbsent self.old page.0 → OnOk result (MakesCalls 1 (D.outside disk.old) (D.outside disk.new)) }
+        ensures miss { IsAbsent self.old page.0
+            → OnOk result (MakesCalls 1 (D.outside disk.old) (D.outside disk.new)) }
         ensures at_most_once { MakesAtMost 1 (D.outside disk.old) (D.outside disk.new) }
         ensures only { ReadsOnly (D.outside disk.old) (D.outside disk.new) }
-        ensures cause { HasFetchCause (D.outside disk.old).disk_faults (D.outside disk.new).disk_faults result }
+        ensures cause { HasFetchCause (D.outside disk.old).disk_faults
+            (D.outside disk.new).disk_faults result }
     {
         if self.touch(page) {
             Ok(())
@@ -141,9 +150,12 @@ impl Group {
     pub fn put(&mut self, page: PageNo, image: Image) -> Result<(), AllocError>
         requires absent { IsAbsent self.old page.0 }
         requires whole { length image ≡ self.old.page_size }
-        ensures ok { OnOk result ((held : Option (List ℕ)) → IsHeld held self.old.page_size page.0 image → Brought held self.old self.new page.0 image) }
+        ensures ok { OnOk result ((held : Option (List ℕ))
+            → IsHeld held self.old.page_size page.0 image
+            → Brought held self.old self.new page.0 image) }
         ensures err { OnErr result (NotBrought self.old self.new page.0) }
-        ensures keeps { (held : Option (List ℕ)) → IsHeld held self.old.page_size page.0 image → KeepsLending held self.old self.new }
+        ensures keeps { (held : Option (List ℕ)) → IsHeld held self.old.page_size page.0 image
+            → KeepsLending held self.old self.new }
     {
         self.make_room();
         self.put_first(page, image)
@@ -181,11 +193,17 @@ impl Group {
         ensures once { OnOk result (MakesCalls 1 (D.outside disk.old) (D.outside disk.new)) }
         ensures at_most_once { MakesAtMost 1 (D.outside disk.old) (D.outside disk.new) }
         ensures ok { OnOk result ((bytes : _)
-            × ((self.new ≡ record self.old { entries = (page.0, bytes) ∷ with_room self.old.policy self.old.cap self.old.entries })
-            × ((held : List ℕ) → (D.outside disk.old).disk ≡ Some held → bytes ≡ page_of held self.old.page_size page.0))) }
-        ensures err { OnErr result (self.new ≡ record self.old { entries = with_room self.old.policy self.old.cap self.old.entries }) }
+            × ((self.new ≡ record self.old {
+              entries = (page.0, bytes)
+                  ∷ with_room self.old.policy self.old.cap self.old.entries;
+            })
+            × ((held : List ℕ) → (D.outside disk.old).disk ≡ Some held
+            → bytes ≡ page_of held self.old.page_size page.0))) }
+        ensures err { OnErr result (self.new
+            ≡ record self.old { entries = with_room self.old.policy self.old.cap self.old.entries }) }
         ensures only { ReadsOnly (D.outside disk.old) (D.outside disk.new) }
-        ensures cause { HasFetchCause (D.outside disk.old).disk_faults (D.outside disk.new).disk_faults result }
+        ensures cause { HasFetchCause (D.outside disk.old).disk_faults
+            (D.outside disk.new).disk_faults result }
     {
         self.make_room();
         let size = self.page_size();
@@ -203,8 +221,12 @@ impl Group {
 
     // Moves a page to the front, and returns whether it has a frame.
     fn touch(&mut self, page: PageNo) -> bool
-        ensures hit { OnTrue result ((bytes : _) × ((lookup (nat_eq page.0) self.old.entries ≡ Some bytes)
-            × (self.new ≡ record self.old { entries = (page.0, bytes) ∷ without page.0 self.old.entries }))) }
+        ensures hit { OnTrue result ((bytes : _)
+            × ((lookup (nat_eq page.0) self.old.entries ≡ Some bytes)
+            × (self.new ≡ record self.old {
+              entries = (page.0, bytes)
+                  ∷ without page.0 self.old.entries;
+            }))) }
         ensures absent { OnFalse result (IsAbsent self.old page.0) }
         ensures stays { OnFalse result (self.new ≡ self.old) }
     {
@@ -217,7 +239,10 @@ impl Group {
         requires absent { IsAbsent self.old page.0 }
         requires room { length self.old.entries < self.old.cap }
         requires whole { length image ≡ self.old.page_size }
-        ensures ok { OnOk result (self.new ≡ record self.old { entries = (page.0, image) ∷ self.old.entries }) }
+        ensures ok { OnOk result (self.new ≡ record self.old {
+          entries = (page.0, image)
+              ∷ self.old.entries;
+        }) }
         ensures err { OnErr result (self.new ≡ self.old) }
     {
         self.cache.put(page.0, image)?;

@@ -94,16 +94,20 @@ impl Groups {
         page: PageNo,
     ) -> Result<(), FetchFault>
         requires index { index < length self.old }
-        requires range { IfSome (slice_get self.old index) (λ (f : Frames). (page.0 + 1) * f.page_size ≤ (D.outside disk.old).size) }
-        ensures ok { OnOk result (GroupBrought (D.outside disk.old).disk self.old self.new index page.0) }
+        requires range { IfSome (slice_get self.old index) (λ (f : Frames). (page.0
+            + 1) * f.page_size ≤ (D.outside disk.old).size) }
+        ensures ok { OnOk result
+            (GroupBrought (D.outside disk.old).disk self.old self.new index page.0) }
         ensures err { OnErr result (GroupNotBrought self.old self.new index page.0) }
         ensures keeps { GroupsKeep (D.outside disk.old).disk self.old self.new }
         ensures no_memory { HasFrame self.old index page.0 → IsOk result }
         ensures hit { HasFrame self.old index page.0 → disk.new ≡ disk.old }
-        ensures miss { LacksFrame self.old index page.0 → OnOk result (MakesCalls 1 (D.outside disk.old) (D.outside disk.new)) }
+        ensures miss { LacksFrame self.old index page.0
+            → OnOk result (MakesCalls 1 (D.outside disk.old) (D.outside disk.new)) }
         ensures at_most_once { MakesAtMost 1 (D.outside disk.old) (D.outside disk.new) }
         ensures only { ReadsOnly (D.outside disk.old) (D.outside disk.new) }
-        ensures cause { HasFetchCause (D.outside disk.old).disk_faults (D.outside disk.new).disk_faults result }
+        ensures cause { HasFetchCause (D.outside disk.old).disk_faults
+            (D.outside disk.new).disk_faults result }
     {
         self.at(index).bring(alloc, disk, page)
     }
@@ -113,11 +117,14 @@ impl Groups {
     pub fn put(&mut self, index: u32, page: PageNo, image: Image) -> Result<(), AllocError>
         requires index { index < length self.old }
         requires absent { LacksFrame self.old index page.0 }
-        requires whole { IfSome (slice_get self.old index) (λ (f : Frames). length image ≡ f.page_size) }
-        ensures ok { OnOk result ((held : Option (List ℕ)) (size : ℕ) → AreOfSize size self.old → IsHeld held size page.0 image
+        requires whole { IfSome (slice_get self.old index) (λ (f : Frames). length image
+            ≡ f.page_size) }
+        ensures ok { OnOk result ((held : Option (List ℕ)) (size : ℕ) → AreOfSize size self.old
+            → IsHeld held size page.0 image
             → GroupBrought held self.old self.new index page.0) }
         ensures err { OnErr result (GroupNotBrought self.old self.new index page.0) }
-        ensures keeps { (held : Option (List ℕ)) (size : ℕ) → AreOfSize size self.old → IsHeld held size page.0 image → GroupsKeep held self.old self.new }
+        ensures keeps { (held : Option (List ℕ)) (size : ℕ) → AreOfSize size self.old
+            → IsHeld held size page.0 image → GroupsKeep held self.old self.new }
     {
         self.at(index).put(page, image)
     }

@@ -21,7 +21,8 @@ pub struct StatusLine(pub Status);
 impl StatusLine {
     /// The line, or none where all was done.
     pub fn of(status: Status) -> Option<StatusLine>
-        ensures { MatchOption result (status ≡ Status.Done) (λ line. line.0 ≡ status × status ≢ Status.Done) }
+        ensures { MatchOption result (status ≡ Status.Done) (λ line. line.0 ≡ status
+            × status ≢ Status.Done) }
     {
         match status {
             Status::Done => None,

@@ -57,7 +57,8 @@ pub struct Sizes {
 
 /// The misuse that a fault of these sizes is.
 pub fn misuse_of_sizes<'a>(fault: GeometryFault, sizes: Sizes) -> Misuse<'a>
-    requires { first_fault sizes.page_size sizes.pages sizes.segs sizes.seg_len sizes.fan ≡ Some fault }
+    requires { first_fault sizes.page_size sizes.pages sizes.segs sizes.seg_len sizes.fan
+        ≡ Some fault }
 {
     let number = match fault {
         GeometryFault::PageSize => sizes.page_size,
@@ -70,7 +71,8 @@ pub fn misuse_of_sizes<'a>(fault: GeometryFault, sizes: Sizes) -> Misuse<'a>
 }
 
 fn fan_misuse<'a>(sizes: Sizes) -> Misuse<'a>
-    requires { first_fault sizes.page_size sizes.pages sizes.segs sizes.seg_len sizes.fan ≡ Some GeometryFault.Fan }
+    requires { first_fault sizes.page_size sizes.pages sizes.segs sizes.seg_len sizes.fan
+        ≡ Some GeometryFault.Fan }
 {
     Misuse::FanOutOfLimits {
         number: sizes.fan,

@@ -37,7 +37,8 @@ const DIGITS_MOST: usize = 20;
 
 /// The file that the words speak of, or none where they are no command line.
 pub fn volume_of(_alloc: Global, words: &[String]) -> Result<Option<Target>, AllocError>
-    ensures { IfOk result (λ o. MatchOption o (IsOutside (texts words.now)) (λ t. IsTarget (texts words.now) t)) }
+    ensures { IfOk result (λ o. MatchOption o (IsOutside (texts words.now))
+        (λ t. IsTarget (texts words.now) t)) }
 {
     Ok(match invocation_of(words) {
         Invocation::Outside => None,
@@ -65,7 +66,8 @@ pub struct NamedFile<'a> {
 pub fn file_of(words: &[String]) -> Option<NamedFile<'_>>
     ensures none { IfNone result (IsOutside (texts words.now)) }
     ensures path { IfSome result (λ file. NamesPath (texts words.now) file.path.now) }
-    ensures format { IfSome result (λ file. (g : Geometry) → AsksFormat (texts words.now) g → file.make ≡ Some (volume_bytes g)) }
+    ensures format { IfSome result (λ file. (g : Geometry) → AsksFormat (texts words.now) g
+        → file.make ≡ Some (volume_bytes g)) }
     ensures run { IfSome result (λ file. AsksRun (texts words.now) → file.make ≡ None) }
 {
     let make = match invocation_of(words) {
@@ -171,7 +173,8 @@ fn format_words(words: &[String]) -> Result<Geometry, Misuse<'_>>
 // The words behind one that may name a volume.
 fn behind_volume(words: &[String]) -> Result<&[String], Misuse<'_>>
     ensures volume { IfOk result (λ rest. BeginsWithVolume (texts words.now) (texts rest.now)) }
-    ensures none { OnErr result ((rest : List (List ℕ)) → BeginsWithVolume (texts words.now) rest → ⊥) }
+    ensures none { OnErr result ((rest : List (List ℕ)) → BeginsWithVolume (texts words.now) rest
+        → ⊥) }
 {
     match words.split_first() {
         Some((volume, words)) if is_volume(volume.as_str()) => Ok(words),
@@ -181,8 +184,11 @@ fn behind_volume(words: &[String]) -> Result<&[String], Misuse<'_>>
 
 // The number of the option that the words begin with, and the words behind it.
 fn option_of<'a>(words: &'a [String], name: &'a str) -> Result<(u32, &'a [String]), Misuse<'a>>
-    ensures read { IfOk result (λ read. BeginsWithOption (texts words.entry.now) name.entry.now read.0 (texts read.1.now)) }
-    ensures none { OnErr result ((n : ℕ) (rest : List (List ℕ)) → n < 2 ^ 32 → BeginsWithOption (texts words.entry.now) name.entry.now n rest → ⊥) }
+    ensures read { IfOk result
+        (λ read. BeginsWithOption (texts words.entry.now) name.entry.now read.0
+        (texts read.1.now)) }
+    ensures none { OnErr result ((n : ℕ) (rest : List (List ℕ)) → n < 2 ^ 32
+        → BeginsWithOption (texts words.entry.now) name.entry.now n rest → ⊥) }
 {
     let Some((first, words)) = words.split_first() else {
         return Err(Misuse::NoOption {
@@ -213,7 +219,8 @@ fn option_of<'a>(words: &'a [String], name: &'a str) -> Result<(u32, &'a [String
 
 // The number that the word writes.
 fn number_of(word: &str) -> Option<u32>
-    ensures { MatchOption result ((n : ℕ) → n < 2 ^ 32 → Writes word.now n → ⊥) (λ n. Writes word.now n) }
+    ensures { MatchOption result ((n : ℕ) → n < 2 ^ 32 → Writes word.now n
+        → ⊥) (λ n. Writes word.now n) }
 {
     match word.as_bytes() {
         [b'+', ..] => None,

@@ -25,16 +25,20 @@ pub fn checkpoint<D: Disk>(
     requires room { volume_bytes meta.old.geometry ≤ (D.outside disk.old).size }
     requires sizes { All (λ (f : Frames). f.page_size ≡ meta.old.geometry.page_size) groups.old }
     ensures only { DiskOnly (D.outside disk.old) (D.outside disk.new) }
-    ensures cause { OnErr result (Rose (D.outside disk.old).disk_faults (D.outside disk.new).disk_faults) }
+    ensures cause { OnErr result (Rose (D.outside disk.old).disk_faults
+        (D.outside disk.new).disk_faults) }
 
     // Where no record counts nothing happens; else after Ok none counts.
     ensures no_call { log.old.count ≡ 0 → disk.new ≡ disk.old }
     ensures no_fault { log.old.count ≡ 0 → IsOk result }
     ensures none_counts { OnOk result (log.new.count ≡ 0) }
-    ensures closed { OnOk result (0 < log.old.count → log.new ≡ record log.old { end = 0; count = 0 }) }
+    ensures closed { OnOk result (0 < log.old.count
+        → log.new ≡ record log.old { end = 0; count = 0 }) }
     ensures emptied { OnOk result (0 < log.old.count → meta.new.committed ≡ []) }
-    ensures forgotten { OnOk result (0 < log.old.count → groups.new ≡ homes_forgotten meta.old.committed groups.old) }
-    ensures nothing { log.old.count ≡ 0 → (log.new ≡ log.old) × (meta.new ≡ meta.old) × (groups.new ≡ groups.old) }
+    ensures forgotten { OnOk result (0 < log.old.count
+        → groups.new ≡ homes_forgotten meta.old.committed groups.old) }
+    ensures nothing { log.old.count ≡ 0 → (log.new ≡ log.old) × (meta.new ≡ meta.old)
+        × (groups.new ≡ groups.old) }
 
     // The working images stay.
     ensures working { meta.new.working ≡ meta.old.working }
@@ -42,20 +46,24 @@ pub fn checkpoint<D: Disk>(
     ensures log_geometry { log.new.geometry ≡ log.old.geometry }
 
     // Frames behind the log still lend what the disk holds, and each committed image has its place in the log.
-    ensures lends { IsTrue (D.outside disk.old).honest → AreBehindLog groups.old → All (Lends (D.outside disk.old).disk) groups.old → All (Lends (D.outside disk.new).disk) groups.new }
+    ensures lends { IsTrue (D.outside disk.old).honest → AreBehindLog groups.old
+        → All (Lends (D.outside disk.old).disk) groups.old
+        → All (Lends (D.outside disk.new).disk) groups.new }
     ensures behind { AreBehindLog groups.old → AreBehindLog groups.new }
     ensures sizes { All (λ (f : Frames). f.page_size ≡ meta.old.geometry.page_size) groups.new }
     ensures len { length groups.new ≡ length groups.old }
     ensures logged { IsLogged log.old meta.old → IsLogged log.new meta.new }
 
     // The volume is what it was, no record counts, and nothing is pending that matters.
-    ensures done { OnOk result ((d : Decoded) (held : List ℕ) → IsTrue (D.outside disk.old).honest → (D.outside disk.old).disk ≡ Some held
+    ensures done { OnOk result ((d : Decoded) (held : List ℕ) → IsTrue (D.outside disk.old).honest
+        → (D.outside disk.old).disk ≡ Some held
         → Committed (D.outside disk.old).images d held log.old meta.old.committed
         → (later : List ℕ) × ((D.outside disk.new).disk ≡ Some later)
         × Checkpointed d held (D.outside disk.new).images later log.new meta.new.committed) }
 
     // A crash at any moment leaves what stands for the committed table.
-    ensures any_moment { (d : Decoded) (held : List ℕ) → IsTrue (D.outside disk.old).honest → (D.outside disk.old).disk ≡ Some held
+    ensures any_moment { (d : Decoded) (held : List ℕ) → IsTrue (D.outside disk.old).honest
+        → (D.outside disk.old).disk ≡ Some held
         → Committed (D.outside disk.old).images d held log.old meta.old.committed
         → Leaves (D.outside disk.old) (D.outside disk.new) (StandsForVolume d held) }
 {

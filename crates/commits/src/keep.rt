@@ -51,7 +51,8 @@ pub fn commit<D: Disk>(
     requires few_pages { length meta.old.working ≤ 128 }
     requires catalog { HasCatalog meta.old.working }
     ensures only { DiskOnly (D.outside disk.old) (D.outside disk.new) }
-    ensures disk { result ≡ Err CommitFault.Disk → Rose (D.outside disk.old).disk_faults (D.outside disk.new).disk_faults }
+    ensures disk { result ≡ Err CommitFault.Disk
+        → Rose (D.outside disk.old).disk_faults (D.outside disk.new).disk_faults }
 
     // Without memory nothing was done.
     ensures memory { result ≡ Err CommitFault.Memory → disk.new ≡ disk.old }
@@ -65,24 +66,32 @@ pub fn commit<D: Disk>(
     ensures log_geometry { log.new.geometry ≡ log.old.geometry }
 
     // Frames behind the log still lend what the disk holds, and each committed image has its place in the log.
-    ensures lends { IsTrue (D.outside disk.old).honest → AreBehindLog groups.old → All (Lends (D.outside disk.old).disk) groups.old → All (Lends (D.outside disk.new).disk) groups.new }
+    ensures lends { IsTrue (D.outside disk.old).honest → AreBehindLog groups.old
+        → All (Lends (D.outside disk.old).disk) groups.old
+        → All (Lends (D.outside disk.new).disk) groups.new }
     ensures behind { AreBehindLog groups.old → AreBehindLog groups.new }
     ensures sizes { All (λ (f : Frames). f.page_size ≡ meta.old.geometry.page_size) groups.new }
     ensures len { length groups.new ≡ length groups.old }
     ensures logged { IsLogged log.new meta.new }
 
     // The working volume is committed.
-    ensures done { OnOk result ((d : Decoded) (held : List ℕ) (working : Volume) → IsTrue (D.outside disk.old).honest → (D.outside disk.old).disk ≡ Some held
-        → Committed (D.outside disk.old).images d held log.old meta.old.committed → IsOverlayOf d.volume meta.old.committed
+    ensures done { OnOk result ((d : Decoded) (held : List ℕ) (working : Volume)
+        → IsTrue (D.outside disk.old).honest → (D.outside disk.old).disk ≡ Some held
+        → Committed (D.outside disk.old).images d held log.old meta.old.committed
+        → IsOverlayOf d.volume meta.old.committed
         → MayCommit d held meta.old.working txn working
         → (later : List ℕ) × ((D.outside disk.new).disk ≡ Some later)
-        × CommittedAs d held meta.old.working txn notes.now working (D.outside disk.new).images later log.new meta.new.committed) }
+        × CommittedAs d held meta.old.working txn notes.now working
+        (D.outside disk.new).images later log.new meta.new.committed) }
 
     // A crash at any moment leaves what stands for the committed table or for the working one.
-    ensures any_moment { (d : Decoded) (held : List ℕ) (working : Volume) → IsTrue (D.outside disk.old).honest → (D.outside disk.old).disk ≡ Some held
-        → Committed (D.outside disk.old).images d held log.old meta.old.committed → IsOverlayOf d.volume meta.old.committed
+    ensures any_moment { (d : Decoded) (held : List ℕ) (working : Volume)
+        → IsTrue (D.outside disk.old).honest → (D.outside disk.old).disk ≡ Some held
+        → Committed (D.outside disk.old).images d held log.old meta.old.committed
+        → IsOverlayOf d.volume meta.old.committed
         → MayCommit d held meta.old.working txn working
-        → Leaves (D.outside disk.old) (D.outside disk.new) (StandsForEither d held meta.old.working working) }
+        → Leaves (D.outside disk.old) (D.outside disk.new)
+        (StandsForEither d held meta.old.working working) }
 {
     let Ok(item) = record_of(alloc, meta, notes, txn) else {
         return Err(CommitFault::Memory);
@@ -110,21 +119,27 @@ fn make_room<D: Disk>(
     requires logged { IsLogged log.old meta.old }
     requires valid { IsLogRecord log.old.geometry item.now }
     ensures only { DiskOnly (D.outside disk.old) (D.outside disk.new) }
-    ensures cause { OnErr result (Rose (D.outside disk.old).disk_faults (D.outside disk.new).disk_faults) }
+    ensures cause { OnErr result (Rose (D.outside disk.old).disk_faults
+        (D.outside disk.new).disk_faults) }
     ensures fits { OnOk result (log.new.end + record_len item.now < log_size log.new.geometry) }
     ensures working { meta.new.working ≡ meta.old.working }
     ensures same_geometry { meta.new.geometry ≡ meta.old.geometry }
     ensures log_geometry { log.new.geometry ≡ log.old.geometry }
-    ensures lends { IsTrue (D.outside disk.old).honest → AreBehindLog groups.old → All (Lends (D.outside disk.old).disk) groups.old → All (Lends (D.outside disk.new).disk) groups.new }
+    ensures lends { IsTrue (D.outside disk.old).honest → AreBehindLog groups.old
+        → All (Lends (D.outside disk.old).disk) groups.old
+        → All (Lends (D.outside disk.new).disk) groups.new }
     ensures behind { AreBehindLog groups.old → AreBehindLog groups.new }
     ensures sizes { All (λ (f : Frames). f.page_size ≡ meta.old.geometry.page_size) groups.new }
     ensures len { length groups.new ≡ length groups.old }
     ensures logged { IsLogged log.new meta.new }
-    ensures done { OnOk result ((d : Decoded) (held : List ℕ) → IsTrue (D.outside disk.old).honest → (D.outside disk.old).disk ≡ Some held
+    ensures done { OnOk result ((d : Decoded) (held : List ℕ) → IsTrue (D.outside disk.old).honest
+        → (D.outside disk.old).disk ≡ Some held
         → Committed (D.outside disk.old).images d held log.old meta.old.committed
         → (later : List ℕ) × ((D.outside disk.new).disk ≡ Some later)
-        × HasRoom d held meta.old.committed (D.outside disk.new).images later log.new meta.new.committed) }
-    ensures any_moment { (d : Decoded) (held : List ℕ) → IsTrue (D.outside disk.old).honest → (D.outside disk.old).disk ≡ Some held
+        × HasRoom d held meta.old.committed
+        (D.outside disk.new).images later log.new meta.new.committed) }
+    ensures any_moment { (d : Decoded) (held : List ℕ) → IsTrue (D.outside disk.old).honest
+        → (D.outside disk.old).disk ≡ Some held
         → Committed (D.outside disk.old).images d held log.old meta.old.committed
         → Leaves (D.outside disk.old) (D.outside disk.new) (StandsForVolume d held) }
 {
@@ -148,21 +163,29 @@ fn add_record<D: Disk>(
     requires valid { IsLogRecord log.old.geometry item.now }
     requires rising { IsRising meta.old.working }
     requires same { item.now ≡ record_of item.now.txn item.now.notes meta.old.working }
-    ensures changes { ChangesWithin (BeforeCatalog meta.old.geometry.page_size) (D.outside disk.old) (D.outside disk.new) }
-    ensures cause { OnErr result (Rose (D.outside disk.old).disk_faults (D.outside disk.new).disk_faults) }
+    ensures changes { ChangesWithin (BeforeCatalog meta.old.geometry.page_size) (D.outside disk.old)
+        (D.outside disk.new) }
+    ensures cause { OnErr result (Rose (D.outside disk.old).disk_faults
+        (D.outside disk.new).disk_faults) }
     ensures working { OnOk result (meta.new.working ≡ []) }
     ensures working_stays { OnErr result (meta.new.working ≡ meta.old.working) }
     ensures same_geometry { meta.new.geometry ≡ meta.old.geometry }
     ensures log_geometry { log.new.geometry ≡ log.old.geometry }
     ensures logged { IsLogged log.new meta.new }
-    ensures done { OnOk result ((d : Decoded) (held : List ℕ) (working : Volume) → IsTrue (D.outside disk.old).honest → (D.outside disk.old).disk ≡ Some held
-        → Committed (D.outside disk.old).images d held log.old meta.old.committed → IsOverlayOf d.volume meta.old.committed
+    ensures done { OnOk result ((d : Decoded) (held : List ℕ) (working : Volume)
+        → IsTrue (D.outside disk.old).honest → (D.outside disk.old).disk ≡ Some held
+        → Committed (D.outside disk.old).images d held log.old meta.old.committed
+        → IsOverlayOf d.volume meta.old.committed
         → MayCommit d held meta.old.working item.now.txn working
         → (later : List ℕ) × ((D.outside disk.new).disk ≡ Some later)
-        × CommittedAs d held meta.old.working item.now.txn item.now.notes working (D.outside disk.new).images later log.new meta.new.committed) }
-    ensures any_moment { (d : Decoded) (held : List ℕ) (working : Volume) → IsTrue (D.outside disk.old).honest → (D.outside disk.old).disk ≡ Some held
-        → Committed (D.outside disk.old).images d held log.old meta.old.committed → MayCommit d held meta.old.working item.now.txn working
-        → Leaves (D.outside disk.old) (D.outside disk.new) (StandsForEither d held meta.old.working working) }
+        × CommittedAs d held meta.old.working item.now.txn item.now.notes working
+        (D.outside disk.new).images later log.new meta.new.committed) }
+    ensures any_moment { (d : Decoded) (held : List ℕ) (working : Volume)
+        → IsTrue (D.outside disk.old).honest → (D.outside disk.old).disk ≡ Some held
+        → Committed (D.outside disk.old).images d held log.old meta.old.committed
+        → MayCommit d held meta.old.working item.now.txn working
+        → Leaves (D.outside disk.old) (D.outside disk.new)
+        (StandsForEither d held meta.old.working working) }
 {
     log.append(disk, item)?;
     meta.keep();

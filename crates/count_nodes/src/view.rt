@@ -27,7 +27,8 @@ impl<'a> NodeView<'a> {
         requires { fan ≤ 340 }
         ensures found { IfSome result (λ node. PairsOf fan page.now node.level node.pairs) }
         ensures view { IfSome result (λ node. node ≡ node_on page.now) }
-        ensures none { IfNone result ((level : ℕ) (pairs : List Pair) → PairsOf fan page.now level pairs → ⊥) }
+        ensures none { IfNone result ((level : ℕ) (pairs : List Pair)
+            → PairsOf fan page.now level pairs → ⊥) }
     {
         if !is_node(page, fan) {
             return None;

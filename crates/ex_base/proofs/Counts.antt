@@ -1,7 +1,7 @@
 -- How often a number stands in a list, and lists whose numbers differ.
-use Rattle.std.proofs.Common.{◌≡◌, ◌≢◌, ◌≤◌, ◌+◌, ◌⊎◌, inl, inr, ℕ, zero, suc, true, false, List, [], ◌∷◌, ◌++◌, sum_by, refl, sym, subst, ◌∙◌, arith, true≢false, eqb, eq-eqb, eqb-true, IsPermutation}
+use Rattle.std.proofs.Common.{◌≡◌, ◌≢◌, ◌≤◌, ◌<◌, ◌+◌, ◌⊎◌, inl, inr, ℕ, zero, suc, true, false, List, [], ◌∷◌, ◌++◌, sum_by, length, refl, sym, subst, ◌∙◌, arith, true≢false, eqb, eq-eqb, eqb-true, IsPermutation}
 use Rattle.std.specs.Prelude.{Contains}
-use Rattle.std.specs.List.{flat_map}
+use Rattle.std.specs.List.{flat_map, AllByRecursion}
 use Rattle.std.proofs.lemmas.List.Recursion.{is_sum_by}
 use Rattle.std.proofs.lemmas.List.Sums.{sum_by-cons}
 use Rattle.std.proofs.lemmas.List.Sorted.{sum_by-IsPermutation}
@@ -45,6 +45,43 @@ apart_of p q xs none same = absurd (omega (arith, times_here p q xs same, none))
 pub times_flat : {A : Type 0} (u : ℕ) (f : A → List ℕ) (xs : List A) → times u (flat_map f xs) ≡ sum_by (λ x. times u (f x)) xs
 times_flat u f [] = refl
 times_flat u f (x ∷ xs) = omega (arith, times-append u (f x) (flat_map f xs), times_flat u f xs, sum_by-cons (λ y. times u (f y)) x xs)
+
+-- ---- how many numbers a list has
+
+pub times_most : (p : ℕ) (xs : List ℕ) → times p xs ≤ length xs
+times_most p [] = omega arith
+times_most p (x ∷ xs) = elim (same_or_not p x) [
+  | inl same ↦ omega (arith, times_here p x xs same, times_most p xs)
+  | inr differ ↦ omega (arith, times_apart p x xs differ, times_most p xs)
+]
+
+-- how often the n numbers from a first one on stand in a list
+abbrev times_from : ℕ → ℕ → List ℕ → ℕ
+times_from first zero xs = 0
+times_from first (suc n) xs = times (first + n) xs + times_from first n xs
+
+from_more : (first n x : ℕ) (xs : List ℕ) → times_from first n xs ≤ times_from first n (x ∷ xs)
+from_more first zero x xs = omega arith
+from_more first (suc n) x xs = omega (arith, from_more first n x xs)
+
+from_here : (first n x : ℕ) (xs : List ℕ) → first ≤ x → x < first + n → times_from first n xs + 1 ≤ times_from first n (x ∷ xs)
+from_here first zero x xs low high = absurd (omega (arith, low, high))
+from_here first (suc n) x xs low high = elim (same_or_not (first + n) x) [
+  | inl same ↦ omega (arith, times_here (first + n) x xs same, from_more first n x xs)
+  | inr differ ↦ omega (arith, from_here first n x xs low (omega (arith, high, differ)))
+]
+
+from_all : (first n : ℕ) (xs : List ℕ) → AllByRecursion (λ x. (first ≤ x) × (x < first + n)) xs → length xs ≤ times_from first n xs
+from_all first n [] inside = omega arith
+from_all first n (x ∷ xs) inside = omega (arith, from_here first n x xs inside.0.0 inside.0.1, from_all first n xs inside.1)
+
+from_once : (first n : ℕ) (xs : List ℕ) → ((x : ℕ) → times x xs ≤ 1) → times_from first n xs ≤ n
+from_once first zero xs once = omega arith
+from_once first (suc n) xs once = omega (arith, once (first + n), from_once first n xs once)
+
+-- numbers of a range, none of them twice, are no more than the range has
+pub few_once : (first n : ℕ) (xs : List ℕ) → AllByRecursion (λ x. (first ≤ x) × (x < first + n)) xs → ((x : ℕ) → times x xs ≤ 1) → length xs ≤ n
+few_once first n xs inside once = omega (arith, from_all first n xs inside, from_once first n xs once)
 
 -- ---- a number stands in the list exactly where it stands there once or more
 

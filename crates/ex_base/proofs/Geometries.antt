@@ -8,7 +8,7 @@ use Rattle.ex_base.specs.declared.geometry.Geometry.{Geometry}
 use Rattle.ex_base.specs.declared.names.Area.{Area}
 use Rattle.ex_base.specs.declared.names.Area.TheVariants.{Page, Segment}
 use Rattle.ex_base.specs.Limits.{is_page_size, fan_most}
-use Rattle.ex_base.specs.Sizes.{leaf_bytes, least_page}
+use Rattle.ex_base.specs.Sizes.{leaf_bytes, least_page, most_page}
 
 -- two geometries of the same numbers are one
 pub same_numbers : (g h : Geometry) → g.page_size ≡ h.page_size → g.pages ≡ h.pages → g.segs ≡ h.segs → g.seg_len ≡ h.seg_len → g.fan ≡ h.fan → g ≡ h
@@ -31,6 +31,10 @@ same_numbers g h a b c d e = λ i. record {
 -- a leaf has room for 512 bytes at least
 pub leaf_some : (geo : Geometry) → 512 ≤ leaf_bytes geo
 leaf_some geo = omega (arith, mul-le-mul {n₁ = 1} {m₁ = 512} {n₂ = geo.seg_len} {m₂ = geo.page_size} (omega (arith, geo.some_length)) (least_page geo))
+
+-- and for 16 pages of 8192 bytes at most
+pub leaf_most : (geo : Geometry) → leaf_bytes geo ≤ 131072
+leaf_most geo = omega (arith, mul-le-mul {n₁ = geo.seg_len} {m₁ = geo.page_size} {n₂ = 16} {m₂ = 8192} geo.short (most_page geo))
 
 -- a page fits a leaf
 pub page_le : (geo : Geometry) → geo.page_size ≤ leaf_bytes geo

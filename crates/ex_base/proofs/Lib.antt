@@ -7,6 +7,8 @@ pub mod Geometries
 pub mod Keeping
 pub mod Lists
 pub mod Members
+pub mod NoteKinds
+pub mod NeedLaws
 pub mod NumberRows
 pub mod Options
 pub mod Places

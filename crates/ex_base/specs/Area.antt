@@ -4,6 +4,7 @@ use Rattle.ex_base.specs.declared.geometry.Geometry.{Geometry}
 use Rattle.ex_base.specs.declared.names.Area.{Area}
 use Rattle.ex_base.specs.declared.names.Area.TheVariants.{Page, Segment}
 use Rattle.ex_base.specs.Bytes.{part}
+use Rattle.ex_base.specs.Limits.{log_pages}
 use Rattle.ex_base.specs.Sizes.{leaf_bytes}
 
 -- the number of the catalog page
@@ -45,7 +46,7 @@ leaf_at g disk page = part disk (page * g.page_size) (leaf_bytes g)
 
 -- the bytes of the log
 abbrev pub log_size : Geometry → ℕ
-log_size g = 256 * g.page_size
+log_size g = log_pages * g.page_size
 
 -- the string of the log
 abbrev pub log_at : Geometry → List ℕ → List ℕ

@@ -7,6 +7,7 @@ pub mod Faults
 pub mod Fields
 pub mod Limits
 pub mod Needs
+pub mod NoteKinds
 pub mod Order
 pub mod Ports
 pub mod Seen

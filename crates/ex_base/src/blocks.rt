@@ -28,7 +28,8 @@ pub trait ReadBlocks: Ground {
         ensures len { IfOk result (λ s. length s.now ≡ (Self.geometry self.old).page_size) }
         ensures no_damage { IfErr result (λ fault. IsDamage fault → ⊥) }
         ensures* after { sem 𝓛 (Rests Self.row self.entry (λ new.
-            Keeps Self.Ground self.old new × HasCause (Self.faults self.old) (Self.faults new) result)) };
+            Keeps Self.Ground self.old new
+            × HasCause (Self.faults self.old) (Self.faults new) result)) };
 
     /// Reads a part of a leaf, from byte `from` of it on.
     fn leaf_into(
@@ -41,7 +42,8 @@ pub trait ReadBlocks: Ground {
         requires ready { Self.ready self.old }
         requires page { NamesLeaf (Self.geometry self.old) page.0 }
         requires range { from + length out.old ≤ leaf_bytes (Self.geometry self.old) }
-        ensures bytes { OnOk result (Self.tells self.old → out.new ≡ bytes_at (Self.unit self.old page.0) from (length out.old)) }
+        ensures bytes { OnOk result (Self.tells self.old
+            → out.new ≡ bytes_at (Self.unit self.old page.0) from (length out.old)) }
         ensures no_damage { IfErr result (λ fault. IsDamage fault → ⊥) }
         ensures kept { Keeps Self.Ground self.old self.new }
         ensures cause { HasCause (Self.faults self.old) (Self.faults self.new) result };
@@ -59,10 +61,14 @@ pub trait Blocks: ReadBlocks {
         requires ready { Self.ready self.old }
         requires free { 1 ≤ Self.free self.old Page }
         requires page { length bytes.now ≡ (Self.geometry self.old).page_size }
-        ensures taken { IfOk result (λ page. TakesUnit Self.Ground self.old self.new Page page.0 bytes.now) }
-        ensures whole { IfOk result (λ page. Self.tells self.old → Self.unit self.new page.0 ≡ bytes.now) }
-        ensures lowest { IfOk result (λ page. IsLowest (Self.geometry self.old) (Self.used self.old) Page page.0) }
-        ensures references { OnOk result (CountsNames Self.Ground self.old self.new (Self.names (Self.geometry self.old) bytes.now)) }
+        ensures taken { IfOk result
+            (λ page. TakesUnit Self.Ground self.old self.new Page page.0 bytes.now) }
+        ensures whole { IfOk result (λ page. Self.tells self.old
+            → Self.unit self.new page.0 ≡ bytes.now) }
+        ensures lowest { IfOk result
+            (λ page. IsLowest (Self.geometry self.old) (Self.used self.old) Page page.0) }
+        ensures references { OnOk result (CountsNames Self.Ground self.old self.new
+            (Self.names (Self.geometry self.old) bytes.now)) }
         ensures pages { OnOk result (Self.free self.new Page + 1 ≡ Self.free self.old Page) }
         ensures leaves { OnOk result (Self.free self.new Segment ≡ Self.free self.old Segment) }
         ensures no_damage { IfErr result (λ fault. IsDamage fault → ⊥) }
@@ -76,8 +82,10 @@ pub trait Blocks: ReadBlocks {
         requires free { 1 ≤ Self.free self.old Segment }
         requires some { 1 ≤ length bytes.now }
         requires fits { length bytes.now ≤ leaf_bytes (Self.geometry self.old) }
-        ensures taken { IfOk result (λ page. TakesUnit Self.Ground self.old self.new Segment page.0 bytes.now) }
-        ensures lowest { IfOk result (λ page. IsLowest (Self.geometry self.old) (Self.used self.old) Segment page.0) }
+        ensures taken { IfOk result
+            (λ page. TakesUnit Self.Ground self.old self.new Segment page.0 bytes.now) }
+        ensures lowest { IfOk result
+            (λ page. IsLowest (Self.geometry self.old) (Self.used self.old) Segment page.0) }
         ensures references { OnOk result (Self.refs self.new ≡ Self.refs self.old) }
         ensures pages { OnOk result (Self.free self.new Page ≡ Self.free self.old Page) }
         ensures leaves { OnOk result (Self.free self.new Segment + 1 ≡ Self.free self.old Segment) }
@@ -90,14 +98,16 @@ pub trait Blocks: ReadBlocks {
     fn add_ref(&mut self, page: PageNo)
         requires ready { Self.ready self.old }
         requires unit { IsUnit (Self.geometry self.old) page.0 }
-        ensures { CountsRefs Self.Ground self.old self.new page.0 (with_ref (Self.used self.old page.0) (Self.refs self.old page.0)) };
+        ensures { CountsRefs Self.Ground self.old self.new page.0
+            (with_ref (Self.used self.old page.0) (Self.refs self.old page.0)) };
 
     /// Takes a reference of a unit away, and tells whether it was the last one. Without a reference nothing changes.
     fn drop_ref(&mut self, page: PageNo) -> bool
         requires ready { Self.ready self.old }
         requires unit { IsUnit (Self.geometry self.old) page.0 }
         ensures last { IsTrue result ↔ (Self.refs self.old page.0 ≡ 1) }
-        ensures counts { CountsRefs Self.Ground self.old self.new page.0 (without_ref (Self.refs self.old page.0)) };
+        ensures counts { CountsRefs Self.Ground self.old self.new page.0
+            (without_ref (Self.refs self.old page.0)) };
 
     /// Gives back a unit that has no reference.
     fn give_unit(&mut self, page: PageNo)

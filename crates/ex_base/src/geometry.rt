@@ -88,7 +88,8 @@ impl Geometry {
         ensures seg_len { IfOk result (λ g. g.seg_len ≡ seg_len) }
         ensures fan { IfOk result (λ g. g.fan ≡ fan) }
         ensures accepted { IfOk result (λ _. first_fault page_size pages segs seg_len fan ≡ None) }
-        ensures refused { IfErr result (λ e. first_fault page_size pages segs seg_len fan ≡ Some e) }
+        ensures refused { IfErr result (λ e. first_fault page_size pages segs seg_len fan
+            ≡ Some e) }
     {
         if !matches!(page_size, 512 | 1024 | 2048 | 4096 | 8192) {
             return Err(GeometryFault::PageSize);

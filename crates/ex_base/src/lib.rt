@@ -13,6 +13,7 @@ mod limits;
 mod named_fields;
 mod names;
 mod needs;
+mod notes;
 mod pages;
 mod superblock;
 
@@ -33,5 +34,6 @@ pub use limits::{
 pub use named_fields::{get_page, get_place, put_page, put_place};
 pub use names::{Area, Oid, OpNote, PageNo, Place, Root};
 pub use needs::{delete_need, growth_need, replace_need};
+pub use notes::NoteKind;
 pub use pages::{Pages, ReadPages, ReadVolume, Volume};
 pub use superblock::{has_magic, read_super, write_super};

@@ -1,4 +1,5 @@
 //! What every layer names: pages, areas, places, versions of objects, notes of updates and roots of trees.
+use crate::notes::NoteKind;
 
 /// The number of a page of the volume, counted from its start.
 #[derive(Clone, Copy, Debug, PartialEq, Eq, PartialOrd, Ord)]
@@ -45,7 +46,7 @@ impl Oid {
 /// What one accepted update did, as the log tells it.
 #[derive(Clone, Copy, Debug, PartialEq, Eq)]
 pub struct OpNote {
-    pub kind: u8,
+    pub kind: NoteKind,
     pub oid: Oid,
     pub first: u64,
     pub second: u64,

@@ -28,11 +28,13 @@ pub trait ReadPages: Ground {
     fn get(&mut self, alloc: Global, page: PageNo) -> Result<&[u8], PortFault>
         requires ready { Self.ready self.old }
         requires page { InPageArea (Self.geometry self.old) page.0 }
-        ensures bytes { IfOk result (λ s. Self.tells self.old → s.now ≡ Self.image self.old page.0) }
+        ensures bytes { IfOk result (λ s. Self.tells self.old
+            → s.now ≡ Self.image self.old page.0) }
         ensures len { IfOk result (λ s. length s.now ≡ (Self.geometry self.old).page_size) }
         ensures no_damage { IfErr result (λ fault. IsDamage fault → ⊥) }
         ensures* after { sem 𝓛 (Rests Self.row self.entry (λ new.
-            Keeps Self.Ground self.old new × HasCause (Self.faults self.old) (Self.faults new) result)) };
+            Keeps Self.Ground self.old new
+            × HasCause (Self.faults self.old) (Self.faults new) result)) };
 }
 
 /// Logged pages. Each call touches one page at most. `Disk` comes only where the count of faults rose in the call, and no call answers `Damaged`.
@@ -53,7 +55,8 @@ pub trait Pages: ReadPages {
         requires ready { Self.ready self.old }
         requires free { 1 ≤ Self.free self.old Page }
         requires len { length image.now ≡ (Self.geometry self.old).page_size }
-        ensures taken { IfOk result (λ page. TakesPage Self.Ground self.old self.new page.0 image.now) }
+        ensures taken { IfOk result
+            (λ page. TakesPage Self.Ground self.old self.new page.0 image.now) }
         ensures pages { OnOk result (Self.free self.new Page + 1 ≡ Self.free self.old Page) }
         ensures leaves { OnOk result (Self.free self.new Segment ≡ Self.free self.old Segment) }
         ensures no_damage { IfErr result (λ fault. IsDamage fault → ⊥) }

@@ -1,18 +1,21 @@
 -- What the status of a run says of how it was stopped.
-use Rattle.std.proofs.Common.{◌≡◌, ◌⊎◌, ⊎_elim, ℕ, List, Some, sym, subst}
-use Rattle.disk_model.specs.Outside.{Outside, IsWorld, Leaves}
+use Rattle.std.proofs.Common.{◌≡◌, ◌⊎◌, ⊎_elim, ℕ, List, Some, arith, inl, inr, refl, sym, subst}
+use Rattle.ex_base.specs.declared.geometry.Geometry.{Geometry}
+use Rattle.disk_model.specs.Outside.{Outside, IsWorld, Rose}
 use Rattle.disk_model.specs.Runs.{leaves_wider}
-use Rattle.session_views.specs.declared.Part.{Part}
-use Rattle.runs.specs.declared.stopped.Stopped.{Stopped}
-use Rattle.runs.specs.declared.stopped.Stopped.TheVariants as stopped
+use Rattle.talks.specs.declared.stopped.Stopped.{Stopped}
+use Rattle.talks.specs.declared.stopped.Stopped.TheVariants as stopped
 use Rattle.table_model.specs.declared.table.Table.{Table}
-use Rattle.runs.specs.Headline.{RunStarts, MayComplete}
+use Rattle.talks.specs.Headline.{LeftUnopened, RunStarts}
+use Rattle.runs.specs.Headline.{MayComplete}
 use Rattle.transactions.specs.Meant.{meant}
 use Rattle.volume_model.proofs.AtMostOne.{one_table}
-use Rattle.runs.specs.Stops.{IsOpeningStop, IsSoundStop}
+use Rattle.talks.specs.Stops.{IsOpeningStop, IsSoundStop}
 use Rattle.command_line.specs.declared.status.Status.{Status}
 use Rattle.command_line.specs.declared.status.Status.TheVariants as status
 use Rattle.exsm_run.specs.Status.{IsRefusal}
+use Rattle.exsm_run.specs.Format.{FormatAnswers, MayFormat}
+use Rattle.exsm_run.specs.Promises.{LeftAlone}
 use Rattle.exsm_run.specs.Script.{script_most, status_of, IsOnVolume, MayRun, IsOpeningStatus, IsRunStatus}
 
 -- what stops a run on a volume gives one of its statuses
@@ -37,21 +40,13 @@ opening_status (stopped.Damaged page want got) stop = stop
 opening_status stopped.ScriptLong stop = stop
 opening_status stopped.Down stop = tt
 
--- where the status is that of a bad volume, the opening found it
-pub bad_stop : (why : Stopped) (part : Part) → status_of (Some why) ≡ status.BadVolume part → why ≡ stopped.BadVolume part
-bad_stop stopped.Script part is = absurd (cc)
-bad_stop stopped.Output part is = absurd (cc)
-bad_stop stopped.Disk part is = absurd (cc)
-bad_stop stopped.Memory part is = absurd (cc)
-bad_stop (stopped.BadVolume other) part is = cc
-bad_stop (stopped.Damaged page want got) part is = absurd (cc)
-bad_stop stopped.ScriptLong part is = absurd (cc)
-bad_stop stopped.Down part is = absurd (cc)
-
 -- what the disk holds is one of the images that a crash may leave
-pub leaves_old : {a b : Outside} (image : List ℕ) → IsWorld a → a.disk ≡ Some image → Leaves a b (λ d. a.images d ⊎ (d ≡ image)) → Leaves a b a.images
-leaves_old {a} {b} image world holds leaves =
-    leaves_wider (λ d. a.images d ⊎ (d ≡ image)) a.images leaves (λ d old. ⊎_elim (λ was. was) (λ same. subst a.images (sym same) (world.held_may_stay image holds)) old)
+pub left_alone : {a b : Outside} (image : List ℕ) → IsWorld a → a.disk ≡ Some image → LeftUnopened image a b → LeftAlone a b
+left_alone {a} {b} image world holds left = record {
+  only = left.only;
+  moments = leaves_wider (λ d. a.images d ⊎ (d ≡ image)) a.images left.moments
+      (λ d old. ⊎_elim (λ was. was) (λ same. subst a.images (sym same) (world.held_may_stay image holds)) old);
+}
 
 -- a run that was stopped is not refused
 pub no_refusal : (why : Stopped) → IsRefusal (status_of (Some why)) → ⊥
@@ -71,19 +66,17 @@ no_usage s never is = never (subst IsRefusal (sym is) tt)
 -- ---- a volume stands for one table
 
 pub starts_on : {entry : Outside} {table : Table} {was : List ℕ} → IsOnVolume entry table was → RunStarts meant entry table was
-starts_on {entry} {table} {was} on = record {
-  image = on.image;
-  rests = on.rests;
-  stands = on.stands;
-  alone = λ other stood. one_table on.image other table stood on.stands;
-  sent = on.sent;
+starts_on {entry} {table} {was} volume = record {
+  on = volume.on;
+  settled = volume.settled;
+  alone = λ other stood. one_table volume.on.image other table stood volume.on.stands;
 }
 
 pub completes_on : {before after : Outside} → MayRun before after → MayComplete meant before after script_most
 completes_on may = record {
   table = may.table;
   was = may.was;
-  starts = starts_on may.on;
+  on = may.on;
   script = may.script;
   left = may.left;
   within = may.within;
@@ -91,3 +84,20 @@ completes_on may = record {
   no_output_fault = may.no_output_fault;
   no_disk_fault = may.no_disk_fault;
 }
+
+-- ---- when `format` succeeds
+
+-- What may be made is made, but for want of memory.
+pub made_or_memory : (g : Geometry) (before after : Outside) (s : Status) → MayFormat g before after → FormatAnswers g s before → (s ≡ status.DiskFault → Rose before.disk_faults after.disk_faults)
+    → (s ≡ status.OutputFault → Rose before.write_faults after.write_faults) → (s ≡ status.Done) ⊎ (s ≡ status.Memory)
+made_or_memory g before after status.Done may answers disk output = inl refl
+made_or_memory g before after status.Usage may answers disk output = absurd answers.one_of
+made_or_memory g before after status.ScriptFault may answers disk output = absurd answers.one_of
+made_or_memory g before after status.OutputFault may answers disk output = absurd (may.no_output_fault (output refl))
+made_or_memory g before after status.DiskFault may answers disk output = absurd (may.no_disk_fault (disk refl))
+made_or_memory g before after (status.BadVolume part) may answers disk output = absurd answers.one_of
+made_or_memory g before after status.Memory may answers disk output = inr refl
+made_or_memory g before after (status.Damaged page want got) may answers disk output = absurd answers.one_of
+made_or_memory g before after status.AlreadyVolume may answers disk output = absurd (may.unmade (answers.magic refl may.disk may.holds))
+made_or_memory g before after (status.TooSmall have need) may answers disk output = absurd (omega (arith, answers.too_small have need refl, may.large))
+made_or_memory g before after (status.ScriptLong max) may answers disk output = absurd answers.one_of

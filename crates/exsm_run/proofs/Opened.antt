@@ -11,10 +11,12 @@ use Rattle.page_alloc.specs.UnitSet.{used_at}
 use Rattle.restart.specs.declared.opening.OpenedParts.{OpenedParts}
 use Rattle.restart.specs.Opening.{AreOpened, OpenedOn, OpensAs, StandsForSame}
 use Rattle.session_views.specs.View.{View}
-use Rattle.session_views.specs.Opening.{Opened, StandsOpening}
+use Rattle.session_views.specs.Opening.{StandsOpening}
+use Rattle.talks.specs.Opening.{Opened}
 use Rattle.table_model.specs.declared.table.Table.{Table}
 use Rattle.table_model.specs.declared.machine.Machine.{Machine}
 use Rattle.table_model.specs.Machines.{start}
+use Rattle.exsm_run.specs.Fresh.{IsFresh}
 use Rattle.transactions.specs.Meant.{meant}
 use Rattle.transactions.specs.Sessions.{SessionState, fresh_session, held}
 use Rattle.trees.specs.Trees.{Units}
@@ -40,7 +42,7 @@ held_is p opened =
 
 pub shows_opened : {w : Outside} (p : OpenedParts) (image : List ℕ) (table : Table) → AreOpened p → IsTrue w.honest
     → OpenedOn image p.geometry w p.log p.meta.committed (used_at p.units) (is_held p.pages) → StandsFor image table
-    → Opened meant table (opened_session p) w
+    → Opened meant IsFresh table (opened_session p) w
 shows_opened {w} p image table parts honest on stands =
     let d = on.decoded in
     let later = with_records d [] d.volume in
@@ -55,6 +57,7 @@ shows_opened {w} p image table parts honest on stands =
       is = refl;
       starts = record { is = ap (λ (t : Table). start d.geometry t (used_in d.geometry used Page) (used_in d.geometry used Segment)) opened.table_is };
       shows = record { honest = honest; holds = on.holds; shows = subst (Shows w.images) (sym same) opened.shows };
+      fresh = record { decoded = later; parts = committed.parts; none = refl; count = ap (λ (l : LogState). l.count) parts.log; knows = on.knows };
     }
   where
     machine_of : Decoded → Units → (ℕ → Bool) → Machine

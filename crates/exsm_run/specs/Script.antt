@@ -1,12 +1,13 @@
 -- How a run of a script ends.
 use Rattle.std.specs.Prelude.{◌≡◌, ◌≤◌, ℕ, List, length, Option, Some, None, ⊤}
-use Rattle.disk_model.specs.Outside.{Outside, RestsOn, Rose}
+use Rattle.disk_model.specs.Outside.{Outside, Only, Rose}
 use Rattle.table_model.specs.declared.table.Table.{Table}
-use Rattle.session_views.specs.View.{Meaning}
-use Rattle.runs.specs.declared.stopped.Stopped.{Stopped}
-use Rattle.runs.specs.declared.stopped.Stopped.TheVariants as stopped
+use Rattle.session_views.specs.View.{View, Meaning}
+use Rattle.talks.specs.Headline.{HoldsTable}
+use Rattle.talks.specs.declared.stopped.Stopped.{Stopped}
+use Rattle.talks.specs.declared.stopped.Stopped.TheVariants as stopped
 use Rattle.runs.specs.Headline.{Headline}
-use Rattle.volume_model.specs.Parts.{StandsFor}
+use Rattle.transactions.specs.Meant.{meant}
 use Rattle.command_line.specs.declared.status.Status.{Status}
 use Rattle.command_line.specs.declared.status.Status.TheVariants.{Done, Usage, ScriptFault, OutputFault, DiskFault, BadVolume, Memory, Damaged, AlreadyVolume, TooSmall, ScriptLong}
 
@@ -28,10 +29,10 @@ status_of (Some stopped.ScriptLong) = ScriptLong script_most
 status_of (Some stopped.Down) = Memory
 
 -- The run ended with this status, and this is what it did.
-pub record Ran {S : Type 0} (M : Meaning S) (table : Table) (was : List ℕ) (before after : Outside) (status : Status) : Type 0 where
+pub record Ran {S : Type 0} (M : Meaning S) (Fresh : View S → Type 0) (table : Table) (was : List ℕ) (before after : Outside) (status : Status) : Type 0 where
   pub ending : Option Stopped
   pub is : status ≡ status_of ending
-  pub headline : Headline M table was script_most before after ending
+  pub headline : Headline M Fresh table was script_most before after ending
 
 -- the statuses of a run that took no line: the disk holds no volume, or could not be read, or no memory was there
 abbrev pub IsOpeningStatus : Status → Type 0
@@ -61,18 +62,20 @@ IsRunStatus AlreadyVolume = ⊥
 IsRunStatus (TooSmall have need) = ⊥
 IsRunStatus (ScriptLong max) = ⊤
 
--- The premises of a run: an honest disk holds an image of this table, nothing is pending, and the sink tells what it was sent.
+-- An honest disk holds an image of this table, and the sink tells what it was sent.
+abbrev pub HoldsVolume : Outside → Table → List ℕ → Type 0
+HoldsVolume entry table was = HoldsTable meant entry table was
+
+-- The premises of the headline: besides nothing is pending.
 pub record IsOnVolume (entry : Outside) (table : Table) (was : List ℕ) : Type 0 where
-  pub image : List ℕ
-  pub rests : RestsOn entry image
-  pub stands : StandsFor image table
-  pub sent : entry.sent ≡ Some was
+  pub on : HoldsVolume entry table was
+  pub settled : Only on.image entry.images
 
 -- What a run needs to reach the end of its script: a volume, a script that isn't too long, and no fault of the outside.
 pub record MayRun (before after : Outside) : Type 0 where
   pub table : Table
   pub was : List ℕ
-  pub on : IsOnVolume before table was
+  pub on : HoldsVolume before table was
   pub script : List ℕ
   pub left : before.left ≡ Some script
   pub within : length script ≤ script_most

@@ -30,32 +30,47 @@ pub fn format<H: Host>(alloc: Global, host: &mut H, geometry: &Geometry) -> Stat
 
     // It is refused exactly where the disk is too small or is a volume, and then changes nothing.
     ensures one_of { IsFormatStatus result }
-    ensures small { (H.outside host.old).size < volume_bytes geometry.now → result ≡ Status.TooSmall (H.outside host.old).size (volume_bytes geometry.now) }
-    ensures too_small { (have need : ℕ) → result ≡ Status.TooSmall have need → (H.outside host.old).size < volume_bytes geometry.now }
-    ensures volume { volume_bytes geometry.now ≤ (H.outside host.old).size → (d : List ℕ) → (H.outside host.old).disk ≡ Some d → HasMagic d
+    ensures small { (H.outside host.old).size < volume_bytes geometry.now
+        → result ≡ Status.TooSmall (H.outside host.old).size (volume_bytes geometry.now) }
+    ensures too_small { (have need : ℕ) → result ≡ Status.TooSmall have need
+        → (H.outside host.old).size < volume_bytes geometry.now }
+    ensures volume { volume_bytes geometry.now ≤ (H.outside host.old).size → (d : List ℕ)
+        → (H.outside host.old).disk ≡ Some d → HasMagic d
         → (result ≡ Status.AlreadyVolume) ⊎ (result ≡ Status.DiskFault) }
-    ensures large { result ≡ Status.AlreadyVolume → volume_bytes geometry.now ≤ (H.outside host.old).size }
-    ensures magic { result ≡ Status.AlreadyVolume → (d : List ℕ) → (H.outside host.old).disk ≡ Some d → HasMagic d }
+    ensures large { result ≡ Status.AlreadyVolume
+        → volume_bytes geometry.now ≤ (H.outside host.old).size }
+    ensures magic { result ≡ Status.AlreadyVolume → (d : List ℕ)
+        → (H.outside host.old).disk ≡ Some d → HasMagic d }
     ensures refused { IsRefusal result → ReadsOnly (H.outside host.old) (H.outside host.new) }
+    ensures keeps { (d : List ℕ) → (H.outside host.old).disk ≡ Some d → HasMagic d
+        ⊎ ((H.outside host.old).size < volume_bytes geometry.now)
+        → ReadsOnly (H.outside host.old) (H.outside host.new) }
 
     // A fault has its cause.
-    ensures disk { result ≡ Status.DiskFault → Rose (H.outside host.old).disk_faults (H.outside host.new).disk_faults }
-    ensures output { result ≡ Status.OutputFault → Rose (H.outside host.old).write_faults (H.outside host.new).write_faults }
+    ensures disk { result ≡ Status.DiskFault
+        → Rose (H.outside host.old).disk_faults (H.outside host.new).disk_faults }
+    ensures output { result ≡ Status.OutputFault
+        → Rose (H.outside host.old).write_faults (H.outside host.new).write_faults }
 
     // What is sent, and what stays.
     ensures line { result ≡ Status.Done → (was : List ℕ) → (H.outside host.old).sent ≡ Some was
         → (H.outside host.new).sent ≡ Some (was ++ format_line (volume_bytes geometry.now)) }
-    ensures front { result ≡ Status.OutputFault → (was : List ℕ) → (H.outside host.old).sent ≡ Some was
-        → (n : ℕ) × ((H.outside host.new).sent ≡ Some (was ++ take n (format_line (volume_bytes geometry.now)))) }
-    ensures nothing { result ≢ Status.Done → result ≢ Status.OutputFault → (H.outside host.new).sent ≡ (H.outside host.old).sent }
+    ensures front { result ≡ Status.OutputFault → (was : List ℕ)
+        → (H.outside host.old).sent ≡ Some was
+        → (n : ℕ) × ((H.outside host.new).sent
+        ≡ Some (was ++ take n (format_line (volume_bytes geometry.now)))) }
+    ensures nothing { result ≢ Status.Done → result ≢ Status.OutputFault
+        → (H.outside host.new).sent ≡ (H.outside host.old).sent }
     ensures left { (H.outside host.new).left ≡ (H.outside host.old).left }
 
-    ensures formatted { result ≡ Status.Done → IsTrue (H.outside host.old).honest → (d : List ℕ) → (H.outside host.old).disk ≡ Some d
+    ensures formatted { result ≡ Status.Done → IsTrue (H.outside host.old).honest → (d : List ℕ)
+        → (H.outside host.old).disk ≡ Some d
         → IsFormatted geometry.now (H.outside host.new) }
 
     // A crash at any moment leaves no volume, or the empty one, and once a byte was sent the empty one.
     ensures any_moment { (d was : List ℕ) → RestsOn (H.outside host.old) d → (HasMagic d → ⊥)
-        → (H.outside host.old).sent ≡ Some was → Along (H.outside host.old) (H.outside host.new) (IsFormatMoment geometry.now was) }
+        → (H.outside host.old).sent ≡ Some was
+        → Along (H.outside host.old) (H.outside host.new) (IsFormatMoment geometry.now was) }
 {
     let need = geometry.volume_bytes();
     let have = host.size();
@@ -99,8 +114,10 @@ fn lay_out<D: Disk>(
     requires catalog { CatalogOf catalog.now fresh_catalog }
     requires one_page { length catalog.now ≡ geometry.now.page_size }
     ensures only { DiskOnly (D.outside disk.old) (D.outside disk.new) }
-    ensures cause { OnErr result (Rose (D.outside disk.old).disk_faults (D.outside disk.new).disk_faults) }
-    ensures formatted { OnOk result (IsTrue (D.outside disk.old).honest → (d : List ℕ) → (D.outside disk.old).disk ≡ Some d
+    ensures cause { OnErr result (Rose (D.outside disk.old).disk_faults
+        (D.outside disk.new).disk_faults) }
+    ensures formatted { OnOk result (IsTrue (D.outside disk.old).honest → (d : List ℕ)
+        → (D.outside disk.old).disk ≡ Some d
         → IsFormatted geometry.now (D.outside disk.new)) }
     ensures any_moment { (d : List ℕ) → RestsOn (D.outside disk.old) d → (HasMagic d → ⊥)
         → Leaves (D.outside disk.old) (D.outside disk.new) (IsUnmadeOrEmpty geometry.now) }
@@ -129,10 +146,12 @@ fn prepare<D: Disk>(
     requires catalog { CatalogOf catalog.now fresh_catalog }
     requires one_page { length catalog.now ≡ geometry.now.page_size }
     ensures changes { ChangesWithin IsBehindMagic (D.outside disk.old) (D.outside disk.new) }
-    ensures cause { OnErr result (Rose (D.outside disk.old).disk_faults (D.outside disk.new).disk_faults) }
+    ensures cause { OnErr result (Rose (D.outside disk.old).disk_faults
+        (D.outside disk.new).disk_faults) }
     ensures prepared { OnOk result ((d : List ℕ) → (D.outside disk.old).disk ≡ Some d
         → (e : List ℕ) × ((D.outside disk.new).disk ≡ Some e) × IsPrepared geometry.now e) }
-    ensures settled { OnOk result (IsTrue (D.outside disk.old).honest → (d : List ℕ) → (D.outside disk.new).disk ≡ Some d
+    ensures settled { OnOk result (IsTrue (D.outside disk.old).honest → (d : List ℕ)
+        → (D.outside disk.new).disk ≡ Some d
         → Only d (D.outside disk.new).images) }
 {
     let page = geometry.page_size as u64;

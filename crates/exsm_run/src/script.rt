@@ -1,19 +1,21 @@
 //! A script is run on a volume.
-ghost use Rattle.std.specs.Prelude.{◌≡◌, ◌≢◌, ◌≤◌, ◌<◌, ◌+◌, ◌⊎◌, ℕ, List, Some, IsTrue, drop, length};
-ghost use Rattle.disk_model.specs.Outside.{Rose, Goes, DiskOnly, Leaves, Only};
+ghost use Rattle.std.specs.Prelude.{◌≡◌, ◌≢◌, ◌≤◌, ◌<◌, ◌+◌, ◌⊎◌, ℕ, List, [], Some, IsTrue, drop, length};
+ghost use Rattle.disk_model.specs.Outside.{Rose, Goes, DiskOnly, Only};
 ghost use Rattle.ex_base.specs.declared.names.PageNo.{PageNo};
 ghost use Rattle.ex_base.specs.declared.faults.Seen.{Seen};
 ghost use Rattle.table_model.specs.declared.table.Table.{Table};
 ghost use Rattle.session_views.specs.declared.Part.{Part};
-ghost use Rattle.runs.specs.Headline.{RunStarts, MayComplete};
+ghost use Rattle.talks.specs.Headline.{HoldsTable, RunStarts};
+ghost use Rattle.runs.specs.Headline.{MayComplete};
+ghost use Rattle.exsm_run.specs.Promises.{LeftAlone};
 ghost use Rattle.exsm_run.specs.Status.{IsRefusal};
 ghost use Rattle.exsm_run.specs.Script.{script_most, status_of, Ran, IsOpeningStatus, IsRunStatus};
 
 use crate::status::Status;
 use disk_model::Host;
 use runs::{Stopped, run_volume};
-use session_views::Opener;
 use std::alloc::Global;
+use talks::Opener;
 
 /// The most bytes of a script that count.
 const SCRIPT_MOST: u64 = 1_099_511_627_776;
@@ -41,36 +43,53 @@ pub fn run_script<S: Opener + Drop, H: Host>(alloc: Global, host: &mut H) -> Sta
     ensures never { IsRefusal result → ⊥ }
 
     // What was replied, from view to view, and what a stop at any moment leaves.
-    ensures headline { (table : Table) (was : List ℕ) → RunStarts S.meaning (H.outside host.old) table was
-        → Ran S.meaning table was (H.outside host.old) (H.outside host.new) result }
+    ensures headline { (table : Table) (was : List ℕ)
+        → RunStarts S.meaning (H.outside host.old) table was
+        → Ran S.meaning S.fresh table was (H.outside host.old) (H.outside host.new) result }
 
     // A fault is answered only where the count of such faults rose, and damage only of two things that differ, and never of a volume.
-    ensures script_fault { result ≡ Status.ScriptFault → Rose (H.outside host.old).read_faults (H.outside host.new).read_faults }
-    ensures output_fault { result ≡ Status.OutputFault → Rose (H.outside host.old).write_faults (H.outside host.new).write_faults }
-    ensures disk_fault { result ≡ Status.DiskFault → Rose (H.outside host.old).disk_faults (H.outside host.new).disk_faults }
-    ensures damaged { (page : PageNo) (want got : Seen) → result ≡ Status.Damaged page want got → want ≢ got }
-    ensures sound { (table : Table) (was : List ℕ) → RunStarts S.meaning (H.outside host.old) table was → IsRunStatus result }
+    ensures script_fault { result ≡ Status.ScriptFault
+        → Rose (H.outside host.old).read_faults (H.outside host.new).read_faults }
+    ensures output_fault { result ≡ Status.OutputFault
+        → Rose (H.outside host.old).write_faults (H.outside host.new).write_faults }
+    ensures disk_fault { result ≡ Status.DiskFault
+        → Rose (H.outside host.old).disk_faults (H.outside host.new).disk_faults }
+    ensures damaged { (page : PageNo) (want got : Seen) → result ≡ Status.Damaged page want got
+        → want ≢ got }
+    ensures sound { (table : Table) (was : List ℕ)
+        → HoldsTable S.meaning (H.outside host.old) table was → IsRunStatus result }
 
     // The script is long exactly where the source gave more bytes than count, of which it loses one more at most.
-    ensures within { result ≡ Status.Done → (script : List ℕ) → (H.outside host.old).left ≡ Some script → length script ≤ script_most }
-    ensures script_long { (most : ℕ) → result ≡ Status.ScriptLong most → (script : List ℕ) → (H.outside host.old).left ≡ Some script
+    ensures within { result ≡ Status.Done → (script : List ℕ)
+        → (H.outside host.old).left ≡ Some script → length script ≤ script_most }
+    ensures reads_all { result ≡ Status.Done → (script : List ℕ)
+        → (H.outside host.old).left ≡ Some script → (H.outside host.new).left ≡ Some [] }
+    ensures script_long { (most : ℕ) → result ≡ Status.ScriptLong most → (script : List ℕ)
+        → (H.outside host.old).left ≡ Some script
         → (most ≡ script_most) × (script_most < length script) }
-    ensures drawn { result ≢ Status.ScriptFault → (script : List ℕ) → (H.outside host.old).left ≡ Some script
+    ensures drawn { result ≢ Status.ScriptFault → (script : List ℕ)
+        → (H.outside host.old).left ≡ Some script
         → (n : ℕ) × (n ≤ script_most + 1) × ((H.outside host.new).left ≡ Some (drop n script)) }
 
-    // The disk holds no volume exactly where a part of it fails. Then nothing is sent, no line is taken, and the disk is left as it was.
-    ensures bad { (part : Part) → result ≡ Status.BadVolume part → (image : List ℕ) → IsTrue (H.outside host.old).honest
+    // The disk holds no volume exactly where a part of it fails. Then nothing is sent, no line is taken, and nothing is written.
+    ensures bad { (part : Part) → result ≡ Status.BadVolume part → (image : List ℕ)
         → (H.outside host.old).disk ≡ Some image → S.meaning.FirstBad image part }
-    ensures unopened { (image : List ℕ) (part : Part) → IsTrue (H.outside host.old).honest → (H.outside host.old).disk ≡ Some image
+    ensures unopened { (image : List ℕ) (part : Part) → IsTrue (H.outside host.old).honest
+        → (H.outside host.old).disk ≡ Some image
         → S.meaning.FirstBad image part → IsOpeningStatus result }
-    ensures bad_only { (part : Part) → result ≡ Status.BadVolume part → DiskOnly (H.outside host.old) (H.outside host.new) }
-    ensures bad_kept { (part : Part) → result ≡ Status.BadVolume part → (image : List ℕ) → IsTrue (H.outside host.old).honest
-        → (H.outside host.old).disk ≡ Some image → ((H.outside host.new).disk ≡ Some image) × Only image (H.outside host.new).images }
-    ensures bad_moments { (part : Part) → result ≡ Status.BadVolume part → (image : List ℕ) → IsTrue (H.outside host.old).honest
-        → (H.outside host.old).disk ≡ Some image → Leaves (H.outside host.old) (H.outside host.new) (H.outside host.old).images }
+    ensures bad_only { (part : Part) → result ≡ Status.BadVolume part
+        → DiskOnly (H.outside host.old) (H.outside host.new) }
+    ensures bad_kept { (part : Part) → result ≡ Status.BadVolume part → (image : List ℕ)
+        → IsTrue (H.outside host.old).honest
+        → (H.outside host.old).disk ≡ Some image → ((H.outside host.new).disk ≡ Some image)
+        × Only image (H.outside host.new).images }
+    ensures left { (image : List ℕ) (part : Part) → IsTrue (H.outside host.old).honest
+        → (H.outside host.old).disk ≡ Some image
+        → S.meaning.FirstBad image part → LeftAlone (H.outside host.old) (H.outside host.new) }
 
     // Without a fault of the outside, a run on a volume of a script that isn't too long reaches the end of the script.
-    ensures completes { MayComplete S.meaning (H.outside host.old) (H.outside host.new) script_most → (result ≡ Status.Done) ⊎ (result ≡ Status.Memory) }
+    ensures completes { MayComplete S.meaning (H.outside host.old) (H.outside host.new) script_most
+        → (result ≡ Status.Done) ⊎ (result ≡ Status.Memory) }
 {
     match run_volume::<S, H>(alloc, host, SCRIPT_MOST) {
         Ok(()) => Status::Done,

@@ -3,10 +3,11 @@ ghost use Rattle.std.specs.Prelude.{◌≡◌};
 
 use disk_model::Host;
 use restart::{OpenedParts, open_volume};
-use session_views::{Engine, OpenFault, Opener, Stop};
+use session_views::{Engine, OpenFault, Stop};
 use std::alloc::Global;
 use std::marker::Model;
 use table_model::{Command, Reply};
+use talks::Opener;
 use transactions::{Parts, Session};
 
 /// A session that was opened on the volume of a disk.
@@ -39,6 +40,10 @@ impl Engine for VolumeSession {
 }
 
 impl Opener for VolumeSession {
+    ghost use Rattle.exsm_run.specs.Fresh.{IsFresh};
+
+    ghost fresh = { IsFresh };
+
     fn open<H: Host>(alloc: Global, host: &mut H) -> Result<VolumeSession, OpenFault> {
         let opened = match open_volume(alloc, host) {
             Ok(opened) => opened,

@@ -19,7 +19,8 @@ use Rattle.file_bodies.specs.Bodies.{Row, place_at, bodies_from, bodies_on, bodi
 use Rattle.file_bodies.specs.Files.{HasFile, IsPageOf}
 use Rattle.file_bodies.specs.Places.{IsFrom, IsFirstFrom, FirstFrom, IsFirstLive}
 use Rattle.file_bodies.proofs.Rows.{split_at}
-use Rattle.file_bodies.proofs.Moving.{lies}
+use Rattle.file_bodies.specs.Damage.{IsLook}
+use Rattle.file_bodies.proofs.Moving.{kept_file, lies}
 use Rattle.file_bodies.proofs.Slots.{page_of}
 use Rattle.std.proofs.lemmas.Bool.{cases_lt}
 
@@ -229,3 +230,23 @@ module _ {S : Type 0} (g : ground.Ghosts S) (a b : S) (index : Index) (key slot 
         goes_on (g.image a) (pages_in (g.image a) index) page key slot from next least_page looks
         (subst (λ (f : ℕ → List ℕ). (k : ℕ) → from ≤ k → slice_index_or (slots_of (f page.0)) k None ≡ None) kept.images vacant)
         (subst (λ (f : ℕ → List ℕ). FirstFrom (bodies_of f index) (page.0 + 1) 0 next) (more.images ∙ kept.images) rest)
+
+-- ---- how far a look has come
+
+module _ {S : Type 0} (g : ground.Ghosts S) where
+  pub record LookedTo (start now : S) (index : Index) (from_key from_slot key slot : ℕ) : Type 0 where
+    pub kept : Keeps g start now
+    pub reached : from_key ≤ key
+    pub passed : g.tells start → HasFile g start index → (found : Option Place) → FirstFrom (bodies_of (g.image start) index) key slot found → FirstFrom (bodies_of (g.image start) index) from_key from_slot found
+    pub looked : g.tells start → (end : Option PageNo) → IsLook (g.geometry start) (g.image start) index key end → IsLook (g.geometry start) (g.image start) index from_key end
+
+  module _ (a b : S) (index : Index) (from_key from_slot key slot : ℕ) (to : LookedTo a b index from_key from_slot key slot) (told : g.tells a) (file : HasFile g a index) where
+    pub file_there : HasFile g b index
+    file_there = kept_file g a b index to.kept file
+
+    pub told_there : g.tells b
+    told_there = g.leads_told a b to.kept.leads told
+
+    -- what comes first from there on comes first from the start on
+    pub first_of_all : (found : Option Place) → FirstFrom (bodies_of (g.image b) index) key slot found → FirstFrom (bodies_of (g.image a) index) from_key from_slot found
+    first_of_all found first = to.passed told file found (subst (λ (f : ℕ → List ℕ). FirstFrom (bodies_of f index) key slot found) to.kept.images first)

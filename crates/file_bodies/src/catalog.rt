@@ -56,10 +56,13 @@ pub fn find_index<P: ReadPages>(
     file_no: u32,
 ) -> Result<Option<Index>, PortFault>
     requires { P.ready pages.old }
-    ensures found { IfOk result (λ found. P.tells pages.old → found ≡ index_at (P.image pages.old) file_no) }
+    ensures found { IfOk result (λ found. P.tells pages.old
+        → found ≡ index_at (P.image pages.old) file_no) }
     ensures usable { IfOk result (λ found. IfSome found (IsUsable file_no)) }
-    ensures sound { IfErr result (λ fault. IsDamage fault → P.tells pages.old → IsCatalogPage (P.image pages.old catalog_no) → ⊥) }
-    ensures fault { IfErr result (λ fault. P.tells pages.old → IsCatalogFault (P.image pages.old catalog_no) fault) }
+    ensures sound { IfErr result (λ fault. IsDamage fault → P.tells pages.old
+        → IsCatalogPage (P.image pages.old catalog_no) → ⊥) }
+    ensures fault { IfErr result (λ fault. P.tells pages.old
+        → IsCatalogFault (P.image pages.old catalog_no) fault) }
     ensures whole { OnOk result (P.tells pages.old → IsCatalogPage (P.image pages.old catalog_no)) }
     ensures kept { Keeps P.Ground pages.old pages.new }
     ensures cause { HasCause (P.faults pages.old) (P.faults pages.new) result }
@@ -78,11 +81,16 @@ pub fn index_of<P: ReadPages>(
     file_no: u32,
 ) -> Result<Index, PortFault>
     requires { P.ready pages.old }
-    ensures found { IfOk result (λ index. P.tells pages.old → index_at (P.image pages.old) file_no ≡ Some index) }
+    ensures found { IfOk result (λ index. P.tells pages.old
+        → index_at (P.image pages.old) file_no ≡ Some index) }
     ensures usable { IfOk result (IsUsable file_no) }
-    ensures sound { IfErr result (λ fault. IsDamage fault → P.tells pages.old → IsCatalogPage (P.image pages.old catalog_no) → (index : Index) → index_at (P.image pages.old) file_no ≡ Some index → ⊥) }
-    ensures fault { IfErr result (λ fault. P.tells pages.old → IsFileFault (P.image pages.old catalog_no) file_no fault) }
-    ensures lists { IfOk result (λ index. P.tells pages.old → ListsFile (P.image pages.old catalog_no) file_no index) }
+    ensures sound { IfErr result (λ fault. IsDamage fault → P.tells pages.old
+        → IsCatalogPage (P.image pages.old catalog_no) → (index : Index)
+        → index_at (P.image pages.old) file_no ≡ Some index → ⊥) }
+    ensures fault { IfErr result (λ fault. P.tells pages.old
+        → IsFileFault (P.image pages.old catalog_no) file_no fault) }
+    ensures lists { IfOk result (λ index. P.tells pages.old
+        → ListsFile (P.image pages.old catalog_no) file_no index) }
     ensures kept { Keeps P.Ground pages.old pages.new }
     ensures cause { HasCause (P.faults pages.old) (P.faults pages.new) result }
 {
@@ -97,7 +105,8 @@ pub fn index_of<P: ReadPages>(
 fn has_file(page: &[u8], file_no: u32) -> bool
     ensures whole { IsTrue result → IsCatalogPage page.now }
     ensures file { IsTrue result → Contains (numbers_on page.now) file_no }
-    ensures none { result ≡ false → IsCatalogPage page.now → index_in file_no (catalog_on page.now).entries ≡ None }
+    ensures none { result ≡ false → IsCatalogPage page.now
+        → index_in file_no (catalog_on page.now).entries ≡ None }
 {
     match CatalogView::of(page) {
         Some(view) => index_with(&view, file_no).is_some(),
@@ -129,7 +138,8 @@ fn root_seen(index: &Index) -> Seen
 
 /// The fault of an index whose root lies where no page of a file lies.
 pub fn no_root(index: &Index) -> PortFault
-    ensures fault { (g : Geometry) → (HasPlacedRoot g index.now.root → ⊥) → IsRootFault g index.now result }
+    ensures fault { (g : Geometry) → (HasPlacedRoot g index.now.root → ⊥)
+        → IsRootFault g index.now result }
     ensures damage { IsDamage result }
     ensures cause { (before now : ℕ) → Cause before now result }
 {
@@ -151,11 +161,15 @@ fn write_index<P: Pages>(
     requires usable { IsUsable index.now.file_no index.now }
     requires placed { HasPlacedRoot (P.geometry pages.old) index.now.root }
     requires buffer { length buffer.old ≡ (P.geometry pages.old).page_size }
-    ensures sets { OnOk result (P.tells pages.old → SetsIndex P.Ground pages.old pages.new index.now) }
+    ensures sets { OnOk result (P.tells pages.old
+        → SetsIndex P.Ground pages.old pages.new index.now) }
     ensures free { OnOk result (P.free pages.new ≡ P.free pages.old) }
-    ensures sound { IfErr result (λ fault. IsDamage fault → P.tells pages.old → HasPlacedRoot (P.geometry pages.old) index.now.root → IsCatalogPage (P.image pages.old catalog_no)
+    ensures sound { IfErr result (λ fault. IsDamage fault → P.tells pages.old
+        → HasPlacedRoot (P.geometry pages.old) index.now.root
+        → IsCatalogPage (P.image pages.old catalog_no)
         → (was : Index) → index_at (P.image pages.old) index.now.file_no ≡ Some was → ⊥) }
-    ensures fault { IfErr result (λ fault. P.tells pages.old → IsFileFault (P.image pages.old catalog_no) index.now.file_no fault) }
+    ensures fault { IfErr result (λ fault. P.tells pages.old
+        → IsFileFault (P.image pages.old catalog_no) index.now.file_no fault) }
     ensures leads { P.leads pages.old pages.new }
     ensures cause { HasCause (P.faults pages.old) (P.faults pages.new) result }
 {
@@ -179,11 +193,16 @@ pub fn change_index<P: Pages>(
     requires usable { IsUsable old.now.file_no new.now }
     requires placed { HasPlacedRoot (P.geometry pages.old) new.now.root }
     requires buffer { length buffer.old ≡ (P.geometry pages.old).page_size }
-    ensures sets { OnOk result (P.tells pages.old → IsCatalogPage (P.image pages.old catalog_no) → index_at (P.image pages.old) old.now.file_no ≡ Some old.now → SetsIndex P.Ground pages.old pages.new new.now) }
+    ensures sets { OnOk result (P.tells pages.old → IsCatalogPage (P.image pages.old catalog_no)
+        → index_at (P.image pages.old) old.now.file_no ≡ Some old.now
+        → SetsIndex P.Ground pages.old pages.new new.now) }
     ensures free { OnOk result (P.free pages.new ≡ P.free pages.old) }
-    ensures sound { IfErr result (λ fault. IsDamage fault → P.tells pages.old → HasPlacedRoot (P.geometry pages.old) new.now.root → IsCatalogPage (P.image pages.old catalog_no)
+    ensures sound { IfErr result (λ fault. IsDamage fault → P.tells pages.old
+        → HasPlacedRoot (P.geometry pages.old) new.now.root
+        → IsCatalogPage (P.image pages.old catalog_no)
         → index_at (P.image pages.old) old.now.file_no ≡ Some old.now → ⊥) }
-    ensures fault { IfErr result (λ fault. P.tells pages.old → IsFileFault (P.image pages.old catalog_no) old.now.file_no fault) }
+    ensures fault { IfErr result (λ fault. P.tells pages.old
+        → IsFileFault (P.image pages.old catalog_no) old.now.file_no fault) }
     ensures leads { P.leads pages.old pages.new }
     ensures cause { HasCause (P.faults pages.old) (P.faults pages.new) result }
 {

@@ -23,17 +23,25 @@ fn change_on_page<P: Pages>(
     requires ready { P.ready pages.old }
     requires some { 1 ≤ length body.now }
     requires image { length image.old ≡ (P.geometry pages.old).page_size }
-    ensures fits { IfOk result (λ done. P.tells pages.old → (index : Index) → (was : List ℕ) → HasBody P.Ground pages.old index place was
-        → IsTrue done ↔ (length body.now ≤ length was + room_of (P.geometry pages.old).page_size (slots_of (P.image pages.old place.page.0)))) }
-    ensures changed { IfOk result (λ done. IsTrue done → P.tells pages.old → (index : Index) → (was : List ℕ) → HasBody P.Ground pages.old index place was
+    ensures fits { IfOk result (λ done. P.tells pages.old → (index : Index) → (was : List ℕ)
+        → HasBody P.Ground pages.old index place was
+        → IsTrue done ↔ (length body.now ≤ length was
+        + room_of (P.geometry pages.old).page_size (slots_of (P.image pages.old place.page.0)))) }
+    ensures changed { IfOk result (λ done. IsTrue done → P.tells pages.old → (index : Index)
+        → (was : List ℕ) → HasBody P.Ground pages.old index place was
         → EditsFile P.Ground pages.old pages.new index index place (Some was) (Some body.now)) }
-    ensures len { OnOk result (P.tells pages.old → length (P.image pages.old place.page.0) ≡ (P.geometry pages.old).page_size) }
-    ensures put { IfOk result (λ done. IsTrue done → (content : List ℕ) × PutsImage P.Ground pages.old pages.new place.page.0 content) }
+    ensures len { OnOk result (P.tells pages.old
+        → length (P.image pages.old place.page.0) ≡ (P.geometry pages.old).page_size) }
+    ensures put { IfOk result (λ done. IsTrue done → (content : List ℕ)
+        × PutsImage P.Ground pages.old pages.new place.page.0 content) }
     ensures kept { IfOk result (λ done. IsFalse done → Keeps P.Ground pages.old pages.new) }
     ensures free { IfOk result (λ done. P.free pages.new ≡ P.free pages.old) }
-    ensures sound { IfErr result (λ fault. IsDamage fault → P.tells pages.old → (index : Index) → (was : List ℕ) → HasBody P.Ground pages.old index place was → ⊥) }
-    ensures fault { IfErr result (λ fault. P.tells pages.old → IsPlaceFault (P.geometry pages.old) (P.image pages.old place.page.0) place fault) }
-    ensures has { OnOk result (P.tells pages.old → HasRecordAt (P.geometry pages.old) (P.image pages.old place.page.0) place) }
+    ensures sound { IfErr result (λ fault. IsDamage fault → P.tells pages.old → (index : Index)
+        → (was : List ℕ) → HasBody P.Ground pages.old index place was → ⊥) }
+    ensures fault { IfErr result (λ fault. P.tells pages.old
+        → IsPlaceFault (P.geometry pages.old) (P.image pages.old place.page.0) place fault) }
+    ensures has { OnOk result (P.tells pages.old
+        → HasRecordAt (P.geometry pages.old) (P.image pages.old place.page.0) place) }
     ensures leads { P.leads pages.old pages.new }
     ensures cause { HasCause (P.faults pages.old) (P.faults pages.new) result }
 {
@@ -59,17 +67,25 @@ pub fn change_body<P: Pages>(
 ) -> Result<bool, PortFault>
     requires ready { P.ready pages.old }
     requires some { 1 ≤ length body.now }
-    ensures fits { IfOk result (λ done. P.tells pages.old → (index : Index) → (was : List ℕ) → HasBody P.Ground pages.old index place was
-        → IsTrue done ↔ (length body.now ≤ length was + room_of (P.geometry pages.old).page_size (slots_of (P.image pages.old place.page.0)))) }
-    ensures changed { IfOk result (λ done. IsTrue done → P.tells pages.old → (index : Index) → (was : List ℕ) → HasBody P.Ground pages.old index place was
+    ensures fits { IfOk result (λ done. P.tells pages.old → (index : Index) → (was : List ℕ)
+        → HasBody P.Ground pages.old index place was
+        → IsTrue done ↔ (length body.now ≤ length was
+        + room_of (P.geometry pages.old).page_size (slots_of (P.image pages.old place.page.0)))) }
+    ensures changed { IfOk result (λ done. IsTrue done → P.tells pages.old → (index : Index)
+        → (was : List ℕ) → HasBody P.Ground pages.old index place was
         → EditsFile P.Ground pages.old pages.new index index place (Some was) (Some body.now)) }
-    ensures len { OnOk result (P.tells pages.old → length (P.image pages.old place.page.0) ≡ (P.geometry pages.old).page_size) }
-    ensures put { IfOk result (λ done. IsTrue done → (content : List ℕ) × PutsImage P.Ground pages.old pages.new place.page.0 content) }
+    ensures len { OnOk result (P.tells pages.old
+        → length (P.image pages.old place.page.0) ≡ (P.geometry pages.old).page_size) }
+    ensures put { IfOk result (λ done. IsTrue done → (content : List ℕ)
+        × PutsImage P.Ground pages.old pages.new place.page.0 content) }
     ensures kept { IfOk result (λ done. IsFalse done → Keeps P.Ground pages.old pages.new) }
     ensures free { IfOk result (λ done. P.free pages.new ≡ P.free pages.old) }
-    ensures sound { IfErr result (λ fault. IsDamage fault → P.tells pages.old → (index : Index) → (was : List ℕ) → HasBody P.Ground pages.old index place was → ⊥) }
-    ensures fault { IfErr result (λ fault. P.tells pages.old → IsPlaceFault (P.geometry pages.old) (P.image pages.old place.page.0) place fault) }
-    ensures has { OnOk result (P.tells pages.old → HasRecordAt (P.geometry pages.old) (P.image pages.old place.page.0) place) }
+    ensures sound { IfErr result (λ fault. IsDamage fault → P.tells pages.old → (index : Index)
+        → (was : List ℕ) → HasBody P.Ground pages.old index place was → ⊥) }
+    ensures fault { IfErr result (λ fault. P.tells pages.old
+        → IsPlaceFault (P.geometry pages.old) (P.image pages.old place.page.0) place fault) }
+    ensures has { OnOk result (P.tells pages.old
+        → HasRecordAt (P.geometry pages.old) (P.image pages.old place.page.0) place) }
     ensures leads { P.leads pages.old pages.new }
     ensures cause { HasCause (P.faults pages.old) (P.faults pages.new) result }
 {

@@ -60,7 +60,8 @@ fn page_checked(bytes: &[u8], page: PageNo, file_no: u32) -> Result<SlottedView<
     ensures ok { OnOk result (IsPageOf file_no bytes.now) }
     ensures view { IfOk result (λ view. view ≡ viewed_on bytes.now) }
     ensures err { IfErr result (λ fault. IsPageOf file_no bytes.now → ⊥) }
-    ensures fault { IfErr result (λ fault. (g : Geometry) → IsFilesPage g page.0 → IsFilePageFault g bytes.now file_no page.0 fault) }
+    ensures fault { IfErr result (λ fault. (g : Geometry) → IsFilesPage g page.0
+        → IsFilePageFault g bytes.now file_no page.0 fault) }
     ensures cause { (before now : ℕ) → HasCause before now result }
 {
     let Some(view) = SlottedView::of(bytes) else {
@@ -102,8 +103,11 @@ pub fn load_page<P: ReadPages>(
     ensures bytes { OnOk result (P.tells pages.old → out.new ≡ P.image pages.old page.0) }
     ensures of { OnOk result (IsPageOf file_no out.new) }
     ensures area { OnOk result (IsFilesPage (P.geometry pages.old) page.0) }
-    ensures sound { IfErr result (λ fault. IsDamage fault → P.tells pages.old → IsFilesPage (P.geometry pages.old) page.0 → IsPageOf file_no (P.image pages.old page.0) → ⊥) }
-    ensures fault { IfErr result (λ fault. P.tells pages.old → IsFilePageFault (P.geometry pages.old) (P.image pages.old page.0) file_no page.0 fault) }
+    ensures sound { IfErr result (λ fault. IsDamage fault → P.tells pages.old
+        → IsFilesPage (P.geometry pages.old) page.0 → IsPageOf file_no (P.image pages.old page.0)
+        → ⊥) }
+    ensures fault { IfErr result (λ fault. P.tells pages.old
+        → IsFilePageFault (P.geometry pages.old) (P.image pages.old page.0) file_no page.0 fault) }
     ensures page { OnOk result (P.tells pages.old → IsPageOf file_no (P.image pages.old page.0)) }
     ensures kept { Keeps P.Ground pages.old pages.new }
     ensures cause { HasCause (P.faults pages.old) (P.faults pages.new) result }
@@ -150,9 +154,13 @@ pub fn load_body_page<P: ReadPages>(
     ensures file { IfOk result (λ file_no. (page_on out.new).file_no ≡ file_no) }
     ensures live { OnOk result (IsLive out.new place.slot) }
     ensures area { OnOk result (IsFilesPage (P.geometry pages.old) place.page.0) }
-    ensures sound { IfErr result (λ fault. IsDamage fault → P.tells pages.old → IsFilesPage (P.geometry pages.old) place.page.0 → IsPage (P.image pages.old place.page.0) → IsLive (P.image pages.old place.page.0) place.slot → ⊥) }
-    ensures fault { IfErr result (λ fault. P.tells pages.old → IsPlaceFault (P.geometry pages.old) (P.image pages.old place.page.0) place fault) }
-    ensures has { OnOk result (P.tells pages.old → HasRecordAt (P.geometry pages.old) (P.image pages.old place.page.0) place) }
+    ensures sound { IfErr result (λ fault. IsDamage fault → P.tells pages.old
+        → IsFilesPage (P.geometry pages.old) place.page.0 → IsPage (P.image pages.old place.page.0)
+        → IsLive (P.image pages.old place.page.0) place.slot → ⊥) }
+    ensures fault { IfErr result (λ fault. P.tells pages.old
+        → IsPlaceFault (P.geometry pages.old) (P.image pages.old place.page.0) place fault) }
+    ensures has { OnOk result (P.tells pages.old
+        → HasRecordAt (P.geometry pages.old) (P.image pages.old place.page.0) place) }
     ensures kept { Keeps P.Ground pages.old pages.new }
     ensures cause { HasCause (P.faults pages.old) (P.faults pages.new) result }
 {
@@ -166,7 +174,8 @@ pub fn load_body_page<P: ReadPages>(
 /// The first slot from a slot on that has a body.
 fn first_live(view: &SlottedView, from: u32) -> Option<u16>
     ensures some { IfSome result (λ slot. IsFirstLive view.now.page.slots from slot) }
-    ensures none { IfNone result ((k : ℕ) → from ≤ k → slice_index_or view.now.page.slots k None ≡ None) }
+    ensures none { IfNone result ((k : ℕ) → from ≤ k
+        → slice_index_or view.now.page.slots k None ≡ None) }
 {
     for slot in from..u32::from(view.slots()) {
         if view.body(slot as u16).is_some() {
@@ -185,11 +194,16 @@ pub fn live_slot<P: ReadPages>(
     from: u32,
 ) -> Result<Option<u16>, PortFault>
     requires { P.ready pages.old }
-    ensures some { IfOk result (λ found. IfSome found (λ slot. P.tells pages.old → IsFirstLive (slots_of (P.image pages.old page.0)) from slot)) }
-    ensures none { IfOk result (λ found. IfNone found (P.tells pages.old → (k : ℕ) → from ≤ k → slice_index_or (slots_of (P.image pages.old page.0)) k None ≡ None)) }
+    ensures some { IfOk result (λ found. IfSome found (λ slot. P.tells pages.old
+        → IsFirstLive (slots_of (P.image pages.old page.0)) from slot)) }
+    ensures none { IfOk result (λ found. IfNone found (P.tells pages.old → (k : ℕ) → from ≤ k
+        → slice_index_or (slots_of (P.image pages.old page.0)) k None ≡ None)) }
     ensures area { OnOk result (IsFilesPage (P.geometry pages.old) page.0) }
-    ensures sound { IfErr result (λ fault. IsDamage fault → P.tells pages.old → IsFilesPage (P.geometry pages.old) page.0 → IsPageOf file_no (P.image pages.old page.0) → ⊥) }
-    ensures fault { IfErr result (λ fault. P.tells pages.old → IsFilePageFault (P.geometry pages.old) (P.image pages.old page.0) file_no page.0 fault) }
+    ensures sound { IfErr result (λ fault. IsDamage fault → P.tells pages.old
+        → IsFilesPage (P.geometry pages.old) page.0 → IsPageOf file_no (P.image pages.old page.0)
+        → ⊥) }
+    ensures fault { IfErr result (λ fault. P.tells pages.old
+        → IsFilePageFault (P.geometry pages.old) (P.image pages.old page.0) file_no page.0 fault) }
     ensures page { OnOk result (P.tells pages.old → IsPageOf file_no (P.image pages.old page.0)) }
     ensures kept { Keeps P.Ground pages.old pages.new }
     ensures cause { HasCause (P.faults pages.old) (P.faults pages.new) result }
@@ -206,9 +220,11 @@ pub fn live_slot<P: ReadPages>(
 
 /// The body in a slot of a page, none where the page is no page of a file.
 pub fn body_on(page: &[u8], slot: u16) -> Option<&[u8]>
-    ensures body { IsPage page.now → option_map (λ body. body.now) result ≡ slice_index_or (slots_of page.now) slot None }
+    ensures body { IsPage page.now → option_map (λ body. body.now) result
+        ≡ slice_index_or (slots_of page.now) slot None }
     ensures none { (IsPage page.now → ⊥) → IsNone result }
-    ensures some { IfSome result (λ body. slice_index_or (slots_of page.now) slot None ≡ Some body.now) }
+    ensures some { IfSome result (λ body. slice_index_or (slots_of page.now) slot None
+        ≡ Some body.now) }
 {
     match SlottedView::of(page) {
         Some(view) => view.body(slot),
@@ -218,7 +234,8 @@ pub fn body_on(page: &[u8], slot: u16) -> Option<&[u8]>
 
 /// The number of the file that a page belongs to, none where it is no page of a file.
 pub fn file_on(page: &[u8]) -> Option<u32>
-    ensures some { IfSome result (λ file_no. IsPage page.now × ((page_on page.now).file_no ≡ file_no)) }
+    ensures some { IfSome result (λ file_no. IsPage page.now
+        × ((page_on page.now).file_no ≡ file_no)) }
     ensures none { IfNone result (IsPage page.now → ⊥) }
 {
     match SlottedView::of(page) {

@@ -65,7 +65,8 @@ impl Room {
 /// Once a place of a file was edited, what was known of the file's room is still true when it is lowered to the place's page.
 pub fn a_lowered_room_stays_true<P: ReadPages>()
     ensures { (old new : P) (before after : Index) (place : Place) (was is : Slot) (room : Room)
-        → EditsFile P.Ground old new before after place was is → IsRoom P.Ground old before room → IsRoom P.Ground new after (lowered_to room place.page.0) }
+        → EditsFile P.Ground old new before after place was is → IsRoom P.Ground old before room
+        → IsRoom P.Ground new after (lowered_to room place.page.0) }
 {}
 
 /// Reads the lowest page from a number on that has room for a body, and puts it into the page's image. None exactly where no page has.
@@ -81,12 +82,19 @@ fn put_in_room<P: ReadPages>(
     requires usable { IsUsable index.now.file_no index.now }
     requires some { 1 ≤ length body.now }
     requires image { length image.old ≡ (P.geometry pages.old).page_size }
-    ensures placed { IfOk result (λ found. P.tells pages.old → HasFile P.Ground pages.old index.now → IfSome found (λ place. IsPlaced P.Ground pages.old index.now from body.now place image.new)) }
-    ensures area { IfOk result (λ found. IfSome found (λ place. IsFilesPage (P.geometry pages.old) place.page.0)) }
-    ensures none { IfOk result (λ found. IfNone found (P.tells pages.old → HasFile P.Ground pages.old index.now → NoneFrom P.Ground pages.old index.now (length body.now) from)) }
-    ensures sound { IfErr result (λ fault. IsDamage fault → P.tells pages.old → HasFile P.Ground pages.old index.now → ⊥) }
-    ensures fault { IfErr result (λ fault. P.tells pages.old → IsLookFault (P.geometry pages.old) (P.image pages.old) index.now from fault) }
-    ensures way { IfOk result (λ found. P.tells pages.old → IsLook (P.geometry pages.old) (P.image pages.old) index.now from (page_in found)) }
+    ensures placed { IfOk result (λ found. P.tells pages.old → HasFile P.Ground pages.old index.now
+        → IfSome found (λ place. IsPlaced P.Ground pages.old index.now from body.now place image.new)) }
+    ensures area { IfOk result
+        (λ found. IfSome found (λ place. IsFilesPage (P.geometry pages.old) place.page.0)) }
+    ensures none { IfOk result (λ found. IfNone found (P.tells pages.old
+        → HasFile P.Ground pages.old index.now
+        → NoneFrom P.Ground pages.old index.now (length body.now) from)) }
+    ensures sound { IfErr result (λ fault. IsDamage fault → P.tells pages.old
+        → HasFile P.Ground pages.old index.now → ⊥) }
+    ensures fault { IfErr result (λ fault. P.tells pages.old
+        → IsLookFault (P.geometry pages.old) (P.image pages.old) index.now from fault) }
+    ensures way { IfOk result (λ found. P.tells pages.old
+        → IsLook (P.geometry pages.old) (P.image pages.old) index.now from (page_in found)) }
     ensures kept { Keeps P.Ground pages.old pages.new }
     ensures cause { HasCause (P.faults pages.old) (P.faults pages.new) result }
 {
@@ -123,13 +131,18 @@ fn put_on_new_page<P: Pages>(
     requires fits { length body.now + 20 ≤ (P.geometry pages.old).page_size }
     requires free { 7 ≤ P.free pages.old Page }
     requires image { length image.old ≡ (P.geometry pages.old).page_size }
-    ensures placed { IfOk result (λ place. P.tells pages.old → HasFile P.Ground pages.old index.now → NoneFrom P.Ground pages.old index.now (length body.now) 0
+    ensures placed { IfOk result (λ place. P.tells pages.old → HasFile P.Ground pages.old index.now
+        → NoneFrom P.Ground pages.old index.now (length body.now) 0
         → PlacesBody P.Ground pages.old pages.new index.now place body.now) }
-    ensures puts { IfOk result (λ place. P.tells pages.old → HasFile P.Ground pages.old index.now → PutsBody P.Ground pages.old pages.new index.now place body.now) }
+    ensures puts { IfOk result (λ place. P.tells pages.old → HasFile P.Ground pages.old index.now
+        → PutsBody P.Ground pages.old pages.new index.now place body.now) }
     ensures free { OnOk result (P.free pages.old Page ≤ P.free pages.new Page + 7) }
-    ensures sound { IfErr result (λ fault. IsDamage fault → P.tells pages.old → HasFile P.Ground pages.old index.now → ⊥) }
-    ensures fault { IfErr result (λ fault. P.tells pages.old → (from : ℕ) → IsPlacingFault (P.geometry pages.old) (P.image pages.old) index.now from fault) }
-    ensures way { IfOk result (λ place. P.tells pages.old → (from : ℕ) → IsLook (P.geometry pages.old) (P.image pages.old) index.now from None
+    ensures sound { IfErr result (λ fault. IsDamage fault → P.tells pages.old
+        → HasFile P.Ground pages.old index.now → ⊥) }
+    ensures fault { IfErr result (λ fault. P.tells pages.old → (from : ℕ)
+        → IsPlacingFault (P.geometry pages.old) (P.image pages.old) index.now from fault) }
+    ensures way { IfOk result (λ place. P.tells pages.old → (from : ℕ)
+        → IsLook (P.geometry pages.old) (P.image pages.old) index.now from None
         → IsPlacing (P.geometry pages.old) (P.image pages.old) index.now from place.page) }
     ensures leads { P.leads pages.old pages.new }
     ensures cause { HasCause (P.faults pages.old) (P.faults pages.new) result }
@@ -165,13 +178,18 @@ fn place_by<P: Pages>(
     requires fits { length body.now + 20 ≤ (P.geometry pages.old).page_size }
     requires free { 7 ≤ P.free pages.old Page }
     requires image { length image.old ≡ (P.geometry pages.old).page_size }
-    ensures placed { IfOk result (λ place. P.tells pages.old → HasFile P.Ground pages.old index.now → NoRoom P.Ground pages.old index.now (length body.now) 0 from
+    ensures placed { IfOk result (λ place. P.tells pages.old → HasFile P.Ground pages.old index.now
+        → NoRoom P.Ground pages.old index.now (length body.now) 0 from
         → PlacesBody P.Ground pages.old pages.new index.now place body.now) }
-    ensures puts { IfOk result (λ place. P.tells pages.old → HasFile P.Ground pages.old index.now → PutsBody P.Ground pages.old pages.new index.now place body.now) }
+    ensures puts { IfOk result (λ place. P.tells pages.old → HasFile P.Ground pages.old index.now
+        → PutsBody P.Ground pages.old pages.new index.now place body.now) }
     ensures free { OnOk result (P.free pages.old Page ≤ P.free pages.new Page + 7) }
-    ensures sound { IfErr result (λ fault. IsDamage fault → P.tells pages.old → HasFile P.Ground pages.old index.now → ⊥) }
-    ensures fault { IfErr result (λ fault. P.tells pages.old → IsPlacingFault (P.geometry pages.old) (P.image pages.old) index.now from fault) }
-    ensures way { IfOk result (λ place. P.tells pages.old → IsPlacing (P.geometry pages.old) (P.image pages.old) index.now from place.page) }
+    ensures sound { IfErr result (λ fault. IsDamage fault → P.tells pages.old
+        → HasFile P.Ground pages.old index.now → ⊥) }
+    ensures fault { IfErr result (λ fault. P.tells pages.old
+        → IsPlacingFault (P.geometry pages.old) (P.image pages.old) index.now from fault) }
+    ensures way { IfOk result (λ place. P.tells pages.old
+        → IsPlacing (P.geometry pages.old) (P.image pages.old) index.now from place.page) }
     ensures leads { P.leads pages.old pages.new }
     ensures cause { HasCause (P.faults pages.old) (P.faults pages.new) result }
 {
@@ -199,13 +217,18 @@ fn place_from<P: Pages>(
     requires some { 1 ≤ length body.now }
     requires fits { length body.now + 20 ≤ (P.geometry pages.old).page_size }
     requires free { 7 ≤ P.free pages.old Page }
-    ensures placed { IfOk result (λ place. P.tells pages.old → HasFile P.Ground pages.old index.now → NoRoom P.Ground pages.old index.now (length body.now) 0 from
+    ensures placed { IfOk result (λ place. P.tells pages.old → HasFile P.Ground pages.old index.now
+        → NoRoom P.Ground pages.old index.now (length body.now) 0 from
         → PlacesBody P.Ground pages.old pages.new index.now place body.now) }
-    ensures puts { IfOk result (λ place. P.tells pages.old → HasFile P.Ground pages.old index.now → PutsBody P.Ground pages.old pages.new index.now place body.now) }
+    ensures puts { IfOk result (λ place. P.tells pages.old → HasFile P.Ground pages.old index.now
+        → PutsBody P.Ground pages.old pages.new index.now place body.now) }
     ensures free { OnOk result (P.free pages.old Page ≤ P.free pages.new Page + 7) }
-    ensures sound { IfErr result (λ fault. IsDamage fault → P.tells pages.old → HasFile P.Ground pages.old index.now → ⊥) }
-    ensures fault { IfErr result (λ fault. P.tells pages.old → IsPlacingFault (P.geometry pages.old) (P.image pages.old) index.now from fault) }
-    ensures way { IfOk result (λ place. P.tells pages.old → IsPlacing (P.geometry pages.old) (P.image pages.old) index.now from place.page) }
+    ensures sound { IfErr result (λ fault. IsDamage fault → P.tells pages.old
+        → HasFile P.Ground pages.old index.now → ⊥) }
+    ensures fault { IfErr result (λ fault. P.tells pages.old
+        → IsPlacingFault (P.geometry pages.old) (P.image pages.old) index.now from fault) }
+    ensures way { IfOk result (λ place. P.tells pages.old
+        → IsPlacing (P.geometry pages.old) (P.image pages.old) index.now from place.page) }
     ensures leads { P.leads pages.old pages.new }
     ensures cause { HasCause (P.faults pages.old) (P.faults pages.new) result }
 {
@@ -228,17 +251,26 @@ pub fn place_body<P: Pages>(
     requires some { 1 ≤ length body.now }
     requires fits { length body.now + 20 ≤ (P.geometry pages.old).page_size }
     requires free { 7 ≤ P.free pages.old Page }
-    ensures placed { IfOk result (λ place. P.tells pages.old → (index : Index) → HasFile P.Ground pages.old index → index.file_no ≡ room.old.file_no → IsRoom P.Ground pages.old index room.old
+    ensures placed { IfOk result (λ place. P.tells pages.old → (index : Index)
+        → HasFile P.Ground pages.old index → index.file_no ≡ room.old.file_no
+        → IsRoom P.Ground pages.old index room.old
         → PlacesBody P.Ground pages.old pages.new index place body.now) }
-    ensures anywhere { IfOk result (λ place. P.tells pages.old → (index : Index) → HasFile P.Ground pages.old index → index.file_no ≡ room.old.file_no
+    ensures anywhere { IfOk result (λ place. P.tells pages.old → (index : Index)
+        → HasFile P.Ground pages.old index → index.file_no ≡ room.old.file_no
         → PutsBody P.Ground pages.old pages.new index place body.now) }
-    ensures room { IfOk result (λ place. room.new ≡ record { file_no = room.old.file_no; from = place.page; len = length body.now }) }
+    ensures room { IfOk result (λ place. room.new
+        ≡ record { file_no = room.old.file_no; from = place.page; len = length body.now }) }
     ensures free { OnOk result (P.free pages.old Page ≤ P.free pages.new Page + 7) }
-    ensures sound { IfErr result (λ fault. IsDamage fault → P.tells pages.old → (index : Index) → HasFile P.Ground pages.old index → index.file_no ≡ room.old.file_no → ⊥) }
-    ensures fault { IfErr result (λ fault. P.tells pages.old → IsListedFault (P.image pages.old) room.old.file_no
-        (λ index. IsPlacingFault (P.geometry pages.old) (P.image pages.old) index (start_of room.old (length body.now)) fault) fault) }
-    ensures way { IfOk result (λ place. P.tells pages.old → HasListed (P.image pages.old) room.old.file_no
-        (λ index. IsPlacing (P.geometry pages.old) (P.image pages.old) index (start_of room.old (length body.now)) place.page)) }
+    ensures sound { IfErr result (λ fault. IsDamage fault → P.tells pages.old → (index : Index)
+        → HasFile P.Ground pages.old index → index.file_no ≡ room.old.file_no → ⊥) }
+    ensures fault { IfErr result (λ fault. P.tells pages.old
+        → IsListedFault (P.image pages.old) room.old.file_no
+        (λ index. IsPlacingFault (P.geometry pages.old) (P.image pages.old) index
+        (start_of room.old (length body.now)) fault) fault) }
+    ensures way { IfOk result (λ place. P.tells pages.old
+        → HasListed (P.image pages.old) room.old.file_no
+        (λ index. IsPlacing (P.geometry pages.old) (P.image pages.old) index
+        (start_of room.old (length body.now)) place.page)) }
     ensures leads { P.leads pages.old pages.new }
     ensures cause { HasCause (P.faults pages.old) (P.faults pages.new) result }
 {

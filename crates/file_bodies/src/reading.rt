@@ -21,7 +21,8 @@ use std::alloc::Global;
 
 /// The bodies of a whole file stand in order of their places.
 pub fn bodies_stand_in_order<P: ReadPages>()
-    ensures { (s : P) (index : Index) → HasFile P.Ground s index → InPlaceOrder (bodies_of (P.image s) index) }
+    ensures { (s : P) (index : Index) → HasFile P.Ground s index
+        → InPlaceOrder (bodies_of (P.image s) index) }
 {}
 
 /// The number of the file that a page says it belongs to, none where it can't be a page of a file.
@@ -31,9 +32,13 @@ fn file_at<P: ReadPages>(
     page: PageNo,
 ) -> Result<Option<u32>, PortFault>
     requires { P.ready pages.old }
-    ensures some { IfOk result (λ found. IfSome found (λ file_no. P.tells pages.old → IsPage (P.image pages.old page.0) × ((page_on (P.image pages.old page.0)).file_no ≡ file_no))) }
-    ensures area { IfOk result (λ found. IfSome found (λ file_no. IsFilesPage (P.geometry pages.old) page.0)) }
-    ensures none { IfOk result (λ found. IfNone found (P.tells pages.old → IsFilesPage (P.geometry pages.old) page.0 → IsPage (P.image pages.old page.0) → ⊥)) }
+    ensures some { IfOk result (λ found. IfSome found (λ file_no. P.tells pages.old
+        → IsPage (P.image pages.old page.0)
+        × ((page_on (P.image pages.old page.0)).file_no ≡ file_no))) }
+    ensures area { IfOk result
+        (λ found. IfSome found (λ file_no. IsFilesPage (P.geometry pages.old) page.0)) }
+    ensures none { IfOk result (λ found. IfNone found (P.tells pages.old
+        → IsFilesPage (P.geometry pages.old) page.0 → IsPage (P.image pages.old page.0) → ⊥)) }
     ensures no_damage { IfErr result (λ fault. IsDamage fault → ⊥) }
     ensures kept { Keeps P.Ground pages.old pages.new }
     ensures cause { HasCause (P.faults pages.old) (P.faults pages.new) result }
@@ -53,11 +58,18 @@ fn names<P: ReadPages>(
 ) -> Result<bool, PortFault>
     requires ready { P.ready pages.old }
     requires usable { IsUsable index.now.file_no index.now }
-    ensures yes { IfOk result (λ named. IsTrue named → P.tells pages.old → HasFile P.Ground pages.old index.now → Contains (pages_in (P.image pages.old) index.now) page.0) }
-    ensures no { IfOk result (λ named. named ≡ false → P.tells pages.old → HasFile P.Ground pages.old index.now → Contains (pages_in (P.image pages.old) index.now) page.0 → ⊥) }
-    ensures sound { IfErr result (λ fault. IsDamage fault → P.tells pages.old → HasFile P.Ground pages.old index.now → ⊥) }
-    ensures fault { IfErr result (λ fault. P.tells pages.old → IsIndexFault (P.geometry pages.old) (P.image pages.old) index.now page.0 fault) }
-    ensures way { OnOk result (P.tells pages.old → HasWay (P.geometry pages.old) (P.image pages.old) index.now page.0) }
+    ensures yes { IfOk result (λ named. IsTrue named → P.tells pages.old
+        → HasFile P.Ground pages.old index.now
+        → Contains (pages_in (P.image pages.old) index.now) page.0) }
+    ensures no { IfOk result (λ named. named ≡ false → P.tells pages.old
+        → HasFile P.Ground pages.old index.now
+        → Contains (pages_in (P.image pages.old) index.now) page.0 → ⊥) }
+    ensures sound { IfErr result (λ fault. IsDamage fault → P.tells pages.old
+        → HasFile P.Ground pages.old index.now → ⊥) }
+    ensures fault { IfErr result (λ fault. P.tells pages.old
+        → IsIndexFault (P.geometry pages.old) (P.image pages.old) index.now page.0 fault) }
+    ensures way { OnOk result (P.tells pages.old
+        → HasWay (P.geometry pages.old) (P.image pages.old) index.now page.0) }
     ensures kept { Keeps P.Ground pages.old pages.new }
     ensures cause { HasCause (P.faults pages.old) (P.faults pages.new) result }
 {
@@ -71,12 +83,17 @@ fn names<P: ReadPages>(
 /// Whether a page is one of a file.
 fn is_of_file<P: ReadPages>(pages: &mut P, alloc: Global, page: PageNo) -> Result<bool, PortFault>
     requires { P.ready pages.old }
-    ensures yes { IfOk result (λ of. IsTrue of → P.tells pages.old → HasFileOf P.Ground pages.old page.0 → IsOfFile P.Ground pages.old page.0) }
-    ensures no { IfOk result (λ of. of ≡ false → P.tells pages.old → IsOfFile P.Ground pages.old page.0 → ⊥) }
+    ensures yes { IfOk result (λ of. IsTrue of → P.tells pages.old
+        → HasFileOf P.Ground pages.old page.0 → IsOfFile P.Ground pages.old page.0) }
+    ensures no { IfOk result (λ of. of ≡ false → P.tells pages.old
+        → IsOfFile P.Ground pages.old page.0 → ⊥) }
     ensures area { IfOk result (λ of. IsTrue of → IsFilesPage (P.geometry pages.old) page.0) }
-    ensures sound { IfErr result (λ fault. IsDamage fault → P.tells pages.old → HasFileOf P.Ground pages.old page.0 → ⊥) }
-    ensures fault { IfErr result (λ fault. P.tells pages.old → IsBelongingFault (P.geometry pages.old) (P.image pages.old) page.0 fault) }
-    ensures way { OnOk result (P.tells pages.old → IsBelonging (P.geometry pages.old) (P.image pages.old) page.0) }
+    ensures sound { IfErr result (λ fault. IsDamage fault → P.tells pages.old
+        → HasFileOf P.Ground pages.old page.0 → ⊥) }
+    ensures fault { IfErr result (λ fault. P.tells pages.old
+        → IsBelongingFault (P.geometry pages.old) (P.image pages.old) page.0 fault) }
+    ensures way { OnOk result (P.tells pages.old
+        → IsBelonging (P.geometry pages.old) (P.image pages.old) page.0) }
     ensures kept { Keeps P.Ground pages.old pages.new }
     ensures cause { HasCause (P.faults pages.old) (P.faults pages.new) result }
 {
@@ -100,15 +117,24 @@ pub fn body_at<P: ReadPages>(
     place: Place,
 ) -> Result<Option<&[u8]>, PortFault>
     requires { P.ready pages.old }
-    ensures found { IfOk result (λ found. P.tells pages.old → HasFileOf P.Ground pages.old place.page.0
-        → MatchOption found ((body : List ℕ) → HasSomeBody P.Ground pages.old place body → ⊥) (λ body. HasSomeBody P.Ground pages.old place body.now)) }
+    ensures found { IfOk result (λ found. P.tells pages.old
+        → HasFileOf P.Ground pages.old place.page.0
+        → MatchOption found ((body : List ℕ) → HasSomeBody P.Ground pages.old place body
+        → ⊥) (λ body. HasSomeBody P.Ground pages.old place body.now)) }
     ensures stands { IfOk result (λ found. P.tells pages.old
-        → IfSome found (λ body. slice_index_or (slots_of (P.image pages.old place.page.0)) place.slot None ≡ Some body.now)) }
-    ensures sound { IfErr result (λ fault. IsDamage fault → P.tells pages.old → HasFileOf P.Ground pages.old place.page.0 → ⊥) }
-    ensures fault { IfErr result (λ fault. P.tells pages.old → IsBelongingFault (P.geometry pages.old) (P.image pages.old) place.page.0 fault) }
-    ensures way { OnOk result (P.tells pages.old → IsBelonging (P.geometry pages.old) (P.image pages.old) place.page.0) }
-    ensures page { OnOk result (P.tells pages.old → (index : Index) (body : List ℕ) → HasBody P.Ground pages.old index place body → length (P.image pages.old place.page.0) ≡ (P.geometry pages.old).page_size) }
-    ensures* after { sem 𝓛 (Rests P.row pages.entry (λ new. Keeps P.Ground pages.old new × HasCause (P.faults pages.old) (P.faults new) result)) }
+        → IfSome found (λ body. slice_index_or
+        (slots_of (P.image pages.old place.page.0)) place.slot None ≡ Some body.now)) }
+    ensures sound { IfErr result (λ fault. IsDamage fault → P.tells pages.old
+        → HasFileOf P.Ground pages.old place.page.0 → ⊥) }
+    ensures fault { IfErr result (λ fault. P.tells pages.old
+        → IsBelongingFault (P.geometry pages.old) (P.image pages.old) place.page.0 fault) }
+    ensures way { OnOk result (P.tells pages.old
+        → IsBelonging (P.geometry pages.old) (P.image pages.old) place.page.0) }
+    ensures page { OnOk result (P.tells pages.old → (index : Index) (body : List ℕ)
+        → HasBody P.Ground pages.old index place body
+        → length (P.image pages.old place.page.0) ≡ (P.geometry pages.old).page_size) }
+    ensures* after { sem 𝓛 (Rests P.row pages.entry (λ new. Keeps P.Ground pages.old new
+        × HasCause (P.faults pages.old) (P.faults new) result)) }
 {
     match is_of_file(pages, alloc, place.page) {
         Ok(true) => {}
@@ -129,25 +155,34 @@ fn first_from<P: ReadPages>(
 ) -> Result<Option<Place>, PortFault>
     requires ready { P.ready pages.old }
     requires usable { IsUsable index.now.file_no index.now }
-    ensures first { IfOk result (λ found. P.tells pages.old → HasFile P.Ground pages.old index.now → FirstFrom (bodies_of (P.image pages.old) index.now) key slot found) }
-    ensures sound { IfErr result (λ fault. IsDamage fault → P.tells pages.old → HasFile P.Ground pages.old index.now → ⊥) }
-    ensures fault { IfErr result (λ fault. P.tells pages.old → IsLookFault (P.geometry pages.old) (P.image pages.old) index.now key fault) }
-    ensures way { IfOk result (λ found. P.tells pages.old → IsLook (P.geometry pages.old) (P.image pages.old) index.now key (page_in found)) }
+    ensures first { IfOk result (λ found. P.tells pages.old → HasFile P.Ground pages.old index.now
+        → FirstFrom (bodies_of (P.image pages.old) index.now) key slot found) }
+    ensures sound { IfErr result (λ fault. IsDamage fault → P.tells pages.old
+        → HasFile P.Ground pages.old index.now → ⊥) }
+    ensures fault { IfErr result (λ fault. P.tells pages.old
+        → IsLookFault (P.geometry pages.old) (P.image pages.old) index.now key fault) }
+    ensures way { IfOk result (λ found. P.tells pages.old
+        → IsLook (P.geometry pages.old) (P.image pages.old) index.now key (page_in found)) }
     ensures kept { Keeps P.Ground pages.old pages.new }
     ensures cause { HasCause (P.faults pages.old) (P.faults pages.new) result }
 {
-    let page = match at_least(pages, alloc, index, PageNo(key)) {
-        Ok(None) => return Ok(None),
-        Ok(Some(page)) => page,
-        Err(fault) => return Err(fault),
-    };
-    let from = slot_from(page, key, slot);
-    match live_slot(pages, alloc, page, index.file_no, from) {
-        Ok(Some(slot)) => return Ok(Some(Place { page, slot })),
-        Ok(None) => {}
-        Err(fault) => return Err(fault),
+    let mut low = key;
+    let mut first = slot;
+    'looked: loop {
+        let page = match at_least(pages, alloc, index, PageNo(low)) {
+            Ok(None) => return Ok(None),
+            Ok(Some(page)) => page,
+            Err(fault) => return Err(fault),
+        };
+        let from = slot_from(page, low, first);
+        match live_slot(pages, alloc, page, index.file_no, from) {
+            Ok(Some(slot)) => return Ok(Some(Place { page, slot })),
+            Ok(None) => {}
+            Err(fault) => return Err(fault),
+        }
+        low = page.0 + 1;
+        first = 0;
     }
-    first_from(pages, alloc, index, page.0 + 1, 0)
 }
 
 /// The slot from which a page is looked at: the named one on the page with the number, the first one on another.
@@ -166,12 +201,19 @@ pub fn next_place<P: ReadPages>(
     after: Option<Place>,
 ) -> Result<Option<Place>, PortFault>
     requires { P.ready pages.old }
-    ensures next { IfOk result (λ next. P.tells pages.old → (index : Index) → HasFile P.Ground pages.old index → index.file_no ≡ file_no → IsNext (bodies_of (P.image pages.old) index) after next) }
-    ensures sound { IfErr result (λ fault. IsDamage fault → P.tells pages.old → (index : Index) → HasFile P.Ground pages.old index → index.file_no ≡ file_no → ⊥) }
+    ensures next { IfOk result (λ next. P.tells pages.old → (index : Index)
+        → HasFile P.Ground pages.old index → index.file_no ≡ file_no
+        → IsNext (bodies_of (P.image pages.old) index) after next) }
+    ensures sound { IfErr result (λ fault. IsDamage fault → P.tells pages.old → (index : Index)
+        → HasFile P.Ground pages.old index → index.file_no ≡ file_no → ⊥) }
     ensures fault { IfErr result (λ fault. P.tells pages.old
-        → IsListedFault (P.image pages.old) file_no (λ index. IsLookFault (P.geometry pages.old) (P.image pages.old) index (page_from after) fault) fault) }
+        → IsListedFault (P.image pages.old) file_no
+        (λ index. IsLookFault (P.geometry pages.old) (P.image pages.old) index
+        (page_from after) fault) fault) }
     ensures way { IfOk result (λ next. P.tells pages.old
-        → HasListed (P.image pages.old) file_no (λ index. IsLook (P.geometry pages.old) (P.image pages.old) index (page_from after) (page_in next))) }
+        → HasListed (P.image pages.old) file_no
+        (λ index. IsLook (P.geometry pages.old) (P.image pages.old) index (page_from after)
+        (page_in next))) }
     ensures kept { Keeps P.Ground pages.old pages.new }
     ensures cause { HasCause (P.faults pages.old) (P.faults pages.new) result }
 {

@@ -30,13 +30,20 @@ fn drop_page<P: Pages>(
     requires ready { P.ready pages.old }
     requires page { IsFilesPage (P.geometry pages.old) page.0 }
     requires buffer { length buffer.old ≡ (P.geometry pages.old).page_size }
-    ensures leaves { OnOk result (P.tells pages.old → (index : Index) → HasFile P.Ground pages.old index → index.file_no ≡ file_no
-        → Contains (pages_in (P.image pages.old) index) page.0 → LeavesFile P.Ground pages.old pages.new index page.0) }
+    ensures leaves { OnOk result (P.tells pages.old → (index : Index)
+        → HasFile P.Ground pages.old index → index.file_no ≡ file_no
+        → Contains (pages_in (P.image pages.old) index) page.0
+        → LeavesFile P.Ground pages.old pages.new index page.0) }
     ensures free { OnOk result (P.free pages.old Page ≤ P.free pages.new Page) }
-    ensures sound { IfErr result (λ fault. IsDamage fault → P.tells pages.old → (index : Index) → HasFile P.Ground pages.old index → index.file_no ≡ file_no → ⊥) }
-    ensures fault { IfErr result (λ fault. P.tells pages.old → IsListedFault (P.image pages.old) file_no
-        (λ index. IsLeavingFault (P.geometry pages.old) (P.image pages.old) (P.image pages.new) index page.0 fault) fault) }
-    ensures way { OnOk result (P.tells pages.old → HasListed (P.image pages.old) file_no (λ index. HasWay (P.geometry pages.old) (P.image pages.old) index page.0)) }
+    ensures sound { IfErr result (λ fault. IsDamage fault → P.tells pages.old → (index : Index)
+        → HasFile P.Ground pages.old index → index.file_no ≡ file_no → ⊥) }
+    ensures fault { IfErr result (λ fault. P.tells pages.old
+        → IsListedFault (P.image pages.old) file_no
+        (λ index. IsLeavingFault (P.geometry pages.old) (P.image pages.old)
+        (P.image pages.new) index page.0 fault) fault) }
+    ensures way { OnOk result (P.tells pages.old
+        → HasListed (P.image pages.old) file_no
+        (λ index. HasWay (P.geometry pages.old) (P.image pages.old) index page.0)) }
     ensures leads { P.leads pages.old pages.new }
     ensures cause { HasCause (P.faults pages.old) (P.faults pages.new) result }
 {
@@ -67,12 +74,20 @@ fn remove_by<P: Pages>(
 ) -> Result<(), PortFault>
     requires ready { P.ready pages.old }
     requires image { length image.old ≡ (P.geometry pages.old).page_size }
-    ensures removes { OnOk result (P.tells pages.old → (index : Index) → (body : List ℕ) → HasBody P.Ground pages.old index place body → RemovesBody P.Ground pages.old pages.new index place body) }
+    ensures removes { OnOk result (P.tells pages.old → (index : Index) → (body : List ℕ)
+        → HasBody P.Ground pages.old index place body
+        → RemovesBody P.Ground pages.old pages.new index place body) }
     ensures free { OnOk result (P.free pages.old Page ≤ P.free pages.new Page) }
-    ensures sound { IfErr result (λ fault. IsDamage fault → P.tells pages.old → (index : Index) → (body : List ℕ) → HasBody P.Ground pages.old index place body → ⊥) }
-    ensures fault { IfErr result (λ fault. P.tells pages.old → IsTakingFault (P.geometry pages.old) (P.image pages.old) (P.image pages.new) place fault) }
-    ensures has { OnOk result (P.tells pages.old → HasRecordAt (P.geometry pages.old) (P.image pages.old place.page.0) place) }
-    ensures way { OnOk result (P.tells pages.old → IsLastOn (P.image pages.old place.page.0) place.slot → HasListed (P.image pages.old) (page_on (P.image pages.old place.page.0)).file_no
+    ensures sound { IfErr result (λ fault. IsDamage fault → P.tells pages.old → (index : Index)
+        → (body : List ℕ) → HasBody P.Ground pages.old index place body → ⊥) }
+    ensures fault { IfErr result (λ fault. P.tells pages.old
+        → IsTakingFault (P.geometry pages.old) (P.image pages.old)
+        (P.image pages.new) place fault) }
+    ensures has { OnOk result (P.tells pages.old
+        → HasRecordAt (P.geometry pages.old) (P.image pages.old place.page.0) place) }
+    ensures way { OnOk result (P.tells pages.old
+        → IsLastOn (P.image pages.old place.page.0) place.slot
+        → HasListed (P.image pages.old) (page_on (P.image pages.old place.page.0)).file_no
         (λ index. HasWay (P.geometry pages.old) (P.image pages.old) index place.page.0)) }
     ensures leads { P.leads pages.old pages.new }
     ensures cause { HasCause (P.faults pages.old) (P.faults pages.new) result }
@@ -95,12 +110,20 @@ pub fn remove_from_file<P: Pages>(
     place: Place,
 ) -> Result<(), PortFault>
     requires { P.ready pages.old }
-    ensures removes { OnOk result (P.tells pages.old → (index : Index) → (body : List ℕ) → HasBody P.Ground pages.old index place body → RemovesBody P.Ground pages.old pages.new index place body) }
+    ensures removes { OnOk result (P.tells pages.old → (index : Index) → (body : List ℕ)
+        → HasBody P.Ground pages.old index place body
+        → RemovesBody P.Ground pages.old pages.new index place body) }
     ensures free { OnOk result (P.free pages.old Page ≤ P.free pages.new Page) }
-    ensures sound { IfErr result (λ fault. IsDamage fault → P.tells pages.old → (index : Index) → (body : List ℕ) → HasBody P.Ground pages.old index place body → ⊥) }
-    ensures fault { IfErr result (λ fault. P.tells pages.old → IsTakingFault (P.geometry pages.old) (P.image pages.old) (P.image pages.new) place fault) }
-    ensures has { OnOk result (P.tells pages.old → HasRecordAt (P.geometry pages.old) (P.image pages.old place.page.0) place) }
-    ensures way { OnOk result (P.tells pages.old → IsLastOn (P.image pages.old place.page.0) place.slot → HasListed (P.image pages.old) (page_on (P.image pages.old place.page.0)).file_no
+    ensures sound { IfErr result (λ fault. IsDamage fault → P.tells pages.old → (index : Index)
+        → (body : List ℕ) → HasBody P.Ground pages.old index place body → ⊥) }
+    ensures fault { IfErr result (λ fault. P.tells pages.old
+        → IsTakingFault (P.geometry pages.old) (P.image pages.old)
+        (P.image pages.new) place fault) }
+    ensures has { OnOk result (P.tells pages.old
+        → HasRecordAt (P.geometry pages.old) (P.image pages.old place.page.0) place) }
+    ensures way { OnOk result (P.tells pages.old
+        → IsLastOn (P.image pages.old place.page.0) place.slot
+        → HasListed (P.image pages.old) (page_on (P.image pages.old place.page.0)).file_no
         (λ index. HasWay (P.geometry pages.old) (P.image pages.old) index place.page.0)) }
     ensures leads { P.leads pages.old pages.new }
     ensures cause { HasCause (P.faults pages.old) (P.faults pages.new) result }

@@ -45,7 +45,8 @@ where
         input: I,
         output: O,
     ) -> Result<FileHost<VolumeFile<F, R>, I, O>, AllocError>
-        ensures { IfOk result (λ host. HasNoFaults (⟦<FileHost<VolumeFile<F, R>, I, O> as World>⟧.outside host)) }
+        ensures { IfOk result
+            (λ host. HasNoFaults (⟦<FileHost<VolumeFile<F, R>, I, O> as World>⟧.outside host)) }
     {
         let Some(path) = path else {
             return Ok(FileHost::over(None, make.unwrap_or(0), input, output));

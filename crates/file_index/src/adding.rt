@@ -22,7 +22,8 @@ use std::alloc::Global;
 /// Puts a page of the file beside the one that a key leads to, and answers whether the entries changed.
 fn add_leaf(entries: &mut Vec<Entry>, at: usize, beside: Entry, key: u32) -> Result<bool, PortFault>
     requires { at < length entries.old.items }
-    ensures added { IfOk result (λ changed. PutsLeaf key at beside entries.old.items entries.new.items changed) }
+    ensures added { IfOk result
+        (λ changed. PutsLeaf key at beside entries.old.items entries.new.items changed) }
     ensures no_damage { IfErr result (λ fault. IsDamage fault → ⊥) }
     ensures cause { (before now : ℕ) → HasCause before now result }
 {
@@ -60,14 +61,23 @@ fn add_among<P: Pages>(
     requires many { length entries.old.items ≤ most_entries (P.geometry pages.old).page_size }
     requires buffer { length buffer.old ≡ (P.geometry pages.old).page_size }
     requires free { level ≤ P.free pages.old Page + 1 }
-    ensures adds { OnOk result (P.tells pages.old → IsFilesPage (P.geometry pages.old) key → IsRow P.Ground pages.old file_no (level - 1) entries.old.items
-        → Becomes P.Ground pages.old pages.new file_no (level - 1) (put_in key) entries.old.items entries.new.items) }
-    ensures same { IfOk result (λ changed. changed ≡ false → entries.new.items ≡ entries.old.items) }
-    ensures more { OnOk result ((length entries.old.items ≤ length entries.new.items) × (length entries.new.items ≤ length entries.old.items + 1)) }
+    ensures adds { OnOk result (P.tells pages.old → IsFilesPage (P.geometry pages.old) key
+        → IsRow P.Ground pages.old file_no (level - 1) entries.old.items
+        → Becomes P.Ground pages.old pages.new file_no (level - 1)
+        (put_in key) entries.old.items entries.new.items) }
+    ensures same { IfOk result (λ changed. changed ≡ false
+        → entries.new.items ≡ entries.old.items) }
+    ensures more { OnOk result ((length entries.old.items ≤ length entries.new.items)
+        × (length entries.new.items ≤ length entries.old.items + 1)) }
     ensures free { OnOk result (P.free pages.old Page + 1 ≤ P.free pages.new Page + level) }
-    ensures sound { IfErr result (λ fault. IsDamage fault → P.tells pages.old → IsRow P.Ground pages.old file_no (level - 1) entries.old.items → ⊥) }
-    ensures fault { IfErr result (λ fault. P.tells pages.old → IsFaultUnder (P.geometry pages.old) (P.image pages.old) file_no key (level - 1) entries.old.items fault) }
-    ensures way { OnOk result (P.tells pages.old → IsWayUnder (P.geometry pages.old) (P.image pages.old) file_no key (level - 1) entries.old.items) }
+    ensures sound { IfErr result (λ fault. IsDamage fault → P.tells pages.old
+        → IsRow P.Ground pages.old file_no (level - 1) entries.old.items → ⊥) }
+    ensures fault { IfErr result (λ fault. P.tells pages.old
+        → IsFaultUnder (P.geometry pages.old) (P.image pages.old) file_no key
+        (level - 1) entries.old.items fault) }
+    ensures way { OnOk result (P.tells pages.old
+        → IsWayUnder (P.geometry pages.old) (P.image pages.old) file_no key
+        (level - 1) entries.old.items) }
     ensures catalog { OnOk result (P.image pages.new catalog_no ≡ P.image pages.old catalog_no) }
     ensures leads { P.leads pages.old pages.new }
     ensures cause { HasCause (P.faults pages.old) (P.faults pages.new) result }
@@ -119,10 +129,12 @@ fn add_second<P: Pages>(
     requires level { index.now.level ≡ 0 }
     requires root { index.now.root ≡ Some root }
     requires free { 1 ≤ P.free pages.old Page }
-    ensures adds { IfOk result (λ added. P.tells pages.old → IsFilesPage (P.geometry pages.old) key.0 → HasIndex P.Ground pages.old index.now
+    ensures adds { IfOk result (λ added. P.tells pages.old
+        → IsFilesPage (P.geometry pages.old) key.0 → HasIndex P.Ground pages.old index.now
         → EditsIndex P.Ground pages.old pages.new (put_in key.0) index.now added) }
     ensures grows { IfOk result (λ added. GrowsTo index.now added) }
-    ensures placed { IfOk result (λ added. IsFilesPage (P.geometry pages.old) key.0 → HasPlacedRoot (P.geometry pages.old) added.root) }
+    ensures placed { IfOk result (λ added. IsFilesPage (P.geometry pages.old) key.0
+        → HasPlacedRoot (P.geometry pages.old) added.root) }
     ensures free { OnOk result (P.free pages.old Page ≤ P.free pages.new Page + 1) }
     ensures no_damage { IfErr result (λ fault. IsDamage fault → ⊥) }
     ensures catalog { OnOk result (P.image pages.new catalog_no ≡ P.image pages.old catalog_no) }
@@ -153,8 +165,10 @@ fn take_root<P: Pages>(
     requires free { 1 ≤ P.free pages.old Page }
     requires level { 1 ≤ level }
     requires buffer { length buffer.old ≡ (P.geometry pages.old).page_size }
-    ensures made { IfOk result (λ made. IsRootOver P.Ground pages.old pages.new level file_no top.now made) }
-    ensures level { IfOk result (λ made. (made.level ≡ level) × (made.file_no ≡ file_no) × HasRoot made.level made.root) }
+    ensures made { IfOk result
+        (λ made. IsRootOver P.Ground pages.old pages.new level file_no top.now made) }
+    ensures level { IfOk result (λ made. (made.level ≡ level) × (made.file_no ≡ file_no)
+        × HasRoot made.level made.root) }
     ensures placed { IfOk result (λ made. HasPlacedRoot (P.geometry pages.old) made.root) }
     ensures free { OnOk result (P.free pages.new Page + 1 ≡ P.free pages.old Page) }
     ensures catalog { OnOk result (P.image pages.new catalog_no ≡ P.image pages.old catalog_no) }
@@ -200,14 +214,20 @@ fn add_below<P: Pages>(
     requires level { (1 ≤ index.now.level) × (index.now.level ≤ 5) }
     requires root { index.now.root ≡ Some root }
     requires free { index.now.level + 1 ≤ P.free pages.old Page }
-    ensures adds { IfOk result (λ added. P.tells pages.old → IsFilesPage (P.geometry pages.old) key.0 → HasIndex P.Ground pages.old index.now
+    ensures adds { IfOk result (λ added. P.tells pages.old
+        → IsFilesPage (P.geometry pages.old) key.0 → HasIndex P.Ground pages.old index.now
         → EditsIndex P.Ground pages.old pages.new (put_in key.0) index.now added) }
     ensures grows { IfOk result (λ added. GrowsTo index.now added) }
-    ensures placed { IfOk result (λ added. IsFilesPage (P.geometry pages.old) key.0 → HasPlacedRoot (P.geometry pages.old) added.root) }
-    ensures free { OnOk result (P.free pages.old Page ≤ P.free pages.new Page + (index.now.level + 1)) }
-    ensures sound { IfErr result (λ fault. IsDamage fault → P.tells pages.old → HasIndex P.Ground pages.old index.now → ⊥) }
-    ensures fault { IfErr result (λ fault. P.tells pages.old → IsIndexFault (P.geometry pages.old) (P.image pages.old) index.now key.0 fault) }
-    ensures way { OnOk result (P.tells pages.old → HasWay (P.geometry pages.old) (P.image pages.old) index.now key.0) }
+    ensures placed { IfOk result (λ added. IsFilesPage (P.geometry pages.old) key.0
+        → HasPlacedRoot (P.geometry pages.old) added.root) }
+    ensures free { OnOk result (P.free pages.old Page ≤ P.free pages.new Page
+        + (index.now.level + 1)) }
+    ensures sound { IfErr result (λ fault. IsDamage fault → P.tells pages.old
+        → HasIndex P.Ground pages.old index.now → ⊥) }
+    ensures fault { IfErr result (λ fault. P.tells pages.old
+        → IsIndexFault (P.geometry pages.old) (P.image pages.old) index.now key.0 fault) }
+    ensures way { OnOk result (P.tells pages.old
+        → HasWay (P.geometry pages.old) (P.image pages.old) index.now key.0) }
     ensures catalog { OnOk result (P.image pages.new catalog_no ≡ P.image pages.old catalog_no) }
     ensures leads { P.leads pages.old pages.new }
     ensures cause { HasCause (P.faults pages.old) (P.faults pages.new) result }
@@ -268,15 +288,21 @@ pub fn add<P: Pages>(
     requires level { index.now.level ≤ 5 }
     requires root { HasRoot index.now.level index.now.root }
     requires free { index.now.level + 1 ≤ P.free pages.old Page }
-    ensures adds { IfOk result (λ added. P.tells pages.old → IsFilesPage (P.geometry pages.old) key.0 → HasIndex P.Ground pages.old index.now
+    ensures adds { IfOk result (λ added. P.tells pages.old
+        → IsFilesPage (P.geometry pages.old) key.0 → HasIndex P.Ground pages.old index.now
         → EditsIndex P.Ground pages.old pages.new (put_in key.0) index.now added) }
     ensures grows { IfOk result (λ added. GrowsTo index.now added) }
-    ensures placed { IfOk result (λ added. IsFilesPage (P.geometry pages.old) key.0 → HasPlacedRoot (P.geometry pages.old) added.root) }
+    ensures placed { IfOk result (λ added. IsFilesPage (P.geometry pages.old) key.0
+        → HasPlacedRoot (P.geometry pages.old) added.root) }
     ensures level { IfOk result (λ added. added.level ≤ 5) }
-    ensures free { OnOk result (P.free pages.old Page ≤ P.free pages.new Page + (index.now.level + 1)) }
-    ensures sound { IfErr result (λ fault. IsDamage fault → P.tells pages.old → IsFilesPage (P.geometry pages.old) key.0 → HasIndex P.Ground pages.old index.now → ⊥) }
-    ensures fault { IfErr result (λ fault. P.tells pages.old → IsAddingFault (P.geometry pages.old) (P.image pages.old) index.now key.0 fault) }
-    ensures way { OnOk result (P.tells pages.old → HasWay (P.geometry pages.old) (P.image pages.old) index.now key.0) }
+    ensures free { OnOk result (P.free pages.old Page ≤ P.free pages.new Page
+        + (index.now.level + 1)) }
+    ensures sound { IfErr result (λ fault. IsDamage fault → P.tells pages.old
+        → IsFilesPage (P.geometry pages.old) key.0 → HasIndex P.Ground pages.old index.now → ⊥) }
+    ensures fault { IfErr result (λ fault. P.tells pages.old
+        → IsAddingFault (P.geometry pages.old) (P.image pages.old) index.now key.0 fault) }
+    ensures way { OnOk result (P.tells pages.old
+        → HasWay (P.geometry pages.old) (P.image pages.old) index.now key.0) }
     ensures catalog { OnOk result (P.image pages.new catalog_no ≡ P.image pages.old catalog_no) }
     ensures leads { P.leads pages.old pages.new }
     ensures cause { HasCause (P.faults pages.old) (P.faults pages.new) result }

@@ -21,13 +21,20 @@ fn step_at<P: ReadPages>(
     next: Option<PageNo>,
 ) -> Result<Step, PortFault>
     requires { P.ready pages.old }
-    ensures step { IfOk result (λ step. P.tells pages.old → step ≡ pick (entries_on (P.image pages.old named.now.page.0)) key next) }
+    ensures step { IfOk result (λ step. P.tells pages.old
+        → step ≡ pick (entries_on (P.image pages.old named.now.page.0)) key next) }
     ensures above { IfOk result (λ step. IsAtLeast key next → IsAtLeast key step.next) }
-    ensures sound { IfErr result (λ fault. IsDamage fault → P.tells pages.old → IsFilesPage (P.geometry pages.old) named.now.page.0
-        → IsNamed (P.geometry pages.old).page_size (P.image pages.old named.now.page.0) named.now.level named.now.file_no named.now.least → ⊥) }
+    ensures sound { IfErr result (λ fault. IsDamage fault → P.tells pages.old
+        → IsFilesPage (P.geometry pages.old) named.now.page.0
+        → IsNamed (P.geometry pages.old).page_size
+        (P.image pages.old named.now.page.0) named.now.level named.now.file_no named.now.least
+        → ⊥) }
     ensures fault { IfErr result (λ fault. P.tells pages.old
-        → IsPageFault (P.geometry pages.old) (P.image pages.old named.now.page.0) named.now.level named.now.file_no named.now.least named.now.page.0 fault) }
-    ensures way { OnOk result (P.tells pages.old → IsNamedAt (P.geometry pages.old) (P.image pages.old) named.now.level named.now.file_no named.now.least named.now.page.0) }
+        → IsPageFault (P.geometry pages.old)
+        (P.image pages.old named.now.page.0) named.now.level named.now.file_no named.now.least named.now.page.0 fault) }
+    ensures way { OnOk result (P.tells pages.old
+        → IsNamedAt (P.geometry pages.old)
+        (P.image pages.old) named.now.level named.now.file_no named.now.least named.now.page.0) }
     ensures kept { Keeps P.Ground pages.old pages.new }
     ensures cause { HasCause (P.faults pages.old) (P.faults pages.new) result }
 {
@@ -52,15 +59,22 @@ fn least_below<P: ReadPages>(
     requires ready { P.ready pages.old }
     requires next { IsAtLeast key next }
     ensures least { IfOk result (λ least. P.tells pages.old
-        → IsUnder (P.geometry pages.old) named.file_no (P.image pages.old) named.level named.least named.page.0
+        → IsUnder (P.geometry pages.old) named.file_no
+        (P.image pages.old) named.level named.least named.page.0
         → Rises 0 (keys_under (P.image pages.old) named.level named.page.0)
         → least ≡ first_from key (keys_under (P.image pages.old) named.level named.page.0) next) }
     ensures above { IfOk result (λ least. IsAtLeast key least) }
     ensures sound { IfErr result (λ fault. IsDamage fault → P.tells pages.old
-        → IsUnder (P.geometry pages.old) named.file_no (P.image pages.old) named.level named.least named.page.0 → ⊥) }
-    ensures fault { IfErr result (λ fault. P.tells pages.old → IsWayFault (P.geometry pages.old) (P.image pages.old) named.file_no key named.level named.least named.page.0 fault) }
-    ensures way { OnOk result (P.tells pages.old → IsWay (P.geometry pages.old) (P.image pages.old) named.file_no key named.level named.least named.page.0) }
-    ensures found { IfOk result (λ least. P.tells pages.old → least ≡ found_under (P.image pages.old) key named.level named.page.0 next) }
+        → IsUnder (P.geometry pages.old) named.file_no
+        (P.image pages.old) named.level named.least named.page.0 → ⊥) }
+    ensures fault { IfErr result (λ fault. P.tells pages.old
+        → IsWayFault (P.geometry pages.old)
+        (P.image pages.old) named.file_no key named.level named.least named.page.0 fault) }
+    ensures way { OnOk result (P.tells pages.old
+        → IsWay (P.geometry pages.old)
+        (P.image pages.old) named.file_no key named.level named.least named.page.0) }
+    ensures found { IfOk result (λ least. P.tells pages.old
+        → least ≡ found_under (P.image pages.old) key named.level named.page.0 next) }
     ensures kept { Keeps P.Ground pages.old pages.new }
     ensures cause { HasCause (P.faults pages.old) (P.faults pages.new) result }
 {
@@ -95,14 +109,19 @@ pub fn at_least<P: ReadPages>(
     requires level { index.now.level ≤ 5 }
     requires root { HasRoot index.now.level index.now.root }
     ensures least { IfOk result (λ least. P.tells pages.old
-        → IsIndex (P.geometry pages.old) (P.image pages.old) index.now.file_no index.now.level index.now.root
+        → IsIndex (P.geometry pages.old)
+        (P.image pages.old) index.now.file_no index.now.level index.now.root
         → IsLeastFrom (keys_of (P.image pages.old) index.now.level index.now.root) key.0 least) }
     ensures above { IfOk result (λ least. IsAtLeast key.0 least) }
     ensures sound { IfErr result (λ fault. IsDamage fault → P.tells pages.old
-        → IsIndex (P.geometry pages.old) (P.image pages.old) index.now.file_no index.now.level index.now.root → ⊥) }
-    ensures fault { IfErr result (λ fault. P.tells pages.old → IsIndexFault (P.geometry pages.old) (P.image pages.old) index.now key.0 fault) }
-    ensures way { OnOk result (P.tells pages.old → HasWay (P.geometry pages.old) (P.image pages.old) index.now key.0) }
-    ensures found { IfOk result (λ least. P.tells pages.old → least ≡ found_in (P.image pages.old) index.now key.0) }
+        → IsIndex (P.geometry pages.old)
+        (P.image pages.old) index.now.file_no index.now.level index.now.root → ⊥) }
+    ensures fault { IfErr result (λ fault. P.tells pages.old
+        → IsIndexFault (P.geometry pages.old) (P.image pages.old) index.now key.0 fault) }
+    ensures way { OnOk result (P.tells pages.old
+        → HasWay (P.geometry pages.old) (P.image pages.old) index.now key.0) }
+    ensures found { IfOk result (λ least. P.tells pages.old
+        → least ≡ found_in (P.image pages.old) index.now key.0) }
     ensures kept { Keeps P.Ground pages.old pages.new }
     ensures cause { HasCause (P.faults pages.old) (P.faults pages.new) result }
 {

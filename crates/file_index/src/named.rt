@@ -65,7 +65,8 @@ fn key_seen(least: Option<u32>, key: u32) -> Option<u32>
 
 /// The fault of a page that is no index page of its file with an allowed number of entries.
 pub fn no_index_page(named: &Named) -> PortFault
-    ensures is { result ≡ Damaged named.now.page (seen named.now.level named.now.least) nothing_seen }
+    ensures is { result ≡ Damaged named.now.page
+        (seen named.now.level named.now.least) nothing_seen }
     ensures damage { IsDamage result }
     ensures cause { (before now : ℕ) → Cause before now result }
 {
@@ -80,9 +81,12 @@ pub fn no_index_page(named: &Named) -> PortFault
 pub fn checked<'a>(page: &'a [u8], named: &Named) -> Result<IndexView<'a>, PortFault>
     requires { 48 ≤ length page.now }
     ensures view { IfOk result (λ view. view ≡ indexed_on page.now) }
-    ensures ok { IfOk result (λ view. IsNamed (length page.now) page.now named.now.level named.now.file_no named.now.least) }
-    ensures err { IfErr result (λ fault. IsNamed (length page.now) page.now named.now.level named.now.file_no named.now.least → ⊥) }
-    ensures fault { IfErr result (λ fault. (g : Geometry) → g.page_size ≡ length page.now → IsFilesPage g named.now.page.0
+    ensures ok { IfOk result
+        (λ view. IsNamed (length page.now) page.now named.now.level named.now.file_no named.now.least) }
+    ensures err { IfErr result
+        (λ fault. IsNamed (length page.now) page.now named.now.level named.now.file_no named.now.least → ⊥) }
+    ensures fault { IfErr result (λ fault. (g : Geometry) → g.page_size ≡ length page.now
+        → IsFilesPage g named.now.page.0
         → IsPageFault g page.now named.now.level named.now.file_no named.now.least named.now.page.0 fault) }
     ensures damage { (before now : ℕ) → HasCause before now result }
 {

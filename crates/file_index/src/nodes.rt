@@ -35,15 +35,25 @@ pub fn entries_at<P: ReadPages>(
     named: &Named,
 ) -> Result<Vec<Entry>, PortFault>
     requires { P.ready pages.old }
-    ensures entries { IfOk result (λ entries. P.tells pages.old → entries.items ≡ entries_on (P.image pages.old named.now.page.0)) }
-    ensures named { OnOk result (P.tells pages.old → IsNamed (P.geometry pages.old).page_size (P.image pages.old named.now.page.0) named.now.level named.now.file_no named.now.least) }
-    ensures few { IfOk result (λ entries. least_entries (P.geometry pages.old).page_size named.now.least ≤ length entries.items) }
-    ensures many { IfOk result (λ entries. length entries.items ≤ most_entries (P.geometry pages.old).page_size) }
+    ensures entries { IfOk result (λ entries. P.tells pages.old
+        → entries.items ≡ entries_on (P.image pages.old named.now.page.0)) }
+    ensures named { OnOk result (P.tells pages.old
+        → IsNamed (P.geometry pages.old).page_size
+        (P.image pages.old named.now.page.0) named.now.level named.now.file_no named.now.least) }
+    ensures few { IfOk result
+        (λ entries. least_entries (P.geometry pages.old).page_size named.now.least
+        ≤ length entries.items) }
+    ensures many { IfOk result (λ entries. length entries.items
+        ≤ most_entries (P.geometry pages.old).page_size) }
     ensures area { OnOk result (IsFilesPage (P.geometry pages.old) named.now.page.0) }
-    ensures sound { IfErr result (λ fault. IsDamage fault → P.tells pages.old → IsFilesPage (P.geometry pages.old) named.now.page.0
-        → IsNamed (P.geometry pages.old).page_size (P.image pages.old named.now.page.0) named.now.level named.now.file_no named.now.least → ⊥) }
+    ensures sound { IfErr result (λ fault. IsDamage fault → P.tells pages.old
+        → IsFilesPage (P.geometry pages.old) named.now.page.0
+        → IsNamed (P.geometry pages.old).page_size
+        (P.image pages.old named.now.page.0) named.now.level named.now.file_no named.now.least
+        → ⊥) }
     ensures fault { IfErr result (λ fault. P.tells pages.old
-        → IsPageFault (P.geometry pages.old) (P.image pages.old named.now.page.0) named.now.level named.now.file_no named.now.least named.now.page.0 fault) }
+        → IsPageFault (P.geometry pages.old)
+        (P.image pages.old named.now.page.0) named.now.level named.now.file_no named.now.least named.now.page.0 fault) }
     ensures kept { Keeps P.Ground pages.old pages.new }
     ensures cause { HasCause (P.faults pages.old) (P.faults pages.new) result }
 {
@@ -74,8 +84,10 @@ pub fn put_index<P: Pages>(
     requires some { 1 ≤ length entries.now }
     requires room { length entries.now ≤ most_entries (P.geometry pages.old).page_size }
     requires buffer { length buffer.old ≡ (P.geometry pages.old).page_size }
-    ensures written { OnOk result (P.tells pages.old → IsWritten P.Ground pages.new named.now.page.0 named.now.level named.now.file_no entries.now) }
-    ensures changes { OnOk result (Changes P.Ground pages.old pages.new (named.now.page.0 ∷ []) (named.now.page.0 ∷ [])) }
+    ensures written { OnOk result (P.tells pages.old
+        → IsWritten P.Ground pages.new named.now.page.0 named.now.level named.now.file_no entries.now) }
+    ensures changes { OnOk result (Changes P.Ground pages.old pages.new (named.now.page.0
+        ∷ []) (named.now.page.0 ∷ [])) }
     ensures free { OnOk result (P.free pages.new ≡ P.free pages.old) }
     ensures catalog { OnOk result (P.image pages.new catalog_no ≡ P.image pages.old catalog_no) }
     ensures leads { P.leads pages.old pages.new }
@@ -103,7 +115,8 @@ pub fn take_index<P: Pages>(
     requires some { 1 ≤ length entries.now }
     requires room { length entries.now ≤ most_entries (P.geometry pages.old).page_size }
     requires buffer { length buffer.old ≡ (P.geometry pages.old).page_size }
-    ensures written { IfOk result (λ page. P.tells pages.old → IsWritten P.Ground pages.new page.0 level file_no entries.now) }
+    ensures written { IfOk result (λ page. P.tells pages.old
+        → IsWritten P.Ground pages.new page.0 level file_no entries.now) }
     ensures changes { IfOk result (λ page. Changes P.Ground pages.old pages.new [] (page.0 ∷ [])) }
     ensures area { IfOk result (λ page. IsFilesPage (P.geometry pages.old) page.0) }
     ensures free { OnOk result (P.free pages.new Page + 1 ≡ P.free pages.old Page) }

@@ -48,10 +48,15 @@ fn write_child<P: Pages>(
     requires some { 1 ≤ length below.now }
     requires room { length below.now ≤ most_entries (P.geometry pages.old).page_size }
     requires buffer { length buffer.old ≡ (P.geometry pages.old).page_size }
-    ensures written { OnOk result (P.tells pages.old → IsWritten P.Ground pages.new named.now.page.0 named.now.level named.now.file_no below.now) }
-    ensures changes { OnOk result (Changes P.Ground pages.old pages.new (named.now.page.0 ∷ []) (named.now.page.0 ∷ [])) }
-    ensures items { OnOk result (entries.new.items ≡ take at entries.old.items ++ ((record { key = first_key below.now; page = named.now.page } ∷ []) ++ drop (at + 1) entries.old.items)) }
-    ensures same { IfOk result (λ changed. changed ≡ false → named.now.least ≡ Some (first_key below.now)) }
+    ensures written { OnOk result (P.tells pages.old
+        → IsWritten P.Ground pages.new named.now.page.0 named.now.level named.now.file_no below.now) }
+    ensures changes { OnOk result (Changes P.Ground pages.old pages.new (named.now.page.0
+        ∷ []) (named.now.page.0 ∷ [])) }
+    ensures items { OnOk result (entries.new.items ≡ take at entries.old.items
+        ++ ((record { key = first_key below.now; page = named.now.page } ∷ [])
+        ++ drop (at + 1) entries.old.items)) }
+    ensures same { IfOk result (λ changed. changed ≡ false
+        → named.now.least ≡ Some (first_key below.now)) }
     ensures free { OnOk result (P.free pages.new ≡ P.free pages.old) }
     ensures catalog { OnOk result (P.image pages.new catalog_no ≡ P.image pages.old catalog_no) }
     ensures leads { P.leads pages.old pages.new }
@@ -87,16 +92,25 @@ fn remove_among<P: Pages>(
     requires some { 2 ≤ length entries.old.items }
     requires many { length entries.old.items ≤ most_entries (P.geometry pages.old).page_size }
     requires buffer { length buffer.old ≡ (P.geometry pages.old).page_size }
-    ensures removes { OnOk result (P.tells pages.old → IsRow P.Ground pages.old file_no (level - 1) entries.old.items
-        → Becomes P.Ground pages.old pages.new file_no (level - 1) (take_out key) entries.old.items entries.new.items) }
-    ensures same { IfOk result (λ changed. changed ≡ false → entries.new.items ≡ entries.old.items) }
-    ensures fewer { OnOk result ((length entries.new.items ≤ length entries.old.items) × (length entries.old.items ≤ length entries.new.items + 1)) }
+    ensures removes { OnOk result (P.tells pages.old
+        → IsRow P.Ground pages.old file_no (level - 1) entries.old.items
+        → Becomes P.Ground pages.old pages.new file_no (level - 1)
+        (take_out key) entries.old.items entries.new.items) }
+    ensures same { IfOk result (λ changed. changed ≡ false
+        → entries.new.items ≡ entries.old.items) }
+    ensures fewer { OnOk result ((length entries.new.items ≤ length entries.old.items)
+        × (length entries.old.items ≤ length entries.new.items + 1)) }
     ensures free { OnOk result (P.free pages.old Page ≤ P.free pages.new Page) }
-    ensures sound { IfErr result (λ fault. IsDamage fault → P.tells pages.old → IsRow P.Ground pages.old file_no (level - 1) entries.old.items → ⊥) }
+    ensures sound { IfErr result (λ fault. IsDamage fault → P.tells pages.old
+        → IsRow P.Ground pages.old file_no (level - 1) entries.old.items → ⊥) }
     ensures fault { IfErr result (λ fault. P.tells pages.old
-        → IsFaultUnder (P.geometry pages.old) (P.image pages.old) file_no key (level - 1) entries.old.items fault
-        ⊎ IsBesideUnder (P.geometry pages.old) (P.image pages.old) (P.image pages.new) file_no key (level - 1) entries.old.items fault) }
-    ensures way { OnOk result (P.tells pages.old → IsWayUnder (P.geometry pages.old) (P.image pages.old) file_no key (level - 1) entries.old.items) }
+        → IsFaultUnder (P.geometry pages.old) (P.image pages.old) file_no key
+        (level - 1) entries.old.items fault
+        ⊎ IsBesideUnder (P.geometry pages.old) (P.image pages.old) (P.image pages.new) file_no key
+        (level - 1) entries.old.items fault) }
+    ensures way { OnOk result (P.tells pages.old
+        → IsWayUnder (P.geometry pages.old) (P.image pages.old) file_no key
+        (level - 1) entries.old.items) }
     ensures catalog { OnOk result (P.image pages.new catalog_no ≡ P.image pages.old catalog_no) }
     ensures leads { P.leads pages.old pages.new }
     ensures cause { HasCause (P.faults pages.old) (P.faults pages.new) result }
@@ -156,9 +170,13 @@ fn remove_below<P: Pages>(
         → EditsIndex P.Ground pages.old pages.new (take_out key.0) index.now left) }
     ensures shrinks { IfOk result (λ left. ShrinksTo index.now left) }
     ensures free { OnOk result (P.free pages.old Page ≤ P.free pages.new Page) }
-    ensures sound { IfErr result (λ fault. IsDamage fault → P.tells pages.old → HasIndex P.Ground pages.old index.now → ⊥) }
-    ensures fault { IfErr result (λ fault. P.tells pages.old → IsRemovalFault (P.geometry pages.old) (P.image pages.old) (P.image pages.new) index.now key.0 fault) }
-    ensures way { OnOk result (P.tells pages.old → HasWay (P.geometry pages.old) (P.image pages.old) index.now key.0) }
+    ensures sound { IfErr result (λ fault. IsDamage fault → P.tells pages.old
+        → HasIndex P.Ground pages.old index.now → ⊥) }
+    ensures fault { IfErr result (λ fault. P.tells pages.old
+        → IsRemovalFault (P.geometry pages.old) (P.image pages.old)
+        (P.image pages.new) index.now key.0 fault) }
+    ensures way { OnOk result (P.tells pages.old
+        → HasWay (P.geometry pages.old) (P.image pages.old) index.now key.0) }
     ensures catalog { OnOk result (P.image pages.new catalog_no ≡ P.image pages.old catalog_no) }
     ensures leads { P.leads pages.old pages.new }
     ensures cause { HasCause (P.faults pages.old) (P.faults pages.new) result }
@@ -218,9 +236,13 @@ pub fn remove<P: Pages>(
         → EditsIndex P.Ground pages.old pages.new (take_out key.0) index.now left) }
     ensures shrinks { IfOk result (λ left. ShrinksTo index.now left) }
     ensures free { OnOk result (P.free pages.old Page ≤ P.free pages.new Page) }
-    ensures sound { IfErr result (λ fault. IsDamage fault → P.tells pages.old → HasIndex P.Ground pages.old index.now → ⊥) }
-    ensures fault { IfErr result (λ fault. P.tells pages.old → IsRemovalFault (P.geometry pages.old) (P.image pages.old) (P.image pages.new) index.now key.0 fault) }
-    ensures way { OnOk result (P.tells pages.old → HasWay (P.geometry pages.old) (P.image pages.old) index.now key.0) }
+    ensures sound { IfErr result (λ fault. IsDamage fault → P.tells pages.old
+        → HasIndex P.Ground pages.old index.now → ⊥) }
+    ensures fault { IfErr result (λ fault. P.tells pages.old
+        → IsRemovalFault (P.geometry pages.old) (P.image pages.old)
+        (P.image pages.new) index.now key.0 fault) }
+    ensures way { OnOk result (P.tells pages.old
+        → HasWay (P.geometry pages.old) (P.image pages.old) index.now key.0) }
     ensures catalog { OnOk result (P.image pages.new catalog_no ≡ P.image pages.old catalog_no) }
     ensures leads { P.leads pages.old pages.new }
     ensures cause { HasCause (P.faults pages.old) (P.faults pages.new) result }

@@ -43,7 +43,8 @@ pub fn replace_one(
     second: Option<Entry>,
 ) -> Result<(), PortFault>
     requires { at < length entries.old.items }
-    ensures items { OnOk result (entries.new.items ≡ take at entries.old.items ++ ((first ∷ entries_of second) ++ drop (at + 1) entries.old.items)) }
+    ensures items { OnOk result (entries.new.items ≡ take at entries.old.items
+        ++ ((first ∷ entries_of second) ++ drop (at + 1) entries.old.items)) }
     ensures no_damage { IfErr result (λ fault. IsDamage fault → ⊥) }
     ensures cause { (before now : ℕ) → HasCause before now result }
 {
@@ -60,7 +61,8 @@ pub fn replace_one(
 /// Puts an entry, and where there is one a second behind it, in place of two entries.
 pub fn replace_two(entries: &mut Vec<Entry>, at: usize, first: Entry, second: Option<Entry>)
     requires { at + 1 < length entries.old.items }
-    ensures { entries.new.items ≡ take at entries.old.items ++ ((first ∷ entries_of second) ++ drop (at + 2) entries.old.items) }
+    ensures { entries.new.items ≡ take at entries.old.items ++ ((first ∷ entries_of second)
+        ++ drop (at + 2) entries.old.items) }
 {
     entries[at] = first;
     match second {

@@ -36,8 +36,11 @@ pub fn store<P: Pages>(
     requires room { length entries.now ≤ most_entries (P.geometry pages.old).page_size + 1 }
     requires buffer { length buffer.old ≡ (P.geometry pages.old).page_size }
     requires free { 1 ≤ P.free pages.old Page }
-    ensures stored { IfOk result (λ second. P.tells pages.old → P.held pages.old named.now.page.0 ≡ true → Stored P.Ground pages.new named.now.page.0 named.now.level named.now.file_no entries.now second) }
-    ensures changes { IfOk result (λ second. Changes P.Ground pages.old pages.new (named.now.page.0 ∷ []) (named.now.page.0 ∷ heads (entries_of second))) }
+    ensures stored { IfOk result (λ second. P.tells pages.old
+        → P.held pages.old named.now.page.0 ≡ true
+        → Stored P.Ground pages.new named.now.page.0 named.now.level named.now.file_no entries.now second) }
+    ensures changes { IfOk result (λ second. Changes P.Ground pages.old pages.new (named.now.page.0
+        ∷ []) (named.now.page.0 ∷ heads (entries_of second))) }
     ensures free { OnOk result (P.free pages.old Page ≤ P.free pages.new Page + 1) }
     ensures catalog { OnOk result (P.image pages.new catalog_no ≡ P.image pages.old catalog_no) }
     ensures leads { P.leads pages.old pages.new }

@@ -39,7 +39,8 @@ fn claim<P: ReadPages>(pages: &P, units: &mut Units, page: PageNo) -> bool
     requires catalog { used_at units.old catalog_no ≡ true }
     ensures claimed { IsTrue result → CountsUsed units.old units.new [] (page.0 ∷ []) }
     ensures area { IsTrue result → IsFilesPage (P.geometry pages.now) page.0 }
-    ensures refused { result ≡ false → IsFilesPage (P.geometry pages.now) page.0 → used_at units.old page.0 ≡ true }
+    ensures refused { result ≡ false → IsFilesPage (P.geometry pages.now) page.0
+        → used_at units.old page.0 ≡ true }
     ensures units { KeepsUnits units.old units.new }
 {
     if !pages.in_area(page) || units.is_used(page) {
@@ -60,9 +61,14 @@ fn walk_under<P: ReadPages>(
     requires ready { P.ready pages.old }
     requires geometry { units.old.geometry ≡ P.geometry pages.old }
     requires catalog { used_at units.old catalog_no ≡ true }
-    ensures added { IfOk result (λ whole. IsTrue whole → (images : Images) → Tells P.Ground pages.old images → AddsIndex (P.geometry pages.old) images named walked.old walked.new) }
-    ensures pages { IfOk result (λ whole. IsTrue whole → AddsPages (P.geometry pages.old) units.old units.new walked.old walked.new) }
-    ensures bad { IfOk result (λ whole. whole ≡ false → (images : Images) → Tells P.Ground pages.old images → IsFreeIndex (P.geometry pages.old) images (used_at units.old) named → ⊥) }
+    ensures added { IfOk result (λ whole. IsTrue whole → (images : Images)
+        → Tells P.Ground pages.old images
+        → AddsIndex (P.geometry pages.old) images named walked.old walked.new) }
+    ensures pages { IfOk result (λ whole. IsTrue whole
+        → AddsPages (P.geometry pages.old) units.old units.new walked.old walked.new) }
+    ensures bad { IfOk result (λ whole. whole ≡ false → (images : Images)
+        → Tells P.Ground pages.old images
+        → IsFreeIndex (P.geometry pages.old) images (used_at units.old) named → ⊥) }
     ensures units { KeepsUnits units.old units.new }
     ensures no_damage { IfErr result (λ fault. IsDamage fault → ⊥) }
     ensures kept { Keeps P.Ground pages.old pages.new }
@@ -123,9 +129,14 @@ fn walk_root<P: ReadPages>(
     requires ready { P.ready pages.old }
     requires geometry { units.old.geometry ≡ P.geometry pages.old }
     requires catalog { used_at units.old catalog_no ≡ true }
-    ensures added { IfOk result (λ whole. IsTrue whole → (images : Images) → Tells P.Ground pages.old images → AddsRoot (P.geometry pages.old) images (entry_of entry.now) walked.old walked.new) }
-    ensures pages { IfOk result (λ whole. IsTrue whole → AddsPages (P.geometry pages.old) units.old units.new walked.old walked.new) }
-    ensures bad { IfOk result (λ whole. whole ≡ false → (images : Images) → Tells P.Ground pages.old images → IsFreeRoot (P.geometry pages.old) images (used_at units.old) (entry_of entry.now) → ⊥) }
+    ensures added { IfOk result (λ whole. IsTrue whole → (images : Images)
+        → Tells P.Ground pages.old images
+        → AddsRoot (P.geometry pages.old) images (entry_of entry.now) walked.old walked.new) }
+    ensures pages { IfOk result (λ whole. IsTrue whole
+        → AddsPages (P.geometry pages.old) units.old units.new walked.old walked.new) }
+    ensures bad { IfOk result (λ whole. whole ≡ false → (images : Images)
+        → Tells P.Ground pages.old images
+        → IsFreeRoot (P.geometry pages.old) images (used_at units.old) (entry_of entry.now) → ⊥) }
     ensures units { KeepsUnits units.old units.new }
     ensures no_damage { IfErr result (λ fault. IsDamage fault → ⊥) }
     ensures kept { Keeps P.Ground pages.old pages.new }
@@ -155,10 +166,16 @@ fn walk_index<P: ReadPages>(
     requires ready { P.ready pages.old }
     requires geometry { units.old.geometry ≡ P.geometry pages.old }
     requires catalog { used_at units.old catalog_no ≡ true }
-    ensures walked { IfOk result (λ found. IfSome found (λ file. (images : Images) → Tells P.Ground pages.old images → IsWalked (P.geometry pages.old) images (entry_of entry.now) file)) }
-    ensures used { IfOk result (λ found. IfSome found (λ file. CountsUsed units.old units.new [] (walked_pages file))) }
+    ensures walked { IfOk result (λ found. IfSome found (λ file. (images : Images)
+        → Tells P.Ground pages.old images
+        → IsWalked (P.geometry pages.old) images (entry_of entry.now) file)) }
+    ensures used { IfOk result
+        (λ found. IfSome found (λ file. CountsUsed units.old units.new [] (walked_pages file))) }
     ensures area { IfOk result (λ found. IfSome found (IsInArea (P.geometry pages.old))) }
-    ensures bad { IfOk result (λ found. IfNone found ((images : Images) → Tells P.Ground pages.old images → AreFreeIndexes (P.geometry pages.old) images (used_at units.old) (entry_of entry.now ∷ []) → ⊥)) }
+    ensures bad { IfOk result (λ found. IfNone found ((images : Images)
+        → Tells P.Ground pages.old images
+        → AreFreeIndexes (P.geometry pages.old) images (used_at units.old) (entry_of entry.now ∷ [])
+        → ⊥)) }
     ensures units { KeepsUnits units.old units.new }
     ensures no_damage { IfErr result (λ fault. IsDamage fault → ⊥) }
     ensures kept { Keeps P.Ground pages.old pages.new }
@@ -191,11 +208,21 @@ pub fn walk_indexes<P: ReadPages>(
     requires ready { P.ready pages.old }
     requires geometry { units.old.geometry ≡ P.geometry pages.old }
     requires catalog { used_at units.old catalog_no ≡ true }
-    ensures walked { IfOk result (λ found. IfSome found (λ files. (images : Images) → Tells P.Ground pages.old images → AllZip (IsWalked (P.geometry pages.old) images) catalog.now.entries files.items)) }
-    ensures used { IfOk result (λ found. IfSome found (λ files. CountsUsed units.old units.new [] (flat_map walked_pages files.items))) }
-    ensures area { IfOk result (λ found. IfSome found (λ files. AllByRecursion (IsInArea (P.geometry pages.old)) files.items)) }
-    ensures len { IfOk result (λ found. IfSome found (λ files. length files.items ≡ length catalog.now.entries)) }
-    ensures bad { IfOk result (λ found. IfNone found ((images : Images) → Tells P.Ground pages.old images → AreFreeIndexes (P.geometry pages.old) images (used_at units.old) catalog.now.entries → ⊥)) }
+    ensures walked { IfOk result (λ found. IfSome found (λ files. (images : Images)
+        → Tells P.Ground pages.old images
+        → AllZip (IsWalked (P.geometry pages.old) images) catalog.now.entries files.items)) }
+    ensures used { IfOk result
+        (λ found. IfSome found (λ files. CountsUsed units.old units.new []
+        (flat_map walked_pages files.items))) }
+    ensures area { IfOk result
+        (λ found. IfSome found (λ files. AllByRecursion
+        (IsInArea (P.geometry pages.old)) files.items)) }
+    ensures len { IfOk result (λ found. IfSome found (λ files. length files.items
+        ≡ length catalog.now.entries)) }
+    ensures bad { IfOk result (λ found. IfNone found ((images : Images)
+        → Tells P.Ground pages.old images
+        → AreFreeIndexes (P.geometry pages.old) images (used_at units.old) catalog.now.entries
+        → ⊥)) }
     ensures units { KeepsUnits units.old units.new }
     ensures no_damage { IfErr result (λ fault. IsDamage fault → ⊥) }
     ensures kept { Keeps P.Ground pages.old pages.new }

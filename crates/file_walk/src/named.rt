@@ -49,8 +49,10 @@ fn least_entries(size: usize, least: Option<u32>) -> usize
 fn checked<'a>(page: &'a [u8], named: &Named) -> Option<IndexView<'a>>
     requires { 48 ≤ length page.now }
     ensures view { IfSome result (λ view. view ≡ indexed_on page.now) }
-    ensures some { OnSome result (IsNamed (length page.now) page.now named.now.level named.now.file_no named.now.least) }
-    ensures none { IfNone result (IsNamed (length page.now) page.now named.now.level named.now.file_no named.now.least → ⊥) }
+    ensures some { OnSome result
+        (IsNamed (length page.now) page.now named.now.level named.now.file_no named.now.least) }
+    ensures none { IfNone result
+        (IsNamed (length page.now) page.now named.now.level named.now.file_no named.now.least → ⊥) }
 {
     let view = IndexView::of(page)?;
     if view.level() != named.level || view.file_no() != named.file_no {
@@ -74,11 +76,15 @@ pub fn entries_at<P: ReadPages>(
 ) -> Result<Option<Vec<Entry>>, PortFault>
     requires ready { P.ready pages.old }
     requires area { InPageArea (P.geometry pages.old) named.now.page.0 }
-    ensures entries { IfOk result (λ found. IfSome found (λ entries. P.tells pages.old → entries.items ≡ entries_on (P.image pages.old named.now.page.0))) }
+    ensures entries { IfOk result (λ found. IfSome found (λ entries. P.tells pages.old
+        → entries.items ≡ entries_on (P.image pages.old named.now.page.0))) }
     ensures some { IfOk result (λ found. OnSome found (P.tells pages.old
-        → IsNamed (P.geometry pages.old).page_size (P.image pages.old named.now.page.0) named.now.level named.now.file_no named.now.least)) }
+        → IsNamed (P.geometry pages.old).page_size
+        (P.image pages.old named.now.page.0) named.now.level named.now.file_no named.now.least)) }
     ensures none { IfOk result (λ found. IfNone found (P.tells pages.old
-        → IsNamed (P.geometry pages.old).page_size (P.image pages.old named.now.page.0) named.now.level named.now.file_no named.now.least → ⊥)) }
+        → IsNamed (P.geometry pages.old).page_size
+        (P.image pages.old named.now.page.0) named.now.level named.now.file_no named.now.least
+        → ⊥)) }
     ensures no_damage { IfErr result (λ fault. IsDamage fault → ⊥) }
     ensures kept { Keeps P.Ground pages.old pages.new }
     ensures cause { HasCause (P.faults pages.old) (P.faults pages.new) result }

@@ -57,8 +57,10 @@ fn add_records(
     view: &SlottedView,
     records: &mut Vec<Found>,
 ) -> Result<bool, AllocError>
-    ensures good { IfOk result (λ good. IsTrue good → AddsRows records.old.items records.new.items (bodies_from page.0 0 view.now.page.slots)) }
-    ensures bad { IfOk result (λ good. good ≡ false → AllByRecursion IsGoodRow (bodies_from page.0 0 view.now.page.slots) → ⊥) }
+    ensures good { IfOk result (λ good. IsTrue good
+        → AddsRows records.old.items records.new.items (bodies_from page.0 0 view.now.page.slots)) }
+    ensures bad { IfOk result (λ good. good ≡ false
+        → AllByRecursion IsGoodRow (bodies_from page.0 0 view.now.page.slots) → ⊥) }
 {
     for slot in 0..view.slots() {
         let Some(body) = view.body(slot) else {
@@ -96,12 +98,17 @@ fn read_page<P: ReadPages>(
 ) -> Result<Option<bool>, PortFault>
     requires ready { P.ready pages.old }
     requires area { InPageArea (P.geometry pages.old) page.0 }
-    ensures of_file { IfOk result (λ found. OnSome found ((images : Images) → Tells P.Ground pages.old images → IsPageOf images (entry_of entry.now) page.0)) }
-    ensures none { IfOk result (λ found. IfNone found ((images : Images) → Tells P.Ground pages.old images → IsPageOf images (entry_of entry.now) page.0 → ⊥)) }
-    ensures good { IfOk result (λ found. IfSome found (λ good. IsTrue good → (images : Images) → Tells P.Ground pages.old images
+    ensures of_file { IfOk result (λ found. OnSome found ((images : Images)
+        → Tells P.Ground pages.old images → IsPageOf images (entry_of entry.now) page.0)) }
+    ensures none { IfOk result (λ found. IfNone found ((images : Images)
+        → Tells P.Ground pages.old images → IsPageOf images (entry_of entry.now) page.0 → ⊥)) }
+    ensures good { IfOk result (λ found. IfSome found (λ good. IsTrue good → (images : Images)
+        → Tells P.Ground pages.old images
         → AddsRows records.old.items records.new.items (rows_on images page.0))) }
-    ensures roots { IfOk result (λ found. IfSome found (λ good. IsTrue good → AreRooted records.old.items → AreRooted records.new.items)) }
-    ensures bad { IfOk result (λ found. IfSome found (λ good. good ≡ false → (images : Images) → Tells P.Ground pages.old images
+    ensures roots { IfOk result (λ found. IfSome found (λ good. IsTrue good
+        → AreRooted records.old.items → AreRooted records.new.items)) }
+    ensures bad { IfOk result (λ found. IfSome found (λ good. good ≡ false → (images : Images)
+        → Tells P.Ground pages.old images
         → AllByRecursion IsGoodRow (rows_on images page.0) → ⊥)) }
     ensures no_damage { IfErr result (λ fault. IsDamage fault → ⊥) }
     ensures kept { Keeps P.Ground pages.old pages.new }
@@ -124,12 +131,18 @@ fn read_file<P: ReadPages>(
 ) -> Result<Option<bool>, PortFault>
     requires ready { P.ready pages.old }
     requires area { IsInArea (P.geometry pages.old) file.now }
-    ensures of_file { IfOk result (λ found. OnSome found ((images : Images) → Tells P.Ground pages.old images → AreFilePages images (entry_of entry.now) file.now)) }
-    ensures none { IfOk result (λ found. IfNone found ((images : Images) → Tells P.Ground pages.old images → AreFilePages images (entry_of entry.now) file.now → ⊥)) }
-    ensures good { IfOk result (λ found. IfSome found (λ good. IsTrue good → (images : Images) → Tells P.Ground pages.old images
+    ensures of_file { IfOk result (λ found. OnSome found ((images : Images)
+        → Tells P.Ground pages.old images → AreFilePages images (entry_of entry.now) file.now)) }
+    ensures none { IfOk result (λ found. IfNone found ((images : Images)
+        → Tells P.Ground pages.old images → AreFilePages images (entry_of entry.now) file.now
+        → ⊥)) }
+    ensures good { IfOk result (λ found. IfSome found (λ good. IsTrue good → (images : Images)
+        → Tells P.Ground pages.old images
         → AddsRows records.old.items records.new.items (rows_of images file.now))) }
-    ensures roots { IfOk result (λ found. IfSome found (λ good. IsTrue good → AreRooted records.old.items → AreRooted records.new.items)) }
-    ensures bad { IfOk result (λ found. IfSome found (λ good. good ≡ false → (images : Images) → Tells P.Ground pages.old images
+    ensures roots { IfOk result (λ found. IfSome found (λ good. IsTrue good
+        → AreRooted records.old.items → AreRooted records.new.items)) }
+    ensures bad { IfOk result (λ found. IfSome found (λ good. good ≡ false → (images : Images)
+        → Tells P.Ground pages.old images
         → AllByRecursion IsGoodRow (rows_of images file.now) → ⊥)) }
     ensures no_damage { IfErr result (λ fault. IsDamage fault → ⊥) }
     ensures kept { Keeps P.Ground pages.old pages.new }
@@ -161,12 +174,19 @@ pub fn read_files<P: ReadPages>(
     requires ready { P.ready pages.old }
     requires area { AllByRecursion (IsInArea (P.geometry pages.old)) files.now }
     requires len { length files.now ≡ length catalog.now.entries }
-    ensures of_files { IfOk result (λ found. OnSome found ((images : Images) → Tells P.Ground pages.old images → AllZip (AreFilePages images) catalog.now.entries files.now)) }
-    ensures none { IfOk result (λ found. IfNone found ((images : Images) → Tells P.Ground pages.old images → AllZip (AreFilePages images) catalog.now.entries files.now → ⊥)) }
-    ensures good { IfOk result (λ found. IfSome found (λ good. IsTrue good → (images : Images) → Tells P.Ground pages.old images
+    ensures of_files { IfOk result (λ found. OnSome found ((images : Images)
+        → Tells P.Ground pages.old images
+        → AllZip (AreFilePages images) catalog.now.entries files.now)) }
+    ensures none { IfOk result (λ found. IfNone found ((images : Images)
+        → Tells P.Ground pages.old images
+        → AllZip (AreFilePages images) catalog.now.entries files.now → ⊥)) }
+    ensures good { IfOk result (λ found. IfSome found (λ good. IsTrue good → (images : Images)
+        → Tells P.Ground pages.old images
         → AddsRows records.old.items records.new.items (flat_map (rows_of images) files.now))) }
-    ensures roots { IfOk result (λ found. IfSome found (λ good. IsTrue good → AreRooted records.old.items → AreRooted records.new.items)) }
-    ensures bad { IfOk result (λ found. IfSome found (λ good. good ≡ false → (images : Images) → Tells P.Ground pages.old images
+    ensures roots { IfOk result (λ found. IfSome found (λ good. IsTrue good
+        → AreRooted records.old.items → AreRooted records.new.items)) }
+    ensures bad { IfOk result (λ found. IfSome found (λ good. good ≡ false → (images : Images)
+        → Tells P.Ground pages.old images
         → AllByRecursion IsGoodRow (flat_map (rows_of images) files.now) → ⊥)) }
     ensures no_damage { IfErr result (λ fault. IsDamage fault → ⊥) }
     ensures kept { Keeps P.Ground pages.old pages.new }

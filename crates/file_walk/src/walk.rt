@@ -57,11 +57,16 @@ pub fn walk_files<P: ReadPages>(
     requires ready { P.ready pages.old }
     requires geometry { units.old.geometry ≡ P.geometry pages.old }
     requires fresh { used_at units.old ≡ (λ page. eqb page catalog_no) }
-    ensures walked { IfOk result (λ walked. (images : Images) → Tells P.Ground pages.old images → HasWalked (P.geometry pages.old) images catalog.now.entries walked) }
-    ensures used { IfOk result (λ walked. (page : ℕ) → IsTrue (used_at units.new page) ↔ (IsTrue (used_at units.old page) ⊎ Contains (page_numbers walked.pages.items) page)) }
+    ensures walked { IfOk result (λ walked. (images : Images) → Tells P.Ground pages.old images
+        → HasWalked (P.geometry pages.old) images catalog.now.entries walked) }
+    ensures used { IfOk result (λ walked. (page : ℕ) → IsTrue (used_at units.new page)
+        ↔ (IsTrue (used_at units.old page) ⊎ Contains (page_numbers walked.pages.items) page)) }
     ensures roots { IfOk result (λ walked. AllByRecursion HasRootFields walked.records.items) }
-    ensures area { IfOk result (λ walked. AllByRecursion (InPageArea (P.geometry pages.old)) (page_numbers walked.pages.items)) }
-    ensures bad { (part : Part) → result ≡ Err (OpenFault.BadVolume part) → (images : Images) → Tells P.Ground pages.old images → IsBadFiles (P.geometry pages.old) images catalog.now.entries part }
+    ensures area { IfOk result (λ walked. AllByRecursion (InPageArea (P.geometry pages.old))
+        (page_numbers walked.pages.items)) }
+    ensures bad { (part : Part) → result ≡ Err (OpenFault.BadVolume part) → (images : Images)
+        → Tells P.Ground pages.old images
+        → IsBadFiles (P.geometry pages.old) images catalog.now.entries part }
     ensures units { KeepsUnits units.old units.new }
     ensures kept { Keeps P.Ground pages.old pages.new }
     ensures disk { result ≡ Err OpenFault.Disk → Rose (P.faults pages.old) (P.faults pages.new) }

@@ -26,9 +26,11 @@ impl<'a> Model for IndexView<'a> {
 impl<'a> IndexView<'a> {
     /// The view of a page, exactly where it is an index page.
     pub fn of(page: &'a [u8]) -> Option<IndexView<'a>>
-        ensures found { IfSome result (λ view. EntriesOf page.now view.level view.file_no view.entries) }
+        ensures found { IfSome result
+            (λ view. EntriesOf page.now view.level view.file_no view.entries) }
         ensures on { IfSome result (λ view. view ≡ indexed_on page.now) }
-        ensures none { IfNone result ((level file_no : ℕ) (entries : List Entry) → EntriesOf page.now level file_no entries → ⊥) }
+        ensures none { IfNone result ((level file_no : ℕ) (entries : List Entry)
+            → EntriesOf page.now level file_no entries → ⊥) }
     {
         if !is_index_page(page) {
             return None;

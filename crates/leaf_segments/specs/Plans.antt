@@ -1,5 +1,5 @@
 -- Which plans have lengths.
-use Rattle.std.specs.Prelude.{◌≡◌, ◌*◌, ◌^◌, ◌<◌, ◌≤◌, ℕ, true}
+use Rattle.std.specs.Prelude.{◌≡◌, ◌*◌, ◌<◌, ◌≤◌, ℕ, true}
 use Rattle.ex_base.specs.Even.{least_parts}
 use Rattle.leaf_segments.specs.declared.Plan.{Plan}
 
@@ -7,6 +7,5 @@ use Rattle.leaf_segments.specs.declared.Plan.{Plan}
 -- fit one leaf.
 pub record IsPlan (full : ℕ) (plan : Plan) : Type 0 where
   pub some : 1 ≤ plan.leaves
-  pub total : plan.total < 2 ^ 33
   pub fits : plan.total ≤ plan.leaves * full
   pub tail : plan.tail ≡ true → (full < plan.total) × (plan.leaves ≡ least_parts full plan.total)

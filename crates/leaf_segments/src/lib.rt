@@ -4,6 +4,7 @@
 
 ghost use Rattle.std.specs.Prelude.{◌≡◌, ◌+◌, ◌*◌, ◌^◌, ◌<◌, ◌≤◌, slice_index, unwrap_or, false, [], ◌∷◌};
 ghost use Rattle.ex_base.specs.Even.{least_parts, evenly};
+ghost use Rattle.ex_base.specs.Sizes.{object_most};
 ghost use Rattle.leaf_segments.specs.Layout.{layout_of, spread, left_or_spread, right_or_spread, overflowing, insert_layout, overflowing_last, append_layout, in_place, filled};
 ghost use Rattle.leaf_segments.specs.Plans.{IsPlan};
 
@@ -25,8 +26,8 @@ pub struct Plan {
 /// The least number of leaves that hold the bytes.
 #[tactic(auto, unfolding(ex_base::specs::Even::least_parts))]
 fn leaves_for(total: u64, cap: u32) -> u32
-    requires cap { 1 ≤ cap }
-    requires total { total < 2 ^ 32 }
+    requires cap { 512 ≤ cap }
+    requires total { total ≤ object_most }
     ensures least { result ≡ least_parts cap total }
     ensures holds { total ≤ result * cap }
     ensures some { 1 ≤ total → 1 ≤ result }
@@ -36,8 +37,8 @@ fn leaves_for(total: u64, cap: u32) -> u32
 
 /// As few leaves as hold the bytes, in the leaf's own place.
 fn spread_plan(total: u64, cap: u32) -> Plan
-    requires cap { 1 ≤ cap }
-    requires total { total < 2 ^ 32 }
+    requires cap { 512 ≤ cap }
+    requires total { total ≤ object_most }
     requires over { cap < total }
     ensures layout { layout_of cap result ≡ spread cap total }
     ensures usable { IsPlan cap result }
@@ -53,8 +54,8 @@ fn spread_plan(total: u64, cap: u32) -> Plan
 
 /// Two leaves in the place of the leaf and its left neighbour, where they hold the bytes.
 fn left_plan(neighbour: u32, total: u64, cap: u32) -> Plan
-    requires cap { 1 ≤ cap }
-    requires total { total < 2 ^ 32 }
+    requires cap { 512 ≤ cap }
+    requires total { total ≤ object_most }
     requires over { cap < total }
     ensures layout { layout_of cap result ≡ left_or_spread cap neighbour total }
     ensures usable { IsPlan cap result }
@@ -74,8 +75,8 @@ fn left_plan(neighbour: u32, total: u64, cap: u32) -> Plan
 
 /// Two leaves in the place of the leaf and its right neighbour, where they hold the bytes.
 fn right_plan(neighbour: u32, total: u64, cap: u32) -> Plan
-    requires cap { 1 ≤ cap }
-    requires total { total < 2 ^ 32 }
+    requires cap { 512 ≤ cap }
+    requires total { total ≤ object_most }
     requires over { cap < total }
     ensures layout { layout_of cap result ≡ right_or_spread cap neighbour total }
     ensures usable { IsPlan cap result }
@@ -110,10 +111,11 @@ fn one_plan(total: u64, cap: u32) -> Plan
 
 /// Full leaves and two that share the rest, in the leaf's own place or with its left neighbour's.
 fn filled_plan(takes_left: bool, total: u64, cap: u32) -> Plan
-    requires cap { 1 ≤ cap }
-    requires total { total < 2 ^ 32 }
+    requires cap { 512 ≤ cap }
+    requires total { total ≤ object_most }
     requires over { cap < total }
-    ensures layout { layout_of cap result ≡ record { takes_left = takes_left; takes_right = false; lengths = filled cap total } }
+    ensures layout { layout_of cap result
+        ≡ record { takes_left = takes_left; takes_right = false; lengths = filled cap total } }
     ensures usable { IsPlan cap result }
 {
     Plan {
@@ -130,7 +132,7 @@ fn filled_plan(takes_left: bool, total: u64, cap: u32) -> Plan
 #[tactic(auto, unfolding(crate::specs::Layout::insert_layout))]
 pub fn plan_insert(left: Option<u32>, leaf: u32, right: Option<u32>, n: u64, cap: u32) -> Plan
     requires cap { 512 ≤ cap }
-    requires total { leaf + n < 2 ^ 32 }
+    requires total { leaf + n ≤ object_most }
     ensures layout { layout_of cap result ≡ insert_layout cap left leaf right n }
     ensures usable { IsPlan cap result }
 {
@@ -157,7 +159,7 @@ pub fn plan_insert(left: Option<u32>, leaf: u32, right: Option<u32>, n: u64, cap
 #[tactic(auto, unfolding(crate::specs::Layout::append_layout))]
 pub fn plan_append(left: Option<u32>, leaf: u32, n: u64, cap: u32) -> Plan
     requires cap { 512 ≤ cap }
-    requires total { leaf + n + unwrap_or left 0 < 2 ^ 32 }
+    requires total { leaf + n + unwrap_or left 0 ≤ object_most }
     ensures layout { layout_of cap result ≡ append_layout cap left leaf n }
     ensures usable { IsPlan cap result }
 {

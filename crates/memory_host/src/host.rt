@@ -84,12 +84,14 @@ impl MemoryHost {
     ) -> Result<MemoryHost, AllocError>
         requires { 1 ≤ piece }
         ensures disk { IfOk result (λ host. lying.now ≡ [] → RestsOn (means host) image.now) }
-        ensures lies { IfOk result (λ host. lying.now ≢ [] → ((means host).disk ≡ None) × ((means host).honest ≡ false)) }
+        ensures lies { IfOk result (λ host. lying.now ≢ [] → ((means host).disk ≡ None)
+            × ((means host).honest ≡ false)) }
         ensures left { IfOk result (λ host. left_of host ≡ script.now) }
         ensures state { IfOk result (λ host. state_of host ≡ fresh image.now) }
         ensures calls { IfOk result (λ host. calls_of host ≡ 0) }
         ensures faults { IfOk result (λ host. HasNoFaults (means host)) }
-        ensures plan { IfOk result (λ host. plan_of host ≡ record { failing = failing.now; lying = lying.now; stop = stop; piece = piece }) }
+        ensures plan { IfOk result (λ host. plan_of host
+            ≡ record { failing = failing.now; lying = lying.now; stop = stop; piece = piece }) }
     {
         Ok(MemoryHost {
             alloc,
@@ -172,7 +174,8 @@ fn note(calls: &mut Vec<Call>, call: Call) -> bool
 
 // Adds what a call sent.
 fn add_sent(sent: &mut Vec<u8>, call: &Call) -> Result<(), AllocError>
-    ensures { OnOk result ((m : State) → m.sent ≡ sent.old.items → (after_call m call.now).sent ≡ sent.new.items) }
+    ensures { OnOk result ((m : State) → m.sent ≡ sent.old.items
+        → (after_call m call.now).sent ≡ sent.new.items) }
 {
     match call {
         Call::Put { bytes } => Ok(sent.extend_from_slice(bytes)?),
@@ -182,7 +185,8 @@ fn add_sent(sent: &mut Vec<u8>, call: &Call) -> Result<(), AllocError>
 
 // Adds these bytes to what was sent, and notes the call, or does neither.
 fn send(calls: &mut Vec<Call>, sent: &mut Vec<u8>, alloc: Global, bytes: &[u8]) -> bool
-    ensures done { IsTrue result → (copy : _) × (copy.items ≡ bytes.now) × (calls.new.items ≡ calls.old.items ++ Put copy ∷ [])
+    ensures done { IsTrue result → (copy : _) × (copy.items ≡ bytes.now)
+        × (calls.new.items ≡ calls.old.items ++ Put copy ∷ [])
         × (sent.new.items ≡ sent.old.items ++ bytes.now) }
     ensures calls { result ≡ false → calls.new.items ≡ calls.old.items }
     ensures sent { result ≡ false → sent.new.items ≡ sent.old.items }

@@ -29,7 +29,8 @@ impl MemoryVolume {
 
     /// A fresh volume: the catalog's page alone is used, every byte is zero.
     pub fn make(alloc: Global, geometry: &Geometry) -> Result<MemoryVolume, AllocError>
-        ensures ready { IfOk result (λ v. IsVolume v.geometry v.units v.bytes.items v.images.items v.held.items) }
+        ensures ready { IfOk result
+            (λ v. IsVolume v.geometry v.units v.bytes.items v.images.items v.held.items) }
         ensures geometry { IfOk result (λ v. v.geometry ≡ geometry.now) }
         ensures used { IfOk result (λ v. used_at v.units ≡ (λ page. eqb page catalog_no)) }
         ensures refs { IfOk result (λ v. refs_at v.units ≡ (λ _. 0)) }

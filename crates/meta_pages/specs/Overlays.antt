@@ -3,6 +3,7 @@ use Rattle.std.specs.Prelude.{◌≡◌, ◌≤◌, ℕ, List, length, All, IfSo
 use Rattle.std.specs.Map.{lookup}
 use Rattle.ex_base.specs.declared.geometry.Geometry.{Geometry}
 use Rattle.ex_base.specs.Area.{InPageArea}
+use Rattle.ex_base.specs.Limits.{log_pages}
 use Rattle.meta_pages.specs.Rows.{IsRising}
 
 -- the images over the pages' homes: those of the committed pages, and those of the working ones, where None stands for a page that was
@@ -12,9 +13,9 @@ pub record Overlays : Type 0 where
   pub working : List (ℕ × Option (List ℕ))
   pub geometry : Geometry
 
--- The most committed images that there is room for: each has its place in the log, which has 256 pages.
+-- The most committed images that there is room for: each has its place in the log.
 abbrev pub images_most : ℕ
-images_most = 256
+images_most = log_pages
 
 -- the image of a page, or None where it is what the disk holds
 abbrev pub over : Option (Option (List ℕ)) → Option (List ℕ) → Option (List ℕ)

@@ -19,20 +19,25 @@ pub fn write_rows<D: Disk>(
     rows: &[(u32, Image)],
     size: u32,
 ) -> Result<(), Failed>
-    requires fits { All (λ (row : ℕ × List ℕ). (row.0 * size + size ≤ (D.outside disk.old).size) × (length row.1 ≡ size)) rows.now }
+    requires fits { All (λ (row : ℕ × List ℕ). (row.0 * size + size ≤ (D.outside disk.old).size)
+        × (length row.1 ≡ size)) rows.now }
     requires sizes { AreOfSize size groups.old }
     ensures at_most { MakesAtMost (length rows.now) (D.outside disk.old) (D.outside disk.new) }
-    ensures calls { OnOk result (MakesCalls (length rows.now) (D.outside disk.old) (D.outside disk.new)) }
+    ensures calls { OnOk result (MakesCalls (length rows.now) (D.outside disk.old)
+        (D.outside disk.new)) }
     ensures written { OnOk result ((d : List ℕ) → (D.outside disk.old).disk ≡ Some d
         → (D.outside disk.new).disk ≡ Some (homes_written size rows.now d)) }
     ensures forgotten { OnOk result (groups.new ≡ homes_forgotten rows.now groups.old) }
     ensures lends { IsTrue (D.outside disk.old).honest
-        → All (Lends (D.outside disk.old).disk) groups.old → All (Lends (D.outside disk.new).disk) groups.new }
+        → All (Lends (D.outside disk.old).disk) groups.old
+        → All (Lends (D.outside disk.new).disk) groups.new }
     ensures len { length groups.new ≡ length groups.old }
     ensures sizes { AreOfSize size groups.new }
     ensures from { (low : ℕ) → AreFrom low groups.old → AreFrom low groups.new }
-    ensures changes { ChangesWithin (InHomes size rows.now) (D.outside disk.old) (D.outside disk.new) }
-    ensures cause { OnErr result (Rose (D.outside disk.old).disk_faults (D.outside disk.new).disk_faults) }
+    ensures changes { ChangesWithin (InHomes size rows.now) (D.outside disk.old)
+        (D.outside disk.new) }
+    ensures cause { OnErr result (Rose (D.outside disk.old).disk_faults
+        (D.outside disk.new).disk_faults) }
 {
     for row in rows {
         write_page(disk, groups, PageNo(row.0), row.1.as_slice(), size)?;
@@ -62,9 +67,12 @@ fn write_page<D: Disk>(
     ensures size { (D.outside disk.new).size ≡ (D.outside disk.old).size }
     ensures honest { (D.outside disk.new).honest ≡ (D.outside disk.old).honest }
     ensures lends { IsTrue (D.outside disk.old).honest
-        → All (Lends (D.outside disk.old).disk) groups.old → All (Lends (D.outside disk.new).disk) groups.new }
-    ensures changes { ChangesWithin (InRange (page.0 * size) size) (D.outside disk.old) (D.outside disk.new) }
-    ensures cause { OnErr result (Rose (D.outside disk.old).disk_faults (D.outside disk.new).disk_faults) }
+        → All (Lends (D.outside disk.old).disk) groups.old
+        → All (Lends (D.outside disk.new).disk) groups.new }
+    ensures changes { ChangesWithin (InRange (page.0 * size) size) (D.outside disk.old)
+        (D.outside disk.new) }
+    ensures cause { OnErr result (Rose (D.outside disk.old).disk_faults
+        (D.outside disk.new).disk_faults) }
 {
     groups.forget(page);
     disk.write(page.0 as u64 * size as u64, bytes)

@@ -15,18 +15,12 @@ use crate::home::write_rows;
 use crate::rows::{find_row, keep_rows, put_row, take_row};
 use buffer_groups::{FetchFault, Group, Groups};
 use disk_model::{Disk, Failed};
-use ex_base::{Geometry, Image, PageNo};
+use ex_base::{Geometry, Image, LOG_PAGES, PageNo, TOUCHED_MOST};
 use std::alloc::{AllocError, Global};
 use std::marker::Model;
 
-/// The most pages that have a committed image: each of them has an image in the log, which is 256 pages long.
-const COMMITTED_MOST: usize = 256;
-
-/// The most pages that a transaction touches.
-const TOUCHED_MOST: usize = 128;
-
-/// The page of the catalog, the first one of the page area.
-const CATALOG: PageNo = PageNo(257);
+/// The most pages that have a committed image: each of them has an image in the log.
+const COMMITTED_MOST: usize = LOG_PAGES as usize;
 
 /// The images over the homes of logged pages: those that commits left and that are not yet written home, and those of the open transaction.
 /// Contracts see both as lists of rows in rising order of page numbers; a working row has no image where the transaction gave its page back.
@@ -55,11 +49,12 @@ impl Meta {
 
     /// No images, and the room for those that the log and a transaction can have.
     pub fn make(alloc: Global, geometry: &Geometry) -> Result<Meta, AllocError>
-        ensures { IfOk result (λ m. m ≡ record { committed = []; working = []; geometry = geometry.now }) }
+        ensures { IfOk result
+            (λ m. m ≡ record { committed = []; working = []; geometry = geometry.now }) }
     {
         Ok(Meta {
             committed: Vec::with_capacity(alloc, COMMITTED_MOST)?,
-            working: Vec::with_capacity(alloc, TOUCHED_MOST)?,
+            working: Vec::with_capacity(alloc, TOUCHED_MOST as usize)?,
             geometry: *geometry,
         })
     }
@@ -68,8 +63,11 @@ impl Meta {
     pub fn adopt_page(&mut self, page: PageNo, image: Image) -> Result<(), AllocError>
         requires area { InPageArea self.old.geometry page.0 }
         requires whole { length image ≡ self.old.geometry.page_size }
-        ensures ok { OnOk result (self.new ≡ record self.old { committed = with_row page.0 image self.old.committed }) }
-        ensures image { OnOk result ((p : ℕ) → committed_image self.new p ≡ (if nat_eq page.0 p then Some image else committed_image self.old p)) }
+        ensures ok { OnOk result (self.new
+            ≡ record self.old { committed = with_row page.0 image self.old.committed }) }
+        ensures image { OnOk result ((p : ℕ)
+            → committed_image self.new p ≡
+            (if nat_eq page.0 p then Some image else committed_image self.old p)) }
         ensures err { OnErr result (self.new ≡ self.old) }
     {
         put_row(&mut self.committed, page.0, image)
@@ -77,7 +75,8 @@ impl Meta {
 
     /// Takes a page's committed image away, where it has one. The opening does so for a page that a commit gave back.
     pub fn forget_page(&mut self, page: PageNo)
-        ensures committed { (p : ℕ) → committed_image self.new p ≡ (if nat_eq page.0 p then None else committed_image self.old p) }
+        ensures committed { (p : ℕ) → committed_image self.new p
+            ≡ (if nat_eq page.0 p then None else committed_image self.old p) }
         ensures working { self.new.working ≡ self.old.working }
         ensures geometry { self.new.geometry ≡ self.old.geometry }
     {
@@ -87,18 +86,20 @@ impl Meta {
     /// Begins a transaction: the catalog page alone is touched, and has this image. Where there is no memory, no page is touched.
     pub fn start(&mut self, alloc: Global, catalog: &[u8]) -> Result<(), AllocError>
         requires whole { length catalog.now ≡ self.old.geometry.page_size }
-        ensures ok { OnOk result (self.new ≡ record self.old { working = (catalog_no, Some catalog.now) ∷ [] }) }
+        ensures ok { OnOk result (self.new
+            ≡ record self.old { working = (catalog_no, Some catalog.now) ∷ [] }) }
         ensures err { OnErr result (self.new ≡ record self.old { working = [] }) }
     {
         self.undo();
-        self.edit(alloc, CATALOG, catalog)
+        self.edit(alloc, PageNo::CATALOG, catalog)
     }
 
     /// Gives a page a working image, and touches it. Where there is no memory, nothing changes.
     pub fn edit(&mut self, alloc: Global, page: PageNo, image: &[u8]) -> Result<(), AllocError>
         requires area { InPageArea self.old.geometry page.0 }
         requires whole { length image.now ≡ self.old.geometry.page_size }
-        ensures ok { OnOk result (self.new ≡ record self.old { working = with_row page.0 (Some image.now) self.old.working }) }
+        ensures ok { OnOk result (self.new
+            ≡ record self.old { working = with_row page.0 (Some image.now) self.old.working }) }
         ensures touches { touched self.new ≤ touched self.old + 1 }
         ensures err { OnErr result (self.new ≡ self.old) }
     {
@@ -109,7 +110,8 @@ impl Meta {
     /// Notes that the transaction gave a page back, and touches it. Where there is no memory, nothing changes.
     pub fn gone(&mut self, page: PageNo) -> Result<(), AllocError>
         requires area { InPageArea self.old.geometry page.0 }
-        ensures ok { OnOk result (self.new ≡ record self.old { working = with_row page.0 None self.old.working }) }
+        ensures ok { OnOk result (self.new
+            ≡ record self.old { working = with_row page.0 None self.old.working }) }
         ensures touches { touched self.new ≤ touched self.old + 1 }
         ensures err { OnErr result (self.new ≡ self.old) }
     {
@@ -119,7 +121,8 @@ impl Meta {
     fn put_working(&mut self, page: PageNo, image: Option<Image>) -> Result<(), AllocError>
         requires area { InPageArea self.old.geometry page.0 }
         requires whole { IfSome image (λ (b : List ℕ). length b ≡ self.old.geometry.page_size) }
-        ensures ok { OnOk result (self.new ≡ record self.old { working = with_row page.0 image self.old.working }) }
+        ensures ok { OnOk result (self.new
+            ≡ record self.old { working = with_row page.0 image self.old.working }) }
         ensures touches { touched self.new ≤ touched self.old + 1 }
         ensures err { OnErr result (self.new ≡ self.old) }
     {
@@ -136,7 +139,9 @@ impl Meta {
 
     /// The touched pages in rising order, from index 0 on, each with its image, or with none where the transaction gave it back. None past the end.
     pub fn touched_at(&self, index: u32) -> Option<(PageNo, Option<&[u8]>)>
-        ensures { MatchOption result (length self.now.working ≤ index) (λ row. slice_get self.now.working index ≡ Some (row.0.0, option_copied row.1)) }
+        ensures { MatchOption result (length self.now.working
+            ≤ index) (λ row. slice_get self.now.working index
+            ≡ Some (row.0.0, option_copied row.1)) }
     {
         match self.working.get(index as usize) {
             Some((page, Some(image))) => Some((PageNo(*page), Some(image.as_slice()))),
@@ -197,18 +202,24 @@ impl Meta {
     ) -> Result<&'a [u8], FetchFault>
         requires range { (page.0 + 1) * group.old.page_size ≤ (D.outside disk.old).size }
         requires sizes { group.old.page_size ≡ meta.now.geometry.page_size }
-        ensures* after { sem 𝓛 (GroupRests group.entry (λ new. KeepsLending (D.outside disk.old).disk group.old new
+        ensures* after { sem 𝓛 (GroupRests group.entry
+            (λ new. KeepsLending (D.outside disk.old).disk group.old new
             × MatchOption (image_at meta.now page.0)
-            (MatchResult result (λ s. Brought (D.outside disk.old).disk group.old new page.0 s.now) (λ _. NotBrought group.old new page.0))
+            (MatchResult result (λ s. Brought (D.outside disk.old).disk group.old new page.0 s.now)
+            (λ _. NotBrought group.old new page.0))
             (λ _. new ≡ group.old))) }
-        ensures logged { IfOk result (λ s. (b : List ℕ) → image_at meta.now page.0 ≡ Some b → s.now ≡ b) }
-        ensures home { IfOk result (λ s. image_at meta.now page.0 ≡ None → Lends (D.outside disk.old).disk group.old
-            → (held : List ℕ) → (D.outside disk.old).disk ≡ Some held → s.now ≡ page_of held group.old.page_size page.0) }
+        ensures logged { IfOk result (λ s. (b : List ℕ) → image_at meta.now page.0 ≡ Some b
+            → s.now ≡ b) }
+        ensures home { IfOk result (λ s. image_at meta.now page.0 ≡ None
+            → Lends (D.outside disk.old).disk group.old
+            → (held : List ℕ) → (D.outside disk.old).disk ≡ Some held
+            → s.now ≡ page_of held group.old.page_size page.0) }
         ensures len { IfOk result (λ s. length s.now ≡ group.old.page_size) }
         ensures no_fault { IsSome (image_at meta.now page.0) → IsOk result }
         ensures hit { IsSome (image_at meta.now page.0) → disk.new ≡ disk.old }
         ensures only { ReadsOnly (D.outside disk.old) (D.outside disk.new) }
-        ensures cause { HasFetchCause (D.outside disk.old).disk_faults (D.outside disk.new).disk_faults result }
+        ensures cause { HasFetchCause (D.outside disk.old).disk_faults
+            (D.outside disk.new).disk_faults result }
     {
         match meta.shown(page) {
             Some(image) => Ok(image),
@@ -224,26 +235,36 @@ impl Meta {
     /// only where the disk's count of faults rose, the images stay.
     pub fn write_home<D: Disk>(&mut self, disk: &mut D, groups: &mut Groups) -> Result<(), Failed>
         requires room { volume_bytes self.old.geometry ≤ (D.outside disk.old).size }
-        requires sizes { All (λ (f : Frames). f.page_size ≡ self.old.geometry.page_size) groups.old }
-        ensures at_most { MakesAtMost (length self.old.committed + 1) (D.outside disk.old) (D.outside disk.new) }
-        ensures calls { OnOk result (MakesCalls (length self.old.committed + 1) (D.outside disk.old) (D.outside disk.new)) }
+        requires sizes { All (λ (f : Frames). f.page_size
+            ≡ self.old.geometry.page_size) groups.old }
+        ensures at_most { MakesAtMost (length self.old.committed
+            + 1) (D.outside disk.old) (D.outside disk.new) }
+        ensures calls { OnOk result (MakesCalls (length self.old.committed
+            + 1) (D.outside disk.old) (D.outside disk.new)) }
         ensures rows { AreRows self.old }
         ensures emptied { OnOk result (self.new ≡ record self.old { committed = [] }) }
         ensures err { OnErr result (self.new ≡ self.old) }
         ensures written { OnOk result ((d : List ℕ) → (D.outside disk.old).disk ≡ Some d
-            → (D.outside disk.new).disk ≡ Some (homes_written self.old.geometry.page_size self.old.committed d)) }
-        ensures homes { OnOk result ((d e : List ℕ) → (D.outside disk.old).disk ≡ Some d → (D.outside disk.new).disk ≡ Some e
-            → (p : ℕ) → page_of e self.old.geometry.page_size p ≡ unwrap_or (committed_image self.old p) (page_of d self.old.geometry.page_size p)) }
+            → (D.outside disk.new).disk ≡ Some
+            (homes_written self.old.geometry.page_size self.old.committed d)) }
+        ensures homes { OnOk result ((d e : List ℕ) → (D.outside disk.old).disk ≡ Some d
+            → (D.outside disk.new).disk ≡ Some e
+            → (p : ℕ) → page_of e self.old.geometry.page_size p
+            ≡ unwrap_or (committed_image self.old p) (page_of d self.old.geometry.page_size p)) }
         ensures settled { OnOk result (IsTrue (D.outside disk.old).honest → (d e : List ℕ)
             → (D.outside disk.new).disk ≡ Some d → (D.outside disk.new).images e → e ≡ d) }
-        ensures forgotten { OnOk result (groups.new ≡ homes_forgotten self.old.committed groups.old) }
+        ensures forgotten { OnOk result (groups.new
+            ≡ homes_forgotten self.old.committed groups.old) }
         ensures lends { IsTrue (D.outside disk.old).honest
-            → All (Lends (D.outside disk.old).disk) groups.old → All (Lends (D.outside disk.new).disk) groups.new }
+            → All (Lends (D.outside disk.old).disk) groups.old
+            → All (Lends (D.outside disk.new).disk) groups.new }
         ensures len { length groups.new ≡ length groups.old }
         ensures sizes { All (λ (f : Frames). f.page_size ≡ self.old.geometry.page_size) groups.new }
         ensures from { (low : ℕ) → AreFrom low groups.old → AreFrom low groups.new }
-        ensures changes { ChangesWithin (InHomes self.old.geometry.page_size self.old.committed) (D.outside disk.old) (D.outside disk.new) }
-        ensures cause { OnErr result (Rose (D.outside disk.old).disk_faults (D.outside disk.new).disk_faults) }
+        ensures changes { ChangesWithin (InHomes self.old.geometry.page_size self.old.committed)
+            (D.outside disk.old) (D.outside disk.new) }
+        ensures cause { OnErr result (Rose (D.outside disk.old).disk_faults
+            (D.outside disk.new).disk_faults) }
     {
         let size = self.geometry.page_size;
         write_rows(disk, groups, &self.committed, size)?;

@@ -29,8 +29,10 @@ fn place_of<T>(rows: &[(u32, T)], page: u32) -> usize
 
 // Whether the row at a place is that of a page.
 fn is_at<T>(rows: &[(u32, T)], page: u32, at: usize) -> bool
-    ensures there { OnTrue result ((at < length rows.now) × ((d : ℕ × T) → (slice_index_or rows.now at d).0 ≡ page)) }
-    ensures absent { OnFalse result ((d : ℕ × T) → at < length rows.now → (slice_index_or rows.now at d).0 ≢ page) }
+    ensures there { OnTrue result ((at < length rows.now) × ((d : ℕ × T)
+        → (slice_index_or rows.now at d).0 ≡ page)) }
+    ensures absent { OnFalse result ((d : ℕ × T) → at < length rows.now
+        → (slice_index_or rows.now at d).0 ≢ page) }
 {
     at < rows.len() && rows[at].0 == page
 }
@@ -54,7 +56,9 @@ pub fn put_row<T: Drop>(rows: &mut Vec<(u32, T)>, page: u32, value: T) -> Result
     ensures ok { OnOk result (rows.new.items ≡ with_row page value rows.old.items) }
     ensures err { OnErr result (rows.new.items ≡ rows.old.items) }
     ensures capacity { vec_capacity rows.old ≤ vec_capacity rows.new }
-    ensures room { length rows.old.items + (if is_some (lookup (nat_eq page) rows.old.items) then 0 else 1) ≤ vec_capacity rows.old → IsOk result }
+    ensures room { length rows.old.items
+        + (if is_some (lookup (nat_eq page) rows.old.items) then 0 else 1) ≤ vec_capacity rows.old
+        → IsOk result }
 {
     let at = place_of(rows, page);
     if is_at(rows, page, at) {

@@ -30,10 +30,17 @@ pub fn walk_trees<P: ReadPages>(
     requires geometry { geometry.now ≡ P.geometry pages.old }
     requires units { units.old.geometry ≡ geometry.now }
     requires roots { AllByRecursion IsRootField roots.now }
-    ensures named { OnOk result (P.tells pages.old → (bytes : Bytes) → ShowsPages geometry.now (P.image pages.old) bytes → AreNamed geometry.now bytes (used_at units.old) roots.now) }
-    ensures balanced { OnOk result (P.tells pages.old → (bytes : Bytes) → ShowsPages geometry.now (P.image pages.old) bytes → AreBalanced geometry.now bytes roots.now) }
-    ensures used { OnOk result (P.tells pages.old → (bytes : Bytes) → ShowsPages geometry.now (P.image pages.old) bytes → UsesTrees bytes roots.now (used_at units.old) (used_at units.new)) }
-    ensures bad { (part : Part) → result ≡ Err (OpenFault.BadVolume part) → P.tells pages.old → (bytes : Bytes) → ShowsPages geometry.now (P.image pages.old) bytes
+    ensures named { OnOk result (P.tells pages.old → (bytes : Bytes)
+        → ShowsPages geometry.now (P.image pages.old) bytes
+        → AreNamed geometry.now bytes (used_at units.old) roots.now) }
+    ensures balanced { OnOk result (P.tells pages.old → (bytes : Bytes)
+        → ShowsPages geometry.now (P.image pages.old) bytes
+        → AreBalanced geometry.now bytes roots.now) }
+    ensures used { OnOk result (P.tells pages.old → (bytes : Bytes)
+        → ShowsPages geometry.now (P.image pages.old) bytes
+        → UsesTrees bytes roots.now (used_at units.old) (used_at units.new)) }
+    ensures bad { (part : Part) → result ≡ Err (OpenFault.BadVolume part) → P.tells pages.old
+        → (bytes : Bytes) → ShowsPages geometry.now (P.image pages.old) bytes
         → FailsFirst geometry.now bytes (used_at units.old) roots.now part }
     ensures kept { Keeps P.Ground pages.old pages.new }
     ensures disk { result ≡ Err OpenFault.Disk → Rose (P.faults pages.old) (P.faults pages.new) }

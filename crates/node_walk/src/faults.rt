@@ -18,7 +18,8 @@ pub(crate) const BAD_BALANCE: OpenFault = OpenFault::BadVolume {
 pub(crate) fn open_fault(fault: PortFault) -> OpenFault
     requires { IsDamage fault → ⊥ }
     ensures fine { (part : Part) → result ≡ OpenFault.BadVolume part → ⊥ }
-    ensures disk { (before now : ℕ) → Cause before now fault → result ≡ OpenFault.Disk → Rose before now }
+    ensures disk { (before now : ℕ) → Cause before now fault → result ≡ OpenFault.Disk
+        → Rose before now }
 {
     match fault {
         PortFault::Memory => OpenFault::Memory,

@@ -56,8 +56,10 @@ fn children(alloc: Global, node: &NodeView) -> Result<Vec<Part>, AllocError>
 /// The node that stands on a page, where it is in its grammar.
 fn node_on(alloc: Global, bytes: &[u8], fan: u32) -> Result<Option<Node>, AllocError>
     requires { fan ≤ 340 }
-    ensures found { IfOk result (λ found. IfSome found (λ node. IsNodeOn fan bytes.now node.met node.below.items)) }
-    ensures none { IfOk result (λ found. IfNone found ((level : ℕ) (pairs : List Pair) → PairsOf fan bytes.now level pairs → ⊥)) }
+    ensures found { IfOk result
+        (λ found. IfSome found (λ node. IsNodeOn fan bytes.now node.met node.below.items)) }
+    ensures none { IfOk result (λ found. IfNone found ((level : ℕ) (pairs : List Pair)
+        → PairsOf fan bytes.now level pairs → ⊥)) }
 {
     let Some(node) = NodeView::of(bytes, fan) else {
         return Ok(None);
@@ -81,8 +83,12 @@ pub(crate) fn read_node<P: ReadPages>(
     requires ready { P.ready pages.old }
     requires page { InPageArea (P.geometry pages.old) page.0 }
     requires fan { fan ≤ 340 }
-    ensures found { IfOk result (λ found. P.tells pages.old → IfSome found (λ node. IsNodeOn fan (P.image pages.old page.0) node.met node.below.items)) }
-    ensures none { IfOk result (λ found. P.tells pages.old → IfNone found ((level : ℕ) (pairs : List Pair) → PairsOf fan (P.image pages.old page.0) level pairs → ⊥)) }
+    ensures found { IfOk result (λ found. P.tells pages.old
+        → IfSome found (λ node. IsNodeOn fan
+        (P.image pages.old page.0) node.met node.below.items)) }
+    ensures none { IfOk result (λ found. P.tells pages.old
+        → IfNone found ((level : ℕ) (pairs : List Pair)
+        → PairsOf fan (P.image pages.old page.0) level pairs → ⊥)) }
     ensures no_damage { IfErr result (λ fault. IsDamage fault → ⊥) }
     ensures kept { Keeps P.Ground pages.old pages.new }
     ensures cause { HasCause (P.faults pages.old) (P.faults pages.new) result }

@@ -33,12 +33,22 @@ pub(crate) fn walk_tree<P: ReadPages>(
     requires geometry { geometry.now ≡ P.geometry pages.old }
     requires units { units.old.geometry ≡ geometry.now }
     requires root { IsRootField root.now }
-    ensures named { OnOk result (P.tells pages.old → (bytes : Bytes) → ShowsPages geometry.now (P.image pages.old) bytes → RootNamed geometry.now bytes root.now.height root.now.page) }
-    ensures free { OnOk result (P.tells pages.old → (bytes : Bytes) → ShowsPages geometry.now (P.image pages.old) bytes → AreFree (used_at units.old) (root_units bytes root.now)) }
-    ensures balanced { IfOk result (λ balanced. P.tells pages.old → (bytes : Bytes) → ShowsPages geometry.now (P.image pages.old) bytes → (IsTrue balanced ↔ HasBalance geometry.now bytes root.now)) }
-    ensures used { OnOk result (P.tells pages.old → (bytes : Bytes) → ShowsPages geometry.now (P.image pages.old) bytes → UsesTrees bytes (root.now ∷ []) (used_at units.old) (used_at units.new)) }
-    ensures bad { (part : VolumePart) → result ≡ Err (OpenFault.BadVolume part) → P.tells pages.old → (bytes : Bytes) → ShowsPages geometry.now (P.image pages.old) bytes
-        → (part ≡ NodePart) × (RootNamed geometry.now bytes root.now.height root.now.page → AreFree (used_at units.old) (root_units bytes root.now) → ⊥) }
+    ensures named { OnOk result (P.tells pages.old → (bytes : Bytes)
+        → ShowsPages geometry.now (P.image pages.old) bytes
+        → RootNamed geometry.now bytes root.now.height root.now.page) }
+    ensures free { OnOk result (P.tells pages.old → (bytes : Bytes)
+        → ShowsPages geometry.now (P.image pages.old) bytes
+        → AreFree (used_at units.old) (root_units bytes root.now)) }
+    ensures balanced { IfOk result (λ balanced. P.tells pages.old → (bytes : Bytes)
+        → ShowsPages geometry.now (P.image pages.old) bytes → (IsTrue balanced
+        ↔ HasBalance geometry.now bytes root.now)) }
+    ensures used { OnOk result (P.tells pages.old → (bytes : Bytes)
+        → ShowsPages geometry.now (P.image pages.old) bytes
+        → UsesTrees bytes (root.now ∷ []) (used_at units.old) (used_at units.new)) }
+    ensures bad { (part : VolumePart) → result ≡ Err (OpenFault.BadVolume part) → P.tells pages.old
+        → (bytes : Bytes) → ShowsPages geometry.now (P.image pages.old) bytes
+        → (part ≡ NodePart) × (RootNamed geometry.now bytes root.now.height root.now.page
+        → AreFree (used_at units.old) (root_units bytes root.now) → ⊥) }
     ensures kept { Keeps P.Ground pages.old pages.new }
     ensures disk { result ≡ Err OpenFault.Disk → Rose (P.faults pages.old) (P.faults pages.new) }
     ensures uses { OnlyUses units.old units.new }

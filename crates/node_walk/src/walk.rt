@@ -32,9 +32,11 @@ fn first_leaf(
     ensures unit { OnOk result (IsUnit geometry.now page.0) }
     ensures free { OnOk result (used_at units.now page.0 ≡ false) }
     ensures leaf { IfOk result (λ node. node.below.items ≡ []) }
-    ensures first { IfOk result (λ node. (bytes : Bytes) → IsFirst geometry.now bytes 0 page.0 node.met node.below.items (used_at units.now)) }
+    ensures first { IfOk result (λ node. (bytes : Bytes)
+        → IsFirst geometry.now bytes 0 page.0 node.met node.below.items (used_at units.now)) }
     ensures bad { (part : VolumePart) → result ≡ Err (OpenFault.BadVolume part) → (bytes : Bytes)
-        → (part ≡ NodePart) × (IsNamed geometry.now bytes 0 page.0 → used_at units.now page.0 ≡ true) }
+        → (part ≡ NodePart) × (IsNamed geometry.now bytes 0 page.0
+        → used_at units.now page.0 ≡ true) }
     ensures disk { result ≡ Err OpenFault.Disk → ⊥ }
 {
     if !geometry.names_leaf(page) || units.is_used(page) {
@@ -61,10 +63,13 @@ fn first_node<P: ReadPages>(
     requires level { 1 ≤ level }
     ensures unit { OnOk result (IsUnit geometry.now page.0) }
     ensures free { OnOk result (used_at units.now page.0 ≡ false) }
-    ensures first { IfOk result (λ node. P.tells pages.old → (bytes : Bytes) → ShowsPages geometry.now (P.image pages.old) bytes
+    ensures first { IfOk result (λ node. P.tells pages.old → (bytes : Bytes)
+        → ShowsPages geometry.now (P.image pages.old) bytes
         → IsFirst geometry.now bytes level page.0 node.met node.below.items (used_at units.now)) }
-    ensures bad { (part : VolumePart) → result ≡ Err (OpenFault.BadVolume part) → P.tells pages.old → (bytes : Bytes) → ShowsPages geometry.now (P.image pages.old) bytes
-        → (part ≡ NodePart) × (IsNamed geometry.now bytes level page.0 → used_at units.now page.0 ≡ true) }
+    ensures bad { (part : VolumePart) → result ≡ Err (OpenFault.BadVolume part) → P.tells pages.old
+        → (bytes : Bytes) → ShowsPages geometry.now (P.image pages.old) bytes
+        → (part ≡ NodePart) × (IsNamed geometry.now bytes level page.0
+        → used_at units.now page.0 ≡ true) }
     ensures kept { Keeps P.Ground pages.old pages.new }
     ensures disk { result ≡ Err OpenFault.Disk → Rose (P.faults pages.old) (P.faults pages.new) }
 {
@@ -99,10 +104,13 @@ fn first_met<P: ReadPages>(
     ensures unit { OnOk result (IsUnit geometry.now page.0) }
     ensures free { OnOk result (used_at units.now page.0 ≡ false) }
     ensures leaf { IfOk result (λ node. level ≡ 0 → node.below.items ≡ []) }
-    ensures first { IfOk result (λ node. P.tells pages.old → (bytes : Bytes) → ShowsPages geometry.now (P.image pages.old) bytes
+    ensures first { IfOk result (λ node. P.tells pages.old → (bytes : Bytes)
+        → ShowsPages geometry.now (P.image pages.old) bytes
         → IsFirst geometry.now bytes level page.0 node.met node.below.items (used_at units.now)) }
-    ensures bad { (part : VolumePart) → result ≡ Err (OpenFault.BadVolume part) → P.tells pages.old → (bytes : Bytes) → ShowsPages geometry.now (P.image pages.old) bytes
-        → (part ≡ NodePart) × (IsNamed geometry.now bytes level page.0 → used_at units.now page.0 ≡ true) }
+    ensures bad { (part : VolumePart) → result ≡ Err (OpenFault.BadVolume part) → P.tells pages.old
+        → (bytes : Bytes) → ShowsPages geometry.now (P.image pages.old) bytes
+        → (part ≡ NodePart) × (IsNamed geometry.now bytes level page.0
+        → used_at units.now page.0 ≡ true) }
     ensures kept { Keeps P.Ground pages.old pages.new }
     ensures disk { result ≡ Err OpenFault.Disk → Rose (P.faults pages.old) (P.faults pages.new) }
 {
@@ -126,11 +134,15 @@ fn meet<P: ReadPages>(
     requires geometry { geometry.now ≡ P.geometry pages.old }
     requires units { units.old.geometry ≡ geometry.now }
     ensures leaf { IfOk result (λ node. level ≡ 0 → node.below.items ≡ []) }
-    ensures met { IfOk result (λ node. P.tells pages.old → (bytes : Bytes) → ShowsPages geometry.now (P.image pages.old) bytes
-        → Meets geometry.now bytes level page.0 node.met node.below.items (used_at units.old) (get nat_eq known.old) (used_at units.new) (get nat_eq known.new)) }
-    ensures bad { (part : VolumePart) → result ≡ Err (OpenFault.BadVolume part) → P.tells pages.old → (bytes : Bytes) → ShowsPages geometry.now (P.image pages.old) bytes
+    ensures met { IfOk result (λ node. P.tells pages.old → (bytes : Bytes)
+        → ShowsPages geometry.now (P.image pages.old) bytes
+        → Meets geometry.now bytes level page.0 node.met node.below.items (used_at units.old)
+        (get nat_eq known.old) (used_at units.new) (get nat_eq known.new)) }
+    ensures bad { (part : VolumePart) → result ≡ Err (OpenFault.BadVolume part) → P.tells pages.old
+        → (bytes : Bytes) → ShowsPages geometry.now (P.image pages.old) bytes
         → AreNoted geometry.now bytes (get nat_eq known.old)
-        → (part ≡ NodePart) × (IsNamed geometry.now bytes level page.0 → (used_at units.old page.0 ≡ true → IsKnown (get nat_eq known.old) page.0) → ⊥) }
+        → (part ≡ NodePart) × (IsNamed geometry.now bytes level page.0
+        → (used_at units.old page.0 ≡ true → IsKnown (get nat_eq known.old) page.0) → ⊥) }
     ensures kept { Keeps P.Ground pages.old pages.new }
     ensures disk { result ≡ Err OpenFault.Disk → Rose (P.faults pages.old) (P.faults pages.new) }
     ensures uses { OnlyUses units.old units.new }
@@ -166,12 +178,17 @@ pub(crate) fn walk<P: ReadPages>(
     requires ready { P.ready pages.old }
     requires geometry { geometry.now ≡ P.geometry pages.old }
     requires units { units.old.geometry ≡ geometry.now }
-    ensures walked { IfOk result (λ balanced. P.tells pages.old → (bytes : Bytes) → ShowsPages geometry.now (P.image pages.old) bytes
+    ensures walked { IfOk result (λ balanced. P.tells pages.old → (bytes : Bytes)
+        → ShowsPages geometry.now (P.image pages.old) bytes
         → AreNoted geometry.now bytes (get nat_eq known.old)
-        → Walked geometry.now bytes level least (tree ∷ []) (used_at units.old) (get nat_eq known.old) (used_at units.new) (get nat_eq known.new) balanced) }
-    ensures bad { (part : VolumePart) → result ≡ Err (OpenFault.BadVolume part) → P.tells pages.old → (bytes : Bytes) → ShowsPages geometry.now (P.image pages.old) bytes
+        → Walked geometry.now bytes level least (tree
+        ∷ []) (used_at units.old) (get nat_eq known.old) (used_at units.new)
+        (get nat_eq known.new) balanced) }
+    ensures bad { (part : VolumePart) → result ≡ Err (OpenFault.BadVolume part) → P.tells pages.old
+        → (bytes : Bytes) → ShowsPages geometry.now (P.image pages.old) bytes
         → AreNoted geometry.now bytes (get nat_eq known.old)
-        → (part ≡ NodePart) × (CanWalk geometry.now bytes (used_at units.old) (get nat_eq known.old) level (tree ∷ []) → ⊥) }
+        → (part ≡ NodePart) × (CanWalk geometry.now bytes (used_at units.old)
+        (get nat_eq known.old) level (tree ∷ []) → ⊥) }
     ensures kept { Keeps P.Ground pages.old pages.new }
     ensures disk { result ≡ Err OpenFault.Disk → Rose (P.faults pages.old) (P.faults pages.new) }
     ensures uses { OnlyUses units.old units.new }

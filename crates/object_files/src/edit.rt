@@ -55,7 +55,8 @@ pub fn add_file(image: &mut [u8], name: &[u8]) -> u32
     requires unused { ¬ Contains (map name_of (entries_on image.old)) name.now }
     requires room { 32 + 48 * (length (entries_on image.old) + 1) ≤ length image.old }
     ensures number { IsLowestUnused (numbers_on image.old) result }
-    ensures added { CatalogOf image.new (with_entries (catalog_on image.old) (entry_inserted (new_file name.now result) (entries_on image.old))) }
+    ensures added { CatalogOf image.new (with_entries (catalog_on image.old)
+        (entry_inserted (new_file name.now result) (entries_on image.old))) }
 {
     let n = get_u16(image, COUNT) as usize;
     let file_no = lowest_unused(image, n);
@@ -77,7 +78,8 @@ pub fn add_file(image: &mut [u8], name: &[u8]) -> u32
 pub fn remove_file(image: &mut [u8], name: &[u8])
     requires page { IsCatalogPage image.old }
     requires file { Contains (map name_of (entries_on image.old)) name.now }
-    ensures { CatalogOf image.new (with_entries (catalog_on image.old) (without_name name.now (entries_on image.old))) }
+    ensures { CatalogOf image.new (with_entries (catalog_on image.old)
+        (without_name name.now (entries_on image.old))) }
 {
     let n = get_u16(image, COUNT) as usize;
     let at = HEAD_LEN + ENTRY_LEN * index_of_name(image, n, name);
@@ -93,7 +95,8 @@ pub fn set_index(image: &mut [u8], index: Index)
     requires root { IsPageField index.root }
     requires level { index.level ≤ 5 }
     requires rooted { 0 < index.level → IsSome index.root }
-    ensures { CatalogOf image.new (with_entries (catalog_on image.old) (map (indexed index.file_no index.level index.root) (entries_on image.old))) }
+    ensures { CatalogOf image.new (with_entries (catalog_on image.old)
+        (map (indexed index.file_no index.level index.root) (entries_on image.old))) }
 {
     let n = get_u16(image, COUNT) as usize;
     let at = HEAD_LEN + ENTRY_LEN * index_of_number(image, n, index.file_no);

@@ -14,8 +14,10 @@ pub fn place_of(page: &[u8], n: usize, name: &[u8]) -> usize
     requires room { 32 + 48 * n ≤ length page.now }
     requires entries { EachReads page.now n }
     ensures within { result ≤ n }
-    ensures before { (k : ℕ) → k < result → slice_cmp nat_cmp name.now (name_in page.now (entry_at k)) ≢ Less }
-    ensures later { result < n → slice_cmp nat_cmp name.now (name_in page.now (entry_at result)) ≡ Less }
+    ensures before { (k : ℕ) → k < result
+        → slice_cmp nat_cmp name.now (name_in page.now (entry_at k)) ≢ Less }
+    ensures later { result < n → slice_cmp nat_cmp name.now (name_in page.now (entry_at result))
+        ≡ Less }
 {
     for i in 0..n {
         match name.cmp(&name_of(page, HEAD_LEN + ENTRY_LEN * i)) {

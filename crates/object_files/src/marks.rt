@@ -106,7 +106,8 @@ pub fn lowest_unused(page: &[u8], n: usize) -> u32
     requires size { length page.now ≤ 8192 }
     ensures some { 1 ≤ result }
     ensures unused { (i : ℕ) → i < n → number_in page.now (entry_at i) ≢ result }
-    ensures lowest { (k : ℕ) → 1 ≤ k → k < result → (i : ℕ) × (i < n) × (number_in page.now (entry_at i) ≡ k) }
+    ensures lowest { (k : ℕ) → 1 ≤ k → k < result → (i : ℕ) × (i < n)
+        × (number_in page.now (entry_at i) ≡ k) }
 {
     first_unmarked(&marks_of(page, n)) as u32 + 1
 }

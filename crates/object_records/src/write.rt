@@ -31,7 +31,8 @@ fn state_code(state: State) -> u8
 /// Writes a form and a head.
 fn write_head(form: u8, head: &Head, out: &mut [u8])
     requires { 36 ≤ length out.old }
-    ensures { out.new ≡ (form ∷ state_byte head.now.state ∷ []) ++ eight_bytes head.now.unique ++ place_field head.now.older ++ place_field head.now.newer ++ drop 22 out.old }
+    ensures { out.new ≡ (form ∷ state_byte head.now.state ∷ []) ++ eight_bytes head.now.unique
+        ++ place_field head.now.older ++ place_field head.now.newer ++ drop 22 out.old }
 {
     out[FORM] = form;
     out[STATE] = state_code(head.state);

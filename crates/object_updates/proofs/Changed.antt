@@ -11,7 +11,7 @@ use Rattle.object_records.specs.Record.{Content}
 use Rattle.op_log.specs.declared.record.LogRecord.{LogRecord}
 use Rattle.table_model.specs.Tables.{with_bytes}
 use Rattle.versions.specs.Edited.{HasNeed}
-use Rattle.versions.specs.Versions.{AreInUse, Change, EditsVersion, HasVersion, InRange, changed, content_units, count_of, place_of}
+use Rattle.version_model.specs.Versions.{AreInUse, Change, EditsVersion, HasVersion, InRange, changed, content_units, count_of, place_of}
 use Rattle.volume_edits.specs.Ported.{IsApart, IsVolume, units_in}
 use Rattle.volume_edits.proofs.Changing.{changes_volume}
 use Rattle.volume_edits.proofs.Showing.{version_found}

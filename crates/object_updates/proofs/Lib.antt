@@ -3,3 +3,4 @@ pub mod Volumes
 pub mod Changed
 pub mod Removed
 pub mod Making
+pub mod Remembered

@@ -11,11 +11,9 @@ use Rattle.op_log.specs.declared.record.LogRecord.{LogRecord}
 use Rattle.object_files.specs.Catalog.{Catalog, CatalogOf, FileEntry, number_of}
 use Rattle.object_files.specs.Reads.{catalog_on}
 use Rattle.object_files.proofs.CatalogLaws.{catalog_read}
-use Rattle.file_index.specs.declared.Index.{Index}
 use Rattle.file_bodies.specs.Files.{HasFile, index_at, index_in}
-use Rattle.file_bodies.specs.Places.{IsRoom}
 use Rattle.table_model.specs.Tables.{numbered, with_object}
-use Rattle.versions.specs.Versions.{AreInUse, CreatesVersion}
+use Rattle.version_model.specs.Versions.{AreInUse, PutsVersion}
 use Rattle.volume_model.specs.Volume.{Line, Stored, Volume, line_records, stored_in, table_of, unique_of}
 use Rattle.volume_edits.specs.Edits.{MovesVolume, RecatalogsVolume, WritesCatalog, catalog_numbered, table_numbered}
 use Rattle.volume_edits.specs.Ported.{IsApart, IsVolume, ShowsVolume, index_named, units_in}
@@ -25,10 +23,6 @@ use Rattle.volume_edits.proofs.Creating.{creates_object}
 use Rattle.volume_edits.proofs.Listing.{numbers_volume}
 use Rattle.volume_edits.proofs.Lists.{cut_at}
 use Rattle.object_updates.specs.Updates.{AsksFile, BecomesVolume}
-
--- what is known of the room of every file
-pub any_room : {S : Type 0} (g : ground.Ghosts S) (s : S) (index : Index) (file_no : ℕ) → IsRoom g s index (record { file_no = file_no; from = record { 0 = 0 }; len = 0 })
-any_room g s index file_no = λ page named low high. absurd (omega (arith, high))
 
 module _ {S : Type 0} (g : ground.Ghosts S) (s : S) (records : List LogRecord) (v : Volume) (vol : ShowsVolume g s records v) where
   -- what is read on the catalog's page is the volume's catalog
@@ -56,7 +50,7 @@ module _ {S : Type 0} (g : ground.Ghosts S) (old mid : S) (records : List LogRec
   pub its_file : HasFile g mid (index_named asks.entry)
   its_file = entry_file g mid records counted.now counted.volume.shows asks.entry there
 
-  module _ (new : S) (oid : Oid) (number : oid.unique ≡ unique) (geometry : g.geometry new ≡ g.geometry mid) (apart : IsApart g new) (in_use : AreInUse g new) (creates : CreatesVersion g mid new (index_named asks.entry) oid) where
+  module _ (new : S) (oid : Oid) (number : oid.unique ≡ unique) (geometry : g.geometry new ≡ g.geometry mid) (apart : IsApart g new) (in_use : AreInUse g new) (creates : PutsVersion g mid new (index_named asks.entry) oid) where
     low : oid.unique < counted.now.catalog.next_unique
     low = omega (arith, number, ap (λ (c : Catalog). c.next_unique) counted.has)
 

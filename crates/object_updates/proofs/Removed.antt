@@ -9,7 +9,7 @@ use Rattle.file_bodies.specs.Places.{RemovesBody}
 use Rattle.file_index.specs.declared.Index.{Index}
 use Rattle.object_records.specs.Record.{Content, Record}
 use Rattle.table_model.specs.Tables.{without_object}
-use Rattle.versions.specs.Versions.{HasRecord, HasVersion, content_units, place_of}
+use Rattle.version_model.specs.Versions.{HasRecord, HasVersion, content_units, place_of}
 use Rattle.volume_edits.specs.Ported.{units_in}
 use Rattle.volume_edits.proofs.Removing.{removes_object}
 use Rattle.volume_edits.proofs.Showing.{version_found}

@@ -11,7 +11,7 @@ use Rattle.table_model.specs.declared.table.Table.{Table}
 use Rattle.table_model.specs.declared.table.TableFile.{TableFile}
 use Rattle.table_model.specs.declared.table.Version.{Version}
 use Rattle.table_model.specs.Tables.{bytes_changed, has_oid, versions_in, versions_of, with_bytes, with_objects, with_versions}
-use Rattle.versions.specs.Versions.{Change, Inserts, Appends, Replaces, Deletes, changed, count_of}
+use Rattle.version_model.specs.Versions.{Change, Inserts, Appends, Replaces, Deletes, changed, count_of}
 
 -- a change of no bytes leaves the bytes as they are
 pub nothing_changed : (change : Change) → count_of change ≡ 0 → (bytes : List ℕ) → changed change bytes ≡ bytes

@@ -1,26 +1,27 @@
 -- A volume that a call on versions keeps, edits or moves is one that the port's working state becomes.
 use Rattle.std.proofs.Common.{◌≡◌, ℕ, Bool, true, List, [], ◌∷◌, Some, sym, ap, subst, ◌∙◌, inl, inr}
-use Rattle.std.specs.Prelude.{Contains, if◌then◌else◌, map, nat_lt}
+use Rattle.std.specs.Prelude.{Contains, if◌then◌else◌, map, nat_lt, Result, Ok, Err, IfOk, IfErr}
 use Rattle.ex_base.specs.declared.ground.Ground as ground
 use Rattle.ex_base.specs.declared.geometry.Geometry.{Geometry}
+use Rattle.ex_base.specs.declared.faults.PortFault.{PortFault}
 use Rattle.ex_base.specs.declared.names.Oid.{Oid}
-use Rattle.ex_base.specs.Area.{area_end, catalog_no}
+use Rattle.ex_base.specs.Area.{InPageArea, area_end, catalog_no}
 use Rattle.ex_base.specs.Order.{AllDiffer}
-use Rattle.ex_base.specs.Ports.{Keeps}
+use Rattle.ex_base.specs.Ports.{IsDamage, Keeps}
 use Rattle.ex_base.proofs.Members.{In, contains_in, in_contains, in_left}
 use Rattle.op_log.specs.declared.record.LogRecord.{LogRecord}
 use Rattle.trees.specs.Trees.{Units}
 use Rattle.table_model.specs.declared.table.Table.{Table}
 use Rattle.table_model.specs.declared.table.Version.{Version}
 use Rattle.table_model.specs.Tables.{has_oid, version_at, versions_of, with_bytes}
-use Rattle.versions.specs.Versions.{AreInUse}
+use Rattle.version_model.specs.Versions.{AreInUse}
 use Rattle.volume_edits.specs.Edits.{ChangesVolume, MovesVolume, trees_of}
-use Rattle.volume_edits.specs.Ported.{IsVolume, units_in}
+use Rattle.volume_edits.specs.Ported.{IsApart, IsVolume, units_in}
 use Rattle.volume_edits.proofs.Contents.{pairs}
 use Rattle.volume_edits.proofs.Finding.{find_in, from_map, into_map, oid_same, versions_are}
 use Rattle.volume_edits.proofs.Staying.{kept_reach, stays_whole}
 use Rattle.volume_model.specs.Volume.{Stored, Volume, file_pages, reach_of, stored_in, table_of, unique_of, version_of}
-use Rattle.object_updates.specs.Updates.{BecomesVolume}
+use Rattle.object_updates.specs.Updates.{BecomesVolume, TableUpdate, Updates, updated}
 use Rattle.object_updates.proofs.Tables.{bytes_agree}
 
 -- ---- versions under one OID
@@ -68,10 +69,13 @@ module _ {S : Type 0} (g : ground.Ghosts S) (old : S) (records : List LogRecord)
         ∙ ap (λ (image : ℕ → List ℕ). units_at (g.geometry old) image (g.unit new)) keeps.images
         ∙ ap (λ (unit : ℕ → List ℕ). units_at (g.geometry old) (g.image old) unit) keeps.units
 
+    kept_here : Keeps g old new → IsVolume g new records v
+    kept_here keeps = stays_whole g old new records v vol.shows (kept_reach g old new v keeps vol.shows.apart) (λ u c. ap (λ (f : ℕ → Bool). f u) keeps.used ∙ vol.used u c)
+
     pub kept_volume : Keeps g old new → BecomesVolume g old new records v (table_of U v)
     kept_volume keeps = record {
       now = v;
-      volume = stays_whole g old new records v vol.shows (kept_reach g old new v keeps vol.shows.apart) (λ u c. ap (λ (f : ℕ → Bool). f u) keeps.used ∙ vol.used u c);
+      volume = kept_here keeps;
       shows = ap (λ (units : Units). table_of units v) (kept_units keeps);
       pages = λ page c. inl c;
       units = λ u c. inl (subst (λ (units : Units). Contains (trees_of units v) u) (kept_units keeps) c);
@@ -96,3 +100,36 @@ module _ {S : Type 0} (g : ground.Ghosts S) (old : S) (records : List LogRecord)
       pages = moves.pages;
       units = λ u there. inl (moves.units u there);
     }
+
+-- ---- what is read after an update
+
+module _ {S : Type 0} (g : ground.Ghosts S) (old mid new : S) (keeps : Keeps g mid new) where
+  still_becomes : (records : List LogRecord) (v : Volume) (table : Table) → BecomesVolume g old mid records v table → BecomesVolume g old new records v table
+  still_becomes records v table becomes =
+      let units = kept_units g mid records becomes.now becomes.volume new keeps in
+      record {
+        now = becomes.now;
+        volume = kept_here g mid records becomes.now becomes.volume new keeps;
+        shows = ap (λ (us : Units). table_of us becomes.now) units ∙ becomes.shows;
+        pages = becomes.pages;
+        units = λ u c. becomes.units u (subst (λ (us : Units). Contains (trees_of us becomes.now) u) units c);
+      }
+
+  apart_before : IsApart g new → IsApart g mid
+  apart_before apart = λ page area held.
+      let later = subst (λ (geometry : Geometry). InPageArea geometry page) (sym (g.leads_geometry mid new keeps.leads)) area in
+      ap (λ (f : ℕ → List ℕ). f page) (sym keeps.images) ∙ apart page later (ap (λ (f : ℕ → Bool). f page) keeps.held ∙ held) ∙ ap (λ (f : ℕ → List ℕ). f page) keeps.units
+
+  used_before : AreInUse g new → AreInUse g mid
+  used_before used = λ page held. ap (λ (f : ℕ → Bool). f page) (sym keeps.used) ∙ used page (ap (λ (f : ℕ → Bool). f page) keeps.held ∙ held)
+
+  -- a call that only reads, and answers the OID of the update before it, leaves what the update did
+  pub still_updated : (u : TableUpdate) (oid : Oid) (result : Result Oid PortFault) → Updates g old mid u (Ok oid) → IfOk result (λ read. read ≡ oid) → IfErr result (λ fault. IsDamage fault → ⊥)
+      → Updates g old new u result
+  still_updated u oid (Ok read) does same never = record {
+    done = λ records v tells vol asks apart used.
+        subst (λ (o : Oid). BecomesVolume g old new records v (updated u o (table_of (units_in g old) v))) (sym same)
+        (still_becomes records v _ (does.done records v tells vol asks (apart_before apart) (used_before used)));
+    sound = tt;
+  }
+  still_updated u oid (Err fault) does same never = record { done = tt; sound = λ damage records v tells vol asks room. never damage }

@@ -1,5 +1,5 @@
 -- What the calls of this crate are asked for, as an update of the table.
-use Rattle.std.specs.Prelude.{◌≡◌, ℕ, List}
+use Rattle.std.specs.Prelude.{◌≡◌, ◌≤◌, ◌<◌, ◌+◌, ◌^◌, ℕ, List, ⊤}
 use Rattle.ex_base.specs.declared.names.Oid.{Oid}
 use Rattle.versions.specs.Edited.{change_of}
 use Rattle.object_updates.specs.declared.ObjectUpdate.{ObjectUpdate}
@@ -17,3 +17,9 @@ abbrev pub NamesOid : ObjectUpdate → Oid → Type 0
 NamesOid (update.Create file_no unique) oid = oid.unique ≡ unique
 NamesOid (update.Change x edit) oid = oid ≡ x
 NamesOid (update.Remove x) oid = oid ≡ x
+
+-- What an update takes for granted where so many pages are free: a new object has the pages that it may take, and a number follows its own.
+abbrev pub CanPerform : ObjectUpdate → ℕ → Type 0
+CanPerform (update.Create file_no unique) free = (7 ≤ free) × (unique + 1 < 2 ^ 64)
+CanPerform (update.Change oid edit) free = ⊤
+CanPerform (update.Remove oid) free = ⊤

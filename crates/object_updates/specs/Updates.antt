@@ -12,7 +12,7 @@ use Rattle.table_model.specs.declared.table.Table.{Table}
 use Rattle.table_model.specs.declared.table.Version.{Version}
 use Rattle.table_model.specs.Tables.{version_at, numbered, with_object, with_bytes, without_object}
 use Rattle.versions.specs.Edited.{HasNeed}
-use Rattle.versions.specs.Versions.{AreInUse, Change, HasVersion, InRange, changed, place_of}
+use Rattle.version_model.specs.Versions.{AreInUse, Change, HasVersion, InRange, changed, place_of}
 use Rattle.volume_edits.specs.Edits.{trees_of}
 use Rattle.volume_edits.specs.Ported.{IsApart, IsVolume, units_in}
 use Rattle.volume_model.specs.Volume.{Volume, file_pages, table_of}

@@ -3,17 +3,21 @@
 
 ghost use Rattle.std.specs.Prelude.{◌≡◌, ℕ, List, IfOk};
 ghost use Rattle.ex_base.specs.Ports.{HasCause};
+ghost use Rattle.ex_base.specs.declared.names.Area.TheVariants.{Page};
 ghost use Rattle.object_updates.specs.Updates.{TableUpdate, Updates};
-ghost use Rattle.object_updates.specs.Performed.{IsUpdate, NamesOid};
+ghost use Rattle.object_updates.specs.Performed.{CanPerform, IsUpdate, NamesOid};
+ghost use Rattle.object_updates.specs.Rooms.{ChangesOne};
 
 mod changing;
 mod creating;
 mod removing;
+mod rooms;
 
 use changing::change;
 use creating::create;
 use ex_base::{Oid, PortFault, Volume};
 use removing::remove;
+pub use rooms::Rooms;
 use std::alloc::Global;
 use versions::Edit;
 
@@ -30,23 +34,29 @@ pub enum ObjectUpdate<'a> {
 
 /// Performs an update, and answers the OID of the version that it made, changed or removed. After a fault the working state is not to be used again.
 ///
+/// `rooms` is what the caller remembers of the working state's files, and afterwards what it may remember of the state after the update. A new object is
+/// looked a place for from there on, so that the full pages below aren't read again. What is done to the table doesn't depend on it.
+///
 /// # Errors
-/// `Disk` where the port met a fault of the disk; `Damaged` where a page is not what names it; `Memory`, also where no pages are free that a new object may
-/// take.
+/// `Disk` where the port met a fault of the disk; `Damaged` where a page is not what names it; `Memory` for want of memory, or where a change has no room.
 pub fn perform<V: Volume>(
     volume: &mut V,
     alloc: Global,
+    rooms: &mut Rooms,
     update: &ObjectUpdate<'_>,
 ) -> Result<Oid, PortFault>
-    requires { V.ready volume.old }
+    requires ready { V.ready volume.old }
+    requires can { CanPerform update.now (V.free volume.old Page) }
     ensures named { IfOk result (NamesOid update.now) }
-    ensures updates { (u : TableUpdate) → IsUpdate update.now u → Updates V.Ground volume.old volume.new u result }
+    ensures updates { (u : TableUpdate) → IsUpdate update.now u
+        → Updates V.Ground volume.old volume.new u result }
+    ensures rooms { ChangesOne rooms.old rooms.new }
     ensures leads { V.leads volume.old volume.new }
     ensures cause { HasCause (V.faults volume.old) (V.faults volume.new) result }
 {
     match update {
-        ObjectUpdate::Create { file_no, unique } => create(volume, alloc, *file_no, *unique),
-        ObjectUpdate::Change { oid, edit } => change(volume, alloc, oid, edit),
-        ObjectUpdate::Remove { oid } => remove(volume, alloc, oid),
+        ObjectUpdate::Create { file_no, unique } => create(volume, alloc, rooms, *file_no, *unique),
+        ObjectUpdate::Change { oid, edit } => change(volume, alloc, rooms, oid, edit),
+        ObjectUpdate::Remove { oid } => remove(volume, alloc, rooms, oid),
     }
 }

@@ -1,22 +1,25 @@
 -- Bytes that are read are the spelling of what was read, and no spelling begins another.
-use Rattle.std.proofs.Common.{◌≡◌, ℕ, ◌+◌, ◌-◌, ◌*◌, ◌<◌, ◌≤◌, ◌^◌, List, [], ◌∷◌, ◌++◌, length, take, drop, slice_index, sym, ◌∙◌, ap, subst, arith, append_assoc, zero-add}
-use Rattle.std.proofs.lemmas.List.{length-append, append-nil, take-append-drop}
+use Rattle.std.proofs.Common.{◌≡◌, ℕ, zero, suc, ◌+◌, ◌-◌, ◌*◌, ◌<◌, ◌≤◌, ◌^◌, refl, List, [], ◌∷◌, ◌++◌, length, take, drop, slice_index, sym, ◌∙◌, ap, subst, arith, append_assoc, zero-add}
+use Rattle.std.proofs.lemmas.List.{length-append, append-nil, take-append-drop, take_at}
 use Rattle.std.proofs.lemmas.Nat.{mul-le}
 use Rattle.std.proofs.lemmas.Grind.{flat_map-append}
 use Rattle.std.specs.List.{flat_map, AllByRecursion}
 use Rattle.ex_base.specs.declared.geometry.Geometry.{Geometry}
 use Rattle.ex_base.specs.declared.names.PageNo.{PageNo}
 use Rattle.ex_base.specs.declared.names.OpNote.{OpNote}
+use Rattle.ex_base.specs.declared.notes.NoteKind.{NoteKind}
+use Rattle.ex_base.specs.NoteKinds.{kind_number}
 use Rattle.ex_base.specs.Limits.{page_size_most}
-use Rattle.ex_base.specs.Bytes.{part, part_joined, IsBytes}
+use Rattle.ex_base.specs.Bytes.{part, part_joined, length-part, IsBytes}
 use Rattle.ex_base.specs.Fields.{field_bytes, length-field_bytes, field_bytes-same, field_bytes-got, number_at, number_at-spelled}
+use Rattle.ex_base.proofs.NoteKinds.{one_kind}
 use Rattle.ex_base.proofs.Reading.{OneReading, one_list}
 use Rattle.op_log.specs.declared.decoding.Head.{Head}
 use Rattle.op_log.specs.declared.record.LogRecord.{LogRecord}
 use Rattle.op_log.specs.declared.record.PageImage.{PageImage}
-use Rattle.op_log.specs.Records.{note_bytes, image_bytes, number_bytes, images_len, record_len, record_body}
-use Rattle.op_log.specs.Decoding.{FitsNote, FitsImage, FitsNumber, Shaped, Reads, Begins, HasHead, head_len}
-use Rattle.op_log.specs.Gates.{same_front, part_one}
+use Rattle.op_log.specs.Records.{note_bytes, image_bytes, number_bytes, images_len, record_len, record_body, IsNote}
+use Rattle.op_log.specs.Decoding.{FitsImage, FitsNumber, Shaped, Reads, Begins, HasHead, whole_len}
+use Rattle.op_log.specs.Gates.{same_front, part_one, length-notes}
 use Rattle.op_log.proofs.Validity.{shaped_of}
 
 -- ---- one behind the other
@@ -68,8 +71,8 @@ images_len-fits g [] p = omega arith
 images_len-fits g (x ∷ xs) p = omega (arith, p.0.long, images_len-fits g xs p.1)
 
 pub record_spelled : (g : Geometry) (b : List ℕ) (head : Head) (r : LogRecord) → IsBytes b → HasHead g b head → r.txn ≡ head.txn
-    → Reads FitsNote note_bytes b 19 31 head.notes r.notes → Reads (FitsImage g) image_bytes b (19 + 31 * head.notes) (g.page_size + 4) head.pages r.pages
-    → Reads FitsNumber number_bytes b (19 + 31 * head.notes + (g.page_size + 4) * head.pages) 4 head.freed r.freed → (record_len r ≡ head_len g head) × (part b 0 (head_len g head - 1) ≡ record_body r)
+    → Reads IsNote note_bytes b 19 31 head.notes r.notes → Reads (FitsImage g) image_bytes b (19 + 31 * head.notes) (g.page_size + 4) head.pages r.pages
+    → Reads FitsNumber number_bytes b (19 + 31 * head.notes + (g.page_size + 4) * head.pages) 4 head.freed r.freed → (record_len r ≡ whole_len g head) × (part b 0 (whole_len g head - 1) ≡ record_body r)
 unfolding record_body
 record_spelled g b head r bytes has number notes pages freed =
     let w = g.page_size + 4 in
@@ -77,7 +80,7 @@ record_spelled g b head r bytes has number notes pages freed =
     let p = head.pages in
     let f = head.freed in
     let fits = has.long in
-    let same : record_len r ≡ head_len g head = omega (arith, notes.many, images_len-fits g r.pages pages.each, ap (λ (n : ℕ). w * n) pages.many, freed.many) in
+    let same : record_len r ≡ whole_len g head = omega (arith, notes.many, images_len-fits g r.pages pages.each, ap (λ (n : ℕ). w * n) pages.many, freed.many) in
     let one = run_front b 1 4 (1 ∷ []) _ (part_one b 0 (omega (arith, fits)) ∙ ap (λ (x : ℕ). x ∷ []) has.kind) (got b 1 4 (record_len r) (omega (arith, fits)) bytes (same ∙ has.len)) in
     let two = run_front b 5 8 _ _ one (got b 5 8 r.txn (omega (arith, fits)) bytes (number ∙ has.txn)) in
     let three = run_front b 13 2 _ _ two (got b 13 2 (length r.notes) (omega (arith, fits)) bytes (notes.many ∙ has.notes)) in
@@ -86,8 +89,32 @@ record_spelled g b head r bytes has number notes pages freed =
     let six = run_front b 19 (31 * o) _ _ five (sym notes.spelled) in
     let seven = run_front b (19 + 31 * o) (w * p) _ _ six (sym pages.spelled) in
     let eight = run_front b (19 + 31 * o + w * p) (4 * f) _ _ seven (sym freed.spelled) in
-    let whole : head_len g head - 1 ≡ 19 + 31 * o + w * p + 4 * f = omega arith in
+    let whole : whole_len g head - 1 ≡ 19 + 31 * o + w * p + 4 * f = omega arith in
     (same, ap (λ (n : ℕ). part b 0 n) whole ∙ eight)
+
+-- ---- the note that stands at a place
+
+length-note : (note : OpNote) → length (note_bytes note) ≡ 31
+length-note note = simp (length-append, length-field_bytes)
+
+first_apart : (b : List ℕ) (start count : ℕ) (note : OpNote) (notes : List OpNote) → start + 31 * count ≤ length b → Reads IsNote note_bytes b start 31 count (note ∷ notes)
+    → (note_bytes note ≡ part b start 31) × Reads IsNote note_bytes b (start + 31) 31 (length notes) notes
+first_apart b start count note notes long reads =
+    let wide : 31 * count ≡ 31 + 31 * length notes = omega (arith, reads.many) in
+    let cut = reads.spelled ∙ ap (λ (n : ℕ). part b start n) wide ∙ part_joined b start 31 (31 * length notes) in
+    let fronts = same_front (note_bytes note) (part b start 31) _ _ (length-note note ∙ sym (length-part b start 31 (omega (arith, long, wide)))) cut in
+    (fronts.0, record { many = refl; spelled = fronts.1; each = reads.each.1 })
+
+-- Among notes that stand one behind the other each stands at its place.
+pub note_there : (b : List ℕ) (start count i : ℕ) (notes : List OpNote) → start + 31 * count ≤ length b → Reads IsNote note_bytes b start 31 count notes → i < count → (note : OpNote) × (note_bytes note ≡ part b (start + 31 * i) 31)
+note_there b start count i [] long reads lt = absurd (omega (arith, reads.many))
+note_there b start count zero (note ∷ notes) long reads lt =
+    let place : start ≡ start + 31 * 0 = omega arith in
+    (note, (first_apart b start count note notes long reads).0 ∙ ap (λ (n : ℕ). part b n 31) place)
+note_there b start count (suc i) (note ∷ notes) long reads lt =
+    let place : start + 31 + 31 * i ≡ start + 31 * suc i = omega arith in
+    let there = note_there b (start + 31) (length notes) i notes (omega (arith, long, reads.many)) (first_apart b start count note notes long reads).1 (omega (arith, reads.many, lt)) in
+    (there.0, there.1 ∙ ap (λ (n : ℕ). part b n 31) place)
 
 -- ---- no spelling begins another
 
@@ -96,16 +123,17 @@ same_field n a b x y la lb e =
     let fronts = same_front (field_bytes n a) (field_bytes n b) x y (length-field_bytes n a ∙ sym (length-field_bytes n b)) e in
     (field_bytes-same n a b la lb fronts.0, fronts.1)
 
-abbrev made_note : ℕ → ℕ → ℕ → ℕ → ℕ → ℕ → OpNote
+abbrev made_note : NoteKind → ℕ → ℕ → ℕ → ℕ → ℕ → OpNote
 made_note kind page slot unique first second = record { kind = kind; oid = record { page = record { 0 = page }; slot = slot; unique = unique }; first = first; second = second }
 
-note_fields : (n : OpNote) (x : List ℕ) → note_bytes n ++ x ≡ n.kind ∷ (field_bytes 4 n.oid.page.0 ++ (field_bytes 2 n.oid.slot ++ (field_bytes 8 n.oid.unique ++ (field_bytes 8 n.first ++ (field_bytes 8 n.second ++ x)))))
+note_fields : (n : OpNote) (x : List ℕ) → note_bytes n ++ x ≡ kind_number n.kind ∷ (field_bytes 4 n.oid.page.0 ++ (field_bytes 2 n.oid.slot ++ (field_bytes 8 n.oid.unique ++ (field_bytes 8 n.first ++ (field_bytes 8 n.second ++ x)))))
 note_fields n x = simp append_assoc
 
-one_note : OneReading FitsNote note_bytes
+one_note : OneReading IsNote note_bytes
 one_note a b x y p q e =
-    let whole : a.kind ∷ (field_bytes 4 a.oid.page.0 ++ (field_bytes 2 a.oid.slot ++ (field_bytes 8 a.oid.unique ++ (field_bytes 8 a.first ++ (field_bytes 8 a.second ++ x))))) ≡ b.kind ∷ (field_bytes 4 b.oid.page.0 ++ (field_bytes 2 b.oid.slot ++ (field_bytes 8 b.oid.unique ++ (field_bytes 8 b.first ++ (field_bytes 8 b.second ++ y))))) = sym (note_fields a x) ∙ e ∙ note_fields b y in
-    let kind : a.kind ≡ b.kind = cc in
+    let whole : kind_number a.kind ∷ (field_bytes 4 a.oid.page.0 ++ (field_bytes 2 a.oid.slot ++ (field_bytes 8 a.oid.unique ++ (field_bytes 8 a.first ++ (field_bytes 8 a.second ++ x))))) ≡ kind_number b.kind ∷ (field_bytes 4 b.oid.page.0 ++ (field_bytes 2 b.oid.slot ++ (field_bytes 8 b.oid.unique ++ (field_bytes 8 b.first ++ (field_bytes 8 b.second ++ y))))) = sym (note_fields a x) ∙ e ∙ note_fields b y in
+    let number : kind_number a.kind ≡ kind_number b.kind = cc in
+    let kind = one_kind a.kind b.kind number in
     let page = same_field 4 a.oid.page.0 b.oid.page.0 _ _ p.page q.page (cc) in
     let slot = same_field 2 a.oid.slot b.oid.slot _ _ p.slot q.slot page.1 in
     let unique = same_field 8 a.oid.unique b.oid.unique _ _ p.unique q.unique slot.1 in
@@ -149,7 +177,7 @@ one_record g a b x y p q e =
     let notes_count = same_field 2 (length a.notes) (length b.notes) _ _ (omega (arith, p.few_notes)) (omega (arith, q.few_notes)) txn.1 in
     let pages_count = same_field 2 (length a.pages) (length b.pages) _ _ (omega (arith, p.few_pages)) (omega (arith, q.few_pages)) notes_count.1 in
     let freed_count = same_field 2 (length a.freed) (length b.freed) _ _ (omega (arith, p.few_pages)) (omega (arith, q.few_pages)) pages_count.1 in
-    let notes = one_list FitsNote note_bytes one_note a.notes b.notes _ _ p.notes q.notes notes_count.0 freed_count.1 in
+    let notes = one_list IsNote note_bytes one_note a.notes b.notes _ _ p.notes q.notes notes_count.0 freed_count.1 in
     let pages = one_list (FitsImage g) image_bytes (one_image g) a.pages b.pages _ _ p.images q.images pages_count.0 notes.1 in
     let freed = one_list FitsNumber number_bytes one_number a.freed b.freed _ _ p.freed q.freed freed_count.0 pages.1 in
     let same : made_record a.txn a.notes a.pages a.freed ≡ made_record b.txn b.notes b.pages b.freed = cc (txn.0, notes.0, pages.0, freed.0) in
@@ -161,16 +189,17 @@ one_record g a b x y p q e =
 pub begins_is : (g : Geometry) (b : List ℕ) (r : LogRecord) → Begins g b r → b ≡ record_body r ++ drop (record_len r - 1) b
 begins_is g b r begins = sym (take-append-drop (record_len r - 1) b) ∙ ap (λ (l : List ℕ). l ++ drop (record_len r - 1) b) begins.spelled
 
--- the numbers that stand there
-pub record HeaderIs (b : List ℕ) (txn o p f len : ℕ) : Type 0 where
+-- the numbers that stand there, and what stands behind them
+pub record HeaderIs (b : List ℕ) (r : LogRecord) : Type 0 where
   pub kind : slice_index b 0 ≡ 1
-  pub len_is : len ≡ number_at 4 b 1
-  pub txn_is : txn ≡ number_at 8 b 5
-  pub notes_is : o ≡ number_at 2 b 13
-  pub pages_is : p ≡ number_at 2 b 15
-  pub freed_is : f ≡ number_at 2 b 17
+  pub len_is : record_len r ≡ number_at 4 b 1
+  pub txn_is : r.txn ≡ number_at 8 b 5
+  pub notes_is : length r.notes ≡ number_at 2 b 13
+  pub pages_is : length r.pages ≡ number_at 2 b 15
+  pub freed_is : length r.freed ≡ number_at 2 b 17
+  pub behind : drop 19 b ≡ flat_map note_bytes r.notes ++ (flat_map image_bytes r.pages ++ (flat_map number_bytes r.freed ++ drop (record_len r - 1) b))
 
-pub head_of : (g : Geometry) (b : List ℕ) (r : LogRecord) → Begins g b r → HeaderIs b r.txn (length r.notes) (length r.pages) (length r.freed) (record_len r)
+pub head_of : (g : Geometry) (b : List ℕ) (r : LogRecord) → Begins g b r → HeaderIs b r
 head_of g b r begins =
     let is = begins.is_record in
     let whole = begins_is g b r begins ∙ record_fields r (drop (record_len r - 1) b) in
@@ -180,7 +209,19 @@ head_of g b r begins =
     let notes = number_at-spelled b 13 2 (length r.notes) _ txn.1 (omega (arith, is.few_notes)) in
     let pages = number_at-spelled b 15 2 (length r.pages) _ notes.1 (omega (arith, is.few_pages)) in
     let freed = number_at-spelled b 17 2 (length r.freed) _ pages.1 (omega (arith, is.few_pages)) in
-    record { kind = kind; len_is = sym len.0; txn_is = sym txn.0; notes_is = sym notes.0; pages_is = sym pages.0; freed_is = sym freed.0 }
+    record { kind = kind; len_is = sym len.0; txn_is = sym txn.0; notes_is = sym notes.0; pages_is = sym pages.0; freed_is = sym freed.0; behind = freed.1 }
+
+-- and so its notes stand there
+pub notes_there : (g : Geometry) (b : List ℕ) (r : LogRecord) (count : ℕ) → Begins g b r → count ≡ number_at 2 b 13 → Reads IsNote note_bytes b 19 31 count r.notes
+unfolding part
+notes_there g b r count begins is =
+    let head = head_of g b r begins in
+    let many : length r.notes ≡ count = head.notes_is ∙ sym is in
+    record {
+      many = many;
+      spelled = sym (ap (take (31 * count)) head.behind ∙ take_at (flat_map note_bytes r.notes) _ (31 * count) (omega (arith, length-notes r.notes, many)));
+      each = begins.is_record.notes;
+    }
 
 -- what is read, whether it is a record of the log or not
 pub record Built (g : Geometry) (b : List ℕ) (r : LogRecord) : Type 0 where
@@ -189,7 +230,7 @@ pub record Built (g : Geometry) (b : List ℕ) (r : LogRecord) : Type 0 where
   pub spelled : take (record_len r - 1) b ≡ record_body r
 
 pub built : (g : Geometry) (b : List ℕ) (head : Head) (r : LogRecord) → IsBytes b → HasHead g b head → r.txn ≡ head.txn
-    → Reads FitsNote note_bytes b 19 31 head.notes r.notes → Reads (FitsImage g) image_bytes b (19 + 31 * head.notes) (g.page_size + 4) head.pages r.pages
+    → Reads IsNote note_bytes b 19 31 head.notes r.notes → Reads (FitsImage g) image_bytes b (19 + 31 * head.notes) (g.page_size + 4) head.pages r.pages
     → Reads FitsNumber number_bytes b (19 + 31 * head.notes + (g.page_size + 4) * head.pages) 4 head.freed r.freed → Built g b r
 unfolding part
 built g b head r bytes has number notes pages freed =

@@ -1,8 +1,7 @@
 -- What a record keeps beside its shape.
-use Rattle.std.proofs.Common.{◌≡◌, ◌⊎◌, inl, inr, ⊎_elim, ◌↔◌, ℕ, zero, suc, ◌+◌, ◌<◌, ◌≤◌, List, [], ◌∷◌, ◌++◌, length, map, drop, get_or, refl, sym, ◌∙◌, ap, subst, arith, Contains, Some, slice_index_or}
+use Rattle.std.proofs.Common.{◌≡◌, ◌⊎◌, inl, inr, ⊎_elim, ◌↔◌, ℕ, zero, suc, ◌+◌, ◌<◌, ◌≤◌, List, [], ◌∷◌, ◌++◌, length, map, drop, get_or, refl, sym, ap, subst, arith, Contains, Some, slice_index_or}
 use Rattle.std.specs.List.{AllByRecursion}
 use Rattle.ex_base.specs.declared.geometry.Geometry.{Geometry}
-use Rattle.ex_base.specs.declared.names.OpNote.{OpNote}
 use Rattle.ex_base.specs.Area.{area_end, catalog_no}
 use Rattle.ex_base.specs.Order.{Rising}
 use Rattle.ex_base.proofs.Each.{each_as, each_mapped, each_unmapped, each_with}
@@ -10,9 +9,9 @@ use Rattle.ex_base.proofs.Members.{contains_cases, contains_later}
 use Rattle.ex_base.proofs.Lists.{drop_item}
 use Rattle.op_log.specs.declared.record.LogRecord.{LogRecord}
 use Rattle.op_log.specs.declared.record.PageImage.{PageImage}
-use Rattle.op_log.specs.Records.{IsNote, IsImage, IsFreed, IsLogRecord, page_of, number_of}
+use Rattle.op_log.specs.Records.{IsImage, IsFreed, IsLogRecord, page_of, number_of}
 use Rattle.op_log.specs.Log.{Follow}
-use Rattle.op_log.specs.Decoding.{HasKind, RisesIn, IsApart, Shaped, FitsNote, FitsImage, FitsNumber, NumberFollows, last_number}
+use Rattle.op_log.specs.Decoding.{RisesIn, IsApart, Shaped, FitsImage, FitsNumber, NumberFollows, last_number}
 
 -- ---- numbers in order
 
@@ -38,22 +37,19 @@ rises-from end (x ∷ xs) rising all = rises-on 256 end x xs (omega (arith, all.
 
 -- ---- all of a record
 
-pub kinds_of : (ns : List OpNote) → AllByRecursion IsNote ns → AllByRecursion HasKind ns
-kinds_of ns p = each_as IsNote HasKind ns (λ n is. (is.some_kind, is.kind)) p
-
 pub images_rise_of : (g : Geometry) (r : LogRecord) → IsLogRecord g r → RisesIn 256 (area_end g) (map page_of r.pages)
 images_rise_of g r is = rises-from (area_end g) (map page_of r.pages) is.rising (each_mapped (Within (area_end g)) page_of r.pages (each_as (IsImage g) (λ e. Within (area_end g) (page_of e)) r.pages (λ e p. p.0) is.images))
 
 pub numbers_rise_of : (g : Geometry) (r : LogRecord) → IsLogRecord g r → RisesIn 256 (area_end g) (map number_of r.freed)
 numbers_rise_of g r is = rises-from (area_end g) (map number_of r.freed) is.freed_rising (each_mapped (Within (area_end g)) number_of r.freed is.freed)
 
-pub valid_of : (g : Geometry) (r : LogRecord) → Shaped g r → AllByRecursion HasKind r.notes → RisesIn 256 (area_end g) (map page_of r.pages) → RisesIn 256 (area_end g) (map number_of r.freed)
+pub valid_of : (g : Geometry) (r : LogRecord) → Shaped g r → RisesIn 256 (area_end g) (map page_of r.pages) → RisesIn 256 (area_end g) (map number_of r.freed)
     → AllByRecursion (IsApart r.pages) r.freed → Contains (map page_of r.pages) catalog_no → IsLogRecord g r
-valid_of g r shaped kinds pages freed apart catalog = record {
+valid_of g r shaped pages freed apart catalog = record {
   txn = shaped.txn;
   few_notes = shaped.few_notes;
   few_pages = shaped.few_pages;
-  notes = each_with HasKind FitsNote IsNote r.notes (λ n k f. record { some_kind = k.0; kind = k.1; page = f.page; slot = f.slot; unique = f.unique; first = f.first; second = f.second }) kinds shaped.notes;
+  notes = shaped.notes;
   images = each_with (λ e. Within (area_end g) (page_of e)) (FitsImage g) (IsImage g) r.pages (λ e w f. (w, f.long)) (each_unmapped (Within (area_end g)) page_of r.pages (rises-within 256 (area_end g) (map page_of r.pages) (omega arith) pages)) shaped.images;
   freed = each_unmapped (Within (area_end g)) number_of r.freed (rises-within 256 (area_end g) (map number_of r.freed) (omega arith) freed);
   rising = rises-rising 256 (area_end g) (map page_of r.pages) pages;
@@ -67,7 +63,7 @@ shaped_of g r is = record {
   txn = is.txn;
   few_notes = is.few_notes;
   few_pages = is.few_pages;
-  notes = each_as IsNote FitsNote r.notes (λ n p. record { page = p.page; slot = p.slot; unique = p.unique; first = p.first; second = p.second }) is.notes;
+  notes = is.notes;
   images = each_as (IsImage g) (FitsImage g) r.pages (λ e p. record { page = omega (arith, p.0.1, g.few_pages); long = p.1 }) is.images;
   freed = each_as (IsFreed g) FitsNumber r.freed (λ e p. omega (arith, p.1, g.few_pages)) is.freed;
 }

@@ -3,24 +3,17 @@ use Rattle.std.specs.Prelude.{◌≡◌, ℕ, ◌+◌, ◌*◌, ◌-◌, ◌<◌
 use Rattle.std.specs.List.{flat_map, AllByRecursion}
 use Rattle.ex_base.specs.declared.geometry.Geometry.{Geometry}
 use Rattle.ex_base.specs.declared.names.PageNo.{PageNo}
-use Rattle.ex_base.specs.declared.names.OpNote.{OpNote}
 use Rattle.ex_base.specs.Bytes.{part}
+use Rattle.ex_base.specs.Limits.{updates_most, touched_most}
 use Rattle.ex_base.specs.Fields.{number_at}
 use Rattle.op_log.specs.declared.decoding.Head.{Head}
 use Rattle.op_log.specs.declared.record.LogRecord.{LogRecord}
 use Rattle.op_log.specs.declared.record.PageImage.{PageImage}
-use Rattle.op_log.specs.Records.{record_len, record_body, IsLogRecord, page_of}
+use Rattle.op_log.specs.Layout.{open_gate, with_images, head_len, note_len, number_len}
+use Rattle.op_log.specs.Records.{record_len, record_body, IsNote, IsLogRecord, page_of}
 use Rattle.op_log.specs.Log.{Follow, open_records, log_end}
 
 -- ---- fields that fit their widths
-
--- each field of a note fits its width
-pub record FitsNote (note : OpNote) : Type 0 where
-  pub page : note.oid.page.0 < 2 ^ 32
-  pub slot : note.oid.slot < 2 ^ 16
-  pub unique : note.oid.unique < 2 ^ 64
-  pub first : note.first < 2 ^ 64
-  pub second : note.second < 2 ^ 64
 
 -- an image is as long as a page
 pub record FitsImage (g : Geometry) (entry : PageImage) : Type 0 where
@@ -34,9 +27,9 @@ FitsNumber page = page.0 < 2 ^ 32
 -- the shape of a record: each field fits its width, and no count is above its limit
 pub record Shaped (g : Geometry) (r : LogRecord) : Type 0 where
   pub txn : r.txn < 2 ^ 64
-  pub few_notes : length r.notes ≤ 512
-  pub few_pages : length r.pages + length r.freed ≤ 128
-  pub notes : AllByRecursion FitsNote r.notes
+  pub few_notes : length r.notes ≤ updates_most
+  pub few_pages : length r.pages + length r.freed ≤ touched_most
+  pub notes : AllByRecursion IsNote r.notes
   pub images : AllByRecursion (FitsImage g) r.pages
   pub freed : AllByRecursion FitsNumber r.freed
 
@@ -46,11 +39,11 @@ pub record Reads {A : Type 0} (Fits : A → Type 0) (spell : A → List ℕ) (by
   pub spelled : flat_map spell items ≡ part bytes start (width * count)
   pub each : AllByRecursion Fits items
 
--- ---- what a record keeps beside
+-- no such items stand there
+abbrev pub NoneRead : {A : Type 0} → (A → Type 0) → (A → List ℕ) → List ℕ → ℕ → ℕ → ℕ → Type 0
+NoneRead {A} Fits spell bytes start width count = (items : List A) → Reads Fits spell bytes start width count items → ⊥
 
--- a note of a kind that there is
-abbrev pub HasKind : OpNote → Type 0
-HasKind note = (1 ≤ note.kind) × (note.kind ≤ 10)
+-- ---- what a record keeps beside
 
 -- Each number is above the one before and below the end.
 abbrev pub RisesIn : ℕ → ℕ → List ℕ → Type 0
@@ -75,21 +68,21 @@ last_number (r ∷ next ∷ rs) = last_number (next ∷ rs)
 -- ---- one record, and where there is none
 
 -- the bytes of a record of these counts, its gate included
-abbrev pub head_len : Geometry → Head → ℕ
-head_len g head = 19 + 31 * head.notes + (g.page_size + 4) * head.pages + 4 * head.freed + 1
+abbrev pub whole_len : Geometry → Head → ℕ
+whole_len g head = head_len + note_len * head.notes + (g.page_size + number_len) * head.pages + number_len * head.freed + 1
 
 -- The bytes begin with this head of a record, and they are long enough for it.
 pub record HasHead (g : Geometry) (bytes : List ℕ) (head : Head) : Type 0 where
-  pub kind : slice_index bytes 0 ≡ 1
-  pub len : head_len g head ≡ number_at 4 bytes 1
+  pub kind : slice_index bytes 0 ≡ with_images
+  pub len : whole_len g head ≡ number_at 4 bytes 1
   pub txn : head.txn ≡ number_at 8 bytes 5
   pub notes : head.notes ≡ number_at 2 bytes 13
   pub pages : head.pages ≡ number_at 2 bytes 15
   pub freed : head.freed ≡ number_at 2 bytes 17
   pub small : head.txn < 2 ^ 64
-  pub few_notes : head.notes ≤ 512
-  pub few_pages : head.pages + head.freed ≤ 128
-  pub long : head_len g head ≤ length bytes
+  pub few_notes : head.notes ≤ updates_most
+  pub few_pages : head.pages + head.freed ≤ touched_most
+  pub long : whole_len g head ≤ length bytes
 
 -- The bytes begin with a record behind its gate, and one byte follows.
 pub record Begins (g : Geometry) (bytes : List ℕ) (r : LogRecord) : Type 0 where
@@ -108,5 +101,5 @@ pub record IsBadAt (g : Geometry) (log : List ℕ) (at : ℕ) : Type 0 where
   pub follow : Follow records
   pub at_is : at ≡ log_end records
   pub behind : List ℕ
-  pub spelled : log ≡ open_records records ++ 1 ∷ behind
+  pub spelled : log ≡ open_records records ++ open_gate ∷ behind
   pub none : (r : LogRecord) → Follow (records ++ r ∷ []) → Begins g behind r → ⊥

@@ -7,7 +7,7 @@ use Rattle.ex_base.specs.declared.geometry.Geometry.{Geometry}
 use Rattle.ex_base.specs.declared.names.PageNo.{PageNo}
 use Rattle.ex_base.specs.declared.names.OpNote.{OpNote}
 use Rattle.ex_base.specs.Sizes.{volume_bytes, least_volume}
-use Rattle.ex_base.specs.Area.{log_at}
+use Rattle.ex_base.specs.Area.{catalog_no, log_at, log_size}
 use Rattle.ex_base.specs.Bytes.{part, part_joined, part_reads, same_parts, length-part}
 use Rattle.ex_base.specs.Fields.{length-field_bytes}
 use Rattle.disk_model.specs.Outside.{Outside, IsWorld}
@@ -15,12 +15,13 @@ use Rattle.disk_model.specs.Runs.{honest_on}
 use Rattle.disk_model.specs.Changes.{InRange, ChangesWithin, agrees_on}
 use Rattle.op_log.specs.declared.record.LogRecord.{LogRecord}
 use Rattle.op_log.specs.declared.record.PageImage.{PageImage}
+use Rattle.op_log.specs.Layout.{open_gate}
 use Rattle.op_log.specs.Records.{note_bytes, image_bytes, number_bytes, images_len, record_len, record_body, IsLogRecord}
 use Rattle.op_log.specs.Log.{Follow, LogSpells, open_records, log_end, SaysLog, HasLog, DiskSays, KeepsLog}
 
 -- ---- lengths
 
-length-notes : (xs : List OpNote) → length (flat_map note_bytes xs) ≡ 31 * length xs
+pub length-notes : (xs : List OpNote) → length (flat_map note_bytes xs) ≡ 31 * length xs
 length-notes [] = refl
 length-notes (x ∷ xs) = simp (length-append, length-field_bytes) (omega (arith, length-notes xs))
 
@@ -69,10 +70,10 @@ part_one b p within = ap (take 1) (drop-cons b p 0 within)
 -- ---- the front of the log, by places of the disk
 
 pub record Front (g : Geometry) (rs : List LogRecord) (d : List ℕ) : Type 0 where
-  pub large : 257 * g.page_size ≤ length d
-  pub room : log_end rs < 256 * g.page_size
+  pub large : catalog_no * g.page_size ≤ length d
+  pub room : log_end rs < log_size g
   pub records : part d g.page_size (log_end rs) ≡ open_records rs
-  pub closed : slice_index d (g.page_size + log_end rs) ≢ 1
+  pub closed : slice_index d (g.page_size + log_end rs) ≢ open_gate
 
 -- the records, the gate behind them and what follows
 length-log : (g : Geometry) (log : List ℕ) (rs : List LogRecord) (says : LogSpells g log rs) → length log ≡ log_end rs + 1 + length says.rest

@@ -2,10 +2,11 @@
 use Rattle.std.specs.Prelude.{◌≡◌, ◌≢◌, ◌⊎◌, ℕ, ◌+◌, ◌*◌, ◌<◌, ◌≤◌, List, [], ◌∷◌, ◌++◌, Some, IsTrue}
 use Rattle.std.specs.List.{AllByRecursion}
 use Rattle.ex_base.specs.declared.geometry.Geometry.{Geometry}
-use Rattle.ex_base.specs.Area.{log_at, log_size}
+use Rattle.ex_base.specs.Area.{catalog_no, log_at, log_size}
 use Rattle.disk_model.specs.Outside.{Outside}
 use Rattle.disk_model.specs.Changes.{AgreesOn, InRange, SameBut}
 use Rattle.op_log.specs.declared.record.LogRecord.{LogRecord}
+use Rattle.op_log.specs.Layout.{open_gate, closed_gate}
 use Rattle.op_log.specs.Records.{IsLogRecord, record_body, record_len}
 
 -- Each number is one more than the one before.
@@ -17,7 +18,7 @@ Follow (r ∷ next ∷ rs) = (next.txn ≡ r.txn + 1) × Follow (next ∷ rs)
 -- open gates, each with its record behind it
 abbrev pub open_records : List LogRecord → List ℕ
 open_records [] = []
-open_records (r ∷ rs) = (1 ∷ record_body r) ++ open_records rs
+open_records (r ∷ rs) = (open_gate ∷ record_body r) ++ open_records rs
 
 -- The string of the log begins with these records behind open gates, and a closed gate stands behind them. Where an open gate is followed
 -- by no record, there is no such list.
@@ -26,7 +27,7 @@ pub record LogSpells (g : Geometry) (log : List ℕ) (records : List LogRecord) 
   pub follow : Follow records
   pub gate : ℕ
   pub rest : List ℕ
-  pub closed : gate ≢ 1
+  pub closed : gate ≢ open_gate
   pub spelled : log ≡ open_records records ++ gate ∷ rest
 
 -- the offset of the closed gate
@@ -50,7 +51,7 @@ AddsHere g records r places before held image =
 
 -- The disk is long enough for the log, which stands behind one page.
 abbrev pub HasLog : Geometry → Outside → Type 0
-HasLog g w = 257 * g.page_size ≤ w.size
+HasLog g w = catalog_no * g.page_size ≤ w.size
 
 -- The disk tells what it holds, and its log says these records.
 pub record DiskSays (g : Geometry) (w : Outside) (records : List LogRecord) : Type 0 where
@@ -69,7 +70,7 @@ pub record KeepsLog (g : Geometry) (w : Outside) (records : List LogRecord) : Ty
 -- records; the record is the next of the log, and there is room for it.
 pub record Adding (g : Geometry) (records : List LogRecord) (r : LogRecord) (gate : ℕ) (bytes : List ℕ) : Type 0 where
   pub gate_is : gate ≡ g.page_size + log_end records
-  pub bytes_are : bytes ≡ record_body r ++ 0 ∷ []
+  pub bytes_are : bytes ≡ record_body r ++ closed_gate ∷ []
   pub fits : log_end records + record_len r < log_size g
   pub is_record : IsLogRecord g r
   pub follow : Follow (records ++ r ∷ [])

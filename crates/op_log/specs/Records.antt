@@ -5,34 +5,37 @@ use Rattle.ex_base.specs.Fields.{field_bytes}
 use Rattle.ex_base.specs.declared.geometry.Geometry.{Geometry}
 use Rattle.ex_base.specs.declared.names.PageNo.{PageNo}
 use Rattle.ex_base.specs.declared.names.OpNote.{OpNote}
+use Rattle.ex_base.specs.NoteKinds.{kind_number}
+use Rattle.ex_base.specs.Limits.{updates_most, touched_most}
 use Rattle.ex_base.specs.Area.{catalog_no, InPageArea}
 use Rattle.ex_base.specs.Order.{Rising}
 use Rattle.op_log.specs.declared.record.LogRecord.{LogRecord}
 use Rattle.op_log.specs.declared.record.PageImage.{PageImage}
+use Rattle.op_log.specs.Layout.{with_images, head_len, note_len, number_len}
 
 -- ---- the spelling
 
 abbrev pub note_bytes : OpNote → List ℕ
-note_bytes note = (note.kind ∷ []) ++ field_bytes 4 note.oid.page.0 ++ field_bytes 2 note.oid.slot ++ field_bytes 8 note.oid.unique ++ field_bytes 8 note.first ++ field_bytes 8 note.second
+note_bytes note = (kind_number note.kind ∷ []) ++ field_bytes number_len note.oid.page.0 ++ field_bytes 2 note.oid.slot ++ field_bytes 8 note.oid.unique ++ field_bytes 8 note.first ++ field_bytes 8 note.second
 
 abbrev pub image_bytes : PageImage → List ℕ
-image_bytes entry = field_bytes 4 entry.page.0 ++ entry.image
+image_bytes entry = field_bytes number_len entry.page.0 ++ entry.image
 
 abbrev pub number_bytes : PageNo → List ℕ
-number_bytes page = field_bytes 4 page.0
+number_bytes page = field_bytes number_len page.0
 
 -- the bytes that the images take, with their page numbers
 abbrev pub images_len : List PageImage → ℕ
 images_len [] = 0
-images_len (entry ∷ entries) = 4 + length entry.image + images_len entries
+images_len (entry ∷ entries) = number_len + length entry.image + images_len entries
 
 -- the length of a record, its gate included
 abbrev pub record_len : LogRecord → ℕ
-record_len r = 20 + 31 * length r.notes + images_len r.pages + 4 * length r.freed
+record_len r = 1 + head_len + note_len * length r.notes + images_len r.pages + number_len * length r.freed
 
--- a record behind its gate: kind 1, its length, its number, how many of each, and then each
+-- a record behind its gate: its kind, its length, its number, how many of each, and then each
 unfoldable pub record_body : LogRecord → List ℕ
-record_body r = (1 ∷ []) ++ field_bytes 4 (record_len r) ++ field_bytes 8 r.txn ++ field_bytes 2 (length r.notes) ++ field_bytes 2 (length r.pages) ++ field_bytes 2 (length r.freed)
+record_body r = (with_images ∷ []) ++ field_bytes 4 (record_len r) ++ field_bytes 8 r.txn ++ field_bytes 2 (length r.notes) ++ field_bytes 2 (length r.pages) ++ field_bytes 2 (length r.freed)
     ++ flat_map note_bytes r.notes ++ flat_map image_bytes r.pages ++ flat_map number_bytes r.freed
 
 -- ---- what has a spelling
@@ -49,9 +52,8 @@ IsImage g entry = InPageArea g entry.page.0 × (length entry.image ≡ g.page_si
 abbrev pub IsFreed : Geometry → PageNo → Type 0
 IsFreed g page = InPageArea g page.0
 
+-- Each field of a note fits its width.
 pub record IsNote (note : OpNote) : Type 0 where
-  pub some_kind : 1 ≤ note.kind
-  pub kind : note.kind ≤ 10
   pub page : note.oid.page.0 < 2 ^ 32
   pub slot : note.oid.slot < 2 ^ 16
   pub unique : note.oid.unique < 2 ^ 64
@@ -60,8 +62,8 @@ pub record IsNote (note : OpNote) : Type 0 where
 
 pub record IsLogRecord (g : Geometry) (r : LogRecord) : Type 0 where
   pub txn : r.txn < 2 ^ 64
-  pub few_notes : length r.notes ≤ 512
-  pub few_pages : length r.pages + length r.freed ≤ 128
+  pub few_notes : length r.notes ≤ updates_most
+  pub few_pages : length r.pages + length r.freed ≤ touched_most
   pub notes : AllByRecursion IsNote r.notes
   pub images : AllByRecursion (IsImage g) r.pages
   pub freed : AllByRecursion (IsFreed g) r.freed

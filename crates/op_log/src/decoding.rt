@@ -1,13 +1,18 @@
 //! A record is read.
-ghost use Rattle.std.specs.Prelude.{◌≡◌, ◌+◌, ◌*◌, ◌≤◌, length, IfOk, MatchOption};
+ghost use Rattle.std.specs.Prelude.{◌≡◌, ◌≢◌, ◌+◌, ◌*◌, ◌≤◌, length, IfOk, MatchOption};
+ghost use Rattle.ex_base.specs.declared.names.OpNote.{OpNote};
 ghost use Rattle.ex_base.specs.Bytes.{part};
-ghost use Rattle.op_log.specs.Records.{note_bytes, image_bytes, number_bytes};
-ghost use Rattle.op_log.specs.Decoding.{FitsNote, FitsImage, FitsNumber, Reads, Begins, NoRecord, HasHead};
+ghost use Rattle.op_log.specs.Layout.{note_len, number_len};
+ghost use Rattle.op_log.specs.Records.{note_bytes, image_bytes, number_bytes, IsNote};
+ghost use Rattle.op_log.specs.Decoding.{FitsImage, FitsNumber, Reads, NoneRead, Begins, NoRecord, HasHead};
 
-use crate::layout::{HEAD_LEN, NOTE_LEN, NOTES_MOST, NUMBER_LEN, PAGES_MOST, WITH_IMAGES};
+use crate::layout::{HEAD_LEN, NOTE_LEN, NUMBER_LEN, WITH_IMAGES};
 use crate::record::{LogRecord, Notes, PageImage, PageImages, PageList};
 use crate::valid::is_valid;
-use ex_base::{Geometry, Image, Items, Oid, OpNote, PageNo, get_u16, get_u32, get_u64};
+use ex_base::{
+    Geometry, Image, Items, NoteKind, Oid, OpNote, PageNo, TOUCHED_MOST, UPDATES_MOST, get_u16,
+    get_u32, get_u64,
+};
 use std::alloc::{AllocError, Global};
 
 /// The numbers at the head of a record.
@@ -19,13 +24,18 @@ pub struct Head {
     pub freed: usize,
 }
 
-fn note_at(bytes: &[u8], at: usize) -> OpNote
-    requires { at + 31 ≤ length bytes.now }
-    ensures spelled { note_bytes result ≡ part bytes.now at 31 }
-    ensures fits { FitsNote result }
+/// The note that stands there, where its kind is one.
+fn note_at(bytes: &[u8], at: usize) -> Option<OpNote>
+    requires { at + note_len ≤ length bytes.now }
+    ensures { MatchOption result ((note : OpNote)
+        → note_bytes note ≢ part bytes.now at note_len) (λ note. (note_bytes note
+        ≡ part bytes.now at note_len) × IsNote note) }
 {
-    OpNote {
-        kind: bytes[at],
+    let Some(kind) = NoteKind::of_number(bytes[at]) else {
+        return None;
+    };
+    Some(OpNote {
+        kind,
         oid: Oid {
             page: PageNo(get_u32(bytes, at + 1)),
             slot: get_u16(bytes, at + 5),
@@ -33,18 +43,29 @@ fn note_at(bytes: &[u8], at: usize) -> OpNote
         },
         first: get_u64(bytes, at + 15),
         second: get_u64(bytes, at + 23),
-    }
+    })
 }
 
-fn read_notes(alloc: Global, bytes: &[u8], start: usize, count: usize) -> Result<Notes, AllocError>
-    requires { start + 31 * count ≤ length bytes.now }
-    ensures { IfOk result (λ notes. Reads FitsNote note_bytes bytes.now start 31 count notes) }
+/// The notes that stand there, where each kind is one.
+fn read_notes(
+    alloc: Global,
+    bytes: &[u8],
+    start: usize,
+    count: usize,
+) -> Result<Option<Notes>, AllocError>
+    requires { start + note_len * count ≤ length bytes.now }
+    ensures { IfOk result
+        (λ found. MatchOption found (NoneRead IsNote note_bytes bytes.now start note_len count)
+        (λ notes. Reads IsNote note_bytes bytes.now start note_len count notes)) }
 {
     let mut notes = Items::make(alloc);
     for i in 0..count {
-        notes.push(note_at(bytes, start + NOTE_LEN * i))?;
+        let Some(note) = note_at(bytes, start + NOTE_LEN * i) else {
+            return Ok(None);
+        };
+        notes.push(note)?;
     }
-    Ok(notes)
+    Ok(Some(notes))
 }
 
 fn image_at(
@@ -53,8 +74,9 @@ fn image_at(
     bytes: &[u8],
     at: usize,
 ) -> Result<PageImage, AllocError>
-    requires { at + (geometry.now.page_size + 4) ≤ length bytes.now }
-    ensures { IfOk result (λ entry. (image_bytes entry ≡ part bytes.now at (geometry.now.page_size + 4)) × FitsImage geometry.now entry) }
+    requires { at + (geometry.now.page_size + number_len) ≤ length bytes.now }
+    ensures { IfOk result (λ entry. (image_bytes entry ≡ part bytes.now at (geometry.now.page_size
+        + number_len)) × FitsImage geometry.now entry) }
 {
     let page = PageNo(get_u32(bytes, at));
     let from = at + NUMBER_LEN;
@@ -69,8 +91,9 @@ fn read_images(
     start: usize,
     count: usize,
 ) -> Result<PageImages, AllocError>
-    requires { start + (geometry.now.page_size + 4) * count ≤ length bytes.now }
-    ensures { IfOk result (λ entries. Reads (FitsImage geometry.now) image_bytes bytes.now start (geometry.now.page_size + 4) count entries) }
+    requires { start + (geometry.now.page_size + number_len) * count ≤ length bytes.now }
+    ensures { IfOk result (λ entries. Reads (FitsImage geometry.now) image_bytes bytes.now start
+        (geometry.now.page_size + number_len) count entries) }
 {
     let width = geometry.page_size as usize + NUMBER_LEN;
     let mut entries = Items::make(alloc);
@@ -86,8 +109,9 @@ fn read_numbers(
     start: usize,
     count: usize,
 ) -> Result<PageList, AllocError>
-    requires { start + 4 * count ≤ length bytes.now }
-    ensures { IfOk result (λ pages. Reads FitsNumber number_bytes bytes.now start 4 count pages) }
+    requires { start + number_len * count ≤ length bytes.now }
+    ensures { IfOk result
+        (λ pages. Reads FitsNumber number_bytes bytes.now start number_len count pages) }
 {
     let mut pages = Items::make(alloc);
     for i in 0..count {
@@ -98,7 +122,8 @@ fn read_numbers(
 
 /// The head that the bytes behind a gate begin with, where a record of these counts can stand there.
 fn read_head(geometry: &Geometry, bytes: &[u8]) -> Option<Head>
-    ensures { MatchOption result (NoRecord geometry.now bytes.now) (λ head. HasHead geometry.now bytes.now head) }
+    ensures { MatchOption result (NoRecord geometry.now bytes.now)
+        (λ head. HasHead geometry.now bytes.now head) }
 {
     if bytes.len() < HEAD_LEN + 1 {
         return None;
@@ -112,10 +137,10 @@ fn read_head(geometry: &Geometry, bytes: &[u8]) -> Option<Head>
     if kind != WITH_IMAGES {
         return None;
     }
-    if notes > NOTES_MOST {
+    if notes > UPDATES_MOST {
         return None;
     }
-    if pages + freed > PAGES_MOST {
+    if pages + freed > TOUCHED_MOST as usize {
         return None;
     }
     let images = (geometry.page_size as usize + NUMBER_LEN) * pages;
@@ -139,16 +164,20 @@ pub fn decode(
     geometry: &Geometry,
     bytes: &[u8],
 ) -> Result<Option<LogRecord>, AllocError>
-    ensures { IfOk result (λ found. MatchOption found (NoRecord geometry.now bytes.now) (λ r. Begins geometry.now bytes.now r)) }
+    ensures { IfOk result (λ found. MatchOption found (NoRecord geometry.now bytes.now)
+        (λ r. Begins geometry.now bytes.now r)) }
 {
     let Some(head) = read_head(geometry, bytes) else {
+        return Ok(None);
+    };
+    let Some(notes) = read_notes(alloc, bytes, HEAD_LEN, head.notes)? else {
         return Ok(None);
     };
     let pages_at = HEAD_LEN + NOTE_LEN * head.notes;
     let freed_at = pages_at + (geometry.page_size as usize + NUMBER_LEN) * head.pages;
     let item = LogRecord {
         txn: head.txn,
-        notes: read_notes(alloc, bytes, HEAD_LEN, head.notes)?,
+        notes,
         pages: read_images(alloc, geometry, bytes, pages_at, head.pages)?,
         freed: read_numbers(alloc, bytes, freed_at, head.freed)?,
     };

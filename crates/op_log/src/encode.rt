@@ -2,6 +2,8 @@
 ghost use Rattle.std.specs.Prelude.{◌≡◌, ◌+◌, ◌*◌, ◌≤◌, ◌<◌, ◌^◌, ◌++◌, [], ◌∷◌, length};
 ghost use Rattle.std.specs.List.{flat_map};
 ghost use Rattle.ex_base.specs.Fields.{two_bytes, four_bytes, eight_bytes};
+ghost use Rattle.ex_base.specs.Limits.{updates_most, touched_most};
+ghost use Rattle.op_log.specs.Layout.{closed_gate, note_len, number_len};
 ghost use Rattle.op_log.specs.Records.{note_bytes, image_bytes, number_bytes, images_len, record_len, record_body};
 ghost use Rattle.op_log.specs.Writing.{Puts};
 
@@ -46,11 +48,11 @@ fn put_eight(out: &mut [u8], at: usize, value: u64) -> usize
 }
 
 fn put_note(out: &mut [u8], at: usize, note: &OpNote) -> usize
-    requires { at + 31 ≤ length out.old }
-    ensures end { result ≡ at + 31 }
+    requires { at + note_len ≤ length out.old }
+    ensures end { result ≡ at + note_len }
     ensures puts { Puts (note_bytes note.now) out.old out.new at result }
 {
-    let at = put_run(out, at, &[note.kind]);
+    let at = put_run(out, at, &[note.kind.number()]);
     let at = put_four(out, at, note.oid.page.0);
     let at = put_two(out, at, note.oid.slot);
     let at = put_eight(out, at, note.oid.unique);
@@ -59,8 +61,8 @@ fn put_note(out: &mut [u8], at: usize, note: &OpNote) -> usize
 }
 
 fn put_image(out: &mut [u8], at: usize, entry: &PageImage) -> usize
-    requires { at + 4 + length entry.now.image ≤ length out.old }
-    ensures end { result ≡ at + 4 + length entry.now.image }
+    requires { at + number_len + length entry.now.image ≤ length out.old }
+    ensures end { result ≡ at + number_len + length entry.now.image }
     ensures puts { Puts (image_bytes entry.now) out.old out.new at result }
 {
     let at = put_four(out, at, entry.page.0);
@@ -68,8 +70,8 @@ fn put_image(out: &mut [u8], at: usize, entry: &PageImage) -> usize
 }
 
 fn put_notes(out: &mut [u8], start: usize, notes: &[OpNote]) -> usize
-    requires { start + 31 * length notes.now ≤ length out.old }
-    ensures end { result ≡ start + 31 * length notes.now }
+    requires { start + note_len * length notes.now ≤ length out.old }
+    ensures end { result ≡ start + note_len * length notes.now }
     ensures puts { Puts (flat_map note_bytes notes.now) out.old out.new start result }
 {
     let mut at = start;
@@ -92,8 +94,8 @@ fn put_images(out: &mut [u8], start: usize, entries: &[PageImage]) -> usize
 }
 
 fn put_numbers(out: &mut [u8], start: usize, pages: &[PageNo]) -> usize
-    requires { start + 4 * length pages.now ≤ length out.old }
-    ensures end { result ≡ start + 4 * length pages.now }
+    requires { start + number_len * length pages.now ≤ length out.old }
+    ensures end { result ≡ start + number_len * length pages.now }
     ensures puts { Puts (flat_map number_bytes pages.now) out.old out.new start result }
 {
     let mut at = start;
@@ -108,10 +110,10 @@ pub fn encode(out: &mut [u8], item: &LogRecord, len: usize) -> usize
     requires len { len ≡ record_len item.now }
     requires room { record_len item.now ≤ length out.old }
     requires long { record_len item.now < 2 ^ 32 }
-    requires notes { length item.now.notes ≤ 512 }
-    requires pages { length item.now.pages + length item.now.freed ≤ 128 }
+    requires notes { length item.now.notes ≤ updates_most }
+    requires pages { length item.now.pages + length item.now.freed ≤ touched_most }
     ensures end { result ≡ record_len item.now }
-    ensures puts { Puts (record_body item.now ++ 0 ∷ []) out.old out.new 0 result }
+    ensures puts { Puts (record_body item.now ++ closed_gate ∷ []) out.old out.new 0 result }
 {
     let at = put_run(out, 0, &[WITH_IMAGES]);
     let at = put_four(out, at, len as u32);

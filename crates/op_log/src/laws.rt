@@ -13,10 +13,12 @@ pub fn one_list_of_records()
 
 /// A log that is bad at some offset has no list of records.
 pub fn bad_log_has_no_list()
-    ensures { (g : Geometry) (log : List ℕ) (at : ℕ) (records : List LogRecord) → IsBadAt g log at → LogSpells g log records → ⊥ }
+    ensures { (g : Geometry) (log : List ℕ) (at : ℕ) (records : List LogRecord) → IsBadAt g log at
+        → LogSpells g log records → ⊥ }
 {}
 
 /// A log is bad at one offset at most.
 pub fn one_bad_offset()
-    ensures { (g : Geometry) (log : List ℕ) (at other : ℕ) → IsBadAt g log at → IsBadAt g log other → at ≡ other }
+    ensures { (g : Geometry) (log : List ℕ) (at other : ℕ) → IsBadAt g log at → IsBadAt g log other
+        → at ≡ other }
 {}

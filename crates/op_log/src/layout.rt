@@ -1,8 +1,5 @@
 //! The numbers of the log's format.
 
-/// The pages of the log. It stands behind the superblock.
-pub const LOG_PAGES: usize = 256;
-
 /// The gate of a record that counts. Any other gate is closed.
 pub const OPEN: u8 = 1;
 
@@ -21,15 +18,3 @@ pub const NOTE_LEN: usize = 31;
 
 /// The bytes of a page number.
 pub const NUMBER_LEN: usize = 4;
-
-/// The most notes of a record.
-pub const NOTES_MOST: usize = 512;
-
-/// The most images and freed pages of a record together.
-pub const PAGES_MOST: usize = 128;
-
-/// The kinds of notes are 1 to this.
-pub const NOTE_KINDS: u8 = 10;
-
-/// The page of the catalog, which is the first of the page area and stands in every record.
-pub const CATALOG: u32 = 257;

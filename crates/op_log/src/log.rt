@@ -11,11 +11,11 @@ ghost use Rattle.op_log.specs.Log.{HasLog, KeepsLog, SaysEither, AddsHere, DiskS
 ghost use Rattle.op_log.specs.Records.{record_len};
 
 use crate::encode::encode;
-use crate::layout::{CLOSED, LOG_PAGES, OPEN};
+use crate::layout::{CLOSED, OPEN};
 use crate::length::length_of;
 use crate::record::LogRecord;
 use disk_model::{Disk, Failed, write_settled};
-use ex_base::Geometry;
+use ex_base::{Geometry, LOG_PAGES};
 use std::alloc::{AllocError, Global};
 use std::marker::Model;
 
@@ -23,18 +23,29 @@ use std::marker::Model;
 fn write_record<D: Disk>(disk: &mut D, gate: u64, bytes: &[u8]) -> Result<(), Failed>
     requires end { gate + (length bytes.now + 1) < 2 ^ 64 }
     requires room { gate + (length bytes.now + 1) ≤ (D.outside disk.old).size }
-    ensures changes { ChangesWithin (InRange gate (length bytes.now + 1)) (D.outside disk.old) (D.outside disk.new) }
+    ensures changes { ChangesWithin (InRange gate (length bytes.now
+        + 1)) (D.outside disk.old) (D.outside disk.new) }
     ensures at_most_four { MakesAtMost 4 (D.outside disk.old) (D.outside disk.new) }
     ensures four { OnOk result (MakesCalls 4 (D.outside disk.old) (D.outside disk.new)) }
-    ensures cause { OnErr result (Rose (D.outside disk.old).disk_faults (D.outside disk.new).disk_faults) }
-    ensures any_moment { (g : Geometry) (records : List LogRecord) (r : LogRecord) → Adding g records r gate bytes.now → HasLog g (D.outside disk.old)
-        → KeepsLog g (D.outside disk.old) records → Leaves (D.outside disk.old) (D.outside disk.new) (SaysEither g records (records ++ r ∷ [])) }
-    ensures leaves { (g : Geometry) (records : List LogRecord) (r : LogRecord) (held : List ℕ) → Adding g records r gate bytes.now → HasLog g (D.outside disk.old)
+    ensures cause { OnErr result (Rose (D.outside disk.old).disk_faults
+        (D.outside disk.new).disk_faults) }
+    ensures any_moment { (g : Geometry) (records : List LogRecord) (r : LogRecord)
+        → Adding g records r gate bytes.now → HasLog g (D.outside disk.old)
+        → KeepsLog g (D.outside disk.old) records
+        → Leaves (D.outside disk.old) (D.outside disk.new) (SaysEither g records (records ++ r
+        ∷ [])) }
+    ensures leaves { (g : Geometry) (records : List LogRecord) (r : LogRecord) (held : List ℕ)
+        → Adding g records r gate bytes.now → HasLog g (D.outside disk.old)
         → KeepsLog g (D.outside disk.old) records → (D.outside disk.old).disk ≡ Some held
-        → Leaves (D.outside disk.old) (D.outside disk.new) (AddsHere g records r (InRange gate (length bytes.now + 1)) (D.outside disk.old).images held) }
-    ensures says { OnOk result ((g : Geometry) (records : List LogRecord) (r : LogRecord) → Adding g records r gate bytes.now → HasLog g (D.outside disk.old)
-        → DiskSays g (D.outside disk.old) records → DiskSays g (D.outside disk.new) (records ++ r ∷ [])) }
-    ensures settled { OnOk result (IsTrue (D.outside disk.old).honest → (d : List ℕ) → (D.outside disk.new).disk ≡ Some d → Only d (D.outside disk.new).images) }
+        → Leaves (D.outside disk.old) (D.outside disk.new)
+        (AddsHere g records r (InRange gate (length bytes.now
+        + 1)) (D.outside disk.old).images held) }
+    ensures says { OnOk result ((g : Geometry) (records : List LogRecord) (r : LogRecord)
+        → Adding g records r gate bytes.now → HasLog g (D.outside disk.old)
+        → DiskSays g (D.outside disk.old) records
+        → DiskSays g (D.outside disk.new) (records ++ r ∷ [])) }
+    ensures settled { OnOk result (IsTrue (D.outside disk.old).honest → (d : List ℕ)
+        → (D.outside disk.new).disk ≡ Some d → Only d (D.outside disk.new).images) }
 {
     write_settled(disk, gate + 1, bytes)?;
     write_settled(disk, gate, &[OPEN])
@@ -69,9 +80,10 @@ impl OpLog {
 
     /// A log without a record, with a buffer of the log's whole size.
     pub fn make(alloc: Global, geometry: &Geometry) -> Result<OpLog, AllocError>
-        ensures { IfOk result (λ log. log ≡ record { geometry = geometry.now; end = 0; count = 0 }) }
+        ensures { IfOk result
+            (λ log. log ≡ record { geometry = geometry.now; end = 0; count = 0 }) }
     {
-        let buffer = vec![in alloc; 0u8; LOG_PAGES * geometry.page_size as usize]?;
+        let buffer = vec![in alloc; 0u8; LOG_PAGES as usize * geometry.page_size as usize]?;
         Ok(OpLog {
             geometry: *geometry,
             buffer,
@@ -92,9 +104,10 @@ impl OpLog {
 
     /// Whether the record and the next gate lie inside the log.
     pub fn fits(&self, item: &LogRecord) -> bool
-        ensures { IsTrue result ↔ (self.now.end + record_len item.now < log_size self.now.geometry) }
+        ensures { IsTrue result
+            ↔ (self.now.end + record_len item.now < log_size self.now.geometry) }
     {
-        length_of(item) < LOG_PAGES * self.geometry.page_size as usize - self.end as usize
+        length_of(item) < LOG_PAGES as usize * self.geometry.page_size as usize - self.end as usize
     }
 
     /// Adds a record: its body goes behind its gate, which is still closed, with a closed gate behind it, and is synced. Then the one byte of its gate
@@ -105,30 +118,48 @@ impl OpLog {
         requires record { IsLogRecord self.old.geometry item.now }
 
         // The homes of the pages and the units stay.
-        ensures changes { ChangesWithin (InRange (self.old.geometry.page_size + self.old.end) (record_len item.now + 1)) (D.outside disk.old) (D.outside disk.new) }
-        ensures cause { OnErr result (Rose (D.outside disk.old).disk_faults (D.outside disk.new).disk_faults) }
+        ensures changes { ChangesWithin (InRange (self.old.geometry.page_size
+            + self.old.end) (record_len item.now + 1)) (D.outside disk.old) (D.outside disk.new) }
+        ensures cause { OnErr result (Rose (D.outside disk.old).disk_faults
+            (D.outside disk.new).disk_faults) }
         ensures at_most_four { MakesAtMost 4 (D.outside disk.old) (D.outside disk.new) }
         ensures four { OnOk result (MakesCalls 4 (D.outside disk.old) (D.outside disk.new)) }
-        ensures counts { OnOk result (self.new ≡ record self.old { end = self.old.end + record_len item.now; count = self.old.count + 1 }) }
+        ensures counts { OnOk result (self.new ≡ record self.old {
+          end = self.old.end
+              + record_len item.now;
+          count = self.old.count + 1;
+        }) }
         ensures failed { OnErr result (self.new ≡ self.old) }
 
         // A crash at any moment leaves the old list or the one with the record.
-        ensures any_moment { (records : List LogRecord) → Prolongs self.old records item.now → KeepsLog self.old.geometry (D.outside disk.old) records
-            → Leaves (D.outside disk.old) (D.outside disk.new) (SaysEither self.old.geometry records (records ++ item.now ∷ [])) }
+        ensures any_moment { (records : List LogRecord) → Prolongs self.old records item.now
+            → KeepsLog self.old.geometry (D.outside disk.old) records
+            → Leaves (D.outside disk.old) (D.outside disk.new) (SaysEither self.old.geometry records
+            (records ++ item.now ∷ [])) }
 
         // Where it leaves the one with the record, all that was written before is settled.
-        ensures leaves { (records : List LogRecord) (held : List ℕ) → Prolongs self.old records item.now → KeepsLog self.old.geometry (D.outside disk.old) records
-            → (D.outside disk.old).disk ≡ Some held → Leaves (D.outside disk.old) (D.outside disk.new) (AddsHere self.old.geometry records item.now
-            (InRange (self.old.geometry.page_size + self.old.end) (record_len item.now + 1)) (D.outside disk.old).images held) }
+        ensures leaves { (records : List LogRecord) (held : List ℕ)
+            → Prolongs self.old records item.now
+            → KeepsLog self.old.geometry (D.outside disk.old) records
+            → (D.outside disk.old).disk ≡ Some held
+            → Leaves (D.outside disk.old) (D.outside disk.new)
+            (AddsHere self.old.geometry records item.now
+            (InRange (self.old.geometry.page_size + self.old.end) (record_len item.now
+            + 1)) (D.outside disk.old).images held) }
 
         // The list then has one record more, and a crash leaves that one.
-        ensures says { OnOk result ((records : List LogRecord) → Prolongs self.old records item.now → DiskSays self.old.geometry (D.outside disk.old) records
+        ensures says { OnOk result ((records : List LogRecord) → Prolongs self.old records item.now
+            → DiskSays self.old.geometry (D.outside disk.old) records
             → DiskSays self.old.geometry (D.outside disk.new) (records ++ item.now ∷ [])) }
-        ensures keeps { OnOk result ((records : List LogRecord) → Prolongs self.old records item.now → KeepsLog self.old.geometry (D.outside disk.old) records
+        ensures keeps { OnOk result ((records : List LogRecord) → Prolongs self.old records item.now
+            → KeepsLog self.old.geometry (D.outside disk.old) records
             → KeepsLog self.old.geometry (D.outside disk.new) (records ++ item.now ∷ [])) }
-        ensures after { OnOk result ((records : List LogRecord) → Prolongs self.old records item.now → KeepsLog self.old.geometry (D.outside disk.old) records
-            → (d : List ℕ) → (D.outside disk.new).images d → SaysLog self.old.geometry (records ++ item.now ∷ []) d) }
-        ensures settled { OnOk result (IsTrue (D.outside disk.old).honest → (d : List ℕ) → (D.outside disk.new).disk ≡ Some d → Only d (D.outside disk.new).images) }
+        ensures after { OnOk result ((records : List LogRecord) → Prolongs self.old records item.now
+            → KeepsLog self.old.geometry (D.outside disk.old) records
+            → (d : List ℕ) → (D.outside disk.new).images d
+            → SaysLog self.old.geometry (records ++ item.now ∷ []) d) }
+        ensures settled { OnOk result (IsTrue (D.outside disk.old).honest → (d : List ℕ)
+            → (D.outside disk.new).disk ≡ Some d → Only d (D.outside disk.new).images) }
     {
         let len = length_of(item);
         let gate = self.geometry.page_size as u64 + self.end as u64;
@@ -142,27 +173,36 @@ impl OpLog {
     /// Closes the first gate by a write and a sync, so that no record counts. Without a record it makes no call on the disk.
     pub fn close_all<D: Disk>(&mut self, disk: &mut D) -> Result<(), Failed>
         requires room { volume_bytes self.old.geometry ≤ (D.outside disk.old).size }
-        ensures changes { ChangesWithin (InRange self.old.geometry.page_size 1) (D.outside disk.old) (D.outside disk.new) }
-        ensures cause { OnErr result (Rose (D.outside disk.old).disk_faults (D.outside disk.new).disk_faults) }
+        ensures changes { ChangesWithin (InRange self.old.geometry.page_size 1) (D.outside disk.old)
+            (D.outside disk.new) }
+        ensures cause { OnErr result (Rose (D.outside disk.old).disk_faults
+            (D.outside disk.new).disk_faults) }
         ensures no_call { self.old.count ≡ 0 → disk.new ≡ disk.old }
         ensures at_most_twice { MakesAtMost 2 (D.outside disk.old) (D.outside disk.new) }
-        ensures twice { OnOk result (0 < self.old.count → MakesCalls 2 (D.outside disk.old) (D.outside disk.new)) }
+        ensures twice { OnOk result (0 < self.old.count
+            → MakesCalls 2 (D.outside disk.old) (D.outside disk.new)) }
         ensures no_fault { self.old.count ≡ 0 → IsOk result }
         ensures counts { OnOk result (self.new ≡ record self.old { end = 0; count = 0 }) }
         ensures failed { OnErr result (self.new ≡ self.old) }
 
         // A crash at any moment leaves the old list or none.
-        ensures any_moment { (records : List LogRecord) → self.old.count ≡ length records → KeepsLog self.old.geometry (D.outside disk.old) records
-            → Leaves (D.outside disk.old) (D.outside disk.new) (SaysEither self.old.geometry records []) }
+        ensures any_moment { (records : List LogRecord) → self.old.count ≡ length records
+            → KeepsLog self.old.geometry (D.outside disk.old) records
+            → Leaves (D.outside disk.old) (D.outside disk.new)
+            (SaysEither self.old.geometry records []) }
 
         // No record counts then, and a crash leaves none.
-        ensures says { OnOk result ((records : List LogRecord) → self.old.count ≡ length records → DiskSays self.old.geometry (D.outside disk.old) records
+        ensures says { OnOk result ((records : List LogRecord) → self.old.count ≡ length records
+            → DiskSays self.old.geometry (D.outside disk.old) records
             → DiskSays self.old.geometry (D.outside disk.new) []) }
-        ensures keeps { OnOk result ((records : List LogRecord) → self.old.count ≡ length records → KeepsLog self.old.geometry (D.outside disk.old) records
+        ensures keeps { OnOk result ((records : List LogRecord) → self.old.count ≡ length records
+            → KeepsLog self.old.geometry (D.outside disk.old) records
             → KeepsLog self.old.geometry (D.outside disk.new) []) }
-        ensures after { OnOk result ((records : List LogRecord) → self.old.count ≡ length records → KeepsLog self.old.geometry (D.outside disk.old) records
+        ensures after { OnOk result ((records : List LogRecord) → self.old.count ≡ length records
+            → KeepsLog self.old.geometry (D.outside disk.old) records
             → (d : List ℕ) → (D.outside disk.new).images d → SaysLog self.old.geometry [] d) }
-        ensures settled { OnOk result (0 < self.old.count → IsTrue (D.outside disk.old).honest → (d : List ℕ) → (D.outside disk.new).disk ≡ Some d
+        ensures settled { OnOk result (0 < self.old.count → IsTrue (D.outside disk.old).honest
+            → (d : List ℕ) → (D.outside disk.new).disk ≡ Some d
             → Only d (D.outside disk.new).images) }
     {
         if self.count == 0 {

@@ -11,11 +11,11 @@ ghost use Rattle.op_log.specs.Decoding.{IsBadAt};
 
 use crate::decoding::decode;
 use crate::found::LogRecords;
-use crate::layout::{LOG_PAGES, OPEN};
+use crate::layout::OPEN;
 use crate::length::length_of;
 use crate::valid::follows;
 use disk_model::{Disk, Failed};
-use ex_base::Geometry;
+use ex_base::{Geometry, LOG_PAGES};
 use std::alloc::{AllocError, Global};
 
 /// Why the log was not read.
@@ -76,7 +76,7 @@ fn read_records(alloc: Global, geometry: &Geometry, log: &[u8]) -> Result<LogRec
 fn empty_buffer(alloc: Global, geometry: &Geometry) -> Result<Vec<u8>, AllocError>
     ensures { IfOk result (λ buffer. length buffer.items ≡ log_size geometry.now) }
 {
-    vec![in alloc; 0u8; LOG_PAGES * geometry.page_size as usize]
+    vec![in alloc; 0u8; LOG_PAGES as usize * geometry.page_size as usize]
 }
 
 /// The records of the log, read from the disk by one call. `Bad` comes exactly where an open gate at the end of the records before it is followed by no record;
@@ -92,10 +92,13 @@ pub fn scan_log<D: Disk>(
     ensures once { OnOk result (MakesCalls 1 (D.outside disk.old) (D.outside disk.new)) }
     ensures each { IfOk result (AllByRecursion (IsLogRecord geometry.now)) }
     ensures inside { IfOk result (λ found. log_end found < log_size geometry.now) }
-    ensures records { IfOk result (λ found. (d : List ℕ) → (D.outside disk.old).disk ≡ Some d → SaysLog geometry.now found d) }
-    ensures bad { (at : ℕ) → result ≡ Err (LogFault.Bad at) → (d : List ℕ) → (D.outside disk.old).disk ≡ Some d
+    ensures records { IfOk result (λ found. (d : List ℕ) → (D.outside disk.old).disk ≡ Some d
+        → SaysLog geometry.now found d) }
+    ensures bad { (at : ℕ) → result ≡ Err (LogFault.Bad at) → (d : List ℕ)
+        → (D.outside disk.old).disk ≡ Some d
         → IsBadAt geometry.now (log_at geometry.now d) at }
-    ensures disk { result ≡ Err LogFault.Disk → Rose (D.outside disk.old).disk_faults (D.outside disk.new).disk_faults }
+    ensures disk { result ≡ Err LogFault.Disk
+        → Rose (D.outside disk.old).disk_faults (D.outside disk.new).disk_faults }
 {
     let mut log = empty_buffer(alloc, geometry)?;
     disk.read(geometry.page_size as u64, &mut log)?;

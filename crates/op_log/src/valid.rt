@@ -1,30 +1,12 @@
 //! Which records are records of the log.
-ghost use Rattle.std.specs.Prelude.{◌≡◌, ◌↔◌, ◌+◌, ◌≤◌, ◌<◌, IsTrue, Some, Option, map, Contains};
+ghost use Rattle.std.specs.Prelude.{◌≡◌, ◌↔◌, ◌+◌, ◌-◌, ◌≤◌, ◌<◌, IsTrue, Some, Option, map, Contains};
 ghost use Rattle.std.specs.List.{AllByRecursion};
 ghost use Rattle.ex_base.specs.Area.{area_end, catalog_no};
 ghost use Rattle.op_log.specs.Records.{IsLogRecord, page_of, number_of};
-ghost use Rattle.op_log.specs.Decoding.{HasKind, RisesIn, IsApart, Shaped, NumberFollows};
+ghost use Rattle.op_log.specs.Decoding.{RisesIn, IsApart, Shaped, NumberFollows};
 
-use crate::layout::{CATALOG, NOTE_KINDS};
 use crate::record::{LogRecord, PageImage};
-use ex_base::{Geometry, OpNote, PageNo};
-
-fn is_kind(kind: u8) -> bool
-    ensures { IsTrue result ↔ ((1 ≤ kind) × (kind ≤ 10)) }
-{
-    1 <= kind && kind <= NOTE_KINDS
-}
-
-fn have_kinds(notes: &[OpNote]) -> bool
-    ensures { IsTrue result ↔ AllByRecursion HasKind notes.now }
-{
-    for note in notes {
-        if !is_kind(note.kind) {
-            return false;
-        }
-    }
-    true
-}
+use ex_base::{Geometry, PageNo};
 
 fn goes_on(before: u32, end: u32, page: u32) -> bool
     ensures { IsTrue result ↔ ((before < page) × (page < end)) }
@@ -33,9 +15,9 @@ fn goes_on(before: u32, end: u32, page: u32) -> bool
 }
 
 fn images_rise(end: u32, entries: &[PageImage]) -> bool
-    ensures { IsTrue result ↔ RisesIn 256 end (map page_of entries.now) }
+    ensures { IsTrue result ↔ RisesIn (catalog_no - 1) end (map page_of entries.now) }
 {
-    let mut before = CATALOG - 1;
+    let mut before = PageNo::CATALOG.0 - 1;
     for entry in entries {
         if !goes_on(before, end, entry.page.0) {
             return false;
@@ -46,9 +28,9 @@ fn images_rise(end: u32, entries: &[PageImage]) -> bool
 }
 
 fn numbers_rise(end: u32, pages: &[PageNo]) -> bool
-    ensures { IsTrue result ↔ RisesIn 256 end (map number_of pages.now) }
+    ensures { IsTrue result ↔ RisesIn (catalog_no - 1) end (map number_of pages.now) }
 {
-    let mut before = CATALOG - 1;
+    let mut before = PageNo::CATALOG.0 - 1;
     for page in pages {
         if !goes_on(before, end, page.0) {
             return false;
@@ -85,10 +67,7 @@ pub fn is_valid(geometry: &Geometry, item: &LogRecord) -> bool
     requires { Shaped geometry.now item.now }
     ensures { IsTrue result ↔ IsLogRecord geometry.now item.now }
 {
-    let end = CATALOG + geometry.pages;
-    if !have_kinds(item.notes.as_slice()) {
-        return false;
-    }
+    let end = PageNo::CATALOG.0 + geometry.pages;
     if !images_rise(end, item.pages.as_slice()) {
         return false;
     }
@@ -98,7 +77,7 @@ pub fn is_valid(geometry: &Geometry, item: &LogRecord) -> bool
     if !lie_apart(item.pages.as_slice(), item.freed.as_slice()) {
         return false;
     }
-    has_page(item.pages.as_slice(), CATALOG)
+    has_page(item.pages.as_slice(), PageNo::CATALOG.0)
 }
 
 /// Whether a transaction's number is the next after the last one, where there is one.

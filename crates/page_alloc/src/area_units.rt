@@ -114,7 +114,8 @@ impl AreaUnits {
     pub fn add_ref(&mut self, at: usize)
         requires { at < length self.old.used }
         ensures used { self.new.used ≡ self.old.used }
-        ensures refs { self.new.refs ≡ slice_set self.old.refs at (with_ref (slice_index_or self.old.used at true) (slice_index_or self.old.refs at 0)) }
+        ensures refs { self.new.refs ≡ slice_set self.old.refs at
+            (with_ref (slice_index_or self.old.used at true) (slice_index_or self.old.refs at 0)) }
     {
         if self.used[at] && self.refs[at] < u32::MAX {
             self.refs[at] += 1;
@@ -126,7 +127,8 @@ impl AreaUnits {
         requires { at < length self.old.used }
         ensures last { IsTrue result ↔ (slice_index_or self.old.refs at 0 ≡ 1) }
         ensures used { self.new.used ≡ self.old.used }
-        ensures refs { self.new.refs ≡ slice_set self.old.refs at (without_ref (slice_index_or self.old.refs at 0)) }
+        ensures refs { self.new.refs ≡ slice_set self.old.refs at
+            (without_ref (slice_index_or self.old.refs at 0)) }
     {
         let count = self.refs[at];
         if count == 0 {

@@ -129,8 +129,11 @@ impl Units {
         ensures refs { refs_at self.new ≡ refs_at self.old }
         ensures geometry { self.new.geometry ≡ self.old.geometry }
         ensures given { given_at self.new ≡ given_at self.old }
-        ensures free { free_count self.new.geometry (used_at self.new) area + 1 ≡ free_count self.old.geometry (used_at self.old) area }
-        ensures other_free { (a : Area) → a ≢ area → free_count self.new.geometry (used_at self.new) a ≡ free_count self.old.geometry (used_at self.old) a }
+        ensures free { free_count self.new.geometry (used_at self.new) area + 1
+            ≡ free_count self.old.geometry (used_at self.old) area }
+        ensures other_free { (a : Area) → a ≢ area
+            → free_count self.new.geometry (used_at self.new) a
+            ≡ free_count self.old.geometry (used_at self.old) a }
     {
         match area {
             Area::Page => PageNo(PageNo::CATALOG.0 + self.pages.take() as u32),
@@ -150,8 +153,12 @@ impl Units {
         ensures refs { refs_at self.new ≡ refs_at self.old }
         ensures geometry { self.new.geometry ≡ self.old.geometry }
         ensures given { given_at self.new ≡ given_at self.old }
-        ensures free { (a : Area) → InArea self.old.geometry a page.0 → free_count self.new.geometry (used_at self.new) a + 1 ≡ free_count self.old.geometry (used_at self.old) a }
-        ensures other_free { (a : Area) → ¬ InArea self.old.geometry a page.0 → free_count self.new.geometry (used_at self.new) a ≡ free_count self.old.geometry (used_at self.old) a }
+        ensures free { (a : Area) → InArea self.old.geometry a page.0
+            → free_count self.new.geometry (used_at self.new) a + 1
+            ≡ free_count self.old.geometry (used_at self.old) a }
+        ensures other_free { (a : Area) → ¬ InArea self.old.geometry a page.0
+            → free_count self.new.geometry (used_at self.new) a
+            ≡ free_count self.old.geometry (used_at self.old) a }
     {
         let spot = spot_of(&self.geometry, page);
         match spot.area {
@@ -167,9 +174,14 @@ impl Units {
         ensures used { used_at self.new ≡ updated (used_at self.old) page.0 false }
         ensures refs { refs_at self.new ≡ updated (refs_at self.old) page.0 0 }
         ensures geometry { self.new.geometry ≡ self.old.geometry }
-        ensures given { given_at self.new ≡ updated (given_at self.old) page.0 (given_at self.old page.0 + 1) }
-        ensures free { (a : Area) → InArea self.old.geometry a page.0 → free_count self.new.geometry (used_at self.new) a ≡ free_count self.old.geometry (used_at self.old) a + 1 }
-        ensures other_free { (a : Area) → ¬ InArea self.old.geometry a page.0 → free_count self.new.geometry (used_at self.new) a ≡ free_count self.old.geometry (used_at self.old) a }
+        ensures given { given_at self.new ≡ updated (given_at self.old) page.0
+            (given_at self.old page.0 + 1) }
+        ensures free { (a : Area) → InArea self.old.geometry a page.0
+            → free_count self.new.geometry (used_at self.new) a
+            ≡ free_count self.old.geometry (used_at self.old) a + 1 }
+        ensures other_free { (a : Area) → ¬ InArea self.old.geometry a page.0
+            → free_count self.new.geometry (used_at self.new) a
+            ≡ free_count self.old.geometry (used_at self.old) a }
     {
         self.history = History::with(&self.history, &page);
         let spot = spot_of(&self.geometry, page);
@@ -183,7 +195,8 @@ impl Units {
     pub fn add_ref(&mut self, page: PageNo)
         requires { IsUnit self.old.geometry page.0 }
         ensures used { used_at self.new ≡ used_at self.old }
-        ensures refs { refs_at self.new ≡ updated (refs_at self.old) page.0 (with_ref (used_at self.old page.0) (refs_at self.old page.0)) }
+        ensures refs { refs_at self.new ≡ updated (refs_at self.old) page.0
+            (with_ref (used_at self.old page.0) (refs_at self.old page.0)) }
         ensures geometry { self.new.geometry ≡ self.old.geometry }
         ensures given { given_at self.new ≡ given_at self.old }
     {
@@ -199,7 +212,8 @@ impl Units {
         requires { IsUnit self.old.geometry page.0 }
         ensures last { IsTrue result ↔ (refs_at self.old page.0 ≡ 1) }
         ensures used { used_at self.new ≡ used_at self.old }
-        ensures refs { refs_at self.new ≡ updated (refs_at self.old) page.0 (without_ref (refs_at self.old page.0)) }
+        ensures refs { refs_at self.new ≡ updated (refs_at self.old) page.0
+            (without_ref (refs_at self.old page.0)) }
         ensures geometry { self.new.geometry ≡ self.old.geometry }
         ensures given { given_at self.new ≡ given_at self.old }
     {

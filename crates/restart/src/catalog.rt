@@ -23,10 +23,12 @@ pub fn read_catalog<D: Disk>(
 ) -> Result<Vec<u8>, OpenFault>
     requires room { volume_bytes geometry.now ≤ (D.outside disk.old).size }
     ensures only { ReadsOnly (D.outside disk.old) (D.outside disk.new) }
-    ensures cause { result ≡ Err OpenFault.Disk → Rose (D.outside disk.old).disk_faults (D.outside disk.new).disk_faults }
+    ensures cause { result ≡ Err OpenFault.Disk
+        → Rose (D.outside disk.old).disk_faults (D.outside disk.new).disk_faults }
     ensures fine { (part : Part) → result ≡ Err (OpenFault.BadVolume part) → ⊥ }
     ensures page { IfOk result (λ page. (image : List ℕ) → (D.outside disk.old).disk ≡ Some image
-        → page.items ≡ unwrap_or (committed_image meta.now catalog_no) (page_at geometry.now image catalog_no)) }
+        → page.items ≡ unwrap_or (committed_image meta.now catalog_no)
+        (page_at geometry.now image catalog_no)) }
 {
     if let Some(image) = meta.committed_at(PageNo::CATALOG) {
         return image.to_vec(alloc).map_err(|_| OpenFault::Memory);

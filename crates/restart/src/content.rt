@@ -38,8 +38,12 @@ pub fn read_content<P: ReadPages>(
     requires ready { P.ready pages.old }
     requires geometry { geometry.now ≡ P.geometry pages.old }
     ensures reached { IfOk result (IsReached geometry.now) }
-    ensures holds { IfOk result (λ r. P.tells pages.old → (bytes : Bytes) → ShowsPages geometry.now (P.image pages.old) bytes → FilesReached geometry.now bytes catalog.now r) }
-    ensures bad { (part : Part) → result ≡ Err (OpenFault.BadVolume part) → P.tells pages.old → (bytes : Bytes) → ShowsPages geometry.now (P.image pages.old) bytes → IsFirstBad geometry.now bytes catalog.now part }
+    ensures holds { IfOk result (λ r. P.tells pages.old → (bytes : Bytes)
+        → ShowsPages geometry.now (P.image pages.old) bytes
+        → FilesReached geometry.now bytes catalog.now r) }
+    ensures bad { (part : Part) → result ≡ Err (OpenFault.BadVolume part) → P.tells pages.old
+        → (bytes : Bytes) → ShowsPages geometry.now (P.image pages.old) bytes
+        → IsFirstBad geometry.now bytes catalog.now part }
     ensures kept { Keeps P.Ground pages.old pages.new }
     ensures disk { result ≡ Err OpenFault.Disk → Rose (P.faults pages.old) (P.faults pages.new) }
 {
@@ -91,7 +95,8 @@ fn logged_pages(
 ) -> Result<LoggedPages, AllocError>
     requires { AllByRecursion (λ (page : PageNo). page.0 < area_end geometry.now) files.now }
     ensures held { IfOk result (λ s. AreHeld s (page_numbers files.now)) }
-    ensures lengths { IfOk result (λ s. (length s.held ≡ area_end geometry.now) × (length s.taken ≡ area_end geometry.now)) }
+    ensures lengths { IfOk result (λ s. (length s.held ≡ area_end geometry.now)
+        × (length s.taken ≡ area_end geometry.now)) }
     ensures taken { IfOk result (λ s. (p : ℕ) → is_taken s p ≡ false) }
 {
     let mut pages = LoggedPages::make(alloc, geometry)?;

@@ -25,10 +25,13 @@ const BAD: OpenFault = OpenFault::BadVolume { part: Part::Super };
 /// The geometry that the superblock on the disk names.
 pub fn read_geometry<D: Disk>(alloc: Global, disk: &mut D) -> Result<Geometry, OpenFault>
     ensures only { ReadsOnly (D.outside disk.old) (D.outside disk.new) }
-    ensures cause { result ≡ Err OpenFault.Disk → Rose (D.outside disk.old).disk_faults (D.outside disk.new).disk_faults }
+    ensures cause { result ≡ Err OpenFault.Disk
+        → Rose (D.outside disk.old).disk_faults (D.outside disk.new).disk_faults }
     ensures large { IfOk result (λ g. volume_bytes g ≤ (D.outside disk.old).size) }
-    ensures found { IfOk result (λ g. (image : List ℕ) → (D.outside disk.old).disk ≡ Some image → SuperOf image g) }
-    ensures bad { (part : Part) → result ≡ Err (OpenFault.BadVolume part) → (image : List ℕ) → (D.outside disk.old).disk ≡ Some image → FirstBad image part }
+    ensures found { IfOk result (λ g. (image : List ℕ) → (D.outside disk.old).disk ≡ Some image
+        → SuperOf image g) }
+    ensures bad { (part : Part) → result ≡ Err (OpenFault.BadVolume part) → (image : List ℕ)
+        → (D.outside disk.old).disk ≡ Some image → FirstBad image part }
 {
     let size = match page_size(disk) {
         Ok(size) => size,
@@ -52,10 +55,13 @@ pub fn read_geometry<D: Disk>(alloc: Global, disk: &mut D) -> Result<Geometry, O
 // The size of a page, as the superblock names it: one for which the disk is large enough.
 fn page_size<D: Disk>(disk: &mut D) -> Result<u32, OpenFault>
     ensures only { ReadsOnly (D.outside disk.old) (D.outside disk.new) }
-    ensures cause { result ≡ Err OpenFault.Disk → Rose (D.outside disk.old).disk_faults (D.outside disk.new).disk_faults }
+    ensures cause { result ≡ Err OpenFault.Disk
+        → Rose (D.outside disk.old).disk_faults (D.outside disk.new).disk_faults }
     ensures inside { IfOk result (λ size. (size ≤ 8192) × (size ≤ (D.outside disk.old).size)) }
-    ensures found { IfOk result (λ size. (image : List ℕ) → (D.outside disk.old).disk ≡ Some image → (g : Geometry) → SuperOf image g → size ≡ g.page_size) }
-    ensures bad { (part : Part) → result ≡ Err (OpenFault.BadVolume part) → (image : List ℕ) → (D.outside disk.old).disk ≡ Some image → FirstBad image part }
+    ensures found { IfOk result (λ size. (image : List ℕ) → (D.outside disk.old).disk ≡ Some image
+        → (g : Geometry) → SuperOf image g → size ≡ g.page_size) }
+    ensures bad { (part : Part) → result ≡ Err (OpenFault.BadVolume part) → (image : List ℕ)
+        → (D.outside disk.old).disk ≡ Some image → FirstBad image part }
 {
     let have = disk.size();
     if have < SMALLEST_PAGE {

@@ -46,22 +46,30 @@ pub struct OpenedParts {
 /// checkpoint. A volume that stands for no table isn't written.
 pub fn open_volume<D: Disk>(alloc: Global, disk: &mut D) -> Result<OpenedParts, OpenFault>
     ensures only { DiskOnly (D.outside disk.old) (D.outside disk.new) }
-    ensures disk { result ≡ Err OpenFault.Disk → Rose (D.outside disk.old).disk_faults (D.outside disk.new).disk_faults }
+    ensures disk { result ≡ Err OpenFault.Disk
+        → Rose (D.outside disk.old).disk_faults (D.outside disk.new).disk_faults }
     ensures parts { IfOk result AreOpened }
     ensures room { IfOk result (λ p. volume_bytes p.geometry ≤ (D.outside disk.new).size) }
 
     // The volume, as it read, stood for a table, and it is committed.
-    ensures opened { IfOk result (λ p. (image : List ℕ) → IsTrue (D.outside disk.old).honest → (D.outside disk.old).disk ≡ Some image
-        → OpenedOn image p.geometry (D.outside disk.new) p.log p.meta.committed (used_at p.units) (is_held p.pages)) }
+    ensures opened { IfOk result (λ p. (image : List ℕ) → IsTrue (D.outside disk.old).honest
+        → (D.outside disk.old).disk ≡ Some image
+        → OpenedOn image p.geometry (D.outside disk.new) p.log p.meta.committed (used_at p.units)
+        (is_held p.pages)) }
 
     // Or it stood for none, and holds what it held.
-    ensures bad { (part : Part) → result ≡ Err (OpenFault.BadVolume part) → (image : List ℕ) → (D.outside disk.old).disk ≡ Some image → FirstBad image part }
-    ensures kept { (part : Part) → result ≡ Err (OpenFault.BadVolume part) → IsTrue (D.outside disk.old).honest → (image : List ℕ) → (D.outside disk.old).disk ≡ Some image
+    ensures bad { (part : Part) → result ≡ Err (OpenFault.BadVolume part) → (image : List ℕ)
+        → (D.outside disk.old).disk ≡ Some image → FirstBad image part }
+    ensures kept { (part : Part) → result ≡ Err (OpenFault.BadVolume part)
+        → IsTrue (D.outside disk.old).honest → (image : List ℕ)
+        → (D.outside disk.old).disk ≡ Some image
         → ((D.outside disk.new).disk ≡ Some image) × Only image (D.outside disk.new).images }
 
     // A crash at any moment leaves what could be left before, or the volume as it reads, or what stands for the same table.
-    ensures any_moment { (image : List ℕ) → IsTrue (D.outside disk.old).honest → (D.outside disk.old).disk ≡ Some image
-        → Leaves (D.outside disk.old) (D.outside disk.new) (OpensAs (D.outside disk.old).images image) }
+    ensures any_moment { (image : List ℕ) → IsTrue (D.outside disk.old).honest
+        → (D.outside disk.old).disk ≡ Some image
+        → Leaves (D.outside disk.old) (D.outside disk.new)
+        (OpensAs (D.outside disk.old).images image) }
 {
     let Ok(()) = disk.sync() else {
         return Err(OpenFault::Disk);
@@ -79,12 +87,16 @@ pub fn open_volume<D: Disk>(alloc: Global, disk: &mut D) -> Result<OpenedParts, 
 // Reads the volume and tests it.
 fn read_volume<D: Disk>(alloc: Global, disk: &mut D) -> Result<OpenedParts, OpenFault>
     ensures only { ReadsOnly (D.outside disk.old) (D.outside disk.new) }
-    ensures cause { result ≡ Err OpenFault.Disk → Rose (D.outside disk.old).disk_faults (D.outside disk.new).disk_faults }
+    ensures cause { result ≡ Err OpenFault.Disk
+        → Rose (D.outside disk.old).disk_faults (D.outside disk.new).disk_faults }
     ensures fresh { IfOk result AreFresh }
-    ensures logged { IfOk result (λ p. p.log.count ≡ 0 → (p.log.end ≡ 0) × (p.meta.committed ≡ [])) }
+    ensures logged { IfOk result (λ p. p.log.count ≡ 0 → (p.log.end ≡ 0)
+        × (p.meta.committed ≡ [])) }
     ensures room { IfOk result (λ p. volume_bytes p.geometry ≤ (D.outside disk.old).size) }
-    ensures reads { IfOk result (λ p. (image : List ℕ) → (D.outside disk.old).disk ≡ Some image → ReadsAs image p.geometry p.log p.meta.committed (used_at p.units) (is_held p.pages)) }
-    ensures bad { (part : Part) → result ≡ Err (OpenFault.BadVolume part) → (image : List ℕ) → (D.outside disk.old).disk ≡ Some image → FirstBad image part }
+    ensures reads { IfOk result (λ p. (image : List ℕ) → (D.outside disk.old).disk ≡ Some image
+        → ReadsAs image p.geometry p.log p.meta.committed (used_at p.units) (is_held p.pages)) }
+    ensures bad { (part : Part) → result ≡ Err (OpenFault.BadVolume part) → (image : List ℕ)
+        → (D.outside disk.old).disk ≡ Some image → FirstBad image part }
 {
     let geometry = match read_geometry(alloc, disk) {
         Ok(geometry) => geometry,
@@ -125,11 +137,15 @@ fn read_log<D: Disk>(
 ) -> Result<LogRecords, OpenFault>
     requires { volume_bytes geometry.now ≤ (D.outside disk.old).size }
     ensures only { ReadsOnly (D.outside disk.old) (D.outside disk.new) }
-    ensures cause { result ≡ Err OpenFault.Disk → Rose (D.outside disk.old).disk_faults (D.outside disk.new).disk_faults }
+    ensures cause { result ≡ Err OpenFault.Disk
+        → Rose (D.outside disk.old).disk_faults (D.outside disk.new).disk_faults }
     ensures each { IfOk result (AllByRecursion (IsLogRecord geometry.now)) }
     ensures inside { IfOk result (λ found. log_end found < log_size geometry.now) }
-    ensures records { IfOk result (λ found. (image : List ℕ) → (D.outside disk.old).disk ≡ Some image → SaysLog geometry.now found image) }
-    ensures bad { (part : Part) → result ≡ Err (OpenFault.BadVolume part) → (image : List ℕ) → (D.outside disk.old).disk ≡ Some image → SuperOf image geometry.now → FirstBad image part }
+    ensures records { IfOk result (λ found. (image : List ℕ)
+        → (D.outside disk.old).disk ≡ Some image → SaysLog geometry.now found image) }
+    ensures bad { (part : Part) → result ≡ Err (OpenFault.BadVolume part) → (image : List ℕ)
+        → (D.outside disk.old).disk ≡ Some image → SuperOf image geometry.now
+        → FirstBad image part }
 {
     match scan_log(alloc, disk, geometry) {
         Ok(records) => Ok(records),
@@ -166,7 +182,8 @@ fn make_parts(
     ensures fresh { IfOk result AreFresh }
     ensures geometry { IfOk result (λ p. p.geometry ≡ geometry.now) }
     ensures meta { IfOk result (λ p. p.meta ≡ meta) }
-    ensures log { IfOk result (λ p. p.log ≡ record { geometry = geometry.now; end = end; count = count }) }
+    ensures log { IfOk result
+        (λ p. p.log ≡ record { geometry = geometry.now; end = end; count = count }) }
     ensures units { IfOk result (λ p. p.units ≡ reached.units) }
     ensures pages { IfOk result (λ p. p.pages ≡ reached.pages) }
 {

@@ -21,7 +21,8 @@ pub fn overlay_of(
     requires { AllByRecursion (IsLogRecord geometry.now) records.now }
     ensures geometry { IfOk result (λ m. m.geometry ≡ geometry.now) }
     ensures working { IfOk result (λ m. m.working ≡ []) }
-    ensures just { IfOk result (λ m. (page : ℕ) → committed_image m page ≡ logged records.now page) }
+    ensures just { IfOk result (λ m. (page : ℕ)
+        → committed_image m page ≡ logged records.now page) }
 {
     let mut meta = Meta::make(alloc, geometry)?;
     for item in records {
@@ -35,7 +36,9 @@ fn adopt_record(alloc: Global, meta: &mut Meta, item: &LogRecord) -> Result<(), 
     requires { IsLogRecord meta.old.geometry item.now }
     ensures geometry { meta.new.geometry ≡ meta.old.geometry }
     ensures working { meta.new.working ≡ meta.old.working }
-    ensures just { OnOk result ((page : ℕ) → committed_image meta.new page ≡ page_after item.now page (committed_image meta.old page)) }
+    ensures just { OnOk result ((page : ℕ)
+        → committed_image meta.new page ≡ page_after item.now page
+        (committed_image meta.old page)) }
 {
     adopt_images(alloc, meta, item.pages.as_slice())?;
     forget_pages(meta, item.freed.as_slice());
@@ -47,7 +50,9 @@ fn adopt_images(alloc: Global, meta: &mut Meta, entries: &[PageImage]) -> Result
     requires { AllByRecursion (IsImage meta.old.geometry) entries.now }
     ensures geometry { meta.new.geometry ≡ meta.old.geometry }
     ensures working { meta.new.working ≡ meta.old.working }
-    ensures just { OnOk result ((page : ℕ) → committed_image meta.new page ≡ image_over entries.now page (committed_image meta.old page)) }
+    ensures just { OnOk result ((page : ℕ)
+        → committed_image meta.new page ≡ image_over entries.now page
+        (committed_image meta.old page)) }
 {
     let mut at = entries.len();
     while at > 0 {
@@ -63,7 +68,9 @@ fn adopt_images(alloc: Global, meta: &mut Meta, entries: &[PageImage]) -> Result
 fn forget_pages(meta: &mut Meta, pages: &[PageNo])
     ensures geometry { meta.new.geometry ≡ meta.old.geometry }
     ensures working { meta.new.working ≡ meta.old.working }
-    ensures just { (page : ℕ) → committed_image meta.new page ≡ freed_over pages.now page (committed_image meta.old page) }
+    ensures just { (page : ℕ)
+        → committed_image meta.new page ≡ freed_over pages.now page
+        (committed_image meta.old page) }
 {
     for page in pages {
         meta.forget_page(*page);

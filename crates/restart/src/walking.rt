@@ -30,12 +30,17 @@ pub fn walk_volume<D: Disk>(
     requires room { volume_bytes geometry.now ≤ (D.outside disk.old).size }
     requires geometry { meta.now.geometry ≡ geometry.now }
     ensures only { ReadsOnly (D.outside disk.old) (D.outside disk.new) }
-    ensures cause { result ≡ Err OpenFault.Disk → Rose (D.outside disk.old).disk_faults (D.outside disk.new).disk_faults }
+    ensures cause { result ≡ Err OpenFault.Disk
+        → Rose (D.outside disk.old).disk_faults (D.outside disk.new).disk_faults }
     ensures reached { IfOk result (IsReached geometry.now) }
-    ensures holds { IfOk result (λ r. (image : List ℕ) (records : List Logged) → (D.outside disk.old).disk ≡ Some image → ((page : ℕ) → image_at meta.now page ≡ logged records page)
+    ensures holds { IfOk result (λ r. (image : List ℕ) (records : List Logged)
+        → (D.outside disk.old).disk ≡ Some image
+        → ((page : ℕ) → image_at meta.now page ≡ logged records page)
         → FilesReached geometry.now (units_after geometry.now records image) catalog.now r) }
-    ensures bad { (part : Part) (image : List ℕ) (records : List Logged) → result ≡ Err (OpenFault.BadVolume part) → (D.outside disk.old).disk ≡ Some image
-        → ((page : ℕ) → image_at meta.now page ≡ logged records page) → IsFirstBad geometry.now (units_after geometry.now records image) catalog.now part }
+    ensures bad { (part : Part) (image : List ℕ) (records : List Logged)
+        → result ≡ Err (OpenFault.BadVolume part) → (D.outside disk.old).disk ≡ Some image
+        → ((page : ℕ) → image_at meta.now page ≡ logged records page)
+        → IsFirstBad geometry.now (units_after geometry.now records image) catalog.now part }
 {
     let Ok(mut groups) = make_groups(alloc, geometry) else {
         return Err(OpenFault::Memory);

@@ -1,11 +1,3 @@
-pub mod Stopping
-pub mod Lacking
-pub mod ReplyLines
-pub mod Acks
-pub mod Steps
-pub mod Rows
-pub mod Going
-pub mod Taking
 pub mod Sending
-pub mod Passing
+pub mod Talked
 pub mod Whole

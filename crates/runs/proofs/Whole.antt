@@ -1,162 +1,170 @@
--- From the opening of a volume to the end of its run.
-use Rattle.std.proofs.Common.{◌≡◌, ◌⊎◌, ◌∙◌, ℕ, ◌≤◌, Option, Some, None, List, [], ◌∷◌, ◌++◌, refl, sym, ap, subst, inl, inr, ⊎_elim, arith}
+-- From a talk of a script to what its run promises.
+use Rattle.std.proofs.Common.{◌≡◌, ◌⊎◌, ◌∙◌, ◌≤◌, ◌<◌, ◌+◌, ℕ, Option, Some, None, Result, Ok, Err, OnOk, IfErr, List, [], ◌++◌, length, drop, inl, inr, ⊎_elim, refl, sym, ap, subst, arith}
 use Rattle.std.proofs.lemmas.List.{append-nil}
-use Rattle.std.proofs.lemmas.Option.{same_Some}
-use Rattle.disk_model.specs.Outside.{Outside, IsWorld, DiskOnly, Along, Leaves}
-use Rattle.disk_model.specs.Runs.{along_start, along_disk, along_wider, adds_trans, leaves_wider, goes_trans}
+use Rattle.std.specs.Prelude.{◌≢◌}
+use Rattle.disk_model.specs.Outside.{DiskOnly, Outside, Rose}
 use Rattle.table_model.specs.declared.table.Table.{Table}
-use Rattle.table_model.specs.declared.machine.Machine.{Machine}
 use Rattle.table_model.specs.Requests.{Request}
 use Rattle.script_lines.specs.Lines.{Line}
-use Rattle.session_views.specs.declared.Part.{Part}
+use Rattle.script_lines.specs.Reader.{ahead, counted, to_take}
+use Rattle.script_lines.specs.Remains.{IfTold}
+use Rattle.script_lang.specs.Reading.{Reading, Silent, Asks, Fails}
+use Rattle.script_replies.specs.ReplyText.{text_of}
 use Rattle.session_views.specs.View.{View, Meaning}
-use Rattle.session_views.specs.Opening.{Opened, StandsOpening}
-use Rattle.runs.specs.declared.stopped.Stopped.{Stopped}
-use Rattle.runs.specs.Stops.{IsOpeningStop}
-use Rattle.runs.specs.Script.{TakenBy}
-use Rattle.runs.specs.Transcript.{Row, Trail, Committed, IsRunMoment, Opens, Reached, CutShort, MomentSince, Ended, output_of}
-use Rattle.runs.specs.Headline.{RunStarts, SteppedLines, Unopened}
-use Rattle.runs.proofs.Acks.{acked_none}
-use Rattle.runs.proofs.Rows.{trail_wider}
-use Rattle.runs.proofs.Going.{stops_kept, trail_later}
+use Rattle.talks.specs.Headline.{SteppedTalk, TalkHeadline, Unopened}
+use Rattle.talks.specs.Passage.{IsBroken, IsOver}
+use Rattle.talks.specs.Stops.{CausedBy, IsOpeningStop, IsSoundStop, IsWhole}
+use Rattle.talks.specs.Talking.{Exchange, HasTalked, Left}
+use Rattle.talks.specs.Transcript.{IsRunMoment, LastText, exchanges, request_in}
+use Rattle.talks.specs.declared.stopped.Stopped.{Stopped}
+use Rattle.talks.specs.declared.stopped.Stopped.TheVariants.{Output, Disk, Memory, BadVolume, Damaged, ScriptLong, Down}
+use Rattle.talks.specs.declared.stopped.Stopped.TheVariants as stopped
+use Rattle.runs.specs.Headline.{AskedBy, FrontOfReply, Headline, LastReply, MayComplete, SteppedLines}
+use Rattle.runs.specs.Heard.{Heard, LastAsks}
+use Rattle.runs.specs.Script.{Loses, TakenBy, line_if}
+use Rattle.runs.specs.ScriptTalk.{script_talking}
+use Rattle.runs.specs.Talked.{IsBrokenOff, IsRead}
+use Rattle.runs.specs.declared.script.Script.{Script}
+use Rattle.runs.specs.Taking.{told_script}
 
--- one run after the other
-along_trans : {a b c : Outside} (P : List ℕ → List ℕ → Type 0) → Along a b P → Along b c P → Along a c P
-along_trans {a} {b} {c} P one two = record {
-  goes = goes_trans one.goes two.goes;
-  each = λ s d m. ⊎_elim (λ before. one.each s d before) (λ new. new) (two.adds.each a.clock s d one.goes.clock m);
-  adds = adds_trans P one.goes.clock one.adds two.adds;
-  stands = two.stands;
-}
+-- ---- the last line
 
--- The opening of a volume leaves images of its table.
-pub leaves_table : {S : Type 0} {M : Meaning S} {entry mid : Outside} {table : Table} {was : List ℕ} (starts : RunStarts M entry table was)
-    → Leaves entry mid (StandsOpening M entry.images starts.image) → Leaves entry mid (λ d. M.StandsFor d table)
-leaves_table {S} {M} {entry} {mid} {table} {was} starts leaves =
-    leaves_wider (StandsOpening M entry.images starts.image) (λ d. M.StandsFor d table) leaves
-    (λ d here. ⊎_elim (λ early. as_entry d (starts.rests.settled d early))
-    (λ later. ⊎_elim (as_entry d) (λ same. subst (λ (t : Table). M.StandsFor d t) (starts.alone same.table same.was) same.stands) later) here)
-  where
-    as_entry : (d : List ℕ) → d ≡ starts.image → M.StandsFor d table
-    as_entry d same = subst (λ (x : List ℕ). M.StandsFor x table) (sym same) starts.stands
+last_reply : {S : Type 0} (M : Meaning S) (after : View S) (line : Option Line) (last : Option Reading) (front : List ℕ) → LastAsks line last → LastText M text_of after last front → LastReply M after line front
+last_reply M after None None front asks is = is
+last_reply M after None (Some reading) front asks is = absurd asks
+last_reply M after (Some line) None front asks is = absurd asks
+last_reply M after (Some line) (Some reading) front asks is = ⊎_elim (λ none. inl none) (λ begun. inr (record { reading = reading; reads = asks; begun = begun })) is
 
--- The opening of what is no volume leaves what could be left before, and what the disk holds.
-pub leaves_bad : {S : Type 0} (M : Meaning S) {entry mid : Outside} (image : List ℕ) (part : Part) → M.FirstBad image part
-    → Leaves entry mid (StandsOpening M entry.images image) → Leaves entry mid (λ d. entry.images d ⊎ (d ≡ image))
-leaves_bad {S} M {entry} {mid} image part bad leaves =
-    leaves_wider (StandsOpening M entry.images image) (λ d. entry.images d ⊎ (d ≡ image)) leaves
-    (λ d here. ⊎_elim (λ early. inl early) (λ later. ⊎_elim (λ same. inr same) (λ stands. absurd (M.no_table image stands.table part stands.was bad)) later) here)
-
--- ---- the opening of a run
-
-along_open : {S : Type 0} {M : Meaning S} {entry mid : Outside} {table : Table} {was : List ℕ} → IsWorld entry → (starts : RunStarts M entry table was)
-    → DiskOnly entry mid → Leaves entry mid (λ d. M.StandsFor d table) → Along entry mid (λ s d. (s ≡ was) × M.StandsFor d table)
-along_open {S} {M} {entry} {mid} {table} {was} world starts only leaves =
-    along_disk (λ s d. (s ≡ was) × M.StandsFor d table) (λ d. M.StandsFor d table) (along_entry world starts)
-    only leaves (λ s d sent stands. (same_Some s was (sym sent ∙ starts.sent), stands))
-  where
-    along_entry : {S : Type 0} {M : Meaning S} {entry : Outside} {table : Table} {was : List ℕ} → IsWorld entry → RunStarts M entry table was
-        → Along entry entry (λ s d. (s ≡ was) × M.StandsFor d table)
-    along_entry {S} {M} {entry} {table} {was} world starts =
-        along_start entry (λ s d. (s ≡ was) × M.StandsFor d table) world (record {
-          now = λ s d sent here. (same_Some s was (sym sent ∙ starts.sent), subst (λ (x : List ℕ). M.StandsFor x table) (sym (starts.rests.settled d here)) starts.stands);
-        })
-
-pub unopened : {S : Type 0} {M : Meaning S} {entry mid : Outside} {table : Table} {was : List ℕ} → IsWorld entry → (starts : RunStarts M entry table was)
-    → DiskOnly entry mid → Leaves entry mid (λ d. M.StandsFor d table) → (why : Stopped) → IsOpeningStop why → Unopened M table was entry mid (Some why)
-unopened world starts only leaves why opening = record {
-  why = why;
-  is = refl;
-  opening = opening;
-  sent = only.sent ∙ starts.sent;
-  left = only.left;
-  stops = along_open world starts only leaves;
-}
-
-committed_first : {S : Type 0} (m : Machine) (rows : List (Row S)) (t : Table) → t ≡ m.committed → Committed m rows m.committed.last t
-committed_first m [] t same = (refl, same)
-committed_first m (row ∷ rows) t same = inl (refl, same)
-
--- What the opening leaves is the table that was committed when the lines began.
-opening_moment : {S : Type 0} (M : Meaning S) (opening : Machine) (rows : List (Row S)) (last : Machine) (asked : Option Request) (was : List ℕ) (table : Table)
-    → table ≡ opening.committed → (s d : List ℕ) → (s ≡ was) × M.StandsFor d table → IsRunMoment M opening rows last asked was s d
-opening_moment M opening rows last asked was table same s d here = record {
-  number = opening.committed.last;
-  table = table;
-  after = inl (committed_first opening rows table same);
-  stands = here.1;
-  more = [];
-  sent = here.0 ∙ sym (append-nil was);
-  low = omega (arith, acked_none opening.committed.last);
-  high = omega (arith, acked_none opening.committed.last);
-}
-
-stops_open : {S : Type 0} {M : Meaning S} {entry mid now : Outside} {session : S} {table : Table} {was : List ℕ} → IsWorld entry → (starts : RunStarts M entry table was)
-    → DiskOnly entry mid → Leaves entry mid (λ d. M.StandsFor d table) → (opened : Opened M table session mid) (rows : List (Row S)) (last : Machine) (asked : Option Request)
-    → Along mid now (IsRunMoment M opened.view.machine rows last asked was) → Along entry now (IsRunMoment M opened.view.machine rows last asked was)
-stops_open {S} {M} {entry} {mid} {now} {session} {table} {was} world starts only leaves opened rows last asked along =
-    along_trans (IsRunMoment M opened.view.machine rows last asked was)
-    (along_wider (λ s d. (s ≡ was) × M.StandsFor d table) (IsRunMoment M opened.view.machine rows last asked was) (along_open world starts only leaves)
-    (opening_moment M opened.view.machine rows last asked was table (sym (ap (λ (m : Machine). m.committed) opened.starts.is)))) along
-
-trail_open : {S : Type 0} (M : Meaning S) (entry mid now : Outside) (was : List ℕ) (opening after : View S) (rows : List (Row S)) → IsWorld now → entry.clock ≤ mid.clock
-    → Trail M (MomentSince mid now was) [] opening rows after → Trail M (MomentSince entry now was) [] opening rows after
-trail_open M entry mid now was opening after rows world later trail =
-    trail_wider M (MomentSince mid now was) (MomentSince entry now was) [] opening after rows (λ s d m. world.earlier entry.clock mid.clock (was ++ s) d later m) trail
-
-pub opens_of : {S : Type 0} {M : Meaning S} {entry mid : Outside} {session : S} {table : Table} {was : List ℕ} → RunStarts M entry table was → DiskOnly entry mid → (opened : Opened M table session mid)
-    → Opens M mid opened.view was
-opens_of starts only opened = record { shows = opened.shows; sent = only.sent ∙ starts.sent }
+asked_by : (line : Option Line) (last : Option Reading) → LastAsks line last → AskedBy line (request_in last)
+asked_by line None asks = tt
+asked_by line (Some Silent) asks = tt
+asked_by None (Some (Asks r)) asks = asks
+asked_by (Some line) (Some (Asks r)) asks = asks
+asked_by line (Some (Fails why)) asks = tt
 
 -- ---- the whole run
 
-pub stepped_whole : {S : Type 0} {M : Meaning S} {entry mid last now : Outside} {session now_session : S} {table : Table} {was : List ℕ} {lines : List Line} (most : ℕ) → IsWorld entry → IsWorld now
-    → (starts : RunStarts M entry table was) → DiskOnly entry mid → Leaves entry mid (λ d. M.StandsFor d table) → (opened : Opened M table session mid)
-    → (so_far : Reached M opened.view was mid last now_session lines) → DiskOnly last now → Leaves last now (λ d. M.StandsFor d so_far.view.machine.committed)
-    → Ended M so_far.view now → ((bytes : List ℕ) → entry.left ≡ Some bytes → TakenBy None most bytes lines) → SteppedLines M table was most entry now None
-stepped_whole {S} {M} {entry} {mid} {last} {now} {session} {now_session} {table} {was} {lines} most world now_world starts only leaves opened so_far end_only end_leaves ended script = record {
-  opening = opened.view;
-  starts = opened.starts;
-  lines = lines;
-  script = script;
-  rows = so_far.rows;
-  after = so_far.view;
-  done = lines;
-  last = None;
-  taken = sym (append-nil lines);
-  complete = λ whole. refl;
-  heard = so_far.heard;
-  front = [];
-  sent = end_only.sent ∙ so_far.sent ∙ ap (λ (l : List ℕ). Some l) (sym (append-nil (was ++ output_of so_far.rows)));
-  is_front = refl;
-  trail = trail_open M entry mid now was opened.view so_far.view so_far.rows now_world only.goes.clock (trail_later so_far end_only.goes);
-  ended = λ end. ended;
-  asked = None;
-  is_asked = tt;
-  stops = stops_open world starts only leaves opened so_far.rows so_far.view.machine None (stops_kept so_far end_only end_leaves);
-}
+-- What a talk of a script tells of its lines: those that were answered, and the one after them.
+record Lined (most : ℕ) (left : Left) (had : List Exchange) (last : Option Reading) (ending : Option Stopped) : Type 0 where
+  done : List Line
+  next : Option Line
+  asks : LastAsks next last
+  complete : IsWhole ending → next ≡ None
+  script : (bytes : List ℕ) → left ≡ Some bytes → TakenBy ending most bytes (done ++ line_if next)
+  heard : Heard done had
 
-pub stepped_cut : {S : Type 0} {M : Meaning S} {entry mid now : Outside} {session : S} {table : Table} {was : List ℕ} {lines : List Line} (most : ℕ) → IsWorld entry → IsWorld now
-    → (starts : RunStarts M entry table was) → DiskOnly entry mid → Leaves entry mid (λ d. M.StandsFor d table) → (opened : Opened M table session mid) (why : Stopped)
-    → CutShort M opened.view was mid now lines why → ((bytes : List ℕ) → entry.left ≡ Some bytes → TakenBy (Some why) most bytes lines) → SteppedLines M table was most entry now (Some why)
-stepped_cut {S} {M} {entry} {mid} {now} {session} {table} {was} {lines} most world now_world starts only leaves opened why cut script = record {
-  opening = opened.view;
-  starts = opened.starts;
-  lines = lines;
-  script = script;
-  rows = cut.rows;
-  after = cut.view;
-  done = cut.done;
-  last = cut.last;
-  taken = cut.taken;
-  complete = cut.complete;
-  heard = cut.heard;
-  front = cut.front;
-  sent = cut.sent;
-  is_front = cut.is_front;
-  trail = trail_open M entry mid now was opened.view cut.view cut.rows now_world only.goes.clock cut.trail;
-  ended = λ end. absurd (cc);
-  asked = cut.asked;
-  is_asked = cut.is_asked;
-  stops = stops_open world starts only leaves opened cut.rows cut.view.machine cut.asked cut.stops;
-}
+lined : (most : ℕ) (first : Script) (left at : Left) (had : List Exchange) (last : Option Reading) (ending : Option Stopped) → ahead first.reader ≡ [] → counted first.reader ≡ most
+    → HasTalked script_talking first left had last ending at → Lined most left had last ending
+lined most first left at had last None none same talked =
+    let over : IsRead first left had talked.1.0 at = talked.1.1 in record {
+      done = over.lines;
+      next = None;
+      asks = subst (λ (l : Option Reading). LastAsks None l) (sym talked.0) tt;
+      complete = λ whole. refl;
+      script = λ bytes told. subst (λ (l : List Line). TakenBy None most bytes l) (sym (append-nil over.lines))
+          (told_script None (ahead first.reader) left left (counted first.reader) most over.lines none same refl over.script bytes told);
+      heard = over.heard;
+    }
+lined most first left at had last (Some why) none same talked =
+    let broken : IsBrokenOff first left had last why at = talked in record {
+      done = broken.lines;
+      next = broken.next;
+      asks = broken.asks;
+      complete = broken.complete;
+      script = told_script (Some why) (ahead first.reader) left left (counted first.reader) most (broken.lines ++ line_if broken.next) none same refl broken.script;
+      heard = broken.heard;
+    }
+
+stepped_lines : {S : Type 0} {M : Meaning S} {Fresh : View S → Type 0} {first : Script} {table : Table} {was : List ℕ} {entry now : Outside} {ending : Option Stopped} (most : ℕ) → ahead first.reader ≡ [] → counted first.reader ≡ most
+    → SteppedTalk M Fresh script_talking first table was entry now ending → SteppedLines M Fresh table was most entry now ending
+stepped_lines {S} {M} {Fresh} {first} {table} {was} {entry} {now} {ending} most none same talk =
+    let lines : Lined most entry.left (exchanges talk.rows) talk.last ending = lined most first entry.left now.left (exchanges talk.rows) talk.last ending none same talk.talked in record {
+      opening = talk.opening;
+      time = talk.time;
+      opened = talk.opened;
+      lines = lines.done ++ line_if lines.next;
+      script = lines.script;
+      rows = talk.rows;
+      after = talk.after;
+      done = lines.done;
+      last = lines.next;
+      taken = refl;
+      complete = lines.complete;
+      heard = lines.heard;
+      front = talk.front;
+      sent = talk.sent;
+      is_front = last_reply M talk.after lines.next talk.last talk.front lines.asks talk.is_front;
+      uncut = talk.uncut;
+      trail = talk.trail;
+      ended = talk.ended;
+      asked = request_in talk.last;
+      is_asked = asked_by lines.next talk.last lines.asks;
+      stops = talk.stops;
+    }
+
+pub headline_of : {S : Type 0} {M : Meaning S} {Fresh : View S → Type 0} {first : Script} {table : Table} {was : List ℕ} {entry now : Outside} {ending : Option Stopped} (most : ℕ) → ahead first.reader ≡ [] → counted first.reader ≡ most
+    → TalkHeadline M Fresh script_talking first table was entry now ending → Headline M Fresh table was most entry now ending
+headline_of most none same talk = ⊎_elim (λ stepped. inl (stepped_lines most none same stepped)) (λ unopened. inr unopened) talk
+
+-- ---- what shows without the volume
+
+-- of all of a script that a reader has taken nothing of
+told_first : (P : List ℕ → Type 0) (ahead : List ℕ) (left : Left) → ahead ≡ [] → IfTold ahead left P → (script : List ℕ) → left ≡ Some script → P script
+told_first P ahead left none told script is = told.each script (record { behind = script; told = is; whole = sym (ap (λ (l : List ℕ). l ++ script) none) })
+
+pub within_most : {first : Script} {left at : Left} (most : ℕ) → ahead first.reader ≡ [] → counted first.reader ≡ most → IsOver script_talking first left at
+    → (script : List ℕ) → left ≡ Some script → length script ≤ most
+within_most {first} {left} {at} most none same over script told =
+    let read : IsRead first left over.0 over.1 at = over.2 in
+    (told_script None (ahead first.reader) left left (counted first.reader) most read.lines none same refl read.script script told).1
+
+pub read_all : {first : Script} {left at : Left} → ahead first.reader ≡ [] → IsOver script_talking first left at → (script : List ℕ) → left ≡ Some script → at ≡ Some []
+read_all {first} {left} {at} none over script told =
+    let read : IsRead first left over.0 over.1 at = over.2 in
+    told_first (λ bytes. at ≡ Some []) (ahead first.reader) left none read.end script told
+
+-- So a stop shows, whether lines were stepped or not.
+abbrev pub HasBroken : Script → Outside → Outside → Stopped → Type 0
+HasBroken first before after why = IsBroken script_talking first before.left why after.left ⊎ (IsOpeningStop why × DiskOnly before after)
+
+-- A stop for too long a script comes of a long one.
+pub long_script : {before after : Outside} {first : Script} (most : ℕ) (why : Stopped) → ahead first.reader ≡ [] → counted first.reader ≡ most → HasBroken first before after why → why ≡ ScriptLong
+    → (script : List ℕ) → before.left ≡ Some script → most < length script
+long_script {before} {after} {first} most why none same broken long script told = ⊎_elim stepped (λ opening. absurd (subst IsOpeningStop long opening.0)) broken
+  where
+    stepped : IsBroken script_talking first before.left why after.left → most < length script
+    stepped talk =
+        let off : IsBrokenOff first before.left talk.0 talk.1 why after.left = talk.2 in
+        let lines : List Line = off.lines ++ line_if off.next in
+        (subst (λ (w : Stopped). TakenBy (Some w) most script lines) long (told_script (Some why) (ahead first.reader) before.left before.left (counted first.reader) most lines none same refl off.script script told)).1
+
+-- The source loses no more than the reader may take.
+pub draws_of : {T : Type 0} (before after : Outside) (first : Script) (most : ℕ) (r : Result T Stopped) → to_take first.reader ≡ most + 1
+    → OnOk r (IsOver script_talking first before.left after.left) → IfErr r (HasBroken first before after) → r ≢ Err stopped.Script
+    → (script : List ℕ) → before.left ≡ Some script → (n : ℕ) × (n ≤ most + 1) × (after.left ≡ Some (drop n script))
+draws_of before after first most (Ok x) may over broken differs script told =
+    let read : IsRead first before.left over.0 over.1 after.left = over.2 in
+    let lost = read.drawn script told in (lost.0, omega (arith, lost.1, may), lost.2)
+draws_of before after first most (Err why) may over broken differs script told = ⊎_elim stepped (λ opening. (0, omega arith, opening.1.left ∙ told)) broken
+  where
+    stepped : IsBroken script_talking first before.left why after.left → (n : ℕ) × (n ≤ most + 1) × (after.left ≡ Some (drop n script))
+    stepped talk =
+        let off : IsBrokenOff first before.left talk.0 talk.1 why after.left = talk.2 in
+        let lost = off.drawn (λ same. differs (ap (λ (w : Stopped). Err w) same)) script told in (lost.0, omega (arith, lost.1, may), lost.2)
+
+-- ---- a run that isn't stopped from outside
+
+-- Only want of memory is left.
+memory_left : (why : Stopped) (before after : Outside) → IsSoundStop why → CausedBy why before after → (why ≡ ScriptLong → ⊥) → (Rose before.read_faults after.read_faults → ⊥)
+    → (Rose before.write_faults after.write_faults → ⊥) → (Rose before.disk_faults after.disk_faults → ⊥) → why ≡ Memory
+memory_left stopped.Script before after sound caused short read write disk = absurd (read caused)
+memory_left Output before after sound caused short read write disk = absurd (write caused)
+memory_left Disk before after sound caused short read write disk = absurd (disk caused)
+memory_left Memory before after sound caused short read write disk = refl
+memory_left (BadVolume part) before after sound caused short read write disk = absurd sound
+memory_left (Damaged page want got) before after sound caused short read write disk = absurd sound
+memory_left stopped.ScriptLong before after sound caused short read write disk = absurd (short refl)
+memory_left Down before after sound caused short read write disk = absurd sound
+
+pub memory_if : {S : Type 0} {M : Meaning S} {before after : Outside} {most : ℕ} (why : Stopped) → MayComplete M before after most → IsSoundStop why → CausedBy why before after → (why ≡ ScriptLong → ⊥) → why ≡ Memory
+memory_if {S} {M} {before} {after} why may sound caused short = memory_left why before after sound caused short may.no_read_fault may.no_output_fault may.no_disk_fault

@@ -1,5 +1,5 @@
 -- The commits whose reply was written whole.
-use Rattle.std.specs.Prelude.{ℕ, List, [], ◌∷◌, ◌&&◌, ◌==◌, bytes_eq, codes, decimal, filter_map, Bool, if◌then◌else◌, max, Option, Some, None}
+use Rattle.std.specs.Prelude.{◌≡◌, ◌⊎◌, ◌++◌, ℕ, List, [], ◌∷◌, ◌&&◌, ◌==◌, bytes_eq, codes, decimal, filter_map, Bool, if◌then◌else◌, max, Option, Some, None}
 use Rattle.std.specs.List.{slice_split}
 use Rattle.table_model.specs.Words.{number_of}
 use Rattle.script_lines.specs.Lines.{whole_lines}
@@ -28,3 +28,7 @@ greatest_or n (c ∷ d ∷ cs) = max c (greatest_or n (d ∷ cs))
 -- the greatest of them, or the number that the run began with
 abbrev pub acked : ℕ → List ℕ → ℕ
 acked opening sent = greatest_or opening (commits_in sent)
+
+-- nothing, or whole lines
+abbrev pub EndsLine : List ℕ → Type 0
+EndsLine text = (text ≡ []) ⊎ ((front : List ℕ) × (text ≡ front ++ 10 ∷ []))

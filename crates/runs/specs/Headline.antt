@@ -1,30 +1,45 @@
--- What a whole run promises, from the opening of the volume to the last line that was taken.
+-- What a whole run of a script promises, from the opening of the volume to the last line that was taken.
 use Rattle.std.specs.Prelude.{◌≡◌, ◌⊎◌, ◌≤◌, ℕ, Option, Some, None, List, [], ◌++◌, length}
-use Rattle.disk_model.specs.Outside.{Outside, Along, RestsOn, Rose}
+use Rattle.disk_model.specs.Outside.{Outside, Along, Rose}
 use Rattle.table_model.specs.declared.table.Table.{Table}
 use Rattle.table_model.specs.Requests.{Request}
 use Rattle.script_lines.specs.Lines.{Line}
+use Rattle.script_lang.specs.Reading.{Reading, Asks, Reads}
+use Rattle.script_replies.specs.ReplyText.{text_of}
 use Rattle.session_views.specs.View.{View, Meaning}
-use Rattle.session_views.specs.Opening.{IsStart}
-use Rattle.runs.specs.declared.stopped.Stopped.{Stopped}
-use Rattle.runs.specs.Stops.{IsWhole, IsOpeningStop}
-use Rattle.runs.specs.Script.{TakenBy}
-use Rattle.runs.specs.Transcript.{Row, Trail, Heard, IsRunMoment, LastReply, AskedBy, MomentSince, Ended, output_of, line_if}
+use Rattle.talks.specs.Headline.{HoldsTable, OpenedAt, Unopened}
+use Rattle.talks.specs.Stops.{IsWhole}
+use Rattle.talks.specs.Transcript.{Row, Trail, IsRunMoment, FrontOfText, Ended, exchanges, output_of}
+use Rattle.talks.specs.declared.stopped.Stopped.{Stopped}
+use Rattle.talks.specs.declared.stopped.Stopped.TheVariants.{Output}
+use Rattle.runs.specs.Heard.{Heard}
+use Rattle.runs.specs.Script.{TakenBy, line_if}
+use Rattle.runs.specs.ScriptTalk.{script_acking}
 
--- The premises: an honest disk holds an image that stands for this table and for no other, nothing is pending, and the sink tells what it was sent.
-pub record RunStarts {S : Type 0} (M : Meaning S) (entry : Outside) (table : Table) (was : List ℕ) : Type 0 where
-  pub image : List ℕ
-  pub rests : RestsOn entry image
-  pub stands : M.StandsFor image table
-  pub alone : (other : Table) → M.StandsFor image other → other ≡ table
-  pub sent : entry.sent ≡ Some was
+-- A front of the text of the reply to a line, and not all of it: the line's step began.
+pub record FrontOfReply {S : Type 0} (M : Meaning S) (before : View S) (line : Line) (front : List ℕ) : Type 0 where
+  pub reading : Reading
+  pub reads : Reads line reading
+  pub begun : FrontOfText M text_of before reading front
+
+-- what the run sent of the reply to the last line
+abbrev pub LastReply : {S : Type 0} → Meaning S → View S → Option Line → List ℕ → Type 0
+LastReply M before None front = front ≡ []
+LastReply M before (Some line) front = (front ≡ []) ⊎ FrontOfReply M before line front
+
+abbrev pub AskedBy : Option Line → Option Request → Type 0
+AskedBy line None = Unit {0}
+AskedBy None (Some r) = ⊥
+AskedBy (Some line) (Some r) = Reads line (Asks r)
 
 -- The volume was opened and lines were stepped, to the end of the script (None) or to a stop.
--- The first sentence, what was written: script, heard, sent, is_front. The second, the views between: trail, ended. The third, what a stop leaves:
--- stops.
-pub record SteppedLines {S : Type 0} (M : Meaning S) (table : Table) (was : List ℕ) (most : ℕ) (entry now : Outside) (ending : Option Stopped) : Type 0 where
+-- The first sentence, what was written: script, heard, sent, is_front, uncut. The second, the views between: opened, trail, ended. The third, what a
+-- stop leaves: stops.
+pub record SteppedLines {S : Type 0} (M : Meaning S) (Fresh : View S → Type 0) (table : Table) (was : List ℕ) (most : ℕ) (entry now : Outside) (ending : Option Stopped) : Type 0 where
+  -- the volume as it was opened, at a time before anything was sent
   pub opening : View S
-  pub starts : IsStart opening.machine table
+  pub time : ℕ
+  pub opened : OpenedAt M Fresh table was entry now time opening
   -- the lines that were taken, and what they are of the script, where the source tells it
   pub lines : List Line
   pub script : (bytes : List ℕ) → entry.left ≡ Some bytes → TakenBy ending most bytes lines
@@ -35,35 +50,28 @@ pub record SteppedLines {S : Type 0} (M : Meaning S) (table : Table) (was : List
   pub last : Option Line
   pub taken : lines ≡ done ++ line_if last
   pub complete : IsWhole ending → last ≡ None
-  pub heard : Heard done rows
+  pub heard : Heard done (exchanges rows)
+  -- what was sent behind them: nothing, but where the output failed
   pub front : List ℕ
   pub sent : now.sent ≡ Some (was ++ output_of rows ++ front)
   pub is_front : LastReply M after last front
-  pub trail : Trail M (MomentSince entry now was) [] opening rows after
+  pub uncut : (ending ≡ Some Output → ⊥) → front ≡ []
+  pub trail : Trail M now was time [] opening rows after
   pub ended : ending ≡ None → Ended M after now
   -- the request of the last line, where its step began
   pub asked : Option Request
   pub is_asked : AskedBy last asked
-  pub stops : Along entry now (IsRunMoment M opening.machine rows after.machine asked was)
-
--- The volume wasn't opened: nothing was sent and no byte of the script taken, and each image stands for the table.
-pub record Unopened {S : Type 0} (M : Meaning S) (table : Table) (was : List ℕ) (entry now : Outside) (ending : Option Stopped) : Type 0 where
-  pub why : Stopped
-  pub is : ending ≡ Some why
-  pub opening : IsOpeningStop why
-  pub sent : now.sent ≡ Some was
-  pub left : now.left ≡ entry.left
-  pub stops : Along entry now (λ s d. (s ≡ was) × M.StandsFor d table)
+  pub stops : Along entry now (IsRunMoment M script_acking opening.machine rows after.machine asked was)
 
 -- what a run promises, given how it ends
-abbrev pub Headline : {S : Type 0} → Meaning S → Table → List ℕ → ℕ → Outside → Outside → Option Stopped → Type 0
-Headline M table was most entry now ending = SteppedLines M table was most entry now ending ⊎ Unopened M table was entry now ending
+abbrev pub Headline : {S : Type 0} → Meaning S → (View S → Type 0) → Table → List ℕ → ℕ → Outside → Outside → Option Stopped → Type 0
+Headline M Fresh table was most entry now ending = SteppedLines M Fresh table was most entry now ending ⊎ Unopened M table was entry now ending
 
 -- What a run needs to reach the end of its script: a volume, a script that is within its bound, and no fault of the outside.
 pub record MayComplete {S : Type 0} (M : Meaning S) (before after : Outside) (most : ℕ) : Type 0 where
   pub table : Table
   pub was : List ℕ
-  pub starts : RunStarts M before table was
+  pub on : HoldsTable M before table was
   pub script : List ℕ
   pub left : before.left ≡ Some script
   pub within : length script ≤ most

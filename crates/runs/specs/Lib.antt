@@ -1,7 +1,11 @@
-pub mod Stops
 pub mod Acknowledged
 pub mod Script
-pub mod Sending
-pub mod Transcript
-pub mod Passage
+pub mod Heard
+pub mod Talked
+pub mod Lacking
+pub mod ReplyLines
+pub mod Acks
+pub mod Taking
+pub mod TalkLaws
+pub mod ScriptTalk
 pub mod Headline

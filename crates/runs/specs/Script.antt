@@ -1,8 +1,11 @@
 -- The lines that a run takes of its script.
-use Rattle.std.specs.Prelude.{◌≡◌, ◌≢◌, ◌≤◌, ◌<◌, ◌+◌, ℕ, Option, Some, None, List, [], ◌++◌, length}
+use Rattle.std.specs.Prelude.{◌≡◌, ◌≢◌, ◌≤◌, ◌<◌, ◌+◌, ℕ, Option, Some, None, List, [], ◌∷◌, ◌++◌, length, drop}
 use Rattle.script_lines.specs.Lines.{Line, lines_of, lines_within}
-use Rattle.runs.specs.declared.stopped.Stopped.{Stopped}
-use Rattle.runs.specs.declared.stopped.Stopped.TheVariants.{Script, Output, Disk, Memory, BadVolume, Damaged, ScriptLong, Down}
+use Rattle.script_lines.specs.Remains.{Moves}
+use Rattle.script_lines.specs.Taking.{Takes}
+use Rattle.talks.specs.Talking.{Left}
+use Rattle.talks.specs.declared.stopped.Stopped.{Stopped}
+use Rattle.talks.specs.declared.stopped.Stopped.TheVariants.{Script, Output, Disk, Memory, BadVolume, Damaged, ScriptLong, Down}
 
 -- These lines are the first ones of those.
 abbrev pub IsFrontOf : List Line → List Line → Type 0
@@ -30,3 +33,20 @@ TakenBy (Some Memory) most script lines = IsFrontOf lines (lines_of script)
 TakenBy (Some (BadVolume part)) most script lines = IsFrontOf lines (lines_of script)
 TakenBy (Some (Damaged page want got)) most script lines = IsFrontOf lines (lines_of script)
 TakenBy (Some Down) most script lines = IsFrontOf lines (lines_of script)
+
+-- the lines that were taken, with what stands in the reader and in the source
+abbrev pub HasMoved : List ℕ → Left → ℕ → List Line → List ℕ → Left → ℕ → Type 0
+HasMoved ahead left most taken after now still = Moves ahead left after now (λ script rest. HasTaken most script taken still rest)
+
+-- the next line, or that there is none
+abbrev pub TakesNext : List ℕ → Left → ℕ → Option Line → List ℕ → Left → ℕ → Type 0
+TakesNext ahead left most line after now still = Moves ahead left after now (λ script rest. Takes most script line still rest)
+
+-- The source lost a front of at most so many bytes.
+abbrev pub Loses : ℕ → Left → Left → Type 0
+Loses may left now = (was : List ℕ) → left ≡ Some was → (n : ℕ) × (n ≤ may) × (now ≡ Some (drop n was))
+
+-- the line after those that were answered, where there is one
+abbrev pub line_if : Option Line → List Line
+line_if None = []
+line_if (Some line) = line ∷ []

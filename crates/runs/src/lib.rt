@@ -1,10 +1,8 @@
-//! A run: a volume is opened, and a session steps on the lines of a script, whatever the session and the volume are.
+//! A run of a script: a volume is opened, and a session steps on the lines that the source gives, whatever the session and the volume are.
 #![tactic(auto)]
 
-mod ending;
-mod lines;
 mod run;
-mod stopped;
+mod script;
 
 pub use run::run_volume;
-pub use stopped::Stopped;
+pub use talks::Stopped;

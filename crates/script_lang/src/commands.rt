@@ -14,7 +14,8 @@ use crate::words::Words;
 use table_model::{Command, DATA_MOST, FRAMES_MOST, Refusal, Subject};
 
 fn one(mut words: Words<'_>) -> Option<&[u8]>
-    ensures { MatchOption result (one_of (words_of words.entry.0.now) ≡ None) (λ a. one_of (words_of words.entry.0.now) ≡ Some a.now) }
+    ensures { MatchOption result (one_of (words_of words.entry.0.now)
+        ≡ None) (λ a. one_of (words_of words.entry.0.now) ≡ Some a.now) }
 {
     let a = words.next()?;
     match words.next() {
@@ -24,7 +25,8 @@ fn one(mut words: Words<'_>) -> Option<&[u8]>
 }
 
 fn two(mut words: Words<'_>) -> Option<(&[u8], &[u8])>
-    ensures { MatchOption result (two_of (words_of words.entry.0.now) ≡ None) (λ p. two_of (words_of words.entry.0.now) ≡ Some (p.0.now, p.1.now)) }
+    ensures { MatchOption result (two_of (words_of words.entry.0.now)
+        ≡ None) (λ p. two_of (words_of words.entry.0.now) ≡ Some (p.0.now, p.1.now)) }
 {
     let a = words.next()?;
     let b = words.next()?;
@@ -35,7 +37,8 @@ fn two(mut words: Words<'_>) -> Option<(&[u8], &[u8])>
 }
 
 fn three(mut words: Words<'_>) -> Option<(&[u8], &[u8], &[u8])>
-    ensures { MatchOption result (three_of (words_of words.entry.0.now) ≡ None) (λ p. three_of (words_of words.entry.0.now) ≡ Some (p.0.now, p.1.now, p.2.now)) }
+    ensures { MatchOption result (three_of (words_of words.entry.0.now)
+        ≡ None) (λ p. three_of (words_of words.entry.0.now) ≡ Some (p.0.now, p.1.now, p.2.now)) }
 {
     let a = words.next()?;
     let b = words.next()?;
@@ -47,7 +50,9 @@ fn three(mut words: Words<'_>) -> Option<(&[u8], &[u8], &[u8])>
 }
 
 fn five(mut words: Words<'_>) -> Option<(&[u8], &[u8], &[u8], &[u8], &[u8])>
-    ensures { MatchOption result (five_of (words_of words.entry.0.now) ≡ None) (λ p. five_of (words_of words.entry.0.now) ≡ Some (p.0.now, p.1.now, p.2.now, p.3.now, p.4.now)) }
+    ensures { MatchOption result (five_of (words_of words.entry.0.now)
+        ≡ None) (λ p. five_of (words_of words.entry.0.now)
+        ≡ Some (p.0.now, p.1.now, p.2.now, p.3.now, p.4.now)) }
 {
     let a = words.next()?;
     let b = words.next()?;
@@ -61,7 +66,9 @@ fn five(mut words: Words<'_>) -> Option<(&[u8], &[u8], &[u8], &[u8], &[u8])>
 }
 
 fn alone<'a>(mut words: Words<'_>, command: Command<'a>) -> Option<Command<'a>>
-    ensures { MatchOption result (alone (words_of words.entry.0.now) (request_of command.entry) ≡ None) (λ c. alone (words_of words.entry.0.now) (request_of command.entry) ≡ Some (request_of c)) }
+    ensures { MatchOption result (alone (words_of words.entry.0.now) (request_of command.entry)
+        ≡ None) (λ c. alone (words_of words.entry.0.now) (request_of command.entry)
+        ≡ Some (request_of c)) }
 {
     match words.next() {
         None => Some(command),
@@ -70,20 +77,23 @@ fn alone<'a>(mut words: Words<'_>, command: Command<'a>) -> Option<Command<'a>>
 }
 
 fn only_name(words: Words<'_>) -> Option<&[u8]>
-    ensures { MatchOption result (only_name (words_of words.entry.0.now) ≡ None) (λ n. only_name (words_of words.entry.0.now) ≡ Some n.now) }
+    ensures { MatchOption result (only_name (words_of words.entry.0.now)
+        ≡ None) (λ n. only_name (words_of words.entry.0.now) ≡ Some n.now) }
 {
     name(one(words)?)
 }
 
 fn only_subject(words: Words<'_>) -> Option<Subject<'_>>
-    ensures { MatchOption result (only_reference (words_of words.entry.0.now) ≡ None) (λ x. only_reference (words_of words.entry.0.now) ≡ Some (reference_of x)) }
+    ensures { MatchOption result (only_reference (words_of words.entry.0.now)
+        ≡ None) (λ x. only_reference (words_of words.entry.0.now) ≡ Some (reference_of x)) }
 {
     subject(one(words)?)
 }
 
 /// This word and no other.
 fn key<'a>(word: &'a [u8], text: &str) -> Option<&'a [u8]>
-    ensures { MatchOption result (key_in text.now word.now ≡ None) (λ w. key_in text.now word.now ≡ Some w.now) }
+    ensures { MatchOption result (key_in text.now word.now ≡ None) (λ w. key_in text.now word.now
+        ≡ Some w.now) }
 {
     if is_word(word, text) {
         Some(word)
@@ -94,7 +104,8 @@ fn key<'a>(word: &'a [u8], text: &str) -> Option<&'a [u8]>
 
 /// `F as W`
 fn name_as(words: Words<'_>) -> Option<(&[u8], &[u8])>
-    ensures { MatchOption result (name_as (words_of words.entry.0.now) ≡ None) (λ p. name_as (words_of words.entry.0.now) ≡ Some (p.0.now, p.1.now)) }
+    ensures { MatchOption result (name_as (words_of words.entry.0.now)
+        ≡ None) (λ p. name_as (words_of words.entry.0.now) ≡ Some (p.0.now, p.1.now)) }
 {
     let (a, b, c) = three(words)?;
     let name = name(a)?;
@@ -105,7 +116,9 @@ fn name_as(words: Words<'_>) -> Option<(&[u8], &[u8])>
 
 /// `X as W`
 fn subject_as(words: Words<'_>) -> Option<(Subject<'_>, &[u8])>
-    ensures { MatchOption result (reference_as (words_of words.entry.0.now) ≡ None) (λ p. reference_as (words_of words.entry.0.now) ≡ Some (reference_of p.0, p.1.now)) }
+    ensures { MatchOption result (reference_as (words_of words.entry.0.now)
+        ≡ None) (λ p. reference_as (words_of words.entry.0.now)
+        ≡ Some (reference_of p.0, p.1.now)) }
 {
     let (a, b, c) = three(words)?;
     let x = subject(a)?;
@@ -116,7 +129,8 @@ fn subject_as(words: Words<'_>) -> Option<(Subject<'_>, &[u8])>
 
 /// `X POS LEN`
 fn range(words: Words<'_>) -> Option<(Subject<'_>, u64, u64)>
-    ensures { MatchOption result (range (words_of words.entry.0.now) ≡ None) (λ p. range (words_of words.entry.0.now) ≡ Some (reference_of p.0, p.1, p.2)) }
+    ensures { MatchOption result (range (words_of words.entry.0.now)
+        ≡ None) (λ p. range (words_of words.entry.0.now) ≡ Some (reference_of p.0, p.1, p.2)) }
 {
     let (a, b, c) = three(words)?;
     let x = subject(a)?;
@@ -127,7 +141,9 @@ fn range(words: Words<'_>) -> Option<(Subject<'_>, u64, u64)>
 
 /// `X POS DATA`, with the number of bytes that the data gives.
 fn edit(words: Words<'_>) -> Option<(Subject<'_>, u64, &[u8], u64)>
-    ensures { MatchOption result (edit (words_of words.entry.0.now) ≡ None) (λ p. edit (words_of words.entry.0.now) ≡ Some (reference_of p.0, p.1, p.2.now, p.3)) }
+    ensures { MatchOption result (edit (words_of words.entry.0.now)
+        ≡ None) (λ p. edit (words_of words.entry.0.now)
+        ≡ Some (reference_of p.0, p.1, p.2.now, p.3)) }
 {
     let (a, b, given) = three(words)?;
     let x = subject(a)?;
@@ -138,7 +154,9 @@ fn edit(words: Words<'_>) -> Option<(Subject<'_>, u64, &[u8], u64)>
 
 /// `X DATA`
 fn addition(words: Words<'_>) -> Option<(Subject<'_>, &[u8], u64)>
-    ensures { MatchOption result (addition (words_of words.entry.0.now) ≡ None) (λ p. addition (words_of words.entry.0.now) ≡ Some (reference_of p.0, p.1.now, p.2)) }
+    ensures { MatchOption result (addition (words_of words.entry.0.now)
+        ≡ None) (λ p. addition (words_of words.entry.0.now)
+        ≡ Some (reference_of p.0, p.1.now, p.2)) }
 {
     let (a, given) = two(words)?;
     let x = subject(a)?;
@@ -148,7 +166,8 @@ fn addition(words: Words<'_>) -> Option<(Subject<'_>, &[u8], u64)>
 
 /// `S LEN`
 fn advance(words: Words<'_>) -> Option<(&[u8], u64)>
-    ensures { MatchOption result (advance (words_of words.entry.0.now) ≡ None) (λ p. advance (words_of words.entry.0.now) ≡ Some (p.0.now, p.1)) }
+    ensures { MatchOption result (advance (words_of words.entry.0.now)
+        ≡ None) (λ p. advance (words_of words.entry.0.now) ≡ Some (p.0.now, p.1)) }
 {
     let (a, b) = two(words)?;
     let name = name(a)?;
@@ -181,7 +200,8 @@ fn is_mru(word: &[u8]) -> Option<bool>
 }
 
 fn group(words: Words<'_>) -> Option<Command<'_>>
-    ensures { MatchOption result (group (words_of words.entry.0.now) ≡ None) (λ c. group (words_of words.entry.0.now) ≡ Some (request_of c)) }
+    ensures { MatchOption result (group (words_of words.entry.0.now)
+        ≡ None) (λ c. group (words_of words.entry.0.now) ≡ Some (request_of c)) }
 {
     let (a, b, c) = three(words)?;
     let name = name(a)?;
@@ -192,7 +212,8 @@ fn group(words: Words<'_>) -> Option<Command<'_>>
 
 /// `X as S`
 fn short_scan(words: Words<'_>) -> Option<(Subject<'_>, &[u8])>
-    ensures { MatchOption result (short_scan (words_of words.entry.0.now) ≡ None) (λ p. short_scan (words_of words.entry.0.now) ≡ Some (reference_of p.0, p.1.now)) }
+    ensures { MatchOption result (short_scan (words_of words.entry.0.now)
+        ≡ None) (λ p. short_scan (words_of words.entry.0.now) ≡ Some (reference_of p.0, p.1.now)) }
 {
     let (a, b, c) = three(words)?;
     let x = subject(a)?;
@@ -203,7 +224,9 @@ fn short_scan(words: Words<'_>) -> Option<(Subject<'_>, &[u8])>
 
 /// `X as S in G`
 fn long_scan(words: Words<'_>) -> Option<(Subject<'_>, &[u8], &[u8])>
-    ensures { MatchOption result (long_scan (words_of words.entry.0.now) ≡ None) (λ p. long_scan (words_of words.entry.0.now) ≡ Some (reference_of p.0, p.1.now, p.2.now)) }
+    ensures { MatchOption result (long_scan (words_of words.entry.0.now)
+        ≡ None) (λ p. long_scan (words_of words.entry.0.now)
+        ≡ Some (reference_of p.0, p.1.now, p.2.now)) }
 {
     let (a, b, c, d, e) = five(words)?;
     let x = subject(a)?;
@@ -215,7 +238,8 @@ fn long_scan(words: Words<'_>) -> Option<(Subject<'_>, &[u8], &[u8])>
 }
 
 fn scan(words: Words<'_>) -> Option<Command<'_>>
-    ensures { MatchOption result (scan (words_of words.entry.0.now) ≡ None) (λ c. scan (words_of words.entry.0.now) ≡ Some (request_of c)) }
+    ensures { MatchOption result (scan (words_of words.entry.0.now)
+        ≡ None) (λ c. scan (words_of words.entry.0.now) ≡ Some (request_of c)) }
 {
     if let Some((x, name)) = short_scan(words) {
         return Some(Command::Scan {
@@ -234,7 +258,8 @@ fn scan(words: Words<'_>) -> Option<Command<'_>>
 
 /// A command that neither gives nor asks for a number of bytes that is limited.
 fn plain(verb: Verb, words: Words<'_>) -> Option<Command<'_>>
-    ensures { MatchOption result (plain verb (words_of words.entry.0.now) ≡ None) (λ c. plain verb (words_of words.entry.0.now) ≡ Some (request_of c)) }
+    ensures { MatchOption result (plain verb (words_of words.entry.0.now)
+        ≡ None) (λ c. plain verb (words_of words.entry.0.now) ≡ Some (request_of c)) }
 {
     match verb {
         Verb::Begin => alone(words, Command::Begin),
@@ -304,7 +329,9 @@ fn plain(verb: Verb, words: Words<'_>) -> Option<Command<'_>>
 
 /// The count, where one line may give or ask for so many bytes.
 fn limited(count: u64) -> Result<u32, Refusal>
-    ensures { MatchResult result (λ n. (n ≡ count) × (nat_le count data_most ≡ true)) (λ e. (e ≡ Refusal.DataLimit) × (nat_le count data_most ≡ false)) }
+    ensures { MatchResult result (λ n. (n ≡ count)
+        × (nat_le count data_most ≡ true)) (λ e. (e ≡ Refusal.DataLimit)
+        × (nat_le count data_most ≡ false)) }
 {
     if count <= u64::from(DATA_MOST) {
         Ok(count as u32)
@@ -315,7 +342,8 @@ fn limited(count: u64) -> Result<u32, Refusal>
 
 /// What the words after the first one say.
 pub(crate) fn command(verb: Verb, words: Words<'_>) -> Result<Command<'_>, Refusal>
-    ensures { MatchResult result (λ c. said verb (words_of words.entry.0.now) ≡ Asks (request_of c)) (λ e. said verb (words_of words.entry.0.now) ≡ Fails e) }
+    ensures { MatchResult result (λ c. said verb (words_of words.entry.0.now)
+        ≡ Asks (request_of c)) (λ e. said verb (words_of words.entry.0.now) ≡ Fails e) }
 {
     match verb {
         Verb::Read => {

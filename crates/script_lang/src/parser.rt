@@ -30,8 +30,10 @@ fn begins_comment(word: &[u8]) -> bool
 /// parts of the line. It takes no memory.
 pub fn parse_any(line: &[u8]) -> Result<Option<Command<'_>>, Refusal>
     ensures says { ReadsAny (Short line.now) (reading_of result) }
-    ensures one { (reading : Reading) → ReadsAny (Short line.now) reading → reading ≡ reading_of result }
-    ensures form { IfOk result (λ told. IfSome told (λ command. IsTrue (is_request (request_of command)))) }
+    ensures one { (reading : Reading) → ReadsAny (Short line.now) reading
+        → reading ≡ reading_of result }
+    ensures form { IfOk result
+        (λ told. IfSome told (λ command. IsTrue (is_request (request_of command)))) }
     ensures refusals { IfErr result (λ e. (e ≡ Refusal.Syntax) ⊎ (e ≡ Refusal.DataLimit)) }
 {
     let mut words = Words::of(line);
@@ -52,8 +54,10 @@ pub fn parse_any(line: &[u8]) -> Result<Option<Command<'_>>, Refusal>
 
 /// Whether the first word is that of a command that isn't built yet.
 fn begins_unbuilt(line: &[u8]) -> bool
-    ensures unbuilt { result ≡ true → (v : Verb) × Begins (words_of line.now) v × (is_built (bare v) ≡ false) }
-    ensures built { result ≡ false → (v : Verb) → Begins (words_of line.now) v → is_built (bare v) ≡ true }
+    ensures unbuilt { result ≡ true → (v : Verb) × Begins (words_of line.now) v
+        × (is_built (bare v) ≡ false) }
+    ensures built { result ≡ false → (v : Verb) → Begins (words_of line.now) v
+        → is_built (bare v) ≡ true }
 {
     let mut words = Words::of(line);
     let Some(first) = words.next() else {
@@ -71,8 +75,10 @@ fn begins_unbuilt(line: &[u8]) -> bool
 /// Each line has exactly one reading, and this is it.
 pub fn parse(line: &[u8]) -> Result<Option<Command<'_>>, Refusal>
     ensures says { Reads (Short line.now) (reading_of result) }
-    ensures one { (reading : Reading) → Reads (Short line.now) reading → reading ≡ reading_of result }
-    ensures form { IfOk result (λ told. IfSome told (λ command. IsTrue (is_request (request_of command)))) }
+    ensures one { (reading : Reading) → Reads (Short line.now) reading
+        → reading ≡ reading_of result }
+    ensures form { IfOk result
+        (λ told. IfSome told (λ command. IsTrue (is_request (request_of command)))) }
     ensures refusals { IfErr result (λ e. (e ≡ Refusal.Syntax) ⊎ (e ≡ Refusal.DataLimit)) }
 {
     if begins_unbuilt(line) {

@@ -43,7 +43,8 @@ pub enum Verb {
 
 /// The command that a word begins.
 pub(crate) fn verb_of(word: &[u8]) -> Option<Verb>
-    ensures { MatchOption result ((v : Verb) → bytes_eq word.now (word_of v) ≡ false) (λ v. bytes_eq word.now (word_of v) ≡ true) }
+    ensures { MatchOption result ((v : Verb) → bytes_eq word.now (word_of v) ≡ false)
+        (λ v. bytes_eq word.now (word_of v) ≡ true) }
 {
     if is_word(word, "begin") {
         Some(Verb::Begin)

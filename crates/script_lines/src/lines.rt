@@ -41,15 +41,24 @@ impl Lines {
     /// Takes the next line, which `line` then shows. After an `Err` it shows none, and nothing more is to be taken.
     pub fn advance<S: Source>(&mut self, source: &mut S) -> Result<(), LineFault>
         ensures only { SourceOnly (S.outside source.old) (S.outside source.new) }
-        ensures read { result ≡ Err LineFault.Read → Rose (S.outside source.old).read_faults (S.outside source.new).read_faults }
-        ensures too_much { result ≡ Err LineFault.TooMuch → IfTold (ahead self.old) (S.outside source.old).left (IsCut (counted self.old)) }
-        ensures not_cut { OnOk result (IfTold (ahead self.old) (S.outside source.old).left (λ script. ¬ IsCut (counted self.old) script)) }
-        ensures takes { OnOk result (Moves (ahead self.old) (S.outside source.old).left (ahead self.new) (S.outside source.new).left
-            (λ script rest. Takes (counted self.old) script (current self.new) (counted self.new) rest)) }
-        ensures drawn { OnOk result (Draws (to_take self.old) (S.outside source.old).left (to_take self.new) (S.outside source.new).left) }
-        ensures drawn_too_much { result ≡ Err LineFault.TooMuch → Draws (to_take self.old) (S.outside source.old).left (to_take self.new) (S.outside source.new).left }
+        ensures read { result ≡ Err LineFault.Read
+            → Rose (S.outside source.old).read_faults (S.outside source.new).read_faults }
+        ensures too_much { result ≡ Err LineFault.TooMuch
+            → IfTold (ahead self.old) (S.outside source.old).left (IsCut (counted self.old)) }
+        ensures not_cut { OnOk result (IfTold (ahead self.old) (S.outside source.old).left
+            (λ script. ¬ IsCut (counted self.old) script)) }
+        ensures takes { OnOk result (Moves (ahead self.old) (S.outside source.old).left
+            (ahead self.new) (S.outside source.new).left
+            (λ script rest. Takes (counted self.old) script (current self.new)
+            (counted self.new) rest)) }
+        ensures drawn { OnOk result (Draws (to_take self.old) (S.outside source.old).left
+            (to_take self.new) (S.outside source.new).left) }
+        ensures drawn_too_much { result ≡ Err LineFault.TooMuch
+            → Draws (to_take self.old) (S.outside source.old).left (to_take self.new)
+            (S.outside source.new).left }
         ensures none { OnErr result (current self.new ≡ None) }
-        ensures fewer { OnOk result (IfSome (current self.new) (λ line. counted self.new < counted self.old)) }
+        ensures fewer { OnOk result (IfSome (current self.new) (λ line. counted self.new
+            < counted self.old)) }
     {
         self.shown = Shown::end();
         self.shown = self.window.next(source)?;
@@ -70,14 +79,21 @@ impl Lines {
     /// Takes the next line and lends it. After an `Err` nothing more is to be taken.
     pub fn next_line<S: Source>(&mut self, source: &mut S) -> Result<LineRef<'_>, LineFault>
         ensures* takes { sem 𝓛 (ReaderRests self.entry (λ new.
-            IfOk result (λ line. Moves (ahead self.old) (S.outside source.old).left (ahead new) (S.outside source.new).left
+            IfOk result (λ line. Moves (ahead self.old) (S.outside source.old).left (ahead new)
+            (S.outside source.new).left
             (λ script rest. Takes (counted self.old) script (line_lent line) (counted new) rest)
-            × Draws (to_take self.old) (S.outside source.old).left (to_take new) (S.outside source.new).left)
-            × (result ≡ Err LineFault.TooMuch → Draws (to_take self.old) (S.outside source.old).left (to_take new) (S.outside source.new).left))) }
+            × Draws (to_take self.old) (S.outside source.old).left (to_take new)
+            (S.outside source.new).left)
+            × (result ≡ Err LineFault.TooMuch
+            → Draws (to_take self.old) (S.outside source.old).left (to_take new)
+            (S.outside source.new).left))) }
         ensures only { SourceOnly (S.outside source.old) (S.outside source.new) }
-        ensures read { result ≡ Err LineFault.Read → Rose (S.outside source.old).read_faults (S.outside source.new).read_faults }
-        ensures too_much { result ≡ Err LineFault.TooMuch → IfTold (ahead self.old) (S.outside source.old).left (IsCut (counted self.old)) }
-        ensures not_cut { OnOk result (IfTold (ahead self.old) (S.outside source.old).left (λ script. ¬ IsCut (counted self.old) script)) }
+        ensures read { result ≡ Err LineFault.Read
+            → Rose (S.outside source.old).read_faults (S.outside source.new).read_faults }
+        ensures too_much { result ≡ Err LineFault.TooMuch
+            → IfTold (ahead self.old) (S.outside source.old).left (IsCut (counted self.old)) }
+        ensures not_cut { OnOk result (IfTold (ahead self.old) (S.outside source.old).left
+            (λ script. ¬ IsCut (counted self.old) script)) }
     {
         self.advance(source)?;
         Ok(self.line())

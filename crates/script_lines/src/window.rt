@@ -31,14 +31,17 @@ fn take_at<S: Source>(
     requires inside { at + more ≤ vec_len buffer.old }
     requires some { 0 < more }
     ensures only { SourceOnly (S.outside source.old) (S.outside source.new) }
-    ensures cause { OnErr result (Rose (S.outside source.old).read_faults (S.outside source.new).read_faults) }
+    ensures cause { OnErr result (Rose (S.outside source.old).read_faults
+        (S.outside source.new).read_faults) }
     ensures fault { IfErr result (λ e. e ≡ LineFault.Read) }
     ensures count { IfOk result (λ n. n ≤ more) }
     ensures len { vec_len buffer.new ≡ vec_len buffer.old }
     ensures front { take at buffer.new.items ≡ take at buffer.old.items }
     ensures bytes { IfOk result (λ n. (was : List ℕ) → (S.outside source.old).left ≡ Some was
-        → (n ≤ length was) × (take n (drop at buffer.new.items) ≡ take n was) × ((S.outside source.new).left ≡ Some (drop n was))) }
-    ensures end { IfOk result (λ n. n ≡ 0 → (was : List ℕ) → (S.outside source.old).left ≡ Some was → was ≡ []) }
+        → (n ≤ length was) × (take n (drop at buffer.new.items) ≡ take n was)
+        × ((S.outside source.new).left ≡ Some (drop n was))) }
+    ensures end { IfOk result (λ n. n ≡ 0 → (was : List ℕ) → (S.outside source.old).left ≡ Some was
+        → was ≡ []) }
 {
     match source.take(&mut buffer[at..at + more]) {
         Ok(n) => Ok(n),
@@ -57,7 +60,8 @@ fn shift(buffer: &mut [u8], start: usize, end: usize)
 
 /// The first line feed.
 fn feed_in(bytes: &[u8]) -> Option<usize>
-    ensures { MatchOption result (ClearTo bytes.now (length bytes.now)) (λ k. (k < length bytes.now) × ClearTo bytes.now k × (line_feed (slice_index bytes.now k) ≡ true)) }
+    ensures { MatchOption result (ClearTo bytes.now (length bytes.now)) (λ k. (k < length bytes.now)
+        × ClearTo bytes.now k × (line_feed (slice_index bytes.now k) ≡ true)) }
 {
     memchr(b'\n', bytes)
 }
@@ -93,7 +97,8 @@ fn look(bytes: &[u8], clear: usize, allowed: u64) -> Option<Found>
     requires searched { ClearTo bytes.now clear }
     requires inside { clear ≤ length bytes.now }
     requires within { clear ≤ allowed }
-    ensures { MatchOption result (ClearTo bytes.now (length bytes.now) × (length bytes.now ≤ allowed) × (length bytes.now ≤ 1048576)) (Finds bytes.now allowed) }
+    ensures { MatchOption result (ClearTo bytes.now (length bytes.now)
+        × (length bytes.now ≤ allowed) × (length bytes.now ≤ 1048576)) (Finds bytes.now allowed) }
 {
     let counted = bytes.len().min(allowed as usize);
     if let Some(k) = feed_in(&bytes[clear..counted]) {
@@ -170,16 +175,21 @@ impl Window {
         requires short { self.old.end ≤ self.old.start + 1048576 }
         requires within { self.old.end ≤ self.old.start + self.old.allowed }
         ensures only { SourceOnly (S.outside source.old) (S.outside source.new) }
-        ensures cause { OnErr result (Rose (S.outside source.old).read_faults (S.outside source.new).read_faults) }
+        ensures cause { OnErr result (Rose (S.outside source.old).read_faults
+            (S.outside source.new).read_faults) }
         ensures fault { IfErr result (λ e. e ≡ LineFault.Read) }
         ensures allowed { self.new.allowed ≡ self.old.allowed }
-        ensures more { IfOk result (λ came. came ≡ true → self.old.end - self.old.start < self.new.end - self.new.start) }
+        ensures more { IfOk result (λ came. came ≡ true
+            → self.old.end - self.old.start < self.new.end - self.new.start) }
         ensures len { OnOk result (self.old.end - self.old.start ≤ self.new.end - self.new.start) }
-        ensures script { OnOk result (SameScript (held self.old) (S.outside source.old).left (held self.new) (S.outside source.new).left) }
+        ensures script { OnOk result (SameScript (held self.old) (S.outside source.old).left
+            (held self.new) (S.outside source.new).left) }
         ensures front { OnOk result (IsFront (held self.old) (held self.new)) }
         ensures same { IfOk result (λ came. came ≡ false → held self.new ≡ held self.old) }
-        ensures none { IfOk result (λ came. came ≡ false → AllHere (held self.old) (S.outside source.old).left (held self.new)) }
-        ensures drawn { OnOk result (Draws (may_take self.old) (S.outside source.old).left (may_take self.new) (S.outside source.new).left) }
+        ensures none { IfOk result (λ came. came ≡ false
+            → AllHere (held self.old) (S.outside source.old).left (held self.new)) }
+        ensures drawn { OnOk result (Draws (may_take self.old) (S.outside source.old).left
+            (may_take self.new) (S.outside source.new).left) }
     {
         self.make_room();
         let end = self.end;
@@ -194,15 +204,20 @@ impl Window {
     /// Buffers the source up to a line feed, more bytes than count, or more than a line has. None is the end of the source.
     fn gather<S: Source>(&mut self, source: &mut S) -> Result<Option<Found>, LineFault>
         ensures only { SourceOnly (S.outside source.old) (S.outside source.new) }
-        ensures cause { OnErr result (Rose (S.outside source.old).read_faults (S.outside source.new).read_faults) }
+        ensures cause { OnErr result (Rose (S.outside source.old).read_faults
+            (S.outside source.new).read_faults) }
         ensures fault { IfErr result (λ e. e ≡ LineFault.Read) }
         ensures allowed { self.new.allowed ≡ self.old.allowed }
         ensures found { IfOk result (λ found. MatchOption found
-            (ClearTo (held self.new) (length (held self.new)) × (length (held self.new) ≤ self.new.allowed))
+            (ClearTo (held self.new) (length (held self.new))
+            × (length (held self.new) ≤ self.new.allowed))
             (Finds (held self.new) self.new.allowed)) }
-        ensures script { OnOk result (SameScript (held self.old) (S.outside source.old).left (held self.new) (S.outside source.new).left) }
-        ensures rest { IfOk result (λ found. found ≡ None → AllHere (held self.old) (S.outside source.old).left (held self.new)) }
-        ensures drawn { OnOk result (Draws (may_take self.old) (S.outside source.old).left (may_take self.new) (S.outside source.new).left) }
+        ensures script { OnOk result (SameScript (held self.old) (S.outside source.old).left
+            (held self.new) (S.outside source.new).left) }
+        ensures rest { IfOk result (λ found. found ≡ None
+            → AllHere (held self.old) (S.outside source.old).left (held self.new)) }
+        ensures drawn { OnOk result (Draws (may_take self.old) (S.outside source.old).left
+            (may_take self.new) (S.outside source.new).left) }
     {
         let mut clear = 0;
         'gathered: loop {
@@ -233,7 +248,10 @@ impl Window {
     /// Passes a line that a line feed ends.
     fn pass_line(&mut self, at: usize) -> Shown
         requires { Finds (held self.old) self.old.allowed (Found.Feed at) }
-        ensures takes { (behind : List ℕ) → Takes self.old.allowed (held self.old ++ behind) (shown_in self.new.buffer.items result) self.new.allowed (held self.new ++ behind) }
+        ensures takes { (behind : List ℕ)
+            → Takes self.old.allowed (held self.old
+            ++ behind) (shown_in self.new.buffer.items result) self.new.allowed (held self.new
+            ++ behind) }
         ensures may { may_take self.new ≡ may_take self.old }
         ensures fewer { self.new.allowed < self.old.allowed }
     {
@@ -251,10 +269,12 @@ impl Window {
     fn pass_rest(&mut self) -> Shown
         requires clear { ClearTo (held self.old) (length (held self.old)) }
         requires within { length (held self.old) ≤ self.old.allowed }
-        ensures takes { Takes self.old.allowed (held self.old) (shown_in self.new.buffer.items result) self.new.allowed (held self.new) }
+        ensures takes { Takes self.old.allowed (held self.old)
+            (shown_in self.new.buffer.items result) self.new.allowed (held self.new) }
         ensures none { held self.new ≡ [] }
         ensures may { may_take self.new ≡ may_take self.old }
-        ensures fewer { IfSome (shown_in self.new.buffer.items result) (λ line. self.new.allowed < self.old.allowed) }
+        ensures fewer { IfSome (shown_in self.new.buffer.items result) (λ line. self.new.allowed
+            < self.old.allowed) }
     {
         let from = self.start;
         let to = self.end;
@@ -271,12 +291,18 @@ impl Window {
     /// Passes the rest of a line that is too long.
     fn skip<S: Source>(&mut self, source: &mut S) -> Result<(), LineFault>
         ensures only { SourceOnly (S.outside source.old) (S.outside source.new) }
-        ensures cause { result ≡ Err LineFault.Read → Rose (S.outside source.old).read_faults (S.outside source.new).read_faults }
-        ensures passes { OnOk result (Moves (held self.old) (S.outside source.old).left (held self.new) (S.outside source.new).left
+        ensures cause { result ≡ Err LineFault.Read
+            → Rose (S.outside source.old).read_faults (S.outside source.new).read_faults }
+        ensures passes { OnOk result (Moves (held self.old) (S.outside source.old).left
+            (held self.new) (S.outside source.new).left
             (λ script rest. Passes self.old.allowed script self.new.allowed rest)) }
-        ensures clear { result ≡ Err LineFault.TooMuch → IfTold (held self.old) (S.outside source.old).left (IsClear self.old.allowed) }
-        ensures drawn { OnOk result (Draws (may_take self.old) (S.outside source.old).left (may_take self.new) (S.outside source.new).left) }
-        ensures drawn_clear { result ≡ Err LineFault.TooMuch → Draws (may_take self.old) (S.outside source.old).left (may_take self.new) (S.outside source.new).left }
+        ensures clear { result ≡ Err LineFault.TooMuch
+            → IfTold (held self.old) (S.outside source.old).left (IsClear self.old.allowed) }
+        ensures drawn { OnOk result (Draws (may_take self.old) (S.outside source.old).left
+            (may_take self.new) (S.outside source.new).left) }
+        ensures drawn_clear { result ≡ Err LineFault.TooMuch
+            → Draws (may_take self.old) (S.outside source.old).left (may_take self.new)
+            (S.outside source.new).left }
         ensures no_more { OnOk result (self.new.allowed ≤ self.old.allowed) }
     {
         'skipped: loop {
@@ -298,13 +324,21 @@ impl Window {
     /// Takes the next line.
     pub(crate) fn next<S: Source>(&mut self, source: &mut S) -> Result<Shown, LineFault>
         ensures only { SourceOnly (S.outside source.old) (S.outside source.new) }
-        ensures cause { result ≡ Err LineFault.Read → Rose (S.outside source.old).read_faults (S.outside source.new).read_faults }
-        ensures takes { IfOk result (λ shown. Moves (held self.old) (S.outside source.old).left (held self.new) (S.outside source.new).left
-            (λ script rest. Takes self.old.allowed script (shown_in self.new.buffer.items shown) self.new.allowed rest)) }
-        ensures clear { result ≡ Err LineFault.TooMuch → IfTold (held self.old) (S.outside source.old).left (IsClear self.old.allowed) }
-        ensures drawn { OnOk result (Draws (may_take self.old) (S.outside source.old).left (may_take self.new) (S.outside source.new).left) }
-        ensures drawn_clear { result ≡ Err LineFault.TooMuch → Draws (may_take self.old) (S.outside source.old).left (may_take self.new) (S.outside source.new).left }
-        ensures fewer { IfOk result (λ shown. IfSome (shown_in self.new.buffer.items shown) (λ line. self.new.allowed < self.old.allowed)) }
+        ensures cause { result ≡ Err LineFault.Read
+            → Rose (S.outside source.old).read_faults (S.outside source.new).read_faults }
+        ensures takes { IfOk result (λ shown. Moves (held self.old) (S.outside source.old).left
+            (held self.new) (S.outside source.new).left
+            (λ script rest. Takes self.old.allowed script
+            (shown_in self.new.buffer.items shown) self.new.allowed rest)) }
+        ensures clear { result ≡ Err LineFault.TooMuch
+            → IfTold (held self.old) (S.outside source.old).left (IsClear self.old.allowed) }
+        ensures drawn { OnOk result (Draws (may_take self.old) (S.outside source.old).left
+            (may_take self.new) (S.outside source.new).left) }
+        ensures drawn_clear { result ≡ Err LineFault.TooMuch
+            → Draws (may_take self.old) (S.outside source.old).left (may_take self.new)
+            (S.outside source.new).left }
+        ensures fewer { IfOk result (λ shown. IfSome (shown_in self.new.buffer.items shown)
+            (λ line. self.new.allowed < self.old.allowed)) }
     {
         match self.gather(source)? {
             Some(Found::TooMuch) => Err(LineFault::TooMuch),

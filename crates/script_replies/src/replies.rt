@@ -147,7 +147,8 @@ fn push_alone(out: &mut Vec<u8>, word: &str) -> Result<(), AllocError>
 }
 
 fn push_with_number(out: &mut Vec<u8>, word: &str, n: u64) -> Result<(), AllocError>
-    ensures text { OnOk result (out.new.items ≡ out.old.items ++ line_of (ok word.now (decimal n ∷ []))) }
+    ensures text { OnOk result (out.new.items ≡ out.old.items
+        ++ line_of (ok word.now (decimal n ∷ []))) }
     ensures front { OnErr result (IsFront out.old.items out.new.items) }
 {
     push_ok(out, word)?;
@@ -157,7 +158,8 @@ fn push_with_number(out: &mut Vec<u8>, word: &str, n: u64) -> Result<(), AllocEr
 }
 
 fn push_with_name(out: &mut Vec<u8>, word: &str, name: &[u8]) -> Result<(), AllocError>
-    ensures text { OnOk result (out.new.items ≡ out.old.items ++ line_of (ok word.now (name.now ∷ []))) }
+    ensures text { OnOk result (out.new.items ≡ out.old.items
+        ++ line_of (ok word.now (name.now ∷ []))) }
     ensures front { OnErr result (IsFront out.old.items out.new.items) }
 {
     push_ok(out, word)?;
@@ -167,7 +169,8 @@ fn push_with_name(out: &mut Vec<u8>, word: &str, name: &[u8]) -> Result<(), Allo
 }
 
 fn push_with_oid(out: &mut Vec<u8>, word: &str, oid: Oid) -> Result<(), AllocError>
-    ensures text { OnOk result (out.new.items ≡ out.old.items ++ line_of (ok word.now (oid_word oid ∷ []))) }
+    ensures text { OnOk result (out.new.items ≡ out.old.items
+        ++ line_of (ok word.now (oid_word oid ∷ []))) }
     ensures front { OnErr result (IsFront out.old.items out.new.items) }
 {
     push_ok(out, word)?;
@@ -177,7 +180,8 @@ fn push_with_oid(out: &mut Vec<u8>, word: &str, oid: Oid) -> Result<(), AllocErr
 }
 
 fn push_with_bytes(out: &mut Vec<u8>, word: &str, bytes: &[u8]) -> Result<(), AllocError>
-    ensures text { OnOk result (out.new.items ≡ out.old.items ++ line_of (ok word.now (decimal (length bytes.now) ∷ hex_words bytes.now))) }
+    ensures text { OnOk result (out.new.items ≡ out.old.items
+        ++ line_of (ok word.now (decimal (length bytes.now) ∷ hex_words bytes.now))) }
     ensures front { OnErr result (IsFront out.old.items out.new.items) }
 {
     push_ok(out, word)?;
@@ -188,7 +192,8 @@ fn push_with_bytes(out: &mut Vec<u8>, word: &str, bytes: &[u8]) -> Result<(), Al
 }
 
 fn push_with_names(out: &mut Vec<u8>, word: &str, names: &[Name]) -> Result<(), AllocError>
-    ensures text { OnOk result (out.new.items ≡ out.old.items ++ line_of (ok word.now (counted_words names.now))) }
+    ensures text { OnOk result (out.new.items ≡ out.old.items
+        ++ line_of (ok word.now (counted_words names.now))) }
     ensures front { OnErr result (IsFront out.old.items out.new.items) }
 {
     push_ok(out, word)?;
@@ -200,7 +205,8 @@ fn push_with_names(out: &mut Vec<u8>, word: &str, names: &[Name]) -> Result<(), 
 
 /// Appends how many there are, and each.
 fn push_counted_oids(out: &mut Vec<u8>, oids: &[Oid]) -> Result<(), AllocError>
-    ensures text { OnOk result (out.new.items ≡ out.old.items ++ spaced (counted_words (map oid_word oids.now))) }
+    ensures text { OnOk result (out.new.items ≡ out.old.items
+        ++ spaced (counted_words (map oid_word oids.now))) }
     ensures front { OnErr result (IsFront out.old.items out.new.items) }
 {
     push_count(out, oids.len() as u64)?;
@@ -209,7 +215,8 @@ fn push_counted_oids(out: &mut Vec<u8>, oids: &[Oid]) -> Result<(), AllocError>
 }
 
 fn push_with_oids(out: &mut Vec<u8>, word: &str, oids: &[Oid]) -> Result<(), AllocError>
-    ensures text { OnOk result (out.new.items ≡ out.old.items ++ line_of (ok word.now (counted_words (map oid_word oids.now)))) }
+    ensures text { OnOk result (out.new.items ≡ out.old.items
+        ++ line_of (ok word.now (counted_words (map oid_word oids.now)))) }
     ensures front { OnErr result (IsFront out.old.items out.new.items) }
 {
     push_ok(out, word)?;
@@ -219,7 +226,8 @@ fn push_with_oids(out: &mut Vec<u8>, word: &str, oids: &[Oid]) -> Result<(), All
 }
 
 fn push_digest(out: &mut Vec<u8>, hash: &[u8; 32]) -> Result<(), AllocError>
-    ensures text { OnOk result (out.new.items ≡ out.old.items ++ line_of (ok (codes "digest") (hex_words hash.now))) }
+    ensures text { OnOk result (out.new.items ≡ out.old.items
+        ++ line_of (ok (codes "digest") (hex_words hash.now))) }
     ensures front { OnErr result (IsFront out.old.items out.new.items) }
 {
     push_ok(out, "digest")?;
@@ -289,7 +297,8 @@ fn push_values(out: &mut Vec<u8>, why: &Refusal) -> Result<(), AllocError>
 }
 
 fn push_refusal(out: &mut Vec<u8>, why: &Refusal) -> Result<(), AllocError>
-    ensures text { OnOk result (out.new.items ≡ out.old.items ++ line_of (codes "no" ∷ refusal_words why.now)) }
+    ensures text { OnOk result (out.new.items ≡ out.old.items
+        ++ line_of (codes "no" ∷ refusal_words why.now)) }
     ensures front { OnErr result (IsFront out.old.items out.new.items) }
 {
     out.extend_from_slice(b"no")?;
@@ -300,7 +309,8 @@ fn push_refusal(out: &mut Vec<u8>, why: &Refusal) -> Result<(), AllocError>
 }
 
 fn push_small(out: &mut Vec<u8>, size: u64) -> Result<(), AllocError>
-    ensures text { OnOk result (out.new.items ≡ out.old.items ++ line_of (ok (codes "stat") (codes "small" ∷ decimal size ∷ []))) }
+    ensures text { OnOk result (out.new.items ≡ out.old.items
+        ++ line_of (ok (codes "stat") (codes "small" ∷ decimal size ∷ []))) }
     ensures front { OnErr result (IsFront out.old.items out.new.items) }
 {
     push_ok(out, "stat")?;
@@ -312,7 +322,8 @@ fn push_small(out: &mut Vec<u8>, size: u64) -> Result<(), AllocError>
 
 /// Appends the leaves of a tree.
 fn push_leaves(out: &mut Vec<u8>, leaves: u64, first: &[u32]) -> Result<(), AllocError>
-    ensures text { OnOk result (out.new.items ≡ out.old.items ++ spaced (codes "leaves" ∷ decimal leaves ∷ map decimal first.now)) }
+    ensures text { OnOk result (out.new.items ≡ out.old.items ++ spaced (codes "leaves"
+        ∷ decimal leaves ∷ map decimal first.now)) }
     ensures front { OnErr result (IsFront out.old.items out.new.items) }
 {
     push_text(out, "leaves")?;
@@ -330,7 +341,8 @@ fn push_shape(
     first: &[u32],
 ) -> Result<(), AllocError>
     ensures text { OnOk result (out.new.items ≡ out.old.items
-        ++ spaced (codes "large" ∷ decimal size ∷ codes "height" ∷ decimal height ∷ codes "leaves" ∷ decimal leaves ∷ map decimal first.now)) }
+        ++ spaced (codes "large" ∷ decimal size ∷ codes "height" ∷ decimal height ∷ codes "leaves"
+        ∷ decimal leaves ∷ map decimal first.now)) }
     ensures front { OnErr result (IsFront out.old.items out.new.items) }
 {
     push_text(out, "large")?;
@@ -349,7 +361,8 @@ fn push_large(
     first: &[u32],
 ) -> Result<(), AllocError>
     ensures text { OnOk result (out.new.items ≡ out.old.items
-        ++ line_of (ok (codes "stat") (codes "large" ∷ decimal size ∷ codes "height" ∷ decimal height ∷ codes "leaves" ∷ decimal leaves ∷ map decimal first.now))) }
+        ++ line_of (ok (codes "stat") (codes "large" ∷ decimal size ∷ codes "height"
+        ∷ decimal height ∷ codes "leaves" ∷ decimal leaves ∷ map decimal first.now))) }
     ensures front { OnErr result (IsFront out.old.items out.new.items) }
 {
     push_ok(out, "stat")?;
@@ -359,7 +372,8 @@ fn push_large(
 }
 
 fn push_scan(out: &mut Vec<u8>, name: &[u8], size: u64) -> Result<(), AllocError>
-    ensures text { OnOk result (out.new.items ≡ out.old.items ++ line_of (ok (codes "scan") (name.now ∷ decimal size ∷ []))) }
+    ensures text { OnOk result (out.new.items ≡ out.old.items
+        ++ line_of (ok (codes "scan") (name.now ∷ decimal size ∷ []))) }
     ensures front { OnErr result (IsFront out.old.items out.new.items) }
 {
     push_ok(out, "scan")?;
@@ -371,7 +385,8 @@ fn push_scan(out: &mut Vec<u8>, name: &[u8], size: u64) -> Result<(), AllocError
 
 /// Appends how many units of an area are in use.
 fn push_used(out: &mut Vec<u8>, area: &str, used: u32, of: u32) -> Result<(), AllocError>
-    ensures text { OnOk result (out.new.items ≡ out.old.items ++ spaced (area.now ∷ decimal used ∷ codes "of" ∷ decimal of ∷ [])) }
+    ensures text { OnOk result (out.new.items ≡ out.old.items ++ spaced (area.now ∷ decimal used
+        ∷ codes "of" ∷ decimal of ∷ [])) }
     ensures front { OnErr result (IsFront out.old.items out.new.items) }
 {
     push_text(out, area)?;
@@ -388,7 +403,9 @@ fn push_space(
     segs: u32,
     of_segs: u32,
 ) -> Result<(), AllocError>
-    ensures text { OnOk result (out.new.items ≡ out.old.items ++ line_of (ok (codes "space") (codes "pages" ∷ decimal pages ∷ codes "of" ∷ decimal of_pages ∷ codes "segs" ∷ decimal segs ∷ codes "of" ∷ decimal of_segs ∷ []))) }
+    ensures text { OnOk result (out.new.items ≡ out.old.items
+        ++ line_of (ok (codes "space") (codes "pages" ∷ decimal pages ∷ codes "of"
+        ∷ decimal of_pages ∷ codes "segs" ∷ decimal segs ∷ codes "of" ∷ decimal of_segs ∷ []))) }
     ensures front { OnErr result (IsFront out.old.items out.new.items) }
 {
     push_ok(out, "space")?;

@@ -38,18 +38,25 @@ pub trait Engine {
         requires form { IsTrue (is_request (request_of command.now)) }
         requires built { IsTrue (is_built (request_of command.now)) }
         ensures only { DiskOnly (H.outside host.old) (H.outside host.new) }
-        ensures disk { result ≡ Err Stop.Disk → Rose (H.outside host.old).disk_faults (H.outside host.new).disk_faults }
-        ensures damaged { (page : PageNo) (want got : Seen) → result ≡ Err (Stop.Damaged page want got) → want ≢ got }
+        ensures disk { result ≡ Err Stop.Disk
+            → Rose (H.outside host.old).disk_faults (H.outside host.new).disk_faults }
+        ensures damaged { (page : PageNo) (want got : Seen)
+            → result ≡ Err (Stop.Damaged page want got) → want ≢ got }
 
         // From a view that shows to a view that shows, by the machine's step.
-        ensures stepped { (before : View Self) → before.session ≡ self.old → ShowsNow meaning (H.outside host.old) before
-            → IfOk result (λ told. Stepped meaning before (request_of command.now) told self.new (H.outside host.new)) }
+        ensures stepped { (before : View Self) → before.session ≡ self.old
+            → ShowsNow meaning (H.outside host.old) before
+            → IfOk result (λ told. Stepped meaning before (request_of command.now) told self.new
+            (H.outside host.new)) }
 
         // Where it shows, nothing but a fault of the disk or want of memory stops it.
-        ensures sound { (before : View Self) (stop : Stop) → before.session ≡ self.old → ShowsNow meaning (H.outside host.old) before
+        ensures sound { (before : View Self) (stop : Stop) → before.session ≡ self.old
+            → ShowsNow meaning (H.outside host.old) before
             → result ≡ Err stop → (stop ≡ Stop.Disk) ⊎ (stop ≡ Stop.Memory) }
 
         // A crash at any moment leaves the committed table before it, or in a commit that one or the next.
-        ensures any_moment { (before : View Self) → before.session ≡ self.old → ShowsNow meaning (H.outside host.old) before
-            → Leaves (H.outside host.old) (H.outside host.new) (StandsDuring meaning before.machine (request_of command.now)) };
+        ensures any_moment { (before : View Self) → before.session ≡ self.old
+            → ShowsNow meaning (H.outside host.old) before
+            → Leaves (H.outside host.old) (H.outside host.new) (StandsDuring meaning before.machine
+            (request_of command.now)) };
 }

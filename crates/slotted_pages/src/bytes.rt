@@ -41,7 +41,9 @@ pub fn replace_bytes(
     requires fits { start + length body.now + (end - old_end) ≤ limit }
     requires end { end ≤ limit }
     requires room { limit ≤ length image.old }
-    ensures { image.new ≡ take start image.old ++ body.now ++ bytes_at image.old old_end (end - old_end) ++ zeros (limit - (start + length body.now + (end - old_end))) ++ drop limit image.old }
+    ensures { image.new ≡ take start image.old ++ body.now
+        ++ bytes_at image.old old_end (end - old_end)
+        ++ zeros (limit - (start + length body.now + (end - old_end))) ++ drop limit image.old }
 {
     let behind = start + body.len();
     move_bytes(image, old_end, end, behind);
@@ -64,9 +66,11 @@ fn write_field(image: &mut [u8], slot: usize, at: usize, len: usize)
 
 /// Writes where each body begins, by the lengths in the fields of n slots.
 pub fn write_directory(image: &mut [u8], n: usize)
-    requires room { 16 + added (read_lens image.old n (length image.old)) + 4 * n ≤ length image.old }
+    requires room { 16 + added (read_lens image.old n (length image.old)) + 4 * n
+        ≤ length image.old }
     requires size { length image.old ≤ 8192 }
-    ensures { image.new ≡ take (length image.old - 4 * n) image.old ++ directory_of 16 (read_lens image.old n (length image.old)) }
+    ensures { image.new ≡ take (length image.old - 4 * n) image.old
+        ++ directory_of 16 (read_lens image.old n (length image.old)) }
 {
     let mut at = HEAD_LEN;
     for slot in 0..n {

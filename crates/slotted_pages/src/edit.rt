@@ -25,7 +25,8 @@ pub fn empty_page(image: &mut [u8], file_no: u32)
 fn write_len(image: &mut [u8], slot: usize, len: usize)
     requires room { 4 * (slot + 1) ≤ length image.old }
     requires len { len < 65536 }
-    ensures { image.new ≡ written image.old (length image.old - 4 * (slot + 1) + 2) (two_bytes len) }
+    ensures { image.new ≡ written image.old (length image.old - 4 * (slot + 1)
+        + 2) (two_bytes len) }
 {
     let at = image.len() - FIELD_LEN * (slot + 1) + LENGTH;
     put_u16(image, at, len as u16);
@@ -35,8 +36,10 @@ fn write_len(image: &mut [u8], slot: usize, len: usize)
 fn change_slot(image: &mut [u8], slot: usize, body: &[u8], count: usize)
     requires page { IsPage image.old }
     requires slot { slot ≤ length (slots_of image.old) }
-    requires left { Left (length image.old) (with_slot (slots_of image.old) slot (slot_with body.now)) count }
-    ensures { SlotsOf image.new (with_slots (page_on image.old) (take count (with_slot (slots_of image.old) slot (slot_with body.now)))) }
+    requires left { Left (length image.old) (with_slot (slots_of image.old) slot
+        (slot_with body.now)) count }
+    ensures { SlotsOf image.new (with_slots (page_on image.old)
+        (take count (with_slot (slots_of image.old) slot (slot_with body.now)))) }
 {
     let n = get_u16(image, COUNT) as usize;
     let start = lens_end(image, slot);
@@ -62,7 +65,9 @@ pub fn insert_body(image: &mut [u8], body: &[u8]) -> Option<u16>
     requires page { IsPage image.old }
     requires some { 1 ≤ length body.now }
     ensures place { result ≡ place_for (length image.old) (slots_of image.old) (length body.now) }
-    ensures placed { IfSome result (λ slot. SlotsOf image.new (with_slots (page_on image.old) (with_slot (slots_of image.old) slot (Some body.now)))) }
+    ensures placed { IfSome result
+        (λ slot. SlotsOf image.new (with_slots (page_on image.old)
+        (with_slot (slots_of image.old) slot (Some body.now)))) }
     ensures kept { IfNone result (image.new ≡ image.old) }
 {
     let n = get_u16(image, COUNT) as usize;
@@ -80,8 +85,12 @@ pub fn resize_body(image: &mut [u8], slot: u16, body: &[u8]) -> bool
     requires page { IsPage image.old }
     requires live { 1 ≤ length (body_in image.old slot) }
     requires some { 1 ≤ length body.now }
-    ensures fits { IsTrue result ↔ (length body.now ≤ length (body_in image.old slot) + room_of (length image.old) (slots_of image.old)) }
-    ensures changed { IsTrue result → SlotsOf image.new (with_slots (page_on image.old) (with_slot (slots_of image.old) slot (Some body.now))) }
+    ensures fits { IsTrue result
+        ↔ (length body.now ≤ length (body_in image.old slot)
+        + room_of (length image.old) (slots_of image.old)) }
+    ensures changed { IsTrue result
+        → SlotsOf image.new (with_slots (page_on image.old) (with_slot (slots_of image.old) slot
+        (Some body.now))) }
     ensures kept { IsFalse result → image.new ≡ image.old }
 {
     let n = get_u16(image, COUNT) as usize;
@@ -96,7 +105,8 @@ pub fn resize_body(image: &mut [u8], slot: u16, body: &[u8]) -> bool
 pub fn remove_body(image: &mut [u8], slot: u16)
     requires page { IsPage image.old }
     requires live { 1 ≤ length (body_in image.old slot) }
-    ensures { SlotsOf image.new (with_slots (page_on image.old) (trimmed (with_slot (slots_of image.old) slot None))) }
+    ensures { SlotsOf image.new (with_slots (page_on image.old)
+        (trimmed (with_slot (slots_of image.old) slot None))) }
 {
     let n = get_u16(image, COUNT) as usize;
     let count = count_without(image, n, slot as usize);

@@ -98,7 +98,8 @@ pub fn lens_end(page: &[u8], n: usize) -> usize
 /// The length of a slot's body, 0 where there are only n slots below it.
 pub fn len_below(page: &[u8], slot: usize, n: usize) -> usize
     requires room { 4 * n ≤ length page.now }
-    ensures below { slot < n → result ≡ number_at 2 page.now (length page.now - 4 * (slot + 1) + 2) }
+    ensures below { slot < n → result ≡ number_at 2 page.now (length page.now - 4 * (slot + 1)
+        + 2) }
     ensures past { n ≤ slot → result ≡ 0 }
 {
     if slot < n { len_in(page, slot) } else { 0 }
@@ -108,8 +109,10 @@ pub fn len_below(page: &[u8], slot: usize, n: usize) -> usize
 pub fn first_vacant(page: &[u8], n: usize) -> usize
     requires room { 4 * n ≤ length page.now }
     ensures within { result ≤ n }
-    ensures vacant { result < n → number_at 2 page.now (length page.now - 4 * (result + 1) + 2) ≡ 0 }
-    ensures lowest { (k : ℕ) → k < result → 0 < number_at 2 page.now (length page.now - 4 * (k + 1) + 2) }
+    ensures vacant { result < n → number_at 2 page.now (length page.now - 4 * (result + 1) + 2)
+        ≡ 0 }
+    ensures lowest { (k : ℕ) → k < result
+        → 0 < number_at 2 page.now (length page.now - 4 * (k + 1) + 2) }
 {
     for slot in 0..n {
         if len_in(page, slot) == 0 {
@@ -123,8 +126,10 @@ pub fn first_vacant(page: &[u8], n: usize) -> usize
 pub fn count_without(page: &[u8], n: usize, slot: usize) -> usize
     requires room { 4 * n ≤ length page.now }
     ensures within { result ≤ n }
-    ensures vacant { (k : ℕ) → result ≤ k → k < n → (k ≡ slot → ⊥) → number_at 2 page.now (length page.now - 4 * (k + 1) + 2) ≡ 0 }
-    ensures last { 0 < result → (result - 1 ≡ slot → ⊥) × (0 < number_at 2 page.now (length page.now - 4 * (result - 1 + 1) + 2)) }
+    ensures vacant { (k : ℕ) → result ≤ k → k < n → (k ≡ slot → ⊥)
+        → number_at 2 page.now (length page.now - 4 * (k + 1) + 2) ≡ 0 }
+    ensures last { 0 < result → (result - 1 ≡ slot → ⊥)
+        × (0 < number_at 2 page.now (length page.now - 4 * (result - 1 + 1) + 2)) }
 {
     let mut count = n;
     while count > 0 && (count - 1 == slot || len_in(page, count - 1) == 0) {
@@ -137,7 +142,8 @@ pub fn count_without(page: &[u8], n: usize, slot: usize) -> usize
 pub fn room_in(page: &[u8], n: usize) -> usize
     requires few { n < 65536 }
     requires room { 16 + added (read_lens page.now n (length page.now)) + 4 * n ≤ length page.now }
-    ensures { result ≡ length page.now - (16 + 4 * n + added (read_lens page.now n (length page.now))) }
+    ensures { result ≡ length page.now - (16 + 4 * n
+        + added (read_lens page.now n (length page.now))) }
 {
     page.len() - FIELD_LEN * n - lens_end(page, n)
 }

@@ -25,7 +25,8 @@ impl<'a> Model for SlottedView<'a> {
 impl<'a> SlottedView<'a> {
     /// The view of a page, exactly where it is a file page.
     pub fn of(page: &'a [u8]) -> Option<SlottedView<'a>>
-        ensures found { IfSome result (λ view. (view.size ≡ length page.now) × SlotsOf page.now view.page) }
+        ensures found { IfSome result (λ view. (view.size ≡ length page.now)
+            × SlotsOf page.now view.page) }
         ensures none { IfNone result ((p : FilePage) → SlotsOf page.now p → ⊥) }
     {
         if !is_file_page(page) {
@@ -43,7 +44,8 @@ impl<'a> SlottedView<'a> {
 
     /// The body in a slot, none where it is vacant or past the last.
     pub fn body(&self, slot: u16) -> Option<&'a [u8]>
-        ensures { option_map (λ body. body.now) result ≡ slice_index_or self.now.page.slots slot None }
+        ensures { option_map (λ body. body.now) result
+            ≡ slice_index_or self.now.page.slots slot None }
     {
         if slot >= get_u16(self.page, COUNT) {
             return None;

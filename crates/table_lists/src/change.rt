@@ -29,7 +29,8 @@ fn versions_edited(
     key: &Key,
     edit: &Edit,
 ) -> Result<Vec<Version>, AllocError>
-    ensures { IfOk result (λ changed. changed.items ≡ map (bytes_changed (oid_of_key key.now) (edit_of edit.now)) versions.now) }
+    ensures { IfOk result (λ changed. changed.items
+        ≡ map (bytes_changed (oid_of_key key.now) (edit_of edit.now)) versions.now) }
 {
     let mut out = Vec::new(alloc);
     for version in versions {
@@ -50,7 +51,8 @@ fn versions_without(
     versions: &[Version],
     key: &Key,
 ) -> Result<Vec<Version>, AllocError>
-    ensures { IfOk result (λ changed. changed.items ≡ filter (λ v. not (has_oid (oid_of_key key.now) v)) versions.now) }
+    ensures { IfOk result (λ changed. changed.items
+        ≡ filter (λ v. not (has_oid (oid_of_key key.now) v)) versions.now) }
 {
     let mut out = Vec::new(alloc);
     for version in versions {
@@ -77,7 +79,8 @@ fn versions_frozen(
     key: &Key,
     copy: &Oid,
 ) -> Result<Vec<Version>, AllocError>
-    ensures { IfOk result (λ changed. changed.items ≡ frozen_before (oid_of_key key.now) copy.now versions.now) }
+    ensures { IfOk result (λ changed. changed.items
+        ≡ frozen_before (oid_of_key key.now) copy.now versions.now) }
 {
     let before = versions.len().saturating_sub(1);
     let mut out = copies(alloc, &versions[..before])?;
@@ -115,7 +118,8 @@ fn objects_changed(
     objects: &[Object],
     change: &VersionChange,
 ) -> Result<Vec<Object>, AllocError>
-    ensures { IfOk result (λ changed. changed.items ≡ map (with_versions (versions_after change.now)) objects.now) }
+    ensures { IfOk result (λ changed. changed.items
+        ≡ map (with_versions (versions_after change.now)) objects.now) }
 {
     let mut out = Vec::new(alloc);
     for object in objects {
@@ -132,7 +136,8 @@ fn files_changed(
     files: &[TableFile],
     change: &VersionChange,
 ) -> Result<Vec<TableFile>, AllocError>
-    ensures { IfOk result (λ changed. changed.items ≡ map (with_objects (map (with_versions (versions_after change.now)))) files.now) }
+    ensures { IfOk result (λ changed. changed.items
+        ≡ map (with_objects (map (with_versions (versions_after change.now)))) files.now) }
 {
     let mut out = Vec::new(alloc);
     for file in files {
@@ -151,7 +156,8 @@ pub fn in_each_object(
     table: &Table,
     change: &VersionChange,
 ) -> Result<Table, AllocError>
-    ensures { IfOk result (λ changed. changed ≡ in_each_object (versions_after change.now) table.now) }
+    ensures { IfOk result (λ changed. changed
+        ≡ in_each_object (versions_after change.now) table.now) }
 {
     let files = files_changed(alloc, table.files.as_slice(), change)?;
     Ok(Table {

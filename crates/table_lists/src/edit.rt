@@ -35,7 +35,8 @@ fn spliced(
     more: &[u8],
     to: u128,
 ) -> Result<Bytes, AllocError>
-    ensures { IfOk result (λ changed. changed ≡ take from bytes.now ++ more.now ++ drop to bytes.now) }
+    ensures { IfOk result (λ changed. changed ≡ take from bytes.now ++ more.now
+        ++ drop to bytes.now) }
 {
     let from = index_of(from, bytes.len());
     let to = index_of(to, bytes.len());

@@ -42,7 +42,8 @@ fn files_with_object(
     oid: &Oid,
     name: &[u8],
 ) -> Result<Vec<TableFile>, AllocError>
-    ensures { IfOk result (λ changed. changed.items ≡ map (object_added oid.now name.now) files.now) }
+    ensures { IfOk result (λ changed. changed.items
+        ≡ map (object_added oid.now name.now) files.now) }
 {
     let mut out = Vec::new(alloc);
     for file in files {
@@ -72,7 +73,8 @@ pub fn with_object(
 /// How many files have names up to this one, before the first that comes later.
 fn place_of(files: &[TableFile], name: &[u8]) -> usize
     ensures inside { result ≤ length files.now }
-    ensures place { (f : TableFile) → f.name ≡ name.now → file_inserted f files.now ≡ insert files.now result f }
+    ensures place { (f : TableFile) → f.name ≡ name.now
+        → file_inserted f files.now ≡ insert files.now result f }
 {
     for (i, file) in files.iter().enumerate() {
         if name.cmp(file.name.as_slice()) == Ordering::Less {
@@ -103,7 +105,8 @@ pub fn with_file(alloc: Global, table: &Table, name: &[u8]) -> Result<Table, All
 }
 
 fn objects_without(alloc: Global, objects: &[Object], key: &Key) -> Result<Vec<Object>, AllocError>
-    ensures { IfOk result (λ changed. changed.items ≡ filter (λ o. not (is_current_of (oid_of_key key.now) o)) objects.now) }
+    ensures { IfOk result (λ changed. changed.items
+        ≡ filter (λ o. not (is_current_of (oid_of_key key.now) o)) objects.now) }
 {
     let mut out = Vec::new(alloc);
     for object in objects {
@@ -119,7 +122,8 @@ fn files_without_object(
     files: &[TableFile],
     key: &Key,
 ) -> Result<Vec<TableFile>, AllocError>
-    ensures { IfOk result (λ changed. changed.items ≡ map (with_objects (filter (λ o. not (is_current_of (oid_of_key key.now) o)))) files.now) }
+    ensures { IfOk result (λ changed. changed.items
+        ≡ map (with_objects (filter (λ o. not (is_current_of (oid_of_key key.now) o)))) files.now) }
 {
     let mut out = Vec::new(alloc);
     for file in files {
@@ -149,7 +153,8 @@ fn files_without(
     files: &[TableFile],
     name: &[u8],
 ) -> Result<Vec<TableFile>, AllocError>
-    ensures { IfOk result (λ changed. changed.items ≡ filter (λ f. not (has_name name.now f)) files.now) }
+    ensures { IfOk result (λ changed. changed.items
+        ≡ filter (λ f. not (has_name name.now f)) files.now) }
 {
     let mut out = Vec::new(alloc);
     for file in files {

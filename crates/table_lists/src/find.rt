@@ -55,7 +55,8 @@ fn in_versions<'a>(versions: &'a [Version], key: &Key) -> Option<&'a Version>
 }
 
 fn in_objects<'a>(objects: &'a [Object], key: &Key) -> Option<&'a Version>
-    ensures { option_copied result ≡ find (has_oid (oid_of_key key.now)) (flat_map (λ o. o.versions) objects.now) }
+    ensures { option_copied result ≡ find (has_oid (oid_of_key key.now)) (flat_map
+        (λ o. o.versions) objects.now) }
 {
     for object in objects {
         match in_versions(object.versions.as_slice(), key) {
@@ -67,7 +68,8 @@ fn in_objects<'a>(objects: &'a [Object], key: &Key) -> Option<&'a Version>
 }
 
 fn in_files<'a>(files: &'a [TableFile], key: &Key) -> Option<&'a Version>
-    ensures { option_copied result ≡ find (has_oid (oid_of_key key.now)) (flat_map versions_in files.now) }
+    ensures { option_copied result ≡ find (has_oid (oid_of_key key.now))
+        (flat_map versions_in files.now) }
 {
     for file in files {
         match in_objects(file.objects.as_slice(), key) {
@@ -97,7 +99,8 @@ fn has_version(object: &Object, key: &Key) -> bool
 }
 
 fn object_with<'a>(objects: &'a [Object], key: &Key) -> Option<&'a Object>
-    ensures { option_copied result ≡ find (λ o. list_any (has_oid (oid_of_key key.now)) o.versions) objects.now }
+    ensures { option_copied result ≡ find
+        (λ o. list_any (has_oid (oid_of_key key.now)) o.versions) objects.now }
 {
     for object in objects {
         if has_version(object, key) {
@@ -108,7 +111,8 @@ fn object_with<'a>(objects: &'a [Object], key: &Key) -> Option<&'a Object>
 }
 
 fn object_in_files<'a>(files: &'a [TableFile], key: &Key) -> Option<&'a Object>
-    ensures { option_copied result ≡ find (λ o. list_any (has_oid (oid_of_key key.now)) o.versions) (flat_map (λ f. f.objects) files.now) }
+    ensures { option_copied result ≡ find (λ o. list_any (has_oid (oid_of_key key.now)) o.versions)
+        (flat_map (λ f. f.objects) files.now) }
 {
     for file in files {
         match object_with(file.objects.as_slice(), key) {
@@ -148,7 +152,8 @@ fn is_current_among(objects: &[Object], key: &Key) -> bool
 }
 
 fn is_current_in_files(files: &[TableFile], key: &Key) -> bool
-    ensures { result ≡ list_any (is_current_of (oid_of_key key.now)) (flat_map (λ f. f.objects) files.now) }
+    ensures { result ≡ list_any (is_current_of (oid_of_key key.now)) (flat_map
+        (λ f. f.objects) files.now) }
 {
     for file in files {
         if is_current_among(file.objects.as_slice(), key) {

@@ -89,7 +89,8 @@ pub fn with_bound(
     name: &[u8],
     oid: Oid,
 ) -> Result<BoundNames, AllocError>
-    ensures { IfOk result (λ changed. changed ≡ names.now ++ record { name = name.now; oid = oid; marked = true } ∷ []) }
+    ensures { IfOk result (λ changed. changed ≡ names.now
+        ++ record { name = name.now; oid = oid; marked = true } ∷ []) }
 {
     let mut out = Vec::new(alloc);
     for bound in names {
@@ -116,7 +117,8 @@ pub fn file_names(alloc: Global, files: &[TableFile]) -> Result<Vec<Name>, Alloc
 
 /// The identifiers of the objects' current versions, in the order of the objects.
 pub fn current_oids(alloc: Global, objects: &[Object]) -> Result<Vec<Oid>, AllocError>
-    ensures { IfOk result (λ found. found.items ≡ flat_map (λ o. current_oids (current o.versions)) objects.now) }
+    ensures { IfOk result (λ found. found.items
+        ≡ flat_map (λ o. current_oids (current o.versions)) objects.now) }
 {
     let mut out = Vec::new(alloc);
     for object in objects {

@@ -60,7 +60,8 @@ pub fn scans_without(
     scans: &[ScanRow],
     name: &[u8],
 ) -> Result<Vec<ScanRow>, AllocError>
-    ensures { IfOk result (λ kept. kept.items ≡ filter (λ s. not (bytes_eq s.name name.now)) scans.now) }
+    ensures { IfOk result (λ kept. kept.items
+        ≡ filter (λ s. not (bytes_eq s.name name.now)) scans.now) }
 {
     let mut out = Vec::new(alloc);
     for scan in scans {
@@ -119,7 +120,8 @@ pub fn next_bytes(
     name: &[u8],
     len: u32,
 ) -> Result<Bytes, AllocError>
-    ensures { IfOk result (λ bytes. bytes ≡ next_bytes (find (λ s. bytes_eq s.name name.now) scans.now) len) }
+    ensures { IfOk result
+        (λ bytes. bytes ≡ next_bytes (find (λ s. bytes_eq s.name name.now) scans.now) len) }
 {
     match scan_named(scans, name) {
         Some(scan) => {

@@ -6,6 +6,8 @@ use Rattle.ex_base.specs.Edits.{inserted, deleted, replaced, appended}
 use Rattle.ex_base.specs.declared.names.Area.TheVariants.{Page, Segment}
 use Rattle.ex_base.specs.declared.names.Oid.{Oid}
 use Rattle.ex_base.specs.declared.names.OpNote.{OpNote}
+use Rattle.ex_base.specs.declared.notes.NoteKind.{NoteKind}
+use Rattle.ex_base.specs.declared.notes.NoteKind.TheVariants as note_kind
 use Rattle.table_model.specs.declared.table.Table.{Table}
 use Rattle.table_model.specs.declared.table.TableFile.{TableFile}
 use Rattle.table_model.specs.declared.table.Object.{Object}
@@ -26,7 +28,7 @@ use Rattle.table_model.specs.Refusals.{refusal_of}
 
 -- ---- what an update leaves in the log
 
-abbrev pub note : ℕ → Oid → ℕ → ℕ → OpNote
+abbrev pub note : NoteKind → Oid → ℕ → ℕ → OpNote
 note kind oid first second = record { kind = kind; oid = oid; first = first; second = second }
 
 -- the identifier of the version that `create` and `freeze` make
@@ -34,16 +36,16 @@ abbrev pub new_oid : Machine → Pick → Oid
 new_oid m q = record { page = q.place.page; slot = q.place.slot; unique = (shown m).next_unique }
 
 abbrev pub notes_of : Machine → Request → Pick → List OpNote
-notes_of m (request.File name) q = note 1 no_oid 0 0 ∷ []
-notes_of m (request.Unfile name) q = note 2 no_oid 0 0 ∷ []
-notes_of m (request.Create file bind) q = note 3 (new_oid m q) 0 0 ∷ []
-notes_of m (request.Destroy x) q = note 4 (the_oid m x) 0 0 ∷ []
-notes_of m (request.Insert x pos given) q = note 5 (the_oid m x) pos (data_count given) ∷ []
-notes_of m (request.Append x given) q = note 6 (the_oid m x) (size_of m x) (data_count given) ∷ []
-notes_of m (request.Replace x pos given) q = note 7 (the_oid m x) pos (data_count given) ∷ []
-notes_of m (request.Delete x pos len) q = note 8 (the_oid m x) pos len ∷ []
-notes_of m (request.Freeze x bind) q = note 9 (new_oid m q) 0 0 ∷ []
-notes_of m (request.DropVersion x) q = note 10 (the_oid m x) 0 0 ∷ []
+notes_of m (request.File name) q = note note_kind.FileMade no_oid 0 0 ∷ []
+notes_of m (request.Unfile name) q = note note_kind.FileRemoved no_oid 0 0 ∷ []
+notes_of m (request.Create file bind) q = note note_kind.ObjectMade (new_oid m q) 0 0 ∷ []
+notes_of m (request.Destroy x) q = note note_kind.ObjectRemoved (the_oid m x) 0 0 ∷ []
+notes_of m (request.Insert x pos given) q = note note_kind.Inserted (the_oid m x) pos (data_count given) ∷ []
+notes_of m (request.Append x given) q = note note_kind.Appended (the_oid m x) (size_of m x) (data_count given) ∷ []
+notes_of m (request.Replace x pos given) q = note note_kind.Replaced (the_oid m x) pos (data_count given) ∷ []
+notes_of m (request.Delete x pos len) q = note note_kind.Deleted (the_oid m x) pos len ∷ []
+notes_of m (request.Freeze x bind) q = note note_kind.Frozen (new_oid m q) 0 0 ∷ []
+notes_of m (request.DropVersion x) q = note note_kind.Dropped (the_oid m x) 0 0 ∷ []
 notes_of m _ q = []
 
 -- ---- the table that an update leaves

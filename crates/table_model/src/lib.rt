@@ -7,7 +7,6 @@ mod command;
 mod laws;
 mod limits;
 mod machine;
-mod notes;
 mod reply;
 mod table;
 
@@ -17,10 +16,6 @@ pub use laws::{rules_hold_at_the_start, steps_keep_the_rules};
 pub use limits::{DATA_MOST, FRAMES_MOST, GROUPS_MOST, SCANS_MOST};
 pub use machine::{
     BoundName, BoundNames, GroupRow, GroupRows, Lengths, Machine, NoteList, Pick, ScanRow, ScanRows,
-};
-pub use notes::{
-    APPENDED, DELETED, DROPPED, FILE_MADE, FILE_REMOVED, FROZEN, INSERTED, OBJECT_MADE,
-    OBJECT_REMOVED, REPLACED,
 };
 pub use reply::{Names, OidList, Refusal, Reply};
 pub use table::{Bytes, Name, Object, Objects, Table, TableFile, TableFiles, Version, Versions};

@@ -49,7 +49,8 @@ pub(crate) fn step_stat(
     x: &Subject,
     pick: &Pick,
 ) -> Result<Reply, AllocError>
-    ensures step { IfOk result (λ told. Step machine.old (request.Stat (reference_of x.now)) pick.now told machine.new) }
+    ensures step { IfOk result
+        (λ told. Step machine.old (request.Stat (reference_of x.now)) pick.now told machine.new) }
     ensures kept { OnErr result (machine.new ≡ machine.old) }
 {
     if let Some(why) = no_name(machine, x).or(no_object(machine, x).or(None)) {
@@ -75,7 +76,8 @@ pub(crate) fn step_digest(
     x: &Subject,
     pick: &Pick,
 ) -> Result<Reply, AllocError>
-    ensures step { IfOk result (λ told. Step machine.old (request.Digest (reference_of x.now)) pick.now told machine.new) }
+    ensures step { IfOk result
+        (λ told. Step machine.old (request.Digest (reference_of x.now)) pick.now told machine.new) }
     ensures kept { OnErr result (machine.new ≡ machine.old) }
 {
     if let Some(why) = no_name(machine, x).or(no_object(machine, x).or(None)) {
@@ -100,7 +102,8 @@ fn read(
     pos: u64,
     len: u32,
 ) -> Result<Reply, AllocError>
-    ensures { IfOk result (λ told. told ≡ Reply.Read (bytes_at (bytes_of machine.now (reference_of x.now)) pos len)) }
+    ensures { IfOk result
+        (λ told. told ≡ Reply.Read (bytes_at (bytes_of machine.now (reference_of x.now)) pos len)) }
 {
     let bytes = match version_named(machine, x) {
         Some(version) => Items::of_bytes(alloc, part(version.bytes.as_slice(), pos, len))?,
@@ -117,7 +120,9 @@ pub(crate) fn step_read(
     len: u32,
     pick: &Pick,
 ) -> Result<Reply, AllocError>
-    ensures step { IfOk result (λ told. Step machine.old (request.Read (reference_of x.now) pos len) pick.now told machine.new) }
+    ensures step { IfOk result
+        (λ told. Step machine.old (request.Read
+        (reference_of x.now) pos len) pick.now told machine.new) }
     ensures kept { OnErr result (machine.new ≡ machine.old) }
 {
     match refuse_read(machine, x, pos, len, pick) {
@@ -132,7 +137,9 @@ pub(crate) fn step_versions(
     x: &Subject,
     pick: &Pick,
 ) -> Result<Reply, AllocError>
-    ensures step { IfOk result (λ told. Step machine.old (request.Versions (reference_of x.now)) pick.now told machine.new) }
+    ensures step { IfOk result
+        (λ told. Step machine.old (request.Versions
+        (reference_of x.now)) pick.now told machine.new) }
     ensures kept { OnErr result (machine.new ≡ machine.old) }
 {
     if let Some(why) = no_name(machine, x).or(no_object(machine, x).or(None)) {

@@ -19,23 +19,25 @@ use crate::refuse::{
 };
 use crate::update::{note, update};
 use data_words::data_bytes;
-use ex_base::{Area, delete_need, growth_need, replace_need};
+use ex_base::{Area, NoteKind, delete_need, growth_need, replace_need};
 use std::alloc::{AllocError, Global};
 use table_lists::{Edit, Key, VersionChange, data_count, in_each_object};
-use table_model::{
-    APPENDED, DELETED, INSERTED, Machine, Pick, REPLACED, Refusal, Reply, Subject, Table,
-};
+use table_model::{Machine, Pick, Refusal, Reply, Subject, Table};
 
 /// The table with one version's bytes edited.
 fn with_bytes(alloc: Global, table: &Table, key: &Key, edit: &Edit) -> Result<Table, AllocError>
-    ensures { IfOk result (λ changed. changed ≡ with_bytes (oid_of_key key.now) (edit_of edit.now) table.now) }
+    ensures { IfOk result (λ changed. changed
+        ≡ with_bytes (oid_of_key key.now) (edit_of edit.now) table.now) }
 {
     in_each_object(alloc, table, &VersionChange::Edit(*key, *edit))
 }
 
 /// The refusals that the edits have in common, before one's own.
 fn edit_refusal(machine: &Machine, x: &Subject, own: Option<Refusal>) -> Option<Refusal>
-    ensures { result ≡ option_or (no_txn machine.now) (option_or (no_name machine.now (reference_of x.now)) (option_or (no_object machine.now (reference_of x.now)) (option_or (frozen machine.now (reference_of x.now)) own))) }
+    ensures { result ≡ option_or (no_txn machine.now)
+        (option_or (no_name machine.now (reference_of x.now))
+        (option_or (no_object machine.now (reference_of x.now))
+        (option_or (frozen machine.now (reference_of x.now)) own))) }
 {
     let live = no_object(machine, x).or(frozen(machine, x).or(own));
     no_txn(machine).or(no_name(machine, x).or(live))
@@ -51,7 +53,9 @@ fn refuse_insert(
 ) -> Result<Option<Refusal>, AllocError>
     requires machine { IsMachine machine.now }
     requires form { data_count given.now ≤ data_most }
-    ensures { IfOk result (λ found. found ≡ refusal_of machine.now (request.Insert (reference_of x.now) pos given.now) pick.now) }
+    ensures { IfOk result
+        (λ found. found ≡ refusal_of machine.now
+        (request.Insert (reference_of x.now) pos given.now) pick.now) }
 {
     let n = data_count(alloc, given)?;
     let pages = growth_need(&machine.geometry, n, pick.height, Area::Page);
@@ -76,8 +80,10 @@ fn insert(
 ) -> Result<Reply, AllocError>
     requires form { data_count given.now ≤ data_most }
     requires room { size_of machine.old (reference_of x.now) + data_count given.now < 2 ^ 64 }
-    ensures reply { IfOk result (λ told. told ≡ reply_to machine.old (request.Insert (reference_of x.now) pos given.now) pick.now) }
-    ensures machine { IfOk result (λ _. machine.new ≡ machine_after machine.old (request.Insert (reference_of x.now) pos given.now) pick.now) }
+    ensures reply { IfOk result (λ told. told
+        ≡ reply_to machine.old (request.Insert (reference_of x.now) pos given.now) pick.now) }
+    ensures machine { IfOk result (λ _. machine.new
+        ≡ machine_after machine.old (request.Insert (reference_of x.now) pos given.now) pick.now) }
     ensures kept { OnErr result (machine.new ≡ machine.old) }
 {
     let more = data_bytes(alloc, given)?;
@@ -90,7 +96,12 @@ fn insert(
         bytes: more.as_slice(),
     };
     let table = with_bytes(alloc, shown(machine), &key, &edit)?;
-    update(machine, table, note(INSERTED, oid, pos, count), pick)?;
+    update(
+        machine,
+        table,
+        note(NoteKind::Inserted, oid, pos, count),
+        pick,
+    )?;
     Ok(Reply::Insert {
         size: before + count,
     })
@@ -106,8 +117,11 @@ pub(crate) fn step_insert(
 ) -> Result<Reply, AllocError>
     requires machine { IsMachine machine.old }
     requires form { data_count given.now ≤ data_most }
-    requires allowed { Allows machine.old (request.Insert (reference_of x.now) pos given.now) pick.now }
-    ensures step { IfOk result (λ told. Step machine.old (request.Insert (reference_of x.now) pos given.now) pick.now told machine.new) }
+    requires allowed { Allows machine.old
+        (request.Insert (reference_of x.now) pos given.now) pick.now }
+    ensures step { IfOk result
+        (λ told. Step machine.old (request.Insert
+        (reference_of x.now) pos given.now) pick.now told machine.new) }
     ensures kept { OnErr result (machine.new ≡ machine.old) }
 {
     match refuse_insert(alloc, machine, x, pos, given, pick)? {
@@ -125,7 +139,9 @@ fn refuse_append(
 ) -> Result<Option<Refusal>, AllocError>
     requires machine { IsMachine machine.now }
     requires form { data_count given.now ≤ data_most }
-    ensures { IfOk result (λ found. found ≡ refusal_of machine.now (request.Append (reference_of x.now) given.now) pick.now) }
+    ensures { IfOk result
+        (λ found. found ≡ refusal_of machine.now
+        (request.Append (reference_of x.now) given.now) pick.now) }
 {
     let n = data_count(alloc, given)?;
     let pages = growth_need(&machine.geometry, n, pick.height, Area::Page);
@@ -149,8 +165,10 @@ fn append(
 ) -> Result<Reply, AllocError>
     requires form { data_count given.now ≤ data_most }
     requires room { size_of machine.old (reference_of x.now) + data_count given.now < 2 ^ 64 }
-    ensures reply { IfOk result (λ told. told ≡ reply_to machine.old (request.Append (reference_of x.now) given.now) pick.now) }
-    ensures machine { IfOk result (λ _. machine.new ≡ machine_after machine.old (request.Append (reference_of x.now) given.now) pick.now) }
+    ensures reply { IfOk result (λ told. told
+        ≡ reply_to machine.old (request.Append (reference_of x.now) given.now) pick.now) }
+    ensures machine { IfOk result (λ _. machine.new
+        ≡ machine_after machine.old (request.Append (reference_of x.now) given.now) pick.now) }
     ensures kept { OnErr result (machine.new ≡ machine.old) }
 {
     let more = data_bytes(alloc, given)?;
@@ -162,7 +180,12 @@ fn append(
         bytes: more.as_slice(),
     };
     let table = with_bytes(alloc, shown(machine), &key, &edit)?;
-    update(machine, table, note(APPENDED, oid, before, count), pick)?;
+    update(
+        machine,
+        table,
+        note(NoteKind::Appended, oid, before, count),
+        pick,
+    )?;
     Ok(Reply::Append {
         size: before + count,
     })
@@ -178,7 +201,9 @@ pub(crate) fn step_append(
     requires machine { IsMachine machine.old }
     requires form { data_count given.now ≤ data_most }
     requires allowed { Allows machine.old (request.Append (reference_of x.now) given.now) pick.now }
-    ensures step { IfOk result (λ told. Step machine.old (request.Append (reference_of x.now) given.now) pick.now told machine.new) }
+    ensures step { IfOk result
+        (λ told. Step machine.old (request.Append
+        (reference_of x.now) given.now) pick.now told machine.new) }
     ensures kept { OnErr result (machine.new ≡ machine.old) }
 {
     match refuse_append(alloc, machine, x, given, pick)? {
@@ -197,7 +222,9 @@ fn refuse_replace(
 ) -> Result<Option<Refusal>, AllocError>
     requires machine { IsMachine machine.now }
     requires form { data_count given.now ≤ data_most }
-    ensures { IfOk result (λ found. found ≡ refusal_of machine.now (request.Replace (reference_of x.now) pos given.now) pick.now) }
+    ensures { IfOk result
+        (λ found. found ≡ refusal_of machine.now
+        (request.Replace (reference_of x.now) pos given.now) pick.now) }
 {
     let n = data_count(alloc, given)?;
     let pages = replace_need(&machine.geometry, n, pick.height, Area::Page);
@@ -222,8 +249,10 @@ fn replace(
     pick: &Pick,
 ) -> Result<Reply, AllocError>
     requires form { data_count given.now ≤ data_most }
-    ensures reply { IfOk result (λ told. told ≡ reply_to machine.old (request.Replace (reference_of x.now) pos given.now) pick.now) }
-    ensures machine { IfOk result (λ _. machine.new ≡ machine_after machine.old (request.Replace (reference_of x.now) pos given.now) pick.now) }
+    ensures reply { IfOk result (λ told. told
+        ≡ reply_to machine.old (request.Replace (reference_of x.now) pos given.now) pick.now) }
+    ensures machine { IfOk result (λ _. machine.new
+        ≡ machine_after machine.old (request.Replace (reference_of x.now) pos given.now) pick.now) }
     ensures kept { OnErr result (machine.new ≡ machine.old) }
 {
     let more = data_bytes(alloc, given)?;
@@ -236,7 +265,12 @@ fn replace(
         bytes: more.as_slice(),
     };
     let table = with_bytes(alloc, shown(machine), &key, &edit)?;
-    update(machine, table, note(REPLACED, oid, pos, count), pick)?;
+    update(
+        machine,
+        table,
+        note(NoteKind::Replaced, oid, pos, count),
+        pick,
+    )?;
     Ok(Reply::Replace { size: before })
 }
 
@@ -250,8 +284,11 @@ pub(crate) fn step_replace(
 ) -> Result<Reply, AllocError>
     requires machine { IsMachine machine.old }
     requires form { data_count given.now ≤ data_most }
-    requires allowed { Allows machine.old (request.Replace (reference_of x.now) pos given.now) pick.now }
-    ensures step { IfOk result (λ told. Step machine.old (request.Replace (reference_of x.now) pos given.now) pick.now told machine.new) }
+    requires allowed { Allows machine.old
+        (request.Replace (reference_of x.now) pos given.now) pick.now }
+    ensures step { IfOk result
+        (λ told. Step machine.old (request.Replace
+        (reference_of x.now) pos given.now) pick.now told machine.new) }
     ensures kept { OnErr result (machine.new ≡ machine.old) }
 {
     match refuse_replace(alloc, machine, x, pos, given, pick)? {
@@ -262,7 +299,8 @@ pub(crate) fn step_replace(
 
 fn refuse_delete(machine: &Machine, x: &Subject, pos: u64, len: u64, pick: &Pick) -> Option<Refusal>
     requires { IsMachine machine.now }
-    ensures { result ≡ refusal_of machine.now (request.Delete (reference_of x.now) pos len) pick.now }
+    ensures { result ≡ refusal_of machine.now
+        (request.Delete (reference_of x.now) pos len) pick.now }
 {
     let pages = edit_need(len, pick, delete_need(pick.height, Area::Page));
     let segs = edit_need(len, pick, delete_need(pick.height, Area::Segment));
@@ -279,15 +317,17 @@ fn delete(
     len: u64,
     pick: &Pick,
 ) -> Result<Reply, AllocError>
-    ensures reply { IfOk result (λ told. told ≡ reply_to machine.old (request.Delete (reference_of x.now) pos len) pick.now) }
-    ensures machine { IfOk result (λ _. machine.new ≡ machine_after machine.old (request.Delete (reference_of x.now) pos len) pick.now) }
+    ensures reply { IfOk result (λ told. told
+        ≡ reply_to machine.old (request.Delete (reference_of x.now) pos len) pick.now) }
+    ensures machine { IfOk result (λ _. machine.new
+        ≡ machine_after machine.old (request.Delete (reference_of x.now) pos len) pick.now) }
     ensures kept { OnErr result (machine.new ≡ machine.old) }
 {
     let key = the_key(machine, x);
     let oid = the_oid(machine, x);
     let before = size_named(machine, x);
     let table = with_bytes(alloc, shown(machine), &key, &Edit::Delete { pos, len })?;
-    update(machine, table, note(DELETED, oid, pos, len), pick)?;
+    update(machine, table, note(NoteKind::Deleted, oid, pos, len), pick)?;
     Ok(Reply::Delete {
         size: before.saturating_sub(len),
     })
@@ -303,7 +343,9 @@ pub(crate) fn step_delete(
 ) -> Result<Reply, AllocError>
     requires machine { IsMachine machine.old }
     requires allowed { Allows machine.old (request.Delete (reference_of x.now) pos len) pick.now }
-    ensures step { IfOk result (λ told. Step machine.old (request.Delete (reference_of x.now) pos len) pick.now told machine.new) }
+    ensures step { IfOk result
+        (λ told. Step machine.old (request.Delete
+        (reference_of x.now) pos len) pick.now told machine.new) }
     ensures kept { OnErr result (machine.new ≡ machine.old) }
 {
     match refuse_delete(machine, x, pos, len, pick) {

@@ -9,10 +9,10 @@ ghost use Rattle.table_model.specs.Steps.{Step, Allows, reply_to, machine_after}
 use crate::need::{FILE_CHARGE, FILE_PAGES};
 use crate::refuse::{file_exists, files_full, limits, no_file, no_txn, not_empty, shown};
 use crate::update::{note, update};
-use ex_base::{Items, Oid};
+use ex_base::{Items, NoteKind, Oid};
 use std::alloc::{AllocError, Global};
 use table_lists::{current_oids, file_names, find_file, with_file, without_file};
-use table_model::{FILE_MADE, FILE_REMOVED, Machine, Pick, Refusal, Reply};
+use table_model::{Machine, Pick, Refusal, Reply};
 
 fn refuse_file(machine: &Machine, name: &[u8], pick: &Pick) -> Option<Refusal>
     requires { length machine.now.notes ≤ updates_most }
@@ -23,13 +23,20 @@ fn refuse_file(machine: &Machine, name: &[u8], pick: &Pick) -> Option<Refusal>
 }
 
 fn file(alloc: Global, machine: &mut Machine, name: &[u8], pick: &Pick) -> Result<Reply, AllocError>
-    ensures reply { IfOk result (λ told. told ≡ reply_to machine.old (request.File name.now) pick.now) }
-    ensures machine { IfOk result (λ _. machine.new ≡ machine_after machine.old (request.File name.now) pick.now) }
+    ensures reply { IfOk result (λ told. told
+        ≡ reply_to machine.old (request.File name.now) pick.now) }
+    ensures machine { IfOk result (λ _. machine.new
+        ≡ machine_after machine.old (request.File name.now) pick.now) }
     ensures kept { OnErr result (machine.new ≡ machine.old) }
 {
     let table = with_file(alloc, shown(machine), name)?;
     let name = Items::of_bytes(alloc, name)?;
-    update(machine, table, note(FILE_MADE, Oid::NONE, 0, 0), pick)?;
+    update(
+        machine,
+        table,
+        note(NoteKind::FileMade, Oid::NONE, 0, 0),
+        pick,
+    )?;
     Ok(Reply::File { name })
 }
 
@@ -41,7 +48,8 @@ pub(crate) fn step_file(
 ) -> Result<Reply, AllocError>
     requires machine { IsMachine machine.old }
     requires allowed { Allows machine.old (request.File name.now) pick.now }
-    ensures step { IfOk result (λ told. Step machine.old (request.File name.now) pick.now told machine.new) }
+    ensures step { IfOk result
+        (λ told. Step machine.old (request.File name.now) pick.now told machine.new) }
     ensures kept { OnErr result (machine.new ≡ machine.old) }
 {
     match refuse_file(machine, name, pick) {
@@ -58,7 +66,8 @@ pub(crate) fn step_unfile(
 ) -> Result<Reply, AllocError>
     requires machine { IsMachine machine.old }
     requires allowed { Allows machine.old (request.Unfile name.now) pick.now }
-    ensures step { IfOk result (λ told. Step machine.old (request.Unfile name.now) pick.now told machine.new) }
+    ensures step { IfOk result
+        (λ told. Step machine.old (request.Unfile name.now) pick.now told machine.new) }
     ensures kept { OnErr result (machine.new ≡ machine.old) }
 {
     let room = limits(machine, FILE_CHARGE, 0, 0);
@@ -68,7 +77,12 @@ pub(crate) fn step_unfile(
     }
     let table = without_file(alloc, shown(machine), name)?;
     let name = Items::of_bytes(alloc, name)?;
-    update(machine, table, note(FILE_REMOVED, Oid::NONE, 0, 0), pick)?;
+    update(
+        machine,
+        table,
+        note(NoteKind::FileRemoved, Oid::NONE, 0, 0),
+        pick,
+    )?;
     Ok(Reply::Unfile { name })
 }
 
@@ -92,7 +106,8 @@ pub(crate) fn step_list(
     name: &[u8],
     pick: &Pick,
 ) -> Result<Reply, AllocError>
-    ensures step { IfOk result (λ told. Step machine.old (request.ListFile name.now) pick.now told machine.new) }
+    ensures step { IfOk result
+        (λ told. Step machine.old (request.ListFile name.now) pick.now told machine.new) }
     ensures kept { OnErr result (machine.new ≡ machine.old) }
 {
     if let Some(why) = no_file(machine, name).or(None) {

@@ -15,12 +15,10 @@ use crate::refuse::{
     no_txn, shown, the_key, the_oid,
 };
 use crate::update::{note, update};
-use ex_base::{Items, Oid};
+use ex_base::{Items, NoteKind, Oid};
 use std::alloc::{AllocError, Global};
 use table_lists::{Key, VersionChange, in_each_object, with_bound, with_object, without_object};
-use table_model::{
-    DROPPED, FROZEN, Machine, OBJECT_MADE, OBJECT_REMOVED, Pick, Refusal, Reply, Subject, Table,
-};
+use table_model::{Machine, Pick, Refusal, Reply, Subject, Table};
 
 /// The identifier of the version that the update makes.
 fn new_oid(machine: &Machine, pick: &Pick) -> Oid
@@ -50,14 +48,16 @@ fn create(
     pick: &Pick,
 ) -> Result<Reply, AllocError>
     requires { (shown machine.old).next_unique < 2 ^ 64 - 1 }
-    ensures reply { IfOk result (λ told. told ≡ reply_to machine.old (request.Create file.now bind.now) pick.now) }
-    ensures machine { IfOk result (λ _. machine.new ≡ machine_after machine.old (request.Create file.now bind.now) pick.now) }
+    ensures reply { IfOk result (λ told. told
+        ≡ reply_to machine.old (request.Create file.now bind.now) pick.now) }
+    ensures machine { IfOk result (λ _. machine.new
+        ≡ machine_after machine.old (request.Create file.now bind.now) pick.now) }
     ensures kept { OnErr result (machine.new ≡ machine.old) }
 {
     let oid = new_oid(machine, pick);
     let table = with_object(alloc, shown(machine), &oid, file)?;
     let names = with_bound(alloc, machine.names.as_slice(), bind, oid)?;
-    update(machine, table, note(OBJECT_MADE, oid, 0, 0), pick)?;
+    update(machine, table, note(NoteKind::ObjectMade, oid, 0, 0), pick)?;
     machine.names = names;
     Ok(Reply::Create { oid })
 }
@@ -71,7 +71,8 @@ pub(crate) fn step_create(
 ) -> Result<Reply, AllocError>
     requires machine { IsMachine machine.old }
     requires allowed { Allows machine.old (request.Create name.now bind.now) pick.now }
-    ensures step { IfOk result (λ told. Step machine.old (request.Create name.now bind.now) pick.now told machine.new) }
+    ensures step { IfOk result
+        (λ told. Step machine.old (request.Create name.now bind.now) pick.now told machine.new) }
     ensures kept { OnErr result (machine.new ≡ machine.old) }
 {
     match refuse_create(machine, name, bind, pick) {
@@ -88,7 +89,9 @@ pub(crate) fn step_destroy(
 ) -> Result<Reply, AllocError>
     requires machine { IsMachine machine.old }
     requires allowed { Allows machine.old (request.Destroy (reference_of x.now)) pick.now }
-    ensures step { IfOk result (λ told. Step machine.old (request.Destroy (reference_of x.now)) pick.now told machine.new) }
+    ensures step { IfOk result
+        (λ told. Step machine.old (request.Destroy
+        (reference_of x.now)) pick.now told machine.new) }
     ensures kept { OnErr result (machine.new ≡ machine.old) }
 {
     let room = limits(machine, RECORD_CHARGE, 0, 0);
@@ -99,13 +102,19 @@ pub(crate) fn step_destroy(
     }
     let oid = the_oid(machine, x);
     let table = without_object(alloc, shown(machine), &the_key(machine, x))?;
-    update(machine, table, note(OBJECT_REMOVED, oid, 0, 0), pick)?;
+    update(
+        machine,
+        table,
+        note(NoteKind::ObjectRemoved, oid, 0, 0),
+        pick,
+    )?;
     Ok(Reply::Destroy { oid })
 }
 
 fn with_frozen(alloc: Global, table: &Table, key: &Key, copy: &Oid) -> Result<Table, AllocError>
     requires { table.now.next_unique + 1 < 2 ^ 64 }
-    ensures { IfOk result (λ changed. changed ≡ numbered (with_frozen (oid_of_key key.now) copy.now table.now)) }
+    ensures { IfOk result (λ changed. changed
+        ≡ numbered (with_frozen (oid_of_key key.now) copy.now table.now)) }
 {
     let mut changed = in_each_object(alloc, table, &VersionChange::Freeze(*key, *copy))?;
     changed.next_unique = table.next_unique + 1;
@@ -114,7 +123,8 @@ fn with_frozen(alloc: Global, table: &Table, key: &Key, copy: &Oid) -> Result<Ta
 
 fn refuse_freeze(machine: &Machine, x: &Subject, bind: &[u8], pick: &Pick) -> Option<Refusal>
     requires { IsMachine machine.now }
-    ensures { result ≡ refusal_of machine.now (request.Freeze (reference_of x.now) bind.now) pick.now }
+    ensures { result ≡ refusal_of machine.now
+        (request.Freeze (reference_of x.now) bind.now) pick.now }
 {
     let room = limits(machine, RECORD_CHARGE, RECORD_PAGES, 0);
     let spent = ids_spent(shown(machine).next_unique).or(room);
@@ -130,15 +140,17 @@ fn freeze(
     pick: &Pick,
 ) -> Result<Reply, AllocError>
     requires { (shown machine.old).next_unique < 2 ^ 64 - 1 }
-    ensures reply { IfOk result (λ told. told ≡ reply_to machine.old (request.Freeze (reference_of x.now) bind.now) pick.now) }
-    ensures machine { IfOk result (λ _. machine.new ≡ machine_after machine.old (request.Freeze (reference_of x.now) bind.now) pick.now) }
+    ensures reply { IfOk result (λ told. told
+        ≡ reply_to machine.old (request.Freeze (reference_of x.now) bind.now) pick.now) }
+    ensures machine { IfOk result (λ _. machine.new
+        ≡ machine_after machine.old (request.Freeze (reference_of x.now) bind.now) pick.now) }
     ensures kept { OnErr result (machine.new ≡ machine.old) }
 {
     let oid = new_oid(machine, pick);
     let key = the_key(machine, x);
     let table = with_frozen(alloc, shown(machine), &key, &oid)?;
     let bound = with_bound(alloc, machine.names.as_slice(), bind, oid)?;
-    update(machine, table, note(FROZEN, oid, 0, 0), pick)?;
+    update(machine, table, note(NoteKind::Frozen, oid, 0, 0), pick)?;
     machine.names = bound;
     Ok(Reply::Freeze { oid })
 }
@@ -152,7 +164,9 @@ pub(crate) fn step_freeze(
 ) -> Result<Reply, AllocError>
     requires machine { IsMachine machine.old }
     requires allowed { Allows machine.old (request.Freeze (reference_of x.now) bind.now) pick.now }
-    ensures step { IfOk result (λ told. Step machine.old (request.Freeze (reference_of x.now) bind.now) pick.now told machine.new) }
+    ensures step { IfOk result
+        (λ told. Step machine.old (request.Freeze
+        (reference_of x.now) bind.now) pick.now told machine.new) }
     ensures kept { OnErr result (machine.new ≡ machine.old) }
 {
     match refuse_freeze(machine, x, bind, pick) {
@@ -182,14 +196,16 @@ fn drop_version(
     x: &Subject,
     pick: &Pick,
 ) -> Result<Reply, AllocError>
-    ensures reply { IfOk result (λ told. told ≡ reply_to machine.old (request.DropVersion (reference_of x.now)) pick.now) }
-    ensures machine { IfOk result (λ _. machine.new ≡ machine_after machine.old (request.DropVersion (reference_of x.now)) pick.now) }
+    ensures reply { IfOk result (λ told. told
+        ≡ reply_to machine.old (request.DropVersion (reference_of x.now)) pick.now) }
+    ensures machine { IfOk result (λ _. machine.new
+        ≡ machine_after machine.old (request.DropVersion (reference_of x.now)) pick.now) }
     ensures kept { OnErr result (machine.new ≡ machine.old) }
 {
     let key = the_key(machine, x);
     let oid = the_oid(machine, x);
     let table = without_version(alloc, shown(machine), &key)?;
-    update(machine, table, note(DROPPED, oid, 0, 0), pick)?;
+    update(machine, table, note(NoteKind::Dropped, oid, 0, 0), pick)?;
     Ok(Reply::DropVersion { oid })
 }
 
@@ -201,7 +217,9 @@ pub(crate) fn step_drop_version(
 ) -> Result<Reply, AllocError>
     requires machine { IsMachine machine.old }
     requires allowed { Allows machine.old (request.DropVersion (reference_of x.now)) pick.now }
-    ensures step { IfOk result (λ told. Step machine.old (request.DropVersion (reference_of x.now)) pick.now told machine.new) }
+    ensures step { IfOk result
+        (λ told. Step machine.old (request.DropVersion
+        (reference_of x.now)) pick.now told machine.new) }
     ensures kept { OnErr result (machine.new ≡ machine.old) }
 {
     match refuse_drop_version(machine, x, pick) {

@@ -24,7 +24,8 @@ fn step_of(
     requires form { IsTrue (is_request (request_of command.now)) }
     requires machine { IsMachine machine.old }
     requires allowed { Allows machine.old (request_of command.now) pick.now }
-    ensures step { IfOk result (λ told. Step machine.old (request_of command.now) pick.now told machine.new) }
+    ensures step { IfOk result
+        (λ told. Step machine.old (request_of command.now) pick.now told machine.new) }
     ensures kept { OnErr result (machine.new ≡ machine.old) }
 {
     match command {
@@ -71,7 +72,8 @@ pub fn step_plain(
     requires form { IsTrue (is_request (request_of command.now)) }
     requires machine { IsMachine machine.old }
     requires allowed { Allows machine.old (request_of command.now) pick.now }
-    ensures step { IfOk result (λ told. Step machine.old (request_of command.now) pick.now told machine.new) }
+    ensures step { IfOk result
+        (λ told. Step machine.old (request_of command.now) pick.now told machine.new) }
     ensures rules { IfOk result (λ _. IsMachine machine.new) }
     ensures kept { OnErr result (machine.new ≡ machine.old) }
 {

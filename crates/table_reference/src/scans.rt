@@ -22,7 +22,8 @@ pub(crate) fn step_group(
     mru: bool,
     pick: &Pick,
 ) -> Result<Reply, AllocError>
-    ensures step { IfOk result (λ told. Step machine.old (request.Group name.now frames mru) pick.now told machine.new) }
+    ensures step { IfOk result
+        (λ told. Step machine.old (request.Group name.now frames mru) pick.now told machine.new) }
     ensures kept { OnErr result (machine.new ≡ machine.old) }
 {
     if let Some(why) = name_taken(machine, name).or(too_many_groups(machine).or(None)) {
@@ -45,7 +46,9 @@ pub(crate) fn step_scan(
     group: &Option<&[u8]>,
     pick: &Pick,
 ) -> Result<Reply, AllocError>
-    ensures step { IfOk result (λ told. Step machine.old (request.Scan (reference_of x.now) name.now (option_map (λ g. g.now) group.now)) pick.now told machine.new) }
+    ensures step { IfOk result
+        (λ told. Step machine.old (request.Scan (reference_of x.now) name.now (option_map
+        (λ g. g.now) group.now)) pick.now told machine.new) }
     ensures kept { OnErr result (machine.new ≡ machine.old) }
 {
     let own = no_object(machine, x).or(no_group(machine, group).or(too_many_scans(machine).or(
@@ -72,7 +75,8 @@ pub(crate) fn step_next(
     len: u32,
     pick: &Pick,
 ) -> Result<Reply, AllocError>
-    ensures step { IfOk result (λ told. Step machine.old (request.Next name.now len) pick.now told machine.new) }
+    ensures step { IfOk result
+        (λ told. Step machine.old (request.Next name.now len) pick.now told machine.new) }
     ensures kept { OnErr result (machine.new ≡ machine.old) }
 {
     if let Some(why) = no_scan(machine, name).or(None) {
@@ -91,7 +95,8 @@ pub(crate) fn step_close(
     pick: &Pick,
 ) -> Result<Reply, AllocError>
     requires { Allows machine.old (request.Close name.now) pick.now }
-    ensures step { IfOk result (λ told. Step machine.old (request.Close name.now) pick.now told machine.new) }
+    ensures step { IfOk result
+        (λ told. Step machine.old (request.Close name.now) pick.now told machine.new) }
     ensures kept { OnErr result (machine.new ≡ machine.old) }
 {
     if let Some(why) = no_scan(machine, name).or(None) {

@@ -14,7 +14,8 @@ use table_model::{Machine, Pick, Reply};
 fn begin(alloc: Global, machine: &mut Machine) -> Result<Reply, AllocError>
     requires { machine.old.committed.last < 2 ^ 64 - 1 }
     ensures reply { IfOk result (λ told. told ≡ Reply.Begin (machine.old.committed.last + 1)) }
-    ensures machine { IfOk result (λ _. machine.new ≡ record machine.old { working = Some machine.old.committed; notes = []; touched = 1 }) }
+    ensures machine { IfOk result (λ _. machine.new
+        ≡ record machine.old { working = Some machine.old.committed; notes = []; touched = 1 }) }
     ensures kept { OnErr result (machine.new ≡ machine.old) }
 {
     let number = machine.committed.last + 1;
@@ -43,7 +44,8 @@ pub(crate) fn step_begin(
 fn commit(alloc: Global, machine: &mut Machine, pick: &Pick) -> Result<Reply, AllocError>
     requires { (shown machine.old).last < 2 ^ 64 - 1 }
     ensures reply { IfOk result (λ told. told ≡ reply_to machine.old request.Commit pick.now) }
-    ensures machine { IfOk result (λ _. machine.new ≡ machine_after machine.old request.Commit pick.now) }
+    ensures machine { IfOk result (λ _. machine.new
+        ≡ machine_after machine.old request.Commit pick.now) }
     ensures kept { OnErr result (machine.new ≡ machine.old) }
 {
     let mut table = shown(machine).clone()?;
@@ -78,7 +80,8 @@ pub(crate) fn step_commit(
 
 fn abort(alloc: Global, machine: &mut Machine, pick: &Pick) -> Result<Reply, AllocError>
     ensures reply { IfOk result (λ told. told ≡ reply_to machine.old request.Abort pick.now) }
-    ensures machine { IfOk result (λ _. machine.new ≡ machine_after machine.old request.Abort pick.now) }
+    ensures machine { IfOk result (λ _. machine.new
+        ≡ machine_after machine.old request.Abort pick.now) }
     ensures kept { OnErr result (machine.new ≡ machine.old) }
 {
     let names = kept(alloc, machine.names.as_slice())?;

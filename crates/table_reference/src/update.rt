@@ -3,7 +3,7 @@
 ghost use Rattle.std.specs.Prelude.{◌≡◌, ◌++◌, ◌∷◌, [], Some, IfOk, OnErr};
 ghost use Rattle.table_model.specs.Steps.{counted, note};
 
-use ex_base::{Oid, OpNote};
+use ex_base::{NoteKind, Oid, OpNote};
 use std::alloc::AllocError;
 use table_model::{Machine, Pick, Table};
 
@@ -14,7 +14,13 @@ pub(crate) fn update(
     note: OpNote,
     pick: &Pick,
 ) -> Result<(), AllocError>
-    ensures machine { IfOk result (λ _. machine.new ≡ counted pick.now (record machine.old { working = Some table; notes = machine.old.notes ++ note ∷ []; touched = pick.now.touched })) }
+    ensures machine { IfOk result (λ _. machine.new
+        ≡ counted pick.now (record machine.old {
+          working = Some table;
+          notes = machine.old.notes
+              ++ note ∷ [];
+          touched = pick.now.touched;
+        })) }
     ensures kept { OnErr result (machine.new ≡ machine.old) }
 {
     machine.notes.push(note)?;
@@ -26,7 +32,7 @@ pub(crate) fn update(
 }
 
 /// A note of an update.
-pub(crate) fn note(kind: u8, oid: Oid, first: u64, second: u64) -> OpNote
+pub(crate) fn note(kind: NoteKind, oid: Oid, first: u64, second: u64) -> OpNote
     ensures { result ≡ note kind oid first second }
 {
     OpNote {

@@ -1,5 +1,5 @@
-//! Tests of what stands on a disk, over a host in memory: the host's own calls and images, frames, logged pages, the log and the store of nodes and
-//! leaves. What no clause says stands here: that calls succeed, and how often they call the disk.
+//! Tests of what stands on a disk, over a host in memory: the host's own calls and images, frames, the bytes of the log, and nodes in frames. What no
+//! clause says stands here: that calls succeed, and the bytes that docs/FORMATS.md gives.
 #![tactic(auto)]
 
 #[cfg(test)]
@@ -8,7 +8,5 @@ mod frames;
 mod host;
 #[cfg(test)]
 mod log;
-#[cfg(test)]
-mod overlay;
 #[cfg(test)]
 mod store;

@@ -1,4 +1,6 @@
-//! The log on a disk in memory.
+//! The log on a disk in memory: its bytes, and what is found again.
+ghost use Rattle.std.specs.Prelude.{◌≡◌, IfOk};
+
 use disk_model::Disk;
 use ex_base::Geometry;
 use memory_host::MemoryHost;
@@ -12,9 +14,29 @@ const ONE_FILE: [u8; 19] = [1, 0, 0, 2, 55, 0, 0, 0, 0, 0, 0, 0, 1, 0, 1, 0, 1, 
 // The same of a transaction that did nothing, the next one: 536 bytes, number 2, no note, one page and no freed page.
 const NOTHING: [u8; 19] = [1, 0, 0, 2, 24, 0, 0, 0, 0, 0, 0, 0, 2, 0, 0, 0, 1, 0, 0];
 
-fn empty_disk(alloc: Global) -> Result<MemoryHost, AllocError> {
-    let disk = vec![in alloc; 0u8; 172_544]?;
-    MemoryHost::make(alloc, &disk, b"", 1, &[], &[], None)
+/// The bytes of a note.
+const NOTE_LEN: usize = 31;
+
+/// A disk with the log of an empty volume.
+#[derive(Drop)]
+struct Logged {
+    geometry: Geometry,
+    disk: MemoryHost,
+    log: OpLog,
+}
+
+fn empty_log(alloc: Global) -> Result<Logged, Fail>
+    ensures { IfOk result (λ it. it.log.geometry ≡ it.geometry) }
+{
+    let Ok(geometry) = Geometry::make(512, 64, 16, 1, 2) else {
+        return Err("no geometry".into());
+    };
+    let image = vec![in alloc; 0u8; geometry.volume_bytes() as usize]?;
+    Ok(Logged {
+        geometry,
+        disk: MemoryHost::make(alloc, &image, b"", 1, &[], &[], None)?,
+        log: OpLog::make(alloc, &geometry)?,
+    })
 }
 
 // A record's head and notes, its one page, 257 full of sevens, and a closed gate.
@@ -29,90 +51,76 @@ fn spelling(alloc: Global, head: &[u8], notes: &[u8]) -> Result<Vec<u8>, AllocEr
 
 // The spelling of a transaction that made one file: the note has kind 1 and zeros.
 fn one_file(alloc: Global) -> Result<Vec<u8>, AllocError> {
-    let mut note = [0u8; 31];
+    let mut note = [0u8; NOTE_LEN];
     note[0] = 1;
     spelling(alloc, &ONE_FILE, &note)
+}
+
+// Adds the record that bytes spell.
+fn add(alloc: Global, logged: &mut Logged, spelled: &[u8]) -> Result<(), Fail>
+    requires { logged.old.log.geometry ≡ logged.old.geometry }
+    ensures { logged.new.log.geometry ≡ logged.new.geometry }
+{
+    let Some(item) = decode(alloc, &logged.geometry, spelled)? else {
+        return Err("no record".into());
+    };
+    if !logged.log.fits(&item) || logged.disk.size() < logged.geometry.volume_bytes() {
+        return Err("no room".into());
+    }
+    match logged.log.append(&mut logged.disk, &item) {
+        Ok(()) => Ok(()),
+        Err(_) => Err("not added".into()),
+    }
+}
+
+// How many records the log on the disk has, and where they end.
+fn found(alloc: Global, logged: &mut Logged) -> Result<(usize, u32), LogFault> {
+    if logged.disk.size() < logged.geometry.volume_bytes() {
+        return Err(LogFault::Disk);
+    }
+    let found = scan_log(alloc, &mut logged.disk, &logged.geometry)?;
+    Ok((found.as_slice().len(), found.end()))
+}
+
+// The front of the log on the disk.
+fn front(logged: &mut Logged) -> Result<[u8; 568], Fail> {
+    let mut bytes = [0u8; 568];
+    if logged.disk.size() < 512 + 568 || logged.disk.read(512, &mut bytes).is_err() {
+        return Err("no log".into());
+    }
+    Ok(bytes)
 }
 
 #[test]
 fn a_transaction_that_makes_a_file_has_a_record_of_567_bytes(rt: HostRuntime) -> Result<(), Fail> {
     let alloc = rt.alloc();
-    let mut host = empty_disk(alloc)?;
-    let geometry = Geometry::make(512, 64, 16, 1, 2).expect(&rt, "a geometry");
+    let mut logged = empty_log(alloc)?;
     let bytes = one_file(alloc)?;
-    let item = decode(alloc, &geometry, &bytes)?.expect(&rt, "a record");
-    let mut log = OpLog::make(alloc, &geometry)?;
-    assert!(rt; log.fits(&item));
-    assert!(rt; host.size() >= geometry.volume_bytes());
-    assert!(rt; log.append(&mut host, &item).is_ok());
-    assert_eq!(rt; host.calls(), 4);
-    assert_eq!(rt; log.count(), 1);
-    assert!(rt; host.size() >= geometry.volume_bytes());
-    let mut front = [0u8; 568];
-    assert!(rt; host.read(512, &mut front).is_ok());
-    assert_eq!(rt; front[0], 1);
-    assert_eq!(rt; &front[1..], bytes.as_slice());
-    assert!(rt; host.size() >= geometry.volume_bytes());
-    let found = scan_log(alloc, &mut host, &geometry).expect(&rt, "a log");
-    assert_eq!(rt; found.as_slice().len(), 1);
-    assert_eq!(rt; found.end(), 567);
+    add(alloc, &mut logged, &bytes)?;
+    let read = front(&mut logged)?;
+    assert_eq!(rt; read[0], 1);
+    assert_eq!(rt; &read[1..], bytes.as_slice());
+    assert_eq!(rt; found(alloc, &mut logged), Ok((1, 567)));
     Ok(())
 }
 
 #[test]
 fn a_transaction_that_does_nothing_has_a_record_of_536_bytes(rt: HostRuntime) -> Result<(), Fail> {
     let alloc = rt.alloc();
-    let mut host = empty_disk(alloc)?;
-    let geometry = Geometry::make(512, 64, 16, 1, 2).expect(&rt, "a geometry");
-    let first = decode(alloc, &geometry, &one_file(alloc)?)?.expect(&rt, "a record");
-    let second = decode(alloc, &geometry, &spelling(alloc, &NOTHING, &[])?)?.expect(
-        &rt, "a record",
-    );
-    let mut log = OpLog::make(alloc, &geometry)?;
-    assert!(rt; log.fits(&first) && host.size() >= geometry.volume_bytes());
-    assert!(rt; log.append(&mut host, &first).is_ok());
-    assert!(rt; log.fits(&second) && host.size() >= geometry.volume_bytes());
-    assert!(rt; log.append(&mut host, &second).is_ok());
-    assert!(rt; host.size() >= geometry.volume_bytes());
-    let found = scan_log(alloc, &mut host, &geometry).expect(&rt, "a log");
-    assert_eq!(rt; found.as_slice().len(), 2);
-    assert_eq!(rt; found.end(), 567 + 536);
-    Ok(())
-}
-
-#[test]
-fn a_closed_log_holds_no_record(rt: HostRuntime) -> Result<(), Fail> {
-    let alloc = rt.alloc();
-    let mut host = empty_disk(alloc)?;
-    let geometry = Geometry::make(512, 64, 16, 1, 2).expect(&rt, "a geometry");
-    let item = decode(alloc, &geometry, &one_file(alloc)?)?.expect(&rt, "a record");
-    let mut log = OpLog::make(alloc, &geometry)?;
-    assert!(rt; log.fits(&item) && host.size() >= geometry.volume_bytes());
-    assert!(rt; log.append(&mut host, &item).is_ok());
-    let mut other = OpLog::make(alloc, &geometry)?;
-    assert!(rt; host.size() >= geometry.volume_bytes());
-    assert!(rt; other.close_all(&mut host).is_ok());
-    assert_eq!(rt; host.calls(), 4);
-    other.adopt(567, 1);
-    assert!(rt; host.size() >= geometry.volume_bytes());
-    assert!(rt; other.close_all(&mut host).is_ok());
-    assert_eq!(rt; host.calls(), 6);
-    assert_eq!(rt; other.count(), 0);
-    assert!(rt; host.size() >= geometry.volume_bytes());
-    let found = scan_log(alloc, &mut host, &geometry).expect(&rt, "a log");
-    assert_eq!(rt; found.as_slice().len(), 0);
+    let mut logged = empty_log(alloc)?;
+    add(alloc, &mut logged, &one_file(alloc)?)?;
+    add(alloc, &mut logged, &spelling(alloc, &NOTHING, &[])?)?;
+    assert_eq!(rt; found(alloc, &mut logged), Ok((2, 567 + 536)));
     Ok(())
 }
 
 #[test]
 fn an_open_gate_before_no_record_is_bad(rt: HostRuntime) -> Result<(), Fail> {
     let alloc = rt.alloc();
-    let mut host = empty_disk(alloc)?;
-    let geometry = Geometry::make(512, 64, 16, 1, 2).expect(&rt, "a geometry");
-    assert!(rt; host.size() >= geometry.volume_bytes());
-    assert!(rt; host.write(512, &[1, 1]).is_ok());
-    assert!(rt; host.size() >= geometry.volume_bytes());
-    let fault = scan_log(alloc, &mut host, &geometry).err();
-    assert!(rt; matches!(fault, Some(LogFault::Bad { at: 0 })));
+    let mut logged = empty_log(alloc)?;
+    assert!(rt; logged.disk.size() >= 1024);
+    assert!(rt; logged.disk.write(512, &[1, 1]).is_ok());
+    let bad = found(alloc, &mut logged).err();
+    assert!(rt; matches!(bad, Some(LogFault::Bad { at: 0 })));
     Ok(())
 }

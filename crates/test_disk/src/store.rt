@@ -1,13 +1,11 @@
-//! The calls of the port on a store over a host in memory.
-ghost use Rattle.std.specs.Prelude.{◌≤◌, length, IfOk};
-ghost use Rattle.ex_base.specs.Sizes.{leaf_bytes};
-ghost use Rattle.ex_base.specs.declared.names.Area.TheVariants.{Segment};
+//! Nodes that a store has in frames, over a host in memory.
+ghost use Rattle.std.specs.Prelude.{IfOk};
 ghost use Rattle.disk_model.specs.Outside.{Outside};
 ghost use Rattle.memory_host.specs.Host.{means};
 ghost use Rattle.tree_store.specs.Stored.{Fits};
 
 use buffer_groups::{Group, Groups, Policy};
-use ex_base::{Area, Blocks, Geometry, PageNo, PortFault, ReadBlocks};
+use ex_base::{Area, Blocks, Geometry, PageNo, ReadBlocks};
 use memory_host::MemoryHost;
 use page_alloc::Units;
 use std::alloc::Global;
@@ -46,38 +44,6 @@ fn fresh_parts(alloc: Global) -> Result<Parts, Fail>
     })
 }
 
-// Takes a leaf and gives it back once its last reference is gone.
-fn take_and_give<B: Blocks>(blocks: &mut B, bytes: &[u8]) -> Result<PageNo, PortFault>
-    requires ready { B.ready blocks.old }
-    requires free { 1 ≤ B.free blocks.old Segment }
-    requires some { 1 ≤ length bytes.now }
-    requires fits { length bytes.now ≤ leaf_bytes (B.geometry blocks.old) }
-{
-    let page = blocks.new_leaf(bytes)?;
-    blocks.add_ref(page);
-    if blocks.drop_ref(page) {
-        blocks.give_unit(page);
-    }
-    Ok(page)
-}
-
-// Takes a leaf, and reads its front into `out`.
-fn write_and_read<B: Blocks>(
-    blocks: &mut B,
-    alloc: Global,
-    bytes: &[u8],
-    out: &mut [u8],
-) -> Result<(), PortFault>
-    requires ready { B.ready blocks.old }
-    requires free { 1 ≤ B.free blocks.old Segment }
-    requires some { 1 ≤ length bytes.now }
-    requires fits { length bytes.now ≤ leaf_bytes (B.geometry blocks.old) }
-    requires front { length out.old ≤ length bytes.now }
-{
-    let page = blocks.new_leaf(bytes)?;
-    blocks.leaf_into(alloc, page, 0, out)
-}
-
 #[test]
 fn a_second_read_of_a_node_makes_no_call(rt: HostRuntime) -> Result<(), Fail> {
     let alloc = rt.alloc();
@@ -98,25 +64,6 @@ fn a_second_read_of_a_node_makes_no_call(rt: HostRuntime) -> Result<(), Fail> {
     assert!(rt; second.is_ok());
     let _ = second;
     assert_eq!(rt; store.disk.calls(), 1);
-    Ok(())
-}
-
-#[test]
-fn units_are_taken_from_the_lowest_on(rt: HostRuntime) -> Result<(), Fail> {
-    let alloc = rt.alloc();
-    let mut parts = fresh_parts(alloc)?;
-    let mut store = Store::make(
-        &mut parts.disk,
-        &mut parts.units,
-        &mut parts.groups,
-        0,
-        parts.geometry,
-    );
-    assert_eq!(rt; store.free(Area::Page), 3);
-    assert_eq!(rt; store.free(Area::Segment), 2);
-    assert_eq!(rt; store.geometry().leaf_bytes(), PAGE_SIZE);
-    assert_eq!(rt; take_and_give(&mut store, b"leaf"), Ok(PageNo(261)));
-    assert_eq!(rt; store.free(Area::Segment), 2);
     Ok(())
 }
 
@@ -142,27 +89,5 @@ fn a_node_is_read_as_it_was_written_with_no_call(rt: HostRuntime) -> Result<(), 
     assert_eq!(rt; read, Ok(node.as_slice()));
     let _ = read;
     assert_eq!(rt; store.disk.calls(), 1);
-    Ok(())
-}
-
-#[test]
-fn a_leaf_is_read_as_it_was_written(rt: HostRuntime) -> Result<(), Fail> {
-    let alloc = rt.alloc();
-    let mut parts = fresh_parts(alloc)?;
-    let mut store = Store::make(
-        &mut parts.disk,
-        &mut parts.units,
-        &mut parts.groups,
-        0,
-        parts.geometry,
-    );
-    assert_eq!(rt; store.free(Area::Segment), 2);
-    assert_eq!(rt; store.geometry().leaf_bytes(), PAGE_SIZE);
-    let mut read = [0u8; 4];
-    assert_eq!(rt;
-        write_and_read(&mut store, alloc, b"leaf", &mut read),
-        Ok(())
-    );
-    assert_eq!(rt; read, *b"leaf");
     Ok(())
 }

@@ -2,8 +2,8 @@
 use crate::volumes::{
     CATALOG, FILE_PAGE, NODE, PAGE, SMALL, answers, formatted, left_by, run_on, with_bytes,
 };
-use disk_model::Choice;
 use exsm_run::Status;
+use memory_host::Choice;
 use session_views::Part;
 use std::test::Fail;
 

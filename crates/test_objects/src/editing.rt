@@ -2,8 +2,8 @@
 use crate::volumes::{
     FEW_PAGES, FEW_UNITS, SMALL, Sizes, WIDE, answers, formatted, has_line, made_by, run_on,
 };
-use disk_model::Choice;
 use exsm_run::Status;
+use memory_host::Choice;
 use std::alloc::{AllocError, Global};
 use std::fmt::Write;
 use std::test::Fail;

@@ -12,7 +12,8 @@ use table_model::{Command, Refusal};
 /// What a line says, in the language of all commands. A command's words keep their forms and limits.
 pub(crate) fn read(line: &[u8]) -> Result<Option<Command<'_>>, Refusal>
     ensures says { ReadsAny (Short line.now) (reading_of result) }
-    ensures form { IfOk result (λ said. IfSome said (λ command. IsTrue (is_request (request_of command)))) }
+    ensures form { IfOk result
+        (λ said. IfSome said (λ command. IsTrue (is_request (request_of command)))) }
 {
     parse_any(line)
 }

@@ -199,7 +199,8 @@ fn within_need(
     pick: &Pick,
 ) -> Result<bool, AllocError>
     requires { IsTrue (is_request (request_of command.now)) }
-    ensures { IfOk result (λ holds. holds ≡ within_need machine.now (request_of command.now) pick.now) }
+    ensures { IfOk result
+        (λ holds. holds ≡ within_need machine.now (request_of command.now) pick.now) }
 {
     let geometry = &machine.geometry;
     let pages = need_of(alloc, geometry, command, pick, Area::Page)?;
@@ -219,7 +220,8 @@ fn test_of(
     pick: &Pick,
 ) -> Result<bool, AllocError>
     requires { IsTrue (is_request (request_of command.now)) }
-    ensures { IfOk result (λ holds. holds ≡ is_allowed machine.now (request_of command.now) pick.now) }
+    ensures { IfOk result
+        (λ holds. holds ≡ is_allowed machine.now (request_of command.now) pick.now) }
 {
     let within = within_need(alloc, machine, command, pick)?;
     let asked = asks(machine, command, pick);
@@ -234,8 +236,10 @@ pub(crate) fn is_allowed(
     pick: &Pick,
 ) -> Result<bool, AllocError>
     requires { IsTrue (is_request (request_of command.now)) }
-    ensures test { IfOk result (λ holds. holds ≡ is_allowed machine.now (request_of command.now) pick.now) }
-    ensures allows { IfOk result (λ holds. IsTrue holds → Allows machine.now (request_of command.now) pick.now) }
+    ensures test { IfOk result (λ holds. holds
+        ≡ is_allowed machine.now (request_of command.now) pick.now) }
+    ensures allows { IfOk result (λ holds. IsTrue holds
+        → Allows machine.now (request_of command.now) pick.now) }
 {
     test_of(alloc, machine, command, pick)
 }

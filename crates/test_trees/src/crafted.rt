@@ -1,7 +1,7 @@
 // Trees whose nodes are written byte by byte: one that names a few nodes often, and some with a page that isn't what names it.
 
-use crate::tests::{LENGTHS_MOST, SIZE_MOST, grown, leaves_of, replaced, shortened};
-use ex_base::{Area, Blocks, Geometry, PageNo, PortFault, Root, Seen};
+use crate::tests::{LENGTHS_MOST, grown, leaves_of, replaced, shortened};
+use ex_base::{Area, Blocks, Geometry, OBJECT_MOST, PageNo, PortFault, Root, Seen};
 use memory_ports::MemoryVolume;
 use std::alloc::Global;
 use std::process::Abort;
@@ -117,7 +117,7 @@ fn leaves_that_are_named_often_are_counted_at_once(rt: HostRuntime) -> Result<()
     let geometry = Geometry::make(512, 64, 4, 1, 16).map_err(|_| "geometry")?;
     let volume = &mut MemoryVolume::make(alloc, &geometry)?;
     let root = largest(volume, alloc)?;
-    assert_eq!(&rt; root.size, SIZE_MOST);
+    assert_eq!(&rt; root.size, OBJECT_MOST);
     let (leaves, lengths) = leaves_of(volume, alloc, &root)?;
     assert_eq!(&rt; leaves, 8_388_608);
     assert_eq!(&rt; lengths, [512; LENGTHS_MOST]);

@@ -1,4 +1,7 @@
-use ex_base::{Area, Blocks, Geometry, PortFault, ReadBlocks, Root};
+use ex_base::{
+    Area, Blocks, Geometry, OBJECT_MOST, PortFault, ReadBlocks, Root, delete_need, growth_need,
+    replace_need,
+};
 use memory_ports::MemoryVolume;
 use std::alloc::Global;
 use std::process::Abort;
@@ -6,9 +9,6 @@ use std::test::Fail;
 use tree_delete::delete;
 use tree_insert::{append, insert, leaf_lengths, read, replace};
 use trees::is_root_for;
-
-/// The most bytes of an object.
-pub(crate) const SIZE_MOST: u64 = u32::MAX as u64;
 
 /// The most leaf lengths that a row names.
 pub(crate) const LENGTHS_MOST: usize = 6;
@@ -188,11 +188,11 @@ pub(crate) fn grown<B: Blocks>(
 {
     let geometry = blocks.geometry();
     let len = given.len() as u64;
-    if !is_root_for(&geometry, root) || len > SIZE_MOST - root.size {
+    if !is_root_for(&geometry, root) || len > OBJECT_MOST - root.size {
         return Err("no root")?;
     }
-    let leaves = len / geometry.leaf_bytes() as u64 + 5;
-    let pages = leaves / geometry.fan as u64 + 4 * (root.height as u64 + 3);
+    let leaves = growth_need(&geometry, len, root.height, Area::Segment);
+    let pages = growth_need(&geometry, len, root.height, Area::Page);
     if leaves > blocks.free(Area::Segment) as u64 || pages > blocks.free(Area::Page) as u64 {
         return Ok(None);
     }
@@ -221,8 +221,8 @@ pub(crate) fn replaced<B: Blocks>(
     if !is_root_for(&geometry, root) || len > root.size || pos > root.size - len {
         return Err("no range")?;
     }
-    let leaves = 2 * len / geometry.leaf_bytes() as u64 + 3;
-    let pages = leaves / (geometry.fan as u64 - 1) + 4 * (root.height as u64 + 1);
+    let leaves = replace_need(&geometry, len, root.height, Area::Segment);
+    let pages = replace_need(&geometry, len, root.height, Area::Page);
     if leaves > blocks.free(Area::Segment) as u64 || pages > blocks.free(Area::Page) as u64 {
         return Ok(None);
     }
@@ -244,8 +244,9 @@ pub(crate) fn shortened<B: Blocks>(
     if !is_root_for(&geometry, root) || len > root.size || pos > root.size - len {
         return Err("no range")?;
     }
-    let pages = 8 * (root.height as u64 + 2);
-    if 4 > blocks.free(Area::Segment) || pages > blocks.free(Area::Page) as u64 {
+    let leaves = delete_need(root.height, Area::Segment);
+    let pages = delete_need(root.height, Area::Page);
+    if leaves > blocks.free(Area::Segment) as u64 || pages > blocks.free(Area::Page) as u64 {
         return Ok(None);
     }
     Ok(Some(delete(blocks, alloc, root, pos, len)))

@@ -38,7 +38,8 @@ const TWO_LEVELS: Root = Root {
 
 /// A fresh volume of 512-byte pages.
 fn fresh(alloc: Global) -> Result<MemoryVolume, Fail>
-    ensures { IfOk result (λ v. IsVolume v.geometry v.units v.bytes.items v.images.items v.held.items) }
+    ensures { IfOk result
+        (λ v. IsVolume v.geometry v.units v.bytes.items v.images.items v.held.items) }
 {
     let geometry = Geometry::make(512, 1000, 0, 1, 2).map_err(|_| "geometry")?;
     Ok(MemoryVolume::make(alloc, &geometry)?)

@@ -60,6 +60,8 @@ use Rattle.transactions.proofs.Quiet.{AreSizes, refused_at_once, quiet_refusal, 
 use Rattle.transactions.proofs.Refusing.{same_counts, begin_accepted, spent_refused, abort_accepted, file_refused, unfile_refused, free_left}
 use Rattle.transactions.proofs.Working.{lookup_put, firsts_put, each_put, images_of_files, working_image, same_off, begun_units}
 use Rattle.ex_base.proofs.Options.{some_apart_inside}
+use Rattle.ex_base.specs.declared.notes.NoteKind.TheVariants as note_kind
+use Rattle.ex_base.specs.declared.notes.NoteKind.{NoteKind}
 
 -- ---- any accepted command that takes no unit
 
@@ -183,7 +185,7 @@ pub record HasImage (s : SessionState) : Type 0 where
   pub image : List ℕ
   pub there : lookup (nat_eq catalog_no) s.meta.working ≡ Some (Some image)
 
-update_works : {a : Outside} {before : View SessionState} (now : ShowsNow meant a before) (groups : List Frames) (page : List ℕ) (kind : ℕ) (w : Volume) (m : Machine) (table : Table)
+update_works : {a : Outside} {before : View SessionState} (now : ShowsNow meant a before) (groups : List Frames) (page : List ℕ) (kind : NoteKind) (w : Volume) (m : Machine) (table : Table)
     → HasImage before.session → before.session.opened ≡ true → CatalogOf page w.catalog → w.catalog.last ≡ now.shows.working.catalog.last
     → file_pages w ≡ file_pages now.shows.working → stored_in w ≡ stored_in now.shows.working
     → (Others now.shows.decoded.geometry now.shows.decoded.records (working_units now.shows.decoded before.disk (with_row catalog_no (Some page) before.session.meta.working)) now.shows.working
@@ -227,7 +229,7 @@ update_works {a} {before} now groups page kind w m table has opened catalog last
         (λ (same : number ≡ catalog_no). absurd (some_apart_inside has.image (sym has.there ∙ ap (λ (q : ℕ). lookup (nat_eq q) before.session.meta.working) (sym same) ∙ gone)))
         (λ (differ : number ≢ catalog_no). put_other catalog_no (Some page) before.session.meta.working number (λ e. differ (sym e)) ∙ gone) (cases_eq number catalog_no)
 
-pub file_steps : {a b : Outside} {before : View SessionState} (now : ShowsNow meant a before) (new : SessionState) (groups : List Frames) (page image name : List ℕ) (file_no : ℕ) → updated (record before.session { groups = groups }) image 1 ≡ new
+pub file_steps : {a b : Outside} {before : View SessionState} (now : ShowsNow meant a before) (new : SessionState) (groups : List Frames) (page image name : List ℕ) (file_no : ℕ) → updated (record before.session { groups = groups }) image note_kind.FileMade ≡ new
     → LaterFrames a b before.session groups → before.session.opened ≡ true → before.session.units.geometry ≡ before.session.geometry → HasImage before.session → ReadsCatalog a before.session page → FramesLend a before.session
     → IsTrue (is_name name) → file_refusal before.session (catalog_on page) name ≡ None
     → CatalogOf image (edits.with_entries (catalog_on page) (edits.entry_inserted (edits.new_file name file_no) (catalog_on page).entries))
@@ -243,8 +245,8 @@ file_steps {a} {b} {before} now new groups page image name file_no same frames o
     let w = volume_with name file_no now.shows.working in
     let was = (shown_parts now.shows).1 in
     let off = same_off d before.disk image rows in
-    let s = updated (record before.session { groups = groups }) image 1 in
-    let after : Machine = record m { working = Some (with_file name (shown m)); notes = m.notes ++ note 1 no_oid 0 0 ∷ [] } in
+    let s = updated (record before.session { groups = groups }) image note_kind.FileMade in
+    let after : Machine = record m { working = Some (with_file name (shown m)); notes = m.notes ++ note note_kind.FileMade no_oid 0 0 ∷ [] } in
     let q = pick_of (held_view before) (request.File name) (view_of after (held s) before.disk) in
     let counts = same_counts now.shows units in
     let kept_others = others_kept d.geometry d.records d.records (working_units d before.disk rows) later now.shows.working off was in
@@ -255,12 +257,12 @@ file_steps {a} {b} {before} now new groups page image name file_no same frames o
     took_place m after (request.File name) q (reply.File name) refuses refl refl (tt, λ _. record { pages = omega arith; segs = omega arith; touched = omega arith }) in
     stepped_by now (request.File name) (reply.File name) after s new w same frames form step
     (record { geometry = refl; committed = refl; machine_scans = refl; pages = refl; segs = refl; scans = refl; used = refl; held = refl; kept = refl; taken = refl; overlay = refl; log = refl })
-    (record { geometry = now.shows.shared.geometry; notes = ap (λ (notes : List OpNote). notes ++ note 1 no_oid 0 0 ∷ []) now.shows.shared.notes; names = now.shows.shared.names; group_rows = now.shows.shared.group_rows; open_txn = sym opened; up = now.shows.shared.up })
-    (update_works now groups image 1 w after (with_file name (shown m)) has opened
+    (record { geometry = now.shows.shared.geometry; notes = ap (λ (notes : List OpNote). notes ++ note note_kind.FileMade no_oid 0 0 ∷ []) now.shows.shared.notes; names = now.shows.shared.names; group_rows = now.shows.shared.group_rows; open_txn = sym opened; up = now.shows.shared.up })
+    (update_works now groups image note_kind.FileMade w after (with_file name (shown m)) has opened
     (subst (λ (o : Catalog). CatalogOf image (edits.with_entries o (edits.entry_inserted (edits.new_file name file_no) o.entries))) on catalog)
     refl (pages_with name file_no now.shows.working) (stored_with name file_no now.shows.working) (λ others. others_with d.geometry d.records later name file_no now.shows.working others) table refl refl)
 
-pub unfile_steps : {a b : Outside} {before : View SessionState} (now : ShowsNow meant a before) (new : SessionState) (groups : List Frames) (page image name : List ℕ) → updated (record before.session { groups = groups }) image 2 ≡ new
+pub unfile_steps : {a b : Outside} {before : View SessionState} (now : ShowsNow meant a before) (new : SessionState) (groups : List Frames) (page image name : List ℕ) → updated (record before.session { groups = groups }) image note_kind.FileRemoved ≡ new
     → LaterFrames a b before.session groups → before.session.opened ≡ true → before.session.units.geometry ≡ before.session.geometry → HasImage before.session → ReadsCatalog a before.session page → FramesLend a before.session
     → IsTrue (is_name name) → unfile_refusal before.session (catalog_on page) name ≡ None
     → CatalogOf image (edits.with_entries (catalog_on page) (edits.without_name name (catalog_on page).entries))
@@ -278,8 +280,8 @@ unfile_steps {a} {b} {before} now new groups page image name same frames opened 
     let was = (shown_parts now.shows).1 in
     let all = all_of d.geometry now_units old.entries now.shows.working.files was.0.0 was.1.0 was.1.1.0 in
     let off = same_off d before.disk image rows in
-    let s = updated (record before.session { groups = groups }) image 2 in
-    let after : Machine = record m { working = Some (without_file name (shown m)); notes = m.notes ++ note 2 no_oid 0 0 ∷ [] } in
+    let s = updated (record before.session { groups = groups }) image note_kind.FileRemoved in
+    let after : Machine = record m { working = Some (without_file name (shown m)); notes = m.notes ++ note note_kind.FileRemoved no_oid 0 0 ∷ [] } in
     let q = pick_of (held_view before) (request.Unfile name) (view_of after (held s) before.disk) in
     let counts = same_counts now.shows units in
     let none_here : unfile_refusal before.session old name ≡ None = ap (λ (c : Catalog). unfile_refusal before.session c name) (sym on) ∙ none in
@@ -293,8 +295,8 @@ unfile_steps {a} {b} {before} now new groups page image name same frames opened 
     took_place m after (request.Unfile name) q (reply.Unfile name) refuses refl refl (tt, λ _. record { pages = omega arith; segs = omega arith; touched = omega arith }) in
     stepped_by now (request.Unfile name) (reply.Unfile name) after s new w same frames form step
     (record { geometry = refl; committed = refl; machine_scans = refl; pages = refl; segs = refl; scans = refl; used = refl; held = refl; kept = refl; taken = refl; overlay = refl; log = refl })
-    (record { geometry = now.shows.shared.geometry; notes = ap (λ (notes : List OpNote). notes ++ note 2 no_oid 0 0 ∷ []) now.shows.shared.notes; names = now.shows.shared.names; group_rows = now.shows.shared.group_rows; open_txn = sym opened; up = now.shows.shared.up })
-    (update_works now groups image 2 w after (without_file name (shown m)) has opened
+    (record { geometry = now.shows.shared.geometry; notes = ap (λ (notes : List OpNote). notes ++ note note_kind.FileRemoved no_oid 0 0 ∷ []) now.shows.shared.notes; names = now.shows.shared.names; group_rows = now.shows.shared.group_rows; open_txn = sym opened; up = now.shows.shared.up })
+    (update_works now groups image note_kind.FileRemoved w after (without_file name (shown m)) has opened
     (subst (λ (o : Catalog). CatalogOf image (edits.with_entries o (edits.without_name name o.entries))) on catalog)
     refl (pages_without name now.shows.working gone) (stored_without name now.shows.working gone) (λ others. others_without name now.shows.working gone d.geometry d.records later others) table refl refl)
 
@@ -350,12 +352,12 @@ work_image s is opened = let work = is.work opened in record { image = work.imag
 
 pub file_quietly : {a b : Outside} (old mid new : SessionState) (page image name : List ℕ) (file_no : ℕ) → IsSession old → OnlyFrames a b old mid → old.opened ≡ true → ReadsCatalog a old page → IsTrue (is_name name)
     → file_refusal mid (catalog_on page) name ≡ None → CatalogOf image (edits.with_entries (catalog_on page) (edits.entry_inserted (edits.new_file name file_no) (catalog_on page).entries))
-    → updated mid image 1 ≡ new → StepsQuietly a b old new (request.File name) (Ok (reply.File name))
+    → updated mid image note_kind.FileMade ≡ new → StepsQuietly a b old new (request.File name) (Ok (reply.File name))
 file_quietly {a} {b} old mid new page image name file_no is only opened reads form none catalog same =
     accepted_quietly old mid new (request.File name) (reply.File name) only (ap (λ (s : SessionState). s.log) (sym same)) (ap (λ (s : SessionState). s.down) (sym same)) (λ why told. absurd (cc))
     (λ before from now.
     let session = subst IsSession (sym from) is in
-    let at = ap (λ (s : SessionState). updated s image 1) (ap (λ (s : SessionState). record s { groups = mid.groups }) from ∙ sym only.same) ∙ same in
+    let at = ap (λ (s : SessionState). updated s image note_kind.FileMade) (ap (λ (s : SessionState). record s { groups = mid.groups }) from ∙ sym only.same) ∙ same in
     let refuses = ap (λ (s : SessionState). file_refusal s (catalog_on page) name) (ap (λ (s : SessionState). record s { groups = mid.groups }) from ∙ sym only.same) ∙ none in
     file_steps now new mid.groups page image name file_no at (subst (λ (s : SessionState). LaterFrames a b s mid.groups) (sym from) (later_of old mid is only)) (ap (λ (s : SessionState). s.opened) from ∙ opened)
     session.units.geometry (work_image before.session session (ap (λ (s : SessionState). s.opened) from ∙ opened)) (subst (λ (s : SessionState). ReadsCatalog a s page) (sym from) reads) (shown_lends now session.sizes) form refuses catalog)
@@ -398,31 +400,31 @@ no_open_txn {a} s r is closed refuses =
     refused_at_once s r refusal.NoTxn is (λ before from now q. refuses before.machine q (now.shows.shared.open_txn ∙ ap (λ (s : SessionState). s.opened) from ∙ closed))
 
 -- as the code comes to it
-pub file_told : {a b : Outside} {old mid new : SessionState} {page read edited name copy : List ℕ} {c : Catalog} (file_no : ℕ) → c ≡ catalog_on page → None ≡ file_refusal mid c name → read ≡ edited → copy ≡ name → new ≡ updated mid read 1
+pub file_told : {a b : Outside} {old mid new : SessionState} {page read edited name copy : List ℕ} {c : Catalog} (file_no : ℕ) → c ≡ catalog_on page → None ≡ file_refusal mid c name → read ≡ edited → copy ≡ name → new ≡ updated mid read note_kind.FileMade
     → CatalogOf edited (edits.with_entries (catalog_on page) (edits.entry_inserted (edits.new_file name file_no) (catalog_on page).entries))
     → IsSession old → OnlyFrames a b old mid → old.opened ≡ true → ReadsCatalog a old page → IsTrue (is_name name) → StepsQuietly a b old new (request.File name) (Ok (reply.File copy))
 file_told {a} {b} {old} {mid} {new} {page} {read} {edited} {name} {copy} {c} file_no view none same told done catalog is only opened reads form =
     subst (λ (n : List ℕ). StepsQuietly a b old new (request.File name) (Ok (reply.File n))) (sym told)
-    (file_quietly old mid new page edited name file_no is only opened reads form (ap (λ (k : Catalog). file_refusal mid k name) (sym view) ∙ sym none) catalog (ap (λ (l : List ℕ). updated mid l 1) (sym same) ∙ sym done))
+    (file_quietly old mid new page edited name file_no is only opened reads form (ap (λ (k : Catalog). file_refusal mid k name) (sym view) ∙ sym none) catalog (ap (λ (l : List ℕ). updated mid l note_kind.FileMade) (sym same) ∙ sym done))
 
 pub unfile_quietly : {a b : Outside} (old mid new : SessionState) (page image name : List ℕ) → IsSession old → OnlyFrames a b old mid → old.opened ≡ true → ReadsCatalog a old page → IsTrue (is_name name)
     → unfile_refusal mid (catalog_on page) name ≡ None → CatalogOf image (edits.with_entries (catalog_on page) (edits.without_name name (catalog_on page).entries))
-    → updated mid image 2 ≡ new → StepsQuietly a b old new (request.Unfile name) (Ok (reply.Unfile name))
+    → updated mid image note_kind.FileRemoved ≡ new → StepsQuietly a b old new (request.Unfile name) (Ok (reply.Unfile name))
 unfile_quietly {a} {b} old mid new page image name is only opened reads form none catalog same =
     accepted_quietly old mid new (request.Unfile name) (reply.Unfile name) only (ap (λ (s : SessionState). s.log) (sym same)) (ap (λ (s : SessionState). s.down) (sym same)) (λ why told. absurd (cc))
     (λ before from now.
     let session = subst IsSession (sym from) is in
-    let at = ap (λ (s : SessionState). updated s image 2) (ap (λ (s : SessionState). record s { groups = mid.groups }) from ∙ sym only.same) ∙ same in
+    let at = ap (λ (s : SessionState). updated s image note_kind.FileRemoved) (ap (λ (s : SessionState). record s { groups = mid.groups }) from ∙ sym only.same) ∙ same in
     let refuses = ap (λ (s : SessionState). unfile_refusal s (catalog_on page) name) (ap (λ (s : SessionState). record s { groups = mid.groups }) from ∙ sym only.same) ∙ none in
     unfile_steps now new mid.groups page image name at (subst (λ (s : SessionState). LaterFrames a b s mid.groups) (sym from) (later_of old mid is only)) (ap (λ (s : SessionState). s.opened) from ∙ opened)
     session.units.geometry (work_image before.session session (ap (λ (s : SessionState). s.opened) from ∙ opened)) (subst (λ (s : SessionState). ReadsCatalog a s page) (sym from) reads) (shown_lends now session.sizes) form refuses catalog)
 
-pub unfile_told : {a b : Outside} {old mid new : SessionState} {page read edited name copy : List ℕ} {c : Catalog} → c ≡ catalog_on page → None ≡ unfile_refusal mid c name → read ≡ edited → copy ≡ name → new ≡ updated mid read 2
+pub unfile_told : {a b : Outside} {old mid new : SessionState} {page read edited name copy : List ℕ} {c : Catalog} → c ≡ catalog_on page → None ≡ unfile_refusal mid c name → read ≡ edited → copy ≡ name → new ≡ updated mid read note_kind.FileRemoved
     → CatalogOf edited (edits.with_entries (catalog_on page) (edits.without_name name (catalog_on page).entries))
     → IsSession old → OnlyFrames a b old mid → old.opened ≡ true → ReadsCatalog a old page → IsTrue (is_name name) → StepsQuietly a b old new (request.Unfile name) (Ok (reply.Unfile copy))
 unfile_told {a} {b} {old} {mid} {new} {page} {read} {edited} {name} {copy} {c} view none same told done catalog is only opened reads form =
     subst (λ (n : List ℕ). StepsQuietly a b old new (request.Unfile name) (Ok (reply.Unfile n))) (sym told)
-    (unfile_quietly old mid new page edited name is only opened reads form (ap (λ (k : Catalog). unfile_refusal mid k name) (sym view) ∙ sym none) catalog (ap (λ (l : List ℕ). updated mid l 2) (sym same) ∙ sym done))
+    (unfile_quietly old mid new page edited name is only opened reads form (ap (λ (k : Catalog). unfile_refusal mid k name) (sym view) ∙ sym none) catalog (ap (λ (l : List ℕ). updated mid l note_kind.FileRemoved) (sym same) ∙ sym done))
 
 -- ---- the commands that tell of a session
 

@@ -18,7 +18,7 @@ use Rattle.object_records.specs.Record.{Record}
 use Rattle.disk_model.specs.Outside.{Outside}
 use Rattle.session_views.specs.View.{View, ShowsNow}
 use Rattle.session_views.specs.declared.engine.Stop.{Stop}
-use Rattle.versions.specs.Versions.{lone_head}
+use Rattle.version_model.specs.Versions.{lone_head}
 use Rattle.transactions.specs.Sessions.{SessionState}
 use Rattle.transactions.specs.Meant.{meant}
 use Rattle.transactions.specs.Lines.{PortShows, IfLive, IfShown, IsOutside, stop_at}

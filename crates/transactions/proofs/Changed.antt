@@ -10,6 +10,7 @@ use Rattle.ex_base.specs.declared.names.OpNote.{OpNote}
 use Rattle.ex_base.specs.declared.names.Root.{Root}
 use Rattle.ex_base.specs.Edits.{inserted, deleted, replaced, appended}
 use Rattle.ex_base.specs.Sizes.{object_most}
+use Rattle.ex_base.specs.declared.notes.NoteKind.TheVariants as note_kind
 use Rattle.object_updates.specs.declared.ObjectUpdate.TheVariants as made
 use Rattle.object_updates.specs.Updates.{AsksChange}
 use Rattle.table_model.specs.declared.machine.Machine.{Machine}
@@ -35,7 +36,7 @@ use Rattle.versions.specs.declared.editing.Edit.{Edit}
 use Rattle.versions.specs.declared.finding.Found.{Found}
 use Rattle.versions.specs.Edited.{change_of}
 use Rattle.versions.specs.Needs.{most_need}
-use Rattle.versions.specs.Versions.{Change, Inserts, Appends, Replaces, Deletes, InRange, changed, count_of, record_len}
+use Rattle.version_model.specs.Versions.{Change, Inserts, Appends, Replaces, Deletes, InRange, changed, count_of, record_len}
 use Rattle.transactions.specs.declared.session.edits.Admitted.{Admitted}
 use Rattle.transactions.specs.declared.session.edits.Need.{Need}
 use Rattle.transactions.specs.declared.session.moving.Limit.{Limit}
@@ -180,7 +181,7 @@ module _ (m : Machine) (x : Reference) (oid : Oid) (size : ℕ) (named : the_oid
   does (request.Insert y pos given) asked = record {
     reply = λ q. ap (λ (c : Change). edit_reply c (size_after c size)) asked.1 ∙ ap (λ (n : ℕ). reply.Insert (n + length (data_bytes given))) (sized_by y asked.0);
     table = λ q. ap (λ (c : Change). with_bytes oid (changed c) (shown m)) asked.1 ∙ ap (λ (o : Oid). with_bytes o (λ bytes. inserted bytes pos (data_bytes given)) (shown m)) (named_by y asked.0);
-    notes = λ q. ap (λ (c : Change). edit_note c oid size ∷ []) asked.1 ∙ ap (λ (o : Oid). note 5 o pos (length (data_bytes given)) ∷ []) (named_by y asked.0);
+    notes = λ q. ap (λ (c : Change). edit_note c oid size ∷ []) asked.1 ∙ ap (λ (o : Oid). note note_kind.Inserted o pos (length (data_bytes given)) ∷ []) (named_by y asked.0);
     after = λ q. refl;
     asks = λ q. tt;
     charge = refl;
@@ -190,8 +191,8 @@ module _ (m : Machine) (x : Reference) (oid : Oid) (size : ℕ) (named : the_oid
   does (request.Append y given) asked = record {
     reply = λ q. ap (λ (c : Change). edit_reply c (size_after c size)) asked.1 ∙ ap (λ (n : ℕ). reply.Append (n + length (data_bytes given))) (sized_by y asked.0);
     table = λ q. ap (λ (c : Change). with_bytes oid (changed c) (shown m)) asked.1 ∙ ap (λ (o : Oid). with_bytes o (λ bytes. appended bytes (data_bytes given)) (shown m)) (named_by y asked.0);
-    notes = λ q. ap (λ (c : Change). edit_note c oid size ∷ []) asked.1 ∙ ap (λ (o : Oid). note 6 o size (length (data_bytes given)) ∷ []) (named_by y asked.0)
-        ∙ ap (λ (n : ℕ). note 6 (the_oid m y) n (length (data_bytes given)) ∷ []) (sized_by y asked.0);
+    notes = λ q. ap (λ (c : Change). edit_note c oid size ∷ []) asked.1 ∙ ap (λ (o : Oid). note note_kind.Appended o size (length (data_bytes given)) ∷ []) (named_by y asked.0)
+        ∙ ap (λ (n : ℕ). note note_kind.Appended (the_oid m y) n (length (data_bytes given)) ∷ []) (sized_by y asked.0);
     after = λ q. refl;
     asks = λ q. tt;
     charge = refl;
@@ -201,7 +202,7 @@ module _ (m : Machine) (x : Reference) (oid : Oid) (size : ℕ) (named : the_oid
   does (request.Replace y pos given) asked = record {
     reply = λ q. ap (λ (c : Change). edit_reply c (size_after c size)) asked.1 ∙ ap (λ (n : ℕ). reply.Replace n) (sized_by y asked.0);
     table = λ q. ap (λ (c : Change). with_bytes oid (changed c) (shown m)) asked.1 ∙ ap (λ (o : Oid). with_bytes o (λ bytes. replaced bytes pos (data_bytes given)) (shown m)) (named_by y asked.0);
-    notes = λ q. ap (λ (c : Change). edit_note c oid size ∷ []) asked.1 ∙ ap (λ (o : Oid). note 7 o pos (length (data_bytes given)) ∷ []) (named_by y asked.0);
+    notes = λ q. ap (λ (c : Change). edit_note c oid size ∷ []) asked.1 ∙ ap (λ (o : Oid). note note_kind.Replaced o pos (length (data_bytes given)) ∷ []) (named_by y asked.0);
     after = λ q. refl;
     asks = λ q. tt;
     charge = refl;
@@ -211,7 +212,7 @@ module _ (m : Machine) (x : Reference) (oid : Oid) (size : ℕ) (named : the_oid
   does (request.Delete y pos len) asked = record {
     reply = λ q. ap (λ (c : Change). edit_reply c (size_after c size)) asked.1 ∙ ap (λ (n : ℕ). reply.Delete (n - len)) (sized_by y asked.0);
     table = λ q. ap (λ (c : Change). with_bytes oid (changed c) (shown m)) asked.1 ∙ ap (λ (o : Oid). with_bytes o (λ bytes. deleted bytes pos len) (shown m)) (named_by y asked.0);
-    notes = λ q. ap (λ (c : Change). edit_note c oid size ∷ []) asked.1 ∙ ap (λ (o : Oid). note 8 o pos len ∷ []) (named_by y asked.0);
+    notes = λ q. ap (λ (c : Change). edit_note c oid size ∷ []) asked.1 ∙ ap (λ (o : Oid). note note_kind.Deleted o pos len ∷ []) (named_by y asked.0);
     after = λ q. refl;
     asks = λ q. tt;
     charge = refl;

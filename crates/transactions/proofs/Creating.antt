@@ -1,14 +1,16 @@
 -- How a line that makes an object is answered.
-use Rattle.std.proofs.Common.{◌≡◌, ◌∙◌, ◌-◌, ◌^◌, ℕ, Bool, true, false, true≢false, List, [], ◌∷◌, ◌++◌, All, Option, Some, None, is_some, Ok, Err, refl, sym, ap, subst, inl, inr}
-use Rattle.std.specs.Prelude.{Contains, IsTrue, ◌==◌, ◌||◌, bytes_eq, find, if◌then◌else◌, is_none}
+use Rattle.std.proofs.Common.{◌≡◌, ◌≤◌, ◌<◌, ◌∙◌, ◌+◌, ◌-◌, ◌^◌, ℕ, arith, Bool, true, false, true≢false, List, [], ◌∷◌, ◌++◌, All, Option, Some, None, is_some, Ok, Err, refl, sym, ap, subst, inl, inr}
+use Rattle.std.specs.Prelude.{Contains, IsTrue, ◌==◌, ◌||◌, bytes_eq, find, if◌then◌else◌, is_none, nat_lt}
 use Rattle.std.specs.List.{AllZip, list_any}
 use Rattle.std.specs.Option.{option_or}
 use Rattle.std.proofs.lemmas.Bool.{cases_Bool}
 use Rattle.std.proofs.lemmas.Slice.Eq.{bytes_eq-Decides}
+use Rattle.ex_base.specs.declared.names.Area.TheVariants.{Page, Segment}
 use Rattle.ex_base.specs.declared.names.Oid.{Oid}
 use Rattle.ex_base.specs.declared.names.OpNote.{OpNote}
 use Rattle.ex_base.specs.declared.names.Place.{Place}
 use Rattle.ex_base.proofs.Members.{contains_in}
+use Rattle.ex_base.specs.declared.notes.NoteKind.TheVariants as note_kind
 use Rattle.disk_model.specs.Outside.{Outside, IsWorld}
 use Rattle.object_files.specs.Catalog.{Catalog, FileEntry}
 use Rattle.object_files.specs.Edits.{has_name}
@@ -41,9 +43,10 @@ use Rattle.volume_edits.proofs.Finding.{find_in}
 use Rattle.volume_model.specs.Shown.{Shows}
 use Rattle.transactions.specs.declared.session.creation.NewObject.{NewObject}
 use Rattle.transactions.specs.declared.session.edits.Need.{Need}
-use Rattle.transactions.specs.Editing.{is_taken_by, limit_of, new_object_in, place_if, room_refusal}
+use Rattle.transactions.specs.Editing.{full_in, is_taken_by, limit_of, new_object_in, place_if, room_refusal}
 use Rattle.transactions.specs.Lines.{IsOutside, LineStops, UpdatesLine}
 use Rattle.transactions.specs.Meant.{held_view, meant, pick_of, place_bound}
+use Rattle.transactions.specs.Refused.{free_in, long_txn}
 use Rattle.transactions.specs.Sessions.{SessionState, IsSession}
 use Rattle.transactions.specs.Steps.{OnlyFrames}
 use Rattle.transactions.specs.Updates.{HasRoomFor, HoldsTable, IfUpdated, Noted, parts_held}
@@ -166,6 +169,27 @@ placed (Some e) n made is = (elim (n == 2 ^ 64 - 1) as (λ b. n == 2 ^ 64 - 1 �
   })
 ]) refl is
 
+-- ---- what the update takes for granted
+
+roomy : (free : ℕ) (long segs : Option Refusal) (why : Refusal) → None ≡ option_or long (option_or (when (nat_lt free 16) why) (option_or segs None)) → 7 ≤ free
+roomy free (Some told) segs why none = absurd (cc (none))
+roomy free None segs why none = (elim (nat_lt free 16) as (λ b. nat_lt free 16 ≡ b → None ≡ option_or (if b then Some why else None) (option_or segs None) → 7 ≤ free) [
+  | true ↦ λ _ full. absurd (cc (full))
+  | false ↦ λ enough _. grind (arith, enough)
+]) refl none
+
+followed : (o : Option FileEntry) (n : ℕ) (made : NewObject) → made.unique < 2 ^ 64 → Ok made ≡ place_if o n → made.unique + 1 < 2 ^ 64
+followed None n made number is = absurd (cc (is))
+followed (Some e) n made number is = (elim (n == 2 ^ 64 - 1) as (λ b. n == 2 ^ 64 - 1 ≡ b → Ok made ≡ (if b then Err refusal.IdsSpent else Ok (made_in e.file_no n)) → made.unique + 1 < 2 ^ 64) [
+  | true ↦ λ _ spent. absurd (cc (spent))
+  | false ↦ λ other made_so. (let same : made ≡ made_in e.file_no n = cc in let unique : made.unique ≡ n = ap (λ (m : NewObject). m.unique) same in grind (arith, number, other, unique))
+]) refl is
+
+-- there are the pages that a new object may take, and a number follows its own
+pub can_make : (s : SessionState) (c : Catalog) (file : List ℕ) (made : NewObject) → made.unique < 2 ^ 64 → Ok made ≡ new_object_in c file → None ≡ room_refusal s creation_need → (7 ≤ free_in s Page) × (made.unique + 1 < 2 ^ 64)
+can_make s c file made number placed_there room =
+    (roomy (free_in s Page) (long_txn s 16) (full_in s Segment 0) (refusal.Full Page 16 (free_in s Page)) room, followed (find (has_name file) c.entries) c.next_unique made number placed_there)
+
 -- ---- a line that is refused
 
 module _ {a b : Outside} {old mid : SessionState} (file name : List ℕ) (world : IsWorld a) (only : OnlyFrames a b old mid) (is : IsSession old) (opened : old.opened ≡ true) where
@@ -285,7 +309,7 @@ module _ {a b c : Outside} {old mid new : SessionState} (file name page : List �
     there_is : is_none (file_at (shown before.machine) file) ≡ false
     there_is = gives.absent ∙ ap (λ (k : Catalog). is_none (find (has_name file) k.entries)) (sym on) ∙ ap (λ (o : Option FileEntry). is_none o) at.found
 
-    module _ (oid : Oid) (named : oid.unique ≡ made.unique) (s : SessionState) (did : Noted mid s (note 3 oid 0 0)) (kept : KeptTo (limit_of mid creation_need) s)
+    module _ (oid : Oid) (named : oid.unique ≡ made.unique) (s : SessionState) (did : Noted mid s (note note_kind.ObjectMade oid 0 0)) (kept : KeptTo (limit_of mid creation_need) s)
         (holds : HoldsTable (with_groups before mid) c (parts_held s) (numbered (with_object oid file (shown before.machine)))) where
       abbrev m : Machine
       m = before.machine
@@ -297,16 +321,16 @@ module _ {a b c : Outside} {old mid new : SessionState} (file name page : List �
       table_then = numbered (with_object oid file (shown m))
 
       abbrev q : Pick
-      q = pick_then later s (note 3 oid 0 0) names_then table_then did holds its_line
+      q = pick_then later s (note note_kind.ObjectMade oid 0 0) names_then table_then did holds its_line
 
       oid_is : new_oid m q ≡ oid
       oid_is =
           let next : (shown m).next_unique ≡ oid.unique = gives.next ∙ ap (λ (k : Catalog). k.next_unique) (sym on) ∙ at.unique ∙ sym named in
           ap (λ (place : Place). made_oid place (shown m).next_unique) (place_last mid.names (bound_to name oid)) ∙ ap (λ (n : ℕ). made_oid (record { page = oid.page; slot = oid.slot }) n) next
 
-      after_is : machine_then later s (note 3 oid 0 0) names_then table_then did holds ≡ machine_after m its_line q
+      after_is : machine_then later s (note note_kind.ObjectMade oid 0 0) names_then table_then did holds ≡ machine_after m its_line q
       after_is =
-          same_machine m q (ap (λ (o : Oid). numbered (with_object o file (shown m))) (sym oid_is)) (ap (λ (o : Oid). note 3 o 0 0 ∷ []) (sym oid_is))
+          same_machine m q (ap (λ (o : Oid). numbered (with_object o file (shown m))) (sym oid_is)) (ap (λ (o : Oid). note note_kind.ObjectMade o 0 0 ∷ []) (sym oid_is))
           (ap (λ (names : List BoundName). names ++ bound_to name oid ∷ []) (sym later.shows.shared.names) ∙ ap (λ (o : Oid). m.names ++ bound_to name o ∷ []) (sym oid_is))
 
       named_machine : IsMachine (record m { names = names_then })
@@ -320,8 +344,8 @@ module _ {a b c : Outside} {old mid new : SessionState} (file name page : List �
 
       made_here : record s { names = names_then } ≡ new → Stepped meant (with_groups before mid) its_line (reply.Create oid) new c
       made_here whole =
-          noted_steps later s (note 3 oid 0 0) names_then table_then did holds new its_line (reply.Create oid) whole went.only (opened_then read opened) refl named_machine (accepted q) (ap reply.Create (sym oid_is)) after_is
-          (vacant_there, λ _. within_need later s (note 3 oid 0 0) names_then table_then did holds creation_need its_line (counted_then read is) kept refl refl refl)
+          noted_steps later s (note note_kind.ObjectMade oid 0 0) names_then table_then did holds new its_line (reply.Create oid) whole went.only (opened_then read opened) refl named_machine (accepted q) (ap reply.Create (sym oid_is)) after_is
+          (vacant_there, λ _. within_need later s (note note_kind.ObjectMade oid 0 0) names_then table_then did holds creation_need its_line (counted_then read is) kept refl refl refl)
 
   -- the update failed
   pub create_stopped : (why : Stop) → LineStops b c why → IfUpdated b mid (update.Create made.file_no made.unique) (λ before u. HasRoomFor before u → IsOutside why) → UpdatesLine a c old new its_line (Err why)
@@ -332,7 +356,7 @@ module _ {a b c : Outside} {old mid new : SessionState} (file name page : List �
   pub create_unbound : UpdatesLine a c old new its_line (Err stop.Memory)
   create_unbound = update_stopped its_line world is read went stop.Memory tt (λ before same now later. tt)
 
-  pub create_done : (oid : Oid) (s : SessionState) → oid.unique ≡ made.unique → Noted mid s (note 3 oid 0 0) → KeptTo (limit_of mid creation_need) s
+  pub create_done : (oid : Oid) (s : SessionState) → oid.unique ≡ made.unique → Noted mid s (note note_kind.ObjectMade oid 0 0) → KeptTo (limit_of mid creation_need) s
       → IfUpdated b mid (update.Create made.file_no made.unique) (λ before u. HoldsTable before c (parts_held s) (updated u oid (shown before.machine)))
       → record s { names = mid.names ++ bound_to name oid ∷ [] } ≡ new → UpdatesLine a c old new its_line (Ok (reply.Create oid))
   create_done oid s named did kept holds whole =

@@ -7,6 +7,7 @@ use Rattle.disk_model.specs.Outside.{Outside, DiskOnly, IsWorld}
 use Rattle.ex_base.specs.declared.names.Oid.{Oid}
 use Rattle.ex_base.specs.declared.names.OpNote.{OpNote}
 use Rattle.ex_base.proofs.Each.{each_as, each_joined, zip_as}
+use Rattle.ex_base.specs.declared.notes.NoteKind.TheVariants as note_kind
 use Rattle.object_files.specs.Catalog.{FileEntry}
 use Rattle.object_records.specs.declared.Head.{Head}
 use Rattle.table_model.specs.declared.machine.Pick.{Pick}
@@ -87,18 +88,18 @@ module _ {a : Outside} {before : View SessionState} (now : ShowsNow meant a befo
       ∙ ap (λ (o : Option Object). option_or (when (has_frozen o) refusal.HasVersions) (first (limits m (request.Destroy x) q))) object_here
       ∙ room_is before removal_need 16 0 0 (update_counts now.shows counted) refl refl refl
 
-  pub destroy_steps : {b : Outside} (new : SessionState) (oid : Oid) → oid ≡ version.oid → DiskOnly a b → Noted before.session new (note 4 oid 0 0) → KeptTo (limit_of before.session removal_need) new
+  pub destroy_steps : {b : Outside} (new : SessionState) (oid : Oid) → oid ≡ version.oid → DiskOnly a b → Noted before.session new (note note_kind.ObjectRemoved oid 0 0) → KeptTo (limit_of before.session removal_need) new
       → HoldsTable before b (parts_held new) (without_object version.oid (shown before.machine)) → room_refusal before.session removal_need ≡ None → Stepped meant before (request.Destroy x) (reply.Destroy oid) new b
   destroy_steps {b} new oid is only did kept holds room =
       let m = before.machine in
       let r = request.Destroy x in
       let table = without_object version.oid (shown m) in
       let own = the_oid_named before x version names in
-      let q = pick_then now new (note 4 oid 0 0) before.session.names table did holds r in
-      noted_steps now new (note 4 oid 0 0) before.session.names table did holds new r (reply.Destroy oid) (same_session new (note 4 oid 0 0) did) only is_open refl (own_names now)
+      let q = pick_then now new (note note_kind.ObjectRemoved oid 0 0) before.session.names table did holds r in
+      noted_steps now new (note note_kind.ObjectRemoved oid 0 0) before.session.names table did holds new r (reply.Destroy oid) (same_session new (note note_kind.ObjectRemoved oid 0 0) did) only is_open refl (own_names now)
       (destroy_told q ∙ room) (ap reply.Destroy (is ∙ sym own))
-      (same_machine m q (ap (λ (o : Oid). without_object o (shown m)) (sym own)) (ap (λ (o : Oid). note 4 o 0 0 ∷ []) (is ∙ sym own)) (sym now.shows.shared.names))
-      (tt, λ _. within_need now new (note 4 oid 0 0) before.session.names table did holds removal_need r counted kept refl refl refl)
+      (same_machine m q (ap (λ (o : Oid). without_object o (shown m)) (sym own)) (ap (λ (o : Oid). note note_kind.ObjectRemoved o 0 0 ∷ []) (is ∙ sym own)) (sym now.shows.shared.names))
+      (tt, λ _. within_need now new (note note_kind.ObjectRemoved oid 0 0) before.session.names table did holds removal_need r counted kept refl refl refl)
 
 -- ---- the ways of the line
 
@@ -128,10 +129,10 @@ module _ {a b : Outside} {old mid : SessionState} (x : Reference) (world : IsWor
       asked before same now = let t = (names before same now).told in record { version = t.version; is = t.is }
 
       -- it is done: the note and the limit as the code comes to them
-      pub destroyed : (oid : Oid) (n : OpNote) (limit : Limit) → oid ≡ version.oid → n ≡ note 4 version.oid 0 0 → limit ≡ limit_of mid removal_need → Noted mid new (note_with n oid) → KeptTo limit new → None ≡ room_refusal mid removal_need
+      pub destroyed : (oid : Oid) (n : OpNote) (limit : Limit) → oid ≡ version.oid → n ≡ note note_kind.ObjectRemoved version.oid 0 0 → limit ≡ limit_of mid removal_need → Noted mid new (note_with n oid) → KeptTo limit new → None ≡ room_refusal mid removal_need
           → IfUpdated b mid (update.Remove version.oid) (λ before u. HoldsTable before c (parts_held new) (updated u oid (shown before.machine))) → UpdatesLine a c old new (request.Destroy x) (Ok (reply.Destroy oid))
       destroyed oid n limit named noting limited noted kept room holds =
-          let did : Noted mid new (note 4 oid 0 0) = subst (λ (o : OpNote). Noted mid new (note_with o oid)) noting noted in
+          let did : Noted mid new (note note_kind.ObjectRemoved oid 0 0) = subst (λ (o : OpNote). Noted mid new (note_with o oid)) noting noted in
           let keeps : KeptTo (limit_of mid removal_need) new = subst (λ (l : Limit). KeptTo l new) limited kept in
           update_done (request.Destroy x) world is read went (reply.Destroy oid) (λ why told. absurd (cc)) (λ before same now later.
           destroy_steps later (counted_then read is) (opened_then read is_open) x version (names_then before x version same read (names before same now)) new oid named went.only did keeps

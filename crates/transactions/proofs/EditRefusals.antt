@@ -22,7 +22,7 @@ use Rattle.table_model.specs.Tables.{is_current}
 use Rattle.table_model.specs.Words.{data_bytes}
 use Rattle.disk_model.specs.Outside.{Outside}
 use Rattle.session_views.specs.View.{View, ShowsNow}
-use Rattle.versions.specs.Versions.{Change, Inserts, Appends, Replaces, Deletes, count_of}
+use Rattle.version_model.specs.Versions.{Change, Inserts, Appends, Replaces, Deletes, count_of}
 use Rattle.versions.specs.Needs.{most_need}
 use Rattle.versions.specs.declared.finding.Found.{Found}
 use Rattle.volume_model.specs.Shown.{Held, Shows}

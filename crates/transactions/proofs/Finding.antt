@@ -38,7 +38,7 @@ use Rattle.ex_base.specs.Sizes.{object_most}
 use Rattle.ex_base.proofs.Members.{In, in_contains, of_each}
 use Rattle.versions.proofs.Roots.{root_is_for}
 use Rattle.versions.specs.Found.{HasLimits, IsReadable, found_of, root_of}
-use Rattle.versions.specs.Versions.{HasRecord, HoldsVersion, Spells, Stands, lone_head}
+use Rattle.version_model.specs.Versions.{HasRecord, HoldsVersion, Spells, Stands, lone_head}
 use Rattle.versions.specs.declared.finding.Found.{Found}
 use Rattle.volume_port.specs.Logged.{LoggedSet, is_held}
 use Rattle.volume_port.specs.Ported.{image_over}

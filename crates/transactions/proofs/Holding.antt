@@ -20,7 +20,7 @@ use Rattle.ex_base.specs.declared.names.Area.{Area}
 use Rattle.object_updates.specs.Updates.{BecomesVolume}
 use Rattle.op_log.specs.declared.record.LogRecord.{LogRecord}
 use Rattle.session_views.specs.View.{View, ShowsNow}
-use Rattle.versions.specs.Versions.{AreInUse}
+use Rattle.version_model.specs.Versions.{AreInUse}
 use Rattle.volume_edits.specs.Edits.{trees_of}
 use Rattle.volume_edits.specs.Ported.{IsApart, IsVolume, units_in}
 use Rattle.volume_model.specs.Shown.{working_units}

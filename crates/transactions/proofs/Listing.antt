@@ -28,7 +28,7 @@ use Rattle.table_model.specs.Tables.{current, file_at}
 use Rattle.session_views.specs.declared.engine.Stop.{Stop}
 use Rattle.session_views.specs.declared.engine.Stop.TheVariants as stop
 use Rattle.session_views.specs.View.{View, ShowsNow}
-use Rattle.versions.specs.Listed.{AreByNumber, AreReadable, oids_of}
+use Rattle.version_model.specs.Listed.{AreByNumber, AreReadable, oids_of}
 use Rattle.volume_model.specs.Parts.{IsStored}
 use Rattle.volume_model.specs.Volume.{FileContent, Stored, Volume}
 use Rattle.volume_edits.specs.Ported.{HasContent, index_named}

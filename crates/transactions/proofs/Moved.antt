@@ -171,7 +171,7 @@ noted_so note noted (Err fault) ok is = absurd (cc)
 -- the note is one of the log with any OID whose numbers fit their fields
 pub note_with_oid : (note noted : OpNote) → noted ≡ note_with note noted.oid → IsNote note → noted.oid.page.0 < 2 ^ 32 → noted.oid.slot < 2 ^ 16 → noted.oid.unique < 2 ^ 64 → IsNote noted
 note_with_oid note noted same is page slot unique =
-    subst IsNote (sym same) (record { some_kind = is.some_kind; kind = is.kind; page = page; slot = slot; unique = unique; first = is.first; second = is.second })
+    subst IsNote (sym same) (record { page = page; slot = slot; unique = unique; first = is.first; second = is.second })
 
 -- what holds of the OID that it answered holds of the noted one
 pub at_oid : (P : Oid → Type 0) (note noted : OpNote) (done : Result Oid PortFault) → is_ok done ≡ true → noted ≡ note_done note done → IfOk done P → P noted.oid

@@ -21,7 +21,7 @@ use Rattle.versions.specs.declared.finding.Found.{Found}
 use Rattle.versions.specs.Edited.{HasNeed}
 use Rattle.versions.specs.Found.{found_of, root_of, size_of}
 use Rattle.versions.specs.Needs.{edit_need, height_in, most_need}
-use Rattle.versions.specs.Versions.{Appends, Change, Deletes, HasVersion, Inserts, InRange, Replaces, StaysSmall, changed, count_of, lone_head, place_of, record_len}
+use Rattle.version_model.specs.Versions.{Appends, Change, Deletes, HasVersion, Inserts, InRange, Replaces, StaysSmall, changed, count_of, lone_head, place_of, record_len}
 use Rattle.versions.proofs.Standing.{holds_of, version_size}
 use Rattle.volume_edits.specs.Shown.{ReadsVersion}
 use Rattle.volume_model.specs.Volume.{Volume}

@@ -26,6 +26,7 @@ use Rattle.ex_base.specs.declared.geometry.Geometry.{Geometry}
 use Rattle.op_log.specs.State.{LogState}
 use Rattle.table_model.specs.declared.machine.BoundName.{BoundName}
 use Rattle.ex_base.specs.Order.{Rising}
+use Rattle.ex_base.specs.declared.notes.NoteKind.{NoteKind}
 use Rattle.std.proofs.lemmas.List.{length-map}
 use Rattle.std.proofs.lemmas.Bool.{both_ways}
 use Rattle.transactions.specs.Steps.{OnlyFrames}
@@ -60,33 +61,31 @@ works_on s rows notes opened meta is same few_rows few each rising work tracked 
 pub has_work : (meta : Overlays) (page : List ℕ) → IsCatalogPage page → (catalog_on page).last < 2 ^ 64 - 1 → HasWork (record meta { working = with_row catalog_no (Some page) meta.working })
 has_work meta page is room = record { image = page; there = lookup_put catalog_no (Some page) meta.working; is_catalog = is; room = room }
 
-is_note : (kind : ℕ) → 1 ≤ kind → kind ≤ 10 → IsNote (note kind no_oid 0 0)
-is_note kind some few = record { some_kind = some; kind = few; page = omega arith; slot = omega arith; unique = omega arith; first = omega arith; second = omega arith }
+is_note : (kind : NoteKind) → IsNote (note kind no_oid 0 0)
+is_note kind = record { page = omega arith; slot = omega arith; unique = omega arith; first = omega arith; second = omega arith }
 
 -- what an update's caller has to see to
-pub record MayUpdate (s : SessionState) (page : List ℕ) (kind : ℕ) : Type 0 where
+pub record MayUpdate (s : SessionState) (page : List ℕ) (kind : NoteKind) : Type 0 where
   pub catalog : IsCatalogPage page
   pub number : (catalog_on page).last < 2 ^ 64 - 1
   pub updates : length s.notes < updates_most
   pub touched : length s.meta.working < touched_most
-  pub some_kind : 1 ≤ kind
-  pub few_kinds : kind ≤ 10
   pub opened : s.opened ≡ true
 
-pub edited : (s now : SessionState) (page : List ℕ) (kind : ℕ) (meta : Overlays) (notes : List OpNote) → s ≡ now → IsSession s → MayUpdate now page kind → meta ≡ record s.meta { working = with_row catalog_no (Some page) s.meta.working }
+pub edited : (s now : SessionState) (page : List ℕ) (kind : NoteKind) (meta : Overlays) (notes : List OpNote) → s ≡ now → IsSession s → MayUpdate now page kind → meta ≡ record s.meta { working = with_row catalog_no (Some page) s.meta.working }
     → notes ≡ s.notes → IsSession (working_on s meta notes s.opened)
 edited s now page kind meta notes is session may same noted =
     let here = subst (λ (t : SessionState). MayUpdate t page kind) (sym is) may in
     works_on s (with_row catalog_no (Some page) s.meta.working) notes s.opened meta session same (omega (arith, length_put catalog_no (Some page) s.meta.working, here.touched))
     (subst (λ (l : List OpNote). length l ≤ updates_most) (sym noted) session.few_notes) (subst (λ (l : List OpNote). AllByRecursion IsNote l) (sym noted) session.notes) (rising_with catalog_no (Some page) s.meta.working session.in_order) (λ _. has_work s.meta page here.catalog here.number) (tracked_put s.geometry s.meta.working s.pages s.kept session.pages page) (λ closed. absurd (both_ways _ closed here.opened))
 
-pub noted : (s now : SessionState) (page : List ℕ) (kind : ℕ) (meta : Overlays) (notes : List OpNote) → s ≡ now → IsSession s → MayUpdate now page kind → meta ≡ record s.meta { working = with_row catalog_no (Some page) s.meta.working }
+pub noted : (s now : SessionState) (page : List ℕ) (kind : NoteKind) (meta : Overlays) (notes : List OpNote) → s ≡ now → IsSession s → MayUpdate now page kind → meta ≡ record s.meta { working = with_row catalog_no (Some page) s.meta.working }
     → notes ≡ s.notes ++ note kind no_oid 0 0 ∷ [] → IsSession (working_on s meta notes s.opened)
 noted s now page kind meta notes is session may same pushed =
     let here = subst (λ (t : SessionState). MayUpdate t page kind) (sym is) may in
     works_on s (with_row catalog_no (Some page) s.meta.working) notes s.opened meta session same (omega (arith, length_put catalog_no (Some page) s.meta.working, here.touched))
     (subst (λ (l : List OpNote). length l ≤ updates_most) (sym pushed) (omega (arith, length-append s.notes (note kind no_oid 0 0 ∷ []), here.updates)))
-    (subst (λ (l : List OpNote). AllByRecursion IsNote l) (sym pushed) (each-push IsNote s.notes (note kind no_oid 0 0) session.notes (is_note kind here.some_kind here.few_kinds))) (rising_with catalog_no (Some page) s.meta.working session.in_order) (λ _. has_work s.meta page here.catalog here.number) (tracked_put s.geometry s.meta.working s.pages s.kept session.pages page) (λ closed. absurd (both_ways _ closed here.opened))
+    (subst (λ (l : List OpNote). AllByRecursion IsNote l) (sym pushed) (each-push IsNote s.notes (note kind no_oid 0 0) session.notes (is_note kind))) (rising_with catalog_no (Some page) s.meta.working session.in_order) (λ _. has_work s.meta page here.catalog here.number) (tracked_put s.geometry s.meta.working s.pages s.kept session.pages page) (λ closed. absurd (both_ways _ closed here.opened))
 
 -- a transaction that could not be opened, and one that was
 pub not_begun : (s : SessionState) (meta : Overlays) → IsSession s → s.opened ≡ false → meta ≡ record s.meta { working = [] } → IsSession (working_on s meta s.notes s.opened)

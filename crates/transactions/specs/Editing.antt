@@ -13,6 +13,7 @@ use Rattle.ex_base.specs.declared.names.Area.TheVariants.{Page, Segment}
 use Rattle.ex_base.specs.declared.names.Oid.{Oid}
 use Rattle.ex_base.specs.declared.names.Root.{Root}
 use Rattle.ex_base.specs.declared.names.OpNote.{OpNote}
+use Rattle.ex_base.specs.declared.notes.NoteKind.TheVariants as note_kind
 use Rattle.object_records.specs.declared.Head.{Head}
 use Rattle.object_records.specs.declared.State.{State}
 use Rattle.object_records.specs.declared.State.TheVariants.{Current, Frozen}
@@ -30,7 +31,7 @@ use Rattle.versions.specs.declared.finding.Found.{Found}
 use Rattle.slotted_pages.specs.FilePage.{room_of}
 use Rattle.slotted_pages.specs.Edits.{slots_of}
 use Rattle.session_views.specs.View.{View}
-use Rattle.versions.specs.Versions.{record_len, Change, Inserts, Appends, Replaces, Deletes, count_of}
+use Rattle.version_model.specs.Versions.{record_len, Change, Inserts, Appends, Replaces, Deletes, count_of}
 use Rattle.versions.specs.Needs.{most_need}
 use Rattle.transactions.specs.declared.session.edits.Need.{Need}
 use Rattle.transactions.specs.declared.session.moving.Limit.{Limit}
@@ -66,10 +67,10 @@ size_after (Deletes pos len) size = size - len
 
 -- the note that it leaves, of an object of this size before
 abbrev pub edit_note : Change → Oid → ℕ → OpNote
-edit_note (Inserts pos given) oid size = note 5 oid pos (length given)
-edit_note (Appends given) oid size = note 6 oid size (length given)
-edit_note (Replaces pos given) oid size = note 7 oid pos (length given)
-edit_note (Deletes pos len) oid size = note 8 oid pos len
+edit_note (Inserts pos given) oid size = note note_kind.Inserted oid pos (length given)
+edit_note (Appends given) oid size = note note_kind.Appended oid size (length given)
+edit_note (Replaces pos given) oid size = note note_kind.Replaced oid pos (length given)
+edit_note (Deletes pos len) oid size = note note_kind.Deleted oid pos len
 
 -- what it is answered, with the size after
 abbrev pub edit_reply : Change → ℕ → Reply

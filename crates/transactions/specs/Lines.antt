@@ -38,7 +38,7 @@ use Rattle.session_views.specs.declared.engine.Stop.TheVariants as stop
 use Rattle.session_views.specs.View.{View, ShowsNow, StandsDuring, Stepped}
 use Rattle.versions.specs.Found.{root_of}
 use Rattle.versions.specs.Found as found_words
-use Rattle.versions.specs.Versions.{lone_head}
+use Rattle.version_model.specs.Versions.{lone_head}
 use Rattle.versions.specs.declared.finding.Found.{Found}
 use Rattle.op_log.specs.declared.record.LogRecord.{LogRecord}
 use Rattle.volume_edits.specs.Ported.{ShowsVolume, units_in}

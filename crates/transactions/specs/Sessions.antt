@@ -6,6 +6,7 @@ use Rattle.ex_base.specs.declared.geometry.Geometry.{Geometry}
 use Rattle.ex_base.specs.declared.names.OpNote.{OpNote}
 use Rattle.ex_base.specs.declared.names.Area.{Area}
 use Rattle.ex_base.specs.Area.{area_end, catalog_no}
+use Rattle.ex_base.specs.declared.notes.NoteKind.{NoteKind}
 use Rattle.op_log.specs.Records.{IsNote}
 use Rattle.op_log.specs.State.{LogState}
 use Rattle.buffer_groups.specs.Frames.{Frames}
@@ -116,7 +117,7 @@ pub record Settled (rows : List WorkingRow) (kept now : List Bool) (old new : Lo
   pub units : OnlyGives (λ unit. (lookup (nat_eq unit) rows ≡ Some None) × (is_kept kept unit ≡ true) → ⊥) before after
 
 -- after an update of a kind, of no version, that left this catalog
-abbrev pub updated : SessionState → List ℕ → ℕ → SessionState
+abbrev pub updated : SessionState → List ℕ → NoteKind → SessionState
 updated s page kind = record s { meta = record s.meta { working = with_row catalog_no (Some page) s.meta.working }; notes = s.notes ++ note kind no_oid 0 0 ∷ [] }
 
 -- A working catalog is there, in its grammar; its number isn't the last one, so that a commit has one.

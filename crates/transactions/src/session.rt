@@ -21,6 +21,7 @@ use buffer_groups::Groups;
 use disk_model::Host;
 use ex_base::{Geometry, OpNote, PageNo};
 use meta_pages::Meta;
+use object_updates::Rooms;
 use op_log::OpLog;
 use page_alloc::Units;
 use session_views::{Engine, Stop};
@@ -62,6 +63,8 @@ pub struct Session {
     // of the open transaction's updates
     notes: Vec<OpNote>,
     names: NameMap,
+    // of the working state's files, and no part of what contracts see
+    rooms: Rooms,
     // a transaction is open
     opened: bool,
     // a step met a fault
@@ -105,12 +108,14 @@ impl Session {
         requires taken { length parts.pages.taken ≡ area_end parts.geometry }
         requires catalog { is_held parts.pages catalog_no ≡ true }
         requires none_taken { (page : ℕ) → is_taken parts.pages page ≡ false }
-        requires groups { All (λ (f : Frames). f.page_size ≡ parts.geometry.page_size) parts.groups }
+        requires groups { All (λ (f : Frames). f.page_size
+            ≡ parts.geometry.page_size) parts.groups }
         requires main { 0 < length parts.groups }
         requires untouched { parts.meta.working ≡ [] }
         requires logged { IsLogged parts.log parts.meta }
         requires behind { AreBehindLog parts.groups }
-        ensures { IfOk result (λ s. s ≡ fresh_session parts.geometry parts.log parts.meta parts.pages parts.units parts.groups) }
+        ensures { IfOk result
+            (λ s. s ≡ fresh_session parts.geometry parts.log parts.meta parts.pages parts.units parts.groups) }
     {
         let Parts {
             geometry,
@@ -133,6 +138,7 @@ impl Session {
             room,
             notes: Vec::new(alloc),
             names: NameMap::new(alloc),
+            rooms: Rooms::new(alloc),
             opened: false,
             down: false,
         })
@@ -147,9 +153,13 @@ impl Session {
     ) -> Result<Reply, Stop>
         requires form { IsTrue (is_request (request_of command.now)) }
         requires built { IsTrue (is_built (request_of command.now)) }
-        ensures answers { Answers (H.outside host.old) (H.outside host.new) self.old self.new (request_of command.now) result }
-        ensures none_counts { request_of command.now ≡ request.Checkpoint → result ≡ Ok Reply.Checkpoint → self.new.log.count ≡ 0 }
-        ensures noted { request_of command.now ≡ request.Commit → (before : View SessionState) → before.session ≡ self.old → ShowsNow meant (H.outside host.old) before → self.old.opened ≡ true
+        ensures answers { Answers (H.outside host.old) (H.outside host.new) self.old self.new
+            (request_of command.now) result }
+        ensures none_counts { request_of command.now ≡ request.Checkpoint
+            → result ≡ Ok Reply.Checkpoint → self.new.log.count ≡ 0 }
+        ensures noted { request_of command.now ≡ request.Commit → (before : View SessionState)
+            → before.session ≡ self.old → ShowsNow meant (H.outside host.old) before
+            → self.old.opened ≡ true
             → OnOk result (HasNotes (H.outside host.new) self.old.geometry self.old.notes) }
     {
         // A disk that is smaller than the volume isn't the one that the session was opened on.
@@ -181,7 +191,8 @@ impl Session {
         requires form { IsTrue (is_request (request_of command.now)) }
         requires built { IsTrue (is_built (request_of command.now)) }
         requires objects { asks_objects (request_of command.now) ≡ true }
-        ensures { Answers (H.outside host.old) (H.outside host.new) self.old self.new (request_of command.now) result }
+        ensures { Answers (H.outside host.old) (H.outside host.new) self.old self.new
+            (request_of command.now) result }
     {
         match command {
             Command::List { name } => self.list(alloc, host, name),
@@ -227,40 +238,55 @@ impl Engine for Session {
         requires form { IsTrue (is_request (request_of command.now)) }
         requires built { IsTrue (is_built (request_of command.now)) }
         ensures only { DiskOnly (H.outside host.old) (H.outside host.new) }
-        ensures disk { result ≡ Err Stop.Disk → Rose (H.outside host.old).disk_faults (H.outside host.new).disk_faults }
-        ensures damaged { (page : PageNo) (want got : Seen) → result ≡ Err (Stop.Damaged page want got) → want ≢ got }
+        ensures disk { result ≡ Err Stop.Disk
+            → Rose (H.outside host.old).disk_faults (H.outside host.new).disk_faults }
+        ensures damaged { (page : PageNo) (want got : Seen)
+            → result ≡ Err (Stop.Damaged page want got) → want ≢ got }
 
         // From a view that shows to a view that shows, by the machine's step.
-        ensures stepped { (before : View SessionState) → before.session ≡ self.old → ShowsNow meant (H.outside host.old) before
-            → IfOk result (λ told. Stepped meant before (request_of command.now) told self.new (H.outside host.new)) }
+        ensures stepped { (before : View SessionState) → before.session ≡ self.old
+            → ShowsNow meant (H.outside host.old) before
+            → IfOk result (λ told. Stepped meant before (request_of command.now) told self.new
+            (H.outside host.new)) }
 
         // Where it shows, nothing but a fault of the disk or want of memory stops it.
-        ensures sound { (before : View SessionState) (stop : Stop) → before.session ≡ self.old → ShowsNow meant (H.outside host.old) before
+        ensures sound { (before : View SessionState) (stop : Stop) → before.session ≡ self.old
+            → ShowsNow meant (H.outside host.old) before
             → result ≡ Err stop → (stop ≡ Stop.Disk) ⊎ (stop ≡ Stop.Memory) }
 
         // A crash at any moment leaves the committed table before it, or in a commit that one or the next.
-        ensures any_moment { (before : View SessionState) → before.session ≡ self.old → ShowsNow meant (H.outside host.old) before
-            → Leaves (H.outside host.old) (H.outside host.new) (StandsDuring meant before.machine (request_of command.now)) }
+        ensures any_moment { (before : View SessionState) → before.session ≡ self.old
+            → ShowsNow meant (H.outside host.old) before
+            → Leaves (H.outside host.old) (H.outside host.new) (StandsDuring meant before.machine
+            (request_of command.now)) }
 
         // A refusal writes nothing and leaves the session but for its frames. But for a commit and a checkpoint the log stays, and nothing is written but
         // by what makes, changes or removes objects.
-        ensures refused { IfOk result (λ told. IsRefused told → OnlyFrames (H.outside host.old) (H.outside host.new) self.old self.new) }
+        ensures refused { IfOk result (λ told. IsRefused told
+            → OnlyFrames (H.outside host.old) (H.outside host.new) self.old self.new) }
         ensures quiet { IsQuiet (request_of command.now) → self.new.log ≡ self.old.log }
-        ensures reads { ReadsAlone (request_of command.now) → ReadsOnly (H.outside host.old) (H.outside host.new) }
+        ensures reads { ReadsAlone (request_of command.now)
+            → ReadsOnly (H.outside host.old) (H.outside host.new) }
 
         // After an accepted checkpoint no record counts.
-        ensures none_counts { request_of command.now ≡ request.Checkpoint → result ≡ Ok Reply.Checkpoint → self.new.log.count ≡ 0 }
+        ensures none_counts { request_of command.now ≡ request.Checkpoint
+            → result ≡ Ok Reply.Checkpoint → self.new.log.count ≡ 0 }
 
         // After an accepted commit the last record that counts has the notes of the transaction's updates.
-        ensures noted { request_of command.now ≡ request.Commit → (before : View SessionState) → before.session ≡ self.old → ShowsNow meant (H.outside host.old) before → self.old.opened ≡ true
+        ensures noted { request_of command.now ≡ request.Commit → (before : View SessionState)
+            → before.session ≡ self.old → ShowsNow meant (H.outside host.old) before
+            → self.old.opened ≡ true
             → OnOk result (HasNotes (H.outside host.new) self.old.geometry self.old.notes) }
 
         // To a command that asks of no objects, only a catalog that is outside of its grammar is damaged.
-        ensures catalog { IsOfCatalog (request_of command.now) → (page : PageNo) (want got : Seen) → result ≡ Err (Stop.Damaged page want got)
-            → IsDamaged (H.outside host.old) self.old.groups (catalog_bytes self.old) page want got }
+        ensures catalog { IsOfCatalog (request_of command.now) → (page : PageNo) (want got : Seen)
+            → result ≡ Err (Stop.Damaged page want got)
+            → IsDamaged (H.outside host.old) self.old.groups
+            (catalog_bytes self.old) page want got }
 
         // After a fault every step answers that the session is down, and calls nothing; before one none does.
-        ensures is_down { self.old.down ≡ true → (result ≡ Err Stop.Down) × (host.new ≡ host.old) × (self.new ≡ self.old) }
+        ensures is_down { self.old.down ≡ true → (result ≡ Err Stop.Down) × (host.new ≡ host.old)
+            × (self.new ≡ self.old) }
         ensures was_down { result ≡ Err Stop.Down → self.old.down ≡ true }
         ensures goes_down { OnErr result (self.new.down ≡ true) }
         ensures stays_up { OnOk result (self.new.down ≡ false) }

@@ -1,9 +1,10 @@
 -- The children of a row of nodes.
-use Rattle.std.proofs.Common.{◌≡◌, ℕ, suc, ◌+◌, ◌-◌, ◌*◌, ◌<◌, ◌≤◌, ◌^◌, List, [], ◌∷◌, ◌++◌, length, map, take, get_or, refl, sym, ap, subst, ◌∙◌, arith, inl, inr}
+use Rattle.std.proofs.Common.{◌≡◌, ℕ, suc, ◌+◌, ◌-◌, ◌*◌, ◌<◌, ◌≤◌, List, [], ◌∷◌, ◌++◌, length, map, take, get_or, refl, sym, ap, subst, ◌∙◌, arith, inl, inr}
 use Rattle.std.specs.List.{AllByRecursion, flat_map}
 use Rattle.std.proofs.lemmas.List.{append-nil, length-append, take_more}
 use Rattle.ex_base.specs.Edits.{deleted}
 use Rattle.ex_base.specs.Ports.{Keeps}
+use Rattle.ex_base.specs.Sizes.{object_most}
 use Rattle.ex_base.specs.declared.geometry.Geometry.{Geometry}
 use Rattle.ex_base.specs.declared.ground.Ground as ground
 use Rattle.ex_base.proofs.Rows.{each-append}
@@ -32,7 +33,7 @@ use Rattle.tree_delete.specs.Beside.{AreNodesAt, children_on}
 use Rattle.tree_delete.proofs.Beside.{children_app, node_one}
 use Rattle.tree_delete.proofs.CutLaws.{size_app, in_either, in_first, in_second, each_cut, size_cut, units_cut, bytes_cut}
 use Rattle.trees.proofs.RootSteps.{has_each}
-use Rattle.trees.proofs.Growing.{holds_kept, holds_split, shape_app}
+use Rattle.trees.proofs.Growing.{holds_split, shape_app}
 
 -- ---- lists
 
@@ -221,7 +222,7 @@ module _ {S : Type 0} (g : ground.Ghosts S) where
         (each_cut _ row at len below h (each_unmapped _ (λ (part : Part). shape_on (g.unit s) l part.page.0 part.size) row (o.halves all)));
   }
 
-pub below_at : (geo : Geometry) (level least : ℕ) (run row : List Part) (at len : ℕ) (below : Cut) → AreChildren geo level least run row → row_size run < 2 ^ 32 → IsCutOf row at len below → IsCutAt geo (level - 1) below
+pub below_at : (geo : Geometry) (level least : ℕ) (run row : List Part) (at len : ℕ) (below : Cut) → AreChildren geo level least run row → row_size run ≤ object_most → IsCutOf row at len below → IsCutAt geo (level - 1) below
 below_at geo level least run row at len below c limit h = record {
   some = each_cut _ row at len below h c.some;
   fits = λ lowest. each_cut _ row at len below h (c.fits lowest);

@@ -1,5 +1,5 @@
 -- What a cut leaves of a row of nodes.
-use Rattle.std.proofs.Common.{◌≡◌, ◌≢◌, ◌⊎◌, ℕ, zero, suc, ◌+◌, ◌-◌, ◌*◌, ◌≤◌, Bool, true, false, eqb, List, [], ◌∷◌, ◌++◌, length, take, drop, refl, sym, ap, subst, ◌∙◌, arith, inl, inr, true≢false}
+use Rattle.std.proofs.Common.{◌≡◌, ◌≢◌, ℕ, zero, suc, ◌+◌, ◌-◌, ◌*◌, ◌≤◌, true, false, eqb, List, [], ◌∷◌, ◌++◌, length, take, drop, refl, sym, ap, subst, ◌∙◌, arith, inl, inr, true≢false}
 use Rattle.std.specs.List.{AllByRecursion}
 use Rattle.std.proofs.lemmas.Bool.{cases_lt, eqb-true, eq-eqb}
 use Rattle.std.proofs.lemmas.List.{length-append, length-map}
@@ -19,7 +19,7 @@ use Rattle.trees.specs.Shape.{Subtree, IsHalfFull, total}
 use Rattle.trees.specs.Trees.{Units, shape_on}
 use Rattle.trees.specs.declared.rows.Part.{Part}
 use Rattle.trees.specs.Rows.{row_size, row_bytes, row_shape, row_units}
-use Rattle.trees.specs.Made.{Extends, Has, Holds, IsTaken, Took, pages_of}
+use Rattle.trees.specs.Made.{Extends, Has, Holds, Took, pages_of}
 use Rattle.trees.specs.Built.{Built, AreSome, even_lens}
 use Rattle.trees.proofs.Laid.{extends_kept, extends_on}
 use Rattle.trees.proofs.Over.{all_has, bytes_app}

@@ -1,5 +1,5 @@
 -- The new root.
-use Rattle.std.proofs.Common.{◌≡◌, ◌⊎◌, ℕ, zero, suc, ◌+◌, ◌*◌, ◌<◌, ◌≤◌, ◌^◌, List, [], ◌∷◌, ◌++◌, length, Option, Some, None, refl, sym, ap, subst, ◌∙◌, arith, inl, inr, true≢false}
+use Rattle.std.proofs.Common.{◌≡◌, ◌⊎◌, ℕ, zero, suc, ◌+◌, ◌*◌, ◌<◌, ◌≤◌, List, [], ◌∷◌, ◌++◌, length, Option, Some, None, refl, sym, ap, subst, ◌∙◌, arith, inl, inr, true≢false}
 use Rattle.std.specs.List.{AllByRecursion}
 use Rattle.std.proofs.lemmas.Bool.{cases_lt}
 use Rattle.std.proofs.lemmas.List.{append-nil, length-map, drop_all}
@@ -20,7 +20,6 @@ use Rattle.trees.proofs.TreeLaws.{length-bytes_on}
 use Rattle.trees.specs.declared.rows.Part.{Part}
 use Rattle.trees.specs.Rows.{row_size, row_bytes, row_shape, row_units}
 use Rattle.trees.specs.Made.{AreUsed, Extends, Has, Holds, IsTaken}
-use Rattle.trees.specs.Built.{AreSome}
 use Rattle.trees.proofs.Kept.{row_extends}
 use Rattle.trees.proofs.Counts.{counted_same}
 use Rattle.trees.specs.Grown.{IsRooted, Turned}

@@ -1,10 +1,10 @@
 -- Cuts through rows of trees.
-use Rattle.std.specs.Prelude.{◌≡◌, ◌⊎◌, ℕ, zero, suc, ◌+◌, ◌-◌, ◌*◌, ◌^◌, ◌<◌, ◌≤◌, List, [], ◌++◌, length}
+use Rattle.std.specs.Prelude.{◌≡◌, ◌⊎◌, ℕ, zero, suc, ◌+◌, ◌-◌, ◌*◌, ◌≤◌, List, [], ◌++◌, length}
 use Rattle.std.specs.List.{AllByRecursion}
 use Rattle.ex_base.specs.declared.geometry.Geometry.{Geometry}
 use Rattle.ex_base.specs.declared.ground.Ground as ground
 use Rattle.ex_base.specs.Edits.{deleted}
-use Rattle.ex_base.specs.Sizes.{leaf_bytes}
+use Rattle.ex_base.specs.Sizes.{leaf_bytes, object_most}
 use Rattle.count_nodes.specs.Split.{most_pairs}
 use Rattle.trees.specs.Shape.{Subtree, IsHalfFull}
 use Rattle.trees.specs.Trees.{Units}
@@ -33,7 +33,7 @@ pub record IsCutAt (g : Geometry) (level : ℕ) (cut : Cut) : Type 0 where
   pub fits : FitLeaves g level (all_of cut)
   pub inside : cut.at + cut.len ≤ row_size cut.run.items
   pub few : length cut.run.items ≤ 2
-  pub limit : row_size (all_of cut) < 2 ^ 32
+  pub limit : row_size (all_of cut) ≤ object_most
 
 -- The cut takes so many bytes from a position of a row on. The trees that lie wholly inside the range are gone.
 pub record IsCutOf (row : List Part) (at len : ℕ) (cut : Cut) : Type 0 where

@@ -4,5 +4,4 @@ pub mod Opens
 pub mod Beside
 pub mod Leaves
 pub mod Left
-pub mod Need
 pub mod Trees

@@ -1,5 +1,6 @@
 // Cuts through rows of trees: which trees a range of bytes goes through, and which stay as they are.
 ghost use Rattle.std.specs.Prelude.{◌≡◌, ◌≤◌, ◌<◌, ◌+◌, ◌-◌, ◌*◌, ◌^◌, ◌++◌, [], length, take, IfOk, OnOk};
+ghost use Rattle.ex_base.specs.Sizes.{object_most};
 ghost use Rattle.trees.specs.Rows.{row_size};
 ghost use Rattle.tree_delete.specs.Places.{IsPlace};
 ghost use Rattle.tree_delete.specs.Cuts.{IsCutOf};
@@ -85,7 +86,7 @@ fn behind(index: usize, bytes: u64) -> usize
 /// The cut that takes so many bytes from a position of a row on.
 pub(crate) fn cut_through(alloc: Global, row: &[Part], at: u64, len: u64) -> Result<Cut, AllocError>
     requires inside { at + len ≤ row_size row.now }
-    requires limit { row_size row.now < 2 ^ 32 }
+    requires limit { row_size row.now ≤ object_most }
     ensures { IfOk result (λ cut. IsCutOf row.now at len cut) }
 {
     let (first, inside) = place(row, at);

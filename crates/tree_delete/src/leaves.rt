@@ -1,7 +1,7 @@
 // A cut through a row of leaves.
 ghost use Rattle.std.specs.Prelude.{◌≡◌, ℕ, IfErr, ◌≤◌, ◌<◌, ◌+◌, ◌-◌, ◌*◌, ◌/◌, ◌^◌, length, IfOk, OnOk};
 ghost use Rattle.ex_base.specs.Ports.{HasCause};
-ghost use Rattle.ex_base.specs.Sizes.{leaf_bytes};
+ghost use Rattle.ex_base.specs.Sizes.{leaf_bytes, object_most};
 ghost use Rattle.ex_base.specs.declared.names.Area.TheVariants.{Page, Segment};
 ghost use Rattle.trees.specs.Damage.{IsWalkFault};
 ghost use Rattle.trees.specs.Rows.{row_size};
@@ -19,10 +19,11 @@ use trees::{Change, Part, put, write_leaves};
 /// The cut with a neighbour among the leaves that are written anew, where what is left of them is less than half a leaf.
 fn with_leaf(alloc: Global, cut: Cut, full: u64) -> Result<Cut, AllocError>
     requires inside { cut.len ≤ row_size cut.run.items }
-    requires limit { row_size (all_of cut) < 2 ^ 32 }
-    requires place { cut.at < 2 ^ 32 }
+    requires limit { row_size (all_of cut) ≤ object_most }
+    requires place { cut.at ≤ object_most }
     ensures wider { IfOk result (λ wider. IsWider full cut wider) }
-    ensures near { IfOk result (λ wider. 1 ≤ row_size cut.run.items - cut.len → row_size cut.run.items - cut.len < full / 2 → TakesNear cut wider) }
+    ensures near { IfOk result (λ wider. 1 ≤ row_size cut.run.items - cut.len
+        → row_size cut.run.items - cut.len < full / 2 → TakesNear cut wider) }
 {
     let rest = bytes_of(&cut.run) - cut.len;
     if rest == 0 || full / 2 <= rest {
@@ -51,13 +52,12 @@ fn with_leaf(alloc: Global, cut: Cut, full: u64) -> Result<Cut, AllocError>
 }
 
 /// The lengths of as few leaves as hold so many bytes, at most two, evenly.
-fn even_lengths(alloc: Global, total: u64, full: u64) -> Result<Vec<u32>, AllocError>
-    requires total { total ≤ 2 * full }
-    requires limit { total < 2 ^ 32 }
+fn even_lengths(alloc: Global, total: u64, full: u32) -> Result<Vec<u32>, AllocError>
+    requires { total ≤ 2 * full }
     ensures { IfOk result (λ lengths. AreEven full total lengths.items) }
 {
     let mut lengths = Vec::new(alloc);
-    if full < total {
+    if total > full as u64 {
         put(&mut lengths, (total - total / 2) as u32)?;
         put(&mut lengths, (total / 2) as u32)?;
     } else if 0 < total {
@@ -79,18 +79,24 @@ pub(crate) fn cut_leaves<B: Blocks>(
     requires free { 4 ≤ B.free blocks.old Segment }
     ensures extends { OnOk result (Extends B.Ground blocks.old blocks.new) }
     ensures left_of { IfOk result (λ made. IsLeftOf cut made.items) }
-    ensures roots { IfOk result (λ made. sides cut ≡ 0 → AreRootLeaves (leaf_bytes (B.geometry blocks.old)) made.items) }
+    ensures roots { IfOk result (λ made. sides cut ≡ 0
+        → AreRootLeaves (leaf_bytes (B.geometry blocks.old)) made.items) }
     ensures leaves { OnOk result (B.free blocks.old Segment ≤ B.free blocks.new Segment + 4) }
     ensures pages { OnOk result (B.free blocks.new Page ≡ B.free blocks.old Page) }
-    ensures left { IfOk result (λ made. B.tells blocks.old → Holds B.Ground blocks.old 0 (all_of cut) → IsLeft B.Ground blocks.old blocks.new 0 cut made.items) }
-    ensures way { OnOk result (B.tells blocks.old → HasSoundEnds (B.geometry blocks.old) (B.unit blocks.old) 0 0 cut) }
-    ensures beside { OnOk result (B.tells blocks.old → OpensSound (B.geometry blocks.old) (B.unit blocks.old) 0 0 cut) }
-    ensures fault { IfErr result (λ fault. B.tells blocks.old → (least : ℕ) → IsWalkFault (B.geometry blocks.old) (B.unit blocks.old) 0 least (all_of cut) fault) }
+    ensures left { IfOk result (λ made. B.tells blocks.old
+        → Holds B.Ground blocks.old 0 (all_of cut)
+        → IsLeft B.Ground blocks.old blocks.new 0 cut made.items) }
+    ensures way { OnOk result (B.tells blocks.old
+        → HasSoundEnds (B.geometry blocks.old) (B.unit blocks.old) 0 0 cut) }
+    ensures beside { OnOk result (B.tells blocks.old
+        → OpensSound (B.geometry blocks.old) (B.unit blocks.old) 0 0 cut) }
+    ensures fault { IfErr result (λ fault. B.tells blocks.old → (least : ℕ)
+        → IsWalkFault (B.geometry blocks.old) (B.unit blocks.old) 0 least (all_of cut) fault) }
     ensures leads { B.leads blocks.old blocks.new }
     ensures cause { HasCause (B.faults blocks.old) (B.faults blocks.new) result }
 {
-    let full = buffer.len() as u64;
-    let cut = with_leaf(alloc, cut, full)?;
+    let full = buffer.len() as u32;
+    let cut = with_leaf(alloc, cut, full as u64)?;
     let lengths = even_lengths(alloc, bytes_of(&cut.run) - cut.len, full)?;
     let change = Change {
         at: cut.at,

@@ -34,12 +34,25 @@ fn children_of<B: ReadBlocks>(
 ) -> Result<Vec<Part>, PortFault>
     requires ready { B.ready blocks.old }
     requires level { 1 ≤ level }
-    ensures counted { IfOk result (λ below. AreChildren (B.geometry blocks.old) level least row.now below.items) }
-    ensures opened { IfOk result (λ below. B.tells blocks.old → (l : ℕ) → level ≡ suc l → Holds B.Ground blocks.old (suc l) row.now → IsOpened B.Ground blocks.old l row.now below.items) }
-    ensures way { IfOk result (λ below. B.tells blocks.old → (first last : ℕ) → IsSoundWay (B.geometry blocks.old) (B.unit blocks.old) (NamesLeaf (B.geometry blocks.old)) (level - 1) (B.geometry blocks.old).fan below.items first last → IsSoundWay (B.geometry blocks.old) (B.unit blocks.old) (NamesLeaf (B.geometry blocks.old)) level least row.now first last) }
-    ensures nodes { IfOk result (λ below. B.tells blocks.old → AreNodesAt (B.geometry blocks.old) (B.unit blocks.old) level least row.now × (below.items ≡ children_on (B.unit blocks.old) row.now)) }
-    ensures fault { IfErr result (λ fault. B.tells blocks.old → IsWalkFault (B.geometry blocks.old) (B.unit blocks.old) level least row.now fault) }
-    ensures walk { IfOk result (λ below. B.tells blocks.old → (fault : PortFault) → IsWalkFault (B.geometry blocks.old) (B.unit blocks.old) (level - 1) (B.geometry blocks.old).fan below.items fault → IsWalkFault (B.geometry blocks.old) (B.unit blocks.old) level least row.now fault) }
+    ensures counted { IfOk result
+        (λ below. AreChildren (B.geometry blocks.old) level least row.now below.items) }
+    ensures opened { IfOk result (λ below. B.tells blocks.old → (l : ℕ) → level ≡ suc l
+        → Holds B.Ground blocks.old (suc l) row.now
+        → IsOpened B.Ground blocks.old l row.now below.items) }
+    ensures way { IfOk result (λ below. B.tells blocks.old → (first last : ℕ)
+        → IsSoundWay (B.geometry blocks.old) (B.unit blocks.old) (NamesLeaf (B.geometry blocks.old))
+        (level - 1) (B.geometry blocks.old).fan below.items first last
+        → IsSoundWay (B.geometry blocks.old) (B.unit blocks.old)
+        (NamesLeaf (B.geometry blocks.old)) level least row.now first last) }
+    ensures nodes { IfOk result (λ below. B.tells blocks.old
+        → AreNodesAt (B.geometry blocks.old) (B.unit blocks.old) level least row.now
+        × (below.items ≡ children_on (B.unit blocks.old) row.now)) }
+    ensures fault { IfErr result (λ fault. B.tells blocks.old
+        → IsWalkFault (B.geometry blocks.old) (B.unit blocks.old) level least row.now fault) }
+    ensures walk { IfOk result (λ below. B.tells blocks.old → (fault : PortFault)
+        → IsWalkFault (B.geometry blocks.old) (B.unit blocks.old) (level - 1)
+        (B.geometry blocks.old).fan below.items fault
+        → IsWalkFault (B.geometry blocks.old) (B.unit blocks.old) level least row.now fault) }
     ensures kept { Keeps B.Ground blocks.old blocks.new }
     ensures cause { HasCause (B.faults blocks.old) (B.faults blocks.new) result }
 {
@@ -63,14 +76,29 @@ pub(crate) fn cut_below<B: ReadBlocks>(
     requires level { 1 ≤ level }
     requires cut_at { IsCutAt (B.geometry blocks.old) level cut.now }
     ensures cut_at { IfOk result (λ below. IsCutAt (B.geometry blocks.old) (level - 1) below) }
-    ensures sum { IfOk result (λ below. row_size (all_of below) + cut.now.len ≡ row_size cut.now.run.items + below.len) }
+    ensures sum { IfOk result (λ below. row_size (all_of below) + cut.now.len
+        ≡ row_size cut.now.run.items + below.len) }
     ensures less { IfOk result (λ below. below.len ≤ cut.now.len) }
-    ensures few { IfOk result (λ below. length (all_of below) ≤ 2 * most_pairs (B.geometry blocks.old).fan) }
-    ensures below { IfOk result (λ below. B.tells blocks.old → (l : ℕ) → level ≡ suc l → Holds B.Ground blocks.old (suc l) cut.now.run.items → IsBelow B.Ground blocks.old l cut.now.run.items cut.now.at cut.now.len below) }
-    ensures way { IfOk result (λ below. B.tells blocks.old → HasSoundEnds (B.geometry blocks.old) (B.unit blocks.old) (level - 1) (B.geometry blocks.old).fan below → HasSoundEnds (B.geometry blocks.old) (B.unit blocks.old) level least cut.now) }
-    ensures nodes { IfOk result (λ below. B.tells blocks.old → AreNodesAt (B.geometry blocks.old) (B.unit blocks.old) level least cut.now.run.items × IsCutOf (children_on (B.unit blocks.old) cut.now.run.items) cut.now.at cut.now.len below) }
-    ensures fault { IfErr result (λ fault. B.tells blocks.old → IsWalkFault (B.geometry blocks.old) (B.unit blocks.old) level least cut.now.run.items fault) }
-    ensures walk { IfOk result (λ below. B.tells blocks.old → (fault : PortFault) → IsWalkFault (B.geometry blocks.old) (B.unit blocks.old) (level - 1) (B.geometry blocks.old).fan (all_of below) fault → IsWalkFault (B.geometry blocks.old) (B.unit blocks.old) level least cut.now.run.items fault) }
+    ensures few { IfOk result (λ below. length (all_of below)
+        ≤ 2 * most_pairs (B.geometry blocks.old).fan) }
+    ensures below { IfOk result (λ below. B.tells blocks.old → (l : ℕ) → level ≡ suc l
+        → Holds B.Ground blocks.old (suc l) cut.now.run.items
+        → IsBelow B.Ground blocks.old l cut.now.run.items cut.now.at cut.now.len below) }
+    ensures way { IfOk result (λ below. B.tells blocks.old
+        → HasSoundEnds (B.geometry blocks.old) (B.unit blocks.old) (level - 1)
+        (B.geometry blocks.old).fan below
+        → HasSoundEnds (B.geometry blocks.old) (B.unit blocks.old) level least cut.now) }
+    ensures nodes { IfOk result (λ below. B.tells blocks.old
+        → AreNodesAt (B.geometry blocks.old) (B.unit blocks.old) level least cut.now.run.items
+        × IsCutOf (children_on (B.unit blocks.old) cut.now.run.items) cut.now.at cut.now.len below) }
+    ensures fault { IfErr result (λ fault. B.tells blocks.old
+        → IsWalkFault (B.geometry blocks.old)
+        (B.unit blocks.old) level least cut.now.run.items fault) }
+    ensures walk { IfOk result (λ below. B.tells blocks.old → (fault : PortFault)
+        → IsWalkFault (B.geometry blocks.old) (B.unit blocks.old) (level - 1)
+        (B.geometry blocks.old).fan (all_of below) fault
+        → IsWalkFault (B.geometry blocks.old)
+        (B.unit blocks.old) level least cut.now.run.items fault) }
     ensures kept { Keeps B.Ground blocks.old blocks.new }
     ensures cause { HasCause (B.faults blocks.old) (B.faults blocks.new) result }
 {
@@ -90,11 +118,27 @@ pub(crate) fn open<B: ReadBlocks>(
     requires cut_at { IsCutAt (B.geometry blocks.old) level cut }
     requires sides { 1 ≤ sides cut }
     ensures counted { IfOk result (λ opened. OpensTo (B.geometry blocks.old) level cut opened) }
-    ensures opened { IfOk result (λ opened. B.tells blocks.old → (l : ℕ) → level ≡ suc l → Holds B.Ground blocks.old (suc l) (all_of cut) → IsOpenedCut B.Ground blocks.old l cut opened) }
-    ensures way { IfOk result (λ opened. B.tells blocks.old → HasSoundEnds (B.geometry blocks.old) (B.unit blocks.old) (level - 1) (B.geometry blocks.old).fan opened.below → HasSoundEnds (B.geometry blocks.old) (B.unit blocks.old) level (B.geometry blocks.old).fan cut) }
-    ensures beside { IfOk result (λ opened. B.tells blocks.old → OpensSound (B.geometry blocks.old) (B.unit blocks.old) (level - 1) (B.geometry blocks.old).fan opened.below → OpensSound (B.geometry blocks.old) (B.unit blocks.old) level (B.geometry blocks.old).fan cut) }
-    ensures fault { IfErr result (λ fault. B.tells blocks.old → IsWalkFault (B.geometry blocks.old) (B.unit blocks.old) level (B.geometry blocks.old).fan (all_of cut) fault) }
-    ensures walk { IfOk result (λ opened. B.tells blocks.old → (fault : PortFault) → IsWalkFault (B.geometry blocks.old) (B.unit blocks.old) (level - 1) (B.geometry blocks.old).fan (all_of opened.below) fault → IsWalkFault (B.geometry blocks.old) (B.unit blocks.old) level (B.geometry blocks.old).fan (all_of cut) fault) }
+    ensures opened { IfOk result (λ opened. B.tells blocks.old → (l : ℕ) → level ≡ suc l
+        → Holds B.Ground blocks.old (suc l) (all_of cut)
+        → IsOpenedCut B.Ground blocks.old l cut opened) }
+    ensures way { IfOk result (λ opened. B.tells blocks.old
+        → HasSoundEnds (B.geometry blocks.old) (B.unit blocks.old) (level - 1)
+        (B.geometry blocks.old).fan opened.below
+        → HasSoundEnds (B.geometry blocks.old) (B.unit blocks.old) level
+        (B.geometry blocks.old).fan cut) }
+    ensures beside { IfOk result (λ opened. B.tells blocks.old
+        → OpensSound (B.geometry blocks.old) (B.unit blocks.old) (level - 1)
+        (B.geometry blocks.old).fan opened.below
+        → OpensSound (B.geometry blocks.old) (B.unit blocks.old) level
+        (B.geometry blocks.old).fan cut) }
+    ensures fault { IfErr result (λ fault. B.tells blocks.old
+        → IsWalkFault (B.geometry blocks.old) (B.unit blocks.old) level (B.geometry blocks.old).fan
+        (all_of cut) fault) }
+    ensures walk { IfOk result (λ opened. B.tells blocks.old → (fault : PortFault)
+        → IsWalkFault (B.geometry blocks.old) (B.unit blocks.old) (level - 1)
+        (B.geometry blocks.old).fan (all_of opened.below) fault
+        → IsWalkFault (B.geometry blocks.old) (B.unit blocks.old) level (B.geometry blocks.old).fan
+        (all_of cut) fault) }
     ensures kept { Keeps B.Ground blocks.old blocks.new }
     ensures cause { HasCause (B.faults blocks.old) (B.faults blocks.new) result }
 {

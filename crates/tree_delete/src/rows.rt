@@ -35,13 +35,22 @@ fn cut_row<B: Blocks>(
     requires pages { 4 * level ≤ B.free blocks.old Page }
     ensures extends { OnOk result (Extends B.Ground blocks.old blocks.new) }
     ensures left_of { IfOk result (λ made. IsLeftOf cut made.items) }
-    ensures roots { IfOk result (λ made. level ≡ 0 → sides cut ≡ 0 → AreRootLeaves (leaf_bytes (B.geometry blocks.old)) made.items) }
+    ensures roots { IfOk result (λ made. level ≡ 0 → sides cut ≡ 0
+        → AreRootLeaves (leaf_bytes (B.geometry blocks.old)) made.items) }
     ensures leaves { OnOk result (B.free blocks.old Segment ≤ B.free blocks.new Segment + 4) }
     ensures pages { OnOk result (B.free blocks.old Page ≤ B.free blocks.new Page + 4 * level) }
-    ensures left { IfOk result (λ made. B.tells blocks.old → (l : ℕ) → level ≡ l → Holds B.Ground blocks.old l (all_of cut) → IsLeft B.Ground blocks.old blocks.new l cut made.items) }
-    ensures way { OnOk result (B.tells blocks.old → (least : ℕ) → (1 ≤ level → least ≡ (B.geometry blocks.old).fan) → HasSoundEnds (B.geometry blocks.old) (B.unit blocks.old) level least cut) }
-    ensures beside { OnOk result (B.tells blocks.old → (least : ℕ) → (1 ≤ level → least ≡ (B.geometry blocks.old).fan) → OpensSound (B.geometry blocks.old) (B.unit blocks.old) level least cut) }
-    ensures fault { IfErr result (λ fault. B.tells blocks.old → (least : ℕ) → (1 ≤ level → least ≡ (B.geometry blocks.old).fan) → IsWalkFault (B.geometry blocks.old) (B.unit blocks.old) level least (all_of cut) fault) }
+    ensures left { IfOk result (λ made. B.tells blocks.old → (l : ℕ) → level ≡ l
+        → Holds B.Ground blocks.old l (all_of cut)
+        → IsLeft B.Ground blocks.old blocks.new l cut made.items) }
+    ensures way { OnOk result (B.tells blocks.old → (least : ℕ)
+        → (1 ≤ level → least ≡ (B.geometry blocks.old).fan)
+        → HasSoundEnds (B.geometry blocks.old) (B.unit blocks.old) level least cut) }
+    ensures beside { OnOk result (B.tells blocks.old → (least : ℕ)
+        → (1 ≤ level → least ≡ (B.geometry blocks.old).fan)
+        → OpensSound (B.geometry blocks.old) (B.unit blocks.old) level least cut) }
+    ensures fault { IfErr result (λ fault. B.tells blocks.old → (least : ℕ)
+        → (1 ≤ level → least ≡ (B.geometry blocks.old).fan)
+        → IsWalkFault (B.geometry blocks.old) (B.unit blocks.old) level least (all_of cut) fault) }
     ensures leads { B.leads blocks.old blocks.new }
     ensures cause { HasCause (B.faults blocks.old) (B.faults blocks.new) result }
 {
@@ -79,16 +88,24 @@ pub(crate) fn cut_tree<B: Blocks>(
     ensures low { IfOk result (λ made. made.0 ≤ level) }
     ensures sum { IfOk result (λ made. row_size made.1.items + cut.len ≡ row_size (all_of cut)) }
     ensures sizes { IfOk result (λ made. AreSome made.1.items) }
-    ensures few { IfOk result (λ made. length made.1.items ≤ 2 * most_pairs (B.geometry blocks.old).fan + 4) }
+    ensures few { IfOk result (λ made. length made.1.items
+        ≤ 2 * most_pairs (B.geometry blocks.old).fan + 4) }
     ensures leaves { OnOk result (B.free blocks.old Segment ≤ B.free blocks.new Segment + 4) }
     ensures pages { OnOk result (B.free blocks.old Page ≤ B.free blocks.new Page + 4 * level) }
-    ensures trimmed { IfOk result (λ made. B.tells blocks.old → (l : ℕ) → level ≡ l → Holds B.Ground blocks.old l (all_of cut)
-        → (1 ≤ sides cut → AreHalves (B.geometry blocks.old) l (row_shape (B.unit blocks.old) l (all_of cut)))
+    ensures trimmed { IfOk result (λ made. B.tells blocks.old → (l : ℕ) → level ≡ l
+        → Holds B.Ground blocks.old l (all_of cut)
+        → (1 ≤ sides cut → AreHalves (B.geometry blocks.old) l (row_shape (B.unit blocks.old) l
+        (all_of cut)))
         → HaveHalves (B.geometry blocks.old) l (row_shape (B.unit blocks.old) l cut.run.items)
-        → (m : ℕ) → made.0 ≡ m → IsTrimmed B.Ground blocks.old blocks.new (row_units (B.unit blocks.old) l (all_of cut)) (cut_bytes (B.unit blocks.old) l cut) m made.1.items) }
-    ensures way { OnOk result (B.tells blocks.old → HasSoundEnds (B.geometry blocks.old) (B.unit blocks.old) level least cut) }
-    ensures beside { OnOk result (B.tells blocks.old → OpensSound (B.geometry blocks.old) (B.unit blocks.old) level least cut) }
-    ensures fault { IfErr result (λ fault. B.tells blocks.old → IsWalkFault (B.geometry blocks.old) (B.unit blocks.old) level least (all_of cut) fault) }
+        → (m : ℕ) → made.0 ≡ m → IsTrimmed B.Ground blocks.old blocks.new
+        (row_units (B.unit blocks.old) l (all_of cut))
+        (cut_bytes (B.unit blocks.old) l cut) m made.1.items) }
+    ensures way { OnOk result (B.tells blocks.old
+        → HasSoundEnds (B.geometry blocks.old) (B.unit blocks.old) level least cut) }
+    ensures beside { OnOk result (B.tells blocks.old
+        → OpensSound (B.geometry blocks.old) (B.unit blocks.old) level least cut) }
+    ensures fault { IfErr result (λ fault. B.tells blocks.old
+        → IsWalkFault (B.geometry blocks.old) (B.unit blocks.old) level least (all_of cut) fault) }
     ensures leads { B.leads blocks.old blocks.new }
     ensures cause { HasCause (B.faults blocks.old) (B.faults blocks.new) result }
 {

@@ -1,5 +1,5 @@
 -- How new nodes over a row that grew make its node grow.
-use Rattle.std.proofs.Common.{◌≡◌, ◌⊎◌, ℕ, suc, ◌≤◌, List, [], ◌∷◌, ◌++◌, length, true, sym, ap, subst, ◌∙◌, inl, inr}
+use Rattle.std.proofs.Common.{◌≡◌, ◌⊎◌, ℕ, suc, List, [], ◌∷◌, length, sym, ap, subst, ◌∙◌, inr}
 use Rattle.std.specs.List.{AllByRecursion}
 use Rattle.ex_base.specs.declared.geometry.Geometry.{Geometry}
 use Rattle.ex_base.specs.declared.ground.Ground as ground

@@ -1,5 +1,5 @@
 -- The step over a node at a place of a row.
-use Rattle.std.proofs.Common.{◌≡◌, ◌≢◌, ◌⊎◌, ℕ, zero, suc, ◌+◌, ◌-◌, ◌<◌, ◌≤◌, leb, Bool, List, [], ◌∷◌, ◌++◌, length, map, take, drop, get_or, refl, sym, ap, subst, ◌∙◌, arith, append_assoc, inl, inr}
+use Rattle.std.proofs.Common.{◌≡◌, ◌≢◌, ℕ, zero, suc, ◌+◌, ◌-◌, ◌<◌, ◌≤◌, leb, List, [], ◌∷◌, ◌++◌, length, map, take, drop, get_or, refl, sym, ap, subst, ◌∙◌, arith, append_assoc}
 use Rattle.std.specs.List.{AllByRecursion, flat_map}
 use Rattle.std.proofs.lemmas.Bool.{leb-true, leb-false, cond_both}
 use Rattle.std.proofs.lemmas.List.{append-nil, length-append, length-drop, length-take-le, length-map}
@@ -17,7 +17,7 @@ use Rattle.trees.specs.Trees.{Units, EachChild, for_each_child, IsNamed, HasSize
 use Rattle.trees.specs.declared.rows.Part.{Part}
 use Rattle.trees.specs.Rows.{row_size, row_bytes, row_shape, row_units, AreTrees, IsRowOn, parts_of}
 use Rattle.trees.proofs.Reading.{row_trees, row_spells, no_part}
-use Rattle.trees.specs.Made.{Extends, AreUsed, Holds, Has, IsTaken, Took, pages_of}
+use Rattle.trees.specs.Made.{Extends, AreUsed, Holds, Took, pages_of}
 use Rattle.trees.specs.Built.{Built, AreSome, even_lens}
 use Rattle.trees.proofs.Laid.{extends_on, extends_kept, row_length}
 use Rattle.trees.proofs.Over.{bytes_app}

@@ -1,8 +1,7 @@
 -- How many pages new nodes over a row that grew take.
-use Rattle.std.proofs.Common.{◌≡◌, ◌≢◌, ℕ, zero, suc, ◌+◌, ◌-◌, ◌*◌, ◌<◌, ◌≤◌, ap, subst, sym, ◌∙◌, refl, arith, inl, inr}
+use Rattle.std.proofs.Common.{◌≡◌, ◌≢◌, ℕ, zero, suc, ◌+◌, ◌-◌, ◌*◌, ◌<◌, ◌≤◌, ◌^◌, ap, subst, sym, ◌∙◌, refl, arith, inl, inr}
 use Rattle.std.proofs.lemmas.Bool.{cases_lt}
-use Rattle.std.proofs.Math.Nat.{mul-le-mul_left, le_of_mul-le-mul_left}
-use Rattle.ex_base.proofs.Spread.{IsLeast}
+use Rattle.std.proofs.Math.Nat.{mul-le-mul, mul-le-mul_left, le_of_mul-le-mul_left}
 use Rattle.count_nodes.specs.Split.{most_pairs, nodes_for}
 use Rattle.trees.proofs.Paid.{for_is, most_times}
 
@@ -33,6 +32,14 @@ node_free fan leaves level p grown below m before after wide up some count few i
     let step : fan * m + m ≤ p + 2 * fan = nodes_step fan p grown below m wide some count few is in
     let le : fan * m ≤ fan * after = omega (arith, level_up level (2 * fan) up) in
     le_of_mul-le-mul_left {k = fan} le (omega arith)
+
+-- a row that grew is counted by 32 bits
+pub few_grown : (fan leaves level p grown below before after : ℕ) → fan ≤ 340 → level < 256 → leaves < 2 ^ 31 + 5 → grown + 1 ≤ below + p → below ≤ most_pairs fan → after ≤ before
+    → fan * before + p ≤ leaves + level * (2 * fan) + fan * after → grown < 2 ^ 32
+few_grown fan leaves level p grown below before after narrow byte few count row fewer paid =
+    let back : fan * after ≤ fan * before = mul-le-mul_left fan fewer in
+    let high : level * (2 * fan) ≤ 256 * 680 = mul-le-mul {n₁ = level} {m₁ = 2 * fan} {n₂ = 256} {m₂ = 680} (omega (arith, byte)) (omega (arith, narrow)) in
+    omega (arith, back, high)
 
 pub node_paid : (fan leaves level p grown below m before mid after : ℕ) → 2 ≤ fan → level ≢ 0 → 1 ≤ p → grown + 1 ≤ below + p → below ≤ most_pairs fan → m ≡ nodes_for fan grown → after + m ≡ mid
     → fan * before + p ≤ leaves + (level - 1) * (2 * fan) + fan * mid → fan * before + m ≤ leaves + level * (2 * fan) + fan * after

@@ -11,6 +11,7 @@ use Rattle.ex_base.specs.Area.{NamesLeaf}
 use Rattle.ex_base.specs.Bytes.{written, repl, length-repl, repl-below, repl-above, repl-inside}
 use Rattle.ex_base.specs.Even.{sum_of}
 use Rattle.ex_base.specs.Limits.{is_page_size}
+use Rattle.ex_base.specs.Needs.{replaced_leaves}
 use Rattle.ex_base.specs.Sizes.{leaf_bytes}
 use Rattle.ex_base.specs.declared.geometry.Geometry.{Geometry}
 use Rattle.ex_base.specs.declared.ground.Ground as ground
@@ -31,7 +32,7 @@ use Rattle.trees.proofs.Over.{bytes_app}
 use Rattle.trees.specs.Counted.{Counted}
 use Rattle.trees.proofs.Counts.{counted_on, counted_same}
 use Rattle.trees.specs.Grown.{Grew}
-use Rattle.tree_insert.specs.Replaced.{IsTouched, AreLeaves, touched_leaves}
+use Rattle.tree_insert.specs.Replaced.{IsTouched, AreLeaves}
 use Rattle.trees.proofs.Growing.{holds_split, grew_leaves}
 use Rattle.tree_insert.proofs.LeafStep.{front_le, sizes_sum, sizes_each, each_size}
 use Rattle.trees.proofs.Sizes.{around_row, front_most}
@@ -124,7 +125,7 @@ halves_sum full run zero all le = omega arith
 halves_sum full [] (suc j) all le = absurd (omega arith)
 halves_sum full (part ∷ run) (suc j) all le = omega (arith, halves_sum full run j all.1 (omega arith), all.0.0)
 
-pub few_leaves : (geo : Geometry) (run : List Part) (pos n : ℕ) → AreLeaves geo 0 run → IsTouched run pos n → length run ≤ touched_leaves (leaf_bytes geo) n
+pub few_leaves : (geo : Geometry) (run : List Part) (pos n : ℕ) → AreLeaves geo 0 run → IsTouched run pos n → length run ≤ replaced_leaves geo n
 few_leaves geo [] pos n h touched = omega arith
 few_leaves geo (part ∷ []) pos n h touched = omega arith
 few_leaves geo (part ∷ next ∷ run) pos n h touched =

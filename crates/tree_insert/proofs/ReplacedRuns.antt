@@ -7,6 +7,7 @@ use Rattle.std.proofs.Math.Nat.{mul-le-mul_left, le_of_mul-le-mul_left}
 use Rattle.ex_base.specs.Bytes.{written}
 use Rattle.ex_base.specs.Even.{cut_by}
 use Rattle.ex_base.specs.Ports.{Keeps}
+use Rattle.ex_base.specs.Needs.{replaced_leaves}
 use Rattle.ex_base.specs.Sizes.{leaf_bytes}
 use Rattle.ex_base.specs.declared.geometry.Geometry.{Geometry}
 use Rattle.ex_base.specs.declared.ground.Ground as ground
@@ -30,7 +31,7 @@ use Rattle.trees.proofs.Laid.{row_length}
 use Rattle.trees.proofs.Over.{all_has, bytes_app}
 use Rattle.trees.specs.Counted.{Counted, NamesPairs}
 use Rattle.trees.specs.Grown.{Turned, Grew}
-use Rattle.tree_insert.specs.Replaced.{EachRow, IsTouched, IsSpan, IsReplaced, IsSpent, AreLeaves, touched_leaves}
+use Rattle.tree_insert.specs.Replaced.{EachRow, IsTouched, IsSpan, IsReplaced, IsSpent, AreLeaves}
 use Rattle.tree_insert.proofs.BelowRows.{CountedRow, On, halves_below, few_nodes, trees_below, bytes_below, shapes_below, has_below, walk_run}
 use Rattle.trees.proofs.Growing.{shape_app, holds_split, widen, grew_between, holds_kept, grew_back}
 use Rattle.tree_insert.proofs.LeafStep.{Grew-as, cut_three, take_over, drop_over, take_in, drop_in}
@@ -241,11 +242,11 @@ touched_leaves_fit geo level least run lens rows first n up h = record {
 
 -- ---- numbers at an earlier state
 
-pub spent_at : {S : Type 0} (g : ground.Ghosts S) (a b c : S) (level n count : ℕ) → Keeps g a b → IsSpent (g.geometry b).fan (touched_leaves (leaf_bytes (g.geometry b)) n) (level - 1) (g.free b Page) (g.free c Page) count
-    → IsSpent (g.geometry a).fan (touched_leaves (leaf_bytes (g.geometry a)) n) (level - 1) (g.free a Page) (g.free c Page) count
+pub spent_at : {S : Type 0} (g : ground.Ghosts S) (a b c : S) (level n count : ℕ) → Keeps g a b → IsSpent (g.geometry b).fan (replaced_leaves (g.geometry b) n) (level - 1) (g.free b Page) (g.free c Page) count
+    → IsSpent (g.geometry a).fan (replaced_leaves (g.geometry a) n) (level - 1) (g.free a Page) (g.free c Page) count
 spent_at g a b c level n count k h =
-    subst (λ (f : Area → ℕ). IsSpent (g.geometry a).fan (touched_leaves (leaf_bytes (g.geometry a)) n) (level - 1) (f Page) (g.free c Page) count) k.free
-    (subst (λ (geo : Geometry). IsSpent geo.fan (touched_leaves (leaf_bytes geo) n) (level - 1) (g.free b Page) (g.free c Page) count) (g.leads_geometry a b k.leads) h)
+    subst (λ (f : Area → ℕ). IsSpent (g.geometry a).fan (replaced_leaves (g.geometry a) n) (level - 1) (f Page) (g.free c Page) count) k.free
+    (subst (λ (geo : Geometry). IsSpent geo.fan (replaced_leaves geo n) (level - 1) (g.free b Page) (g.free c Page) count) (g.leads_geometry a b k.leads) h)
 
 pub few_up : (geo : Geometry) (level least : ℕ) (run : List Part) (lens : List ℕ) (rows : List Part) (pos n first end at : ℕ) → EachRow (CountedRow geo level least) run lens rows → IsTouched run pos n → IsSpan rows pos n first end at → (2 ≤ length run → geo.fan ≤ least)
     → 2 ≤ length run → (geo.fan - 1 + 1) * (length run - 2) + 2 ≤ end - first

@@ -1,19 +1,21 @@
 -- A root after an insert or an append.
-use Rattle.std.proofs.Common.{◌≡◌, ℕ, zero, suc, ◌+◌, ◌*◌, ◌/◌, ◌<◌, ◌≤◌, List, [], ◌∷◌, ◌++◌, length, drop, Option, Some, None, refl, sym, ap, subst, ◌∙◌, arith, inl, inr, true, true≢false}
+use Rattle.std.proofs.Common.{◌≡◌, ℕ, zero, suc, ◌+◌, ◌*◌, ◌/◌, ◌<◌, ◌≤◌, ◌^◌, List, [], ◌∷◌, ◌++◌, length, drop, Option, Some, None, refl, sym, ap, subst, ◌∙◌, arith, inl, inr, true, true≢false}
 use Rattle.std.specs.List.{AllByRecursion}
 use Rattle.std.proofs.lemmas.Bool.{cases_lt}
 use Rattle.std.proofs.lemmas.List.{append-nil, length-map, take_all, drop_all}
-use Rattle.std.proofs.lemmas.Nat.{le-div}
-use Rattle.std.proofs.Math.Nat.{mul-le-mul_left, div-mul-le_self}
+use Rattle.std.proofs.Math.Nat.{mul-le-mul_left}
 use Rattle.ex_base.specs.Edits.{inserted}
 use Rattle.ex_base.specs.declared.geometry.Geometry.{Geometry}
 use Rattle.ex_base.specs.declared.names.Root.{Root}
+use Rattle.ex_base.specs.declared.names.Area.{Area}
 use Rattle.ex_base.specs.declared.names.PageNo.{PageNo}
 use Rattle.ex_base.specs.declared.ground.Ground as ground
-use Rattle.ex_base.specs.Sizes.{leaf_bytes}
+use Rattle.ex_base.specs.Needs.{growth_leaves, growth_need}
+use Rattle.ex_base.specs.Sizes.{leaf_bytes, object_most}
 use Rattle.ex_base.proofs.Rows.{each-append}
 use Rattle.ex_base.proofs.Each.{each_as}
 use Rattle.ex_base.proofs.Geometries.{leaf_some}
+use Rattle.ex_base.proofs.NeedLaws.{growth_need_up, growth_few}
 use Rattle.leaf_segments.specs.Layout.{first_lengths}
 use Rattle.trees.specs.Shape.{Subtree, Shape, one_tree, IsBalanced, ins_shape, app_shape}
 use Rattle.trees.specs.Trees.{Units, RootSpells, RootNamed, RootSized, root_shape, root_bytes, root_units, shape_on, units_on, bytes_on}
@@ -24,15 +26,17 @@ use Rattle.trees.specs.declared.rows.Part.{Part}
 use Rattle.trees.specs.Rows.{row_bytes, row_shape, row_units}
 use Rattle.trees.specs.Made.{Extends, AreUsed, Has, Holds}
 use Rattle.trees.proofs.Over.{all_has}
+use Rattle.trees.proofs.Parts.{narrow}
 use Rattle.tree_insert.specs.declared.layout.Growth.{Growth}
 use Rattle.tree_insert.specs.declared.layout.Growth.TheVariants.{Insert, Append}
 use Rattle.tree_insert.specs.Edited.{shape_by, GrewRoot, IsEdited}
 use Rattle.trees.proofs.Counts.{counted_same}
 use Rattle.trees.specs.Grown.{Turned, Grew, IsRooted}
 use Rattle.tree_insert.specs.Growth.{IsSpot, parts_by}
-use Rattle.tree_insert.specs.Need.{need_leaves, need_pages, counted}
+use Rattle.tree_insert.specs.Need.{counted}
 use Rattle.trees.specs.Roots.{IsRootFor}
 use Rattle.trees.proofs.RootSteps.{turned_on, used_after}
+use Rattle.tree_insert.proofs.Paid.{few_grown}
 
 -- ---- shapes
 
@@ -204,21 +208,21 @@ pub spells_end : {S : Type 0} (g : ground.Ghosts S) (a b : S) (root made : Root)
 spells_end g a b root made bytes given ready told spells h =
     subst (RootSpells (g.geometry b) (g.unit b) made) (end_is bytes given root.size (spelled_length (g.geometry a) (g.unit a) root.height root.size root.page bytes (g.whole a ready told) spells)) h
 
--- ---- a need is no larger for fewer bytes
+-- ---- the need of what is counted is no larger than that of all bytes
 
-pub div_up : (a b k : ℕ) → 0 < k → a ≤ b → a / k ≤ b / k
-div_up a b k some le = le-div (a / k) b k some (omega (arith, div-mul-le_self a k))
-
-pub counted_most : (geo : Geometry) (page : Option PageNo) (n : ℕ) → counted geo page n ≤ n
+counted_most : (geo : Geometry) (page : Option PageNo) (n : ℕ) → counted geo page n ≤ n
 counted_most geo None n = omega arith
 counted_most geo (Some page) n = omega arith
 
-pub leaves_most : (geo : Geometry) (page : Option PageNo) (n : ℕ) → need_leaves (leaf_bytes geo) (counted geo page n) ≤ need_leaves (leaf_bytes geo) n
-leaves_most geo page n = omega (arith, div_up (counted geo page n) n (leaf_bytes geo) (omega (arith, leaf_some geo)) (counted_most geo page n))
+pub counted_need : (geo : Geometry) (page : Option PageNo) (n height : ℕ) (area : Area) → growth_need geo (counted geo page n) height area ≤ growth_need geo n height area
+counted_need geo page n height area = growth_need_up geo (counted geo page n) n height area (counted_most geo page n)
 
-pub pages_most : (geo : Geometry) (page : Option PageNo) (n height : ℕ) → need_pages geo.fan (leaf_bytes geo) (counted geo page n) height ≤ need_pages geo.fan (leaf_bytes geo) n height
-pages_most geo page n height =
-    omega (arith, div_up (need_leaves (leaf_bytes geo) (counted geo page n)) (need_leaves (leaf_bytes geo) n) geo.fan (omega (arith, geo.two)) (leaves_most geo page n))
+-- the trees that come in the place of a root's are counted by 32 bits
+pub few_roots : (geo : Geometry) (page : Option PageNo) (n height count before after : ℕ) → n ≤ object_most → height ≤ 64 → after ≤ before
+    → geo.fan * before + count ≤ growth_leaves geo (counted geo page n) + height * (2 * geo.fan) + geo.fan * after → count < 2 ^ 32
+few_roots geo page n height count before after most low fewer paid =
+    few_grown geo.fan (growth_leaves geo (counted geo page n)) height count count 1 before after (narrow geo) (omega (arith, low))
+    (growth_few geo (counted geo page n) (omega (arith, counted_most geo page n, most))) (omega arith) (omega arith) fewer paid
 
 -- ---- the old root
 

@@ -1,5 +1,5 @@
 -- What a replace makes of a run of trees.
-use Rattle.std.specs.Prelude.{◌≡◌, ℕ, ◌+◌, ◌-◌, ◌*◌, ◌/◌, ◌<◌, ◌≤◌, List, [], ◌∷◌, length, take, drop}
+use Rattle.std.specs.Prelude.{◌≡◌, ℕ, ◌+◌, ◌-◌, ◌*◌, ◌<◌, ◌≤◌, List, [], ◌∷◌, length, take, drop}
 use Rattle.ex_base.specs.Bytes.{written}
 use Rattle.ex_base.specs.declared.geometry.Geometry.{Geometry}
 use Rattle.ex_base.specs.declared.ground.Ground as ground
@@ -36,15 +36,7 @@ EachRow P [] (n ∷ lens) row = ⊥
 EachRow P (part ∷ run) [] row = ⊥
 EachRow P (part ∷ run) (n ∷ lens) row = (n ≤ length row) × P part (take n row) × EachRow P run lens (drop n row)
 
--- ---- the free units that a replace asks for, of which it takes at most so many
-
--- leaves for n bytes, over leaves of so many bytes
-abbrev pub touched_leaves : ℕ → ℕ → ℕ
-touched_leaves full n = 2 * n / full + 3
-
--- nodes for n bytes, in a tree of a height
-abbrev pub touched_pages : ℕ → ℕ → ℕ → ℕ → ℕ
-touched_pages fan full n height = (2 * n / full + 3) / (fan - 1) + 4 * (height + 1)
+-- ---- what a replace takes
 
 -- So many pages were taken that, counted one fewer than the fan each, they and the run's trees are bounded by the leaves and by two nodes a level.
 abbrev pub IsSpent : ℕ → ℕ → ℕ → ℕ → ℕ → ℕ → Type 0

@@ -2,6 +2,7 @@
 ghost use Rattle.ex_base.specs.Area.{NamesLeaf};
 ghost use Rattle.std.specs.Prelude.{◌≡◌, ℕ, List, [], ◌∷◌, ◌≤◌, ◌<◌, ◌+◌, ◌-◌, ◌*◌, ◌^◌, length, OnOk, IfOk, IfErr, Ok};
 ghost use Rattle.ex_base.specs.Edits.{inserted, appended};
+ghost use Rattle.ex_base.specs.Needs.{growth_leaves, growth_need};
 ghost use Rattle.ex_base.specs.Ports.{HasCause, IsDamage};
 ghost use Rattle.ex_base.specs.Sizes.{leaf_bytes, object_most};
 ghost use Rattle.ex_base.specs.declared.names.Area.TheVariants.{Page, Segment};
@@ -16,7 +17,7 @@ ghost use Rattle.tree_insert.specs.Edited.{GrewRoot, IsEdited};
 ghost use Rattle.trees.specs.Grown.{Turned, Grew};
 ghost use Rattle.tree_insert.specs.Grown.{HasGrown, IsPaid};
 ghost use Rattle.tree_insert.specs.Growth.{IsSpot, parts_by};
-ghost use Rattle.tree_insert.specs.Need.{need_leaves, need_pages, counted};
+ghost use Rattle.tree_insert.specs.Need.{counted};
 ghost use Rattle.trees.specs.Roots.{IsRootFor};
 
 use crate::grow::{grow_leaves, grow_row};
@@ -36,15 +37,22 @@ fn first_leaves<B: Blocks>(
     requires ready { B.ready blocks.old }
     requires buffer { length buffer.old ≡ leaf_bytes (B.geometry blocks.old) }
     requires given { 1 ≤ length given.now }
-    requires limit { length given.now < 2 ^ 32 }
-    requires free { need_leaves (leaf_bytes (B.geometry blocks.old)) (length given.now - (B.geometry blocks.old).page_size) ≤ B.free blocks.old Segment }
+    requires limit { length given.now ≤ object_most }
+    requires free { growth_leaves (B.geometry blocks.old)
+        (length given.now - (B.geometry blocks.old).page_size) ≤ B.free blocks.old Segment }
     ensures extends { OnOk result (Extends B.Ground blocks.old blocks.new) }
     ensures grown { IfOk result (λ made. HasGrown (length given.now) [] made.items) }
-    ensures count { IfOk result (λ made. length made.items ≤ need_leaves (leaf_bytes (B.geometry blocks.old)) (length given.now - (B.geometry blocks.old).page_size)) }
-    ensures leaves { OnOk result (B.free blocks.old Segment ≤ B.free blocks.new Segment + need_leaves (leaf_bytes (B.geometry blocks.old)) (length given.now - (B.geometry blocks.old).page_size)) }
+    ensures count { IfOk result (λ made. length made.items ≤ growth_leaves (B.geometry blocks.old)
+        (length given.now - (B.geometry blocks.old).page_size)) }
+    ensures leaves { OnOk result (B.free blocks.old Segment ≤ B.free blocks.new Segment
+        + growth_leaves (B.geometry blocks.old)
+        (length given.now - (B.geometry blocks.old).page_size)) }
     ensures pages { OnOk result (B.free blocks.new Page ≡ B.free blocks.old Page) }
-    ensures grew { IfOk result (λ made. B.tells blocks.old → Grew B.Ground blocks.old blocks.new 0 [] made.items given.now (first_lengths (leaf_bytes (B.geometry blocks.old)) (length given.now))) }
-    ensures fault { IfErr result (λ fault. B.tells blocks.old → IsWalkFault (B.geometry blocks.old) (B.unit blocks.old) 0 0 [] fault) }
+    ensures grew { IfOk result (λ made. B.tells blocks.old
+        → Grew B.Ground blocks.old blocks.new 0 [] made.items given.now
+        (first_lengths (leaf_bytes (B.geometry blocks.old)) (length given.now))) }
+    ensures fault { IfErr result (λ fault. B.tells blocks.old
+        → IsWalkFault (B.geometry blocks.old) (B.unit blocks.old) 0 0 [] fault) }
     ensures leads { B.leads blocks.old blocks.new }
     ensures cause { HasCause (B.faults blocks.old) (B.faults blocks.new) result }
 {
@@ -71,19 +79,31 @@ fn grow_root<B: Blocks>(
     requires size { 1 ≤ tree.size }
     requires leaf { height ≡ 0 → tree.size ≤ leaf_bytes (B.geometry blocks.old) }
     requires given { 1 ≤ length given.now }
-    requires limit { tree.size + length given.now < 2 ^ 32 }
+    requires limit { tree.size + length given.now ≤ object_most }
     requires spot { IsSpot growth pos tree.size }
-    requires free { need_leaves (leaf_bytes (B.geometry blocks.old)) (length given.now) ≤ B.free blocks.old Segment }
-    requires pages { need_leaves (leaf_bytes (B.geometry blocks.old)) (length given.now) + height * (2 * (B.geometry blocks.old).fan) ≤ (B.geometry blocks.old).fan * B.free blocks.old Page }
+    requires free { growth_leaves (B.geometry blocks.old) (length given.now)
+        ≤ B.free blocks.old Segment }
+    requires pages { growth_leaves (B.geometry blocks.old) (length given.now)
+        + height * (2 * (B.geometry blocks.old).fan)
+        ≤ (B.geometry blocks.old).fan * B.free blocks.old Page }
     ensures extends { OnOk result (Extends B.Ground blocks.old blocks.new) }
     ensures grown { IfOk result (λ made. HasGrown (length given.now) (tree ∷ []) made.items) }
-    ensures leaves { OnOk result (B.free blocks.old Segment ≤ B.free blocks.new Segment + need_leaves (leaf_bytes (B.geometry blocks.old)) (length given.now)) }
-    ensures paid { IfOk result (λ made. IsPaid (B.geometry blocks.old).fan (need_leaves (leaf_bytes (B.geometry blocks.old)) (length given.now)) height (B.free blocks.old Page) (B.free blocks.new Page) 1 (length made.items)) }
-    ensures grew { IfOk result (λ made. B.tells blocks.old → (l : ℕ) → height ≡ l → Holds B.Ground blocks.old l (tree ∷ [])
-        → Grew B.Ground blocks.old blocks.new l (tree ∷ []) made.items (inserted (row_bytes (B.unit blocks.old) l (tree ∷ [])) pos given.now)
-        (parts_by growth (B.geometry blocks.old).fan (leaf_bytes (B.geometry blocks.old)) (length given.now) l (shape_on (B.unit blocks.old) l tree.page.0 tree.size) pos)) }
-    ensures way { OnOk result (B.tells blocks.old → IsSoundWay (B.geometry blocks.old) (B.unit blocks.old) (NamesLeaf (B.geometry blocks.old)) height 2 (tree ∷ []) (pos - 1) (pos - 1)) }
-    ensures fault { IfErr result (λ fault. B.tells blocks.old → IsWalkFault (B.geometry blocks.old) (B.unit blocks.old) height 2 (tree ∷ []) fault) }
+    ensures leaves { OnOk result (B.free blocks.old Segment ≤ B.free blocks.new Segment
+        + growth_leaves (B.geometry blocks.old) (length given.now)) }
+    ensures paid { IfOk result (λ made. IsPaid (B.geometry blocks.old).fan
+        (growth_leaves (B.geometry blocks.old) (length given.now)) height (B.free blocks.old Page)
+        (B.free blocks.new Page) 1 (length made.items)) }
+    ensures grew { IfOk result (λ made. B.tells blocks.old → (l : ℕ) → height ≡ l
+        → Holds B.Ground blocks.old l (tree ∷ [])
+        → Grew B.Ground blocks.old blocks.new l (tree
+        ∷ []) made.items (inserted (row_bytes (B.unit blocks.old) l (tree ∷ [])) pos given.now)
+        (parts_by growth (B.geometry blocks.old).fan (leaf_bytes (B.geometry blocks.old))
+        (length given.now) l (shape_on (B.unit blocks.old) l tree.page.0 tree.size) pos)) }
+    ensures way { OnOk result (B.tells blocks.old
+        → IsSoundWay (B.geometry blocks.old) (B.unit blocks.old)
+        (NamesLeaf (B.geometry blocks.old)) height 2 (tree ∷ []) (pos - 1) (pos - 1)) }
+    ensures fault { IfErr result (λ fault. B.tells blocks.old
+        → IsWalkFault (B.geometry blocks.old) (B.unit blocks.old) height 2 (tree ∷ []) fault) }
     ensures leads { B.leads blocks.old blocks.new }
     ensures cause { HasCause (B.faults blocks.old) (B.faults blocks.new) result }
 {
@@ -122,18 +142,36 @@ fn new_parts<B: Blocks>(
     requires given { 1 ≤ length given.now }
     requires limit { root.now.size + length given.now ≤ object_most }
     requires spot { IsSpot growth pos root.now.size }
-    requires free { need_leaves (leaf_bytes (B.geometry blocks.old)) (counted (B.geometry blocks.old) root.now.page (length given.now)) ≤ B.free blocks.old Segment }
-    requires pages { need_leaves (leaf_bytes (B.geometry blocks.old)) (counted (B.geometry blocks.old) root.now.page (length given.now)) + root.now.height * (2 * (B.geometry blocks.old).fan) ≤ (B.geometry blocks.old).fan * B.free blocks.old Page }
+    requires free { growth_leaves (B.geometry blocks.old)
+        (counted (B.geometry blocks.old) root.now.page (length given.now))
+        ≤ B.free blocks.old Segment }
+    requires pages { growth_leaves (B.geometry blocks.old)
+        (counted (B.geometry blocks.old) root.now.page (length given.now))
+        + root.now.height * (2 * (B.geometry blocks.old).fan)
+        ≤ (B.geometry blocks.old).fan * B.free blocks.old Page }
     ensures extends { OnOk result (Extends B.Ground blocks.old blocks.new) }
     ensures sum { IfOk result (λ made. row_size made.items ≡ root.now.size + length given.now) }
     ensures sizes { IfOk result (λ made. AreSome made.items) }
     ensures some { IfOk result (λ made. 1 ≤ length made.items) }
-    ensures leaves { OnOk result (B.free blocks.old Segment ≤ B.free blocks.new Segment + need_leaves (leaf_bytes (B.geometry blocks.old)) (counted (B.geometry blocks.old) root.now.page (length given.now))) }
-    ensures paid { IfOk result (λ made. (B.geometry blocks.old).fan * B.free blocks.old Page + length made.items ≤ need_leaves (leaf_bytes (B.geometry blocks.old)) (counted (B.geometry blocks.old) root.now.page (length given.now)) + root.now.height * (2 * (B.geometry blocks.old).fan) + (B.geometry blocks.old).fan * B.free blocks.new Page) }
-    ensures grew { IfOk result (λ made. B.tells blocks.old → (bytes : List ℕ) → RootSpells (B.geometry blocks.old) (B.unit blocks.old) root.now bytes → AreUsed (B.used blocks.old) (root_units (B.unit blocks.old) root.now)
-        → (l : ℕ) → root.now.height ≡ l → GrewRoot B.Ground blocks.old blocks.new growth l root.now made.items bytes pos given.now) }
-    ensures way { OnOk result (B.tells blocks.old → IsSoundRoot (B.geometry blocks.old) (B.unit blocks.old) (NamesLeaf (B.geometry blocks.old)) root.now (pos - 1) (pos - 1)) }
-    ensures fault { IfErr result (λ fault. B.tells blocks.old → IsRootFault (B.geometry blocks.old) (B.unit blocks.old) root.now fault) }
+    ensures leaves { OnOk result (B.free blocks.old Segment ≤ B.free blocks.new Segment
+        + growth_leaves (B.geometry blocks.old)
+        (counted (B.geometry blocks.old) root.now.page (length given.now))) }
+    ensures paid { IfOk result (λ made. (B.geometry blocks.old).fan * B.free blocks.old Page
+        + length made.items ≤ growth_leaves (B.geometry blocks.old)
+        (counted (B.geometry blocks.old) root.now.page (length given.now))
+        + root.now.height * (2 * (B.geometry blocks.old).fan)
+        + (B.geometry blocks.old).fan * B.free blocks.new Page) }
+    ensures fewer { OnOk result (B.free blocks.new Page ≤ B.free blocks.old Page) }
+    ensures grew { IfOk result (λ made. B.tells blocks.old → (bytes : List ℕ)
+        → RootSpells (B.geometry blocks.old) (B.unit blocks.old) root.now bytes
+        → AreUsed (B.used blocks.old) (root_units (B.unit blocks.old) root.now)
+        → (l : ℕ) → root.now.height ≡ l
+        → GrewRoot B.Ground blocks.old blocks.new growth l root.now made.items bytes pos given.now) }
+    ensures way { OnOk result (B.tells blocks.old
+        → IsSoundRoot (B.geometry blocks.old) (B.unit blocks.old)
+        (NamesLeaf (B.geometry blocks.old)) root.now (pos - 1) (pos - 1)) }
+    ensures fault { IfErr result (λ fault. B.tells blocks.old
+        → IsRootFault (B.geometry blocks.old) (B.unit blocks.old) root.now fault) }
     ensures leads { B.leads blocks.old blocks.new }
     ensures cause { HasCause (B.faults blocks.old) (B.faults blocks.new) result }
 {
@@ -161,16 +199,30 @@ fn grow<B: Blocks>(
     requires given { 1 ≤ length given.now }
     requires limit { root.now.size + length given.now ≤ object_most }
     requires spot { IsSpot growth pos root.now.size }
-    requires leaves { need_leaves (leaf_bytes (B.geometry blocks.old)) (counted (B.geometry blocks.old) root.now.page (length given.now)) ≤ B.free blocks.old Segment }
-    requires pages { need_pages (B.geometry blocks.old).fan (leaf_bytes (B.geometry blocks.old)) (counted (B.geometry blocks.old) root.now.page (length given.now)) root.now.height ≤ B.free blocks.old Page }
+    requires leaves { growth_need (B.geometry blocks.old)
+        (counted (B.geometry blocks.old) root.now.page (length given.now)) root.now.height Segment
+        ≤ B.free blocks.old Segment }
+    requires pages { growth_need (B.geometry blocks.old)
+        (counted (B.geometry blocks.old) root.now.page (length given.now)) root.now.height Page
+        ≤ B.free blocks.old Page }
     ensures extends { OnOk result (Extends B.Ground blocks.old blocks.new) }
     ensures size { IfOk result (λ made. made.size ≡ root.now.size + length given.now) }
-    ensures edited { IfOk result (λ made. B.tells blocks.old → (bytes : List ℕ) → RootSpells (B.geometry blocks.old) (B.unit blocks.old) root.now bytes → AreUsed (B.used blocks.old) (root_units (B.unit blocks.old) root.now)
+    ensures edited { IfOk result (λ made. B.tells blocks.old → (bytes : List ℕ)
+        → RootSpells (B.geometry blocks.old) (B.unit blocks.old) root.now bytes
+        → AreUsed (B.used blocks.old) (root_units (B.unit blocks.old) root.now)
         → IsEdited B.Ground blocks.old blocks.new growth root.now made bytes pos given.now) }
-    ensures leaves { OnOk result (B.free blocks.old Segment ≤ B.free blocks.new Segment + need_leaves (leaf_bytes (B.geometry blocks.old)) (counted (B.geometry blocks.old) root.now.page (length given.now))) }
-    ensures pages { OnOk result (B.free blocks.old Page ≤ B.free blocks.new Page + need_pages (B.geometry blocks.old).fan (leaf_bytes (B.geometry blocks.old)) (counted (B.geometry blocks.old) root.now.page (length given.now)) root.now.height) }
-    ensures way { OnOk result (B.tells blocks.old → IsSoundRoot (B.geometry blocks.old) (B.unit blocks.old) (NamesLeaf (B.geometry blocks.old)) root.now (pos - 1) (pos - 1)) }
-    ensures fault { IfErr result (λ fault. B.tells blocks.old → IsRootFault (B.geometry blocks.old) (B.unit blocks.old) root.now fault) }
+    ensures leaves { OnOk result (B.free blocks.old Segment ≤ B.free blocks.new Segment
+        + growth_need (B.geometry blocks.old)
+        (counted (B.geometry blocks.old) root.now.page
+        (length given.now)) root.now.height Segment) }
+    ensures pages { OnOk result (B.free blocks.old Page ≤ B.free blocks.new Page
+        + growth_need (B.geometry blocks.old)
+        (counted (B.geometry blocks.old) root.now.page (length given.now)) root.now.height Page) }
+    ensures way { OnOk result (B.tells blocks.old
+        → IsSoundRoot (B.geometry blocks.old) (B.unit blocks.old)
+        (NamesLeaf (B.geometry blocks.old)) root.now (pos - 1) (pos - 1)) }
+    ensures fault { IfErr result (λ fault. B.tells blocks.old
+        → IsRootFault (B.geometry blocks.old) (B.unit blocks.old) root.now fault) }
     ensures leads { B.leads blocks.old blocks.new }
     ensures cause { HasCause (B.faults blocks.old) (B.faults blocks.new) result }
 {
@@ -192,24 +244,48 @@ pub fn append<B: Blocks>(
     requires ready { B.ready blocks.old }
     requires root { IsRootFor (B.geometry blocks.old) root.now }
     requires limit { root.now.size + length given.now ≤ object_most }
-    requires leaves { 1 ≤ length given.now → need_leaves (leaf_bytes (B.geometry blocks.old)) (counted (B.geometry blocks.old) root.now.page (length given.now)) ≤ B.free blocks.old Segment }
-    requires pages { 1 ≤ length given.now → need_pages (B.geometry blocks.old).fan (leaf_bytes (B.geometry blocks.old)) (counted (B.geometry blocks.old) root.now.page (length given.now)) root.now.height ≤ B.free blocks.old Page }
+    requires leaves { 1 ≤ length given.now → growth_need (B.geometry blocks.old)
+        (counted (B.geometry blocks.old) root.now.page (length given.now)) root.now.height Segment
+        ≤ B.free blocks.old Segment }
+    requires pages { 1 ≤ length given.now → growth_need (B.geometry blocks.old)
+        (counted (B.geometry blocks.old) root.now.page (length given.now)) root.now.height Page
+        ≤ B.free blocks.old Page }
     ensures nothing { length given.now ≡ 0 → (result ≡ Ok root.now) × (blocks.new ≡ blocks.old) }
     ensures size { IfOk result (λ made. made.size ≡ root.now.size + length given.now) }
     ensures extends { OnOk result (Extends B.Ground blocks.old blocks.new) }
-    ensures old { OnOk result (B.tells blocks.old → (bytes : List ℕ) → RootSpells (B.geometry blocks.old) (B.unit blocks.old) root.now bytes → AreUsed (B.used blocks.old) (root_units (B.unit blocks.old) root.now)
+    ensures old { OnOk result (B.tells blocks.old → (bytes : List ℕ)
+        → RootSpells (B.geometry blocks.old) (B.unit blocks.old) root.now bytes
+        → AreUsed (B.used blocks.old) (root_units (B.unit blocks.old) root.now)
         → RootSpells (B.geometry blocks.new) (B.unit blocks.new) root.now bytes) }
-    ensures spells { IfOk result (λ made. B.tells blocks.old → (bytes : List ℕ) → RootSpells (B.geometry blocks.old) (B.unit blocks.old) root.now bytes → AreUsed (B.used blocks.old) (root_units (B.unit blocks.old) root.now)
+    ensures spells { IfOk result (λ made. B.tells blocks.old → (bytes : List ℕ)
+        → RootSpells (B.geometry blocks.old) (B.unit blocks.old) root.now bytes
+        → AreUsed (B.used blocks.old) (root_units (B.unit blocks.old) root.now)
         → RootSpells (B.geometry blocks.new) (B.unit blocks.new) made (appended bytes given.now)) }
-    ensures shape { IfOk result (λ made. B.tells blocks.old → (bytes : List ℕ) → RootSpells (B.geometry blocks.old) (B.unit blocks.old) root.now bytes → AreUsed (B.used blocks.old) (root_units (B.unit blocks.old) root.now)
-        → root_shape (B.unit blocks.new) made ≡ app_shape (B.geometry blocks.old).fan (leaf_bytes (B.geometry blocks.old)) (root_shape (B.unit blocks.old) root.now) (length given.now)) }
-    ensures units { IfOk result (λ made. B.tells blocks.old → (bytes : List ℕ) → RootSpells (B.geometry blocks.old) (B.unit blocks.old) root.now bytes → AreUsed (B.used blocks.old) (root_units (B.unit blocks.old) root.now)
-        → Turned B.Ground blocks.old blocks.new (root_units (B.unit blocks.old) root.now) (root_units (B.unit blocks.new) made)) }
-    ensures leaves { OnOk result (B.free blocks.old Segment ≤ B.free blocks.new Segment + need_leaves (leaf_bytes (B.geometry blocks.old)) (counted (B.geometry blocks.old) root.now.page (length given.now))) }
-    ensures pages { OnOk result (B.free blocks.old Page ≤ B.free blocks.new Page + need_pages (B.geometry blocks.old).fan (leaf_bytes (B.geometry blocks.old)) (counted (B.geometry blocks.old) root.now.page (length given.now)) root.now.height) }
-    ensures way { OnOk result (B.tells blocks.old → 1 ≤ length given.now → IsSoundRoot (B.geometry blocks.old) (B.unit blocks.old) (NamesLeaf (B.geometry blocks.old)) root.now (root.now.size - 1) (root.now.size - 1)) }
-    ensures fault { IfErr result (λ fault. B.tells blocks.old → IsRootFault (B.geometry blocks.old) (B.unit blocks.old) root.now fault) }
-    ensures sound { IfErr result (λ fault. B.tells blocks.old → IsWhole (B.geometry blocks.old) (B.unit blocks.old) root.now → IsDamage fault → ⊥) }
+    ensures shape { IfOk result (λ made. B.tells blocks.old → (bytes : List ℕ)
+        → RootSpells (B.geometry blocks.old) (B.unit blocks.old) root.now bytes
+        → AreUsed (B.used blocks.old) (root_units (B.unit blocks.old) root.now)
+        → root_shape (B.unit blocks.new) made
+        ≡ app_shape (B.geometry blocks.old).fan (leaf_bytes (B.geometry blocks.old))
+        (root_shape (B.unit blocks.old) root.now) (length given.now)) }
+    ensures units { IfOk result (λ made. B.tells blocks.old → (bytes : List ℕ)
+        → RootSpells (B.geometry blocks.old) (B.unit blocks.old) root.now bytes
+        → AreUsed (B.used blocks.old) (root_units (B.unit blocks.old) root.now)
+        → Turned B.Ground blocks.old blocks.new (root_units (B.unit blocks.old) root.now)
+        (root_units (B.unit blocks.new) made)) }
+    ensures leaves { OnOk result (B.free blocks.old Segment ≤ B.free blocks.new Segment
+        + growth_need (B.geometry blocks.old)
+        (counted (B.geometry blocks.old) root.now.page
+        (length given.now)) root.now.height Segment) }
+    ensures pages { OnOk result (B.free blocks.old Page ≤ B.free blocks.new Page
+        + growth_need (B.geometry blocks.old)
+        (counted (B.geometry blocks.old) root.now.page (length given.now)) root.now.height Page) }
+    ensures way { OnOk result (B.tells blocks.old → 1 ≤ length given.now
+        → IsSoundRoot (B.geometry blocks.old) (B.unit blocks.old)
+        (NamesLeaf (B.geometry blocks.old)) root.now (root.now.size - 1) (root.now.size - 1)) }
+    ensures fault { IfErr result (λ fault. B.tells blocks.old
+        → IsRootFault (B.geometry blocks.old) (B.unit blocks.old) root.now fault) }
+    ensures sound { IfErr result (λ fault. B.tells blocks.old
+        → IsWhole (B.geometry blocks.old) (B.unit blocks.old) root.now → IsDamage fault → ⊥) }
     ensures leads { B.leads blocks.old blocks.new }
     ensures cause { HasCause (B.faults blocks.old) (B.faults blocks.new) result }
 {
@@ -232,24 +308,44 @@ pub fn insert<B: Blocks>(
     requires root { IsRootFor (B.geometry blocks.old) root.now }
     requires limit { root.now.size + length given.now ≤ object_most }
     requires pos { pos ≤ root.now.size }
-    requires leaves { 1 ≤ length given.now → need_leaves (leaf_bytes (B.geometry blocks.old)) (length given.now) ≤ B.free blocks.old Segment }
-    requires pages { 1 ≤ length given.now → need_pages (B.geometry blocks.old).fan (leaf_bytes (B.geometry blocks.old)) (length given.now) root.now.height ≤ B.free blocks.old Page }
+    requires leaves { 1 ≤ length given.now → growth_need (B.geometry blocks.old)
+        (length given.now) root.now.height Segment ≤ B.free blocks.old Segment }
+    requires pages { 1 ≤ length given.now → growth_need (B.geometry blocks.old)
+        (length given.now) root.now.height Page ≤ B.free blocks.old Page }
     ensures nothing { length given.now ≡ 0 → (result ≡ Ok root.now) × (blocks.new ≡ blocks.old) }
     ensures size { IfOk result (λ made. made.size ≡ root.now.size + length given.now) }
     ensures extends { OnOk result (Extends B.Ground blocks.old blocks.new) }
-    ensures old { OnOk result (B.tells blocks.old → (bytes : List ℕ) → RootSpells (B.geometry blocks.old) (B.unit blocks.old) root.now bytes → AreUsed (B.used blocks.old) (root_units (B.unit blocks.old) root.now)
+    ensures old { OnOk result (B.tells blocks.old → (bytes : List ℕ)
+        → RootSpells (B.geometry blocks.old) (B.unit blocks.old) root.now bytes
+        → AreUsed (B.used blocks.old) (root_units (B.unit blocks.old) root.now)
         → RootSpells (B.geometry blocks.new) (B.unit blocks.new) root.now bytes) }
-    ensures spells { IfOk result (λ made. B.tells blocks.old → (bytes : List ℕ) → RootSpells (B.geometry blocks.old) (B.unit blocks.old) root.now bytes → AreUsed (B.used blocks.old) (root_units (B.unit blocks.old) root.now)
-        → RootSpells (B.geometry blocks.new) (B.unit blocks.new) made (inserted bytes pos given.now)) }
-    ensures shape { IfOk result (λ made. B.tells blocks.old → (bytes : List ℕ) → RootSpells (B.geometry blocks.old) (B.unit blocks.old) root.now bytes → AreUsed (B.used blocks.old) (root_units (B.unit blocks.old) root.now)
-        → root_shape (B.unit blocks.new) made ≡ ins_shape (B.geometry blocks.old).fan (leaf_bytes (B.geometry blocks.old)) (root_shape (B.unit blocks.old) root.now) pos (length given.now)) }
-    ensures units { IfOk result (λ made. B.tells blocks.old → (bytes : List ℕ) → RootSpells (B.geometry blocks.old) (B.unit blocks.old) root.now bytes → AreUsed (B.used blocks.old) (root_units (B.unit blocks.old) root.now)
-        → Turned B.Ground blocks.old blocks.new (root_units (B.unit blocks.old) root.now) (root_units (B.unit blocks.new) made)) }
-    ensures leaves { OnOk result (B.free blocks.old Segment ≤ B.free blocks.new Segment + need_leaves (leaf_bytes (B.geometry blocks.old)) (length given.now)) }
-    ensures pages { OnOk result (B.free blocks.old Page ≤ B.free blocks.new Page + need_pages (B.geometry blocks.old).fan (leaf_bytes (B.geometry blocks.old)) (length given.now) root.now.height) }
-    ensures way { OnOk result (B.tells blocks.old → 1 ≤ length given.now → IsSoundRoot (B.geometry blocks.old) (B.unit blocks.old) (NamesLeaf (B.geometry blocks.old)) root.now (pos - 1) (pos - 1)) }
-    ensures fault { IfErr result (λ fault. B.tells blocks.old → IsRootFault (B.geometry blocks.old) (B.unit blocks.old) root.now fault) }
-    ensures sound { IfErr result (λ fault. B.tells blocks.old → IsWhole (B.geometry blocks.old) (B.unit blocks.old) root.now → IsDamage fault → ⊥) }
+    ensures spells { IfOk result (λ made. B.tells blocks.old → (bytes : List ℕ)
+        → RootSpells (B.geometry blocks.old) (B.unit blocks.old) root.now bytes
+        → AreUsed (B.used blocks.old) (root_units (B.unit blocks.old) root.now)
+        → RootSpells (B.geometry blocks.new) (B.unit blocks.new) made
+        (inserted bytes pos given.now)) }
+    ensures shape { IfOk result (λ made. B.tells blocks.old → (bytes : List ℕ)
+        → RootSpells (B.geometry blocks.old) (B.unit blocks.old) root.now bytes
+        → AreUsed (B.used blocks.old) (root_units (B.unit blocks.old) root.now)
+        → root_shape (B.unit blocks.new) made
+        ≡ ins_shape (B.geometry blocks.old).fan (leaf_bytes (B.geometry blocks.old))
+        (root_shape (B.unit blocks.old) root.now) pos (length given.now)) }
+    ensures units { IfOk result (λ made. B.tells blocks.old → (bytes : List ℕ)
+        → RootSpells (B.geometry blocks.old) (B.unit blocks.old) root.now bytes
+        → AreUsed (B.used blocks.old) (root_units (B.unit blocks.old) root.now)
+        → Turned B.Ground blocks.old blocks.new (root_units (B.unit blocks.old) root.now)
+        (root_units (B.unit blocks.new) made)) }
+    ensures leaves { OnOk result (B.free blocks.old Segment ≤ B.free blocks.new Segment
+        + growth_need (B.geometry blocks.old) (length given.now) root.now.height Segment) }
+    ensures pages { OnOk result (B.free blocks.old Page ≤ B.free blocks.new Page
+        + growth_need (B.geometry blocks.old) (length given.now) root.now.height Page) }
+    ensures way { OnOk result (B.tells blocks.old → 1 ≤ length given.now
+        → IsSoundRoot (B.geometry blocks.old) (B.unit blocks.old)
+        (NamesLeaf (B.geometry blocks.old)) root.now (pos - 1) (pos - 1)) }
+    ensures fault { IfErr result (λ fault. B.tells blocks.old
+        → IsRootFault (B.geometry blocks.old) (B.unit blocks.old) root.now fault) }
+    ensures sound { IfErr result (λ fault. B.tells blocks.old
+        → IsWhole (B.geometry blocks.old) (B.unit blocks.old) root.now → IsDamage fault → ⊥) }
     ensures leads { B.leads blocks.old blocks.new }
     ensures cause { HasCause (B.faults blocks.old) (B.faults blocks.new) result }
 {

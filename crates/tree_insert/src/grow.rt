@@ -3,7 +3,8 @@ ghost use Rattle.ex_base.specs.Area.{NamesLeaf};
 ghost use Rattle.std.specs.Prelude.{◌≡◌, ℕ, [], ◌∷◌, ◌≤◌, ◌<◌, ◌+◌, ◌*◌, ◌^◌, length, OnOk, IfOk, IfErr, ◌-◌};
 ghost use Rattle.ex_base.specs.Edits.{inserted};
 ghost use Rattle.ex_base.specs.Ports.{HasCause};
-ghost use Rattle.ex_base.specs.Sizes.{leaf_bytes};
+ghost use Rattle.ex_base.specs.Needs.{growth_leaves};
+ghost use Rattle.ex_base.specs.Sizes.{leaf_bytes, object_most};
 ghost use Rattle.ex_base.specs.declared.names.Area.TheVariants.{Page, Segment};
 ghost use Rattle.trees.specs.Trees.{shape_on};
 ghost use Rattle.trees.specs.Damage.{IsWalkFault, IsSoundWay};
@@ -13,7 +14,6 @@ ghost use Rattle.trees.specs.Built.{AreSome};
 ghost use Rattle.trees.specs.Grown.{Grew};
 ghost use Rattle.tree_insert.specs.Grown.{HasGrown, IsPaid};
 ghost use Rattle.tree_insert.specs.Growth.{IsSpot, row_by, parts_by};
-ghost use Rattle.tree_insert.specs.Need.{need_leaves};
 
 use crate::layout::{Growth, lengths_of, plan_for, run_of, tree_at};
 use ex_base::{Blocks, PortFault};
@@ -37,19 +37,27 @@ pub(crate) fn grow_leaves<B: Blocks>(
     requires sizes { AreSome row.now }
     requires leaves { FitLeaves (B.geometry blocks.old) 0 row.now }
     requires given { 1 ≤ length given.now }
-    requires limit { row_size row.now + length given.now < 2 ^ 32 }
+    requires limit { row_size row.now + length given.now ≤ object_most }
     requires spot { IsSpot growth pos (row_size row.now) }
-    requires free { need_leaves (leaf_bytes (B.geometry blocks.old)) (length given.now) ≤ B.free blocks.old Segment }
+    requires free { growth_leaves (B.geometry blocks.old) (length given.now)
+        ≤ B.free blocks.old Segment }
     ensures extends { OnOk result (Extends B.Ground blocks.old blocks.new) }
     ensures grown { IfOk result (λ made. HasGrown (length given.now) row.now made.items) }
-    ensures count { IfOk result (λ made. length made.items + 1 ≤ length row.now + need_leaves (leaf_bytes (B.geometry blocks.old)) (length given.now)) }
-    ensures leaves { OnOk result (B.free blocks.old Segment ≤ B.free blocks.new Segment + need_leaves (leaf_bytes (B.geometry blocks.old)) (length given.now)) }
+    ensures count { IfOk result (λ made. length made.items + 1
+        ≤ length row.now + growth_leaves (B.geometry blocks.old) (length given.now)) }
+    ensures leaves { OnOk result (B.free blocks.old Segment ≤ B.free blocks.new Segment
+        + growth_leaves (B.geometry blocks.old) (length given.now)) }
     ensures pages { OnOk result (B.free blocks.new Page ≡ B.free blocks.old Page) }
     ensures grew { IfOk result (λ made. B.tells blocks.old → Holds B.Ground blocks.old 0 row.now
-        → Grew B.Ground blocks.old blocks.new 0 row.now made.items (inserted (row_bytes (B.unit blocks.old) 0 row.now) pos given.now)
-        (row_by growth (B.geometry blocks.old).fan (leaf_bytes (B.geometry blocks.old)) (length given.now) 0 (row_shape (B.unit blocks.old) 0 row.now) pos)) }
-    ensures way { OnOk result (B.tells blocks.old → IsSoundWay (B.geometry blocks.old) (B.unit blocks.old) (NamesLeaf (B.geometry blocks.old)) 0 0 row.now (pos - 1) (pos - 1)) }
-    ensures fault { IfErr result (λ fault. B.tells blocks.old → IsWalkFault (B.geometry blocks.old) (B.unit blocks.old) 0 0 row.now fault) }
+        → Grew B.Ground blocks.old blocks.new 0 row.now made.items
+        (inserted (row_bytes (B.unit blocks.old) 0 row.now) pos given.now)
+        (row_by growth (B.geometry blocks.old).fan (leaf_bytes (B.geometry blocks.old))
+        (length given.now) 0 (row_shape (B.unit blocks.old) 0 row.now) pos)) }
+    ensures way { OnOk result (B.tells blocks.old
+        → IsSoundWay (B.geometry blocks.old) (B.unit blocks.old)
+        (NamesLeaf (B.geometry blocks.old)) 0 0 row.now (pos - 1) (pos - 1)) }
+    ensures fault { IfErr result (λ fault. B.tells blocks.old
+        → IsWalkFault (B.geometry blocks.old) (B.unit blocks.old) 0 0 row.now fault) }
     ensures leads { B.leads blocks.old blocks.new }
     ensures cause { HasCause (B.faults blocks.old) (B.faults blocks.new) result }
 {
@@ -82,19 +90,33 @@ pub(crate) fn grow_row<B: Blocks>(
     requires sizes { AreSome row.now }
     requires leaves { FitLeaves (B.geometry blocks.old) level row.now }
     requires given { 1 ≤ length given.now }
-    requires limit { row_size row.now + length given.now < 2 ^ 32 }
+    requires limit { row_size row.now + length given.now ≤ object_most }
     requires spot { IsSpot growth pos (row_size row.now) }
-    requires free { need_leaves (leaf_bytes (B.geometry blocks.old)) (length given.now) ≤ B.free blocks.old Segment }
-    requires pages { need_leaves (leaf_bytes (B.geometry blocks.old)) (length given.now) + level * (2 * (B.geometry blocks.old).fan) ≤ (B.geometry blocks.old).fan * B.free blocks.old Page }
+    requires free { growth_leaves (B.geometry blocks.old) (length given.now)
+        ≤ B.free blocks.old Segment }
+    requires pages { growth_leaves (B.geometry blocks.old) (length given.now)
+        + level * (2 * (B.geometry blocks.old).fan)
+        ≤ (B.geometry blocks.old).fan * B.free blocks.old Page }
     ensures extends { OnOk result (Extends B.Ground blocks.old blocks.new) }
     ensures grown { IfOk result (λ made. HasGrown (length given.now) row.now made.items) }
-    ensures leaves { OnOk result (B.free blocks.old Segment ≤ B.free blocks.new Segment + need_leaves (leaf_bytes (B.geometry blocks.old)) (length given.now)) }
-    ensures paid { IfOk result (λ made. IsPaid (B.geometry blocks.old).fan (need_leaves (leaf_bytes (B.geometry blocks.old)) (length given.now)) level (B.free blocks.old Page) (B.free blocks.new Page) (length row.now) (length made.items)) }
-    ensures grew { IfOk result (λ made. B.tells blocks.old → (l : ℕ) → level ≡ l → Holds B.Ground blocks.old l row.now
-        → Grew B.Ground blocks.old blocks.new l row.now made.items (inserted (row_bytes (B.unit blocks.old) l row.now) pos given.now)
-        (row_by growth (B.geometry blocks.old).fan (leaf_bytes (B.geometry blocks.old)) (length given.now) l (row_shape (B.unit blocks.old) l row.now) pos)) }
-    ensures way { OnOk result (B.tells blocks.old → IsSoundWay (B.geometry blocks.old) (B.unit blocks.old) (NamesLeaf (B.geometry blocks.old)) level (B.geometry blocks.old).fan row.now (pos - 1) (pos - 1)) }
-    ensures fault { IfErr result (λ fault. B.tells blocks.old → IsWalkFault (B.geometry blocks.old) (B.unit blocks.old) level (B.geometry blocks.old).fan row.now fault) }
+    ensures leaves { OnOk result (B.free blocks.old Segment ≤ B.free blocks.new Segment
+        + growth_leaves (B.geometry blocks.old) (length given.now)) }
+    ensures paid { IfOk result (λ made. IsPaid (B.geometry blocks.old).fan
+        (growth_leaves (B.geometry blocks.old) (length given.now)) level (B.free blocks.old Page)
+        (B.free blocks.new Page) (length row.now) (length made.items)) }
+    ensures grew { IfOk result (λ made. B.tells blocks.old → (l : ℕ) → level ≡ l
+        → Holds B.Ground blocks.old l row.now
+        → Grew B.Ground blocks.old blocks.new l row.now made.items
+        (inserted (row_bytes (B.unit blocks.old) l row.now) pos given.now)
+        (row_by growth (B.geometry blocks.old).fan (leaf_bytes (B.geometry blocks.old))
+        (length given.now) l (row_shape (B.unit blocks.old) l row.now) pos)) }
+    ensures way { OnOk result (B.tells blocks.old
+        → IsSoundWay (B.geometry blocks.old) (B.unit blocks.old)
+        (NamesLeaf (B.geometry blocks.old)) level (B.geometry blocks.old).fan row.now (pos - 1)
+        (pos - 1)) }
+    ensures fault { IfErr result (λ fault. B.tells blocks.old
+        → IsWalkFault (B.geometry blocks.old) (B.unit blocks.old) level
+        (B.geometry blocks.old).fan row.now fault) }
     ensures leads { B.leads blocks.old blocks.new }
     ensures cause { HasCause (B.faults blocks.old) (B.faults blocks.new) result }
 {

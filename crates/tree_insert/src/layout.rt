@@ -1,5 +1,7 @@
 // Where new bytes go in a row of leaves, and the leaves that take them.
 ghost use Rattle.std.specs.Prelude.{◌≡◌, ◌≤◌, ◌<◌, ◌+◌, ◌^◌, length, take, drop, true, IfOk};
+ghost use Rattle.std.specs.List.{AllByRecursion};
+ghost use Rattle.ex_base.specs.Sizes.{object_most};
 ghost use Rattle.leaf_segments.specs.Layout.{layout_of};
 ghost use Rattle.leaf_segments.specs.Plans.{IsPlan};
 ghost use Rattle.trees.specs.Rows.{row_size};
@@ -48,7 +50,7 @@ pub(crate) fn tree_at(row: &[Part], pos: u64) -> (usize, u64)
 /// The bytes of the leaf before an index, if there is one.
 fn left_of(row: &[Part], index: usize) -> Option<u32>
     requires index { index < length row.now }
-    requires limit { row_size row.now < 2 ^ 32 }
+    requires fits { AllByRecursion (λ part. part.size < 2 ^ 32) row.now }
     ensures { result ≡ last_of (sizes_of (take index row.now)) }
 {
     if index == 0 {
@@ -60,7 +62,7 @@ fn left_of(row: &[Part], index: usize) -> Option<u32>
 /// The bytes of the leaf behind an index, if there is one.
 fn right_of(row: &[Part], index: usize) -> Option<u32>
     requires index { index < length row.now }
-    requires limit { row_size row.now < 2 ^ 32 }
+    requires fits { AllByRecursion (λ part. part.size < 2 ^ 32) row.now }
     ensures { result ≡ first_of (sizes_of (drop (index + 1) row.now)) }
 {
     if row.len() - index < 2 {
@@ -73,8 +75,11 @@ fn right_of(row: &[Part], index: usize) -> Option<u32>
 pub(crate) fn plan_for(growth: Growth, row: &[Part], index: usize, n: u64, cap: u32) -> Plan
     requires cap { 512 ≤ cap }
     requires index { index < length row.now }
-    requires limit { row_size row.now + n < 2 ^ 32 }
-    ensures layout { layout_of cap result ≡ layout_by growth cap (last_of (sizes_of (take index row.now))) (size_at row.now index) (first_of (sizes_of (drop (index + 1) row.now))) n }
+    requires fits { AllByRecursion (λ part. part.size ≤ cap) row.now }
+    requires limit { row_size row.now + n ≤ object_most }
+    ensures layout { layout_of cap result
+        ≡ layout_by growth cap (last_of (sizes_of (take index row.now))) (size_at row.now index)
+        (first_of (sizes_of (drop (index + 1) row.now))) n }
     ensures usable { IsPlan cap result }
 {
     let left = left_of(row, index);
@@ -107,7 +112,8 @@ pub(crate) fn run_of(plan: &Plan, row: &[Part], index: usize, at: u64) -> Run
     requires limit { row_size row.now + at < 2 ^ 64 }
     ensures first { result.first + flag plan.now.takes_left ≡ index }
     ensures end { result.end ≡ index + 1 + flag plan.now.takes_right }
-    ensures at { row_size (take result.first row.now) + result.at ≡ row_size (take index row.now) + at }
+    ensures at { row_size (take result.first row.now) + result.at ≡ row_size (take index row.now)
+        + at }
     ensures inside { result.end ≤ length row.now }
 {
     let end = if plan.takes_right {

@@ -2,6 +2,7 @@
 ghost use Rattle.std.specs.Prelude.{◌≡◌, ℕ, List, [], ◌∷◌, ◌++◌, ◌≤◌, ◌<◌, ◌^◌, length, take, drop, nat_eq, OnOk, IfOk, IfErr};
 ghost use Rattle.std.specs.HashMap.{get};
 ghost use Rattle.ex_base.specs.Ports.{Keeps, HasCause, IsDamage};
+ghost use Rattle.ex_base.specs.Sizes.{leaf_bytes};
 ghost use Rattle.trees.specs.Shape.{joined, leaves_of};
 ghost use Rattle.trees.specs.Trees.{RootSpells, root_shape, shape_on};
 ghost use Rattle.trees.specs.Damage.{IsWalkFault, IsRootFault, IsWhole, AnyPage, IsSoundWay, IsSoundRoot};
@@ -33,16 +34,25 @@ fn count_leaves<B: ReadBlocks>(
 ) -> Result<u64, PortFault>
     requires ready { B.ready blocks.old }
     requires some { 1 ≤ tree.size }
-    requires limit { tree.size < 2 ^ 32 }
     requires bounded { AreBounded (get nat_eq known.old) }
     ensures bounded { OnOk result (AreBounded (get nat_eq known.new)) }
     ensures most { IfOk result (λ leaves. leaves ≤ tree.size) }
-    ensures known { OnOk result (B.tells blocks.old → AreCounted (B.geometry blocks.old) (B.unit blocks.old) (get nat_eq known.old) → AreCounted (B.geometry blocks.old) (B.unit blocks.old) (get nat_eq known.new)) }
-    ensures count { IfOk result (λ leaves. B.tells blocks.old → AreCounted (B.geometry blocks.old) (B.unit blocks.old) (get nat_eq known.old) → (l : ℕ) → level ≡ l → AreTrees (B.geometry blocks.old) (B.unit blocks.old) l (tree ∷ [])
+    ensures known { OnOk result (B.tells blocks.old
+        → AreCounted (B.geometry blocks.old) (B.unit blocks.old) (get nat_eq known.old)
+        → AreCounted (B.geometry blocks.old) (B.unit blocks.old) (get nat_eq known.new)) }
+    ensures count { IfOk result (λ leaves. B.tells blocks.old
+        → AreCounted (B.geometry blocks.old) (B.unit blocks.old) (get nat_eq known.old) → (l : ℕ)
+        → level ≡ l → AreTrees (B.geometry blocks.old) (B.unit blocks.old) l (tree ∷ [])
         → leaves ≡ length (joined l (shape_on (B.unit blocks.old) l tree.page.0 tree.size))) }
-    ensures ways { OnOk result (B.tells blocks.old → (B.geometry blocks.old).fan ≤ least → AreSound (B.geometry blocks.old) (B.unit blocks.old) (get nat_eq known.old) → AreSound (B.geometry blocks.old) (B.unit blocks.old) (get nat_eq known.new)) }
-    ensures way { OnOk result (B.tells blocks.old → least ≤ (B.geometry blocks.old).fan → AreSound (B.geometry blocks.old) (B.unit blocks.old) (get nat_eq known.old) → (byte : ℕ) → IsSoundWay (B.geometry blocks.old) (B.unit blocks.old) AnyPage level least (tree ∷ []) byte byte) }
-    ensures fault { IfErr result (λ fault. B.tells blocks.old → IsWalkFault (B.geometry blocks.old) (B.unit blocks.old) level least (tree ∷ []) fault) }
+    ensures ways { OnOk result (B.tells blocks.old → (B.geometry blocks.old).fan ≤ least
+        → AreSound (B.geometry blocks.old) (B.unit blocks.old) (get nat_eq known.old)
+        → AreSound (B.geometry blocks.old) (B.unit blocks.old) (get nat_eq known.new)) }
+    ensures way { OnOk result (B.tells blocks.old → least ≤ (B.geometry blocks.old).fan
+        → AreSound (B.geometry blocks.old) (B.unit blocks.old) (get nat_eq known.old) → (byte : ℕ)
+        → IsSoundWay (B.geometry blocks.old) (B.unit blocks.old) AnyPage level least (tree
+        ∷ []) byte byte) }
+    ensures fault { IfErr result (λ fault. B.tells blocks.old
+        → IsWalkFault (B.geometry blocks.old) (B.unit blocks.old) level least (tree ∷ []) fault) }
     ensures kept { Keeps B.Ground blocks.old blocks.new }
     ensures cause { HasCause (B.faults blocks.old) (B.faults blocks.new) result }
 {
@@ -82,12 +92,15 @@ fn first_lengths<B: ReadBlocks>(
     lengths: &mut Vec<u32>,
 ) -> Result<(), PortFault>
     requires ready { B.ready blocks.old }
-    requires limit { tree.size < 2 ^ 32 }
+    requires leaf { level ≡ 0 → tree.size ≤ leaf_bytes (B.geometry blocks.old) }
     requires most { length lengths.old.items ≤ most }
     ensures most { OnOk result (length lengths.new.items ≤ most) }
-    ensures lengths { OnOk result (B.tells blocks.old → (l : ℕ) → level ≡ l → AreTrees (B.geometry blocks.old) (B.unit blocks.old) l (tree ∷ [])
-        → lengths.new.items ≡ take most (lengths.old.items ++ joined l (shape_on (B.unit blocks.old) l tree.page.0 tree.size))) }
-    ensures fault { IfErr result (λ fault. B.tells blocks.old → IsWalkFault (B.geometry blocks.old) (B.unit blocks.old) level least (tree ∷ []) fault) }
+    ensures lengths { OnOk result (B.tells blocks.old → (l : ℕ) → level ≡ l
+        → AreTrees (B.geometry blocks.old) (B.unit blocks.old) l (tree ∷ [])
+        → lengths.new.items ≡ take most (lengths.old.items
+        ++ joined l (shape_on (B.unit blocks.old) l tree.page.0 tree.size))) }
+    ensures fault { IfErr result (λ fault. B.tells blocks.old
+        → IsWalkFault (B.geometry blocks.old) (B.unit blocks.old) level least (tree ∷ []) fault) }
     ensures kept { Keeps B.Ground blocks.old blocks.new }
     ensures cause { HasCause (B.faults blocks.old) (B.faults blocks.new) result }
 {
@@ -116,12 +129,19 @@ pub fn leaf_lengths<B: ReadBlocks>(
 ) -> Result<u64, PortFault>
     requires ready { B.ready blocks.old }
     requires root { IsRootFor (B.geometry blocks.old) root.now }
-    ensures count { IfOk result (λ leaves. B.tells blocks.old → (bytes : List ℕ) → RootSpells (B.geometry blocks.old) (B.unit blocks.old) root.now bytes → leaves ≡ length (leaves_of (root_shape (B.unit blocks.old) root.now))) }
-    ensures lengths { OnOk result (B.tells blocks.old → (bytes : List ℕ) → RootSpells (B.geometry blocks.old) (B.unit blocks.old) root.now bytes
-        → first.new ≡ take (length first.old) (leaves_of (root_shape (B.unit blocks.old) root.now)) ++ drop (length (leaves_of (root_shape (B.unit blocks.old) root.now))) first.old) }
-    ensures way { OnOk result (B.tells blocks.old → (byte : ℕ) → IsSoundRoot (B.geometry blocks.old) (B.unit blocks.old) AnyPage root.now byte byte) }
-    ensures fault { IfErr result (λ fault. B.tells blocks.old → IsRootFault (B.geometry blocks.old) (B.unit blocks.old) root.now fault) }
-    ensures sound { IfErr result (λ fault. B.tells blocks.old → IsWhole (B.geometry blocks.old) (B.unit blocks.old) root.now → IsDamage fault → ⊥) }
+    ensures count { IfOk result (λ leaves. B.tells blocks.old → (bytes : List ℕ)
+        → RootSpells (B.geometry blocks.old) (B.unit blocks.old) root.now bytes
+        → leaves ≡ length (leaves_of (root_shape (B.unit blocks.old) root.now))) }
+    ensures lengths { OnOk result (B.tells blocks.old → (bytes : List ℕ)
+        → RootSpells (B.geometry blocks.old) (B.unit blocks.old) root.now bytes
+        → first.new ≡ take (length first.old) (leaves_of (root_shape (B.unit blocks.old) root.now))
+        ++ drop (length (leaves_of (root_shape (B.unit blocks.old) root.now))) first.old) }
+    ensures way { OnOk result (B.tells blocks.old → (byte : ℕ)
+        → IsSoundRoot (B.geometry blocks.old) (B.unit blocks.old) AnyPage root.now byte byte) }
+    ensures fault { IfErr result (λ fault. B.tells blocks.old
+        → IsRootFault (B.geometry blocks.old) (B.unit blocks.old) root.now fault) }
+    ensures sound { IfErr result (λ fault. B.tells blocks.old
+        → IsWhole (B.geometry blocks.old) (B.unit blocks.old) root.now → IsDamage fault → ⊥) }
     ensures kept { Keeps B.Ground blocks.old blocks.new }
     ensures cause { HasCause (B.faults blocks.old) (B.faults blocks.new) result }
 {

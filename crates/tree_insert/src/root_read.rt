@@ -22,11 +22,16 @@ pub fn read<B: ReadBlocks>(
     requires ready { B.ready blocks.old }
     requires root { IsRootFor (B.geometry blocks.old) root.now }
     requires range { pos + length out.old ≤ root.now.size }
-    ensures bytes { OnOk result (B.tells blocks.old → (bytes : List ℕ) → RootSpells (B.geometry blocks.old) (B.unit blocks.old) root.now bytes
+    ensures bytes { OnOk result (B.tells blocks.old → (bytes : List ℕ)
+        → RootSpells (B.geometry blocks.old) (B.unit blocks.old) root.now bytes
         → out.new ≡ bytes_at bytes pos (length out.old)) }
-    ensures way { OnOk result (B.tells blocks.old → (byte : ℕ) → pos ≤ byte → byte < pos + length out.old → IsSoundRoot (B.geometry blocks.old) (B.unit blocks.old) (NamesLeaf (B.geometry blocks.old)) root.now byte byte) }
-    ensures fault { IfErr result (λ fault. B.tells blocks.old → IsRootFault (B.geometry blocks.old) (B.unit blocks.old) root.now fault) }
-    ensures sound { IfErr result (λ fault. B.tells blocks.old → IsWhole (B.geometry blocks.old) (B.unit blocks.old) root.now → IsDamage fault → ⊥) }
+    ensures way { OnOk result (B.tells blocks.old → (byte : ℕ) → pos ≤ byte
+        → byte < pos + length out.old → IsSoundRoot (B.geometry blocks.old) (B.unit blocks.old)
+        (NamesLeaf (B.geometry blocks.old)) root.now byte byte) }
+    ensures fault { IfErr result (λ fault. B.tells blocks.old
+        → IsRootFault (B.geometry blocks.old) (B.unit blocks.old) root.now fault) }
+    ensures sound { IfErr result (λ fault. B.tells blocks.old
+        → IsWhole (B.geometry blocks.old) (B.unit blocks.old) root.now → IsDamage fault → ⊥) }
     ensures kept { Keeps B.Ground blocks.old blocks.new }
     ensures cause { HasCause (B.faults blocks.old) (B.faults blocks.new) result }
 {

@@ -58,17 +58,22 @@ impl<'a, D: Disk> Store<'a, D> {
 
     /// Brings a page into a frame of the group. A page that has one makes no disk call, and another one makes one.
     pub fn bring(&mut self, alloc: Global, page: PageNo) -> Result<(), PortFault>
-        requires ready { Fits self.old.geometry (D.outside self.old.disk.now).size self.old.groups.now self.old.index self.old.units.now }
+        requires ready { Fits self.old.geometry
+            (D.outside self.old.disk.now).size self.old.groups.now self.old.index self.old.units.now }
         requires page { InPageArea self.old.geometry page.0 }
         ensures held { OnOk result (HasFrame self.new.groups.now self.new.index page.0) }
         ensures no_memory { HasFrame self.old.groups.now self.old.index page.0 → IsOk result }
-        ensures hit { HasFrame self.old.groups.now self.old.index page.0 → self.new.disk.now ≡ self.old.disk.now }
+        ensures hit { HasFrame self.old.groups.now self.old.index page.0
+            → self.new.disk.now ≡ self.old.disk.now }
         ensures miss { LacksFrame self.old.groups.now self.old.index page.0
-            → OnOk result (MakesCalls 1 (D.outside self.old.disk.now) (D.outside self.new.disk.now)) }
-        ensures at_most_once { MakesAtMost 1 (D.outside self.old.disk.now) (D.outside self.new.disk.now) }
+            → OnOk result (MakesCalls 1 (D.outside self.old.disk.now)
+            (D.outside self.new.disk.now)) }
+        ensures at_most_once { MakesAtMost 1 (D.outside self.old.disk.now)
+            (D.outside self.new.disk.now) }
         ensures kept { Keeps ⟦<Store<'a, D> as Ground>⟧ self.old self.new }
         ensures no_damage { IfErr result (λ fault. IsDamage fault → ⊥) }
-        ensures cause { HasCause (D.outside self.old.disk.now).disk_faults (D.outside self.new.disk.now).disk_faults result }
+        ensures cause { HasCause (D.outside self.old.disk.now).disk_faults
+            (D.outside self.new.disk.now).disk_faults result }
     {
         let index = self.index;
         self.groups.bring(index, alloc, self.disk, page)?;
@@ -77,10 +82,12 @@ impl<'a, D: Disk> Store<'a, D> {
 
     /// Lends the bytes of a page that has a frame.
     pub fn frame(&self, page: PageNo) -> &[u8]
-        requires ready { Fits self.now.geometry (D.outside self.now.disk.now).size self.now.groups.now self.now.index self.now.units.now }
+        requires ready { Fits self.now.geometry
+            (D.outside self.now.disk.now).size self.now.groups.now self.now.index self.now.units.now }
         requires page { InPageArea self.now.geometry page.0 }
         requires held { HasFrame self.now.groups.now self.now.index page.0 }
-        ensures bytes { Tells (D.outside self.now.disk.now) self.now.groups.now → result.now ≡ unit_bytes self.now.geometry (D.outside self.now.disk.now).disk page.0 }
+        ensures bytes { Tells (D.outside self.now.disk.now) self.now.groups.now
+            → result.now ≡ unit_bytes self.now.geometry (D.outside self.now.disk.now).disk page.0 }
         ensures len { length result.now ≡ self.now.geometry.page_size }
     {
         self.groups.get(self.index).frame(page)
@@ -165,14 +172,17 @@ impl<'a, D: Disk> ReadBlocks for Store<'a, D> {
     }
 
     fn node(&mut self, alloc: Global, page: PageNo) -> Result<&[u8], PortFault>
-        requires ready { Fits self.old.geometry (D.outside self.old.disk.now).size self.old.groups.now self.old.index self.old.units.now }
+        requires ready { Fits self.old.geometry
+            (D.outside self.old.disk.now).size self.old.groups.now self.old.index self.old.units.now }
         requires page { InPageArea self.old.geometry page.0 }
         ensures bytes { IfOk result (λ s. Tells (D.outside self.old.disk.now) self.old.groups.now
             → s.now ≡ unit_bytes self.old.geometry (D.outside self.old.disk.now).disk page.0) }
         ensures len { IfOk result (λ s. length s.now ≡ self.old.geometry.page_size) }
         ensures no_damage { IfErr result (λ fault. IsDamage fault → ⊥) }
-        ensures* after { sem 𝓛 (Rests (store_row D.row) self.entry (λ new. Keeps ⟦<Store<'a, D> as Ground>⟧ self.old new
-            × HasCause (D.outside self.old.disk.now).disk_faults (D.outside new.disk.now).disk_faults result
+        ensures* after { sem 𝓛 (Rests (store_row D.row) self.entry
+            (λ new. Keeps ⟦<Store<'a, D> as Ground>⟧ self.old new
+            × HasCause (D.outside self.old.disk.now).disk_faults
+            (D.outside new.disk.now).disk_faults result
             × ReadCalls D.outside self.old.groups.now self.old.index page.0 self.old.disk.now new.disk.now result)) }
     {
         self.bring(alloc, page)?;
@@ -186,17 +196,21 @@ impl<'a, D: Disk> ReadBlocks for Store<'a, D> {
         from: u32,
         out: &mut [u8],
     ) -> Result<(), PortFault>
-        requires ready { Fits self.old.geometry (D.outside self.old.disk.now).size self.old.groups.now self.old.index self.old.units.now }
+        requires ready { Fits self.old.geometry
+            (D.outside self.old.disk.now).size self.old.groups.now self.old.index self.old.units.now }
         requires page { NamesLeaf self.old.geometry page.0 }
         requires range { from + length out.old ≤ leaf_bytes self.old.geometry }
         ensures bytes { OnOk result (Tells (D.outside self.old.disk.now) self.old.groups.now
-            → out.new ≡ bytes_at (unit_bytes self.old.geometry (D.outside self.old.disk.now).disk page.0) from (length out.old)) }
+            → out.new ≡ bytes_at (unit_bytes self.old.geometry
+            (D.outside self.old.disk.now).disk page.0) from (length out.old)) }
         ensures no_damage { IfErr result (λ fault. IsDamage fault → ⊥) }
         ensures kept { Keeps ⟦<Store<'a, D> as Ground>⟧ self.old self.new }
-        ensures cause { HasCause (D.outside self.old.disk.now).disk_faults (D.outside self.new.disk.now).disk_faults result }
+        ensures cause { HasCause (D.outside self.old.disk.now).disk_faults
+            (D.outside self.new.disk.now).disk_faults result }
 
         // One call of the disk, past the frames, which stay.
-        ensures once { OnOk result (MakesCalls 1 (D.outside self.old.disk.now) (D.outside self.new.disk.now)) }
+        ensures once { OnOk result (MakesCalls 1 (D.outside self.old.disk.now)
+            (D.outside self.new.disk.now)) }
         ensures frames { self.new.groups.now ≡ self.old.groups.now }
     {
         let at = page.0 as u64 * self.geometry.page_size as u64 + from as u64;
@@ -221,23 +235,34 @@ impl<'a, D: Disk> Blocks for Store<'a, D> {
     }
 
     fn new_node(&mut self, bytes: &[u8]) -> Result<PageNo, PortFault>
-        requires ready { Fits self.old.geometry (D.outside self.old.disk.now).size self.old.groups.now self.old.index self.old.units.now }
+        requires ready { Fits self.old.geometry
+            (D.outside self.old.disk.now).size self.old.groups.now self.old.index self.old.units.now }
         requires free { 1 ≤ ⟦<Store<'a, D> as Ground>⟧.free self.old Page }
         requires page { length bytes.now ≡ self.old.geometry.page_size }
-        ensures taken { IfOk result (λ page. TakesUnit ⟦<Store<'a, D> as Ground>⟧ self.old self.new Page page.0 bytes.now) }
+        ensures taken { IfOk result
+            (λ page. TakesUnit ⟦<Store<'a, D> as Ground>⟧ self.old self.new Page page.0 bytes.now) }
         ensures others { IfOk result (λ page. (p : ℕ) → IsUnit self.old.geometry p → p ≢ page.0
-            → unit_bytes self.new.geometry (D.outside self.new.disk.now).disk p ≡ unit_bytes self.old.geometry (D.outside self.old.disk.now).disk p) }
-        ensures whole { IfOk result (λ page. ⟦<Store<'a, D> as Ground>⟧.tells self.old → unit_bytes self.new.geometry (D.outside self.new.disk.now).disk page.0 ≡ bytes.now) }
-        ensures lowest { IfOk result (λ page. IsLowest self.old.geometry (used_at self.old.units.now) Page page.0) }
-        ensures references { OnOk result (CountsNames ⟦<Store<'a, D> as Ground>⟧ self.old self.new (names_on bytes.now)) }
-        ensures pages { OnOk result (⟦<Store<'a, D> as Ground>⟧.free self.new Page + 1 ≡ ⟦<Store<'a, D> as Ground>⟧.free self.old Page) }
-        ensures leaves { OnOk result (⟦<Store<'a, D> as Ground>⟧.free self.new Segment ≡ ⟦<Store<'a, D> as Ground>⟧.free self.old Segment) }
+            → unit_bytes self.new.geometry (D.outside self.new.disk.now).disk p
+            ≡ unit_bytes self.old.geometry (D.outside self.old.disk.now).disk p) }
+        ensures whole { IfOk result (λ page. ⟦<Store<'a, D> as Ground>⟧.tells self.old
+            → unit_bytes self.new.geometry (D.outside self.new.disk.now).disk page.0 ≡ bytes.now) }
+        ensures lowest { IfOk result
+            (λ page. IsLowest self.old.geometry (used_at self.old.units.now) Page page.0) }
+        ensures references { OnOk result (CountsNames ⟦<Store<'a, D> as Ground>⟧ self.old self.new
+            (names_on bytes.now)) }
+        ensures pages { OnOk result (⟦<Store<'a, D> as Ground>⟧.free self.new Page + 1
+            ≡ ⟦<Store<'a, D> as Ground>⟧.free self.old Page) }
+        ensures leaves { OnOk result (⟦<Store<'a, D> as Ground>⟧.free self.new Segment
+            ≡ ⟦<Store<'a, D> as Ground>⟧.free self.old Segment) }
         ensures framed { IfOk result (λ page. HasFrame self.new.groups.now self.new.index page.0) }
-        ensures once { OnOk result (MakesCalls 1 (D.outside self.old.disk.now) (D.outside self.new.disk.now)) }
+        ensures once { OnOk result (MakesCalls 1 (D.outside self.old.disk.now)
+            (D.outside self.new.disk.now)) }
         ensures no_damage { IfErr result (λ fault. IsDamage fault → ⊥) }
-        ensures touched { ⟦<Store<'a, D> as Ground>⟧.touched self.new ≡ ⟦<Store<'a, D> as Ground>⟧.touched self.old }
+        ensures touched { ⟦<Store<'a, D> as Ground>⟧.touched self.new
+            ≡ ⟦<Store<'a, D> as Ground>⟧.touched self.old }
         ensures leads { ⟦<Store<'a, D> as Ground>⟧.leads self.old self.new }
-        ensures cause { HasCause (D.outside self.old.disk.now).disk_faults (D.outside self.new.disk.now).disk_faults result }
+        ensures cause { HasCause (D.outside self.old.disk.now).disk_faults
+            (D.outside self.new.disk.now).disk_faults result }
     {
         let image = self.groups.get(self.index).copy(bytes)?;
         count_names(self.units, &self.geometry, bytes);
@@ -248,22 +273,31 @@ impl<'a, D: Disk> Blocks for Store<'a, D> {
     }
 
     fn new_leaf(&mut self, bytes: &[u8]) -> Result<PageNo, PortFault>
-        requires ready { Fits self.old.geometry (D.outside self.old.disk.now).size self.old.groups.now self.old.index self.old.units.now }
+        requires ready { Fits self.old.geometry
+            (D.outside self.old.disk.now).size self.old.groups.now self.old.index self.old.units.now }
         requires free { 1 ≤ ⟦<Store<'a, D> as Ground>⟧.free self.old Segment }
         requires some { 1 ≤ length bytes.now }
         requires fits { length bytes.now ≤ leaf_bytes self.old.geometry }
-        ensures taken { IfOk result (λ page. TakesUnit ⟦<Store<'a, D> as Ground>⟧ self.old self.new Segment page.0 bytes.now) }
+        ensures taken { IfOk result
+            (λ page. TakesUnit ⟦<Store<'a, D> as Ground>⟧ self.old self.new Segment page.0 bytes.now) }
         ensures others { IfOk result (λ page. (p : ℕ) → IsUnit self.old.geometry p → p ≢ page.0
-            → unit_bytes self.new.geometry (D.outside self.new.disk.now).disk p ≡ unit_bytes self.old.geometry (D.outside self.old.disk.now).disk p) }
-        ensures lowest { IfOk result (λ page. IsLowest self.old.geometry (used_at self.old.units.now) Segment page.0) }
+            → unit_bytes self.new.geometry (D.outside self.new.disk.now).disk p
+            ≡ unit_bytes self.old.geometry (D.outside self.old.disk.now).disk p) }
+        ensures lowest { IfOk result
+            (λ page. IsLowest self.old.geometry (used_at self.old.units.now) Segment page.0) }
         ensures references { OnOk result (refs_at self.new.units.now ≡ refs_at self.old.units.now) }
-        ensures pages { OnOk result (⟦<Store<'a, D> as Ground>⟧.free self.new Page ≡ ⟦<Store<'a, D> as Ground>⟧.free self.old Page) }
-        ensures leaves { OnOk result (⟦<Store<'a, D> as Ground>⟧.free self.new Segment + 1 ≡ ⟦<Store<'a, D> as Ground>⟧.free self.old Segment) }
-        ensures once { OnOk result (MakesCalls 1 (D.outside self.old.disk.now) (D.outside self.new.disk.now)) }
+        ensures pages { OnOk result (⟦<Store<'a, D> as Ground>⟧.free self.new Page
+            ≡ ⟦<Store<'a, D> as Ground>⟧.free self.old Page) }
+        ensures leaves { OnOk result (⟦<Store<'a, D> as Ground>⟧.free self.new Segment + 1
+            ≡ ⟦<Store<'a, D> as Ground>⟧.free self.old Segment) }
+        ensures once { OnOk result (MakesCalls 1 (D.outside self.old.disk.now)
+            (D.outside self.new.disk.now)) }
         ensures no_damage { IfErr result (λ fault. IsDamage fault → ⊥) }
-        ensures touched { ⟦<Store<'a, D> as Ground>⟧.touched self.new ≡ ⟦<Store<'a, D> as Ground>⟧.touched self.old }
+        ensures touched { ⟦<Store<'a, D> as Ground>⟧.touched self.new
+            ≡ ⟦<Store<'a, D> as Ground>⟧.touched self.old }
         ensures leads { ⟦<Store<'a, D> as Ground>⟧.leads self.old self.new }
-        ensures cause { HasCause (D.outside self.old.disk.now).disk_faults (D.outside self.new.disk.now).disk_faults result }
+        ensures cause { HasCause (D.outside self.old.disk.now).disk_faults
+            (D.outside self.new.disk.now).disk_faults result }
     {
         let page = self.units.take(Area::Segment);
         write_unit(
@@ -286,7 +320,8 @@ impl<'a, D: Disk> Blocks for Store<'a, D> {
     }
 
     fn give_unit(&mut self, page: PageNo)
-        requires ready { Fits self.old.geometry (D.outside self.old.disk.now).size self.old.groups.now self.old.index self.old.units.now }
+        requires ready { Fits self.old.geometry
+            (D.outside self.old.disk.now).size self.old.groups.now self.old.index self.old.units.now }
         requires unit { IsUnit self.old.geometry page.0 }
         requires used { used_at self.old.units.now page.0 ≡ true }
         requires unnamed { refs_at self.old.units.now page.0 ≡ 0 }

@@ -28,15 +28,19 @@ pub fn write_unit<D: Disk>(
     requires sizes { AreOfSize size groups.old }
     ensures once { OnOk result (MakesCalls 1 (D.outside disk.old) (D.outside disk.new)) }
     ensures forgotten { groups.new ≡ unit_forgotten page.0 pages groups.old }
-    ensures written { OnOk result (Wrote (page.0 * size) bytes.now (D.outside disk.old) (D.outside disk.new)) }
+    ensures written { OnOk result (Wrote (page.0 * size) bytes.now (D.outside disk.old)
+        (D.outside disk.new)) }
     ensures lends { IsTrue (D.outside disk.old).honest
-        → All (Lends (D.outside disk.old).disk) groups.old → All (Lends (D.outside disk.new).disk) groups.new }
+        → All (Lends (D.outside disk.old).disk) groups.old
+        → All (Lends (D.outside disk.new).disk) groups.new }
     ensures len { length groups.new ≡ length groups.old }
     ensures sizes { AreOfSize size groups.new }
     ensures behind { AreFromCatalog groups.old → AreFromCatalog groups.new }
-    ensures changes { ChangesWithin (InRange (page.0 * size) (length bytes.now)) (D.outside disk.old) (D.outside disk.new) }
+    ensures changes { ChangesWithin (InRange (page.0 * size) (length bytes.now))
+        (D.outside disk.old) (D.outside disk.new) }
     ensures no_damage { IfErr result (λ fault. IsDamage fault → ⊥) }
-    ensures cause { HasCause (D.outside disk.old).disk_faults (D.outside disk.new).disk_faults result }
+    ensures cause { HasCause (D.outside disk.old).disk_faults
+        (D.outside disk.new).disk_faults result }
 {
     forget_unit(groups, page, pages);
     disk.write(page.0 as u64 * size as u64, bytes)?;
@@ -61,15 +65,19 @@ pub fn write_node<D: Disk>(
     requires sizes { AreOfSize size groups.old }
     ensures framed { OnOk result (HasFrame groups.new index page.0) }
     ensures once { OnOk result (MakesCalls 1 (D.outside disk.old) (D.outside disk.new)) }
-    ensures written { OnOk result (Wrote (page.0 * size) image (D.outside disk.old) (D.outside disk.new)) }
+    ensures written { OnOk result (Wrote (page.0 * size) image (D.outside disk.old)
+        (D.outside disk.new)) }
     ensures lends { IsTrue (D.outside disk.old).honest
-        → All (Lends (D.outside disk.old).disk) groups.old → All (Lends (D.outside disk.new).disk) groups.new }
+        → All (Lends (D.outside disk.old).disk) groups.old
+        → All (Lends (D.outside disk.new).disk) groups.new }
     ensures len { length groups.new ≡ length groups.old }
     ensures sizes { AreOfSize size groups.new }
     ensures behind { AreFromCatalog groups.old → AreFromCatalog groups.new }
-    ensures changes { ChangesWithin (InRange (page.0 * size) size) (D.outside disk.old) (D.outside disk.new) }
+    ensures changes { ChangesWithin (InRange (page.0 * size) size) (D.outside disk.old)
+        (D.outside disk.new) }
     ensures no_damage { IfErr result (λ fault. IsDamage fault → ⊥) }
-    ensures cause { HasCause (D.outside disk.old).disk_faults (D.outside disk.new).disk_faults result }
+    ensures cause { HasCause (D.outside disk.old).disk_faults
+        (D.outside disk.new).disk_faults result }
 {
     write_unit(disk, groups, page, 1, image.as_slice(), size)?;
     groups.put(index, page, image)?;

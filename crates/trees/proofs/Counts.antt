@@ -1,18 +1,18 @@
 -- What an edit counts: one call after the other, and one node.
-use Rattle.std.proofs.Common.{◌≡◌, ◌≢◌, ◌⊎◌, inl, inr, ℕ, zero, suc, ◌+◌, ◌≤◌, min, Bool, true, false, List, [], ◌∷◌, ◌++◌, length, map, refl, sym, ap, subst, ◌∙◌, arith, true≢false}
+use Rattle.std.proofs.Common.{◌≡◌, ◌≢◌, ◌⊎◌, inl, inr, ℕ, zero, suc, ◌+◌, ◌≤◌, Bool, true, false, List, [], ◌∷◌, ◌++◌, map, refl, sym, ap, subst, ◌∙◌, arith, true≢false}
 use Rattle.std.specs.List.{AllByRecursion}
 use Rattle.std.proofs.lemmas.Bool.{cases_Bool, cases_eq}
 use Rattle.ex_base.specs.declared.geometry.Geometry.{Geometry}
 use Rattle.ex_base.specs.declared.names.Area.TheVariants.{Page, Segment}
 use Rattle.ex_base.specs.declared.ground.Ground as ground
-use Rattle.ex_base.specs.Area.{InPageArea, NamesLeaf}
+use Rattle.ex_base.specs.Area.{InPageArea}
 use Rattle.ex_base.specs.Ports.{CountsNames, Keeps, TakesUnit, times, refs_most, with_refs}
 use Rattle.ex_base.proofs.Rows.{each-append}
 use Rattle.ex_base.proofs.Each.{each_as}
 use Rattle.ex_base.proofs.Counts.{times-append, times_apart, times_here}
 use Rattle.count_nodes.specs.declared.Pair.{Pair}
 use Rattle.count_nodes.specs.Names.{page_of_pair}
-use Rattle.count_nodes.specs.Node.{PairsOf, pairs_on}
+use Rattle.count_nodes.specs.Node.{PairsOf}
 use Rattle.count_nodes.proofs.NodeLaws.{spelled_reads}
 use Rattle.trees.specs.Trees.{Units}
 use Rattle.trees.specs.Made.{Extends, IsTaken}

@@ -4,6 +4,7 @@ pub mod Balance
 pub mod Owned
 pub mod Released
 pub mod Owning
+pub mod FewOwners
 pub mod Parts
 pub mod Sizes
 pub mod Reading

@@ -6,7 +6,7 @@ use Rattle.std.proofs.lemmas.Grind.{flat_map-append}
 use Rattle.std.proofs.lemmas.Bool.{cases_lt}
 use Rattle.std.specs.List.{AllByRecursion, flat_map, concat}
 use Rattle.ex_base.specs.Area.{InPageArea}
-use Rattle.ex_base.specs.Sizes.{IsGeometry, geometry_is}
+use Rattle.ex_base.specs.Sizes.{IsGeometry, geometry_is, object_most}
 use Rattle.trees.proofs.Parts.{narrow}
 use Rattle.trees.proofs.Reading.{no_part}
 use Rattle.ex_base.specs.Even.{sum_of, evenly, cut_by, least_parts}
@@ -80,9 +80,13 @@ pub length-pairs_of : (before : ℕ) (row : List Part) → length (pairs_of befo
 length-pairs_of before [] = refl
 length-pairs_of before (part ∷ row) = omega (arith, length-pairs_of (before + part.size) row)
 
-pub small_counts : (before : ℕ) (row : List Part) → before + row_size row < 2 ^ 32 → AllByRecursion (λ (pair : Pair). pair.count < 2 ^ 32) (pairs_of before row)
-small_counts before [] lt = tt
-small_counts before (part ∷ row) lt = (omega arith, small_counts (before + part.size) row (omega arith))
+-- the bytes of an object are counted in the field of a pair
+field_holds : (count : ℕ) → count ≤ object_most → count < 2 ^ 32
+field_holds count le = omega arith
+
+pub small_counts : (before : ℕ) (row : List Part) → before + row_size row ≤ object_most → AllByRecursion (λ (pair : Pair). pair.count < 2 ^ 32) (pairs_of before row)
+small_counts before [] le = tt
+small_counts before (part ∷ row) le = (field_holds (before + part.size) (omega arith), small_counts (before + part.size) row (omega arith))
 
 -- ---- one node
 
@@ -129,16 +133,16 @@ named_small geo u zero page sizes named =
     omega (arith, named.2, sizes.pages, sizes.seg_len)
 named_small geo u (suc l) page sizes named = omega (arith, named.0.1, sizes.pages)
 
-fields_of : (geo : Geometry) (u : Units) (l before : ℕ) (row : List Part) → IsGeometry geo → before + row_size row < 2 ^ 32 → AreTrees geo u l row → AllByRecursion HasPairFields (pairs_of before row)
-fields_of geo u l before [] sizes lt trees = tt
-fields_of geo u l before (part ∷ row) sizes lt trees = ((omega arith, named_small geo u l part.page.0 sizes trees.0.0), fields_of geo u l (before + part.size) row sizes (omega arith) trees.1)
+fields_of : (geo : Geometry) (u : Units) (l before : ℕ) (row : List Part) → IsGeometry geo → before + row_size row ≤ object_most → AreTrees geo u l row → AllByRecursion HasPairFields (pairs_of before row)
+fields_of geo u l before [] sizes le trees = tt
+fields_of geo u l before (part ∷ row) sizes le trees = ((field_holds (before + part.size) (omega arith), named_small geo u l part.page.0 sizes trees.0.0), fields_of geo u l (before + part.size) row sizes (omega arith) trees.1)
 
 -- what a piece of a row needs to fit one node
 pub record IsFit (geo : Geometry) (piece : List Part) : Type 0 where
   pub some : 1 ≤ length piece
   pub few : length piece ≤ most_pairs geo.fan
   pub sizes : AreSome piece
-  pub limit : row_size piece < 2 ^ 32
+  pub limit : row_size piece ≤ object_most
 
 -- a node over a piece is a tree
 pub record IsNodeOver (geo : Geometry) (u : Units) (l page : ℕ) (piece : List Part) : Type 0 where
@@ -271,7 +275,7 @@ pages_of_pairs before [] = refl
 pages_of_pairs before (part ∷ row) = ap (λ us. part.page.0 ∷ us) (pages_of_pairs (before + part.size) row)
 
 -- the piece of a row that a node is made over
-pub piece_fits : (geo : Geometry) (row : List Part) (lens : List ℕ) (i at : ℕ) → AreSome row → row_size row < 2 ^ 32 → IsCut (most_pairs geo.fan) (length row) lens → i < length lens → at ≡ sum_of plain (take i lens)
+pub piece_fits : (geo : Geometry) (row : List Part) (lens : List ℕ) (i at : ℕ) → AreSome row → row_size row ≤ object_most → IsCut (most_pairs geo.fan) (length row) lens → i < length lens → at ≡ sum_of plain (take i lens)
     → IsFit geo (take (get_or lens i 0) (drop at row))
 piece_fits geo row lens i at somes limit cut lt at_is =
     let ends = piece_ends lens i at (length row) lt at_is cut.sum in
@@ -333,9 +337,9 @@ node_step g old now new level row lens i above after at len part piece content l
 -- ---- all nodes
 
 -- the pieces are fit for nodes
-pub pieces_fit : (geo : Geometry) (row : List Part) (pieces : List (List Part)) → AllByRecursion (IsPiece (λ (part : Part). 1 ≤ part.size) 1 (most_pairs geo.fan)) pieces → sum_of row_size pieces < 2 ^ 32 → AllByRecursion (IsFit geo) pieces
-pieces_fit geo row [] all lt = tt
-pieces_fit geo row (piece ∷ pieces) all lt = (record { some = all.0.0; few = all.0.1; sizes = all.0.2; limit = omega arith }, pieces_fit geo row pieces all.1 (omega arith))
+pub pieces_fit : (geo : Geometry) (row : List Part) (pieces : List (List Part)) → AllByRecursion (IsPiece (λ (part : Part). 1 ≤ part.size) 1 (most_pairs geo.fan)) pieces → sum_of row_size pieces ≤ object_most → AllByRecursion (IsFit geo) pieces
+pieces_fit geo row [] all le = tt
+pieces_fit geo row (piece ∷ pieces) all le = (record { some = all.0.0; few = all.0.1; sizes = all.0.2; limit = omega arith }, pieces_fit geo row pieces all.1 (omega arith))
 
 some_size : (row : List Part) → 1 ≤ length row → AreSome row → 1 ≤ row_size row
 some_size [] some sizes = absurd (omega arith)
@@ -447,7 +451,7 @@ pub record OverAll {S : Type 0} (g : ground.Ghosts S) (old now : S) (level : ℕ
   pub built : g.tells old → (l : ℕ) → level ≡ suc l → Holds g old l row → Built g now l lens row above
 
 pub over_all : {S : Type 0} (g : ground.Ghosts S) (old now : S) (level : ℕ) (row : List Part) (lens : List ℕ) (i : ℕ) (above : List Part) (at : ℕ)
-    → level < 256 → AreSome row → row_size row < 2 ^ 32 → IsCut (most_pairs (g.geometry old).fan) (length row) lens → i ≡ length lens
+    → level < 256 → AreSome row → row_size row ≤ object_most → IsCut (most_pairs (g.geometry old).fan) (length row) lens → i ≡ length lens
     → OverSoFar g old now level row lens i above at → OverAll g old now level lens row above
 over_all g old now level row lens i above at byte somes limit cut end h =
     let fan : ℕ = (g.geometry old).fan in

@@ -1,5 +1,5 @@
 -- Children of a node, one at a time, and what their sizes are.
-use Rattle.std.proofs.Common.{◌≡◌, ℕ, zero, suc, ◌+◌, ◌-◌, ◌*◌, ◌/◌, ◌%◌, ◌<◌, ◌≤◌, ◌≢◌, List, [], ◌∷◌, ◌++◌, length, take, Some, refl, sym, ap, subst, ◌∙◌, arith, add-one, take_all}
+use Rattle.std.proofs.Common.{◌≡◌, ℕ, zero, suc, ◌+◌, ◌-◌, ◌<◌, ◌≤◌, ◌≢◌, List, [], ◌∷◌, ◌++◌, length, take, Some, refl, sym, ap, subst, ◌∙◌, arith, add-one, take_all}
 use Rattle.std.specs.Prelude.{slice_index, slice_get}
 use Rattle.std.specs.List.{AllByRecursion}
 use Rattle.count_nodes.specs.declared.Pair.{Pair}
@@ -7,8 +7,6 @@ use Rattle.count_nodes.specs.Node.{RiseFrom, total_of, counts_of, start_of, pair
 use Rattle.count_nodes.proofs.Children.{count_here}
 use Rattle.trees.specs.declared.rows.Part.{Part}
 use Rattle.trees.specs.Rows.{parts_of, row_size, AreHalfFull, FitLeaves, IsCounted, IsRowOn}
-use Rattle.std.proofs.Math.Nat.{mul-div_cancel, mul-mod_left}
-use Rattle.ex_base.specs.Area.{NamesLeaf}
 use Rattle.ex_base.specs.Sizes.{leaf_bytes, most_page}
 use Rattle.ex_base.specs.declared.geometry.Geometry.{Geometry}
 

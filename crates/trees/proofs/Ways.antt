@@ -1,6 +1,6 @@
 -- Sound ways down from a row: to parts of it, and from the children of its trees.
-use Rattle.std.proofs.Common.{◌≡◌, ◌≢◌, ℕ, zero, suc, ◌+◌, ◌-◌, ◌<◌, ◌≤◌, min, inl, inr, List, [], ◌∷◌, ◌++◌, length, take, get_or, Result, Ok, Err, refl, sym, subst, ◌∙◌, arith}
-use Rattle.ex_base.specs.Ports.{Keeps, HasCause}
+use Rattle.std.proofs.Common.{◌≡◌, ◌≢◌, ℕ, zero, suc, ◌+◌, ◌-◌, ◌<◌, ◌≤◌, min, inl, inr, List, [], ◌∷◌, ◌++◌, length, take, get_or, refl, sym, subst, ◌∙◌, arith}
+use Rattle.ex_base.specs.Ports.{Keeps}
 use Rattle.ex_base.specs.declared.ground.Ground as ground
 use Rattle.ex_base.specs.declared.geometry.Geometry.{Geometry}
 use Rattle.count_nodes.specs.Node.{pairs_on}
@@ -10,8 +10,6 @@ use Rattle.trees.specs.Rows.{parts_of, row_size, IsFilled, IsRowOn}
 use Rattle.trees.specs.Damage.{NamesNode, AtTree, IsSoundWay}
 use Rattle.std.proofs.lemmas.Bool.{cases_lt}
 use Rattle.std.proofs.lemmas.List.{length-take-le}
-use Rattle.ex_base.specs.declared.faults.PortFault.{PortFault}
-use Rattle.ex_base.specs.declared.faults.PortFault.TheVariants.{Disk, Memory, Damaged}
 use Rattle.trees.proofs.Reading.{no_part, first_of, rest_of, split_row, left_over, later}
 
 -- ---- parts of a row

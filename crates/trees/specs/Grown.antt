@@ -1,12 +1,12 @@
 -- What an edit leaves.
-use Rattle.std.specs.Prelude.{◌≡◌, ◌⊎◌, ℕ, ◌+◌, ◌*◌, ◌≤◌, List, length}
+use Rattle.std.specs.Prelude.{◌≡◌, ◌⊎◌, ℕ, ◌≤◌, List, length}
 use Rattle.std.specs.List.{AllByRecursion}
 use Rattle.ex_base.specs.declared.names.Root.{Root}
 use Rattle.ex_base.specs.declared.ground.Ground as ground
 use Rattle.trees.specs.Shape.{Subtree, rooted}
 use Rattle.trees.specs.Trees.{root_shape, root_bytes, root_units, RootNamed, RootSized}
 use Rattle.trees.specs.declared.rows.Part.{Part}
-use Rattle.trees.specs.Rows.{AreTrees, row_bytes, row_shape, row_size, row_units}
+use Rattle.trees.specs.Rows.{AreTrees, row_bytes, row_shape, row_units}
 use Rattle.trees.specs.Made.{Has, IsTaken}
 use Rattle.trees.specs.Counted.{Counted, NamesPairs}
 

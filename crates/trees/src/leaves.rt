@@ -54,9 +54,15 @@ fn fill_behind<B: ReadBlocks>(
     requires range { length out.old ≤ length given.now + (row_size run.now - from) - inside }
     ensures bytes { OnOk result (B.tells blocks.old
         → AreTrees (B.geometry blocks.old) (B.unit blocks.old) 0 run.now
-        → out.new ≡ take (length out.old) (drop inside (given.now ++ drop from (row_bytes (B.unit blocks.old) 0 run.now)))) }
-    ensures way { OnOk result (B.tells blocks.old → (byte : ℕ) → from ≤ byte → inside ≤ byte - from + length given.now → byte - from + length given.now < inside + length out.old → IsSoundWay (B.geometry blocks.old) (B.unit blocks.old) (NamesLeaf (B.geometry blocks.old)) 0 0 run.now byte byte) }
-    ensures fault { IfErr result (λ fault. B.tells blocks.old → IsWalkFault (B.geometry blocks.old) (B.unit blocks.old) 0 0 run.now fault) }
+        → out.new ≡ take (length out.old) (drop inside (given.now
+        ++ drop from (row_bytes (B.unit blocks.old) 0 run.now)))) }
+    ensures way { OnOk result (B.tells blocks.old → (byte : ℕ) → from ≤ byte
+        → inside ≤ byte - from + length given.now
+        → byte - from + length given.now < inside + length out.old
+        → IsSoundWay (B.geometry blocks.old) (B.unit blocks.old)
+        (NamesLeaf (B.geometry blocks.old)) 0 0 run.now byte byte) }
+    ensures fault { IfErr result (λ fault. B.tells blocks.old
+        → IsWalkFault (B.geometry blocks.old) (B.unit blocks.old) 0 0 run.now fault) }
     ensures kept { Keeps B.Ground blocks.old blocks.new }
     ensures cause { HasCause (B.faults blocks.old) (B.faults blocks.new) result }
 {
@@ -91,9 +97,14 @@ fn fill<B: ReadBlocks>(
     requires range { at + length out.old ≤ row_size run.now - change.cut + length given.now }
     ensures bytes { OnOk result (B.tells blocks.old
         → AreTrees (B.geometry blocks.old) (B.unit blocks.old) 0 run.now
-        → out.new ≡ take (length out.old) (drop at (changed (row_bytes (B.unit blocks.old) 0 run.now) change.at change.cut given.now))) }
-    ensures way { OnOk result (B.tells blocks.old → (byte new : ℕ) → Stays change.at change.cut (length given.now) byte new → at ≤ new → new < at + length out.old → IsSoundWay (B.geometry blocks.old) (B.unit blocks.old) (NamesLeaf (B.geometry blocks.old)) 0 0 run.now byte byte) }
-    ensures fault { IfErr result (λ fault. B.tells blocks.old → IsWalkFault (B.geometry blocks.old) (B.unit blocks.old) 0 0 run.now fault) }
+        → out.new ≡ take (length out.old)
+        (drop at (changed (row_bytes (B.unit blocks.old) 0 run.now) change.at change.cut given.now))) }
+    ensures way { OnOk result (B.tells blocks.old → (byte new : ℕ)
+        → Stays change.at change.cut (length given.now) byte new → at ≤ new
+        → new < at + length out.old → IsSoundWay (B.geometry blocks.old) (B.unit blocks.old)
+        (NamesLeaf (B.geometry blocks.old)) 0 0 run.now byte byte) }
+    ensures fault { IfErr result (λ fault. B.tells blocks.old
+        → IsWalkFault (B.geometry blocks.old) (B.unit blocks.old) 0 0 run.now fault) }
     ensures kept { Keeps B.Ground blocks.old blocks.new }
     ensures cause { HasCause (B.faults blocks.old) (B.faults blocks.new) result }
 {
@@ -131,14 +142,20 @@ pub fn write_leaves<B: Blocks>(
     requires free { length lengths.now ≤ B.free blocks.old Segment }
     ensures extends { OnOk result (Extends B.Ground blocks.old blocks.new) }
     ensures sizes { IfOk result (λ row. sizes_of row.items ≡ lengths.now) }
-    ensures named { IfOk result (λ row. AllByRecursion (λ part. NamesLeaf (B.geometry blocks.old) part.page.0) row.items) }
+    ensures named { IfOk result
+        (λ row. AllByRecursion (λ part. NamesLeaf (B.geometry blocks.old) part.page.0) row.items) }
     ensures took { IfOk result (λ row. Took B.Ground blocks.old blocks.new (pages_of row.items)) }
     ensures spent { OnOk result (Spent B.Ground blocks.old blocks.new (length lengths.now) 0) }
     ensures counts { OnOk result (Counted B.Ground blocks.old blocks.new) }
     ensures bytes { IfOk result (λ row. B.tells blocks.old → Holds B.Ground blocks.old 0 run.now
-        → row_bytes (B.unit blocks.new) 0 row.items ≡ changed (row_bytes (B.unit blocks.old) 0 run.now) change.at change.cut given.now) }
-    ensures way { OnOk result (B.tells blocks.old → (byte : ℕ) → byte < row_size run.now → (byte < change.at) ⊎ (change.at + change.cut ≤ byte) → IsSoundWay (B.geometry blocks.old) (B.unit blocks.old) (NamesLeaf (B.geometry blocks.old)) 0 0 run.now byte byte) }
-    ensures fault { IfErr result (λ fault. B.tells blocks.old → IsWalkFault (B.geometry blocks.old) (B.unit blocks.old) 0 0 run.now fault) }
+        → row_bytes (B.unit blocks.new) 0 row.items
+        ≡ changed (row_bytes (B.unit blocks.old) 0 run.now) change.at change.cut given.now) }
+    ensures way { OnOk result (B.tells blocks.old → (byte : ℕ) → byte < row_size run.now
+        → (byte < change.at) ⊎ (change.at + change.cut ≤ byte)
+        → IsSoundWay (B.geometry blocks.old) (B.unit blocks.old)
+        (NamesLeaf (B.geometry blocks.old)) 0 0 run.now byte byte) }
+    ensures fault { IfErr result (λ fault. B.tells blocks.old
+        → IsWalkFault (B.geometry blocks.old) (B.unit blocks.old) 0 0 run.now fault) }
     ensures leads { B.leads blocks.old blocks.new }
     ensures cause { HasCause (B.faults blocks.old) (B.faults blocks.new) result }
 {

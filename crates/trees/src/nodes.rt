@@ -3,6 +3,7 @@ ghost use Rattle.std.specs.Prelude.{◌≡◌, ℕ, suc, [], ◌∷◌, ◌≤�
 ghost use Rattle.count_nodes.specs.Node.{node_page};
 ghost use Rattle.count_nodes.specs.Split.{most_pairs, nodes_for};
 ghost use Rattle.ex_base.specs.Ports.{HasCause, IsDamage, TakesUnit, CountsNames};
+ghost use Rattle.ex_base.specs.Sizes.{object_most};
 ghost use Rattle.ex_base.specs.declared.names.Area.TheVariants.{Page};
 ghost use Rattle.trees.specs.Rows.{row_size, pairs_of};
 ghost use Rattle.trees.specs.Made.{Extends, Spent, Holds, Took, pages_of};
@@ -46,15 +47,19 @@ fn node_over<B: Blocks>(
     requires ready { B.ready blocks.old }
     requires buffer { length buffer.old ≡ (B.geometry blocks.old).page_size }
     requires few { length row.now ≤ most_pairs (B.geometry blocks.old).fan }
-    requires limit { row_size row.now < 2 ^ 32 }
+    requires limit { row_size row.now ≤ object_most }
     requires free { 1 ≤ B.free blocks.old Page }
     ensures size { IfOk result (λ part. part.size ≡ row_size row.now) }
-    ensures taken { IfOk result (λ part. TakesUnit B.Ground blocks.old blocks.new Page part.page.0 buffer.new) }
-    ensures page { IfOk result (λ part. B.tells blocks.old → B.unit blocks.new part.page.0 ≡ node_page (length (B.unit blocks.new part.page.0)) level (pairs_of 0 row.now)) }
+    ensures taken { IfOk result
+        (λ part. TakesUnit B.Ground blocks.old blocks.new Page part.page.0 buffer.new) }
+    ensures page { IfOk result (λ part. B.tells blocks.old
+        → B.unit blocks.new part.page.0 ≡ node_page (length (B.unit blocks.new part.page.0)) level
+        (pairs_of 0 row.now)) }
     ensures touched { OnOk result (B.touched blocks.new ≡ B.touched blocks.old) }
     ensures references { OnOk result (CountsNames B.Ground blocks.old blocks.new
         (B.names (B.geometry blocks.old) buffer.new)) }
-    ensures names { IfOk result (λ part. B.tells blocks.old → CountsNames B.Ground blocks.old blocks.new
+    ensures names { IfOk result (λ part. B.tells blocks.old
+        → CountsNames B.Ground blocks.old blocks.new
         (B.names (B.geometry blocks.old) (B.unit blocks.new part.page.0))) }
     ensures spent { OnOk result (Spent B.Ground blocks.old blocks.new 0 1) }
     ensures no_damage { IfErr result (λ fault. IsDamage fault → ⊥) }
@@ -80,18 +85,22 @@ pub fn nodes_by<B: Blocks>(
     requires buffer { length buffer.old ≡ (B.geometry blocks.old).page_size }
     requires level { 1 ≤ level }
     requires sizes { AreSome row.now }
-    requires limit { row_size row.now < 2 ^ 32 }
+    requires limit { row_size row.now ≤ object_most }
     requires lens { IsCut (most_pairs (B.geometry blocks.old).fan) (length row.now) lens.now }
     requires free { length lens.now ≤ B.free blocks.old Page }
     ensures extends { OnOk result (Extends B.Ground blocks.old blocks.new) }
     ensures sum { IfOk result (λ above. row_size above.items ≡ row_size row.now) }
     ensures sizes { IfOk result (λ above. AreSome above.items) }
     ensures count { IfOk result (λ above. length above.items ≡ length lens.now) }
-    ensures took { IfOk result (λ above. Took B.Ground blocks.old blocks.new (pages_of above.items)) }
+    ensures took { IfOk result
+        (λ above. Took B.Ground blocks.old blocks.new (pages_of above.items)) }
     ensures spent { OnOk result (Spent B.Ground blocks.old blocks.new 0 (length lens.now)) }
-    ensures built { IfOk result (λ above. B.tells blocks.old → (l : ℕ) → level ≡ suc l → Holds B.Ground blocks.old l row.now → Built B.Ground blocks.new l lens.now row.now above.items) }
+    ensures built { IfOk result (λ above. B.tells blocks.old → (l : ℕ) → level ≡ suc l
+        → Holds B.Ground blocks.old l row.now
+        → Built B.Ground blocks.new l lens.now row.now above.items) }
     ensures counts { OnOk result (B.tells blocks.old → (l : ℕ) → level ≡ suc l
-        → Holds B.Ground blocks.old l row.now → NamesPairs B.Ground → Counted B.Ground blocks.old blocks.new) }
+        → Holds B.Ground blocks.old l row.now → NamesPairs B.Ground
+        → Counted B.Ground blocks.old blocks.new) }
     ensures no_damage { IfErr result (λ fault. IsDamage fault → ⊥) }
     ensures leads { B.leads blocks.old blocks.new }
     ensures cause { HasCause (B.faults blocks.old) (B.faults blocks.new) result }
@@ -134,17 +143,26 @@ pub fn nodes_over<B: Blocks>(
     requires level { 1 ≤ level }
     requires some { 1 ≤ length row.now }
     requires sizes { AreSome row.now }
-    requires limit { row_size row.now < 2 ^ 32 }
-    requires free { nodes_for (B.geometry blocks.old).fan (length row.now) ≤ B.free blocks.old Page }
+    requires count { length row.now < 2 ^ 32 }
+    requires limit { row_size row.now ≤ object_most }
+    requires free { nodes_for (B.geometry blocks.old).fan (length row.now)
+        ≤ B.free blocks.old Page }
     ensures extends { OnOk result (Extends B.Ground blocks.old blocks.new) }
     ensures sum { IfOk result (λ above. row_size above.items ≡ row_size row.now) }
     ensures sizes { IfOk result (λ above. AreSome above.items) }
-    ensures count { IfOk result (λ above. length above.items ≡ nodes_for (B.geometry blocks.old).fan (length row.now)) }
-    ensures took { IfOk result (λ above. Took B.Ground blocks.old blocks.new (pages_of above.items)) }
-    ensures spent { OnOk result (Spent B.Ground blocks.old blocks.new 0 (nodes_for (B.geometry blocks.old).fan (length row.now))) }
-    ensures built { IfOk result (λ above. B.tells blocks.old → (l : ℕ) → level ≡ suc l → Holds B.Ground blocks.old l row.now → Built B.Ground blocks.new l (even_lens (B.geometry blocks.old).fan (length row.now)) row.now above.items) }
+    ensures count { IfOk result (λ above. length above.items
+        ≡ nodes_for (B.geometry blocks.old).fan (length row.now)) }
+    ensures took { IfOk result
+        (λ above. Took B.Ground blocks.old blocks.new (pages_of above.items)) }
+    ensures spent { OnOk result (Spent B.Ground blocks.old blocks.new 0
+        (nodes_for (B.geometry blocks.old).fan (length row.now))) }
+    ensures built { IfOk result (λ above. B.tells blocks.old → (l : ℕ) → level ≡ suc l
+        → Holds B.Ground blocks.old l row.now
+        → Built B.Ground blocks.new l (even_lens (B.geometry blocks.old).fan
+        (length row.now)) row.now above.items) }
     ensures counts { OnOk result (B.tells blocks.old → (l : ℕ) → level ≡ suc l
-        → Holds B.Ground blocks.old l row.now → NamesPairs B.Ground → Counted B.Ground blocks.old blocks.new) }
+        → Holds B.Ground blocks.old l row.now → NamesPairs B.Ground
+        → Counted B.Ground blocks.old blocks.new) }
     ensures no_damage { IfErr result (λ fault. IsDamage fault → ⊥) }
     ensures leads { B.leads blocks.old blocks.new }
     ensures cause { HasCause (B.faults blocks.old) (B.faults blocks.new) result }

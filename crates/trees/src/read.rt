@@ -23,7 +23,8 @@ fn read_leaf<B: ReadBlocks>(
     requires some { 1 ≤ length out.old }
     requires range { length out.old ≤ leaf.size - pos }
     requires fits { leaf.size ≤ leaf_bytes (B.geometry blocks.old) }
-    ensures bytes { OnOk result (B.tells blocks.old → out.new ≡ take (length out.old) (drop pos (B.unit blocks.old leaf.page.0))) }
+    ensures bytes { OnOk result (B.tells blocks.old
+        → out.new ≡ take (length out.old) (drop pos (B.unit blocks.old leaf.page.0))) }
     ensures named { OnOk result (NamesLeaf (B.geometry blocks.old) leaf.page.0) }
     ensures fault { IfErr result (IsLeafFault (B.geometry blocks.old) leaf.page) }
     ensures kept { Keeps B.Ground blocks.old blocks.new }
@@ -52,8 +53,10 @@ fn read_tree<B: ReadBlocks>(
     requires leaf { FitLeaves (B.geometry blocks.old) level (tree ∷ []) }
     ensures bytes { OnOk result (B.tells blocks.old
         → AreTrees (B.geometry blocks.old) (B.unit blocks.old) level (tree ∷ [])
-        → out.new ≡ take (length out.old) (drop pos (row_bytes (B.unit blocks.old) level (tree ∷ [])))) }
-    ensures way { OnOk result (B.tells blocks.old → (byte : ℕ) → pos ≤ byte → byte < pos + length out.old
+        → out.new ≡ take (length out.old) (drop pos (row_bytes (B.unit blocks.old) level (tree
+        ∷ [])))) }
+    ensures way { OnOk result (B.tells blocks.old → (byte : ℕ) → pos ≤ byte
+        → byte < pos + length out.old
         → IsSoundWay (B.geometry blocks.old) (B.unit blocks.old) (NamesLeaf (B.geometry blocks.old))
         level least (tree ∷ []) byte byte) }
     ensures fault { IfErr result (λ fault. B.tells blocks.old
@@ -85,8 +88,10 @@ pub fn read_row<B: ReadBlocks>(
     requires range { length out.old ≤ row_size row.now - pos }
     ensures bytes { OnOk result (B.tells blocks.old
         → AreTrees (B.geometry blocks.old) (B.unit blocks.old) level row.now
-        → out.new ≡ take (length out.old) (drop pos (row_bytes (B.unit blocks.old) level row.now))) }
-    ensures way { OnOk result (B.tells blocks.old → (byte : ℕ) → pos ≤ byte → byte < pos + length out.old
+        → out.new ≡ take (length out.old)
+        (drop pos (row_bytes (B.unit blocks.old) level row.now))) }
+    ensures way { OnOk result (B.tells blocks.old → (byte : ℕ) → pos ≤ byte
+        → byte < pos + length out.old
         → IsSoundWay (B.geometry blocks.old) (B.unit blocks.old) (NamesLeaf (B.geometry blocks.old))
         level least row.now byte byte) }
     ensures fault { IfErr result (λ fault. B.tells blocks.old

@@ -72,7 +72,8 @@ fn row_on(
 ) -> Result<Vec<Part>, PortFault>
     ensures counted { IfOk result (λ row. IsCounted geometry.now level part.size least row.items) }
     ensures found { IfOk result (λ row. IsRowOn geometry.now bytes.now level part.size row.items) }
-    ensures fault { IfErr result (IsNodeFault geometry.now bytes.now level part.size least part.page.0) }
+    ensures fault { IfErr result
+        (IsNodeFault geometry.now bytes.now level part.size least part.page.0) }
     ensures cause { (before now : ℕ) → HasCause before now result }
 {
     let Some(node) = NodeView::of(bytes, geometry.fan) else {
@@ -107,10 +108,15 @@ pub fn row_of<B: ReadBlocks>(
     least: u32,
 ) -> Result<Vec<Part>, PortFault>
     requires { B.ready blocks.old }
-    ensures counted { IfOk result (λ row. IsCounted (B.geometry blocks.old) level part.size least row.items) }
+    ensures counted { IfOk result
+        (λ row. IsCounted (B.geometry blocks.old) level part.size least row.items) }
     ensures area { OnOk result (NamesNode (B.geometry blocks.old) part.page.0) }
-    ensures found { IfOk result (λ row. B.tells blocks.old → IsRowOn (B.geometry blocks.old) (B.unit blocks.old part.page.0) level part.size row.items) }
-    ensures fault { IfErr result (λ fault. B.tells blocks.old → IsNodeFault (B.geometry blocks.old) (B.unit blocks.old part.page.0) level part.size least part.page.0 fault) }
+    ensures found { IfOk result (λ row. B.tells blocks.old
+        → IsRowOn (B.geometry blocks.old)
+        (B.unit blocks.old part.page.0) level part.size row.items) }
+    ensures fault { IfErr result (λ fault. B.tells blocks.old
+        → IsNodeFault (B.geometry blocks.old)
+        (B.unit blocks.old part.page.0) level part.size least part.page.0 fault) }
     ensures kept { Keeps B.Ground blocks.old blocks.new }
     ensures cause { HasCause (B.faults blocks.old) (B.faults blocks.new) result }
 {

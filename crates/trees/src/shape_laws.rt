@@ -4,9 +4,11 @@ ghost use Rattle.trees.specs.Shape.{Shape, IsBalanced, size_of, ins_shape, app_s
 
 /// An insert leaves a balanced tree balanced, and its leaves hold as many bytes more as went in.
 pub fn insert_keeps_balance()
-    ensures balanced { (fan full : ℕ) (shape : Shape) (pos n : ℕ) → 2 ≤ fan → 2 ≤ full → pos ≤ size_of shape
+    ensures balanced { (fan full : ℕ) (shape : Shape) (pos n : ℕ) → 2 ≤ fan → 2 ≤ full
+        → pos ≤ size_of shape
         → IsBalanced fan full shape → IsBalanced fan full (ins_shape fan full shape pos n) }
-    ensures bytes { (fan full : ℕ) (shape : Shape) (pos n : ℕ) → 2 ≤ fan → 2 ≤ full → pos ≤ size_of shape
+    ensures bytes { (fan full : ℕ) (shape : Shape) (pos n : ℕ) → 2 ≤ fan → 2 ≤ full
+        → pos ≤ size_of shape
         → IsBalanced fan full shape → size_of (ins_shape fan full shape pos n) ≡ size_of shape + n }
 {}
 

@@ -43,10 +43,13 @@ fn release<B: Blocks, L: Ledger>(
 ) -> Result<(), PortFault>
     requires ready { B.ready blocks.old }
     requires counts { HasCounts B.Ground blocks.old }
-    ensures released { OnOk result (Released B.Ground blocks.old blocks.new level (tree.page.0 ∷ [])) }
+    ensures released { OnOk result (Released B.Ground blocks.old blocks.new level (tree.page.0
+        ∷ [])) }
     ensures gives { Gives B.Ground blocks.old blocks.new }
-    ensures cost { OnOk result (steps.new + B.free blocks.old Page ≡ steps.old + B.free blocks.new Page) }
-    ensures fault { IfErr result (λ fault. Blames B.Ground blocks.old level least (tree ∷ []) fault) }
+    ensures cost { OnOk result (steps.new + B.free blocks.old Page ≡ steps.old
+        + B.free blocks.new Page) }
+    ensures fault { IfErr result (λ fault. Blames B.Ground blocks.old level least (tree
+        ∷ []) fault) }
     ensures cause { HasCause (B.faults blocks.old) (B.faults blocks.new) result }
 {
     if level == 0 {
@@ -83,10 +86,13 @@ pub fn release_tree<B: Blocks, L: Ledger>(
 ) -> Result<(), PortFault>
     requires ready { B.ready blocks.old }
     requires counts { HasCounts B.Ground blocks.old }
-    ensures released { OnOk result (Released B.Ground blocks.old blocks.new root.now.height (root_pages (root.now ∷ []))) }
+    ensures released { OnOk result (Released B.Ground blocks.old blocks.new root.now.height
+        (root_pages (root.now ∷ []))) }
     ensures gives { Gives B.Ground blocks.old blocks.new }
-    ensures cost { OnOk result (steps.new + B.free blocks.old Page ≡ steps.old + B.free blocks.new Page) }
-    ensures fault { IfErr result (λ fault. Blames B.Ground blocks.old root.now.height 2 (root_row root.now) fault) }
+    ensures cost { OnOk result (steps.new + B.free blocks.old Page ≡ steps.old
+        + B.free blocks.new Page) }
+    ensures fault { IfErr result (λ fault. Blames B.Ground blocks.old root.now.height 2
+        (root_row root.now) fault) }
     ensures cause { HasCause (B.faults blocks.old) (B.faults blocks.new) result }
 {
     match root.page {

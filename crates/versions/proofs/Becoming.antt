@@ -36,7 +36,7 @@ use Rattle.trees.specs.Made.{Extends, Has, IsTaken, AreUsed}
 use Rattle.trees.specs.Grown.{Turned}
 use Rattle.trees.proofs.Counts.{counted_after, counted_back}
 use Rattle.trees.proofs.Laid.{extends_refl}
-use Rattle.versions.specs.Versions.{HasVersion, Change, HasShape, EditsVersion, Spells, IsTreeUnit, AreInUse, IsSmall, StaysSmall, FitsIn, record_len, lone_head, place_of, content_units}
+use Rattle.version_model.specs.Versions.{HasVersion, Change, HasShape, EditsVersion, Spells, IsTreeUnit, AreInUse, IsSmall, StaysSmall, FitsIn, record_len, lone_head, place_of, content_units}
 use Rattle.versions.specs.Put.{PutsRecord, IsPlaced}
 use Rattle.versions.proofs.FileRows.{edit_stands}
 

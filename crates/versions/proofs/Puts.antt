@@ -13,10 +13,9 @@ use Rattle.ex_base.proofs.Places.{length-place_field}
 use Rattle.ex_base.proofs.Counts.{contains_times}
 use Rattle.ex_base.specs.Sizes.{most_page, least_page, leaf_bytes}
 use Rattle.std.proofs.lemmas.Nat.{mul-le}
-use Rattle.ex_base.specs.declared.names.Area.TheVariants.{Page, Segment}
-use Rattle.tree_insert.specs.Need.{need_leaves, need_pages}
-use Rattle.tree_insert.proofs.RootEdit.{div_up}
+use Rattle.ex_base.specs.declared.names.Area.{Area}
 use Rattle.ex_base.specs.Needs.{growth_need}
+use Rattle.ex_base.proofs.NeedLaws.{growth_need_up}
 use Rattle.slotted_pages.specs.FilePage.{Slot, bodies, body_of}
 use Rattle.slotted_pages.specs.Edits.{slots_of}
 use Rattle.object_records.specs.declared.Head.{Head}
@@ -28,7 +27,7 @@ use Rattle.file_bodies.specs.Bodies.{pages_in}
 use Rattle.file_bodies.specs.Files.{HasBody, IsPageOf}
 use Rattle.file_bodies.proofs.Rows.{each_at}
 use Rattle.trees.specs.Roots.{IsRootFor}
-use Rattle.versions.specs.Versions.{FitsIn}
+use Rattle.version_model.specs.Versions.{FitsIn}
 
 some_page : (page : Option PageNo) → (page ≡ None → ⊥) → IsSome page
 some_page None h = absurd (h refl)
@@ -104,12 +103,5 @@ module _ {S : Type 0} (g : ground.Ghosts S) where
 
 -- ---- what the first leaves ask for
 
-leaf_any : (geo : Geometry) → 0 < leaf_bytes geo
-leaf_any geo = omega (arith, mul-le 1 1 geo.seg_len geo.page_size (omega (arith, geo.some_length)) (omega (arith, least_page geo)))
-
-pub first_leaves_need : (geo : Geometry) (n count : ℕ) → n ≤ count + geo.page_size → need_leaves (leaf_bytes geo) (n - geo.page_size) ≤ growth_need geo count 0 Segment
-first_leaves_need geo n count le = omega (arith, div_up (n - geo.page_size) count (leaf_bytes geo) (leaf_any geo) (omega (arith, le)))
-
-pub first_pages_need : (geo : Geometry) (n count : ℕ) → n ≤ count + geo.page_size → need_pages geo.fan (leaf_bytes geo) (n - geo.page_size) 0 ≤ growth_need geo count 0 Page
-first_pages_need geo n count le =
-    omega (arith, div_up (need_leaves (leaf_bytes geo) (n - geo.page_size)) (growth_need geo count 0 Segment) geo.fan (omega (arith, geo.two)) (first_leaves_need geo n count le))
+pub first_need : (geo : Geometry) (n count : ℕ) (area : Area) → n ≤ count + geo.page_size → growth_need geo (n - geo.page_size) 0 area ≤ growth_need geo count 0 area
+first_need geo n count area le = growth_need_up geo (n - geo.page_size) count 0 area (omega (arith, le))

@@ -70,10 +70,10 @@ root_tall fan full h trees wide roomy root =
 
 low_of : (fan full h size : ℕ) (tree : Subtree h) → 2 ≤ fan → 2 ≤ full → IsRoot fan full h tree → total h tree ≡ size → size ≤ object_most → h ≤ 64
 low_of fan full zero size tree wide roomy root is few = omega arith
-low_of fan full (suc h) size tree wide roomy root is few = elim (cases_lt h 32) [
+low_of fan full (suc h) size tree wide roomy root is few = elim (cases_lt h 64) [
   | inl lt ↦ omega (arith, lt)
   | inr le ↦
-      let high : 2 ^ 32 ≤ 2 ^ h = pow-le-pow_right {n = 2} (omega arith) {i = 32} {j = h} le in
+      let high : 2 ^ 64 ≤ 2 ^ h = pow-le-pow_right {n = 2} (omega arith) {i = 64} {j = h} le in
       absurd (omega (arith, high, root_tall fan full h tree wide roomy root, is, few))
 ]
 

@@ -22,7 +22,7 @@ use Rattle.file_index.specs.declared.Index.{Index}
 use Rattle.file_bodies.specs.Files.{HasFileOf, HasBody, HasSomeBody}
 use Rattle.file_bodies.proofs.Moving.{kept_body, kept_edits}
 use Rattle.file_bodies.proofs.Belonging.{file_of_body}
-use Rattle.versions.specs.Versions.{HasRecord, HasVersion, HoldsVersion, Spells, IsTreeUnit, lone_head, place_of, content_units}
+use Rattle.version_model.specs.Versions.{HasRecord, HasVersion, HoldsVersion, Spells, IsTreeUnit, lone_head, place_of, content_units}
 use Rattle.versions.specs.Found.{IsTold, HasLimits, IsReadable, found_of, size_of, root_of}
 use Rattle.versions.specs.declared.finding.Found.{Found}
 use Rattle.versions.proofs.Records.{one_record}

@@ -15,7 +15,7 @@ use Rattle.file_bodies.specs.Damage.{page_from, IsBelongingFault, IsListedFault,
 use Rattle.trees.specs.Trees.{Units}
 use Rattle.trees.specs.Damage.{IsRootFault}
 use Rattle.trees.specs.Roots.{IsRootFor}
-use Rattle.versions.specs.Versions.{place_of}
+use Rattle.version_model.specs.Versions.{place_of}
 use Rattle.versions.specs.Found.{IsTold}
 use Rattle.versions.specs.Put.{IsPlaced}
 use Rattle.versions.specs.declared.finding.Found.{Found}

@@ -6,7 +6,7 @@ use Rattle.ex_base.specs.declared.names.Place.{Place}
 use Rattle.object_records.specs.Record.{Content}
 use Rattle.versions.specs.declared.editing.Edit.{Edit}
 use Rattle.versions.specs.declared.editing.Edit.TheVariants.{Insert, Append, Replace, Delete}
-use Rattle.versions.specs.Versions.{Change, Inserts, Appends, Replaces, Deletes, StaysSmall}
+use Rattle.version_model.specs.Versions.{Change, Inserts, Appends, Replaces, Deletes, StaysSmall}
 use Rattle.versions.specs.Needs.{edit_need}
 
 abbrev pub change_of : Edit → Change

@@ -1,7 +1,5 @@
-pub mod Versions
 pub mod Needs
 pub mod Found
 pub mod Edited
-pub mod Listed
 pub mod Put
 pub mod Damage

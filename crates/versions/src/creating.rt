@@ -8,7 +8,7 @@ ghost use Rattle.file_bodies.specs.Files.{HasFile};
 ghost use Rattle.file_bodies.specs.Places.{IsRoom};
 ghost use Rattle.file_bodies.specs.Placing.{start_of};
 ghost use Rattle.file_bodies.specs.Damage.{IsListedFault, IsPlacingFault};
-ghost use Rattle.versions.specs.Versions.{CreatesVersion, PutsVersion};
+ghost use Rattle.version_model.specs.Versions.{CreatesVersion, PutsVersion};
 
 use ex_base::{Oid, PortFault, Volume};
 use file_bodies::{Room, place_body};
@@ -25,16 +25,23 @@ pub fn create<V: Volume>(
 ) -> Result<Oid, PortFault>
     requires ready { V.ready volume.old }
     requires free { 7 ≤ V.free volume.old Page }
-    ensures created { IfOk result (λ oid. V.tells volume.old → (index : Index) → HasFile V.Ground volume.old index → index.file_no ≡ room.old.file_no → IsRoom V.Ground volume.old index room.old
+    ensures created { IfOk result (λ oid. V.tells volume.old → (index : Index)
+        → HasFile V.Ground volume.old index → index.file_no ≡ room.old.file_no
+        → IsRoom V.Ground volume.old index room.old
         → CreatesVersion V.Ground volume.old volume.new index oid) }
-    ensures anywhere { IfOk result (λ oid. V.tells volume.old → (index : Index) → HasFile V.Ground volume.old index → index.file_no ≡ room.old.file_no
+    ensures anywhere { IfOk result (λ oid. V.tells volume.old → (index : Index)
+        → HasFile V.Ground volume.old index → index.file_no ≡ room.old.file_no
         → PutsVersion V.Ground volume.old volume.new index oid) }
     ensures number { IfOk result (λ oid. oid.unique ≡ unique) }
-    ensures room { IfOk result (λ oid. room.new ≡ record { file_no = room.old.file_no; from = oid.page; len = 36 }) }
+    ensures room { IfOk result (λ oid. room.new
+        ≡ record { file_no = room.old.file_no; from = oid.page; len = 36 }) }
     ensures pages { OnOk result (V.free volume.old Page ≤ V.free volume.new Page + 7) }
-    ensures sound { IfErr result (λ fault. IsDamage fault → V.tells volume.old → (index : Index) → HasFile V.Ground volume.old index → index.file_no ≡ room.old.file_no → ⊥) }
-    ensures fault { IfErr result (λ fault. V.tells volume.old → IsListedFault (V.image volume.old) room.old.file_no
-        (λ index. IsPlacingFault (V.geometry volume.old) (V.image volume.old) index (start_of room.old 36) fault) fault) }
+    ensures sound { IfErr result (λ fault. IsDamage fault → V.tells volume.old → (index : Index)
+        → HasFile V.Ground volume.old index → index.file_no ≡ room.old.file_no → ⊥) }
+    ensures fault { IfErr result (λ fault. V.tells volume.old
+        → IsListedFault (V.image volume.old) room.old.file_no
+        (λ index. IsPlacingFault (V.geometry volume.old) (V.image volume.old) index
+        (start_of room.old 36) fault) fault) }
     ensures leads { V.leads volume.old volume.new }
     ensures cause { HasCause (V.faults volume.old) (V.faults volume.new) result }
 {

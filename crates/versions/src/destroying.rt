@@ -7,7 +7,7 @@ ghost use Rattle.object_records.specs.declared.State.TheVariants.{Current};
 ghost use Rattle.file_index.specs.declared.Index.{Index};
 ghost use Rattle.file_bodies.specs.Files.{HasFileOf};
 ghost use Rattle.file_bodies.specs.Places.{RemovesBody};
-ghost use Rattle.versions.specs.Versions.{HasRecord, HasVersion, Stands, place_of};
+ghost use Rattle.version_model.specs.Versions.{HasRecord, HasVersion, Stands, place_of};
 ghost use Rattle.versions.specs.Damage.{IsDestroyingFault};
 
 use crate::finding::{Found, find, stood};
@@ -27,16 +27,21 @@ fn is_destroyable(found: &Found) -> bool
 /// Takes the record of a version out of its file: of a current one without an older one. The units of its tree stay used.
 pub fn destroy<V: Volume>(volume: &mut V, alloc: Global, oid: &Oid) -> Result<(), PortFault>
     requires { V.ready volume.old }
-    ensures stood { OnOk result (V.tells volume.old → HasFileOf V.Ground volume.old oid.now.page.0 → Stands V.Ground volume.old oid.now) }
-    ensures asked { OnOk result (V.tells volume.old → (index : Index) (is : Record) → HasRecord V.Ground volume.old index oid.now is
+    ensures stood { OnOk result (V.tells volume.old → HasFileOf V.Ground volume.old oid.now.page.0
+        → Stands V.Ground volume.old oid.now) }
+    ensures asked { OnOk result (V.tells volume.old → (index : Index) (is : Record)
+        → HasRecord V.Ground volume.old index oid.now is
         → (is.head.state ≡ Current) × (is.head.older ≡ None)) }
-    ensures removes { OnOk result (V.tells volume.old → (index : Index) (is : Record) (has : HasRecord V.Ground volume.old index oid.now is)
+    ensures removes { OnOk result (V.tells volume.old
+        → (index : Index) (is : Record) (has : HasRecord V.Ground volume.old index oid.now is)
         → RemovesBody V.Ground volume.old volume.new index (place_of oid.now) has.body) }
     ensures pages { OnOk result (V.free volume.old Page ≤ V.free volume.new Page) }
-    ensures sound { IfErr result (λ fault. IsDamage fault → V.tells volume.old → (index : Index) (content : Content) (bytes : List ℕ)
+    ensures sound { IfErr result (λ fault. IsDamage fault → V.tells volume.old
+        → (index : Index) (content : Content) (bytes : List ℕ)
         → HasVersion V.Ground volume.old index oid.now content bytes → ⊥) }
     ensures fault { IfErr result (λ fault. V.tells volume.old
-        → IsDestroyingFault (V.geometry volume.old) (V.image volume.old) (V.image volume.new) oid.now fault) }
+        → IsDestroyingFault (V.geometry volume.old) (V.image volume.old)
+        (V.image volume.new) oid.now fault) }
     ensures leads { V.leads volume.old volume.new }
     ensures cause { HasCause (V.faults volume.old) (V.faults volume.new) result }
 {

@@ -9,7 +9,7 @@ ghost use Rattle.object_records.specs.declared.Head.{Head};
 ghost use Rattle.object_records.specs.declared.State.TheVariants.{Current};
 ghost use Rattle.file_index.specs.declared.Index.{Index};
 ghost use Rattle.file_bodies.specs.Files.{HasFileOf, HasBody};
-ghost use Rattle.versions.specs.Versions.{HasRecord, HasVersion, Stands, Change, AreInUse, EditsVersion, StaysSmall, FitsIn, InRange, changed, count_of, lone_head, place_of};
+ghost use Rattle.version_model.specs.Versions.{HasRecord, HasVersion, Stands, Change, AreInUse, EditsVersion, StaysSmall, FitsIn, InRange, changed, count_of, lone_head, place_of};
 ghost use Rattle.ex_base.specs.Needs.{growth_need};
 ghost use Rattle.versions.specs.Needs.{edit_need};
 ghost use Rattle.versions.specs.Edited.{change_of, HasNeed};
@@ -119,13 +119,19 @@ fn put_small_by<V: Volume>(
     requires head { IsRecord (small_record head.now []) }
     requires short { length bytes.now < 65536 }
     requires body { length body.old ≡ 24 + max 12 (length bytes.now) }
-    ensures fits { IfOk result (λ done. V.tells volume.old → (index : Index) (was : List ℕ) → HasBody V.Ground volume.old index place was → IsTrue done ↔ FitsIn V.Ground volume.old place.page.0 (length was) (length bytes.now)) }
-    ensures put { IfOk result (λ done. IsTrue done → V.tells volume.old → (index : Index) (was : List ℕ) → HasBody V.Ground volume.old index place was
-        → PutsRecord V.Ground volume.old volume.new index place was (small_record head.now bytes.now)) }
+    ensures fits { IfOk result (λ done. V.tells volume.old → (index : Index) (was : List ℕ)
+        → HasBody V.Ground volume.old index place was → IsTrue done
+        ↔ FitsIn V.Ground volume.old place.page.0 (length was) (length bytes.now)) }
+    ensures put { IfOk result (λ done. IsTrue done → V.tells volume.old
+        → (index : Index) (was : List ℕ) → HasBody V.Ground volume.old index place was
+        → PutsRecord V.Ground volume.old volume.new index place was
+        (small_record head.now bytes.now)) }
     ensures kept { IfOk result (λ done. IsFalse done → Keeps V.Ground volume.old volume.new) }
     ensures free { IfOk result (λ done. V.free volume.new ≡ V.free volume.old) }
-    ensures sound { IfErr result (λ fault. IsDamage fault → V.tells volume.old → (index : Index) (was : List ℕ) → HasBody V.Ground volume.old index place was → ⊥) }
-    ensures fault { IfErr result (λ fault. V.tells volume.old → IsPlaceFault (V.geometry volume.old) (V.image volume.old place.page.0) place fault) }
+    ensures sound { IfErr result (λ fault. IsDamage fault → V.tells volume.old
+        → (index : Index) (was : List ℕ) → HasBody V.Ground volume.old index place was → ⊥) }
+    ensures fault { IfErr result (λ fault. V.tells volume.old
+        → IsPlaceFault (V.geometry volume.old) (V.image volume.old place.page.0) place fault) }
     ensures leads { V.leads volume.old volume.new }
     ensures cause { HasCause (V.faults volume.old) (V.faults volume.new) result }
 {
@@ -143,13 +149,19 @@ fn put_small<V: Volume>(
 ) -> Result<bool, PortFault>
     requires ready { V.ready volume.old }
     requires head { IsRecord (small_record head.now []) }
-    ensures fits { IfOk result (λ done. V.tells volume.old → (index : Index) (was : List ℕ) → HasBody V.Ground volume.old index place was → IsTrue done ↔ FitsIn V.Ground volume.old place.page.0 (length was) (length bytes.now)) }
-    ensures put { IfOk result (λ done. IsTrue done → V.tells volume.old → (index : Index) (was : List ℕ) → HasBody V.Ground volume.old index place was
-        → PutsRecord V.Ground volume.old volume.new index place was (small_record head.now bytes.now)) }
+    ensures fits { IfOk result (λ done. V.tells volume.old → (index : Index) (was : List ℕ)
+        → HasBody V.Ground volume.old index place was → IsTrue done
+        ↔ FitsIn V.Ground volume.old place.page.0 (length was) (length bytes.now)) }
+    ensures put { IfOk result (λ done. IsTrue done → V.tells volume.old
+        → (index : Index) (was : List ℕ) → HasBody V.Ground volume.old index place was
+        → PutsRecord V.Ground volume.old volume.new index place was
+        (small_record head.now bytes.now)) }
     ensures kept { IfOk result (λ done. IsFalse done → Keeps V.Ground volume.old volume.new) }
     ensures free { IfOk result (λ done. V.free volume.new ≡ V.free volume.old) }
-    ensures sound { IfErr result (λ fault. IsDamage fault → V.tells volume.old → (index : Index) (was : List ℕ) → HasBody V.Ground volume.old index place was → ⊥) }
-    ensures fault { IfErr result (λ fault. V.tells volume.old → IsPlaceFault (V.geometry volume.old) (V.image volume.old place.page.0) place fault) }
+    ensures sound { IfErr result (λ fault. IsDamage fault → V.tells volume.old
+        → (index : Index) (was : List ℕ) → HasBody V.Ground volume.old index place was → ⊥) }
+    ensures fault { IfErr result (λ fault. V.tells volume.old
+        → IsPlaceFault (V.geometry volume.old) (V.image volume.old place.page.0) place fault) }
     ensures leads { V.leads volume.old volume.new }
     ensures cause { HasCause (V.faults volume.old) (V.faults volume.new) result }
 {
@@ -186,15 +198,28 @@ fn put_edited<V: Volume>(
     requires count { count ≤ object_most }
     requires limit { length bytes.now ≤ object_most }
     ensures size { IfOk result (λ size. size ≡ length bytes.now) }
-    ensures edited { OnOk result (V.tells volume.old → AreInUse V.Ground volume.old → head.now ≡ lone_head oid.now.unique → (index : Index) (held : List ℕ) → HasVersion V.Ground volume.old index oid.now (Small held) held
-        → (change : Change) → EditsVersion V.Ground volume.old volume.new index oid.now (Small held) change bytes.now) }
-    ensures small { OnOk result (V.tells volume.old → (index : Index) (held : List ℕ) → HasVersion V.Ground volume.old index oid.now (Small held) held
-        → StaysSmall V.Ground volume.old (place_of oid.now) (Small held) (length bytes.now) → V.free volume.new ≡ V.free volume.old) }
-    ensures free { OnOk result ((area : Area) → V.free volume.old area ≤ V.free volume.new area + growth_need (V.geometry volume.old) count 0 area) }
-    ensures sound { IfErr result (λ fault. IsDamage fault → V.tells volume.old → AreInUse V.Ground volume.old → (index : Index) (held : List ℕ) → HasVersion V.Ground volume.old index oid.now (Small held) held
-        → length bytes.now ≤ length held + count → length (V.image volume.old oid.now.page.0) ≡ (V.geometry volume.old).page_size
-        → ((StaysSmall V.Ground volume.old (place_of oid.now) (Small held) (length bytes.now) → ⊥) → (area : Area) → growth_need (V.geometry volume.old) count 0 area ≤ V.free volume.old area) → ⊥) }
-    ensures fault { IfErr result (λ fault. V.tells volume.old → IsBytesFault (V.geometry volume.old) (V.unit volume.old) oid.now no_tree fault) }
+    ensures edited { OnOk result (V.tells volume.old → AreInUse V.Ground volume.old
+        → head.now ≡ lone_head oid.now.unique → (index : Index) (held : List ℕ)
+        → HasVersion V.Ground volume.old index oid.now (Small held) held
+        → (change : Change) → EditsVersion V.Ground volume.old volume.new index oid.now
+        (Small held) change bytes.now) }
+    ensures small { OnOk result (V.tells volume.old → (index : Index) (held : List ℕ)
+        → HasVersion V.Ground volume.old index oid.now (Small held) held
+        → StaysSmall V.Ground volume.old (place_of oid.now) (Small held) (length bytes.now)
+        → V.free volume.new ≡ V.free volume.old) }
+    ensures free { OnOk result ((area : Area)
+        → V.free volume.old area ≤ V.free volume.new area
+        + growth_need (V.geometry volume.old) count 0 area) }
+    ensures sound { IfErr result (λ fault. IsDamage fault → V.tells volume.old
+        → AreInUse V.Ground volume.old → (index : Index) (held : List ℕ)
+        → HasVersion V.Ground volume.old index oid.now (Small held) held
+        → length bytes.now ≤ length held + count
+        → length (V.image volume.old oid.now.page.0) ≡ (V.geometry volume.old).page_size
+        → ((StaysSmall V.Ground volume.old (place_of oid.now) (Small held) (length bytes.now) → ⊥)
+        → (area : Area) → growth_need (V.geometry volume.old) count 0 area ≤ V.free volume.old area)
+        → ⊥) }
+    ensures fault { IfErr result (λ fault. V.tells volume.old
+        → IsBytesFault (V.geometry volume.old) (V.unit volume.old) oid.now no_tree fault) }
     ensures leads { V.leads volume.old volume.new }
     ensures cause { HasCause (V.faults volume.old) (V.faults volume.new) result }
 {
@@ -218,14 +243,22 @@ fn edited_by<V: ReadVolume>(
     requires ready { V.ready volume.old }
     requires range { InRange (change_of edit.now) (length old.old) }
     requires short { length old.old < 65536 }
-    ensures bytes { IfOk result (λ made. V.tells volume.old → (index : Index) (body : List ℕ) (head : Head) (bytes : List ℕ) → HasBody V.Ground volume.old index place body → BodyOf body (small_record head bytes)
+    ensures bytes { IfOk result (λ made. V.tells volume.old
+        → (index : Index) (body : List ℕ) (head : Head) (bytes : List ℕ)
+        → HasBody V.Ground volume.old index place body → BodyOf body (small_record head bytes)
         → length bytes ≡ length old.old → made.items ≡ changed (change_of edit.now) bytes) }
-    ensures len { IfOk result (λ made. length made.items ≤ length old.old + count_of (change_of edit.now)) }
+    ensures len { IfOk result (λ made. length made.items ≤ length old.old
+        + count_of (change_of edit.now)) }
     ensures limit { IfOk result (λ made. length made.items ≤ object_most) }
-    ensures sound { IfErr result (λ fault. IsDamage fault → V.tells volume.old → (index : Index) (body : List ℕ) (head : Head) (bytes : List ℕ) → HasBody V.Ground volume.old index place body → BodyOf body (small_record head bytes)
+    ensures sound { IfErr result (λ fault. IsDamage fault → V.tells volume.old
+        → (index : Index) (body : List ℕ) (head : Head) (bytes : List ℕ)
+        → HasBody V.Ground volume.old index place body → BodyOf body (small_record head bytes)
         → length bytes ≡ length old.old → ⊥) }
-    ensures page { OnOk result (V.tells volume.old → (index : Index) (body : List ℕ) → HasBody V.Ground volume.old index place body → length (V.image volume.old place.page.0) ≡ (V.geometry volume.old).page_size) }
-    ensures fault { IfErr result (λ fault. V.tells volume.old → IsStepFault (V.geometry volume.old) (V.image volume.old) place fault) }
+    ensures page { OnOk result (V.tells volume.old → (index : Index) (body : List ℕ)
+        → HasBody V.Ground volume.old index place body
+        → length (V.image volume.old place.page.0) ≡ (V.geometry volume.old).page_size) }
+    ensures fault { IfErr result (λ fault. V.tells volume.old
+        → IsStepFault (V.geometry volume.old) (V.image volume.old) place fault) }
     ensures kept { Keeps V.Ground volume.old volume.new }
     ensures cause { HasCause (V.faults volume.old) (V.faults volume.new) result }
 {
@@ -246,14 +279,21 @@ fn edited_small<V: ReadVolume>(
     requires ready { V.ready volume.old }
     requires range { InRange (change_of edit.now) size }
     requires short { size < 65536 }
-    ensures bytes { IfOk result (λ made. V.tells volume.old → (index : Index) (body : List ℕ) (head : Head) (bytes : List ℕ) → HasBody V.Ground volume.old index place body → BodyOf body (small_record head bytes)
+    ensures bytes { IfOk result (λ made. V.tells volume.old
+        → (index : Index) (body : List ℕ) (head : Head) (bytes : List ℕ)
+        → HasBody V.Ground volume.old index place body → BodyOf body (small_record head bytes)
         → length bytes ≡ size → made.items ≡ changed (change_of edit.now) bytes) }
     ensures len { IfOk result (λ made. length made.items ≤ size + count_of (change_of edit.now)) }
     ensures limit { IfOk result (λ made. length made.items ≤ object_most) }
-    ensures sound { IfErr result (λ fault. IsDamage fault → V.tells volume.old → (index : Index) (body : List ℕ) (head : Head) (bytes : List ℕ) → HasBody V.Ground volume.old index place body → BodyOf body (small_record head bytes)
+    ensures sound { IfErr result (λ fault. IsDamage fault → V.tells volume.old
+        → (index : Index) (body : List ℕ) (head : Head) (bytes : List ℕ)
+        → HasBody V.Ground volume.old index place body → BodyOf body (small_record head bytes)
         → length bytes ≡ size → ⊥) }
-    ensures page { OnOk result (V.tells volume.old → (index : Index) (body : List ℕ) → HasBody V.Ground volume.old index place body → length (V.image volume.old place.page.0) ≡ (V.geometry volume.old).page_size) }
-    ensures fault { IfErr result (λ fault. V.tells volume.old → IsStepFault (V.geometry volume.old) (V.image volume.old) place fault) }
+    ensures page { OnOk result (V.tells volume.old → (index : Index) (body : List ℕ)
+        → HasBody V.Ground volume.old index place body
+        → length (V.image volume.old place.page.0) ≡ (V.geometry volume.old).page_size) }
+    ensures fault { IfErr result (λ fault. V.tells volume.old
+        → IsStepFault (V.geometry volume.old) (V.image volume.old) place fault) }
     ensures kept { Keeps V.Ground volume.old volume.new }
     ensures cause { HasCause (V.faults volume.old) (V.faults volume.new) result }
 {
@@ -276,17 +316,31 @@ fn edit_small<V: Volume>(
     requires head { IsRecord (small_record head.now []) }
     requires range { InRange (change_of edit.now) size }
     requires short { size < 65536 }
-    ensures size { IfOk result (λ n. V.tells volume.old → (index : Index) (bytes : List ℕ) → HasVersion V.Ground volume.old index oid.now (Small bytes) bytes → length bytes ≡ size
-        → n ≡ length (changed (change_of edit.now) bytes)) }
-    ensures edited { OnOk result (V.tells volume.old → AreInUse V.Ground volume.old → head.now ≡ lone_head oid.now.unique → (index : Index) (bytes : List ℕ)
-        → HasVersion V.Ground volume.old index oid.now (Small bytes) bytes → length bytes ≡ size → EditsVersion V.Ground volume.old volume.new index oid.now (Small bytes) (change_of edit.now) (changed (change_of edit.now) bytes)) }
-    ensures small { OnOk result (V.tells volume.old → (index : Index) (bytes : List ℕ) → HasVersion V.Ground volume.old index oid.now (Small bytes) bytes → length bytes ≡ size
-        → StaysSmall V.Ground volume.old (place_of oid.now) (Small bytes) (length (changed (change_of edit.now) bytes)) → V.free volume.new ≡ V.free volume.old) }
-    ensures free { OnOk result ((area : Area) → V.free volume.old area ≤ V.free volume.new area + growth_need (V.geometry volume.old) (count_of (change_of edit.now)) 0 area) }
-    ensures sound { IfErr result (λ fault. IsDamage fault → V.tells volume.old → AreInUse V.Ground volume.old → (index : Index) (bytes : List ℕ)
+    ensures size { IfOk result (λ n. V.tells volume.old → (index : Index) (bytes : List ℕ)
         → HasVersion V.Ground volume.old index oid.now (Small bytes) bytes → length bytes ≡ size
-        → ((StaysSmall V.Ground volume.old (place_of oid.now) (Small bytes) (length (changed (change_of edit.now) bytes)) → ⊥) → (area : Area) → growth_need (V.geometry volume.old) (count_of (change_of edit.now)) 0 area ≤ V.free volume.old area) → ⊥) }
-    ensures fault { IfErr result (λ fault. V.tells volume.old → IsVersionFault (V.geometry volume.old) (V.unit volume.old) (V.image volume.old) oid.now fault) }
+        → n ≡ length (changed (change_of edit.now) bytes)) }
+    ensures edited { OnOk result (V.tells volume.old → AreInUse V.Ground volume.old
+        → head.now ≡ lone_head oid.now.unique → (index : Index) (bytes : List ℕ)
+        → HasVersion V.Ground volume.old index oid.now (Small bytes) bytes → length bytes ≡ size
+        → EditsVersion V.Ground volume.old volume.new index oid.now (Small bytes)
+        (change_of edit.now) (changed (change_of edit.now) bytes)) }
+    ensures small { OnOk result (V.tells volume.old → (index : Index) (bytes : List ℕ)
+        → HasVersion V.Ground volume.old index oid.now (Small bytes) bytes → length bytes ≡ size
+        → StaysSmall V.Ground volume.old (place_of oid.now) (Small bytes)
+        (length (changed (change_of edit.now) bytes)) → V.free volume.new ≡ V.free volume.old) }
+    ensures free { OnOk result ((area : Area)
+        → V.free volume.old area ≤ V.free volume.new area
+        + growth_need (V.geometry volume.old) (count_of (change_of edit.now)) 0 area) }
+    ensures sound { IfErr result (λ fault. IsDamage fault → V.tells volume.old
+        → AreInUse V.Ground volume.old → (index : Index) (bytes : List ℕ)
+        → HasVersion V.Ground volume.old index oid.now (Small bytes) bytes → length bytes ≡ size
+        → ((StaysSmall V.Ground volume.old (place_of oid.now) (Small bytes)
+        (length (changed (change_of edit.now) bytes)) → ⊥) → (area : Area)
+        → growth_need (V.geometry volume.old) (count_of (change_of edit.now)) 0 area
+        ≤ V.free volume.old area) → ⊥) }
+    ensures fault { IfErr result (λ fault. V.tells volume.old
+        → IsVersionFault (V.geometry volume.old) (V.unit volume.old)
+        (V.image volume.old) oid.now fault) }
     ensures leads { V.leads volume.old volume.new }
     ensures cause { HasCause (V.faults volume.old) (V.faults volume.new) result }
 {
@@ -299,7 +353,8 @@ fn edit_small<V: Volume>(
 /// Whether a version may be edited: it is a current one, and the edit's range lies inside it.
 fn is_editable(found: &Found, edit: &Edit) -> bool
     requires { found.now.size ≤ object_most }
-    ensures { IsTrue result ↔ ((found.now.head.state ≡ Current) × InRange (change_of edit.now) found.now.size) }
+    ensures { IsTrue result ↔ ((found.now.head.state ≡ Current)
+        × InRange (change_of edit.now) found.now.size) }
 {
     found.head.state == State::Current && edit.is_in_range(found.size)
 }
@@ -313,23 +368,43 @@ pub fn apply<V: Volume>(
     edit: &Edit,
 ) -> Result<u64, PortFault>
     requires { V.ready volume.old }
-    ensures stands { OnOk result (V.tells volume.old → HasFileOf V.Ground volume.old oid.now.page.0 → Stands V.Ground volume.old oid.now) }
-    ensures asked { OnOk result (V.tells volume.old → (index : Index) (is : Record) → HasRecord V.Ground volume.old index oid.now is → is.head.state ≡ Current) }
-    ensures size { IfOk result (λ size. V.tells volume.old → (index : Index) (content : Content) (bytes : List ℕ) → HasVersion V.Ground volume.old index oid.now content bytes
-        → InRange (change_of edit.now) (length bytes) × (size ≡ length (changed (change_of edit.now) bytes))) }
-    ensures nothing { OnOk result (count_of (change_of edit.now) ≡ 0 → Keeps V.Ground volume.old volume.new) }
-    ensures edited { OnOk result (1 ≤ count_of (change_of edit.now) → V.tells volume.old → AreInUse V.Ground volume.old
-        → (index : Index) (content : Content) (bytes : List ℕ) → HasVersion V.Ground volume.old index oid.now content bytes
-        → EditsVersion V.Ground volume.old volume.new index oid.now content (change_of edit.now) (changed (change_of edit.now) bytes)) }
-    ensures small { OnOk result (V.tells volume.old → (index : Index) (content : Content) (bytes : List ℕ) → HasVersion V.Ground volume.old index oid.now content bytes
-        → StaysSmall V.Ground volume.old (place_of oid.now) content (length (changed (change_of edit.now) bytes)) → V.free volume.new ≡ V.free volume.old) }
-    ensures free { OnOk result (V.tells volume.old → (index : Index) (content : Content) (bytes : List ℕ) → HasVersion V.Ground volume.old index oid.now content bytes
-        → (area : Area) → V.free volume.old area ≤ V.free volume.new area + edit_need (V.geometry volume.old) (change_of edit.now) content area) }
-    ensures sound { IfErr result (λ fault. IsDamage fault → V.tells volume.old → AreInUse V.Ground volume.old
-        → (index : Index) (content : Content) (bytes : List ℕ) → HasVersion V.Ground volume.old index oid.now content bytes → InRange (change_of edit.now) (length bytes)
-        → HasNeed V.Ground volume.old (place_of oid.now) content (change_of edit.now) (length (changed (change_of edit.now) bytes)) → ⊥) }
+    ensures stands { OnOk result (V.tells volume.old → HasFileOf V.Ground volume.old oid.now.page.0
+        → Stands V.Ground volume.old oid.now) }
+    ensures asked { OnOk result (V.tells volume.old → (index : Index) (is : Record)
+        → HasRecord V.Ground volume.old index oid.now is → is.head.state ≡ Current) }
+    ensures size { IfOk result (λ size. V.tells volume.old
+        → (index : Index) (content : Content) (bytes : List ℕ)
+        → HasVersion V.Ground volume.old index oid.now content bytes
+        → InRange (change_of edit.now) (length bytes)
+        × (size ≡ length (changed (change_of edit.now) bytes))) }
+    ensures nothing { OnOk result (count_of (change_of edit.now) ≡ 0
+        → Keeps V.Ground volume.old volume.new) }
+    ensures edited { OnOk result (1 ≤ count_of (change_of edit.now) → V.tells volume.old
+        → AreInUse V.Ground volume.old
+        → (index : Index) (content : Content) (bytes : List ℕ)
+        → HasVersion V.Ground volume.old index oid.now content bytes
+        → EditsVersion V.Ground volume.old volume.new index oid.now content (change_of edit.now)
+        (changed (change_of edit.now) bytes)) }
+    ensures small { OnOk result (V.tells volume.old
+        → (index : Index) (content : Content) (bytes : List ℕ)
+        → HasVersion V.Ground volume.old index oid.now content bytes
+        → StaysSmall V.Ground volume.old (place_of oid.now) content
+        (length (changed (change_of edit.now) bytes)) → V.free volume.new ≡ V.free volume.old) }
+    ensures free { OnOk result (V.tells volume.old
+        → (index : Index) (content : Content) (bytes : List ℕ)
+        → HasVersion V.Ground volume.old index oid.now content bytes
+        → (area : Area) → V.free volume.old area ≤ V.free volume.new area
+        + edit_need (V.geometry volume.old) (change_of edit.now) content area) }
+    ensures sound { IfErr result (λ fault. IsDamage fault → V.tells volume.old
+        → AreInUse V.Ground volume.old
+        → (index : Index) (content : Content) (bytes : List ℕ)
+        → HasVersion V.Ground volume.old index oid.now content bytes
+        → InRange (change_of edit.now) (length bytes)
+        → HasNeed V.Ground volume.old (place_of oid.now) content (change_of edit.now)
+        (length (changed (change_of edit.now) bytes)) → ⊥) }
     ensures fault { IfErr result (λ fault. V.tells volume.old
-        → IsVersionFault (V.geometry volume.old) (V.unit volume.old) (V.image volume.old) oid.now fault) }
+        → IsVersionFault (V.geometry volume.old) (V.unit volume.old)
+        (V.image volume.old) oid.now fault) }
     ensures leads { V.leads volume.old volume.new }
     ensures cause { HasCause (V.faults volume.old) (V.faults volume.new) result }
 {

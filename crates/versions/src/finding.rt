@@ -8,7 +8,7 @@ ghost use Rattle.object_records.specs.declared.Head.{Head};
 ghost use Rattle.file_index.specs.declared.Index.{Index};
 ghost use Rattle.file_bodies.specs.Files.{HasFileOf, HasBody};
 ghost use Rattle.trees.specs.Roots.{IsRootFor};
-ghost use Rattle.versions.specs.Versions.{HasRecord, HoldsVersion, Stands, place_of};
+ghost use Rattle.version_model.specs.Versions.{HasRecord, HoldsVersion, Stands, place_of};
 ghost use Rattle.versions.specs.Found.{IsReadable, IsRecordBody, IsTold, found_of};
 ghost use Rattle.versions.specs.Damage.{record_fault, IsFoundAt, IsBodyFault, IsFindingFault, IsStepFault, IsVersionFault};
 
@@ -32,8 +32,10 @@ pub struct Found {
 
 /// What a record tells, none where it has another unique number than the OID.
 fn told_of(body: &[u8], geometry: &Geometry, oid: &Oid) -> Result<Option<Found>, PortFault>
-    ensures some { IfOk result (λ found. IfSome found (λ found. IsTold geometry.now oid.now.unique body.now found)) }
-    ensures none { IfOk result (λ found. IfNone found ((is : Record) → BodyOf body.now is → is.head.unique ≡ oid.now.unique → ⊥)) }
+    ensures some { IfOk result
+        (λ found. IfSome found (λ found. IsTold geometry.now oid.now.unique body.now found)) }
+    ensures none { IfOk result (λ found. IfNone found ((is : Record) → BodyOf body.now is
+        → is.head.unique ≡ oid.now.unique → ⊥)) }
     ensures sound { IfErr result (λ fault. IsRecordBody geometry.now body.now → ⊥) }
     ensures fault { IfErr result (IsBodyFault geometry.now oid.now body.now) }
     ensures cause { (before now : ℕ) → HasCause before now result }
@@ -71,18 +73,29 @@ pub fn find<V: ReadVolume>(
     oid: &Oid,
 ) -> Result<Option<Found>, PortFault>
     requires { V.ready volume.old }
-    ensures stands { IfOk result (λ found. IfSome found (λ _. V.tells volume.old → HasFileOf V.Ground volume.old oid.now.page.0 → Stands V.Ground volume.old oid.now)) }
-    ensures told { IfOk result (λ found. V.tells volume.old → (index : Index) (is : Record) → HasRecord V.Ground volume.old index oid.now is → found ≡ Some (found_of is)) }
-    ensures size { IfOk result (λ found. V.tells volume.old → (index : Index) (content : Content) (bytes : List ℕ) → HoldsVersion V.Ground volume.old index oid.now content bytes
+    ensures stands { IfOk result (λ found. IfSome found (λ _. V.tells volume.old
+        → HasFileOf V.Ground volume.old oid.now.page.0 → Stands V.Ground volume.old oid.now)) }
+    ensures told { IfOk result (λ found. V.tells volume.old → (index : Index) (is : Record)
+        → HasRecord V.Ground volume.old index oid.now is → found ≡ Some (found_of is)) }
+    ensures size { IfOk result (λ found. V.tells volume.old
+        → (index : Index) (content : Content) (bytes : List ℕ)
+        → HoldsVersion V.Ground volume.old index oid.now content bytes
         → IfSome found (λ found. found.size ≡ length bytes)) }
-    ensures head { IfOk result (λ found. IfSome found (λ found. IsRecord (small_record found.head []))) }
-    ensures small { IfOk result (λ found. IfSome found (λ found. found.root ≡ None → found.size < 65536)) }
-    ensures root { IfOk result (λ found. IfSome found (λ found. IfSome found.root (λ root. IsRootFor (V.geometry volume.old) root))) }
-    ensures large { IfOk result (λ found. IfSome found (λ found. IfSome found.root (λ root. found.size ≡ root.size))) }
-    ensures reads { IfOk result (λ found. IfSome found (λ found. V.tells volume.old → IsFoundAt (V.geometry volume.old) (V.image volume.old) oid.now found)) }
-    ensures sound { IfErr result (λ fault. IsDamage fault → V.tells volume.old → HasFileOf V.Ground volume.old oid.now.page.0
+    ensures head { IfOk result
+        (λ found. IfSome found (λ found. IsRecord (small_record found.head []))) }
+    ensures small { IfOk result (λ found. IfSome found (λ found. found.root ≡ None
+        → found.size < 65536)) }
+    ensures root { IfOk result (λ found. IfSome found (λ found. IfSome found.root
+        (λ root. IsRootFor (V.geometry volume.old) root))) }
+    ensures large { IfOk result (λ found. IfSome found (λ found. IfSome found.root
+        (λ root. found.size ≡ root.size))) }
+    ensures reads { IfOk result (λ found. IfSome found (λ found. V.tells volume.old
+        → IsFoundAt (V.geometry volume.old) (V.image volume.old) oid.now found)) }
+    ensures sound { IfErr result (λ fault. IsDamage fault → V.tells volume.old
+        → HasFileOf V.Ground volume.old oid.now.page.0
         → IsReadable V.Ground volume.old (place_of oid.now) → ⊥) }
-    ensures fault { IfErr result (λ fault. V.tells volume.old → IsFindingFault (V.geometry volume.old) (V.image volume.old) oid.now fault) }
+    ensures fault { IfErr result (λ fault. V.tells volume.old
+        → IsFindingFault (V.geometry volume.old) (V.image volume.old) oid.now fault) }
     ensures kept { Keeps V.Ground volume.old volume.new }
     ensures cause { HasCause (V.faults volume.old) (V.faults volume.new) result }
 {
@@ -108,9 +121,12 @@ pub(crate) fn stood(told: Option<Found>, place: Place) -> Result<Found, PortFaul
 
 /// Copies a part of a small version's bytes out of the body of its record.
 fn copy_record(body: &[u8], place: Place, pos: u64, out: &mut [u8]) -> Result<(), PortFault>
-    ensures bytes { OnOk result ((head : Head) (bytes : List ℕ) → BodyOf body.now (small_record head bytes) → (pos + length out.old ≤ length bytes) × (out.new ≡ bytes_at bytes pos (length out.old))) }
+    ensures bytes { OnOk result ((head : Head) (bytes : List ℕ)
+        → BodyOf body.now (small_record head bytes) → (pos + length out.old ≤ length bytes)
+        × (out.new ≡ bytes_at bytes pos (length out.old))) }
     ensures len { length out.new ≡ length out.old }
-    ensures sound { IfErr result (λ fault. (head : Head) (bytes : List ℕ) → BodyOf body.now (small_record head bytes) → pos + length out.old ≤ length bytes → ⊥) }
+    ensures sound { IfErr result (λ fault. (head : Head) (bytes : List ℕ)
+        → BodyOf body.now (small_record head bytes) → pos + length out.old ≤ length bytes → ⊥) }
     ensures fault { IfErr result (λ fault. fault ≡ record_fault place) }
     ensures cause { (before now : ℕ) → HasCause before now result }
 {
@@ -130,10 +146,13 @@ fn copy_record(body: &[u8], place: Place, pos: u64, out: &mut [u8]) -> Result<()
 
 /// Copies a part of a small version's bytes out of the body of its record, where one stands at the place.
 fn copy_small(body: Option<&[u8]>, place: Place, pos: u64, out: &mut [u8]) -> Result<(), PortFault>
-    ensures bytes { OnOk result (IfSome body.entry (λ body. (head : Head) (bytes : List ℕ) → BodyOf body.now (small_record head bytes)
-        → (pos + length out.old ≤ length bytes) × (out.new ≡ bytes_at bytes pos (length out.old)))) }
+    ensures bytes { OnOk result (IfSome body.entry (λ body. (head : Head) (bytes : List ℕ)
+        → BodyOf body.now (small_record head bytes)
+        → (pos + length out.old ≤ length bytes)
+        × (out.new ≡ bytes_at bytes pos (length out.old)))) }
     ensures len { length out.new ≡ length out.old }
-    ensures sound { IfErr result (λ fault. IfSome body.entry (λ body. (head : Head) (bytes : List ℕ) → BodyOf body.now (small_record head bytes)
+    ensures sound { IfErr result (λ fault. IfSome body.entry (λ body. (head : Head) (bytes : List ℕ)
+        → BodyOf body.now (small_record head bytes)
         → pos + length out.old ≤ length bytes → ⊥)) }
     ensures none { OnOk result (IsSome body.entry) }
     ensures fault { IfErr result (λ fault. fault ≡ record_fault place) }
@@ -154,13 +173,20 @@ pub(crate) fn read_small<V: ReadVolume>(
     out: &mut [u8],
 ) -> Result<(), PortFault>
     requires { V.ready volume.old }
-    ensures bytes { OnOk result (V.tells volume.old → (index : Index) (body : List ℕ) (head : Head) (bytes : List ℕ) → HasBody V.Ground volume.old index place body → BodyOf body (small_record head bytes)
+    ensures bytes { OnOk result (V.tells volume.old
+        → (index : Index) (body : List ℕ) (head : Head) (bytes : List ℕ)
+        → HasBody V.Ground volume.old index place body → BodyOf body (small_record head bytes)
         → (pos + length out.old ≤ length bytes) × (out.new ≡ bytes_at bytes pos (length out.old))) }
-    ensures page { OnOk result (V.tells volume.old → (index : Index) (body : List ℕ) → HasBody V.Ground volume.old index place body → length (V.image volume.old place.page.0) ≡ (V.geometry volume.old).page_size) }
+    ensures page { OnOk result (V.tells volume.old → (index : Index) (body : List ℕ)
+        → HasBody V.Ground volume.old index place body
+        → length (V.image volume.old place.page.0) ≡ (V.geometry volume.old).page_size) }
     ensures len { length out.new ≡ length out.old }
-    ensures sound { IfErr result (λ fault. IsDamage fault → V.tells volume.old → (index : Index) (body : List ℕ) (head : Head) (bytes : List ℕ) → HasBody V.Ground volume.old index place body → BodyOf body (small_record head bytes)
+    ensures sound { IfErr result (λ fault. IsDamage fault → V.tells volume.old
+        → (index : Index) (body : List ℕ) (head : Head) (bytes : List ℕ)
+        → HasBody V.Ground volume.old index place body → BodyOf body (small_record head bytes)
         → pos + length out.old ≤ length bytes → ⊥) }
-    ensures fault { IfErr result (λ fault. V.tells volume.old → IsStepFault (V.geometry volume.old) (V.image volume.old) place fault) }
+    ensures fault { IfErr result (λ fault. V.tells volume.old
+        → IsStepFault (V.geometry volume.old) (V.image volume.old) place fault) }
     ensures kept { Keeps V.Ground volume.old volume.new }
     ensures cause { HasCause (V.faults volume.old) (V.faults volume.new) result }
 {
@@ -187,13 +213,19 @@ pub fn read_at<V: ReadVolume>(
     out: &mut [u8],
 ) -> Result<(), PortFault>
     requires { V.ready volume.old }
-    ensures stands { OnOk result (V.tells volume.old → HasFileOf V.Ground volume.old oid.now.page.0 → Stands V.Ground volume.old oid.now) }
-    ensures bytes { OnOk result (V.tells volume.old → (index : Index) (content : Content) (bytes : List ℕ) → HoldsVersion V.Ground volume.old index oid.now content bytes
+    ensures stands { OnOk result (V.tells volume.old → HasFileOf V.Ground volume.old oid.now.page.0
+        → Stands V.Ground volume.old oid.now) }
+    ensures bytes { OnOk result (V.tells volume.old
+        → (index : Index) (content : Content) (bytes : List ℕ)
+        → HoldsVersion V.Ground volume.old index oid.now content bytes
         → (pos + length out.old ≤ length bytes) × (out.new ≡ bytes_at bytes pos (length out.old))) }
-    ensures sound { IfErr result (λ fault. IsDamage fault → V.tells volume.old → (index : Index) (content : Content) (bytes : List ℕ)
-        → HoldsVersion V.Ground volume.old index oid.now content bytes → pos + length out.old ≤ length bytes → ⊥) }
+    ensures sound { IfErr result (λ fault. IsDamage fault → V.tells volume.old
+        → (index : Index) (content : Content) (bytes : List ℕ)
+        → HoldsVersion V.Ground volume.old index oid.now content bytes
+        → pos + length out.old ≤ length bytes → ⊥) }
     ensures fault { IfErr result (λ fault. V.tells volume.old
-        → IsVersionFault (V.geometry volume.old) (V.unit volume.old) (V.image volume.old) oid.now fault) }
+        → IsVersionFault (V.geometry volume.old) (V.unit volume.old)
+        (V.image volume.old) oid.now fault) }
     ensures kept { Keeps V.Ground volume.old volume.new }
     ensures cause { HasCause (V.faults volume.old) (V.faults volume.new) result }
 {

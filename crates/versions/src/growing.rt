@@ -13,7 +13,7 @@ ghost use Rattle.trees.specs.Damage.{IsWhole, IsRootFault};
 ghost use Rattle.trees.specs.Made.{Extends, AreUsed};
 ghost use Rattle.trees.specs.Grown.{Turned};
 ghost use Rattle.trees.specs.Roots.{IsRootFor};
-ghost use Rattle.versions.specs.Versions.{HasVersion, AreInUse, Change, IsTreeShape, EditsVersion, StaysSmall, InRange, changed, count_of, lone_head, place_of};
+ghost use Rattle.version_model.specs.Versions.{HasVersion, AreInUse, Change, IsTreeShape, EditsVersion, StaysSmall, InRange, changed, count_of, lone_head, place_of};
 ghost use Rattle.ex_base.specs.Needs.{growth_need, replace_need, delete_need};
 ghost use Rattle.versions.specs.Needs.{most_need};
 ghost use Rattle.versions.specs.Edited.{change_of};
@@ -51,8 +51,12 @@ pub fn large_need(geometry: &Geometry, edit: &Edit, height: u8, area: Area) -> u
 fn has_units<V: Volume>(volume: &V, edit: &Edit, height: u8) -> bool
     requires ready { V.ready volume.now }
     requires count { count_of (change_of edit.now) ≤ object_most }
-    ensures yes { IsTrue result → (area : Area) → most_need (V.geometry volume.now) (change_of edit.now) height area ≤ V.free volume.now area }
-    ensures never { result ≡ false → ((area : Area) → most_need (V.geometry volume.now) (change_of edit.now) height area ≤ V.free volume.now area) → ⊥ }
+    ensures yes { IsTrue result → (area : Area)
+        → most_need (V.geometry volume.now) (change_of edit.now) height area
+        ≤ V.free volume.now area }
+    ensures never { result ≡ false → ((area : Area)
+        → most_need (V.geometry volume.now) (change_of edit.now) height area
+        ≤ V.free volume.now area) → ⊥ }
 {
     let geometry = volume.geometry();
     large_need(&geometry, edit, height, Area::Segment) <= u64::from(volume.free(Area::Segment))
@@ -63,8 +67,10 @@ fn has_units<V: Volume>(volume: &V, edit: &Edit, height: u8) -> bool
 fn has_first_units<V: Volume>(volume: &V, count: u64) -> bool
     requires ready { V.ready volume.now }
     requires count { count ≤ object_most }
-    ensures yes { IsTrue result → (area : Area) → growth_need (V.geometry volume.now) count 0 area ≤ V.free volume.now area }
-    ensures never { result ≡ false → ((area : Area) → growth_need (V.geometry volume.now) count 0 area ≤ V.free volume.now area) → ⊥ }
+    ensures yes { IsTrue result → (area : Area)
+        → growth_need (V.geometry volume.now) count 0 area ≤ V.free volume.now area }
+    ensures never { result ≡ false → ((area : Area)
+        → growth_need (V.geometry volume.now) count 0 area ≤ V.free volume.now area) → ⊥ }
 {
     let geometry = volume.geometry();
     growth_need(&geometry, count, 0, Area::Segment) <= u64::from(volume.free(Area::Segment))
@@ -74,7 +80,8 @@ fn has_first_units<V: Volume>(volume: &V, count: u64) -> bool
 /// Nothing where a root may stand in a record, else the fault of the page that it would be written on.
 fn check_root(geometry: &Geometry, root: &Root, page: PageNo) -> Result<(), PortFault>
     ensures kept { OnOk result (IsRootFor geometry.now root.now × IsPageField root.now.page) }
-    ensures never { IfErr result (λ fault. IsRootFor geometry.now root.now → IsPlaced root.now.page → ⊥) }
+    ensures never { IfErr result (λ fault. IsRootFor geometry.now root.now → IsPlaced root.now.page
+        → ⊥) }
     ensures fault { IfErr result (λ fault. fault ≡ root_fault page root.now) }
     ensures cause { (before now : ℕ) → HasCause before now result }
 {
@@ -98,11 +105,17 @@ fn put_root<V: Volume>(
 ) -> Result<(), PortFault>
     requires ready { V.ready volume.old }
     requires head { IsRecord (small_record head.now []) }
-    ensures put { OnOk result (V.tells volume.old → (index : Index) (was : List ℕ) → HasBody V.Ground volume.old index place was → PutsRecord V.Ground volume.old volume.new index place was (large_record head.now root.now)) }
+    ensures put { OnOk result (V.tells volume.old → (index : Index) (was : List ℕ)
+        → HasBody V.Ground volume.old index place was
+        → PutsRecord V.Ground volume.old volume.new index place was
+        (large_record head.now root.now)) }
     ensures free { OnOk result (V.free volume.new ≡ V.free volume.old) }
-    ensures sound { IfErr result (λ fault. IsDamage fault → V.tells volume.old → (index : Index) (was : List ℕ) → HasBody V.Ground volume.old index place was → 36 ≤ length was
+    ensures sound { IfErr result (λ fault. IsDamage fault → V.tells volume.old
+        → (index : Index) (was : List ℕ) → HasBody V.Ground volume.old index place was
+        → 36 ≤ length was
         → IsRootFor (V.geometry volume.old) root.now → IsPlaced root.now.page → ⊥) }
-    ensures fault { IfErr result (λ fault. V.tells volume.old → IsPutFault (V.geometry volume.old) place root.now fault) }
+    ensures fault { IfErr result (λ fault. V.tells volume.old
+        → IsPutFault (V.geometry volume.old) place root.now fault) }
     ensures leads { V.leads volume.old volume.new }
     ensures cause { HasCause (V.faults volume.old) (V.faults volume.new) result }
 {
@@ -124,18 +137,33 @@ fn edit_tree<V: Volume>(
     requires ready { V.ready volume.old }
     requires root { IsRootFor (V.geometry volume.old) root.now }
     requires range { InRange (change_of edit.now) root.now.size }
-    requires units { (area : Area) → most_need (V.geometry volume.old) (change_of edit.now) root.now.height area ≤ V.free volume.old area }
+    requires units { (area : Area)
+        → most_need (V.geometry volume.old) (change_of edit.now) root.now.height area
+        ≤ V.free volume.old area }
     ensures extends { OnOk result (Extends V.Ground volume.old volume.new) }
     ensures size { IfOk result (λ made. made.size ≤ object_most) }
-    ensures spells { IfOk result (λ made. V.tells volume.old → (bytes : List ℕ) → RootSpells (V.geometry volume.old) (V.unit volume.old) root.now bytes → AreUsed (V.used volume.old) (root_units (V.unit volume.old) root.now)
-        → RootSpells (V.geometry volume.new) (V.unit volume.new) made (changed (change_of edit.now) bytes)) }
-    ensures shape { IfOk result (λ made. V.tells volume.old → (bytes : List ℕ) → RootSpells (V.geometry volume.old) (V.unit volume.old) root.now bytes → AreUsed (V.used volume.old) (root_units (V.unit volume.old) root.now)
-        → IsTreeShape (V.geometry volume.old) (change_of edit.now) (root_shape (V.unit volume.old) root.now) (root_shape (V.unit volume.new) made)) }
-    ensures turned { IfOk result (λ made. V.tells volume.old → (bytes : List ℕ) → RootSpells (V.geometry volume.old) (V.unit volume.old) root.now bytes → AreUsed (V.used volume.old) (root_units (V.unit volume.old) root.now)
-        → Turned V.Ground volume.old volume.new (root_units (V.unit volume.old) root.now) (root_units (V.unit volume.new) made)) }
-    ensures free { OnOk result ((area : Area) → V.free volume.old area ≤ V.free volume.new area + most_need (V.geometry volume.old) (change_of edit.now) root.now.height area) }
-    ensures sound { IfErr result (λ fault. IsDamage fault → V.tells volume.old → IsWhole (V.geometry volume.old) (V.unit volume.old) root.now → ⊥) }
-    ensures fault { IfErr result (λ fault. V.tells volume.old → IsRootFault (V.geometry volume.old) (V.unit volume.old) root.now fault) }
+    ensures spells { IfOk result (λ made. V.tells volume.old → (bytes : List ℕ)
+        → RootSpells (V.geometry volume.old) (V.unit volume.old) root.now bytes
+        → AreUsed (V.used volume.old) (root_units (V.unit volume.old) root.now)
+        → RootSpells (V.geometry volume.new) (V.unit volume.new) made
+        (changed (change_of edit.now) bytes)) }
+    ensures shape { IfOk result (λ made. V.tells volume.old → (bytes : List ℕ)
+        → RootSpells (V.geometry volume.old) (V.unit volume.old) root.now bytes
+        → AreUsed (V.used volume.old) (root_units (V.unit volume.old) root.now)
+        → IsTreeShape (V.geometry volume.old) (change_of edit.now)
+        (root_shape (V.unit volume.old) root.now) (root_shape (V.unit volume.new) made)) }
+    ensures turned { IfOk result (λ made. V.tells volume.old → (bytes : List ℕ)
+        → RootSpells (V.geometry volume.old) (V.unit volume.old) root.now bytes
+        → AreUsed (V.used volume.old) (root_units (V.unit volume.old) root.now)
+        → Turned V.Ground volume.old volume.new (root_units (V.unit volume.old) root.now)
+        (root_units (V.unit volume.new) made)) }
+    ensures free { OnOk result ((area : Area)
+        → V.free volume.old area ≤ V.free volume.new area
+        + most_need (V.geometry volume.old) (change_of edit.now) root.now.height area) }
+    ensures sound { IfErr result (λ fault. IsDamage fault → V.tells volume.old
+        → IsWhole (V.geometry volume.old) (V.unit volume.old) root.now → ⊥) }
+    ensures fault { IfErr result (λ fault. V.tells volume.old
+        → IsRootFault (V.geometry volume.old) (V.unit volume.old) root.now fault) }
     ensures leads { V.leads volume.old volume.new }
     ensures cause { HasCause (V.faults volume.old) (V.faults volume.new) result }
 {
@@ -160,13 +188,24 @@ pub(crate) fn edit_large<V: Volume>(
     requires head { IsRecord (small_record head.now []) }
     requires root { IsRootFor (V.geometry volume.old) root.now }
     requires range { InRange (change_of edit.now) root.now.size }
-    ensures size { IfOk result (λ size. V.tells volume.old → (index : Index) (bytes : List ℕ) → HasVersion V.Ground volume.old index oid.now (Large root.now) bytes → size ≡ length (changed (change_of edit.now) bytes)) }
-    ensures edited { OnOk result (V.tells volume.old → AreInUse V.Ground volume.old → head.now ≡ lone_head oid.now.unique → (index : Index) (bytes : List ℕ) → HasVersion V.Ground volume.old index oid.now (Large root.now) bytes
-        → EditsVersion V.Ground volume.old volume.new index oid.now (Large root.now) (change_of edit.now) (changed (change_of edit.now) bytes)) }
-    ensures free { OnOk result ((area : Area) → V.free volume.old area ≤ V.free volume.new area + most_need (V.geometry volume.old) (change_of edit.now) root.now.height area) }
-    ensures sound { IfErr result (λ fault. IsDamage fault → V.tells volume.old → AreInUse V.Ground volume.old → (index : Index) (bytes : List ℕ) → HasVersion V.Ground volume.old index oid.now (Large root.now) bytes
-        → ((area : Area) → most_need (V.geometry volume.old) (change_of edit.now) root.now.height area ≤ V.free volume.old area) → ⊥) }
-    ensures fault { IfErr result (λ fault. V.tells volume.old → IsBytesFault (V.geometry volume.old) (V.unit volume.old) oid.now root.now fault) }
+    ensures size { IfOk result (λ size. V.tells volume.old → (index : Index) (bytes : List ℕ)
+        → HasVersion V.Ground volume.old index oid.now (Large root.now) bytes
+        → size ≡ length (changed (change_of edit.now) bytes)) }
+    ensures edited { OnOk result (V.tells volume.old → AreInUse V.Ground volume.old
+        → head.now ≡ lone_head oid.now.unique → (index : Index) (bytes : List ℕ)
+        → HasVersion V.Ground volume.old index oid.now (Large root.now) bytes
+        → EditsVersion V.Ground volume.old volume.new index oid.now (Large root.now)
+        (change_of edit.now) (changed (change_of edit.now) bytes)) }
+    ensures free { OnOk result ((area : Area)
+        → V.free volume.old area ≤ V.free volume.new area
+        + most_need (V.geometry volume.old) (change_of edit.now) root.now.height area) }
+    ensures sound { IfErr result (λ fault. IsDamage fault → V.tells volume.old
+        → AreInUse V.Ground volume.old → (index : Index) (bytes : List ℕ)
+        → HasVersion V.Ground volume.old index oid.now (Large root.now) bytes
+        → ((area : Area) → most_need (V.geometry volume.old)
+        (change_of edit.now) root.now.height area ≤ V.free volume.old area) → ⊥) }
+    ensures fault { IfErr result (λ fault. V.tells volume.old
+        → IsBytesFault (V.geometry volume.old) (V.unit volume.old) oid.now root.now fault) }
     ensures leads { V.leads volume.old volume.new }
     ensures cause { HasCause (V.faults volume.old) (V.faults volume.new) result }
 {
@@ -193,12 +232,22 @@ pub(crate) fn convert<V: Volume>(
     requires limit { length bytes.now ≤ object_most }
     requires page { length bytes.now ≤ count + (V.geometry volume.old).page_size }
     ensures size { IfOk result (λ size. size ≡ length bytes.now) }
-    ensures edited { OnOk result (V.tells volume.old → AreInUse V.Ground volume.old → head.now ≡ lone_head oid.now.unique → (index : Index) (held : List ℕ) → HasVersion V.Ground volume.old index oid.now (Small held) held
-        → (StaysSmall V.Ground volume.old (place_of oid.now) (Small held) (length bytes.now) → ⊥) → (change : Change) → EditsVersion V.Ground volume.old volume.new index oid.now (Small held) change bytes.now) }
-    ensures free { OnOk result ((area : Area) → V.free volume.old area ≤ V.free volume.new area + growth_need (V.geometry volume.old) count 0 area) }
-    ensures sound { IfErr result (λ fault. IsDamage fault → V.tells volume.old → AreInUse V.Ground volume.old → (index : Index) (held : List ℕ) → HasVersion V.Ground volume.old index oid.now (Small held) held
-        → ((area : Area) → growth_need (V.geometry volume.old) count 0 area ≤ V.free volume.old area) → ⊥) }
-    ensures fault { IfErr result (λ fault. V.tells volume.old → IsBytesFault (V.geometry volume.old) (V.unit volume.old) oid.now no_tree fault) }
+    ensures edited { OnOk result (V.tells volume.old → AreInUse V.Ground volume.old
+        → head.now ≡ lone_head oid.now.unique → (index : Index) (held : List ℕ)
+        → HasVersion V.Ground volume.old index oid.now (Small held) held
+        → (StaysSmall V.Ground volume.old (place_of oid.now) (Small held) (length bytes.now) → ⊥)
+        → (change : Change) → EditsVersion V.Ground volume.old volume.new index oid.now
+        (Small held) change bytes.now) }
+    ensures free { OnOk result ((area : Area)
+        → V.free volume.old area ≤ V.free volume.new area
+        + growth_need (V.geometry volume.old) count 0 area) }
+    ensures sound { IfErr result (λ fault. IsDamage fault → V.tells volume.old
+        → AreInUse V.Ground volume.old → (index : Index) (held : List ℕ)
+        → HasVersion V.Ground volume.old index oid.now (Small held) held
+        → ((area : Area) → growth_need (V.geometry volume.old) count 0 area
+        ≤ V.free volume.old area) → ⊥) }
+    ensures fault { IfErr result (λ fault. V.tells volume.old
+        → IsBytesFault (V.geometry volume.old) (V.unit volume.old) oid.now no_tree fault) }
     ensures leads { V.leads volume.old volume.new }
     ensures cause { HasCause (V.faults volume.old) (V.faults volume.new) result }
 {

@@ -7,7 +7,7 @@ ghost use Rattle.file_index.specs.declared.Index.{Index};
 ghost use Rattle.file_bodies.specs.Bodies.{bodies_of};
 ghost use Rattle.file_bodies.specs.Files.{HasFile, HasBody};
 ghost use Rattle.versions.specs.Damage.{record_fault, IsStepFault, IsListingFault};
-ghost use Rattle.versions.specs.Listed.{oids_in, oids_of, rank_of, start_rank, AreByNumber, AreReadable};
+ghost use Rattle.version_model.specs.Listed.{oids_in, oids_of, rank_of, start_rank, AreByNumber, AreReadable};
 
 use crate::recorded::{check, no_record};
 use ex_base::{Oid, Place, PortFault, ReadVolume};
@@ -51,8 +51,10 @@ fn head_of(body: &[u8], place: Place) -> Result<Head, PortFault>
 
 /// The head of the record in the body at a place, where one stands there.
 fn head_on(body: Option<&[u8]>, place: Place) -> Result<Head, PortFault>
-    ensures head { IfOk result (λ head. IfSome body.entry (λ body. head ≡ (record_on body.now).head)) }
-    ensures sound { IfErr result (λ fault. IfSome body.entry (λ body. (is : Record) → BodyOf body.now is → ⊥)) }
+    ensures head { IfOk result (λ head. IfSome body.entry (λ body. head
+        ≡ (record_on body.now).head)) }
+    ensures sound { IfErr result (λ fault. IfSome body.entry (λ body. (is : Record)
+        → BodyOf body.now is → ⊥)) }
     ensures none { OnOk result (IsSome body.entry) }
     ensures fault { IfErr result (λ fault. fault ≡ record_fault place) }
     ensures cause { (before now : ℕ) → HasCause before now result }
@@ -66,9 +68,13 @@ fn head_on(body: Option<&[u8]>, place: Place) -> Result<Head, PortFault>
 /// The head of the record at a place.
 fn head_at<V: ReadVolume>(volume: &mut V, alloc: Global, place: Place) -> Result<Head, PortFault>
     requires { V.ready volume.old }
-    ensures head { IfOk result (λ head. V.tells volume.old → (index : Index) (body : List ℕ) → HasBody V.Ground volume.old index place body → head ≡ (record_on body).head) }
-    ensures sound { IfErr result (λ fault. IsDamage fault → V.tells volume.old → (index : Index) (body : List ℕ) (is : Record) → HasBody V.Ground volume.old index place body → BodyOf body is → ⊥) }
-    ensures fault { IfErr result (λ fault. V.tells volume.old → IsStepFault (V.geometry volume.old) (V.image volume.old) place fault) }
+    ensures head { IfOk result (λ head. V.tells volume.old → (index : Index) (body : List ℕ)
+        → HasBody V.Ground volume.old index place body → head ≡ (record_on body).head) }
+    ensures sound { IfErr result (λ fault. IsDamage fault → V.tells volume.old
+        → (index : Index) (body : List ℕ) (is : Record)
+        → HasBody V.Ground volume.old index place body → BodyOf body is → ⊥) }
+    ensures fault { IfErr result (λ fault. V.tells volume.old
+        → IsStepFault (V.geometry volume.old) (V.image volume.old) place fault) }
     ensures kept { Keeps V.Ground volume.old volume.new }
     ensures cause { HasCause (V.faults volume.old) (V.faults volume.new) result }
 {
@@ -107,13 +113,17 @@ fn list_place<V: ReadVolume>(
     oids: &mut Vec<Oid>,
 ) -> Result<(), PortFault>
     requires { V.ready volume.old }
-    ensures listed { OnOk result (V.tells volume.old → (index : Index) (body : List ℕ) → HasBody V.Ground volume.old index place body
+    ensures listed { OnOk result (V.tells volume.old → (index : Index) (body : List ℕ)
+        → HasBody V.Ground volume.old index place body
         → oids.new.items ≡ oids.old.items ++ oids_in place (record_on body).head) }
     ensures rises { OnOk result (start_rank after ≤ rank_of place) }
     ensures short { OnOk result (place.slot < 65536) }
-    ensures sound { IfErr result (λ fault. IsDamage fault → V.tells volume.old → start_rank after ≤ rank_of place
-        → (index : Index) (body : List ℕ) (is : Record) → HasBody V.Ground volume.old index place body → BodyOf body is → ⊥) }
-    ensures fault { IfErr result (λ fault. V.tells volume.old → IsStepFault (V.geometry volume.old) (V.image volume.old) place fault) }
+    ensures sound { IfErr result (λ fault. IsDamage fault → V.tells volume.old
+        → start_rank after ≤ rank_of place
+        → (index : Index) (body : List ℕ) (is : Record)
+        → HasBody V.Ground volume.old index place body → BodyOf body is → ⊥) }
+    ensures fault { IfErr result (λ fault. V.tells volume.old
+        → IsStepFault (V.geometry volume.old) (V.image volume.old) place fault) }
     ensures kept { Keeps V.Ground volume.old volume.new }
     ensures cause { HasCause (V.faults volume.old) (V.faults volume.new) result }
 {
@@ -129,11 +139,14 @@ fn list_file<V: ReadVolume>(
     file_no: u32,
 ) -> Result<Vec<Oid>, PortFault>
     requires { V.ready volume.old }
-    ensures oids { IfOk result (λ oids. V.tells volume.old → (index : Index) → HasFile V.Ground volume.old index → index.file_no ≡ file_no
+    ensures oids { IfOk result (λ oids. V.tells volume.old → (index : Index)
+        → HasFile V.Ground volume.old index → index.file_no ≡ file_no
         → oids.items ≡ oids_of (bodies_of (V.image volume.old) index)) }
-    ensures sound { IfErr result (λ fault. IsDamage fault → V.tells volume.old → (index : Index) → HasFile V.Ground volume.old index → index.file_no ≡ file_no
+    ensures sound { IfErr result (λ fault. IsDamage fault → V.tells volume.old → (index : Index)
+        → HasFile V.Ground volume.old index → index.file_no ≡ file_no
         → AreReadable (bodies_of (V.image volume.old) index) → ⊥) }
-    ensures fault { IfErr result (λ fault. V.tells volume.old → IsListingFault (V.geometry volume.old) (V.image volume.old) file_no fault) }
+    ensures fault { IfErr result (λ fault. V.tells volume.old
+        → IsListingFault (V.geometry volume.old) (V.image volume.old) file_no fault) }
     ensures kept { Keeps V.Ground volume.old volume.new }
     ensures cause { HasCause (V.faults volume.old) (V.faults volume.new) result }
 {
@@ -160,12 +173,15 @@ pub fn objects<V: ReadVolume>(
     file_no: u32,
 ) -> Result<Vec<Oid>, PortFault>
     requires { V.ready volume.old }
-    ensures oids { IfOk result (λ oids. V.tells volume.old → (index : Index) → HasFile V.Ground volume.old index → index.file_no ≡ file_no
+    ensures oids { IfOk result (λ oids. V.tells volume.old → (index : Index)
+        → HasFile V.Ground volume.old index → index.file_no ≡ file_no
         → IsPermutation (oids_of (bodies_of (V.image volume.old) index)) oids.items) }
     ensures ordered { IfOk result (λ oids. AreByNumber oids.items) }
-    ensures sound { IfErr result (λ fault. IsDamage fault → V.tells volume.old → (index : Index) → HasFile V.Ground volume.old index → index.file_no ≡ file_no
+    ensures sound { IfErr result (λ fault. IsDamage fault → V.tells volume.old → (index : Index)
+        → HasFile V.Ground volume.old index → index.file_no ≡ file_no
         → AreReadable (bodies_of (V.image volume.old) index) → ⊥) }
-    ensures fault { IfErr result (λ fault. V.tells volume.old → IsListingFault (V.geometry volume.old) (V.image volume.old) file_no fault) }
+    ensures fault { IfErr result (λ fault. V.tells volume.old
+        → IsListingFault (V.geometry volume.old) (V.image volume.old) file_no fault) }
     ensures kept { Keeps V.Ground volume.old volume.new }
     ensures cause { HasCause (V.faults volume.old) (V.faults volume.new) result }
 {

@@ -27,7 +27,7 @@ use Rattle.object_records.specs.Record.{Content, Record, BodyOf}
 use Rattle.trees.specs.Trees.{Units, root_units}
 use Rattle.trees.specs.Made.{Has, IsTaken}
 use Rattle.table_model.specs.Tables.{with_bytes}
-use Rattle.versions.specs.Versions.{HasVersion, Change, EditsVersion, IsTreeUnit, place_of, lone_head, content_units}
+use Rattle.version_model.specs.Versions.{HasVersion, Change, EditsVersion, IsTreeUnit, place_of, lone_head, content_units}
 use Rattle.volume_model.specs.Parts.{IsStored}
 use Rattle.volume_model.specs.Volume.{Stored, Volume, file_pages, unique_of, line_number, oid_of, roots_in, root_in, reach_of}
 use Rattle.volume_edits.specs.Ported.{IsVolume, IsApart, units_in}

@@ -22,7 +22,7 @@ use Rattle.table_model.specs.declared.table.Object.{Object}
 use Rattle.table_model.specs.declared.table.TableFile.{TableFile}
 use Rattle.table_model.specs.declared.table.Table.{Table}
 use Rattle.table_model.specs.Tables.{has_name, object_added, with_object}
-use Rattle.versions.specs.Versions.{CreatesVersion, AreInUse, place_of, new_record}
+use Rattle.version_model.specs.Versions.{AreInUse, PutsVersion, new_record, place_of}
 use Rattle.volume_model.specs.Parts.{IsStored}
 use Rattle.volume_model.specs.Volume.{Stored, Line, FileContent, Volume, line_records, stored_in, file_pages, unique_of, line_number, object_of, file_of, table_of}
 use Rattle.volume_edits.specs.Ported.{IsVolume, IsApart, units_in}
@@ -163,7 +163,7 @@ own_none (Some x) h = absurd h
 
 module _ {S : Type 0} (g : ground.Ghosts S) (old new : S) (records : List LogRecord) (v : Volume) (vol : IsVolume g old records v) (index : Index) (oid : Oid) (e : FileEntry)
     (geometry : g.geometry new ≡ g.geometry old) (apart : IsApart g new) (in_use : AreInUse g new) (file : HasFile g old index) (entry : Contains v.catalog.entries e) (its : e.file_no ≡ index.file_no)
-    (some : 1 ≤ oid.unique) (below : oid.unique < v.catalog.next_unique) (above : AllByRecursion (λ (s : Stored). unique_of s < oid.unique) (stored_in v)) (creates : CreatesVersion g old new index oid) where
+    (some : 1 ≤ oid.unique) (below : oid.unique < v.catalog.next_unique) (above : AllByRecursion (λ (s : Stored). unique_of s < oid.unique) (stored_in v)) (creates : PutsVersion g old new index oid) where
   record Given (w : Volume) : Type 0 where
     volume : IsVolume g old records w
     there : In e w.catalog.entries
@@ -172,7 +172,7 @@ module _ {S : Type 0} (g : ground.Ghosts S) (old new : S) (records : List LogRec
 
   pub creates_object : MovesVolume g old new records v [] (with_object oid e.name (table_of (units_in g old) v))
   creates_object =
-      let rows = creates.places.edit.bodies in
+      let rows = creates.puts.edit.bodies in
       let p : Placed (g.image old) v index rows.front rows.back (place_of oid) None = placed g old records v vol.shows index rows.front rows.back (place_of oid) None file.entry rows.before in
       let same : v ≡ filled p.hole (g.image old) index None = p.same ∙ ap (filled p.hole (g.image old) index) (own_none p.was p.own) in
       let given : Given (filled p.hole (g.image old) index None) = subst Given same (record { volume = vol; there = in_contains e v.catalog.entries entry; lower = below; higher = above }) in
@@ -180,4 +180,4 @@ module _ {S : Type 0} (g : ground.Ghosts S) (old new : S) (records : List LogRec
       let name : p.hole.name ≡ e.name = ap name_of (sym known) in
       subst (λ (w : Volume). MovesVolume g old new records w [] (with_object oid e.name (table_of (units_in g old) w))) (sym same)
       (subst (λ (n : List ℕ). MovesVolume g old new records (filled p.hole (g.image old) index None) [] (with_object oid n (table_of (units_in g old) (filled p.hole (g.image old) index None)))) name
-      (created_volume g old new records p.hole index creates.places.after given.volume oid creates.body geometry apart in_use file some given.lower given.higher creates.spelled creates.places.edit p.number p.paired p.front_rows p.back_rows (p.last refl)))
+      (created_volume g old new records p.hole index creates.puts.after given.volume oid creates.body geometry apart in_use file some given.lower given.higher creates.spelled creates.puts.edit p.number p.paired p.front_rows p.back_rows (p.last refl)))

@@ -26,7 +26,7 @@ use Rattle.table_model.specs.declared.table.Object.{Object}
 use Rattle.table_model.specs.declared.table.TableFile.{TableFile}
 use Rattle.table_model.specs.Tables.{current, has_name, file_at}
 use Rattle.table_model.specs.Steps.{current_oids, objects_if}
-use Rattle.versions.specs.Listed.{oid_at, oids_by, oids_in, oids_of, AreByNumber}
+use Rattle.version_model.specs.Listed.{oid_at, oids_by, oids_in, oids_of, AreByNumber}
 use Rattle.volume_model.specs.Parts.{HasLines, IsStored, IsLine}
 use Rattle.volume_model.specs.Volume.{Stored, Line, FileContent, Volume, line_records, line_number, oid_of, object_of, file_of, table_of}
 use Rattle.volume_edits.specs.Ported.{ShowsVolume, units_in, index_named, HasContent}

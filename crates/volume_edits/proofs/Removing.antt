@@ -16,7 +16,7 @@ use Rattle.file_bodies.specs.Places.{RemovesBody}
 use Rattle.object_records.specs.Record.{Content, Record}
 use Rattle.trees.specs.Trees.{root_units}
 use Rattle.table_model.specs.Tables.{without_object}
-use Rattle.versions.specs.Versions.{HasVersion, AreInUse, place_of, lone_head, content_units}
+use Rattle.version_model.specs.Versions.{HasVersion, AreInUse, place_of, lone_head, content_units}
 use Rattle.volume_model.specs.Parts.{IsStored}
 use Rattle.volume_model.specs.Volume.{Stored, Volume, file_pages, unique_of, line_number, table_of, roots_in, root_in}
 use Rattle.volume_edits.specs.Ported.{IsVolume, IsApart, units_in}

@@ -22,7 +22,7 @@ use Rattle.object_files.specs.Catalog.{FileEntry, Catalog, CatalogOf, number_of}
 use Rattle.object_files.specs.Reads.{catalog_on}
 use Rattle.object_files.specs.Edits.{indexed}
 use Rattle.object_files.proofs.CatalogLaws.{catalog_read}
-use Rattle.versions.specs.Versions.{AreInUse}
+use Rattle.version_model.specs.Versions.{AreInUse}
 use Rattle.volume_model.specs.Volume.{Stored, file_pages}
 use Rattle.volume_edits.specs.Ported.{ShowsVolume, IsApart}
 use Rattle.volume_edits.proofs.Lists.{key_differs}

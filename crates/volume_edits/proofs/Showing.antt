@@ -20,7 +20,7 @@ use Rattle.object_records.proofs.RecordLaws.{record_read}
 use Rattle.table_model.specs.declared.table.Object.{Object}
 use Rattle.table_model.specs.declared.table.Version.{Version}
 use Rattle.table_model.specs.Tables.{version_at, has_oid, versions_of, is_current, is_current_of, objects_of}
-use Rattle.versions.specs.Versions.{HasRecord, Spells, IsTreeUnit, place_of, lone_head, content_units, Stands}
+use Rattle.version_model.specs.Versions.{HasRecord, Spells, IsTreeUnit, place_of, lone_head, content_units, Stands}
 use Rattle.volume_model.specs.Parts.{HasLines, IsLine, HasBalance}
 use Rattle.volume_model.specs.Volume.{Stored, FileContent, Volume, lines_of, stored_in, object_of, unique_of, oid_of, version_of, content_in, table_of, root_in, roots_in}
 use Rattle.volume_edits.specs.Ported.{ShowsVolume, IsVolume, units_in, index_named}

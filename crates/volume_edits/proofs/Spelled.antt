@@ -17,7 +17,7 @@ use Rattle.file_index.specs.declared.Index.{Index}
 use Rattle.file_bodies.specs.Bodies.{Row, bodies_of, pages_in}
 use Rattle.object_records.specs.Record.{Content, Small, Large, Record, BodyOf}
 use Rattle.trees.specs.Trees.{root_units, RootNamed}
-use Rattle.versions.specs.Versions.{HasRecord, Spells, IsTreeUnit, place_of, content_units}
+use Rattle.version_model.specs.Versions.{HasRecord, Spells, IsTreeUnit, place_of, content_units}
 use Rattle.volume_model.specs.Volume.{Stored, FileContent, line_records, stored_in, unique_of, line_number, root_in, content_in}
 use Rattle.volume_edits.specs.Ported.{ShowsVolume, IsApart, units_in}
 use Rattle.volume_edits.proofs.Lists.{map_around, times_around}

@@ -7,7 +7,7 @@ use Rattle.file_index.specs.declared.Index.{Index}
 use Rattle.object_records.specs.Record.{Content, Small, Large}
 use Rattle.trees.specs.Trees.{Units, root_shape}
 use Rattle.table_model.specs.declared.table.Version.{Version}
-use Rattle.versions.specs.Versions.{HasRecord, HasVersion, Spells, content_units, lone_head}
+use Rattle.version_model.specs.Versions.{HasRecord, HasVersion, Spells, content_units, lone_head}
 use Rattle.volume_edits.specs.Ported.{units_in}
 
 -- the tree of a large content has the same shape over both

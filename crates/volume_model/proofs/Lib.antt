@@ -7,4 +7,5 @@ pub mod OneReading
 pub mod OneVolume
 pub mod RulesOfTable
 pub mod WholeUnits
+pub mod NoneBad
 pub mod OpenedView

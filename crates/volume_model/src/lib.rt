@@ -30,12 +30,20 @@ pub fn one_first_bad_part()
 
 /// An image that stands for a table has no part that fails.
 pub fn a_table_has_no_bad_part()
-    ensures { (disk : List ℕ) (table : Table) (part : Part) → StandsFor disk table → FirstBad disk part → ⊥ }
+    ensures { (disk : List ℕ) (table : Table) (part : Part) → StandsFor disk table
+        → FirstBad disk part → ⊥ }
+{}
+
+/// An image without a part that fails stands for a table: there can't be none.
+pub fn an_image_without_a_bad_part_stands_for_a_table()
+    ensures { (disk : List ℕ) → ((part : Part) → FirstBad disk part → ⊥) → ((table : Table)
+        → StandsFor disk table → ⊥) → ⊥ }
 {}
 
 /// An image that agrees with a disk on the bytes that no crash may change stands for the disk's table.
 pub fn what_agrees_stands_for_the_table()
-    ensures { (disk image : List ℕ) (decoded : Decoded) → Decodes disk decoded → Agrees decoded disk image
+    ensures { (disk image : List ℕ) (decoded : Decoded) → Decodes disk decoded
+        → Agrees decoded disk image
         → StandsFor image (table_of (units_of decoded disk) decoded.volume) }
 {}
 
@@ -47,15 +55,18 @@ pub fn a_fresh_volume_stands_for_the_empty_table()
 
 /// The table that an image stands for keeps the rules of tables.
 pub fn a_volume_stands_for_a_table_with_the_rules()
-    ensures { (g : Geometry) (image : List ℕ) (table : Table) → SuperOf image g → StandsFor image table → IsTable g table }
+    ensures { (g : Geometry) (image : List ℕ) (table : Table) → SuperOf image g
+        → StandsFor image table → IsTable g table }
 {}
 
 /// A session that was just opened shows the table that the volume stood for: no record counts any more and nothing is pending, the volume's table stayed
 /// as it was, and the session knows which units and logged pages the volume has.
 pub fn an_opened_volume_shows_its_table()
-    ensures { (d : Decoded) (image disk : List ℕ) (log : LogState) (used held : ℕ → Bool) (table : Table) → Decodes image d → StandsFor image table
+    ensures { (d : Decoded) (image disk : List ℕ) (log : LogState) (used held : ℕ
+        → Bool) (table : Table) → Decodes image d → StandsFor image table
         → Committed (λ left. left ≡ disk) (with_records d [] d.volume) disk log []
-        → table_of (units_of (with_records d [] d.volume) disk) d.volume ≡ table_of (units_of d image) d.volume
+        → table_of (units_of (with_records d [] d.volume) disk) d.volume
+        ≡ table_of (units_of d image) d.volume
         → KnowsUnits (with_records d [] d.volume) disk used held
         → OpenedView (λ left. left ≡ disk) (with_records d [] d.volume) disk log used held table }
 {}

@@ -18,10 +18,12 @@ impl<'a, D: Disk> VolumePort<'a, D> {
     fn fill(&mut self, alloc: Global, page: PageNo) -> Result<(), PortFault>
         requires ready { ⟦<VolumePort<'a, D> as Ground>⟧.ready self.old }
         requires page { InPageArea self.old.store.geometry page.0 }
-        ensures bytes { OnOk result (⟦<VolumePort<'a, D> as Ground>⟧.tells self.old → self.new.room.now ≡ ⟦<VolumePort<'a, D> as Ground>⟧.image self.old page.0) }
+        ensures bytes { OnOk result (⟦<VolumePort<'a, D> as Ground>⟧.tells self.old
+            → self.new.room.now ≡ ⟦<VolumePort<'a, D> as Ground>⟧.image self.old page.0) }
         ensures kept { Keeps ⟦<VolumePort<'a, D> as Ground>⟧ self.old self.new }
         ensures no_damage { IfErr result (λ fault. IsDamage fault → ⊥) }
-        ensures cause { HasCause (⟦<VolumePort<'a, D> as Ground>⟧.faults self.old) (⟦<VolumePort<'a, D> as Ground>⟧.faults self.new) result }
+        ensures cause { HasCause (⟦<VolumePort<'a, D> as Ground>⟧.faults self.old)
+            (⟦<VolumePort<'a, D> as Ground>⟧.faults self.new) result }
     {
         read_page(&mut self.store, self.meta, alloc, page, self.room)
     }
@@ -44,8 +46,10 @@ fn free_taken(units: &mut Units, page: PageNo, taken: bool)
     ensures no_more { (p : ℕ) → used_at units.new p ≡ true → used_at units.old p ≡ true }
     ensures refs { refs_at units.new ≡ refs_at units.old }
     ensures geometry { units.new.geometry ≡ units.old.geometry }
-    ensures pages { free_count units.old.geometry (used_at units.old) Page ≤ free_count units.new.geometry (used_at units.new) Page }
-    ensures leaves { free_count units.new.geometry (used_at units.new) Segment ≡ free_count units.old.geometry (used_at units.old) Segment }
+    ensures pages { free_count units.old.geometry (used_at units.old) Page
+        ≤ free_count units.new.geometry (used_at units.new) Page }
+    ensures leaves { free_count units.new.geometry (used_at units.new) Segment
+        ≡ free_count units.old.geometry (used_at units.old) Segment }
 {
     if taken && units.is_used(page) && units.refs(page) == 0 {
         units.give(page);
@@ -83,15 +87,22 @@ impl<'a, D: Disk> Pages for VolumePort<'a, D> {
         requires ready { ⟦<VolumePort<'a, D> as Ground>⟧.ready self.old }
         requires free { 1 ≤ ⟦<VolumePort<'a, D> as Ground>⟧.free self.old Page }
         requires len { length image.now ≡ self.old.store.geometry.page_size }
-        ensures taken { IfOk result (λ page. TakesPage ⟦<VolumePort<'a, D> as Ground>⟧ self.old self.new page.0 image.now) }
-        ensures lowest { IfOk result (λ page. IsLowest self.old.store.geometry (used_at self.old.store.units.now) Page page.0) }
+        ensures taken { IfOk result
+            (λ page. TakesPage ⟦<VolumePort<'a, D> as Ground>⟧ self.old self.new page.0 image.now) }
+        ensures lowest { IfOk result
+            (λ page. IsLowest self.old.store.geometry
+            (used_at self.old.store.units.now) Page page.0) }
         ensures noted { IfOk result (λ page. is_taken self.new.pages.now page.0 ≡ true) }
-        ensures pages { OnOk result (⟦<VolumePort<'a, D> as Ground>⟧.free self.new Page + 1 ≡ ⟦<VolumePort<'a, D> as Ground>⟧.free self.old Page) }
-        ensures leaves { OnOk result (⟦<VolumePort<'a, D> as Ground>⟧.free self.new Segment ≡ ⟦<VolumePort<'a, D> as Ground>⟧.free self.old Segment) }
+        ensures pages { OnOk result (⟦<VolumePort<'a, D> as Ground>⟧.free self.new Page + 1
+            ≡ ⟦<VolumePort<'a, D> as Ground>⟧.free self.old Page) }
+        ensures leaves { OnOk result (⟦<VolumePort<'a, D> as Ground>⟧.free self.new Segment
+            ≡ ⟦<VolumePort<'a, D> as Ground>⟧.free self.old Segment) }
         ensures no_damage { IfErr result (λ fault. IsDamage fault → ⊥) }
-        ensures touched { ⟦<VolumePort<'a, D> as Ground>⟧.touched self.new ≤ ⟦<VolumePort<'a, D> as Ground>⟧.touched self.old + 1 }
+        ensures touched { ⟦<VolumePort<'a, D> as Ground>⟧.touched self.new
+            ≤ ⟦<VolumePort<'a, D> as Ground>⟧.touched self.old + 1 }
         ensures leads { ⟦<VolumePort<'a, D> as Ground>⟧.leads self.old self.new }
-        ensures cause { HasCause (⟦<VolumePort<'a, D> as Ground>⟧.faults self.old) (⟦<VolumePort<'a, D> as Ground>⟧.faults self.new) result }
+        ensures cause { HasCause (⟦<VolumePort<'a, D> as Ground>⟧.faults self.old)
+            (⟦<VolumePort<'a, D> as Ground>⟧.faults self.new) result }
     {
         let page = self.store.units.take(Area::Page);
         if self.pages.holds(page) {
@@ -106,15 +117,20 @@ impl<'a, D: Disk> Pages for VolumePort<'a, D> {
         requires ready { ⟦<VolumePort<'a, D> as Ground>⟧.ready self.old }
         requires page { InPageArea self.old.store.geometry page.0 }
         requires other { page.0 ≢ catalog_no }
-        ensures given { OnOk result (GivesPage ⟦<VolumePort<'a, D> as Ground>⟧ self.old self.new page.0) }
+        ensures given { OnOk result
+            (GivesPage ⟦<VolumePort<'a, D> as Ground>⟧ self.old self.new page.0) }
         ensures noted { OnOk result (lookup (nat_eq page.0) self.new.meta.now.working ≡ Some None) }
-        ensures freed { OnOk result (is_taken self.old.pages.now page.0 ≡ true → refs_at self.old.store.units.now page.0 ≡ 0
+        ensures freed { OnOk result (is_taken self.old.pages.now page.0 ≡ true
+            → refs_at self.old.store.units.now page.0 ≡ 0
             → used_at self.new.store.units.now page.0 ≡ false) }
-        ensures kept { OnOk result (is_taken self.old.pages.now page.0 ≡ false → self.new.store.units.now ≡ self.old.store.units.now) }
+        ensures kept { OnOk result (is_taken self.old.pages.now page.0 ≡ false
+            → self.new.store.units.now ≡ self.old.store.units.now) }
         ensures no_damage { IfErr result (λ fault. IsDamage fault → ⊥) }
-        ensures touched { ⟦<VolumePort<'a, D> as Ground>⟧.touched self.new ≤ ⟦<VolumePort<'a, D> as Ground>⟧.touched self.old + 1 }
+        ensures touched { ⟦<VolumePort<'a, D> as Ground>⟧.touched self.new
+            ≤ ⟦<VolumePort<'a, D> as Ground>⟧.touched self.old + 1 }
         ensures leads { ⟦<VolumePort<'a, D> as Ground>⟧.leads self.old self.new }
-        ensures cause { HasCause (⟦<VolumePort<'a, D> as Ground>⟧.faults self.old) (⟦<VolumePort<'a, D> as Ground>⟧.faults self.new) result }
+        ensures cause { HasCause (⟦<VolumePort<'a, D> as Ground>⟧.faults self.old)
+            (⟦<VolumePort<'a, D> as Ground>⟧.faults self.new) result }
     {
         self.meta.gone(page)?;
         let taken = self.pages.took(page);

@@ -29,11 +29,14 @@ pub fn read_page<'a, D: Disk>(
     requires geometry { meta.now.geometry ≡ store.old.geometry }
     requires page { InPageArea store.old.geometry page.0 }
     requires room { length room.old ≡ store.old.geometry.page_size }
-    ensures bytes { OnOk result (⟦<Store<'a, D> as Ground>⟧.tells store.old → room.new ≡ image_over store.old.geometry meta.now (⟦<Store<'a, D> as Ground>⟧.unit store.old) page.0) }
+    ensures bytes { OnOk result (⟦<Store<'a, D> as Ground>⟧.tells store.old
+        → room.new ≡ image_over store.old.geometry meta.now
+        (⟦<Store<'a, D> as Ground>⟧.unit store.old) page.0) }
     ensures len { length room.new ≡ length room.old }
     ensures kept { Keeps ⟦<Store<'a, D> as Ground>⟧ store.old store.new }
     ensures no_damage { IfErr result (λ fault. IsDamage fault → ⊥) }
-    ensures cause { HasCause (D.outside store.old.disk.now).disk_faults (D.outside store.new.disk.now).disk_faults result }
+    ensures cause { HasCause (D.outside store.old.disk.now).disk_faults
+        (D.outside store.new.disk.now).disk_faults result }
 {
     let index = store.index;
     read_image(store.groups, index, meta, alloc, store.disk, page, room)?;
@@ -56,13 +59,16 @@ pub fn read_image<D: Disk>(
     requires room { length room.old ≡ meta.now.geometry.page_size }
     requires page { catalog_no ≤ page.0 }
     ensures logged { OnOk result ((b : List ℕ) → image_at meta.now page.0 ≡ Some b → room.new ≡ b) }
-    ensures home { OnOk result (image_at meta.now page.0 ≡ None → All (Lends (D.outside disk.old).disk) groups.old
-        → (held : List ℕ) → (D.outside disk.old).disk ≡ Some held → room.new ≡ page_of held meta.now.geometry.page_size page.0) }
+    ensures home { OnOk result (image_at meta.now page.0 ≡ None
+        → All (Lends (D.outside disk.old).disk) groups.old
+        → (held : List ℕ) → (D.outside disk.old).disk ≡ Some held
+        → room.new ≡ page_of held meta.now.geometry.page_size page.0) }
     ensures len { length room.new ≡ length room.old }
     ensures keeps { GroupsKeep (D.outside disk.old).disk groups.old groups.new }
     ensures behind { AreFromCatalog groups.old → AreFromCatalog groups.new }
     ensures only { ReadsOnly (D.outside disk.old) (D.outside disk.new) }
-    ensures cause { HasFetchCause (D.outside disk.old).disk_faults (D.outside disk.new).disk_faults result }
+    ensures cause { HasFetchCause (D.outside disk.old).disk_faults
+        (D.outside disk.new).disk_faults result }
 {
     let image = Meta::image(groups.at(index), meta, alloc, disk, page)?;
     room.copy_from_slice(image);

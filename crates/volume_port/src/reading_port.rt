@@ -97,10 +97,12 @@ impl<'a, D: Disk> ReadingPort<'a, D> {
     fn fill(&mut self, alloc: Global, page: PageNo) -> Result<(), PortFault>
         requires ready { ⟦<ReadingPort<'a, D> as Ground>⟧.ready self.old }
         requires page { InPageArea self.old.geometry page.0 }
-        ensures bytes { OnOk result (⟦<ReadingPort<'a, D> as Ground>⟧.tells self.old → self.new.room.now ≡ ⟦<ReadingPort<'a, D> as Ground>⟧.image self.old page.0) }
+        ensures bytes { OnOk result (⟦<ReadingPort<'a, D> as Ground>⟧.tells self.old
+            → self.new.room.now ≡ ⟦<ReadingPort<'a, D> as Ground>⟧.image self.old page.0) }
         ensures kept { Keeps ⟦<ReadingPort<'a, D> as Ground>⟧ self.old self.new }
         ensures no_damage { IfErr result (λ fault. IsDamage fault → ⊥) }
-        ensures cause { HasCause (⟦<ReadingPort<'a, D> as Ground>⟧.faults self.old) (⟦<ReadingPort<'a, D> as Ground>⟧.faults self.new) result }
+        ensures cause { HasCause (⟦<ReadingPort<'a, D> as Ground>⟧.faults self.old)
+            (⟦<ReadingPort<'a, D> as Ground>⟧.faults self.new) result }
     {
         let index = self.index;
         read_image(
@@ -122,7 +124,8 @@ impl<'a, D: Disk> ReadingPort<'a, D> {
         ensures held { OnOk result (HasFrame self.new.groups.now self.new.index page.0) }
         ensures kept { Keeps ⟦<ReadingPort<'a, D> as Ground>⟧ self.old self.new }
         ensures no_damage { IfErr result (λ fault. IsDamage fault → ⊥) }
-        ensures cause { HasCause (⟦<ReadingPort<'a, D> as Ground>⟧.faults self.old) (⟦<ReadingPort<'a, D> as Ground>⟧.faults self.new) result }
+        ensures cause { HasCause (⟦<ReadingPort<'a, D> as Ground>⟧.faults self.old)
+            (⟦<ReadingPort<'a, D> as Ground>⟧.faults self.new) result }
     {
         let index = self.index;
         self.groups.bring(index, alloc, self.disk, page)?;
@@ -134,7 +137,8 @@ impl<'a, D: Disk> ReadingPort<'a, D> {
         requires ready { ⟦<ReadingPort<'a, D> as Ground>⟧.ready self.now }
         requires page { InPageArea self.now.geometry page.0 }
         requires held { HasFrame self.now.groups.now self.now.index page.0 }
-        ensures bytes { ⟦<ReadingPort<'a, D> as Ground>⟧.tells self.now → result.now ≡ ⟦<ReadingPort<'a, D> as Ground>⟧.unit self.now page.0 }
+        ensures bytes { ⟦<ReadingPort<'a, D> as Ground>⟧.tells self.now
+            → result.now ≡ ⟦<ReadingPort<'a, D> as Ground>⟧.unit self.now page.0 }
         ensures len { length result.now ≡ self.now.geometry.page_size }
     {
         self.groups.get(self.index).frame(page)

@@ -20,8 +20,10 @@ impl MemoryHost {
         ensures read_faults { (means self.new).read_faults ≡ (means self.old).read_faults }
         ensures write_faults { (means self.new).write_faults ≡ (means self.old).write_faults }
         ensures disk { self.new.disk.items ≡ self.old.disk.items }
-        ensures left { (self.new.script.items ≡ self.old.script.items) × (self.new.taken ≡ self.old.taken) }
-        ensures run { HasCalls self.old self.new (if result then self.old.calls.items ++ Other ∷ [] else self.old.calls.items) }
+        ensures left { (self.new.script.items ≡ self.old.script.items)
+            × (self.new.taken ≡ self.old.taken) }
+        ensures run { HasCalls self.old self.new (if result then self.old.calls.items ++ Other
+            ∷ [] else self.old.calls.items) }
     {
         note(&mut self.calls, Call::Other)
     }
@@ -77,15 +79,20 @@ impl Disk for MemoryHost {
     fn read(&mut self, at: u64, out: &mut [u8]) -> Result<(), Failed>
         requires { at + length out.old ≤ (means self.old).size }
         ensures only { ReadsOnly (means self.old) (means self.new) }
-        ensures cause { OnErr result (Rose (means self.old).disk_faults (means self.new).disk_faults) }
+        ensures cause { OnErr result (Rose (means self.old).disk_faults
+            (means self.new).disk_faults) }
         ensures at_most_once { MakesAtMost 1 (means self.old) (means self.new) }
         ensures once { OnOk result (MakesCalls 1 (means self.old) (means self.new)) }
-        ensures bytes { OnOk result ((d : List ℕ) → (means self.old).disk ≡ Some d → out.new ≡ part d at (length out.old)) }
+        ensures bytes { OnOk result ((d : List ℕ) → (means self.old).disk ≡ Some d
+            → out.new ≡ part d at (length out.old)) }
 
         // A read that lies gives zero bytes, and every other one what the disk holds.
-        ensures lie { OnOk result (IsLying (plan_of self.old) (calls_of self.old + 1) → out.new ≡ replicate (length out.old) 0) }
-        ensures truth { OnOk result ((IsLying (plan_of self.old) (calls_of self.old + 1) → ⊥) → out.new ≡ part (state_of self.old).disk at (length out.old)) }
-        ensures leaves { CallLeaves self.old self.new (is_err result) (state_of self.old) (state_of self.old) }
+        ensures lie { OnOk result (IsLying (plan_of self.old) (calls_of self.old + 1)
+            → out.new ≡ replicate (length out.old) 0) }
+        ensures truth { OnOk result ((IsLying (plan_of self.old) (calls_of self.old + 1) → ⊥)
+            → out.new ≡ part (state_of self.old).disk at (length out.old)) }
+        ensures leaves { CallLeaves self.old self.new (is_err result) (state_of self.old)
+            (state_of self.old) }
     {
         let fails = self.fails();
         let lies = self.lies();
@@ -105,15 +112,18 @@ impl Disk for MemoryHost {
     fn write(&mut self, at: u64, bytes: &[u8]) -> Result<(), Failed>
         requires { at + length bytes.now ≤ (means self.old).size }
         ensures only { DiskOnly (means self.old) (means self.new) }
-        ensures cause { OnErr result (Rose (means self.old).disk_faults (means self.new).disk_faults) }
+        ensures cause { OnErr result (Rose (means self.old).disk_faults
+            (means self.new).disk_faults) }
         ensures at_most_once { MakesAtMost 1 (means self.old) (means self.new) }
         ensures once { OnOk result (MakesCalls 1 (means self.old) (means self.new)) }
         ensures written { OnOk result (Wrote at bytes.now (means self.old) (means self.new)) }
-        ensures tears { IsTrue (means self.old).honest → Tears at (length bytes.now) (means self.old) (means self.new) }
+        ensures tears { IsTrue (means self.old).honest
+            → Tears at (length bytes.now) (means self.old) (means self.new) }
 
         // Also a write that is made to fail leaves its range pending.
         ensures leaves { CallLeaves self.old self.new (is_err result)
-            (after_write (state_of self.old) at bytes.now true) (after_write (state_of self.old) at bytes.now false) }
+            (after_write (state_of self.old) at bytes.now true)
+            (after_write (state_of self.old) at bytes.now false) }
     {
         let done = !self.fails();
         let at = at as usize;
@@ -137,11 +147,13 @@ impl Disk for MemoryHost {
 
     fn sync(&mut self) -> Result<(), Failed>
         ensures only { WritesNothing (means self.old) (means self.new) }
-        ensures cause { OnErr result (Rose (means self.old).disk_faults (means self.new).disk_faults) }
+        ensures cause { OnErr result (Rose (means self.old).disk_faults
+            (means self.new).disk_faults) }
         ensures at_most_once { MakesAtMost 1 (means self.old) (means self.new) }
         ensures once { OnOk result (MakesCalls 1 (means self.old) (means self.new)) }
         ensures settles { OnOk result (Settles (means self.old) (means self.new)) }
-        ensures leaves { CallLeaves self.old self.new (is_err result) (after_sync (state_of self.old)) (state_of self.old) }
+        ensures leaves { CallLeaves self.old self.new (is_err result)
+            (after_sync (state_of self.old)) (state_of self.old) }
     {
         if self.fails() {
             let _noted = self.pass();
@@ -157,18 +169,23 @@ impl Disk for MemoryHost {
 impl Source for MemoryHost {
     fn take(&mut self, out: &mut [u8]) -> Result<usize, Failed>
         ensures only { SourceOnly (means self.old) (means self.new) }
-        ensures cause { OnErr result (Rose (means self.old).read_faults (means self.new).read_faults) }
+        ensures cause { OnErr result (Rose (means self.old).read_faults
+            (means self.new).read_faults) }
         ensures at_most_once { MakesAtMost 1 (means self.old) (means self.new) }
         ensures once { OnOk result (MakesCalls 1 (means self.old) (means self.new)) }
         ensures count { IfOk result (λ n. n ≤ length out.old) }
         ensures bytes { IfOk result (λ n. (was : List ℕ) → (means self.old).left ≡ Some was
-            → (n ≤ length was) × (take n out.new ≡ take n was) × ((means self.new).left ≡ Some (drop n was))) }
-        ensures end { IfOk result (λ n. n ≡ 0 → 0 < length out.old → (was : List ℕ) → (means self.old).left ≡ Some was → was ≡ []) }
+            → (n ≤ length was) × (take n out.new ≡ take n was)
+            × ((means self.new).left ≡ Some (drop n was))) }
+        ensures end { IfOk result (λ n. n ≡ 0 → 0 < length out.old → (was : List ℕ)
+            → (means self.old).left ≡ Some was → was ≡ []) }
         ensures failed { OnErr result ((means self.new).left ≡ (means self.old).left) }
 
         // It takes all that is left, that `out` holds and that one call may move.
-        ensures all { IfOk result (λ n. n ≡ min (min (length (left_of self.old)) (length out.old)) (plan_of self.old).piece) }
-        ensures leaves { CallLeaves self.old self.new (is_err result) (state_of self.old) (state_of self.old) }
+        ensures all { IfOk result (λ n. n ≡ min (min (length (left_of self.old)) (length out.old))
+            (plan_of self.old).piece) }
+        ensures leaves { CallLeaves self.old self.new (is_err result) (state_of self.old)
+            (state_of self.old) }
     {
         let fails = self.fails();
         let noted = self.pass();
@@ -187,7 +204,8 @@ impl Source for MemoryHost {
 impl Sink for MemoryHost {
     fn put(&mut self, bytes: &[u8]) -> Result<usize, Failed>
         ensures only { SinkOnly (means self.old) (means self.new) }
-        ensures cause { OnErr result (Rose (means self.old).write_faults (means self.new).write_faults) }
+        ensures cause { OnErr result (Rose (means self.old).write_faults
+            (means self.new).write_faults) }
         ensures at_most_once { MakesAtMost 1 (means self.old) (means self.new) }
         ensures once { OnOk result (MakesCalls 1 (means self.old) (means self.new)) }
         ensures count { IfOk result (λ n. n ≤ length bytes.now) }
@@ -196,12 +214,14 @@ impl Sink for MemoryHost {
             → (means self.new).sent ≡ Some (was ++ take n bytes.now)) }
         ensures failed { OnErr result ((means self.new).sent ≡ (means self.old).sent) }
         ensures adds { Adds (means self.old) (means self.new)
-            (λ s d. (means self.old).images d × (((means self.old).sent ≡ Some s) ⊎ ((means self.new).sent ≡ Some s))) }
+            (λ s d. (means self.old).images d × (((means self.old).sent ≡ Some s)
+            ⊎ ((means self.new).sent ≡ Some s))) }
 
         // It sends all that one call may move.
         ensures all { IfOk result (λ n. n ≡ min (length bytes.now) (plan_of self.old).piece) }
         ensures leaves { CallLeaves self.old self.new (is_err result)
-            (after_put (state_of self.old) (take (plan_of self.old).piece bytes.now)) (state_of self.old) }
+            (after_put (state_of self.old) (take (plan_of self.old).piece bytes.now))
+            (state_of self.old) }
     {
         if self.fails() {
             let _noted = self.pass();

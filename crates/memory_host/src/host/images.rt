@@ -14,7 +14,8 @@ impl MemoryHost {
     /// last sync it is what the disk held, and each of these ranges is as `choice` says.
     pub fn image_at(&self, moment: u64, choice: Choice) -> Result<Vec<u8>, AllocError>
         requires { moment ≤ calls_of self.now }
-        ensures chosen { IfOk result (λ image. image.items ≡ image_of choice (state_at self.now moment)) }
+        ensures chosen { IfOk result (λ image. image.items
+            ≡ image_of choice (state_at self.now moment)) }
         ensures left { IfOk result (λ image. IsImage (state_at self.now moment) image.items) }
         ensures moment { IfOk result (λ image. (t : ℕ) → t ≤ moment
             → (means self.now).moments t (state_at self.now moment).sent image.items) }
@@ -38,7 +39,8 @@ impl MemoryHost {
     pub fn image_with(&self, moment: u64, choices: &[Choice]) -> Result<Vec<u8>, AllocError>
         requires moment { moment ≤ calls_of self.now }
         requires choices { length choices.now ≡ length (state_at self.now moment).pending }
-        ensures chosen { IfOk result (λ image. image.items ≡ image_by choices.now (state_at self.now moment)) }
+        ensures chosen { IfOk result (λ image. image.items
+            ≡ image_by choices.now (state_at self.now moment)) }
         ensures left { IfOk result (λ image. IsImage (state_at self.now moment) image.items) }
         ensures moment { IfOk result (λ image. (t : ℕ) → t ≤ moment
             → (means self.now).moments t (state_at self.now moment).sent image.items) }
@@ -66,7 +68,8 @@ impl Call {
 // How many calls there are up to the last sync that was done.
 fn settled_calls(calls: &[Call]) -> usize
     ensures within { result ≤ length calls.now }
-    ensures settled { (m : State) → m.pending ≡ [] → m.settled ≡ m.disk → IsSettled (fold after_call m (take result calls.now)) }
+    ensures settled { (m : State) → m.pending ≡ [] → m.settled ≡ m.disk
+        → IsSettled (fold after_call m (take result calls.now)) }
     ensures pending { All (λ call. call ≢ Sync) (drop result calls.now) }
 {
     let mut count = calls.len();
@@ -97,7 +100,8 @@ fn replay(disk: &mut [u8], calls: &[Call])
 fn lay_pending(image: &mut [u8], calls: &[Call], choice: Choice)
     requires inside { All (λ call. end_of call ≤ length image.old) calls.now }
     requires pending { All (λ call. call ≢ Sync) calls.now }
-    ensures { (m : State) → image_of choice m ≡ image.old → image.new ≡ image_of choice (fold after_call m calls.now) }
+    ensures { (m : State) → image_of choice m ≡ image.old
+        → image.new ≡ image_of choice (fold after_call m calls.now) }
 {
     for call in calls {
         lay_call(image, call, choice);
@@ -109,7 +113,8 @@ fn lay_each(image: &mut [u8], calls: &[Call], choices: &[Choice])
     requires inside { All (λ call. end_of call ≤ length image.old) calls.now }
     requires pending { All (λ call. call ≢ Sync) calls.now }
     requires choices { length choices.now ≡ count_by is_write calls.now }
-    ensures { (m : State) → IsSettled m → m.disk ≡ image.old → image.new ≡ image_by choices.now (fold after_call m calls.now) }
+    ensures { (m : State) → IsSettled m → m.disk ≡ image.old
+        → image.new ≡ image_by choices.now (fold after_call m calls.now) }
 {
     let mut at = 0;
     for call in calls {

@@ -18,7 +18,8 @@ impl Session {
     /// Opens a transaction: the working catalog is the committed one, and no update is noted.
     pub(super) fn begin<H: Host>(&mut self, alloc: Global, host: &mut H) -> Result<Reply, Stop>
         requires room { volume_bytes self.old.geometry ≤ (H.outside host.old).size }
-        ensures { StepsQuietly (H.outside host.old) (H.outside host.new) self.old self.new request.Begin result }
+        ensures { StepsQuietly (H.outside host.old)
+            (H.outside host.new) self.old self.new request.Begin result }
     {
         if self.opened {
             return Ok(Reply::No(Refusal::TxnOpen));
@@ -38,9 +39,12 @@ impl Session {
 
     /// Gives the open transaction up: its working pages are dropped, and the names that it bound are unbound.
     pub(super) fn abort(&mut self) -> Reply
-        ensures refused { self.old.opened ≡ false → (result ≡ Reply.No Refusal.NoTxn) × (self.new ≡ self.old) }
-        ensures aborted { self.old.opened ≡ true → (result ≡ Reply.Abort) × (self.new ≡ aborted self.old self.new.pages self.new.units) }
-        ensures taken_back { self.old.opened ≡ true → TakenBack self.old.meta.working self.old.kept self.old.pages self.new.pages self.old.units self.new.units }
+        ensures refused { self.old.opened ≡ false → (result ≡ Reply.No Refusal.NoTxn)
+            × (self.new ≡ self.old) }
+        ensures aborted { self.old.opened ≡ true → (result ≡ Reply.Abort)
+            × (self.new ≡ aborted self.old self.new.pages self.new.units) }
+        ensures taken_back { self.old.opened ≡ true
+            → TakenBack self.old.meta.working self.old.kept self.old.pages self.new.pages self.old.units self.new.units }
         ensures session { IsSession self.old }
     {
         if !self.opened {
@@ -48,6 +52,7 @@ impl Session {
         }
         take_back(&self.meta, &mut self.units, &mut self.pages, &self.kept);
         self.meta.undo();
+        self.rooms.forget();
         self.names.unbind_marked();
         self.notes.clear();
         self.opened = false;

@@ -36,12 +36,16 @@ fn copy_of<D: Disk>(
     requires room { (page.0 + 1) * meta.now.geometry.page_size ≤ (D.outside disk.old).size }
     ensures keeps { GroupsKeep (D.outside disk.old).disk groups.old groups.new }
     ensures behind { 257 ≤ page.0 → AreBehindLog groups.old → AreBehindLog groups.new }
-    ensures image { IfOk result (λ bytes. (b : List ℕ) → image_at meta.now page.0 ≡ Some b → bytes.items ≡ b) }
-    ensures home { IfOk result (λ bytes. image_at meta.now page.0 ≡ None → All (Lends (D.outside disk.old).disk) groups.old
-        → (held : List ℕ) → (D.outside disk.old).disk ≡ Some held → bytes.items ≡ page_of held meta.now.geometry.page_size page.0) }
+    ensures image { IfOk result (λ bytes. (b : List ℕ) → image_at meta.now page.0 ≡ Some b
+        → bytes.items ≡ b) }
+    ensures home { IfOk result (λ bytes. image_at meta.now page.0 ≡ None
+        → All (Lends (D.outside disk.old).disk) groups.old
+        → (held : List ℕ) → (D.outside disk.old).disk ≡ Some held
+        → bytes.items ≡ page_of held meta.now.geometry.page_size page.0) }
     ensures len { IfOk result (λ bytes. length bytes.items ≡ meta.now.geometry.page_size) }
     ensures only { ReadsOnly (D.outside disk.old) (D.outside disk.new) }
-    ensures cause { HasFetchCause (D.outside disk.old).disk_faults (D.outside disk.new).disk_faults result }
+    ensures cause { HasFetchCause (D.outside disk.old).disk_faults
+        (D.outside disk.new).disk_faults result }
 {
     let bytes = Meta::image(groups.at(MAIN), meta, alloc, disk, page)?;
     Ok(bytes.to_vec(alloc)?)
@@ -94,9 +98,13 @@ fn read_catalog<D: Disk>(
     ensures only { ReadsOnly (D.outside disk.old) (D.outside disk.new) }
     ensures len { IfOk result (λ page. length page.items ≡ meta.now.geometry.page_size) }
     ensures catalog { IfOk result (λ page. IsCatalogPage page.items) }
-    ensures image { IfOk result (λ page. (b : List ℕ) → image_at meta.now catalog_no ≡ Some b → page.items ≡ b) }
-    ensures read { IfOk result (λ page. (d : List ℕ) → (D.outside disk.old).disk ≡ Some d → All (Lends (D.outside disk.old).disk) groups.old → page.items ≡ catalog_over meta.now.geometry meta.now d) }
-    ensures stops { IfErr result (ReadingStops (D.outside disk.old) (D.outside disk.new) groups.old (catalog_over meta.now.geometry meta.now)) }
+    ensures image { IfOk result (λ page. (b : List ℕ) → image_at meta.now catalog_no ≡ Some b
+        → page.items ≡ b) }
+    ensures read { IfOk result (λ page. (d : List ℕ) → (D.outside disk.old).disk ≡ Some d
+        → All (Lends (D.outside disk.old).disk) groups.old
+        → page.items ≡ catalog_over meta.now.geometry meta.now d) }
+    ensures stops { IfErr result (ReadingStops (D.outside disk.old) (D.outside disk.new) groups.old
+        (catalog_over meta.now.geometry meta.now)) }
 {
     let page = match copy_of(alloc, groups, meta, disk, PageNo::CATALOG) {
         Ok(page) => page,
@@ -120,8 +128,10 @@ impl Session {
         ensures frames { OnlyFrames (D.outside disk.old) (D.outside disk.new) self.old self.new }
         ensures len { IfOk result (λ page. length page.items ≡ self.old.geometry.page_size) }
         ensures catalog { IfOk result (λ page. IsCatalogPage page.items) }
-        ensures image { IfOk result (λ page. (b : List ℕ) → image_at self.old.meta catalog_no ≡ Some b → page.items ≡ b) }
-        ensures read { IfOk result (λ page. (d : List ℕ) → (D.outside disk.old).disk ≡ Some d → FramesLend (D.outside disk.old) self.old → page.items ≡ catalog_bytes self.old d) }
+        ensures image { IfOk result (λ page. (b : List ℕ)
+            → image_at self.old.meta catalog_no ≡ Some b → page.items ≡ b) }
+        ensures read { IfOk result (λ page. (d : List ℕ) → (D.outside disk.old).disk ≡ Some d
+            → FramesLend (D.outside disk.old) self.old → page.items ≡ catalog_bytes self.old d) }
         ensures stops { IfErr result (Stops (D.outside disk.old) (D.outside disk.new) self.old) }
     {
         read_catalog(alloc, &mut self.groups, &self.meta, disk)

@@ -29,7 +29,8 @@ impl Session {
     ) -> Result<Reply, Stop>
         requires room { volume_bytes self.old.geometry ≤ (H.outside host.old).size }
         requires is_open { self.old.opened ≡ true }
-        ensures { (r : Request) → AsksFor r (reference_of x.now) (change_of edit.now) → UpdatesLine (H.outside host.old) (H.outside host.new) self.old self.new r result }
+        ensures { (r : Request) → AsksFor r (reference_of x.now) (change_of edit.now)
+            → UpdatesLine (H.outside host.old) (H.outside host.new) self.old self.new r result }
     {
         let given = match self.admit(alloc, host, x, edit) {
             Ok(Ok(given)) => given,
@@ -58,7 +59,8 @@ impl Session {
     ) -> Result<Reply, Stop>
         requires room { volume_bytes self.old.geometry ≤ (H.outside host.old).size }
         requires given { IsTrue (is_given given.now) }
-        ensures { UpdatesLine (H.outside host.old) (H.outside host.new) self.old self.new (request.Insert (reference_of x.now) pos given.now) result }
+        ensures { UpdatesLine (H.outside host.old) (H.outside host.new) self.old self.new
+            (request.Insert (reference_of x.now) pos given.now) result }
     {
         if !self.opened {
             return Ok(Reply::No(Refusal::NoTxn));
@@ -80,7 +82,8 @@ impl Session {
     ) -> Result<Reply, Stop>
         requires room { volume_bytes self.old.geometry ≤ (H.outside host.old).size }
         requires given { IsTrue (is_given given.now) }
-        ensures { UpdatesLine (H.outside host.old) (H.outside host.new) self.old self.new (request.Append (reference_of x.now) given.now) result }
+        ensures { UpdatesLine (H.outside host.old) (H.outside host.new) self.old self.new
+            (request.Append (reference_of x.now) given.now) result }
     {
         if !self.opened {
             return Ok(Reply::No(Refusal::NoTxn));
@@ -103,7 +106,8 @@ impl Session {
     ) -> Result<Reply, Stop>
         requires room { volume_bytes self.old.geometry ≤ (H.outside host.old).size }
         requires given { IsTrue (is_given given.now) }
-        ensures { UpdatesLine (H.outside host.old) (H.outside host.new) self.old self.new (request.Replace (reference_of x.now) pos given.now) result }
+        ensures { UpdatesLine (H.outside host.old) (H.outside host.new) self.old self.new
+            (request.Replace (reference_of x.now) pos given.now) result }
     {
         if !self.opened {
             return Ok(Reply::No(Refusal::NoTxn));
@@ -125,7 +129,8 @@ impl Session {
         len: u64,
     ) -> Result<Reply, Stop>
         requires room { volume_bytes self.old.geometry ≤ (H.outside host.old).size }
-        ensures { UpdatesLine (H.outside host.old) (H.outside host.new) self.old self.new (request.Delete (reference_of x.now) pos len) result }
+        ensures { UpdatesLine (H.outside host.old) (H.outside host.new) self.old self.new
+            (request.Delete (reference_of x.now) pos len) result }
     {
         if !self.opened {
             return Ok(Reply::No(Refusal::NoTxn));

@@ -22,7 +22,8 @@ fn number_next(page: &mut Vec<u8>) -> u64
     requires page { IsCatalogPage page.old.items }
     requires room { (catalog_on page.old.items).last < 2 ^ 64 - 1 }
     ensures number { result ≡ (catalog_on page.old.items).last + 1 }
-    ensures numbered { CatalogOf page.new.items (with_numbers (catalog_on page.old.items) (catalog_on page.old.items).next_unique ((catalog_on page.old.items).last + 1)) }
+    ensures numbered { CatalogOf page.new.items (with_numbers (catalog_on page.old.items)
+        (catalog_on page.old.items).next_unique ((catalog_on page.old.items).last + 1)) }
     ensures len { length page.new.items ≡ length page.old.items }
 {
     let catalog = view_of(page);
@@ -53,8 +54,10 @@ impl Session {
     /// Makes the working state the committed one, under the number after that of the last commit.
     pub(super) fn commit<H: Host>(&mut self, alloc: Global, host: &mut H) -> Result<Reply, Stop>
         requires room { volume_bytes self.old.geometry ≤ (H.outside host.old).size }
-        ensures steps { Steps (H.outside host.old) (H.outside host.new) self.old self.new request.Commit result }
-        ensures noted { (before : View SessionState) → before.session ≡ self.old → ShowsNow meant (H.outside host.old) before → self.old.opened ≡ true
+        ensures steps { Steps (H.outside host.old)
+            (H.outside host.new) self.old self.new request.Commit result }
+        ensures noted { (before : View SessionState) → before.session ≡ self.old
+            → ShowsNow meant (H.outside host.old) before → self.old.opened ≡ true
             → OnOk result (HasNotes (H.outside host.new) self.old.geometry self.old.notes) }
     {
         if !self.opened {
@@ -81,6 +84,7 @@ impl Session {
             number,
         ) {
             self.meta.undo();
+            self.rooms.forget();
             return Err(uncommitted(fault));
         }
         self.names.unmark();
@@ -91,7 +95,8 @@ impl Session {
     /// Writes the committed pages home and empties the log.
     pub(super) fn checkpoint<H: Host>(&mut self, host: &mut H) -> Result<Reply, Stop>
         requires room { volume_bytes self.old.geometry ≤ (H.outside host.old).size }
-        ensures steps { Steps (H.outside host.old) (H.outside host.new) self.old self.new request.Checkpoint result }
+        ensures steps { Steps (H.outside host.old)
+            (H.outside host.new) self.old self.new request.Checkpoint result }
         ensures none_counts { result ≡ Ok Reply.Checkpoint → self.new.log.count ≡ 0 }
     {
         if self.opened {

@@ -11,12 +11,12 @@ use super::refuse::entry_named;
 use super::removal::object_note;
 use bound_names::NameMap;
 use disk_model::Host;
-use ex_base::Oid;
+use ex_base::{NoteKind, Oid};
 use object_files::CatalogView;
 use object_updates::ObjectUpdate;
 use session_views::Stop;
 use std::alloc::Global;
-use table_model::{OBJECT_MADE, Refusal, Reply};
+use table_model::{Refusal, Reply};
 
 /// The name of the group that every session has.
 const MAIN_NAME: &[u8] = b"main";
@@ -74,7 +74,8 @@ impl Session {
         requires room { volume_bytes self.old.geometry ≤ (H.outside host.old).size }
         requires file { IsTrue (is_name file.now) }
         requires name { IsTrue (is_name name.now) }
-        ensures { UpdatesLine (H.outside host.old) (H.outside host.new) self.old self.new (request.Create file.now name.now) result }
+        ensures { UpdatesLine (H.outside host.old) (H.outside host.new) self.old self.new
+            (request.Create file.now name.now) result }
     {
         if !self.opened {
             return Ok(Reply::No(Refusal::NoTxn));
@@ -94,7 +95,7 @@ impl Session {
             return Ok(Reply::No(why));
         }
         let limit = self.limit(&CREATION_NEED);
-        let note = object_note(OBJECT_MADE, &Oid::NONE);
+        let note = object_note(NoteKind::ObjectMade, &Oid::NONE);
         let update = ObjectUpdate::Create {
             file_no: made.file_no,
             unique: made.unique,

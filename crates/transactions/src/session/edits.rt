@@ -11,7 +11,7 @@ ghost use Rattle.volume_port.specs.Reading.{CanRead};
 ghost use Rattle.transactions.specs.Lines.{HasParts, IfLive, IfShown, LeavesFrames, PortShows};
 ghost use Rattle.transactions.specs.Sessions.{SessionState};
 ghost use Rattle.versions.specs.Edited.{change_of};
-ghost use Rattle.versions.specs.Versions.{count_of, record_len};
+ghost use Rattle.version_model.specs.Versions.{count_of, record_len};
 ghost use Rattle.transactions.specs.Editing.{bytes_refusal, is_outside, root_height, room_beside, fits_beside, size_after};
 
 use super::moving::Limit;
@@ -66,9 +66,11 @@ fn no_file_page(page: PageNo) -> PortFault
 /// The bytes that more bodies may take on a page of a file.
 fn room_at<P: ReadPages>(pages: &mut P, alloc: Global, page: PageNo) -> Result<u32, PortFault>
     requires { P.ready pages.old }
-    ensures room { IfOk result (λ room. P.tells pages.old → room ≡ room_of (P.geometry pages.old).page_size (slots_of (P.image pages.old page.0))) }
+    ensures room { IfOk result (λ room. P.tells pages.old
+        → room ≡ room_of (P.geometry pages.old).page_size (slots_of (P.image pages.old page.0))) }
     ensures area { OnOk result (InPageArea (P.geometry pages.old) page.0) }
-    ensures sound { IfErr result (λ fault. IsDamage fault → P.tells pages.old → InPageArea (P.geometry pages.old) page.0 → IsPage (P.image pages.old page.0) → ⊥) }
+    ensures sound { IfErr result (λ fault. IsDamage fault → P.tells pages.old
+        → InPageArea (P.geometry pages.old) page.0 → IsPage (P.image pages.old page.0) → ⊥) }
     ensures kept { Keeps P.Ground pages.old pages.new }
     ensures cause { HasCause (P.faults pages.old) (P.faults pages.new) result }
 {
@@ -84,8 +86,10 @@ fn room_at<P: ReadPages>(pages: &mut P, alloc: Global, page: PageNo) -> Result<u
 // The bytes that more bodies may take on the page of a version, of a volume.
 fn room_in<V: ReadVolume>(volume: &mut V, alloc: Global, oid: &Oid) -> Result<u32, PortFault>
     requires { V.ready volume.old }
-    ensures room { (before : View SessionState) → PortShows V.Ground volume.old before → IfOk result (λ room. room ≡ room_beside before oid.now) }
-    ensures sound { (before : View SessionState) → PortShows V.Ground volume.old before → IfLive before oid.now (λ bytes. IfErr result (λ fault. IsDamage fault → ⊥)) }
+    ensures room { (before : View SessionState) → PortShows V.Ground volume.old before
+        → IfOk result (λ room. room ≡ room_beside before oid.now) }
+    ensures sound { (before : View SessionState) → PortShows V.Ground volume.old before
+        → IfLive before oid.now (λ bytes. IfErr result (λ fault. IsDamage fault → ⊥)) }
     ensures kept { Keeps V.Ground volume.old volume.new }
     ensures cause { HasCause (V.faults volume.old) (V.faults volume.new) result }
 {
@@ -105,9 +109,14 @@ fn room_on<D: Disk>(
 ) -> Result<u32, PortFault>
     requires { CanRead geometry.now (D.outside disk.old).size groups.old 0 meta.now room.old }
     ensures leaves { LeavesFrames (D.outside disk.old) (D.outside disk.new) groups.old groups.new }
-    ensures room { (old : SessionState) → HasParts old geometry.now meta.now pages.now groups.old → IfOk result (λ room. IfShown (D.outside disk.old) old (λ before. room ≡ room_beside before oid.now)) }
-    ensures sound { (old : SessionState) → HasParts old geometry.now meta.now pages.now groups.old → IfErr result (λ fault. IfShown (D.outside disk.old) old (λ before. IfLive before oid.now (λ bytes. IsDamage fault → ⊥))) }
-    ensures cause { HasCause (D.outside disk.old).disk_faults (D.outside disk.new).disk_faults result }
+    ensures room { (old : SessionState) → HasParts old geometry.now meta.now pages.now groups.old
+        → IfOk result (λ room. IfShown (D.outside disk.old) old (λ before. room
+        ≡ room_beside before oid.now)) }
+    ensures sound { (old : SessionState) → HasParts old geometry.now meta.now pages.now groups.old
+        → IfErr result (λ fault. IfShown (D.outside disk.old) old (λ before. IfLive before oid.now
+        (λ bytes. IsDamage fault → ⊥))) }
+    ensures cause { HasCause (D.outside disk.old).disk_faults
+        (D.outside disk.new).disk_faults result }
 {
     let mut port = ReadingPort {
         disk,
@@ -198,9 +207,11 @@ impl Session {
         requires room { volume_bytes self.old.geometry ≤ (D.outside disk.old).size }
         ensures session { IsSession self.old }
         ensures only { OnlyFrames (D.outside disk.old) (D.outside disk.new) self.old self.new }
-        ensures room { IfOk result (λ room. IfShown (D.outside disk.old) self.old (λ before. room ≡ room_beside before oid.now)) }
+        ensures room { IfOk result (λ room. IfShown (D.outside disk.old) self.old (λ before. room
+            ≡ room_beside before oid.now)) }
         ensures stops { IfErr result (LineStops (D.outside disk.old) (D.outside disk.new)) }
-        ensures sound { IfErr result (λ why. IfShown (D.outside disk.old) self.old (λ before. IfLive before oid.now (λ bytes. IsOutside why))) }
+        ensures sound { IfErr result (λ why. IfShown (D.outside disk.old) self.old
+            (λ before. IfLive before oid.now (λ bytes. IsOutside why))) }
     {
         let mut room = self.page_room(alloc)?;
         match room_on(
@@ -232,9 +243,12 @@ impl Session {
         requires after { size_after (change_of edit.now) version.now.found.size ≤ object_most }
         ensures session { IsSession self.old }
         ensures only { OnlyFrames (D.outside disk.old) (D.outside disk.new) self.old self.new }
-        ensures small { IfOk result (λ small. IfShown (D.outside disk.old) self.old (λ before. small ≡ fits_beside before version.now (size_after (change_of edit.now) version.now.found.size))) }
+        ensures small { IfOk result (λ small. IfShown (D.outside disk.old) self.old (λ before. small
+            ≡ fits_beside before version.now
+            (size_after (change_of edit.now) version.now.found.size))) }
         ensures stops { IfErr result (LineStops (D.outside disk.old) (D.outside disk.new)) }
-        ensures sound { IfErr result (λ why. IfShown (D.outside disk.old) self.old (λ before. IfLive before version.now.oid (λ bytes. IsOutside why))) }
+        ensures sound { IfErr result (λ why. IfShown (D.outside disk.old) self.old
+            (λ before. IfLive before version.now.oid (λ bytes. IsOutside why))) }
     {
         let _ = &self.geometry;
         if version.found.root.is_some() {
@@ -276,11 +290,17 @@ impl Session {
         requires is_open { self.old.opened ≡ true }
         ensures session { IsSession self.old }
         ensures only { OnlyFrames (H.outside host.old) (H.outside host.new) self.old self.new }
-        ensures refused { IfOk result (λ told. IfErr told (λ why. IfShown (H.outside host.old) self.old (λ before. IsAnswered before (reference_of x.now) (change_of edit.now) (Some why)))) }
-        ensures admitted { IfOk result (λ told. IfOk told (λ given. IfShown (H.outside host.old) self.old (λ before. IsAdmitted before (reference_of x.now) (change_of edit.now) given))) }
-        ensures limits { IfOk result (λ told. IfOk told (λ given. IsWithin self.old (change_of edit.now) given)) }
+        ensures refused { IfOk result
+            (λ told. IfErr told (λ why. IfShown (H.outside host.old) self.old
+            (λ before. IsAnswered before (reference_of x.now) (change_of edit.now) (Some why)))) }
+        ensures admitted { IfOk result
+            (λ told. IfOk told (λ given. IfShown (H.outside host.old) self.old
+            (λ before. IsAdmitted before (reference_of x.now) (change_of edit.now) given))) }
+        ensures limits { IfOk result
+            (λ told. IfOk told (λ given. IsWithin self.old (change_of edit.now) given)) }
         ensures stops { IfErr result (LineStops (H.outside host.old) (H.outside host.new)) }
-        ensures sound { IfErr result (λ why. IfShown (H.outside host.old) self.old (λ before. IsOutside why)) }
+        ensures sound { IfErr result (λ why. IfShown (H.outside host.old) self.old
+            (λ before. IsOutside why)) }
     {
         let version = match self.named(alloc, host, x)? {
             Ok(version) => version,

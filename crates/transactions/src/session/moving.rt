@@ -13,9 +13,10 @@ ghost use Rattle.meta_pages.specs.Overlays.{AreRows};
 ghost use Rattle.op_log.specs.Records.{IsNote};
 ghost use Rattle.page_alloc.specs.UnitSet.{free_count, used_at};
 ghost use Rattle.table_model.specs.Machines.{touched_most, updates_most};
-ghost use Rattle.object_updates.specs.Performed.{NamesOid};
+ghost use Rattle.object_updates.specs.Performed.{CanPerform, NamesOid};
 ghost use Rattle.object_updates.specs.Updates.{updated};
 ghost use Rattle.transactions.specs.Lines.{IsOutside, LineStops};
+ghost use Rattle.transactions.specs.Refused.{free_in};
 ghost use Rattle.transactions.specs.Sessions.{HasWork, SessionState, TakenBack};
 ghost use Rattle.transactions.specs.Updates.{AreReady, HasRoomFor, HoldsTable, IfAsked, Moved, note_done};
 
@@ -27,7 +28,7 @@ use disk_model::{Disk, Host};
 use ex_base::{Area, Geometry, Oid, OpNote, PageNo, PortFault};
 use meta_pages::Meta;
 use object_files::CatalogView;
-use object_updates::{ObjectUpdate, perform};
+use object_updates::{ObjectUpdate, Rooms, perform};
 use page_alloc::Units;
 use session_views::Stop;
 use std::alloc::Global;
@@ -60,7 +61,9 @@ pub(super) struct Limit {
 
 /// Whether an update kept to its limit.
 pub(super) fn keeps_to(meta: &Meta, units: &Units, limit: &Limit) -> bool
-    ensures kept { result ≡ true → (length meta.now.working ≤ limit.now.touched) × (limit.now.pages ≤ free_count units.now.geometry (used_at units.now) Page) × (limit.now.segs ≤ free_count units.now.geometry (used_at units.now) Segment) }
+    ensures kept { result ≡ true → (length meta.now.working ≤ limit.now.touched)
+        × (limit.now.pages ≤ free_count units.now.geometry (used_at units.now) Page)
+        × (limit.now.segs ≤ free_count units.now.geometry (used_at units.now) Segment) }
     ensures rows { AreRows meta.now }
 {
     let touched = meta.touched();
@@ -107,17 +110,27 @@ fn update_on<D: Disk>(
     meta: &mut Meta,
     pages: &mut LoggedPages,
     room: &mut [u8],
+    rooms: &mut Rooms,
     update: &ObjectUpdate<'_>,
 ) -> Result<Oid, PortFault>
-    requires { AreReady geometry.now (D.outside disk.old).size (record { units = units.old; groups = groups.old; meta = meta.old; pages = pages.old; room = room.old }) }
+    requires ready { AreReady geometry.now (D.outside disk.old).size
+        (record { units = units.old; groups = groups.old; meta = meta.old; pages = pages.old; room = room.old }) }
+    requires can { CanPerform update.now (free_count units.old.geometry (used_at units.old) Page) }
     ensures named { IfOk result (NamesOid update.now) }
-    ensures moved { Moved (D.outside disk.old) (D.outside disk.new) geometry.now (record { units = units.old; groups = groups.old; meta = meta.old; pages = pages.old; room = room.old })
+    ensures moved { Moved (D.outside disk.old) (D.outside disk.new) geometry.now
+        (record { units = units.old; groups = groups.old; meta = meta.old; pages = pages.old; room = room.old })
         (record { units = units.new; groups = groups.new; meta = meta.new; pages = pages.new; room = room.new }) }
-    ensures updated { IfOk result (λ oid. IfAsked (D.outside disk.old) geometry.now (record { units = units.old; groups = groups.old; meta = meta.old; pages = pages.old; room = room.old }) update.now (λ before u.
-        AreRows meta.new → HoldsTable before (D.outside disk.new) (record { units = units.new; groups = groups.new; meta = meta.new; pages = pages.new; room = room.new }) (updated u oid (shown before.machine)))) }
-    ensures sound { IfErr result (λ fault. IfAsked (D.outside disk.old) geometry.now (record { units = units.old; groups = groups.old; meta = meta.old; pages = pages.old; room = room.old }) update.now (λ before u.
+    ensures updated { IfOk result
+        (λ oid. IfAsked (D.outside disk.old) geometry.now
+        (record { units = units.old; groups = groups.old; meta = meta.old; pages = pages.old; room = room.old }) update.now (λ before u.
+        AreRows meta.new → HoldsTable before (D.outside disk.new)
+        (record { units = units.new; groups = groups.new; meta = meta.new; pages = pages.new; room = room.new }) (updated u oid (shown before.machine)))) }
+    ensures sound { IfErr result
+        (λ fault. IfAsked (D.outside disk.old) geometry.now
+        (record { units = units.old; groups = groups.old; meta = meta.old; pages = pages.old; room = room.old }) update.now (λ before u.
         HasRoomFor before u → IsDamage fault → ⊥)) }
-    ensures cause { HasCause (D.outside disk.old).disk_faults (D.outside disk.new).disk_faults result }
+    ensures cause { HasCause (D.outside disk.old).disk_faults
+        (D.outside disk.new).disk_faults result }
 {
     let mut port = VolumePort::make(
         Store::make(disk, units, groups, MAIN, *geometry),
@@ -125,7 +138,7 @@ fn update_on<D: Disk>(
         pages,
         room,
     );
-    perform(&mut port, alloc, update)
+    perform(&mut port, alloc, rooms, update)
 }
 
 impl Session {
@@ -146,16 +159,26 @@ impl Session {
         requires updates { length self.old.notes < updates_most }
         requires touched { limit.now.touched ≤ touched_most }
         requires note { IsNote note.now }
+        requires can { CanPerform update.now (free_in self.old Page) }
         ensures named { IfOk result (NamesOid update.now) }
         ensures noted { IfOk result (λ oid. Noted self.old self.new (note_with note.now oid)) }
-        ensures kept { OnOk result ((length self.new.meta.working ≤ limit.now.touched) × (limit.now.pages ≤ free_count self.new.units.geometry (used_at self.new.units) Page) × (limit.now.segs ≤ free_count self.new.units.geometry (used_at self.new.units) Segment)) }
-        ensures holds { IfOk result (λ oid. IfUpdated (H.outside host.old) self.old update.now (λ before u. HoldsTable before (H.outside host.new) (parts_held self.new) (updated u oid (shown before.machine)))) }
+        ensures kept { OnOk result ((length self.new.meta.working ≤ limit.now.touched)
+            × (limit.now.pages ≤ free_count self.new.units.geometry (used_at self.new.units) Page)
+            × (limit.now.segs ≤ free_count self.new.units.geometry
+            (used_at self.new.units) Segment)) }
+        ensures holds { IfOk result (λ oid. IfUpdated (H.outside host.old) self.old update.now
+            (λ before u. HoldsTable before (H.outside host.new) (parts_held self.new)
+            (updated u oid (shown before.machine)))) }
         ensures only { DiskOnly (H.outside host.old) (H.outside host.new) }
-        ensures any_moment { (before : View SessionState) → before.session ≡ self.old → ShowsNow meant (H.outside host.old) before → (r : Request) → Leaves (H.outside host.old) (H.outside host.new) (StandsDuring meant before.machine r) }
+        ensures any_moment { (before : View SessionState) → before.session ≡ self.old
+            → ShowsNow meant (H.outside host.old) before → (r : Request)
+            → Leaves (H.outside host.old) (H.outside host.new)
+            (StandsDuring meant before.machine r) }
         ensures log { self.new.log ≡ self.old.log }
         ensures down { self.new.down ≡ self.old.down }
         ensures stops { IfErr result (LineStops (H.outside host.old) (H.outside host.new)) }
-        ensures sound { IfErr result (λ why. IfUpdated (H.outside host.old) self.old update.now (λ before u. HasRoomFor before u → IsOutside why)) }
+        ensures sound { IfErr result (λ why. IfUpdated (H.outside host.old) self.old update.now
+            (λ before u. HasRoomFor before u → IsOutside why)) }
     {
         let done = update_on(
             alloc,
@@ -166,6 +189,7 @@ impl Session {
             &mut self.meta,
             &mut self.pages,
             &mut self.room,
+            &mut self.rooms,
             update,
         );
         let noted = noted(note, &done);
@@ -177,6 +201,7 @@ impl Session {
             return Ok(noted.oid);
         }
         give_up(&mut self.meta, &mut self.units, &mut self.pages, &self.kept);
+        self.rooms.forget();
         self.opened = false;
         match done {
             Ok(_) => Err(Stop::Memory),

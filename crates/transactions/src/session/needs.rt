@@ -2,11 +2,11 @@
 ghost use Rattle.std.specs.Prelude.{◌≡◌, ◌≤◌, not, false};
 ghost use Rattle.ex_base.specs.Sizes.{object_most};
 ghost use Rattle.versions.specs.Edited.{change_of};
-ghost use Rattle.versions.specs.Versions.{count_of};
+ghost use Rattle.version_model.specs.Versions.{count_of};
 ghost use Rattle.transactions.specs.Editing.{is_outside, size_after, edit_note, edit_reply};
 
-use ex_base::{Oid, OpNote};
-use table_model::{APPENDED, DELETED, INSERTED, REPLACED, Reply};
+use ex_base::{NoteKind, Oid, OpNote};
+use table_model::Reply;
 use versions::Edit;
 
 /// How many bytes an edit names.
@@ -52,10 +52,10 @@ pub(super) fn note_of(edit: &Edit<'_>, oid: &Oid, size: u64) -> OpNote
     ensures { result ≡ edit_note (change_of edit.now) oid.now size }
 {
     let (kind, first) = match edit {
-        Edit::Insert { pos, .. } => (INSERTED, *pos),
-        Edit::Append { .. } => (APPENDED, size),
-        Edit::Replace { pos, .. } => (REPLACED, *pos),
-        Edit::Delete { pos, .. } => (DELETED, *pos),
+        Edit::Insert { pos, .. } => (NoteKind::Inserted, *pos),
+        Edit::Append { .. } => (NoteKind::Appended, size),
+        Edit::Replace { pos, .. } => (NoteKind::Replaced, *pos),
+        Edit::Delete { pos, .. } => (NoteKind::Deleted, *pos),
     };
     OpNote {
         kind,

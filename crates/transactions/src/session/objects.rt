@@ -39,7 +39,8 @@ pub(super) fn stopped(fault: PortFault) -> Stop
 
 /// The identifier of these numbers, none where one is out of its field's range.
 fn oid_of(page: u64, slot: u64, unique: u64) -> Option<Oid>
-    ensures is { IfSome result (λ oid. oid ≡ record { page = record { 0 = page }; slot = slot; unique = unique }) }
+    ensures is { IfSome result
+        (λ oid. oid ≡ record { page = record { 0 = page }; slot = slot; unique = unique }) }
     ensures none { result ≡ None → (2 ^ 32 ≤ page) ⊎ (2 ^ 16 ≤ slot) }
 {
     if page > u64::from(u32::MAX) || slot > u64::from(u16::MAX) {
@@ -54,7 +55,8 @@ fn oid_of(page: u64, slot: u64, unique: u64) -> Option<Oid>
 
 /// The identifier that a line gives, or why it names no version.
 fn oid_named(names: &NameMap, x: &Subject<'_>) -> Result<Oid, Refusal>
-    ensures { MatchResult result (λ oid. oid_among names.now (reference_of x.now) ≡ Some oid) (IsUnnamed names.now (reference_of x.now)) }
+    ensures { MatchResult result (λ oid. oid_among names.now (reference_of x.now)
+        ≡ Some oid) (IsUnnamed names.now (reference_of x.now)) }
 {
     match x {
         Subject::Name(name) => match names.oid_of(name) {
@@ -75,10 +77,13 @@ fn look_in<V: ReadVolume>(
     oid: &Oid,
 ) -> Result<Option<Found>, PortFault>
     requires { V.ready volume.old }
-    ensures found { (before : View SessionState) → PortShows V.Ground volume.old before → IfOk result (IsFound before oid.now) }
-    ensures sound { (before : View SessionState) → PortShows V.Ground volume.old before → IfErr result (λ fault. IsDamage fault → ⊥) }
+    ensures found { (before : View SessionState) → PortShows V.Ground volume.old before
+        → IfOk result (IsFound before oid.now) }
+    ensures sound { (before : View SessionState) → PortShows V.Ground volume.old before
+        → IfErr result (λ fault. IsDamage fault → ⊥) }
     ensures limit { IfOk result (λ found. IfSome found (λ found. found.size ≤ object_most)) }
-    ensures root { IfOk result (λ found. IfSome found (λ found. IfSome found.root (λ root. IsRootFor (V.geometry volume.old) root))) }
+    ensures root { IfOk result (λ found. IfSome found (λ found. IfSome found.root
+        (λ root. IsRootFor (V.geometry volume.old) root))) }
     ensures kept { Keeps V.Ground volume.old volume.new }
     ensures cause { HasCause (V.faults volume.old) (V.faults volume.new) result }
 {
@@ -98,11 +103,16 @@ fn look_on<D: Disk>(
 ) -> Result<Option<Found>, PortFault>
     requires { CanRead geometry.now (D.outside disk.old).size groups.old 0 meta.now room.old }
     ensures leaves { LeavesFrames (D.outside disk.old) (D.outside disk.new) groups.old groups.new }
-    ensures found { (old : SessionState) → HasParts old geometry.now meta.now pages.now groups.old → IfOk result (λ found. IfShown (D.outside disk.old) old (λ before. IsFound before oid.now found)) }
-    ensures sound { (old : SessionState) → HasParts old geometry.now meta.now pages.now groups.old → IfErr result (λ fault. IfShown (D.outside disk.old) old (λ before. IsDamage fault → ⊥)) }
+    ensures found { (old : SessionState) → HasParts old geometry.now meta.now pages.now groups.old
+        → IfOk result (λ found. IfShown (D.outside disk.old) old
+        (λ before. IsFound before oid.now found)) }
+    ensures sound { (old : SessionState) → HasParts old geometry.now meta.now pages.now groups.old
+        → IfErr result (λ fault. IfShown (D.outside disk.old) old (λ before. IsDamage fault → ⊥)) }
     ensures limit { IfOk result (λ found. IfSome found (λ found. found.size ≤ object_most)) }
-    ensures root { IfOk result (λ found. IfSome found (λ found. IfSome found.root (λ root. IsRootFor geometry.now root))) }
-    ensures cause { HasCause (D.outside disk.old).disk_faults (D.outside disk.new).disk_faults result }
+    ensures root { IfOk result (λ found. IfSome found (λ found. IfSome found.root
+        (λ root. IsRootFor geometry.now root))) }
+    ensures cause { HasCause (D.outside disk.old).disk_faults
+        (D.outside disk.new).disk_faults result }
 {
     let mut port = ReadingPort {
         disk,
@@ -125,9 +135,12 @@ fn read_in<V: ReadVolume>(
     out: &mut [u8],
 ) -> Result<(), PortFault>
     requires { V.ready volume.old }
-    ensures bytes { (before : View SessionState) → PortShows V.Ground volume.old before → IfLive before oid.now (λ bytes. OnOk result (out.new ≡ bytes_at bytes pos (length out.old))) }
+    ensures bytes { (before : View SessionState) → PortShows V.Ground volume.old before
+        → IfLive before oid.now (λ bytes. OnOk result (out.new
+        ≡ bytes_at bytes pos (length out.old))) }
     ensures sound { (before : View SessionState) → PortShows V.Ground volume.old before
-        → IfLive before oid.now (λ bytes. pos + length out.old ≤ length bytes → IfErr result (λ fault. IsDamage fault → ⊥)) }
+        → IfLive before oid.now (λ bytes. pos + length out.old ≤ length bytes
+        → IfErr result (λ fault. IsDamage fault → ⊥)) }
     ensures kept { Keeps V.Ground volume.old volume.new }
     ensures cause { HasCause (V.faults volume.old) (V.faults volume.new) result }
 {
@@ -150,10 +163,13 @@ fn read_on<D: Disk>(
     requires { CanRead geometry.now (D.outside disk.old).size groups.old 0 meta.now room.old }
     ensures leaves { LeavesFrames (D.outside disk.old) (D.outside disk.new) groups.old groups.new }
     ensures bytes { (old : SessionState) → HasParts old geometry.now meta.now pages.now groups.old
-        → IfShown (D.outside disk.old) old (λ before. IfLive before oid.now (λ bytes. OnOk result (out.new ≡ bytes_at bytes pos (length out.old)))) }
+        → IfShown (D.outside disk.old) old (λ before. IfLive before oid.now
+        (λ bytes. OnOk result (out.new ≡ bytes_at bytes pos (length out.old)))) }
     ensures sound { (old : SessionState) → HasParts old geometry.now meta.now pages.now groups.old
-        → IfShown (D.outside disk.old) old (λ before. IfLive before oid.now (λ bytes. pos + length out.old ≤ length bytes → IfErr result (λ fault. IsDamage fault → ⊥))) }
-    ensures cause { HasCause (D.outside disk.old).disk_faults (D.outside disk.new).disk_faults result }
+        → IfShown (D.outside disk.old) old (λ before. IfLive before oid.now (λ bytes. pos
+        + length out.old ≤ length bytes → IfErr result (λ fault. IsDamage fault → ⊥))) }
+    ensures cause { HasCause (D.outside disk.old).disk_faults
+        (D.outside disk.new).disk_faults result }
 {
     let mut port = ReadingPort {
         disk,
@@ -174,8 +190,10 @@ fn list_in<V: ReadVolume>(
     file_no: u32,
 ) -> Result<Vec<Oid>, PortFault>
     requires { V.ready volume.old }
-    ensures oids { IfOk result (λ oids. IfPortFile V.Ground volume.old file_no (λ before name. oids.items ≡ oids_listed before.machine name)) }
-    ensures sound { IfErr result (λ fault. IfPortFile V.Ground volume.old file_no (λ before name. IsDamage fault → ⊥)) }
+    ensures oids { IfOk result (λ oids. IfPortFile V.Ground volume.old file_no
+        (λ before name. oids.items ≡ oids_listed before.machine name)) }
+    ensures sound { IfErr result (λ fault. IfPortFile V.Ground volume.old file_no
+        (λ before name. IsDamage fault → ⊥)) }
     ensures kept { Keeps V.Ground volume.old volume.new }
     ensures cause { HasCause (V.faults volume.old) (V.faults volume.new) result }
 {
@@ -196,10 +214,13 @@ fn list_on<D: Disk>(
     requires { CanRead geometry.now (D.outside disk.old).size groups.old 0 meta.now room.old }
     ensures leaves { LeavesFrames (D.outside disk.old) (D.outside disk.new) groups.old groups.new }
     ensures oids { (old : SessionState) → HasParts old geometry.now meta.now pages.now groups.old
-        → IfOk result (λ oids. IfFile (D.outside disk.old) old file_no (λ before name. oids.items ≡ oids_listed before.machine name)) }
+        → IfOk result (λ oids. IfFile (D.outside disk.old) old file_no (λ before name. oids.items
+        ≡ oids_listed before.machine name)) }
     ensures sound { (old : SessionState) → HasParts old geometry.now meta.now pages.now groups.old
-        → IfErr result (λ fault. IfFile (D.outside disk.old) old file_no (λ before name. IsDamage fault → ⊥)) }
-    ensures cause { HasCause (D.outside disk.old).disk_faults (D.outside disk.new).disk_faults result }
+        → IfErr result (λ fault. IfFile (D.outside disk.old) old file_no
+        (λ before name. IsDamage fault → ⊥)) }
+    ensures cause { HasCause (D.outside disk.old).disk_faults
+        (D.outside disk.new).disk_faults result }
 {
     let mut port = ReadingPort {
         disk,
@@ -216,7 +237,8 @@ fn list_on<D: Disk>(
 /// The number of the file that a catalog has under a name.
 fn number_named(page: &[u8], name: &[u8]) -> Option<u32>
     requires { IsCatalogPage page.now }
-    ensures { result ≡ option_map (λ e. e.file_no) (find (has_name name.now) (catalog_on page.now).entries) }
+    ensures { result ≡ option_map
+        (λ e. e.file_no) (find (has_name name.now) (catalog_on page.now).entries) }
 {
     match entry_named(&view_of(page), name) {
         Some(entry) => Some(entry.file_no),
@@ -258,11 +280,14 @@ impl Session {
         requires room { volume_bytes self.old.geometry ≤ (D.outside disk.old).size }
         ensures session { IsSession self.old }
         ensures only { OnlyFrames (D.outside disk.old) (D.outside disk.new) self.old self.new }
-        ensures found { IfOk result (λ found. IfShown (D.outside disk.old) self.old (λ before. IsFound before oid.now found)) }
+        ensures found { IfOk result (λ found. IfShown (D.outside disk.old) self.old
+            (λ before. IsFound before oid.now found)) }
         ensures limit { IfOk result (λ found. IfSome found (λ found. found.size ≤ object_most)) }
-        ensures root { IfOk result (λ found. IfSome found (λ found. IfSome found.root (λ root. IsRootFor self.old.geometry root))) }
+        ensures root { IfOk result (λ found. IfSome found (λ found. IfSome found.root
+            (λ root. IsRootFor self.old.geometry root))) }
         ensures stops { IfErr result (LineStops (D.outside disk.old) (D.outside disk.new)) }
-        ensures sound { IfErr result (λ why. IfShown (D.outside disk.old) self.old (λ before. IsOutside why)) }
+        ensures sound { IfErr result (λ why. IfShown (D.outside disk.old) self.old
+            (λ before. IsOutside why)) }
     {
         let mut room = self.page_room(alloc)?;
         match look_on(
@@ -290,11 +315,15 @@ impl Session {
         requires room { volume_bytes self.old.geometry ≤ (H.outside host.old).size }
         ensures session { IsSession self.old }
         ensures only { OnlyFrames (H.outside host.old) (H.outside host.new) self.old self.new }
-        ensures named { IfOk result (λ told. IfShown (H.outside host.old) self.old (λ before. IsNamed before (reference_of x.now) told)) }
-        ensures limit { IfOk result (λ told. IfOk told (λ version. version.found.size ≤ object_most)) }
-        ensures root { IfOk result (λ told. IfOk told (λ version. IfSome version.found.root (λ root. IsRootFor self.old.geometry root))) }
+        ensures named { IfOk result (λ told. IfShown (H.outside host.old) self.old
+            (λ before. IsNamed before (reference_of x.now) told)) }
+        ensures limit { IfOk result (λ told. IfOk told (λ version. version.found.size
+            ≤ object_most)) }
+        ensures root { IfOk result (λ told. IfOk told (λ version. IfSome version.found.root
+            (λ root. IsRootFor self.old.geometry root))) }
         ensures stops { IfErr result (LineStops (H.outside host.old) (H.outside host.new)) }
-        ensures sound { IfErr result (λ why. IfShown (H.outside host.old) self.old (λ before. IsOutside why)) }
+        ensures sound { IfErr result (λ why. IfShown (H.outside host.old) self.old
+            (λ before. IsOutside why)) }
     {
         let oid = match oid_named(&self.names, x) {
             Ok(oid) => oid,
@@ -314,7 +343,8 @@ impl Session {
         x: &Subject<'_>,
     ) -> Result<Reply, Stop>
         requires room { volume_bytes self.old.geometry ≤ (H.outside host.old).size }
-        ensures { ReadsLine (H.outside host.old) (H.outside host.new) self.old self.new (request.Size (reference_of x.now)) result }
+        ensures { ReadsLine (H.outside host.old) (H.outside host.new) self.old self.new
+            (request.Size (reference_of x.now)) result }
     {
         match self.named(alloc, host, x) {
             Ok(Ok(version)) => Ok(Reply::Size {
@@ -337,9 +367,13 @@ impl Session {
         requires room { volume_bytes self.old.geometry ≤ (D.outside disk.old).size }
         ensures session { IsSession self.old }
         ensures only { OnlyFrames (D.outside disk.old) (D.outside disk.new) self.old self.new }
-        ensures bytes { OnOk result (IfShown (D.outside disk.old) self.old (λ before. IfLive before oid.now (λ bytes. out.new ≡ bytes_at bytes pos (length out.old)))) }
+        ensures bytes { OnOk result (IfShown (D.outside disk.old) self.old
+            (λ before. IfLive before oid.now (λ bytes. out.new
+            ≡ bytes_at bytes pos (length out.old)))) }
         ensures stops { IfErr result (LineStops (D.outside disk.old) (D.outside disk.new)) }
-        ensures sound { IfErr result (λ why. IfShown (D.outside disk.old) self.old (λ before. IfLive before oid.now (λ bytes. pos + length out.old ≤ length bytes → IsOutside why))) }
+        ensures sound { IfErr result (λ why. IfShown (D.outside disk.old) self.old
+            (λ before. IfLive before oid.now (λ bytes. pos + length out.old ≤ length bytes
+            → IsOutside why))) }
     {
         let mut room = self.page_room(alloc)?;
         match read_on(
@@ -369,7 +403,8 @@ impl Session {
         len: u32,
     ) -> Result<Reply, Stop>
         requires room { volume_bytes self.old.geometry ≤ (H.outside host.old).size }
-        ensures { ReadsLine (H.outside host.old) (H.outside host.new) self.old self.new (request.Read (reference_of x.now) pos len) result }
+        ensures { ReadsLine (H.outside host.old) (H.outside host.new) self.old self.new
+            (request.Read (reference_of x.now) pos len) result }
     {
         let version = match self.named(alloc, host, x) {
             Ok(Ok(version)) => version,
@@ -401,9 +436,11 @@ impl Session {
         requires room { volume_bytes self.old.geometry ≤ (D.outside disk.old).size }
         ensures session { IsSession self.old }
         ensures only { OnlyFrames (D.outside disk.old) (D.outside disk.new) self.old self.new }
-        ensures oids { IfOk result (λ oids. IfFile (D.outside disk.old) self.old file_no (λ before name. oids.items ≡ oids_listed before.machine name)) }
+        ensures oids { IfOk result (λ oids. IfFile (D.outside disk.old) self.old file_no
+            (λ before name. oids.items ≡ oids_listed before.machine name)) }
         ensures stops { IfErr result (LineStops (D.outside disk.old) (D.outside disk.new)) }
-        ensures sound { IfErr result (λ why. IfFile (D.outside disk.old) self.old file_no (λ before name. IsOutside why)) }
+        ensures sound { IfErr result (λ why. IfFile (D.outside disk.old) self.old file_no
+            (λ before name. IsOutside why)) }
     {
         let mut room = self.page_room(alloc)?;
         match list_on(
@@ -429,7 +466,8 @@ impl Session {
         name: &[u8],
     ) -> Result<Reply, Stop>
         requires room { volume_bytes self.old.geometry ≤ (H.outside host.old).size }
-        ensures { ReadsLine (H.outside host.old) (H.outside host.new) self.old self.new (request.ListFile name.now) result }
+        ensures { ReadsLine (H.outside host.old) (H.outside host.new) self.old self.new
+            (request.ListFile name.now) result }
     {
         let page = match self.catalog(alloc, host) {
             Ok(page) => page,

@@ -8,12 +8,12 @@ ghost use Rattle.transactions.specs.Editing.{destroy_refusal};
 use super::Session;
 use super::edits::Need;
 use disk_model::Host;
-use ex_base::{Oid, OpNote};
+use ex_base::{NoteKind, Oid, OpNote};
 use object_records::State;
 use object_updates::ObjectUpdate;
 use session_views::Stop;
 use std::alloc::Global;
-use table_model::{OBJECT_REMOVED, Refusal, Reply, Subject};
+use table_model::{Refusal, Reply, Subject};
 use versions::Found;
 
 /// What the removal of an object may take: the logged pages of its file's index and of its record.
@@ -24,7 +24,7 @@ const REMOVAL_NEED: Need = Need {
 };
 
 /// The note of an object that is made or removed.
-pub(super) fn object_note(kind: u8, oid: &Oid) -> OpNote
+pub(super) fn object_note(kind: NoteKind, oid: &Oid) -> OpNote
     ensures { result ≡ note kind oid.now 0 0 }
 {
     OpNote {
@@ -60,7 +60,8 @@ impl Session {
         x: &Subject<'_>,
     ) -> Result<Reply, Stop>
         requires room { volume_bytes self.old.geometry ≤ (H.outside host.old).size }
-        ensures { UpdatesLine (H.outside host.old) (H.outside host.new) self.old self.new (request.Destroy (reference_of x.now)) result }
+        ensures { UpdatesLine (H.outside host.old) (H.outside host.new) self.old self.new
+            (request.Destroy (reference_of x.now)) result }
     {
         if !self.opened {
             return Ok(Reply::No(Refusal::NoTxn));
@@ -77,7 +78,7 @@ impl Session {
             return Ok(Reply::No(why));
         }
         let limit = self.limit(&REMOVAL_NEED);
-        let note = object_note(OBJECT_REMOVED, &version.oid);
+        let note = object_note(NoteKind::ObjectRemoved, &version.oid);
         let update = ObjectUpdate::Remove { oid: version.oid };
         match self.update_objects(alloc, host, &update, &note, &limit) {
             Ok(oid) => Ok(Reply::Destroy { oid }),

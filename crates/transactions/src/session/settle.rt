@@ -33,8 +33,10 @@ fn settle_page(
     requires taken { page.0 < length pages.old.taken }
     requires flag { page.0 < length kept.old }
     ensures kept { kept.new ≡ slice_set kept.old page.0 image }
-    ensures pages { pages.new ≡ (if image then record { held = slice_set pages.old.held page.0 true; taken = slice_set pages.old.taken page.0 false } else pages.old) }
-    ensures units { OnlyGives (λ unit. (unit ≡ page.0) × (image ≡ false) × (is_kept kept.old unit ≡ true) → ⊥) units.old units.new }
+    ensures pages { pages.new
+        ≡ (if image then record { held = slice_set pages.old.held page.0 true; taken = slice_set pages.old.taken page.0 false } else pages.old) }
+    ensures units { OnlyGives (λ unit. (unit ≡ page.0) × (image ≡ false)
+        × (is_kept kept.old unit ≡ true) → ⊥) units.old units.new }
 {
     let at = page.0 as usize;
     if image {
@@ -65,8 +67,10 @@ fn take_back_page(units: &mut Units, pages: &mut LoggedPages, page: PageNo, kept
     requires area { InPageArea units.old.geometry page.0 }
     requires held { page.0 < length pages.old.held }
     requires taken { page.0 < length pages.old.taken }
-    ensures pages { pages.new ≡ record { held = slice_set pages.old.held page.0 kept; taken = slice_set pages.old.taken page.0 false } }
-    ensures units { OnlyGives (λ unit. (unit ≡ page.0) × (is_taken pages.old unit ≡ true) → ⊥) units.old units.new }
+    ensures pages { pages.new
+        ≡ record { held = slice_set pages.old.held page.0 kept; taken = slice_set pages.old.taken page.0 false } }
+    ensures units { OnlyGives (λ unit. (unit ≡ page.0) × (is_taken pages.old unit ≡ true)
+        → ⊥) units.old units.new }
 {
     if kept {
         pages.adopt(page);

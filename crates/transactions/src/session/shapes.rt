@@ -33,8 +33,11 @@ fn shape_in<V: ReadVolume>(
 ) -> Result<u64, PortFault>
     requires ready { V.ready volume.old }
     requires root { IsRootFor (V.geometry volume.old) root.now }
-    ensures shape { (before : View SessionState) → PortShows V.Ground volume.old before → IfRoot before root.now (λ oid. IfOk result (λ leaves. TellsShape before oid leaves first.old first.new)) }
-    ensures sound { (before : View SessionState) → PortShows V.Ground volume.old before → IfRoot before root.now (λ oid. IfErr result (λ fault. IsDamage fault → ⊥)) }
+    ensures shape { (before : View SessionState) → PortShows V.Ground volume.old before
+        → IfRoot before root.now (λ oid. IfOk result
+        (λ leaves. TellsShape before oid leaves first.old first.new)) }
+    ensures sound { (before : View SessionState) → PortShows V.Ground volume.old before
+        → IfRoot before root.now (λ oid. IfErr result (λ fault. IsDamage fault → ⊥)) }
     ensures kept { Keeps V.Ground volume.old volume.new }
     ensures cause { HasCause (V.faults volume.old) (V.faults volume.new) result }
 {
@@ -57,10 +60,13 @@ fn shape_on<D: Disk>(
     requires root { IsRootFor geometry.now root.now }
     ensures leaves { LeavesFrames (D.outside disk.old) (D.outside disk.new) groups.old groups.new }
     ensures shape { (old : SessionState) → HasParts old geometry.now meta.now pages.now groups.old
-        → IfShown (D.outside disk.old) old (λ before. IfRoot before root.now (λ oid. IfOk result (λ leaves. TellsShape before oid leaves first.old first.new))) }
+        → IfShown (D.outside disk.old) old (λ before. IfRoot before root.now
+        (λ oid. IfOk result (λ leaves. TellsShape before oid leaves first.old first.new))) }
     ensures sound { (old : SessionState) → HasParts old geometry.now meta.now pages.now groups.old
-        → IfShown (D.outside disk.old) old (λ before. IfRoot before root.now (λ oid. IfErr result (λ fault. IsDamage fault → ⊥))) }
-    ensures cause { HasCause (D.outside disk.old).disk_faults (D.outside disk.new).disk_faults result }
+        → IfShown (D.outside disk.old) old (λ before. IfRoot before root.now
+        (λ oid. IfErr result (λ fault. IsDamage fault → ⊥))) }
+    ensures cause { HasCause (D.outside disk.old).disk_faults
+        (D.outside disk.new).disk_faults result }
 {
     let mut port = ReadingPort {
         disk,
@@ -88,7 +94,8 @@ impl Session {
         x: &Subject<'_>,
     ) -> Result<Reply, Stop>
         requires room { volume_bytes self.old.geometry ≤ (H.outside host.old).size }
-        ensures { ReadsLine (H.outside host.old) (H.outside host.new) self.old self.new (request.Stat (reference_of x.now)) result }
+        ensures { ReadsLine (H.outside host.old) (H.outside host.new) self.old self.new
+            (request.Stat (reference_of x.now)) result }
     {
         let version = match self.named(alloc, host, x) {
             Ok(Ok(version)) => version,
@@ -129,9 +136,12 @@ impl Session {
         requires root { IsRootFor self.old.geometry root.now }
         ensures session { IsSession self.old }
         ensures only { OnlyFrames (D.outside disk.old) (D.outside disk.new) self.old self.new }
-        ensures shape { IfOk result (λ leaves. IfShown (D.outside disk.old) self.old (λ before. IfRoot before root.now (λ oid. TellsShape before oid leaves first.old first.new))) }
+        ensures shape { IfOk result (λ leaves. IfShown (D.outside disk.old) self.old
+            (λ before. IfRoot before root.now
+            (λ oid. TellsShape before oid leaves first.old first.new))) }
         ensures stops { IfErr result (LineStops (D.outside disk.old) (D.outside disk.new)) }
-        ensures sound { IfErr result (λ why. IfShown (D.outside disk.old) self.old (λ before. IfRoot before root.now (λ oid. IsOutside why))) }
+        ensures sound { IfErr result (λ why. IfShown (D.outside disk.old) self.old
+            (λ before. IfRoot before root.now (λ oid. IsOutside why))) }
     {
         let mut room = self.page_room(alloc)?;
         match shape_on(

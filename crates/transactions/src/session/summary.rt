@@ -74,10 +74,13 @@ impl Session {
         requires room { volume_bytes self.old.geometry ≤ (H.outside host.old).size }
         requires catalog { IsCatalogPage page.now }
         ensures only { OnlyFrames (H.outside host.old) (H.outside host.new) self.old self.new }
-        ensures shows { IfShown (H.outside host.old) self.old (λ before. ShowsNow meant (H.outside host.new) (record before { session = self.new })) }
-        ensures counts { IfOk result (λ count. IfCatalog (H.outside host.old) self.old page.now (λ before. count ≡ length (oids_in before.machine (catalog_on page.now).entries))) }
+        ensures shows { IfShown (H.outside host.old) self.old
+            (λ before. ShowsNow meant (H.outside host.new) (record before { session = self.new })) }
+        ensures counts { IfOk result (λ count. IfCatalog (H.outside host.old) self.old page.now
+            (λ before. count ≡ length (oids_in before.machine (catalog_on page.now).entries))) }
         ensures stops { IfErr result (LineStops (H.outside host.old) (H.outside host.new)) }
-        ensures sound { IfErr result (λ why. IfCatalog (H.outside host.old) self.old page.now (λ before. IsOutside why)) }
+        ensures sound { IfErr result (λ why. IfCatalog (H.outside host.old) self.old page.now
+            (λ before. IsOutside why)) }
     {
         let mut count: u64 = 0;
         for index in 0..view_of(page).len() {
@@ -97,27 +100,35 @@ impl Session {
     /// Sums up what the session shows. The disk is read at most.
     pub fn summary<H: Host>(&mut self, alloc: Global, host: &mut H) -> Result<Summary, Stop>
         ensures only { ReadsOnly (H.outside host.old) (H.outside host.new) }
-        ensures disk { result ≡ Err Stop.Disk → Rose (H.outside host.old).disk_faults (H.outside host.new).disk_faults }
-        ensures damaged { (page : PageNo) (want got : Seen) → result ≡ Err (Stop.Damaged page want got) → want ≢ got }
+        ensures disk { result ≡ Err Stop.Disk
+            → Rose (H.outside host.old).disk_faults (H.outside host.new).disk_faults }
+        ensures damaged { (page : PageNo) (want got : Seen)
+            → result ≡ Err (Stop.Damaged page want got) → want ≢ got }
 
         // Where a view shows, it is the summary of the machine that the view shows,
-        ensures sums { (before : View SessionState) → before.session ≡ self.old → ShowsNow meant (H.outside host.old) before
+        ensures sums { (before : View SessionState) → before.session ≡ self.old
+            → ShowsNow meant (H.outside host.old) before
             → IfOk result (IsSummary before.machine) }
 
         // which goes on to be shown, by the session as it is then.
-        ensures shows { (before : View SessionState) → before.session ≡ self.old → ShowsNow meant (H.outside host.old) before
-            → OnOk result (ShowsNow meant (H.outside host.new) (record before { session = self.new })) }
+        ensures shows { (before : View SessionState) → before.session ≡ self.old
+            → ShowsNow meant (H.outside host.old) before
+            → OnOk result (ShowsNow meant (H.outside host.new)
+            (record before { session = self.new })) }
 
         // Where it shows, nothing but a fault of the disk or want of memory stops it.
-        ensures sound { (before : View SessionState) (stop : Stop) → before.session ≡ self.old → ShowsNow meant (H.outside host.old) before
+        ensures sound { (before : View SessionState) (stop : Stop) → before.session ≡ self.old
+            → ShowsNow meant (H.outside host.old) before
             → result ≡ Err stop → (stop ≡ Stop.Disk) ⊎ (stop ≡ Stop.Memory) }
 
         // The session stays what it was but for its frames, and but that a fault puts it down.
-        ensures frames { OnOk result (OnlyFrames (H.outside host.old) (H.outside host.new) self.old self.new) }
+        ensures frames { OnOk result (OnlyFrames (H.outside host.old)
+            (H.outside host.new) self.old self.new) }
         ensures kept { self.new ≡ record self.old { groups = self.new.groups; down = self.new.down } }
 
         // After a fault it answers that the session is down, and calls nothing, as every step does; before one it doesn't.
-        ensures is_down { self.old.down ≡ true → (result ≡ Err Stop.Down) × (host.new ≡ host.old) × (self.new ≡ self.old) }
+        ensures is_down { self.old.down ≡ true → (result ≡ Err Stop.Down) × (host.new ≡ host.old)
+            × (self.new ≡ self.old) }
         ensures was_down { result ≡ Err Stop.Down → self.old.down ≡ true }
         ensures goes_down { OnErr result (self.new.down ≡ true) }
         ensures stays_up { OnOk result (self.new.down ≡ false) }

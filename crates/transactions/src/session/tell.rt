@@ -40,7 +40,8 @@ impl Session {
     /// Lists the names of the files.
     pub(super) fn files<H: Host>(&mut self, alloc: Global, host: &mut H) -> Result<Reply, Stop>
         requires room { volume_bytes self.old.geometry ≤ (H.outside host.old).size }
-        ensures { StepsQuietly (H.outside host.old) (H.outside host.new) self.old self.new request.Files result }
+        ensures { StepsQuietly (H.outside host.old)
+            (H.outside host.new) self.old self.new request.Files result }
     {
         let page = self.catalog(alloc, host)?;
         match names_of(alloc, &view_of(&page)) {
@@ -61,7 +62,8 @@ impl Session {
 
     /// Tells how many units of each area are in use.
     pub(super) fn space(&self) -> Reply
-        ensures { result ≡ Reply.Space (used_of self.now Area.Page) self.now.geometry.pages (used_of self.now Area.Segment) self.now.geometry.segs }
+        ensures { result ≡ Reply.Space (used_of self.now Area.Page) self.now.geometry.pages
+            (used_of self.now Area.Segment) self.now.geometry.segs }
     {
         Reply::Space {
             pages: self.used(Area::Page),

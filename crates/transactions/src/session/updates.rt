@@ -10,11 +10,11 @@ ghost use Rattle.table_model.specs.Words.{is_name};
 use super::Session;
 use super::catalog::view_of;
 use disk_model::Host;
-use ex_base::{Oid, OpNote, PageNo};
+use ex_base::{NoteKind, Oid, OpNote, PageNo};
 use object_files::{add_file, remove_file};
 use session_views::Stop;
 use std::alloc::{AllocError, Global};
-use table_model::{FILE_MADE, FILE_REMOVED, Name, Refusal, Reply};
+use table_model::{Name, Refusal, Reply};
 
 /// Adds a file without pages to a copy of the catalog.
 fn put_file(page: &mut Vec<u8>, name: &[u8]) -> u32
@@ -22,7 +22,8 @@ fn put_file(page: &mut Vec<u8>, name: &[u8]) -> u32
     requires name { IsName name.now }
     requires unused { ¬ Contains (map name_of (entries_on page.old.items)) name.now }
     requires room { 32 + 48 * (length (entries_on page.old.items) + 1) ≤ length page.old.items }
-    ensures added { CatalogOf page.new.items (with_entries (catalog_on page.old.items) (entry_inserted (new_file name.now result) (entries_on page.old.items))) }
+    ensures added { CatalogOf page.new.items (with_entries (catalog_on page.old.items)
+        (entry_inserted (new_file name.now result) (entries_on page.old.items))) }
     ensures len { length page.new.items ≡ length page.old.items }
 {
     add_file(page, name)
@@ -32,7 +33,8 @@ fn put_file(page: &mut Vec<u8>, name: &[u8]) -> u32
 fn take_file(page: &mut Vec<u8>, name: &[u8])
     requires page { IsCatalogPage page.old.items }
     requires file { Contains (map name_of (entries_on page.old.items)) name.now }
-    ensures removed { CatalogOf page.new.items (with_entries (catalog_on page.old.items) (without_name name.now (entries_on page.old.items))) }
+    ensures removed { CatalogOf page.new.items (with_entries (catalog_on page.old.items)
+        (without_name name.now (entries_on page.old.items))) }
     ensures len { length page.new.items ≡ length page.old.items }
 {
     remove_file(page, name);
@@ -52,7 +54,8 @@ impl Session {
     ) -> Result<Reply, Stop>
         requires room { volume_bytes self.old.geometry ≤ (H.outside host.old).size }
         requires name { IsTrue (is_name name.now) }
-        ensures { StepsQuietly (H.outside host.old) (H.outside host.new) self.old self.new (request.File name.now) result }
+        ensures { StepsQuietly (H.outside host.old) (H.outside host.new) self.old self.new
+            (request.File name.now) result }
     {
         if !self.opened {
             return Ok(Reply::No(Refusal::NoTxn));
@@ -62,7 +65,7 @@ impl Session {
             return Ok(Reply::No(why));
         }
         let _file_no = put_file(&mut page, name);
-        if self.update(alloc, &page, FILE_MADE).is_err() {
+        if self.update(alloc, &page, NoteKind::FileMade).is_err() {
             return Err(Stop::Memory);
         }
         match Name::of_bytes(alloc, name) {
@@ -80,7 +83,8 @@ impl Session {
     ) -> Result<Reply, Stop>
         requires room { volume_bytes self.old.geometry ≤ (H.outside host.old).size }
         requires name { IsTrue (is_name name.now) }
-        ensures { StepsQuietly (H.outside host.old) (H.outside host.new) self.old self.new (request.Unfile name.now) result }
+        ensures { StepsQuietly (H.outside host.old) (H.outside host.new) self.old self.new
+            (request.Unfile name.now) result }
     {
         if !self.opened {
             return Ok(Reply::No(Refusal::NoTxn));
@@ -90,7 +94,7 @@ impl Session {
             return Ok(Reply::No(why));
         }
         take_file(&mut page, name);
-        if self.update(alloc, &page, FILE_REMOVED).is_err() {
+        if self.update(alloc, &page, NoteKind::FileRemoved).is_err() {
             return Err(Stop::Memory);
         }
         match Name::of_bytes(alloc, name) {
@@ -100,15 +104,13 @@ impl Session {
     }
 
     /// The page becomes the working catalog, and an update of this kind, of no version, is noted.
-    fn update(&mut self, alloc: Global, catalog: &[u8], kind: u8) -> Result<(), AllocError>
+    fn update(&mut self, alloc: Global, catalog: &[u8], kind: NoteKind) -> Result<(), AllocError>
         requires opened { self.old.opened ≡ true }
         requires catalog { IsCatalogPage catalog.now }
         requires whole { length catalog.now ≡ self.old.geometry.page_size }
         requires number { (catalog_on catalog.now).last < 2 ^ 64 - 1 }
         requires updates { length self.old.notes < updates_most }
         requires touched { length self.old.meta.working < touched_most }
-        requires some_kind { 1 ≤ kind }
-        requires kind { kind ≤ 10 }
         ensures done { OnOk result (self.new ≡ updated self.old catalog.now kind) }
         ensures log { self.new.log ≡ self.old.log }
         ensures down { self.new.down ≡ self.old.down }

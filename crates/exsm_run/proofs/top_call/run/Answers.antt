@@ -1,28 +1,35 @@
 use Rattle.std.proofs.Common.{subst}
 use Rattle.ex_base.specs.declared.geometry.Geometry.{Geometry}
-use Rattle.disk_model.specs.Outside.{Along}
-use Rattle.exsm_run.specs.Format.{IsFormatted, IsFormatMoment}
 use Rattle.command_line.specs.Words.{texts}
-use Rattle.exsm_run.proofs.Ending.{no_usage, starts_on, completes_on}
 use Rattle.command_line.proofs.Grammar.{one_format}
+use Rattle.exsm_run.specs.Format.{FormatAnswers}
+use Rattle.exsm_run.specs.Promises.{FormatPromise}
+use Rattle.exsm_run.proofs.Ending.{no_usage, starts_on, completes_on, made_or_memory}
 use Rattle.exsm_run.proofs.top_call.run.Goals as goal
 
-pub returns-in-Outside-clause-format_answers : goal.returns-in-Outside-clause-format_answers
-returns-in-Outside-clause-format_answers g c geo asks = absurd (c.in-Outside.ensures.format geo asks)
+pub returns-in-Outside-clause-formats : goal.returns-in-Outside-clause-formats
+returns-in-Outside-clause-formats g c geo asks = absurd (c.in-Outside.ensures.format geo asks)
 
-pub returns-in-Outside-clause-format_succeeds : goal.returns-in-Outside-clause-format_succeeds
-returns-in-Outside-clause-format_succeeds g c geo asks may = absurd (c.in-Outside.ensures.format geo asks)
-
-pub returns-in-Format-clause-format_makes : goal.returns-in-Format-clause-format_makes
-returns-in-Format-clause-format_makes g c geo asks done honest d holds =
-    subst (λ (x : Geometry). IsFormatted x (g.H.World.outside c.format.new.host)) (one_format (texts c.args.words.now) c.in-Format.geometry geo c.in-Format.ensures asks)
-    (c.format.ensures.formatted done honest d holds)
-
-pub returns-in-Format-clause-format_moments : goal.returns-in-Format-clause-format_moments
-returns-in-Format-clause-format_moments g c geo asks d was rests unmade sent =
-    subst (λ (x : Geometry). Along (g.H.World.outside c.args.host.now) (g.H.World.outside c.format.new.host) (IsFormatMoment x was))
-    (one_format (texts c.args.words.now) c.in-Format.geometry geo c.in-Format.ensures asks)
-    (c.format.ensures.any_moment d was rests unmade sent)
+pub returns-in-Format-clause-formats : goal.returns-in-Format-clause-formats
+returns-in-Format-clause-formats g c geo asks =
+    let promise = c.format.ensures in
+    let answers : FormatAnswers c.in-Format.geometry c.format.result (g.H.World.outside c.args.host.now) = record {
+      one_of = promise.one_of;
+      small = promise.small;
+      too_small = promise.too_small;
+      volume = promise.volume;
+      large = promise.large;
+      magic = promise.magic;
+    } in
+    subst (λ (x : Geometry). FormatPromise x (g.H.World.outside c.args.host.now) (g.H.World.outside c.format.new.host) c.format.result)
+    (one_format (texts c.args.words.now) c.in-Format.geometry geo c.in-Format.ensures asks) (record {
+      answers = answers;
+      sends = record { line = promise.line; front = promise.front; nothing = promise.nothing; left = promise.left };
+      keeps = promise.keeps;
+      makes = promise.formatted;
+      moments = promise.any_moment;
+      succeeds = λ may. made_or_memory c.in-Format.geometry (g.H.World.outside c.args.host.now) (g.H.World.outside c.format.new.host) c.format.result may answers promise.disk promise.output;
+    })
 
 pub returns-in-Run-clause-usage : goal.returns-in-Run-clause-usage
 returns-in-Run-clause-usage g c = (λ is. absurd (no_usage c.run_script.result c.run_script.ensures.never is), λ outside. absurd (outside.run c.in-Run.ensures))
@@ -33,11 +40,21 @@ returns-in-Run-clause-refused g c refused = absurd (c.run_script.ensures.never r
 pub returns-in-Run-clause-refused_images : goal.returns-in-Run-clause-refused_images
 returns-in-Run-clause-refused_images g c refused honest s d moment = absurd (c.run_script.ensures.never refused)
 
-pub returns-in-Run-clause-run_headline : goal.returns-in-Run-clause-run_headline
-returns-in-Run-clause-run_headline g c asks table was on = c.run_script.ensures.headline table was (starts_on on)
-
-pub returns-in-Run-clause-run_sound : goal.returns-in-Run-clause-run_sound
-returns-in-Run-clause-run_sound g c asks table was on = c.run_script.ensures.sound table was (starts_on on)
-
-pub returns-in-Run-clause-run_completes : goal.returns-in-Run-clause-run_completes
-returns-in-Run-clause-run_completes g c asks may = c.run_script.ensures.completes (completes_on may)
+pub returns-in-Run-clause-runs : goal.returns-in-Run-clause-runs
+returns-in-Run-clause-runs g c asks =
+    let promise = c.run_script.ensures in record {
+      headline = λ table was volume. promise.headline table was (starts_on volume);
+      sound = promise.sound;
+      completes = λ may. promise.completes (completes_on may);
+      reads_all = promise.reads_all;
+      within = promise.within;
+      long = promise.script_long;
+      draws = promise.drawn;
+      opening = record {
+        bad = promise.bad;
+        unopened = promise.unopened;
+        left = promise.left;
+        only = promise.bad_only;
+        kept = promise.bad_kept;
+      };
+    }

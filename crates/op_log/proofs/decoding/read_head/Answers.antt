@@ -5,14 +5,14 @@ use Rattle.op_log.proofs.decoding.read_head.Goals as goal
 pub returns-then-kind-ne-WITH_IMAGES : goal.returns-then-kind-ne-WITH_IMAGES
 returns-then-kind-ne-WITH_IMAGES c r begins = c.if-kind-ne-WITH_IMAGES.true (head_of c.args.geometry.now c.args.bytes.now r begins).kind
 
-pub returns-then-notes-gt-NOTES_MOST : goal.returns-then-notes-gt-NOTES_MOST
-returns-then-notes-gt-NOTES_MOST c r begins =
-    let head = head_of c.args.geometry.now c.args.bytes.now r begins in omega (arith, head.notes_is, begins.is_record.few_notes, c.get_u16-notes.ensures, c.if-notes-gt-NOTES_MOST.true)
+pub returns-then-notes-gt-UPDATES_MOST : goal.returns-then-notes-gt-UPDATES_MOST
+returns-then-notes-gt-UPDATES_MOST c r begins =
+    let head = head_of c.args.geometry.now c.args.bytes.now r begins in omega (arith, head.notes_is, begins.is_record.few_notes, c.get_u16-notes.ensures, c.if-notes-gt-UPDATES_MOST.true)
 
-pub returns-then-pages-freed-gt-PAGES_MOST : goal.returns-then-pages-freed-gt-PAGES_MOST
-returns-then-pages-freed-gt-PAGES_MOST c r begins =
+pub returns-then-pages-freed : goal.returns-then-pages-freed
+returns-then-pages-freed c r begins =
     let head = head_of c.args.geometry.now c.args.bytes.now r begins in
-    omega (arith, head.pages_is, head.freed_is, begins.is_record.few_pages, c.get_u16-pages.ensures, c.get_u16-freed.ensures, c.if-pages-freed-gt-PAGES_MOST.true)
+    omega (arith, head.pages_is, head.freed_is, begins.is_record.few_pages, c.get_u16-pages.ensures, c.get_u16-freed.ensures, c.if-pages-freed.true)
 
 pub returns-then-len-notes : goal.returns-then-len-notes
 returns-then-len-notes c r begins =

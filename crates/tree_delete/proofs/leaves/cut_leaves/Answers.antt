@@ -23,13 +23,10 @@ with_leaf-requires-clause-place g c = omega (arith, c.requires.cut_at.inside, ru
 pub bytes_of-requires : goal.bytes_of-requires
 bytes_of-requires g c = omega (arith, ap row_size c.deref.ensures.value, run_most c.in_ok-cut.cut, ap row_size c.in_ok-cut.ensures.wider.row, c.requires.cut_at.limit)
 
-pub even_lengths-requires-clause-total : goal.even_lengths-requires-clause-total
-even_lengths-requires-clause-total g c =
+pub even_lengths-requires : goal.even_lengths-requires
+even_lengths-requires g c =
     let w = subst (λ k. IsWider k c.args.cut c.in_ok-cut.cut) c.requires.buffer c.in_ok-cut.ensures.wider in
     omega (arith, c.bytes_of.ensures, ap row_size c.deref.ensures.value, w.most (c.requires.cut_at.fits refl) c.requires.cut_at.few, c.requires.buffer)
-
-pub even_lengths-requires-clause-limit : goal.even_lengths-requires-clause-limit
-even_lengths-requires-clause-limit g c = omega (arith, c.bytes_of.ensures, ap row_size c.deref.ensures.value, run_most c.in_ok-cut.cut, ap row_size c.in_ok-cut.ensures.wider.row, c.requires.cut_at.limit)
 
 pub write_leaves-requires-clause-leaves : goal.write_leaves-requires-clause-leaves
 write_leaves-requires-clause-leaves g c = λ _.

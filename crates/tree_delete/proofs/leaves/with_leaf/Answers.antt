@@ -2,7 +2,7 @@ use Rattle.std.proofs.Common.{arith, rules, ap, refl, sym, ◌≤◌, ◌∙◌,
 use Rattle.std.proofs.lemmas.List.{append-nil}
 use Rattle.trees.specs.declared.rows.Part.{Part}
 use Rattle.trees.specs.Rows.{row_size}
-use Rattle.tree_delete.specs.Beside.{takes_none, takes_before, takes_behind}
+use Rattle.tree_delete.specs.Beside.{takes_before, takes_behind}
 use Rattle.std.specs.Vec.{vec_len}
 use Rattle.tree_delete.proofs.Beside.{none_there}
 use Rattle.tree_delete.proofs.LeafLaws.{wider_same, wider_left, wider_right, run_most, left_most, last_size, first_gone}

@@ -15,6 +15,7 @@ use Rattle.trees.specs.Rows.{row_size}
 use Rattle.trees.proofs.Laid.{extends_on, extends_kept}
 use Rattle.tree_delete.specs.Cuts.{all_of, sides, HasSoundEnds, IsCutAt}
 use Rattle.trees.proofs.Paid.{some_node}
+use Rattle.trees.proofs.Parts.{narrow}
 use Rattle.tree_delete.proofs.Ends.{ends_kept, ends_low, ends_nowhere}
 use Rattle.trees.specs.Damage.{IsWalkFault}
 use Rattle.trees.proofs.Blame.{walk_back}
@@ -51,6 +52,10 @@ nodes_over-requires-clause-buffer g t c =
     let geo = (g.B.Ground.leads_geometry c.open.new.blocks c.cut_row.new.blocks c.in_ok-kept.ensures.extends.leads ∙ (g.B.Ground.leads_geometry c.args.blocks.now c.open.new.blocks c.in_ok-left.ensures.kept.leads)) in
     length-take-le c.geometry-geometry.result.page_size c.cut_row.new.buffer (omega (arith, c.cut_row.auto.buffer, c.requires.buffer, page_le (g.B.Ground.geometry c.args.blocks.now), ap (λ (k : Geometry). k.page_size) c.geometry-geometry.ensures))
     ∙ ap (λ (k : Geometry). k.page_size) (c.geometry-geometry.ensures ∙ sym geo)
+
+pub nodes_over-requires-clause-count : goal.nodes_over-requires-clause-count
+nodes_over-requires-clause-count g t c =
+    omega (arith, ap length c.deref-2.ensures.value, c.in_ok-kept.ensures.left_of.few, c.in_ok-left.ensures.counted.few, narrow (g.B.Ground.geometry c.args.blocks.now))
 
 pub nodes_over-requires-clause-free : goal.nodes_over-requires-clause-free
 nodes_over-requires-clause-free g t c =

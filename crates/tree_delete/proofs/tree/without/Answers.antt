@@ -1,10 +1,9 @@
-use Rattle.std.proofs.Common.{[], ◌∷◌, inl, inr, arith, List, ◌≤◌, ◌<◌, ◌+◌, ◌*◌, ◌^◌, ap, sym, subst, refl, length}
+use Rattle.std.proofs.Common.{[], ◌∷◌, inl, inr, arith, ◌≤◌, ◌+◌, ◌*◌, ap, sym, subst, refl, length}
 use Rattle.std.proofs.lemmas.Result.{IfOk-at_ok}
 use Rattle.ex_base.specs.declared.geometry.Geometry.{Geometry}
 use Rattle.ex_base.specs.declared.names.Area.TheVariants.{Page}
 use Rattle.ex_base.proofs.Results.{from_ok, if_ok_from, on_ok_from}
 use Rattle.count_nodes.specs.Split.{most_pairs}
-use Rattle.trees.specs.declared.rows.Part.{Part}
 use Rattle.trees.specs.Damage.{IsSoundEnd}
 use Rattle.trees.specs.Rows.{row_size}
 use Rattle.trees.specs.Made.{Holds}
@@ -16,6 +15,9 @@ use Rattle.trees.proofs.Parts.{narrow}
 use Rattle.tree_delete.proofs.TopLaws.{some_rest, roots_free, roots_seven, root_of, tree_cut, tree_have}
 use Rattle.tree_delete.specs.Beside.{IsSoundBeside}
 use Rattle.tree_delete.proofs.tree.without.Goals as goal
+
+pub rooted-requires-clause-count : goal.rooted-requires-clause-count
+rooted-requires-clause-count g c = omega (arith, ap length c.deref.ensures.value, c.in_ok-level.ensures.few, narrow (g.B.Ground.geometry c.args.blocks.now))
 
 pub rooted-requires-clause-rise : goal.rooted-requires-clause-rise
 rooted-requires-clause-rise g c =

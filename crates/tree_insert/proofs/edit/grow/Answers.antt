@@ -2,32 +2,33 @@ use Rattle.std.proofs.Common.{arith, List, ◌≤◌, ◌+◌, ◌*◌, ap, sym,
 use Rattle.std.proofs.lemmas.Result.{IfOk-at_ok}
 use Rattle.ex_base.specs.declared.geometry.Geometry.{Geometry}
 use Rattle.ex_base.specs.declared.names.Area.TheVariants.{Page}
-use Rattle.ex_base.specs.Sizes.{leaf_bytes}
+use Rattle.ex_base.specs.Needs.{growth_leaves}
 use Rattle.ex_base.proofs.Results.{from_ok, if_ok_from, on_ok_from}
 use Rattle.trees.specs.declared.rows.Part.{Part}
-use Rattle.trees.specs.Rows.{row_size}
 use Rattle.trees.specs.Made.{Holds}
-use Rattle.trees.specs.Built.{AreSome}
 use Rattle.trees.proofs.Laid.{extends_on}
-use Rattle.trees.proofs.Over.{length_small}
 use Rattle.trees.specs.Grown.{IsRooted}
-use Rattle.tree_insert.specs.Need.{need_leaves, counted}
+use Rattle.tree_insert.specs.Need.{counted}
 use Rattle.trees.proofs.Paid.{rise_first}
-use Rattle.tree_insert.proofs.RootEdit.{edited, enough_pages, enough_roots, taken_pages}
+use Rattle.tree_insert.proofs.RootEdit.{edited, few_roots, enough_pages, enough_roots, taken_pages}
 use Rattle.tree_insert.proofs.edit.grow.Goals as goal
 
 pub new_parts-requires-clause-pages : goal.new_parts-requires-clause-pages
-new_parts-requires-clause-pages g c = enough_pages (g.B.Ground.geometry c.args.blocks.now).fan (need_leaves (leaf_bytes (g.B.Ground.geometry c.args.blocks.now)) (counted (g.B.Ground.geometry c.args.blocks.now) c.args.root.now.page (length c.args.given.now))) c.args.root.now.height (g.B.Ground.free c.args.blocks.now Page) (omega (arith, (g.B.Ground.geometry c.args.blocks.now).two)) c.requires.pages
+new_parts-requires-clause-pages g c = enough_pages (g.B.Ground.geometry c.args.blocks.now).fan (growth_leaves (g.B.Ground.geometry c.args.blocks.now) (counted (g.B.Ground.geometry c.args.blocks.now) c.args.root.now.page (length c.args.given.now))) c.args.root.now.height (g.B.Ground.free c.args.blocks.now Page) (omega (arith, (g.B.Ground.geometry c.args.blocks.now).two)) c.requires.pages
+
+pub rooted-requires-clause-count : goal.rooted-requires-clause-count
+rooted-requires-clause-count g c =
+    omega (arith, ap length c.deref.ensures.value, few_roots (g.B.Ground.geometry c.args.blocks.now) c.args.root.now.page (length c.args.given.now) c.args.root.now.height (length c.in_ok-row.row.items) (g.B.Ground.free c.args.blocks.now Page) (g.B.Ground.free c.new_parts.new.blocks Page) (omega (arith, c.requires.limit)) c.requires.root.low c.in_ok-row.ensures.fewer c.in_ok-row.ensures.paid)
 
 pub rooted-requires-clause-rise : goal.rooted-requires-clause-rise
 rooted-requires-clause-rise g c =
     rise_first c.args.root.now.height (length c.deref.result.now) c.requires.root.low
-    (omega (arith, length_small c.deref.result.now (subst AreSome (sym c.deref.ensures.value) c.in_ok-row.ensures.sizes), ap row_size c.deref.ensures.value, c.in_ok-row.ensures.sum, c.requires.limit))
+    (omega (arith, ap length c.deref.ensures.value, few_roots (g.B.Ground.geometry c.args.blocks.now) c.args.root.now.page (length c.args.given.now) c.args.root.now.height (length c.in_ok-row.row.items) (g.B.Ground.free c.args.blocks.now Page) (g.B.Ground.free c.new_parts.new.blocks Page) (omega (arith, c.requires.limit)) c.requires.root.low c.in_ok-row.ensures.fewer c.in_ok-row.ensures.paid))
 
 pub rooted-requires-clause-free : goal.rooted-requires-clause-free
 rooted-requires-clause-free g c = λ two.
     subst (λ (geo : Geometry). length c.deref.result.now + geo.fan ≤ geo.fan * g.B.Ground.free c.new_parts.new.blocks Page + 2) (sym (g.B.Ground.leads_geometry c.args.blocks.now c.new_parts.new.blocks c.in_ok-row.ensures.extends.leads))
-    (enough_roots (g.B.Ground.geometry c.args.blocks.now).fan (need_leaves (leaf_bytes (g.B.Ground.geometry c.args.blocks.now)) (counted (g.B.Ground.geometry c.args.blocks.now) c.args.root.now.page (length c.args.given.now))) c.args.root.now.height (g.B.Ground.free c.args.blocks.now Page) (length c.deref.result.now) (g.B.Ground.free c.new_parts.new.blocks Page) (omega (arith, (g.B.Ground.geometry c.args.blocks.now).two)) c.requires.pages (subst (λ k. (g.B.Ground.geometry c.args.blocks.now).fan * g.B.Ground.free c.args.blocks.now Page + k ≤ (need_leaves (leaf_bytes (g.B.Ground.geometry c.args.blocks.now)) (counted (g.B.Ground.geometry c.args.blocks.now) c.args.root.now.page (length c.args.given.now))) + c.args.root.now.height * (2 * (g.B.Ground.geometry c.args.blocks.now).fan) + (g.B.Ground.geometry c.args.blocks.now).fan * g.B.Ground.free c.new_parts.new.blocks Page) (sym (ap length c.deref.ensures.value)) c.in_ok-row.ensures.paid))
+    (enough_roots (g.B.Ground.geometry c.args.blocks.now).fan (growth_leaves (g.B.Ground.geometry c.args.blocks.now) (counted (g.B.Ground.geometry c.args.blocks.now) c.args.root.now.page (length c.args.given.now))) c.args.root.now.height (g.B.Ground.free c.args.blocks.now Page) (length c.deref.result.now) (g.B.Ground.free c.new_parts.new.blocks Page) (omega (arith, (g.B.Ground.geometry c.args.blocks.now).two)) c.requires.pages (subst (λ k. (g.B.Ground.geometry c.args.blocks.now).fan * g.B.Ground.free c.args.blocks.now Page + k ≤ (growth_leaves (g.B.Ground.geometry c.args.blocks.now) (counted (g.B.Ground.geometry c.args.blocks.now) c.args.root.now.page (length c.args.given.now))) + c.args.root.now.height * (2 * (g.B.Ground.geometry c.args.blocks.now).fan) + (g.B.Ground.geometry c.args.blocks.now).fan * g.B.Ground.free c.new_parts.new.blocks Page) (sym (ap length c.deref.ensures.value)) c.in_ok-row.ensures.paid))
 
 pub returns-clause-extends : goal.returns-clause-extends
 returns-clause-extends g c = on_ok_from c.rooted.result _ (λ made is. extends_on g.B.Ground c.args.blocks.now c.new_parts.new.blocks c.rooted.new.blocks c.in_ok-row.ensures.extends (from_ok c.rooted.result made _ is c.rooted.ensures.extends))
@@ -35,7 +36,7 @@ returns-clause-extends g c = on_ok_from c.rooted.result _ (λ made is. extends_o
 pub returns-clause-pages : goal.returns-clause-pages
 returns-clause-pages g c =
     on_ok_from c.rooted.result _ (λ made is.
-    taken_pages (g.B.Ground.geometry c.args.blocks.now).fan (need_leaves (leaf_bytes (g.B.Ground.geometry c.args.blocks.now)) (counted (g.B.Ground.geometry c.args.blocks.now) c.args.root.now.page (length c.args.given.now))) c.args.root.now.height (g.B.Ground.free c.args.blocks.now Page) (length c.deref.result.now) (g.B.Ground.free c.new_parts.new.blocks Page) (g.B.Ground.free c.rooted.new.blocks Page) (omega (arith, (g.B.Ground.geometry c.args.blocks.now).two)) (omega (arith, ap length c.deref.ensures.value, c.in_ok-row.ensures.some)) (subst (λ k. (g.B.Ground.geometry c.args.blocks.now).fan * g.B.Ground.free c.args.blocks.now Page + k ≤ (need_leaves (leaf_bytes (g.B.Ground.geometry c.args.blocks.now)) (counted (g.B.Ground.geometry c.args.blocks.now) c.args.root.now.page (length c.args.given.now))) + c.args.root.now.height * (2 * (g.B.Ground.geometry c.args.blocks.now).fan) + (g.B.Ground.geometry c.args.blocks.now).fan * g.B.Ground.free c.new_parts.new.blocks Page) (sym (ap length c.deref.ensures.value)) c.in_ok-row.ensures.paid)
+    taken_pages (g.B.Ground.geometry c.args.blocks.now).fan (growth_leaves (g.B.Ground.geometry c.args.blocks.now) (counted (g.B.Ground.geometry c.args.blocks.now) c.args.root.now.page (length c.args.given.now))) c.args.root.now.height (g.B.Ground.free c.args.blocks.now Page) (length c.deref.result.now) (g.B.Ground.free c.new_parts.new.blocks Page) (g.B.Ground.free c.rooted.new.blocks Page) (omega (arith, (g.B.Ground.geometry c.args.blocks.now).two)) (omega (arith, ap length c.deref.ensures.value, c.in_ok-row.ensures.some)) (subst (λ k. (g.B.Ground.geometry c.args.blocks.now).fan * g.B.Ground.free c.args.blocks.now Page + k ≤ (growth_leaves (g.B.Ground.geometry c.args.blocks.now) (counted (g.B.Ground.geometry c.args.blocks.now) c.args.root.now.page (length c.args.given.now))) + c.args.root.now.height * (2 * (g.B.Ground.geometry c.args.blocks.now).fan) + (g.B.Ground.geometry c.args.blocks.now).fan * g.B.Ground.free c.new_parts.new.blocks Page) (sym (ap length c.deref.ensures.value)) c.in_ok-row.ensures.paid)
     (from_ok c.rooted.result made _ is c.rooted.ensures.lone)
     (subst (λ (geo : Geometry). 2 ≤ length c.deref.result.now → geo.fan * g.B.Ground.free c.new_parts.new.blocks Page + 2 ≤ length c.deref.result.now + geo.fan + geo.fan * g.B.Ground.free c.rooted.new.blocks Page) (g.B.Ground.leads_geometry c.args.blocks.now c.new_parts.new.blocks c.in_ok-row.ensures.extends.leads) (from_ok c.rooted.result made _ is c.rooted.ensures.pages)))
 

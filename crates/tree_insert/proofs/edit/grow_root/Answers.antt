@@ -1,10 +1,11 @@
-use Rattle.std.proofs.Common.{arith, [], ◌∷◌, ℕ, List, ◌≡◌, ◌≤◌, ◌+◌, ◌-◌, ◌*◌, ◌∙◌, ap, sym, subst, refl, suc, length}
+use Rattle.std.proofs.Common.{arith, rules, [], ◌∷◌, ℕ, List, ◌≡◌, ◌≤◌, ◌<◌, ◌^◌, ◌+◌, ◌-◌, ◌*◌, ◌∙◌, ap, sym, subst, refl, suc, length}
 use Rattle.std.proofs.lemmas.List.{length-take-le}
 use Rattle.std.proofs.lemmas.Result.{IfOk-at_ok, on_ok_weaker}
 use Rattle.ex_base.specs.Edits.{inserted}
 use Rattle.ex_base.specs.declared.geometry.Geometry.{Geometry}
 use Rattle.ex_base.specs.declared.names.Area.{Area}
 use Rattle.ex_base.specs.declared.names.Area.TheVariants.{Page, Segment}
+use Rattle.ex_base.specs.Needs.{growth_leaves}
 use Rattle.ex_base.specs.Sizes.{leaf_bytes}
 use Rattle.count_nodes.specs.Split.{nodes_for}
 use Rattle.trees.specs.declared.rows.Part.{Part}
@@ -16,15 +17,15 @@ use Rattle.trees.proofs.Laid.{extends_on, extends_kept}
 use Rattle.trees.specs.Counted.{Counted, NamesPairs}
 use Rattle.trees.specs.Grown.{Grew}
 use Rattle.tree_insert.specs.Growth.{IsSpot, row_by}
-use Rattle.tree_insert.specs.Need.{need_leaves}
 use Rattle.trees.proofs.Paid.{some_node}
-use Rattle.tree_insert.proofs.Paid.{level_up, node_free, node_paid}
+use Rattle.tree_insert.proofs.Paid.{level_up, few_grown, node_free, node_paid}
 use Rattle.tree_insert.proofs.PaidRows.{paid_at}
 use Rattle.ex_base.specs.Area.{NamesLeaf}
 use Rattle.trees.specs.Damage.{IsSoundWay}
 use Rattle.trees.proofs.Ways.{way_kept, way_low, way_one}
 use Rattle.ex_base.proofs.Keeping.{cause_on}
 use Rattle.ex_base.proofs.Geometries.{page_le}
+use Rattle.ex_base.proofs.NeedLaws.{growth_few}
 use Rattle.ex_base.proofs.Results.{from_ok, if_ok_from, on_ok_from}
 use Rattle.tree_insert.proofs.RootGrow.{lone_grew, root_grew}
 use Rattle.tree_insert.proofs.edit.grow_root.Goals as goal
@@ -32,9 +33,10 @@ use Rattle.tree_insert.proofs.edit.grow_root.Goals as goal
 pub returns-then-height-eq0-clause-paid : goal.returns-then-height-eq0-clause-paid
 returns-then-height-eq0-clause-paid g c =
     if_ok_from c.grow_leaves.result _ (λ made is. record {
-      parts = need_leaves (leaf_bytes (g.B.Ground.geometry c.args.blocks.now)) (length c.args.given.now);
+      parts = growth_leaves (g.B.Ground.geometry c.args.blocks.now) (length c.args.given.now);
       some = omega arith;
       count = IfOk-at_ok _ is c.grow_leaves.ensures.count;
+      fewer = omega (arith, from_ok c.grow_leaves.result made _ is c.grow_leaves.ensures.pages);
       paid = omega (arith, ap (λ k. (g.B.Ground.geometry c.args.blocks.now).fan * k) (from_ok c.grow_leaves.result made _ is c.grow_leaves.ensures.pages));
     })
 
@@ -69,18 +71,27 @@ grow_row-requires-clause-spot g c = subst (IsSpot c.args.growth c.args.pos) (sym
 
 pub grow_row-requires-clause-free : goal.grow_row-requires-clause-free
 grow_row-requires-clause-free g c =
-    subst (λ (geo : Geometry). need_leaves (leaf_bytes geo) (length c.args.given.now) ≤ g.B.Ground.free c.row_of.new.blocks Segment) (sym (g.B.Ground.leads_geometry c.args.blocks.now c.row_of.new.blocks c.in_ok-below.ensures.kept.leads)) (subst (λ (f : Area → ℕ). need_leaves (leaf_bytes (g.B.Ground.geometry c.args.blocks.now)) (length c.args.given.now) ≤ f Segment) (sym c.in_ok-below.ensures.kept.free) c.requires.free)
+    subst (λ (geo : Geometry). growth_leaves geo (length c.args.given.now) ≤ g.B.Ground.free c.row_of.new.blocks Segment) (sym (g.B.Ground.leads_geometry c.args.blocks.now c.row_of.new.blocks c.in_ok-below.ensures.kept.leads)) (subst (λ (f : Area → ℕ). growth_leaves (g.B.Ground.geometry c.args.blocks.now) (length c.args.given.now) ≤ f Segment) (sym c.in_ok-below.ensures.kept.free) c.requires.free)
 
 pub grow_row-requires-clause-pages : goal.grow_row-requires-clause-pages
 grow_row-requires-clause-pages g c =
-    subst (λ (geo : Geometry). need_leaves (leaf_bytes geo) (length c.args.given.now) + (c.args.height - 1) * (2 * geo.fan) ≤ geo.fan * g.B.Ground.free c.row_of.new.blocks Page) (sym (g.B.Ground.leads_geometry c.args.blocks.now c.row_of.new.blocks c.in_ok-below.ensures.kept.leads))
-    (subst (λ (f : Area → ℕ). need_leaves (leaf_bytes (g.B.Ground.geometry c.args.blocks.now)) (length c.args.given.now) + (c.args.height - 1) * (2 * (g.B.Ground.geometry c.args.blocks.now).fan) ≤ (g.B.Ground.geometry c.args.blocks.now).fan * f Page) (sym c.in_ok-below.ensures.kept.free)
+    subst (λ (geo : Geometry). growth_leaves geo (length c.args.given.now) + (c.args.height - 1) * (2 * geo.fan) ≤ geo.fan * g.B.Ground.free c.row_of.new.blocks Page) (sym (g.B.Ground.leads_geometry c.args.blocks.now c.row_of.new.blocks c.in_ok-below.ensures.kept.leads))
+    (subst (λ (f : Area → ℕ). growth_leaves (g.B.Ground.geometry c.args.blocks.now) (length c.args.given.now) + (c.args.height - 1) * (2 * (g.B.Ground.geometry c.args.blocks.now).fan) ≤ (g.B.Ground.geometry c.args.blocks.now).fan * f Page) (sym c.in_ok-below.ensures.kept.free)
     (omega (arith, level_up c.args.height (2 * (g.B.Ground.geometry c.args.blocks.now).fan) c.if-height-eq0.false, c.requires.pages)))
 
 pub nodes_over-requires-clause-buffer : goal.nodes_over-requires-clause-buffer
 nodes_over-requires-clause-buffer g c =
     length-take-le c.geometry-geometry.result.page_size c.grow_row.new.buffer (omega (arith, c.grow_row.auto.buffer, c.requires.buffer, page_le (g.B.Ground.geometry c.args.blocks.now), ap (λ (k : Geometry). k.page_size) c.geometry-geometry.ensures))
     ∙ ap (λ (k : Geometry). k.page_size) (c.geometry-geometry.ensures ∙ sym (g.B.Ground.leads_geometry c.row_of.new.blocks c.grow_row.new.blocks c.in_ok-grown.ensures.extends.leads ∙ (g.B.Ground.leads_geometry c.args.blocks.now c.row_of.new.blocks c.in_ok-below.ensures.kept.leads)))
+
+pub nodes_over-requires-clause-count : goal.nodes_over-requires-clause-count
+nodes_over-requires-clause-count g c =
+    let paid = (paid_at g.B.Ground c.args.blocks.now c.row_of.new.blocks c.grow_row.new.blocks c.args.height (length c.args.given.now) (length c.deref.result.now) (length c.in_ok-grown.grown.items) c.in_ok-below.ensures.kept c.in_ok-grown.ensures.paid) in
+    let byte : c.args.height < 256 = search rules in
+    let few : length c.in_ok-grown.grown.items < 2 ^ 32 =
+    few_grown (g.B.Ground.geometry c.args.blocks.now).fan (growth_leaves (g.B.Ground.geometry c.args.blocks.now) (length c.args.given.now)) (c.args.height - 1) paid.parts (length c.in_ok-grown.grown.items) (length c.deref.result.now) (g.B.Ground.free c.args.blocks.now Page) (g.B.Ground.free c.grow_row.new.blocks Page)
+    (narrow (g.B.Ground.geometry c.args.blocks.now)) (omega arith) (growth_few (g.B.Ground.geometry c.args.blocks.now) (length c.args.given.now) (omega (arith, c.requires.limit))) paid.count (omega (arith, ap length c.deref.ensures.value, c.in_ok-below.ensures.counted.few)) paid.fewer paid.paid in
+    omega (arith, ap length c.deref-2.ensures.value)
 
 pub nodes_over-requires-clause-limit : goal.nodes_over-requires-clause-limit
 nodes_over-requires-clause-limit g c =
@@ -90,7 +101,7 @@ pub nodes_over-requires-clause-free : goal.nodes_over-requires-clause-free
 nodes_over-requires-clause-free g c =
     let paid = (paid_at g.B.Ground c.args.blocks.now c.row_of.new.blocks c.grow_row.new.blocks c.args.height (length c.args.given.now) (length c.deref.result.now) (length c.in_ok-grown.grown.items) c.in_ok-below.ensures.kept c.in_ok-grown.ensures.paid) in
     subst (λ (k : Geometry). nodes_for k.fan (length c.deref-2.result.now) ≤ g.B.Ground.free c.grow_row.new.blocks Page) (sym (g.B.Ground.leads_geometry c.row_of.new.blocks c.grow_row.new.blocks c.in_ok-grown.ensures.extends.leads ∙ (g.B.Ground.leads_geometry c.args.blocks.now c.row_of.new.blocks c.in_ok-below.ensures.kept.leads)))
-    (node_free (g.B.Ground.geometry c.args.blocks.now).fan (need_leaves (leaf_bytes (g.B.Ground.geometry c.args.blocks.now)) (length c.args.given.now)) c.args.height paid.parts (length c.in_ok-grown.grown.items) (length c.deref.result.now) (nodes_for (g.B.Ground.geometry c.args.blocks.now).fan (length c.deref-2.result.now)) (g.B.Ground.free c.args.blocks.now Page) (g.B.Ground.free c.grow_row.new.blocks Page)
+    (node_free (g.B.Ground.geometry c.args.blocks.now).fan (growth_leaves (g.B.Ground.geometry c.args.blocks.now) (length c.args.given.now)) c.args.height paid.parts (length c.in_ok-grown.grown.items) (length c.deref.result.now) (nodes_for (g.B.Ground.geometry c.args.blocks.now).fan (length c.deref-2.result.now)) (g.B.Ground.free c.args.blocks.now Page) (g.B.Ground.free c.grow_row.new.blocks Page)
     (omega (arith, (g.B.Ground.geometry c.args.blocks.now).two)) c.if-height-eq0.false paid.some paid.count (omega (arith, ap length c.deref.ensures.value, c.in_ok-below.ensures.counted.few)) (ap (nodes_for (g.B.Ground.geometry c.args.blocks.now).fan) (ap length c.deref-2.ensures.value)) c.requires.pages paid.paid)
 
 pub returns-clause-extends : goal.returns-clause-extends
@@ -118,8 +129,8 @@ returns-clause-grown g c =
 pub returns-clause-leaves : goal.returns-clause-leaves
 returns-clause-leaves g c =
     on_ok_from c.nodes_over.result _ (λ made is.
-    let later : g.B.Ground.free c.row_of.new.blocks Segment ≤ g.B.Ground.free c.grow_row.new.blocks Segment + need_leaves (leaf_bytes (g.B.Ground.geometry c.args.blocks.now)) (length c.args.given.now) =
-    subst (λ (geo : Geometry). g.B.Ground.free c.row_of.new.blocks Segment ≤ g.B.Ground.free c.grow_row.new.blocks Segment + need_leaves (leaf_bytes geo) (length c.args.given.now)) (g.B.Ground.leads_geometry c.args.blocks.now c.row_of.new.blocks c.in_ok-below.ensures.kept.leads) c.in_ok-grown.ensures.leaves in
+    let later : g.B.Ground.free c.row_of.new.blocks Segment ≤ g.B.Ground.free c.grow_row.new.blocks Segment + growth_leaves (g.B.Ground.geometry c.args.blocks.now) (length c.args.given.now) =
+    subst (λ (geo : Geometry). g.B.Ground.free c.row_of.new.blocks Segment ≤ g.B.Ground.free c.grow_row.new.blocks Segment + growth_leaves geo (length c.args.given.now)) (g.B.Ground.leads_geometry c.args.blocks.now c.row_of.new.blocks c.in_ok-below.ensures.kept.leads) c.in_ok-grown.ensures.leaves in
     omega (arith, (from_ok c.nodes_over.result made _ is c.nodes_over.ensures.spent).of_leaves, ap (λ (f : Area → ℕ). f Segment) c.in_ok-below.ensures.kept.free))
 
 pub returns-clause-paid : goal.returns-clause-paid
@@ -133,7 +144,8 @@ returns-clause-paid g c =
       parts = length made.items;
       some = omega (arith, many, some_node (g.B.Ground.geometry c.args.blocks.now).fan (length c.in_ok-grown.grown.items) c.in_ok-grown.ensures.grown.some);
       count = omega arith;
-      paid = node_paid (g.B.Ground.geometry c.args.blocks.now).fan (need_leaves (leaf_bytes (g.B.Ground.geometry c.args.blocks.now)) (length c.args.given.now)) c.args.height paid.parts (length c.in_ok-grown.grown.items) (length c.deref.result.now) (length made.items) (g.B.Ground.free c.args.blocks.now Page) (g.B.Ground.free c.grow_row.new.blocks Page) (g.B.Ground.free c.nodes_over.new.blocks Page)
+      fewer = omega (arith, (from_ok c.nodes_over.result made _ is c.nodes_over.ensures.spent).of_pages, paid.fewer);
+      paid = node_paid (g.B.Ground.geometry c.args.blocks.now).fan (growth_leaves (g.B.Ground.geometry c.args.blocks.now) (length c.args.given.now)) c.args.height paid.parts (length c.in_ok-grown.grown.items) (length c.deref.result.now) (length made.items) (g.B.Ground.free c.args.blocks.now Page) (g.B.Ground.free c.grow_row.new.blocks Page) (g.B.Ground.free c.nodes_over.new.blocks Page)
           (omega (arith, (g.B.Ground.geometry c.args.blocks.now).two)) c.if-height-eq0.false paid.some paid.count (omega (arith, ap length c.deref.ensures.value, c.in_ok-below.ensures.counted.few)) many (omega (arith, (from_ok c.nodes_over.result made _ is c.nodes_over.ensures.spent).of_pages, count)) paid.paid;
     })
 

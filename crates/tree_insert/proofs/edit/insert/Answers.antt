@@ -1,10 +1,11 @@
 use Rattle.std.proofs.Common.{arith, rules, ◌≡◌, ◌≤◌, length}
 use Rattle.std.proofs.lemmas.Result.{IfErr-weaker, IfOk-at_ok, on_ok_weaker}
 use Rattle.trees.specs.Trees.{root_shape, root_units}
+use Rattle.ex_base.specs.declared.names.Area.TheVariants.{Page, Segment}
 use Rattle.ex_base.specs.Sizes.{leaf_bytes}
 use Rattle.ex_base.proofs.Results.{from_ok, if_ok_from, on_ok_from}
 use Rattle.tree_insert.specs.declared.layout.Growth.TheVariants.{Insert}
-use Rattle.tree_insert.proofs.RootEdit.{root_stays, nothing_changes, nothing_turned, leaves_most, pages_most}
+use Rattle.tree_insert.proofs.RootEdit.{root_stays, nothing_changes, nothing_turned, counted_need}
 use Rattle.trees.proofs.Sound.{sound_root}
 use Rattle.tree_insert.proofs.edit.insert.Goals as goal
 
@@ -28,18 +29,18 @@ returns-clause-units g c = if_ok_from c.grow.result _ (λ made is told bytes spe
 pub grow-requires-clause-pages : goal.grow-requires-clause-pages
 grow-requires-clause-pages g c =
     let some : 1 ≤ (length c.args.given.now) = search rules in
-    omega (arith, pages_most (g.B.Ground.geometry c.args.blocks.now) c.args.root.now.page (length c.args.given.now) c.args.root.now.height, c.requires.pages some)
+    omega (arith, counted_need (g.B.Ground.geometry c.args.blocks.now) c.args.root.now.page (length c.args.given.now) c.args.root.now.height Page, c.requires.pages some)
 
 pub grow-requires-clause-leaves : goal.grow-requires-clause-leaves
 grow-requires-clause-leaves g c =
     let some : 1 ≤ (length c.args.given.now) = search rules in
-    omega (arith, leaves_most (g.B.Ground.geometry c.args.blocks.now) c.args.root.now.page (length c.args.given.now), c.requires.leaves some)
+    omega (arith, counted_need (g.B.Ground.geometry c.args.blocks.now) c.args.root.now.page (length c.args.given.now) c.args.root.now.height Segment, c.requires.leaves some)
 
 pub returns-clause-leaves : goal.returns-clause-leaves
-returns-clause-leaves g c = on_ok_from c.grow.result _ (λ made is. omega (arith, from_ok c.grow.result made _ is c.grow.ensures.leaves, leaves_most (g.B.Ground.geometry c.args.blocks.now) c.args.root.now.page (length c.args.given.now)))
+returns-clause-leaves g c = on_ok_from c.grow.result _ (λ made is. omega (arith, from_ok c.grow.result made _ is c.grow.ensures.leaves, counted_need (g.B.Ground.geometry c.args.blocks.now) c.args.root.now.page (length c.args.given.now) c.args.root.now.height Segment))
 
 pub returns-clause-pages : goal.returns-clause-pages
-returns-clause-pages g c = on_ok_from c.grow.result _ (λ made is. omega (arith, from_ok c.grow.result made _ is c.grow.ensures.pages, pages_most (g.B.Ground.geometry c.args.blocks.now) c.args.root.now.page (length c.args.given.now) c.args.root.now.height))
+returns-clause-pages g c = on_ok_from c.grow.result _ (λ made is. omega (arith, from_ok c.grow.result made _ is c.grow.ensures.pages, counted_need (g.B.Ground.geometry c.args.blocks.now) c.args.root.now.page (length c.args.given.now) c.args.root.now.height Page))
 
 pub returns-clause-old : goal.returns-clause-old
 returns-clause-old g c =

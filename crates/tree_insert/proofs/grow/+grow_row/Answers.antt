@@ -5,7 +5,8 @@ use Rattle.ex_base.specs.Edits.{inserted}
 use Rattle.ex_base.specs.declared.geometry.Geometry.{Geometry}
 use Rattle.ex_base.specs.declared.names.Area.{Area}
 use Rattle.ex_base.specs.declared.names.Area.TheVariants.{Page, Segment}
-use Rattle.ex_base.specs.Sizes.{leaf_bytes}
+use Rattle.ex_base.specs.Needs.{growth_leaves}
+use Rattle.ex_base.specs.Sizes.{leaf_bytes, object_most}
 use Rattle.count_nodes.specs.Split.{nodes_for}
 use Rattle.trees.specs.declared.rows.Part.{Part}
 use Rattle.trees.specs.Damage.{IsNodeFault, IsSoundWay, IsWalkFault}
@@ -18,15 +19,15 @@ use Rattle.trees.proofs.Laid.{extends_on, extends_kept}
 use Rattle.trees.specs.Counted.{Counted, NamesPairs}
 use Rattle.trees.specs.Grown.{Grew}
 use Rattle.tree_insert.specs.Growth.{IsSpot, row_by}
-use Rattle.tree_insert.specs.Need.{need_leaves}
 use Rattle.tree_insert.proofs.PlaceLaws.{read_size, read_most}
 use Rattle.trees.proofs.Paid.{some_node}
-use Rattle.tree_insert.proofs.Paid.{level_up, node_free, node_paid}
+use Rattle.tree_insert.proofs.Paid.{level_up, few_grown, node_free, node_paid}
 use Rattle.tree_insert.proofs.PaidRows.{paid_at}
 use Rattle.tree_insert.proofs.NodeStep.{spot_below, tree_grown, tree_count, tree_grew}
 use Rattle.trees.proofs.Reading.{no_part}
 use Rattle.ex_base.specs.Area.{NamesLeaf}
 use Rattle.ex_base.proofs.Geometries.{page_le}
+use Rattle.ex_base.proofs.NeedLaws.{growth_few}
 use Rattle.ex_base.proofs.Results.{if_err_handed}
 use Rattle.trees.proofs.Ways.{way_kept, way_low, way_one}
 use Rattle.tree_insert.proofs.SoundWays.{place_way}
@@ -39,9 +40,10 @@ if_ok_with (Err e) A P Q f a p = tt
 pub returns-then-level-eq0-clause-paid : goal.returns-then-level-eq0-clause-paid
 returns-then-level-eq0-clause-paid g t c =
     if_ok_with c.grow_leaves.result _ _ _ (λ made pages count. record {
-      parts = need_leaves (leaf_bytes (g.B.Ground.geometry c.args.blocks.now)) (length c.args.given.now);
+      parts = growth_leaves (g.B.Ground.geometry c.args.blocks.now) (length c.args.given.now);
       some = omega arith;
       count = count;
+      fewer = omega (arith, pages);
       paid = omega (arith, ap (λ k. (g.B.Ground.geometry c.args.blocks.now).fan * k) pages);
     }) c.grow_leaves.ensures.pages c.grow_leaves.ensures.count
 
@@ -59,14 +61,14 @@ grow_row-requires g t c κs within =
     let leaves : FitLeaves (g.B.Ground.geometry c.row_of.new.blocks) (c.args.level - 1) c.deref.result.now =
     subst (λ geo. FitLeaves geo (c.args.level - 1) c.deref.result.now) (sym (g.B.Ground.leads_geometry c.args.blocks.now c.row_of.new.blocks c.in_ok-below.ensures.kept.leads))
     (subst (FitLeaves (g.B.Ground.geometry c.args.blocks.now) (c.args.level - 1)) (sym items) (below_fit (g.B.Ground.geometry c.args.blocks.now) c.args.level _ _ c.in_ok-below.below.items c.if-level-eq0.false counted)) in
-    let limit : row_size c.deref.result.now + length c.args.given.now < 2 ^ 32 = omega (arith, ap row_size items, counted.sum, read_most c.args.row.now c.tree_at-index.result.0, c.requires.limit) in
+    let limit : row_size c.deref.result.now + length c.args.given.now ≤ object_most = omega (arith, ap row_size items, counted.sum, read_most c.args.row.now c.tree_at-index.result.0, c.requires.limit) in
     let spot : IsSpot c.args.growth c.tree_at-index.result.1 (row_size c.deref.result.now) =
     subst (IsSpot c.args.growth c.tree_at-index.result.1) (sym (ap row_size items ∙ counted.sum ∙ read_size c.args.row.now c.tree_at-index.result.0 c.tree_at-index.ensures.inside)) (spot_below c.args.growth c.args.row.now c.args.pos c.tree_at-index.result.0 c.tree_at-index.result.1 c.requires.spot c.tree_at-index.ensures) in
-    let free : need_leaves (leaf_bytes (g.B.Ground.geometry c.row_of.new.blocks)) (length c.args.given.now) ≤ g.B.Ground.free c.row_of.new.blocks Segment =
-    subst (λ (geo : Geometry). need_leaves (leaf_bytes geo) (length c.args.given.now) ≤ g.B.Ground.free c.row_of.new.blocks Segment) (sym (g.B.Ground.leads_geometry c.args.blocks.now c.row_of.new.blocks c.in_ok-below.ensures.kept.leads)) (subst (λ (f : Area → ℕ). need_leaves (leaf_bytes (g.B.Ground.geometry c.args.blocks.now)) (length c.args.given.now) ≤ f Segment) (sym kept.free) c.requires.free) in
-    let pages : need_leaves (leaf_bytes (g.B.Ground.geometry c.row_of.new.blocks)) (length c.args.given.now) + (c.args.level - 1) * (2 * (g.B.Ground.geometry c.row_of.new.blocks).fan) ≤ (g.B.Ground.geometry c.row_of.new.blocks).fan * g.B.Ground.free c.row_of.new.blocks Page =
-    subst (λ (geo : Geometry). need_leaves (leaf_bytes geo) (length c.args.given.now) + (c.args.level - 1) * (2 * geo.fan) ≤ geo.fan * g.B.Ground.free c.row_of.new.blocks Page) (sym (g.B.Ground.leads_geometry c.args.blocks.now c.row_of.new.blocks c.in_ok-below.ensures.kept.leads))
-    (subst (λ (f : Area → ℕ). need_leaves (leaf_bytes (g.B.Ground.geometry c.args.blocks.now)) (length c.args.given.now) + (c.args.level - 1) * (2 * (g.B.Ground.geometry c.args.blocks.now).fan) ≤ (g.B.Ground.geometry c.args.blocks.now).fan * f Page) (sym kept.free)
+    let free : growth_leaves (g.B.Ground.geometry c.row_of.new.blocks) (length c.args.given.now) ≤ g.B.Ground.free c.row_of.new.blocks Segment =
+    subst (λ (geo : Geometry). growth_leaves geo (length c.args.given.now) ≤ g.B.Ground.free c.row_of.new.blocks Segment) (sym (g.B.Ground.leads_geometry c.args.blocks.now c.row_of.new.blocks c.in_ok-below.ensures.kept.leads)) (subst (λ (f : Area → ℕ). growth_leaves (g.B.Ground.geometry c.args.blocks.now) (length c.args.given.now) ≤ f Segment) (sym kept.free) c.requires.free) in
+    let pages : growth_leaves (g.B.Ground.geometry c.row_of.new.blocks) (length c.args.given.now) + (c.args.level - 1) * (2 * (g.B.Ground.geometry c.row_of.new.blocks).fan) ≤ (g.B.Ground.geometry c.row_of.new.blocks).fan * g.B.Ground.free c.row_of.new.blocks Page =
+    subst (λ (geo : Geometry). growth_leaves geo (length c.args.given.now) + (c.args.level - 1) * (2 * geo.fan) ≤ geo.fan * g.B.Ground.free c.row_of.new.blocks Page) (sym (g.B.Ground.leads_geometry c.args.blocks.now c.row_of.new.blocks c.in_ok-below.ensures.kept.leads))
+    (subst (λ (f : Area → ℕ). growth_leaves (g.B.Ground.geometry c.args.blocks.now) (length c.args.given.now) + (c.args.level - 1) * (2 * (g.B.Ground.geometry c.args.blocks.now).fan) ≤ (g.B.Ground.geometry c.args.blocks.now).fan * f Page) (sym kept.free)
     (omega (arith, level_up c.args.level (2 * (g.B.Ground.geometry c.args.blocks.now).fan) c.if-level-eq0.false, c.requires.pages))) in
     search rules
 
@@ -76,6 +78,15 @@ nodes_over-requires-clause-buffer g t c =
     length-take-le c.geometry-geometry.result.page_size c.grow_row.new.buffer (omega (arith, c.grow_row.auto.buffer, c.requires.buffer, page_le (g.B.Ground.geometry c.args.blocks.now), ap (λ (k : Geometry). k.page_size) c.geometry-geometry.ensures))
     ∙ ap (λ (k : Geometry). k.page_size) (c.geometry-geometry.ensures ∙ sym geo)
 
+pub nodes_over-requires-clause-count : goal.nodes_over-requires-clause-count
+nodes_over-requires-clause-count g t c =
+    let paid = (paid_at g.B.Ground c.args.blocks.now c.row_of.new.blocks c.grow_row.new.blocks c.args.level (length c.args.given.now) (length c.deref.result.now) (length c.in_ok-grown.grown.items) c.in_ok-below.ensures.kept c.in_ok-grown.ensures.paid) in
+    let byte : c.args.level < 256 = search rules in
+    let few : length c.in_ok-grown.grown.items < 2 ^ 32 =
+    few_grown (g.B.Ground.geometry c.args.blocks.now).fan (growth_leaves (g.B.Ground.geometry c.args.blocks.now) (length c.args.given.now)) (c.args.level - 1) paid.parts (length c.in_ok-grown.grown.items) (length c.deref.result.now) (g.B.Ground.free c.args.blocks.now Page) (g.B.Ground.free c.grow_row.new.blocks Page)
+    (narrow (g.B.Ground.geometry c.args.blocks.now)) (omega arith) (growth_few (g.B.Ground.geometry c.args.blocks.now) (length c.args.given.now) (omega (arith, c.requires.limit))) paid.count (omega (arith, ap length c.deref.ensures.value, c.in_ok-below.ensures.counted.few)) paid.fewer paid.paid in
+    omega (arith, ap length c.deref-2.ensures.value)
+
 pub nodes_over-requires-clause-limit : goal.nodes_over-requires-clause-limit
 nodes_over-requires-clause-limit g t c =
     omega (arith, ap row_size c.deref-2.ensures.value, c.in_ok-grown.ensures.grown.sum, ap row_size c.deref.ensures.value, c.in_ok-below.ensures.counted.sum, read_most c.args.row.now c.tree_at-index.result.0, c.requires.limit)
@@ -84,7 +95,7 @@ pub nodes_over-requires-clause-free : goal.nodes_over-requires-clause-free
 nodes_over-requires-clause-free g t c =
     let paid = (paid_at g.B.Ground c.args.blocks.now c.row_of.new.blocks c.grow_row.new.blocks c.args.level (length c.args.given.now) (length c.deref.result.now) (length c.in_ok-grown.grown.items) c.in_ok-below.ensures.kept c.in_ok-grown.ensures.paid) in
     subst (λ (k : Geometry). nodes_for k.fan (length c.deref-2.result.now) ≤ g.B.Ground.free c.grow_row.new.blocks Page) (sym (g.B.Ground.leads_geometry c.row_of.new.blocks c.grow_row.new.blocks c.in_ok-grown.ensures.extends.leads ∙ (g.B.Ground.leads_geometry c.args.blocks.now c.row_of.new.blocks c.in_ok-below.ensures.kept.leads)))
-    (node_free (g.B.Ground.geometry c.args.blocks.now).fan (need_leaves (leaf_bytes (g.B.Ground.geometry c.args.blocks.now)) (length c.args.given.now)) c.args.level paid.parts (length c.in_ok-grown.grown.items) (length c.deref.result.now) (nodes_for (g.B.Ground.geometry c.args.blocks.now).fan (length c.deref-2.result.now)) (g.B.Ground.free c.args.blocks.now Page) (g.B.Ground.free c.grow_row.new.blocks Page)
+    (node_free (g.B.Ground.geometry c.args.blocks.now).fan (growth_leaves (g.B.Ground.geometry c.args.blocks.now) (length c.args.given.now)) c.args.level paid.parts (length c.in_ok-grown.grown.items) (length c.deref.result.now) (nodes_for (g.B.Ground.geometry c.args.blocks.now).fan (length c.deref-2.result.now)) (g.B.Ground.free c.args.blocks.now Page) (g.B.Ground.free c.grow_row.new.blocks Page)
     (omega (arith, (g.B.Ground.geometry c.args.blocks.now).two)) c.if-level-eq0.false paid.some paid.count (omega (arith, ap length c.deref.ensures.value, c.in_ok-below.ensures.counted.few)) (ap (nodes_for (g.B.Ground.geometry c.args.blocks.now).fan) (ap length c.deref-2.ensures.value)) c.requires.pages paid.paid)
 
 pub returns-in_err-made-clause-leads : goal.returns-in_err-made-clause-leads
@@ -119,8 +130,8 @@ returns-clause-grown g t c =
 
 pub returns-clause-leaves : goal.returns-clause-leaves
 returns-clause-leaves g t c =
-    let later : g.B.Ground.free c.row_of.new.blocks Segment ≤ g.B.Ground.free c.grow_row.new.blocks Segment + need_leaves (leaf_bytes (g.B.Ground.geometry c.args.blocks.now)) (length c.args.given.now) =
-    subst (λ (geo : Geometry). g.B.Ground.free c.row_of.new.blocks Segment ≤ g.B.Ground.free c.grow_row.new.blocks Segment + need_leaves (leaf_bytes geo) (length c.args.given.now)) (g.B.Ground.leads_geometry c.args.blocks.now c.row_of.new.blocks c.in_ok-below.ensures.kept.leads) c.in_ok-grown.ensures.leaves in
+    let later : g.B.Ground.free c.row_of.new.blocks Segment ≤ g.B.Ground.free c.grow_row.new.blocks Segment + growth_leaves (g.B.Ground.geometry c.args.blocks.now) (length c.args.given.now) =
+    subst (λ (geo : Geometry). g.B.Ground.free c.row_of.new.blocks Segment ≤ g.B.Ground.free c.grow_row.new.blocks Segment + growth_leaves geo (length c.args.given.now)) (g.B.Ground.leads_geometry c.args.blocks.now c.row_of.new.blocks c.in_ok-below.ensures.kept.leads) c.in_ok-grown.ensures.leaves in
     omega (arith, c.in_ok-made.ensures.spent.of_leaves, ap (λ (f : Area → ℕ). f Segment) c.in_ok-below.ensures.kept.free)
 
 pub returns-clause-paid : goal.returns-clause-paid
@@ -133,7 +144,8 @@ returns-clause-paid g t c =
       parts = length c.in_ok-made.made.items;
       some = omega (arith, many, some_node (g.B.Ground.geometry c.args.blocks.now).fan (length c.in_ok-grown.grown.items) c.in_ok-grown.ensures.grown.some);
       count = omega (arith, tree_count c.args.row.now c.tree_at-index.result.0 c.in_ok-made.made.items c.in_ok-spliced.field-0.items c.tree_at-index.ensures.inside (c.in_ok-spliced.ensures ∙ ap (λ m. (take c.tree_at-index.result.0 c.args.row.now ++ m) ++ drop (c.tree_at-index.result.0 + 1) c.args.row.now) c.deref-3.ensures.value));
-      paid = node_paid (g.B.Ground.geometry c.args.blocks.now).fan (need_leaves (leaf_bytes (g.B.Ground.geometry c.args.blocks.now)) (length c.args.given.now)) c.args.level paid.parts (length c.in_ok-grown.grown.items) (length c.deref.result.now) (length c.in_ok-made.made.items) (g.B.Ground.free c.args.blocks.now Page) (g.B.Ground.free c.grow_row.new.blocks Page) (g.B.Ground.free c.nodes_over.new.blocks Page)
+      fewer = omega (arith, made.spent.of_pages, paid.fewer);
+      paid = node_paid (g.B.Ground.geometry c.args.blocks.now).fan (growth_leaves (g.B.Ground.geometry c.args.blocks.now) (length c.args.given.now)) c.args.level paid.parts (length c.in_ok-grown.grown.items) (length c.deref.result.now) (length c.in_ok-made.made.items) (g.B.Ground.free c.args.blocks.now Page) (g.B.Ground.free c.grow_row.new.blocks Page) (g.B.Ground.free c.nodes_over.new.blocks Page)
           (omega (arith, (g.B.Ground.geometry c.args.blocks.now).two)) c.if-level-eq0.false paid.some paid.count (omega (arith, ap length c.deref.ensures.value, c.in_ok-below.ensures.counted.few)) many (omega (arith, made.spent.of_pages, made.count)) paid.paid;
     }
 

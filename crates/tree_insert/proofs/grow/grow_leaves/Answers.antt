@@ -20,6 +20,10 @@ use Rattle.std.proofs.lemmas.Bool.{cases_lt}
 use Rattle.tree_insert.proofs.SoundWays.{leaves_way_at}
 use Rattle.tree_insert.proofs.grow.grow_leaves.Goals as goal
 
+pub plan_for-plan-requires-clause-fits : goal.plan_for-plan-requires-clause-fits
+plan_for-plan-requires-clause-fits g c =
+    subst (λ k. AllByRecursion (λ (part : Part). part.size ≤ k) c.args.row.now) (sym c.requires.buffer) (c.requires.leaves refl)
+
 pub run_of-run-requires-clause-left : goal.run_of-run-requires-clause-left
 run_of-run-requires-clause-left g c =
     left_there c.args.growth (length c.args.buffer.now) c.args.row.now c.tree_at-index.result.0 (size_at c.args.row.now c.tree_at-index.result.0) (first_of (sizes_of (drop (c.tree_at-index.result.0 + 1) c.args.row.now))) (length c.args.given.now)

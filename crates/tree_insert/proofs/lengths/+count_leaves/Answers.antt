@@ -1,4 +1,4 @@
-use Rattle.std.proofs.Common.{rules, arith, [], ◌∷◌, ◌≡◌, ◌≤◌, ◌<◌, Some, ◌+◌, ◌-◌, ◌^◌, ◌∙◌, ap, sym, subst, length, get_or, take_all, nat_eq}
+use Rattle.std.proofs.Common.{rules, arith, [], ◌∷◌, ◌≡◌, ◌≤◌, Some, ◌+◌, ◌-◌, ◌∙◌, ap, sym, subst, length, get_or, take_all, nat_eq}
 use Rattle.std.specs.HashMap.{get}
 use Rattle.ex_base.specs.declared.geometry.Geometry.{Geometry}
 use Rattle.ex_base.proofs.Each.{each_at}
@@ -13,14 +13,13 @@ use Rattle.tree_insert.proofs.BelowRows.{walk_one}
 use Rattle.tree_insert.proofs.Counting.{leaves_in, count_start, count_more, count_node, bounded_put, counted_put, sound_put}
 use Rattle.trees.proofs.Reading.{no_part}
 use Rattle.trees.proofs.Sizes.{front_most}
-use Rattle.tree_insert.proofs.PlaceLaws.{read_most, read_size, size-front}
+use Rattle.tree_insert.proofs.PlaceLaws.{read_size, size-front}
 use Rattle.tree_insert.proofs.lengths.+count_leaves.Goals as goal
 
 pub count_leaves-requires : goal.count_leaves-requires
 count_leaves-requires g t c κs within =
     let ready : g.B.Ground.ready c.loop-child.blocks = g.B.Ground.leads_ready c.args.blocks.now c.loop-child.blocks c.loop-child.invariant.kept.leads c.requires.ready in
     let some : 1 ≤ (get_or c.deref-child-items.result.now c.loop-child.child-index no_part).size = each_at (λ (part : Part). 1 ≤ part.size) c.deref-child-items.result.now c.loop-child.child-index no_part c.loop-child-test.true (subst AreSome (sym c.deref-child-items.ensures.value) c.in_ok-below.ensures.counted.some) in
-    let limit : (get_or c.deref-child-items.result.now c.loop-child.child-index no_part).size < 2 ^ 32 = omega (arith, read_most c.deref-child-items.result.now c.loop-child.child-index, ap row_size c.deref-child-items.ensures.value, c.in_ok-below.ensures.counted.sum, c.requires.limit) in
     search rules
 
 pub returns-in_err-leaves-clause-fault : goal.returns-in_err-leaves-clause-fault
@@ -32,7 +31,9 @@ returns-in_err-leaves-clause-fault g t c =
     (subst (λ k. IsWalkFault (g.B.Ground.geometry c.loop-child.blocks) (g.B.Ground.unit c.loop-child.blocks) (c.args.level - 1) k (get_or c.deref-child-items.result.now c.loop-child.child-index no_part ∷ []) c.in_err-leaves.field-0.0) (ap (λ (x : Geometry). x.fan) (c.geometry-fan.ensures ∙ g.B.Ground.leads_geometry c.args.blocks.now c.row_of.new.blocks c.in_ok-below.ensures.kept.leads)) (c.in_err-leaves.ensures.fault later))) told))
 
 pub overflow_add-leaves : goal.overflow_add-leaves
-overflow_add-leaves g t c = omega (arith, c.loop-child.invariant.most, c.in_ok-leaves.ensures.most, size-front c.deref-child-items.result.now c.loop-child.child-index c.loop-child-test.true, read_size c.deref-child-items.result.now c.loop-child.child-index c.loop-child-test.true, front_most c.deref-child-items.result.now (c.loop-child.child-index + 1), ap row_size c.deref-child-items.ensures.value, c.in_ok-below.ensures.counted.sum, c.requires.limit)
+overflow_add-leaves g t c =
+    let le : c.loop-child.leaves + c.in_ok-leaves.field-0 ≤ c.args.tree.size = omega (arith, c.loop-child.invariant.most, c.in_ok-leaves.ensures.most, size-front c.deref-child-items.result.now c.loop-child.child-index c.loop-child-test.true, read_size c.deref-child-items.result.now c.loop-child.child-index c.loop-child-test.true, front_most c.deref-child-items.result.now (c.loop-child.child-index + 1), ap row_size c.deref-child-items.ensures.value, c.in_ok-below.ensures.counted.sum) in
+    search rules
 
 pub loop-child-preserved : goal.loop-child-preserved
 loop-child-preserved g t c =

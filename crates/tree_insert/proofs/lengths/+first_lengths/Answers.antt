@@ -1,23 +1,32 @@
-use Rattle.std.proofs.Common.{rules, arith, [], ◌∷◌, ◌++◌, ◌≤◌, ◌<◌, ◌-◌, ◌^◌, ◌∙◌, ap, sym, subst, take, get_or, take_all}
+use Rattle.std.proofs.Common.{rules, arith, [], ◌∷◌, ◌++◌, ◌≡◌, ◌≤◌, ◌-◌, ◌∙◌, ap, sym, subst, take, get_or, take_all}
 use Rattle.ex_base.specs.declared.geometry.Geometry.{Geometry}
+use Rattle.ex_base.specs.Sizes.{leaf_bytes}
 use Rattle.ex_base.proofs.Each.{each_at}
+use Rattle.ex_base.proofs.Geometries.{leaf_most}
 use Rattle.ex_base.proofs.Results.{if_err_handed}
 use Rattle.trees.specs.declared.rows.Part.{Part}
 use Rattle.trees.specs.Damage.{IsWalkFault}
-use Rattle.trees.specs.Rows.{row_size, IsRowOn, IsFilled}
+use Rattle.trees.specs.Rows.{FitLeaves, IsRowOn, IsFilled}
+use Rattle.trees.proofs.Parts.{below_fit}
 use Rattle.trees.proofs.Blame.{walk_back, walk_below}
 use Rattle.trees.specs.Built.{AreSome}
 use Rattle.tree_insert.proofs.BelowRows.{walk_one}
 use Rattle.tree_insert.proofs.Counting.{leaves_in, leaf_front, front_step, front_node}
 use Rattle.trees.proofs.Reading.{no_part}
-use Rattle.tree_insert.proofs.PlaceLaws.{read_most}
 use Rattle.tree_insert.proofs.lengths.+first_lengths.Goals as goal
+
+pub overflow_cast-tree : goal.overflow_cast-tree
+overflow_cast-tree g t c = omega (arith, c.requires.leaf c.if-level-eq0.true, leaf_most (g.B.Ground.geometry c.args.blocks.now))
 
 pub first_lengths-requires : goal.first_lengths-requires
 first_lengths-requires g t c κs within =
     let ready : g.B.Ground.ready c.loop-child.blocks = g.B.Ground.leads_ready c.args.blocks.now c.loop-child.blocks c.loop-child.invariant.kept.leads c.requires.ready in
     let some : 1 ≤ (get_or c.deref-child-items.result.now c.loop-child.child-index no_part).size = each_at (λ (part : Part). 1 ≤ part.size) c.deref-child-items.result.now c.loop-child.child-index no_part c.loop-child-test.true (subst AreSome (sym c.deref-child-items.ensures.value) c.in_ok-below.ensures.counted.some) in
-    let limit : (get_or c.deref-child-items.result.now c.loop-child.child-index no_part).size < 2 ^ 32 = omega (arith, read_most c.deref-child-items.result.now c.loop-child.child-index, ap row_size c.deref-child-items.ensures.value, c.in_ok-below.ensures.counted.sum, c.requires.limit) in
+    let fit : FitLeaves (g.B.Ground.geometry c.loop-child.blocks) (c.args.level - 1) c.deref-child-items.result.now =
+    subst (λ geo. FitLeaves geo (c.args.level - 1) c.deref-child-items.result.now) (sym (g.B.Ground.leads_geometry c.args.blocks.now c.loop-child.blocks c.loop-child.invariant.kept.leads))
+    (subst (FitLeaves (g.B.Ground.geometry c.args.blocks.now) (c.args.level - 1)) (sym c.deref-child-items.ensures.value) (below_fit (g.B.Ground.geometry c.args.blocks.now) c.args.level _ _ c.in_ok-below.below.items c.if-level-eq0.false c.in_ok-below.ensures.counted)) in
+    let leaf : c.args.level - 1 ≡ 0 → (get_or c.deref-child-items.result.now c.loop-child.child-index no_part).size ≤ leaf_bytes (g.B.Ground.geometry c.loop-child.blocks) =
+    λ low. each_at (λ (part : Part). part.size ≤ leaf_bytes (g.B.Ground.geometry c.loop-child.blocks)) c.deref-child-items.result.now c.loop-child.child-index no_part c.loop-child-test.true (fit low) in
     search rules
 
 pub returns-in_err-first_lengths-clause-fault : goal.returns-in_err-first_lengths-clause-fault

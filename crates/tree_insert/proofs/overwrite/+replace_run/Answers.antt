@@ -1,8 +1,9 @@
-use Rattle.std.proofs.Common.{rules, arith, ℕ, List, ◌≡◌, ◌≤◌, ◌<◌, ◌+◌, ◌-◌, ◌*◌, ◌^◌, ◌++◌, ◌∙◌, ap, sym, subst, suc, length, take, drop}
+use Rattle.std.proofs.Common.{rules, arith, ℕ, List, ◌≡◌, ◌≤◌, ◌+◌, ◌-◌, ◌*◌, ◌++◌, ◌∙◌, ap, sym, subst, suc, length, take, drop}
 use Rattle.std.proofs.lemmas.List.{length-take-le}
 use Rattle.std.proofs.lemmas.Result.{IfOk-at_ok, on_ok_weaker}
 use Rattle.ex_base.specs.Bytes.{written}
-use Rattle.ex_base.specs.Sizes.{leaf_bytes}
+use Rattle.ex_base.specs.Needs.{replaced_leaves}
+use Rattle.ex_base.specs.Sizes.{leaf_bytes, object_most}
 use Rattle.ex_base.specs.declared.geometry.Geometry.{Geometry}
 use Rattle.ex_base.specs.declared.names.Area.{Area}
 use Rattle.ex_base.specs.declared.names.Area.TheVariants.{Page, Segment}
@@ -16,7 +17,7 @@ use Rattle.trees.specs.Made.{Holds}
 use Rattle.trees.proofs.Laid.{extends_on, extends_kept}
 use Rattle.trees.specs.Counted.{Counted, NamesPairs}
 use Rattle.trees.specs.Grown.{Grew}
-use Rattle.tree_insert.specs.Replaced.{IsSpan, IsTouched, IsSpent, AreLeaves, touched_leaves}
+use Rattle.tree_insert.specs.Replaced.{IsSpan, IsTouched, IsSpent, AreLeaves}
 use Rattle.tree_insert.proofs.BelowRows.{size_below, count_below, lens_below, as_many, some_below}
 use Rattle.tree_insert.proofs.Paid.{level_up}
 use Rattle.tree_insert.proofs.ReplacedLeaves.{few_leaves}
@@ -51,14 +52,14 @@ replace_run-requires g t c κs within =
     let leaves : AreLeaves (g.B.Ground.geometry c.row_below.new.blocks) (c.args.level - 1) c.piece-touched.result.now =
     subst (λ x. AreLeaves x (c.args.level - 1) c.piece-touched.result.now) (sym (g.B.Ground.leads_geometry c.args.blocks.now c.row_below.new.blocks c.in_ok-below.ensures.kept.leads)) (subst (AreLeaves (g.B.Ground.geometry c.args.blocks.now) (c.args.level - 1)) (sym (c.piece-touched.ensures ∙ ap (λ r. take (c.span_of-span.result.end - c.span_of-span.result.first) (drop c.span_of-span.result.first r)) c.deref-2.ensures.value)) (touched_leaves_fit (g.B.Ground.geometry c.args.blocks.now) c.args.level c.args.least c.args.run.now c.in_ok-below.below.lens.items c.in_ok-below.below.row.items c.span_of-span.result.first (c.span_of-span.result.end - c.span_of-span.result.first) c.if-level-eq0.false c.in_ok-below.ensures.counted)) in
     let touched : IsTouched c.piece-touched.result.now c.span_of-span.result.at (length c.args.given.now) = subst (λ r. IsTouched r c.span_of-span.result.at (length c.args.given.now)) (sym (c.piece-touched.ensures ∙ ap (λ r. take (c.span_of-span.result.end - c.span_of-span.result.first) (drop c.span_of-span.result.first r)) c.deref-2.ensures.value)) span.touched in
-    let limit : row_size c.piece-touched.result.now < 2 ^ 32 = omega (arith, ap row_size (c.piece-touched.ensures ∙ ap (λ r. take (c.span_of-span.result.end - c.span_of-span.result.first) (drop c.span_of-span.result.first r)) c.deref-2.ensures.value), touched_sum c.in_ok-below.below.row.items c.span_of-span.result.first c.span_of-span.result.end span.order, size_below (g.B.Ground.geometry c.args.blocks.now) c.args.level c.args.least c.args.run.now c.in_ok-below.below.lens.items c.in_ok-below.below.row.items c.in_ok-below.ensures.counted, c.requires.limit) in
+    let limit : row_size c.piece-touched.result.now ≤ object_most = omega (arith, ap row_size (c.piece-touched.ensures ∙ ap (λ r. take (c.span_of-span.result.end - c.span_of-span.result.first) (drop c.span_of-span.result.first r)) c.deref-2.ensures.value), touched_sum c.in_ok-below.below.row.items c.span_of-span.result.first c.span_of-span.result.end span.order, size_below (g.B.Ground.geometry c.args.blocks.now) c.args.level c.args.least c.args.run.now c.in_ok-below.below.lens.items c.in_ok-below.below.row.items c.in_ok-below.ensures.counted, c.requires.limit) in
     let some : 1 ≤ c.geometry-geometry.result.fan = omega (arith, c.geometry-geometry.result.two) in
     let least : 2 ≤ length c.piece-touched.result.now → (g.B.Ground.geometry c.row_below.new.blocks).fan ≤ c.geometry-geometry.result.fan = λ two. omega (arith, ap (λ (x : Geometry). x.fan) (g.B.Ground.leads_geometry c.args.blocks.now c.row_below.new.blocks c.in_ok-below.ensures.kept.leads), ap (λ (x : Geometry). x.fan) c.geometry-geometry.ensures) in
-    let free : touched_leaves (leaf_bytes (g.B.Ground.geometry c.row_below.new.blocks)) (length c.args.given.now) ≤ g.B.Ground.free c.row_below.new.blocks Segment =
-    subst (λ (x : Geometry). touched_leaves (leaf_bytes x) (length c.args.given.now) ≤ g.B.Ground.free c.row_below.new.blocks Segment) (sym (g.B.Ground.leads_geometry c.args.blocks.now c.row_below.new.blocks c.in_ok-below.ensures.kept.leads)) (subst (λ (f : Area → ℕ). touched_leaves (leaf_bytes (g.B.Ground.geometry c.args.blocks.now)) (length c.args.given.now) ≤ f Segment) (sym c.in_ok-below.ensures.kept.free) c.requires.free) in
-    let pages : touched_leaves (leaf_bytes (g.B.Ground.geometry c.row_below.new.blocks)) (length c.args.given.now) + (c.args.level - 1) * (2 * ((g.B.Ground.geometry c.row_below.new.blocks).fan - 1)) ≤ ((g.B.Ground.geometry c.row_below.new.blocks).fan - 1) * g.B.Ground.free c.row_below.new.blocks Page =
-    subst (λ (x : Geometry). touched_leaves (leaf_bytes x) (length c.args.given.now) + (c.args.level - 1) * (2 * (x.fan - 1)) ≤ (x.fan - 1) * g.B.Ground.free c.row_below.new.blocks Page) (sym (g.B.Ground.leads_geometry c.args.blocks.now c.row_below.new.blocks c.in_ok-below.ensures.kept.leads))
-    (subst (λ (f : Area → ℕ). (touched_leaves (leaf_bytes (g.B.Ground.geometry c.args.blocks.now)) (length c.args.given.now)) + (c.args.level - 1) * (2 * ((g.B.Ground.geometry c.args.blocks.now).fan - 1)) ≤ ((g.B.Ground.geometry c.args.blocks.now).fan - 1) * f Page) (sym c.in_ok-below.ensures.kept.free)
+    let free : replaced_leaves (g.B.Ground.geometry c.row_below.new.blocks) (length c.args.given.now) ≤ g.B.Ground.free c.row_below.new.blocks Segment =
+    subst (λ (x : Geometry). replaced_leaves x (length c.args.given.now) ≤ g.B.Ground.free c.row_below.new.blocks Segment) (sym (g.B.Ground.leads_geometry c.args.blocks.now c.row_below.new.blocks c.in_ok-below.ensures.kept.leads)) (subst (λ (f : Area → ℕ). replaced_leaves (g.B.Ground.geometry c.args.blocks.now) (length c.args.given.now) ≤ f Segment) (sym c.in_ok-below.ensures.kept.free) c.requires.free) in
+    let pages : replaced_leaves (g.B.Ground.geometry c.row_below.new.blocks) (length c.args.given.now) + (c.args.level - 1) * (2 * ((g.B.Ground.geometry c.row_below.new.blocks).fan - 1)) ≤ ((g.B.Ground.geometry c.row_below.new.blocks).fan - 1) * g.B.Ground.free c.row_below.new.blocks Page =
+    subst (λ (x : Geometry). replaced_leaves x (length c.args.given.now) + (c.args.level - 1) * (2 * (x.fan - 1)) ≤ (x.fan - 1) * g.B.Ground.free c.row_below.new.blocks Page) (sym (g.B.Ground.leads_geometry c.args.blocks.now c.row_below.new.blocks c.in_ok-below.ensures.kept.leads))
+    (subst (λ (f : Area → ℕ). (replaced_leaves (g.B.Ground.geometry c.args.blocks.now) (length c.args.given.now)) + (c.args.level - 1) * (2 * ((g.B.Ground.geometry c.args.blocks.now).fan - 1)) ≤ ((g.B.Ground.geometry c.args.blocks.now).fan - 1) * f Page) (sym c.in_ok-below.ensures.kept.free)
     (omega (arith, level_up c.args.level (2 * ((g.B.Ground.geometry c.args.blocks.now).fan - 1)) c.if-level-eq0.false, c.requires.pages))) in
     search rules
 
@@ -95,7 +96,7 @@ nodes_by-requires-clause-lens g t c =
 pub nodes_by-requires-clause-free : goal.nodes_by-requires-clause-free
 nodes_by-requires-clause-free g t c =
     let span = (subst (λ r. IsSpan r c.args.pos (length c.args.given.now) c.span_of-span.result.first c.span_of-span.result.end c.span_of-span.result.at) c.deref.ensures.value c.span_of-span.ensures) in
-    let r : length c.args.run.now ≤ g.B.Ground.free c.replace_run.new.blocks Page = enough_nodes ((g.B.Ground.geometry c.args.blocks.now).fan - 1) (touched_leaves (leaf_bytes (g.B.Ground.geometry c.args.blocks.now)) (length c.args.given.now)) c.args.level (g.B.Ground.free c.args.blocks.now Page) (g.B.Ground.free c.replace_run.new.blocks Page) (length c.args.run.now) (c.span_of-span.result.end - c.span_of-span.result.first) (omega (arith, (g.B.Ground.geometry c.args.blocks.now).two)) c.if-level-eq0.false c.requires.touched.some (omega (arith, span.order)) (few_up (g.B.Ground.geometry c.args.blocks.now) c.args.level c.args.least c.args.run.now c.in_ok-below.below.lens.items c.in_ok-below.below.row.items c.args.pos (length c.args.given.now) c.span_of-span.result.first c.span_of-span.result.end c.span_of-span.result.at c.in_ok-below.ensures.counted c.requires.touched span c.requires.least) c.requires.pages (subst (λ x. IsSpent (g.B.Ground.geometry c.args.blocks.now).fan (touched_leaves (leaf_bytes (g.B.Ground.geometry c.args.blocks.now)) (length c.args.given.now)) (c.args.level - 1) (g.B.Ground.free c.args.blocks.now Page) (g.B.Ground.free c.replace_run.new.blocks Page) x) (ap length (c.piece-touched.ensures ∙ ap (λ r. take (c.span_of-span.result.end - c.span_of-span.result.first) (drop c.span_of-span.result.first r)) c.deref-2.ensures.value) ∙ touched_count c.in_ok-below.below.row.items c.span_of-span.result.first c.span_of-span.result.end c.span_of-span.ensures.order (omega (arith, c.span_of-span.ensures.within, ap length c.deref.ensures.value))) (spent_at g.B.Ground c.args.blocks.now c.row_below.new.blocks c.replace_run.new.blocks c.args.level (length c.args.given.now) (length c.piece-touched.result.now) c.in_ok-below.ensures.kept c.in_ok-made.ensures.spent)) in
+    let r : length c.args.run.now ≤ g.B.Ground.free c.replace_run.new.blocks Page = enough_nodes ((g.B.Ground.geometry c.args.blocks.now).fan - 1) (replaced_leaves (g.B.Ground.geometry c.args.blocks.now) (length c.args.given.now)) c.args.level (g.B.Ground.free c.args.blocks.now Page) (g.B.Ground.free c.replace_run.new.blocks Page) (length c.args.run.now) (c.span_of-span.result.end - c.span_of-span.result.first) (omega (arith, (g.B.Ground.geometry c.args.blocks.now).two)) c.if-level-eq0.false c.requires.touched.some (omega (arith, span.order)) (few_up (g.B.Ground.geometry c.args.blocks.now) c.args.level c.args.least c.args.run.now c.in_ok-below.below.lens.items c.in_ok-below.below.row.items c.args.pos (length c.args.given.now) c.span_of-span.result.first c.span_of-span.result.end c.span_of-span.result.at c.in_ok-below.ensures.counted c.requires.touched span c.requires.least) c.requires.pages (subst (λ x. IsSpent (g.B.Ground.geometry c.args.blocks.now).fan (replaced_leaves (g.B.Ground.geometry c.args.blocks.now) (length c.args.given.now)) (c.args.level - 1) (g.B.Ground.free c.args.blocks.now Page) (g.B.Ground.free c.replace_run.new.blocks Page) x) (ap length (c.piece-touched.ensures ∙ ap (λ r. take (c.span_of-span.result.end - c.span_of-span.result.first) (drop c.span_of-span.result.first r)) c.deref-2.ensures.value) ∙ touched_count c.in_ok-below.below.row.items c.span_of-span.result.first c.span_of-span.result.end c.span_of-span.ensures.order (omega (arith, c.span_of-span.ensures.within, ap length c.deref.ensures.value))) (spent_at g.B.Ground c.args.blocks.now c.row_below.new.blocks c.replace_run.new.blocks c.args.level (length c.args.given.now) (length c.piece-touched.result.now) c.in_ok-below.ensures.kept c.in_ok-made.ensures.spent)) in
     omega (arith, ap length c.deref-6.ensures.value, as_many (g.B.Ground.geometry c.args.blocks.now) c.args.level c.args.least c.args.run.now c.in_ok-below.below.lens.items c.in_ok-below.below.row.items c.in_ok-below.ensures.counted)
 
 pub returns-clause-extends : goal.returns-clause-extends
@@ -111,15 +112,15 @@ returns-clause-count g t c = if_ok_from c.nodes_by.result _ (λ made is. omega (
 pub returns-clause-leaves : goal.returns-clause-leaves
 returns-clause-leaves g t c =
     on_ok_from c.nodes_by.result _ (λ made is.
-    let later : g.B.Ground.free c.row_below.new.blocks Segment ≤ g.B.Ground.free c.replace_run.new.blocks Segment + (touched_leaves (leaf_bytes (g.B.Ground.geometry c.args.blocks.now)) (length c.args.given.now)) = subst (λ (x : Geometry). g.B.Ground.free c.row_below.new.blocks Segment ≤ g.B.Ground.free c.replace_run.new.blocks Segment + touched_leaves (leaf_bytes x) (length c.args.given.now)) (g.B.Ground.leads_geometry c.args.blocks.now c.row_below.new.blocks c.in_ok-below.ensures.kept.leads) c.in_ok-made.ensures.leaves in
+    let later : g.B.Ground.free c.row_below.new.blocks Segment ≤ g.B.Ground.free c.replace_run.new.blocks Segment + (replaced_leaves (g.B.Ground.geometry c.args.blocks.now) (length c.args.given.now)) = subst (λ (x : Geometry). g.B.Ground.free c.row_below.new.blocks Segment ≤ g.B.Ground.free c.replace_run.new.blocks Segment + replaced_leaves x (length c.args.given.now)) (g.B.Ground.leads_geometry c.args.blocks.now c.row_below.new.blocks c.in_ok-below.ensures.kept.leads) c.in_ok-made.ensures.leaves in
     omega (arith, (from_ok c.nodes_by.result made _ is c.nodes_by.ensures.spent).of_leaves, ap (λ (f : Area → ℕ). f Segment) c.in_ok-below.ensures.kept.free))
 
 pub returns-clause-spent : goal.returns-clause-spent
 returns-clause-spent g t c =
     on_ok_from c.nodes_by.result _ (λ made is.
     let span = (subst (λ r. IsSpan r c.args.pos (length c.args.given.now) c.span_of-span.result.first c.span_of-span.result.end c.span_of-span.result.at) c.deref.ensures.value c.span_of-span.ensures) in
-    nodes_spent ((g.B.Ground.geometry c.args.blocks.now).fan - 1) (touched_leaves (leaf_bytes (g.B.Ground.geometry c.args.blocks.now)) (length c.args.given.now)) c.args.level (g.B.Ground.free c.args.blocks.now Page) (g.B.Ground.free c.replace_run.new.blocks Page) (g.B.Ground.free c.nodes_by.new.blocks Page) (length c.args.run.now) (c.span_of-span.result.end - c.span_of-span.result.first) (omega (arith, (g.B.Ground.geometry c.args.blocks.now).two)) c.if-level-eq0.false c.requires.touched.some (omega (arith, span.order)) (few_up (g.B.Ground.geometry c.args.blocks.now) c.args.level c.args.least c.args.run.now c.in_ok-below.below.lens.items c.in_ok-below.below.row.items c.args.pos (length c.args.given.now) c.span_of-span.result.first c.span_of-span.result.end c.span_of-span.result.at c.in_ok-below.ensures.counted c.requires.touched span c.requires.least)
-    (omega (arith, (from_ok c.nodes_by.result made _ is c.nodes_by.ensures.spent).of_pages, ap length c.deref-6.ensures.value, as_many (g.B.Ground.geometry c.args.blocks.now) c.args.level c.args.least c.args.run.now c.in_ok-below.below.lens.items c.in_ok-below.below.row.items c.in_ok-below.ensures.counted)) (subst (λ x. IsSpent (g.B.Ground.geometry c.args.blocks.now).fan (touched_leaves (leaf_bytes (g.B.Ground.geometry c.args.blocks.now)) (length c.args.given.now)) (c.args.level - 1) (g.B.Ground.free c.args.blocks.now Page) (g.B.Ground.free c.replace_run.new.blocks Page) x) (ap length (c.piece-touched.ensures ∙ ap (λ r. take (c.span_of-span.result.end - c.span_of-span.result.first) (drop c.span_of-span.result.first r)) c.deref-2.ensures.value) ∙ touched_count c.in_ok-below.below.row.items c.span_of-span.result.first c.span_of-span.result.end c.span_of-span.ensures.order (omega (arith, c.span_of-span.ensures.within, ap length c.deref.ensures.value))) (spent_at g.B.Ground c.args.blocks.now c.row_below.new.blocks c.replace_run.new.blocks c.args.level (length c.args.given.now) (length c.piece-touched.result.now) c.in_ok-below.ensures.kept c.in_ok-made.ensures.spent)))
+    nodes_spent ((g.B.Ground.geometry c.args.blocks.now).fan - 1) (replaced_leaves (g.B.Ground.geometry c.args.blocks.now) (length c.args.given.now)) c.args.level (g.B.Ground.free c.args.blocks.now Page) (g.B.Ground.free c.replace_run.new.blocks Page) (g.B.Ground.free c.nodes_by.new.blocks Page) (length c.args.run.now) (c.span_of-span.result.end - c.span_of-span.result.first) (omega (arith, (g.B.Ground.geometry c.args.blocks.now).two)) c.if-level-eq0.false c.requires.touched.some (omega (arith, span.order)) (few_up (g.B.Ground.geometry c.args.blocks.now) c.args.level c.args.least c.args.run.now c.in_ok-below.below.lens.items c.in_ok-below.below.row.items c.args.pos (length c.args.given.now) c.span_of-span.result.first c.span_of-span.result.end c.span_of-span.result.at c.in_ok-below.ensures.counted c.requires.touched span c.requires.least)
+    (omega (arith, (from_ok c.nodes_by.result made _ is c.nodes_by.ensures.spent).of_pages, ap length c.deref-6.ensures.value, as_many (g.B.Ground.geometry c.args.blocks.now) c.args.level c.args.least c.args.run.now c.in_ok-below.below.lens.items c.in_ok-below.below.row.items c.in_ok-below.ensures.counted)) (subst (λ x. IsSpent (g.B.Ground.geometry c.args.blocks.now).fan (replaced_leaves (g.B.Ground.geometry c.args.blocks.now) (length c.args.given.now)) (c.args.level - 1) (g.B.Ground.free c.args.blocks.now Page) (g.B.Ground.free c.replace_run.new.blocks Page) x) (ap length (c.piece-touched.ensures ∙ ap (λ r. take (c.span_of-span.result.end - c.span_of-span.result.first) (drop c.span_of-span.result.first r)) c.deref-2.ensures.value) ∙ touched_count c.in_ok-below.below.row.items c.span_of-span.result.first c.span_of-span.result.end c.span_of-span.ensures.order (omega (arith, c.span_of-span.ensures.within, ap length c.deref.ensures.value))) (spent_at g.B.Ground c.args.blocks.now c.row_below.new.blocks c.replace_run.new.blocks c.args.level (length c.args.given.now) (length c.piece-touched.result.now) c.in_ok-below.ensures.kept c.in_ok-made.ensures.spent)))
 
 pub returns-clause-leads : goal.returns-clause-leads
 returns-clause-leads g t c = g.B.Ground.leads_trans c.args.blocks.now c.row_below.new.blocks c.nodes_by.new.blocks c.in_ok-below.ensures.kept.leads (g.B.Ground.leads_trans c.row_below.new.blocks c.replace_run.new.blocks c.nodes_by.new.blocks c.in_ok-made.ensures.leads c.nodes_by.ensures.leads)

@@ -1,11 +1,10 @@
 use Rattle.std.proofs.Common.{rules, arith, Option, ◌≡◌, ◌≤◌, ◌-◌, sym, subst, length}
-use Rattle.ex_base.specs.Sizes.{leaf_bytes}
+use Rattle.ex_base.specs.Needs.{replaced_leaves}
 use Rattle.ex_base.specs.declared.names.Area.TheVariants.{Page}
 use Rattle.ex_base.specs.declared.names.PageNo.{PageNo}
 use Rattle.trees.specs.Trees.{root_units}
 use Rattle.trees.specs.Damage.{AnyPage, IsWalkFault, root_row_at}
 use Rattle.trees.proofs.Sound.{sound_root}
-use Rattle.tree_insert.specs.Replaced.{touched_leaves}
 use Rattle.ex_base.specs.Area.{NamesLeaf}
 use Rattle.ex_base.proofs.Results.{if_err_handed}
 use Rattle.tree_insert.proofs.SoundWays.{root_way}
@@ -24,7 +23,7 @@ returns-then-is_empty-clause-units g c = λ told bytes spells used. nothing_turn
 pub replace_run-requires-clause-pages : goal.replace_run-requires-clause-pages
 replace_run-requires-clause-pages g c =
     let some : 1 ≤ length c.args.given.now = search rules in
-    enough_touched ((g.B.Ground.geometry c.args.blocks.now).fan - 1) (touched_leaves (leaf_bytes (g.B.Ground.geometry c.args.blocks.now)) (length c.args.given.now)) c.args.root.now.height (g.B.Ground.free c.args.blocks.now Page) (omega (arith, (g.B.Ground.geometry c.args.blocks.now).two)) (c.requires.pages some)
+    enough_touched ((g.B.Ground.geometry c.args.blocks.now).fan - 1) (replaced_leaves (g.B.Ground.geometry c.args.blocks.now) (length c.args.given.now)) c.args.root.now.height (g.B.Ground.free c.args.blocks.now Page) (omega (arith, (g.B.Ground.geometry c.args.blocks.now).two)) (c.requires.pages some)
 
 pub returns-in_err-made-clause-sound : goal.returns-in_err-made-clause-sound
 returns-in_err-made-clause-sound g c =
@@ -37,7 +36,7 @@ returns-clause-old g c = λ told bytes spells used. root_stays g.B.Ground c.args
 
 pub returns-clause-pages : goal.returns-clause-pages
 returns-clause-pages g c =
-    taken_touched ((g.B.Ground.geometry c.args.blocks.now).fan - 1) (touched_leaves (leaf_bytes (g.B.Ground.geometry c.args.blocks.now)) (length c.args.given.now)) c.args.root.now.height (g.B.Ground.free c.args.blocks.now Page) (g.B.Ground.free c.replace_run.new.blocks Page)
+    taken_touched ((g.B.Ground.geometry c.args.blocks.now).fan - 1) (replaced_leaves (g.B.Ground.geometry c.args.blocks.now) (length c.args.given.now)) c.args.root.now.height (g.B.Ground.free c.args.blocks.now Page) (g.B.Ground.free c.replace_run.new.blocks Page)
     (omega (arith, (g.B.Ground.geometry c.args.blocks.now).two)) (omega (arith, c.in_ok-made.ensures.spent))
 
 pub returns-clause-way : goal.returns-clause-way

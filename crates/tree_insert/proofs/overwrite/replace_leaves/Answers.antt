@@ -1,4 +1,8 @@
-use Rattle.std.proofs.Common.{arith, [], ◌∷◌, ◌≡◌, ◌+◌, ◌-◌, ◌∙◌, ◌++◌, ap, subst, take, drop, length, get_or, take_all}
+use Rattle.std.proofs.Common.{arith, [], ◌∷◌, ◌≡◌, ◌≤◌, refl, ◌+◌, ◌-◌, ◌∙◌, ◌++◌, ap, subst, take, drop, length, get_or, take_all}
+use Rattle.ex_base.specs.Sizes.{leaf_bytes}
+use Rattle.ex_base.proofs.Each.{each_at}
+use Rattle.ex_base.proofs.Geometries.{leaf_most}
+use Rattle.trees.specs.declared.rows.Part.{Part}
 use Rattle.trees.specs.Damage.{IsSoundEnd}
 use Rattle.trees.specs.Rows.{row_bytes}
 use Rattle.trees.specs.Made.{Holds, changed}
@@ -21,8 +25,7 @@ slice_bounds-part-end g c =
 
 pub overflow_cast-lengths : goal.overflow_cast-lengths
 overflow_cast-lengths g c =
-    let h = leaf_here c.args.run.now c.args.pos (length c.args.given.now) c.loop-leaf.leaf-index c.loop-leaf.start c.loop-leaf-test.true c.requires.touched c.loop-leaf.invariant.start_is in
-    omega (arith, h.fits, c.requires.limit)
+    omega (arith, each_at (λ (part : Part). part.size ≤ leaf_bytes (g.B.Ground.geometry c.args.blocks.now)) c.args.run.now c.loop-leaf.leaf-index no_part c.loop-leaf-test.true (c.requires.leaves.fit refl), leaf_most (g.B.Ground.geometry c.args.blocks.now))
 
 pub write_leaves-requires-clause-free : goal.write_leaves-requires-clause-free
 write_leaves-requires-clause-free g c =

@@ -15,7 +15,7 @@ overflow_add-at g c =
     let le = length_small c.args.row.now c.requires.sizes in
     let ends : c.loop-len.at + get_or c.args.lens.now c.loop-len.len-index 0 ≤ length c.args.row.now =
     (lens_at (most_pairs (g.B.Ground.geometry c.args.blocks.now).fan) (length c.args.row.now) c.args.lens.now c.loop-len.len-index c.loop-len.at c.requires.lens c.loop-len-test.true c.loop-len.invariant.at_is).ends in
-    let lt : c.loop-len.at + get_or c.args.lens.now c.loop-len.len-index 0 < 2 ^ 32 = omega (arith, c.requires.limit) in
+    let lt : c.loop-len.at + get_or c.args.lens.now c.loop-len.len-index 0 < 2 ^ 64 = omega (arith, c.requires.limit) in
     search rules
 
 pub node_over-requires-clause-few : goal.node_over-requires-clause-few

@@ -1,15 +1,10 @@
-use Rattle.std.proofs.Common.{rules, ◌≡◌, ◌∙◌, ap, sym, subst, length, arith, IfOk, OnOk}
+use Rattle.std.proofs.Common.{◌≡◌, ◌∙◌, ap, sym, subst, length, arith, IfOk, OnOk}
 use Rattle.ex_base.specs.declared.geometry.Geometry.{Geometry}
 use Rattle.count_nodes.specs.Split.{most_pairs}
 use Rattle.trees.specs.Made.{Spent}
 use Rattle.trees.specs.Built.{IsCut, even_lens}
-use Rattle.trees.proofs.Over.{length_small, even_cut, length-even_lens}
+use Rattle.trees.proofs.Over.{even_cut, length-even_lens}
 use Rattle.trees.proofs.nodes.nodes_over.Goals as goal
-
-pub overflow_cast-row : goal.overflow_cast-row
-overflow_cast-row g c =
-    let le = length_small c.args.row.now c.requires.sizes in
-    search rules
 
 pub nodes_by-requires-clause-lens : goal.nodes_by-requires-clause-lens
 nodes_by-requires-clause-lens g c =

@@ -1,10 +1,10 @@
-use Rattle.std.proofs.Common.{arith, rules, [], ◌∷◌, ◌≡◌, ◌+◌, ◌-◌, ◌∙◌, ap, sym, subst, length, min, take, drop, get_or}
+use Rattle.std.proofs.Common.{arith, rules, [], ◌∷◌, ◌≡◌, ◌+◌, ◌-◌, ◌∙◌, ap, sym, subst, length, min, drop, get_or}
 use Rattle.std.proofs.lemmas.List.{length-take-le, length-drop}
 use Rattle.std.proofs.lemmas.Result.{on_ok_weaker}
 use Rattle.ex_base.specs.Area.{NamesLeaf}
 use Rattle.ex_base.proofs.Results.{if_err_handed}
 use Rattle.trees.specs.Rows.{row_size, FitLeaves}
-use Rattle.trees.specs.Damage.{IsSoundWay, IsWalkFault}
+use Rattle.trees.specs.Damage.{IsSoundWay}
 use Rattle.trees.proofs.Ways.{way_inner, way_kept}
 use Rattle.trees.proofs.Parts.{below_fit}
 use Rattle.trees.proofs.Reading.{no_part}

@@ -1,6 +1,7 @@
 use Rattle.std.proofs.Common.{rules, arith, length, ap, suc, ◌+◌, ◌-◌, ◌*◌, ◌<◌, ◌≤◌, ◌^◌, ◌≡◌, ◌∷◌, [], List, sym, subst, ◌∙◌, get_or, Result, Ok, Err, IfOk, OnOk}
 use Rattle.ex_base.specs.declared.geometry.Geometry.{Geometry}
 use Rattle.ex_base.specs.declared.names.Area.TheVariants.{Page}
+use Rattle.ex_base.specs.Sizes.{object_most}
 use Rattle.ex_base.proofs.Results.{on_ok_both}
 use Rattle.count_nodes.specs.Split.{nodes_for}
 use Rattle.trees.specs.declared.rows.Part.{Part}
@@ -70,7 +71,8 @@ rooted-requires g t c =
     let fewer : length c.deref.result.now < length c.args.row.now = omega arith in
     let some : 1 ≤ length c.deref.result.now = omega (arith, count, some_node (g.B.Ground.geometry c.args.blocks.now).fan (length c.args.row.now) (omega arith)) in
     let somes : AreSome c.deref.result.now = subst AreSome (sym items) made.sizes in
-    let limit : row_size c.deref.result.now < 2 ^ 32 = omega (arith, ap row_size items, made.sum, c.requires.limit) in
+    let few : length c.deref.result.now < 2 ^ 32 = omega (arith, c.requires.count) in
+    let limit : row_size c.deref.result.now ≤ object_most = omega (arith, ap row_size items, made.sum, c.requires.limit) in
     let rise : length c.deref.result.now ≤ 2 ^ (255 - (c.args.level + 1)) = (rise_on c.args.level (length c.args.row.now) (length c.deref.result.now) two (omega (arith, count)) c.requires.rise).1 in
     let geo = g.B.Ground.leads_geometry c.args.blocks.now c.nodes_over.new.blocks made.extends.leads in
     let free : 2 ≤ length c.deref.result.now → length c.deref.result.now + (g.B.Ground.geometry c.nodes_over.new.blocks).fan ≤ (g.B.Ground.geometry c.nodes_over.new.blocks).fan * g.B.Ground.free c.nodes_over.new.blocks Page + 2 =

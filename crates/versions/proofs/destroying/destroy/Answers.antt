@@ -5,7 +5,7 @@ use Rattle.file_bodies.specs.Files.{HasBody}
 use Rattle.file_bodies.specs.Places.{RemovesBody}
 use Rattle.std.proofs.lemmas.Result.{on_ok_weaker, IfErr-weaker}
 use Rattle.file_bodies.proofs.Moving.{kept_body}
-use Rattle.versions.specs.Versions.{place_of}
+use Rattle.version_model.specs.Versions.{place_of}
 use Rattle.versions.specs.Damage.{record_fault, finding, unasked, taking}
 use Rattle.file_bodies.specs.Damage.{IsTakingFault}
 use Rattle.file_bodies.proofs.Blame.{carried}

@@ -6,7 +6,7 @@ use Rattle.std.proofs.lemmas.Result.{on_ok_weaker, IfOk-weaker, IfErr-weaker}
 use Rattle.ex_base.proofs.Options.{at_some}
 use Rattle.file_bodies.proofs.Belonging.{file_of_body}
 use Rattle.versions.specs.declared.finding.Found.{Found}
-use Rattle.versions.specs.Versions.{HasVersion, EditsVersion, StaysSmall, InRange, changed, count_of, place_of}
+use Rattle.version_model.specs.Versions.{HasVersion, EditsVersion, StaysSmall, InRange, changed, count_of, place_of}
 use Rattle.ex_base.specs.Needs.{growth_need}
 use Rattle.ex_base.proofs.Results.{if_err_handed, on_ok_both}
 use Rattle.versions.specs.Needs.{most_need, height_in}

@@ -5,7 +5,7 @@ use Rattle.ex_base.specs.declared.names.Area.{Area}
 use Rattle.ex_base.specs.declared.names.Place.{Place}
 use Rattle.object_records.specs.Record.{Small}
 use Rattle.file_bodies.specs.Files.{HasBody}
-use Rattle.versions.specs.Versions.{EditsVersion, StaysSmall, changed, lone_head, place_of}
+use Rattle.version_model.specs.Versions.{EditsVersion, StaysSmall, changed, lone_head, place_of}
 use Rattle.ex_base.specs.Needs.{growth_need}
 use Rattle.versions.specs.Edited.{change_of}
 use Rattle.versions.specs.Damage.{no_tree, small}

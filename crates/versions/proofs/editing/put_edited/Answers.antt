@@ -2,7 +2,7 @@ use Rattle.std.proofs.Common.{◌≡◌, true, false, length, ap, ◌∙◌, ari
 use Rattle.std.proofs.lemmas.Bool.{cases_lt}
 use Rattle.std.proofs.lemmas.Result.{IfErr-weaker, on_ok_weaker}
 use Rattle.object_records.specs.Record.{Small}
-use Rattle.versions.specs.Versions.{place_of}
+use Rattle.version_model.specs.Versions.{place_of}
 use Rattle.versions.specs.Damage.{no_tree, record_fault, unlike}
 use Rattle.versions.proofs.Faults.{place_bytes, bytes_kept}
 use Rattle.versions.proofs.Standing.{kept_version}

@@ -10,7 +10,7 @@ use Rattle.versions.specs.Found.{IsTold, IsRecordBody}
 use Rattle.versions.specs.Damage.{StandsOn, IsBodyFault, in_file, at_place}
 use Rattle.versions.proofs.Results.{if_some_both, match_some, match_none}
 use Rattle.versions.proofs.Standing.{found_is, told_size, file_at}
-use Rattle.versions.specs.Versions.{place_of}
+use Rattle.version_model.specs.Versions.{place_of}
 use Rattle.versions.proofs.finding.find.Goals as goal
 
 pub returns-in-Ok-Some-clause-told : goal.returns-in-Ok-Some-clause-told

@@ -5,7 +5,7 @@ use Rattle.ex_base.proofs.Options.{at_some}
 use Rattle.ex_base.proofs.Results.{if_err_handed}
 use Rattle.object_records.specs.Record.{Small, Large}
 use Rattle.file_bodies.specs.Files.{HasBody}
-use Rattle.versions.specs.Versions.{lone_head, place_of}
+use Rattle.version_model.specs.Versions.{lone_head, place_of}
 use Rattle.file_bodies.proofs.Belonging.{file_of_body}
 use Rattle.versions.specs.Damage.{record_fault, looking, small, large, unlike, in_tree}
 use Rattle.versions.proofs.Faults.{root_at, step_version, tree_kept, version_kept}

@@ -6,7 +6,7 @@ use Rattle.object_records.specs.Record.{Small}
 use Rattle.ex_base.specs.Needs.{growth_need}
 use Rattle.ex_base.proofs.Results.{if_err_handed}
 use Rattle.ex_base.proofs.Geometries.{each_area}
-use Rattle.versions.proofs.Puts.{first_leaves_need, first_pages_need}
+use Rattle.versions.proofs.Puts.{first_need}
 use Rattle.versions.specs.Damage.{no_tree, record_fault, in_tree, unlike}
 use Rattle.versions.proofs.Faults.{put_later}
 use Rattle.versions.proofs.Becoming.{becomes_large, never_put, none_spells}
@@ -14,7 +14,7 @@ use Rattle.versions.proofs.growing.convert.Goals as goal
 
 pub append-requires-clause-pages : goal.append-requires-clause-pages
 append-requires-clause-pages g c = λ some.
-    omega (arith, c.has_first_units.ensures.yes c.in_ok-check.ensures.holds Page, first_pages_need (g.V.Ground.geometry c.args.volume.now) (length c.args.bytes.now) c.args.count c.requires.page)
+    omega (arith, c.has_first_units.ensures.yes c.in_ok-check.ensures.holds Page, first_need (g.V.Ground.geometry c.args.volume.now) (length c.args.bytes.now) c.args.count Page c.requires.page)
 
 pub returns-clause-edited : goal.returns-clause-edited
 returns-clause-edited g c = λ told in_use lone index held has never change.
@@ -25,8 +25,8 @@ returns-clause-edited g c = λ told in_use lone index held has never change.
 
 pub returns-clause-free : goal.returns-clause-free
 returns-clause-free g c = each_area (λ area. g.V.Ground.free c.args.volume.now area ≤ g.V.Ground.free c.put_root.new.volume area + growth_need (g.V.Ground.geometry c.args.volume.now) c.args.count 0 area)
-    (omega (arith, c.in_ok-made.ensures.pages, ap (λ (f : Area → ℕ). f Page) c.in_ok-put_root.ensures.free, first_pages_need (g.V.Ground.geometry c.args.volume.now) (length c.args.bytes.now) c.args.count c.requires.page))
-    (omega (arith, c.in_ok-made.ensures.leaves, ap (λ (f : Area → ℕ). f Segment) c.in_ok-put_root.ensures.free, first_leaves_need (g.V.Ground.geometry c.args.volume.now) (length c.args.bytes.now) c.args.count c.requires.page))
+    (omega (arith, c.in_ok-made.ensures.pages, ap (λ (f : Area → ℕ). f Page) c.in_ok-put_root.ensures.free, first_need (g.V.Ground.geometry c.args.volume.now) (length c.args.bytes.now) c.args.count Page c.requires.page))
+    (omega (arith, c.in_ok-made.ensures.leaves, ap (λ (f : Area → ℕ). f Segment) c.in_ok-put_root.ensures.free, first_need (g.V.Ground.geometry c.args.volume.now) (length c.args.bytes.now) c.args.count Segment c.requires.page))
 
 pub returns-in_err-put_root-clause-sound : goal.returns-in_err-put_root-clause-sound
 returns-in_err-put_root-clause-sound g c = if_err_handed c.from_residual-in_err-put_root.result _ _ c.from_residual-in_err-put_root.ensures.1 (λ damage told in_use index held has units.

@@ -1,6 +1,6 @@
 use Rattle.std.proofs.Common.{sym, ap, ◌∙◌}
 use Rattle.object_records.specs.Record.{Large}
-use Rattle.versions.specs.Versions.{changed}
+use Rattle.version_model.specs.Versions.{changed}
 use Rattle.versions.specs.Edited.{change_of}
 use Rattle.versions.proofs.Roots.{root_length}
 use Rattle.versions.proofs.Standing.{version_whole, holds_of}

@@ -1,13 +1,13 @@
 use Rattle.std.proofs.Common.{◌≤◌, ◌+◌, length, subst, sym, arith}
 use Rattle.std.proofs.lemmas.Result.{IfOk-weaker}
-use Rattle.ex_base.specs.declared.names.Area.TheVariants.{Page}
+use Rattle.ex_base.specs.declared.names.Area.TheVariants.{Page, Segment}
 use Rattle.ex_base.proofs.Results.{on_ok_both}
 use Rattle.ex_base.proofs.Geometries.{each_area}
 use Rattle.trees.specs.Trees.{RootSpells, root_shape}
-use Rattle.tree_insert.proofs.RootEdit.{leaves_most, pages_most}
+use Rattle.tree_insert.proofs.RootEdit.{counted_need}
 use Rattle.versions.specs.declared.editing.Edit.{Edit}
 use Rattle.versions.specs.declared.editing.Edit.TheVariants.{Append}
-use Rattle.versions.specs.Versions.{changed, IsTreeShape}
+use Rattle.version_model.specs.Versions.{changed, IsTreeShape}
 use Rattle.versions.specs.Needs.{most_need}
 use Rattle.versions.specs.Edited.{change_of}
 use Rattle.versions.proofs.growing.edit_tree.Goals as goal
@@ -15,14 +15,14 @@ use Rattle.versions.proofs.growing.edit_tree.Goals as goal
 pub append-requires-clause-pages : goal.append-requires-clause-pages
 append-requires-clause-pages g c = λ some.
     let units = subst (λ (e : Edit). most_need (g.V.Ground.geometry c.args.volume.now) (change_of e) c.args.root.now.height Page ≤ g.V.Ground.free c.args.volume.now Page) c.in-Append.is (c.requires.units Page) in
-    omega (arith, units, pages_most (g.V.Ground.geometry c.args.volume.now) c.args.root.now.page (length c.in-Append.bytes.now) c.args.root.now.height)
+    omega (arith, units, counted_need (g.V.Ground.geometry c.args.volume.now) c.args.root.now.page (length c.in-Append.bytes.now) c.args.root.now.height Page)
 
 pub returns-in-Append-clause-free : goal.returns-in-Append-clause-free
 returns-in-Append-clause-free g c = on_ok_both c.append.result _ _ _ (λ leaves pages area.
     subst (λ (e : Edit). g.V.Ground.free c.args.volume.now area ≤ g.V.Ground.free c.append.new.blocks area + most_need (g.V.Ground.geometry c.args.volume.now) (change_of e) c.args.root.now.height area) (sym c.in-Append.is)
     (each_area (λ area. g.V.Ground.free c.args.volume.now area ≤ g.V.Ground.free c.append.new.blocks area + most_need (g.V.Ground.geometry c.args.volume.now) (change_of (Append c.in-Append.bytes)) c.args.root.now.height area)
-    (omega (arith, pages, pages_most (g.V.Ground.geometry c.args.volume.now) c.args.root.now.page (length c.in-Append.bytes.now) c.args.root.now.height))
-    (omega (arith, leaves, leaves_most (g.V.Ground.geometry c.args.volume.now) c.args.root.now.page (length c.in-Append.bytes.now))) area)) c.append.ensures.leaves c.append.ensures.pages
+    (omega (arith, pages, counted_need (g.V.Ground.geometry c.args.volume.now) c.args.root.now.page (length c.in-Append.bytes.now) c.args.root.now.height Page))
+    (omega (arith, leaves, counted_need (g.V.Ground.geometry c.args.volume.now) c.args.root.now.page (length c.in-Append.bytes.now) c.args.root.now.height Segment)) area)) c.append.ensures.leaves c.append.ensures.pages
 
 pub returns-in-Insert-clause-spells : goal.returns-in-Insert-clause-spells
 returns-in-Insert-clause-spells g c = IfOk-weaker c.insert.result _ _ (λ made spells told bytes was used.

@@ -1,13 +1,14 @@
 use Rattle.std.proofs.Common.{◌∙◌, ap, sym, subst, Err, refl}
 use Rattle.disk_model.specs.Runs.{honest_on}
-use Rattle.session_views.specs.Opening.{Opened}
+use Rattle.talks.specs.Opening.{Opened}
+use Rattle.exsm_run.specs.Fresh.{IsFresh}
 use Rattle.transactions.specs.Meant.{meant}
 use Rattle.transactions.specs.Sessions.{SessionState}
 use Rattle.exsm_run.proofs.Opened.{err_same, stood, shows_opened, leaves_opening}
 use Rattle.exsm_run.proofs.session.VolumeSessionOpener.open.Goals as goal
 
 pub returns-in-Err-clause-bad : goal.returns-in-Err-clause-bad
-returns-in-Err-clause-bad g c part same image honest holds = c.open_volume.ensures.bad part (c.in-Err.is ∙ ap Err (err_same _ _ refl refl same)) image holds
+returns-in-Err-clause-bad g c part same image holds = c.open_volume.ensures.bad part (c.in-Err.is ∙ ap Err (err_same _ _ refl refl same)) image holds
 
 pub returns-in-Err-clause-any_moment : goal.returns-in-Err-clause-any_moment
 returns-in-Err-clause-any_moment g c image honest holds = leaves_opening image (c.open_volume.ensures.any_moment image honest holds)
@@ -17,7 +18,7 @@ returns-in-Ok-make-clause-opened g c image honest holds = stood (c.in-Ok.ensures
 
 pub returns-in-Ok-make-clause-shows : goal.returns-in-Ok-make-clause-shows
 returns-in-Ok-make-clause-shows g c image table honest holds stands =
-    subst (λ (s : SessionState). Opened meant table s (g.H.World.outside c.open_volume.new.disk)) (sym c.in-Ok-make.ensures)
+    subst (λ (s : SessionState). Opened meant IsFresh table s (g.H.World.outside c.open_volume.new.disk)) (sym c.in-Ok-make.ensures)
     (shows_opened c.in-Ok.opened image table c.in-Ok.ensures.parts (honest_on c.open_volume.ensures.only.goes honest) (c.in-Ok.ensures.opened image honest holds) stands)
 
 pub returns-in-Ok-make-clause-any_moment : goal.returns-in-Ok-make-clause-any_moment

@@ -1,13 +1,14 @@
-use Rattle.std.proofs.Common.{◌≡◌, ◌∙◌, None, refl, sym, ap, subst}
+use Rattle.std.proofs.Common.{◌≡◌, ◌<◌, ◌∙◌, ◌^◌, None, refl, sym, ap, subst, rules}
 use Rattle.ex_base.specs.declared.names.OpNote.{OpNote}
 use Rattle.object_files.specs.Catalog.{Catalog}
+use Rattle.object_files.specs.Reads.{catalog_on}
 use Rattle.table_model.specs.Requests as request
 use Rattle.transactions.specs.declared.session.moving.Limit.{Limit}
 use Rattle.transactions.specs.Editing.{new_object_in, room_refusal}
 use Rattle.transactions.specs.Sessions.{SessionState}
 use Rattle.transactions.specs.Updates.{Noted, note_with}
 use Rattle.transactions.specs.contracts.session.Session as session
-use Rattle.transactions.proofs.Creating.{bound_session, bound_to, bound_went, create_done, create_roomless, create_stopped, create_taken, create_unbound, create_unplaced, creation_need, taken_told, unbound_still}
+use Rattle.transactions.proofs.Creating.{bound_session, bound_to, bound_went, can_make, create_done, create_roomless, create_stopped, create_taken, create_unbound, create_unplaced, creation_need, taken_told, unbound_still}
 use Rattle.transactions.proofs.Listing.{unread_outside, unread_stops}
 use Rattle.transactions.proofs.Quiet.{nothing_changed}
 use Rattle.transactions.proofs.Refusing.{closed_refused}
@@ -53,6 +54,13 @@ returns-in-Err-update_objects g c =
     (c.in-Ok-new_object.ensures ∙ ap (λ (k : Catalog). new_object_in k c.args.file.now) (viewed c.view_of.result c.deref.result.now c.in-Ok.page.items c.view_of.ensures c.deref.ensures.value)) room
     (record { only = c.update_objects.ensures.only; log = c.update_objects.ensures.log; down = c.update_objects.ensures.down; moments = c.update_objects.ensures.any_moment })
     c.in-Err-update_objects.stop c.in-Err-update_objects.ensures.stops c.in-Err-update_objects.ensures.sound
+
+pub update_objects-requires-clause-can : goal.update_objects-requires-clause-can
+update_objects-requires-clause-can g c =
+    let room : None ≡ room_refusal c.catalog.new.self creation_need = sym c.in_default.is ∙ c.refuses_room.ensures in
+    let number : c.in-Ok-new_object.made.unique < 2 ^ 64 = search rules in
+    can_make c.catalog.new.self (catalog_on c.in-Ok.page.items) c.args.file.now c.in-Ok-new_object.made number
+    (c.in-Ok-new_object.ensures ∙ ap (λ (k : Catalog). new_object_in k c.args.file.now) (viewed c.view_of.result c.deref.result.now c.in-Ok.page.items c.view_of.ensures c.deref.ensures.value)) room
 
 pub bind-requires : goal.bind-requires
 bind-requires g c =

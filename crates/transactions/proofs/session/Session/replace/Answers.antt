@@ -1,7 +1,7 @@
 use Rattle.std.proofs.Common.{◌∙◌, List, ℕ, ap, refl, sym}
 use Rattle.table_model.specs.Requests.{reference_of}
 use Rattle.table_model.specs.Requests as request
-use Rattle.versions.specs.Versions.{Replaces}
+use Rattle.version_model.specs.Versions.{Replaces}
 use Rattle.transactions.specs.Sessions.{SessionState}
 use Rattle.transactions.proofs.Refusing.{closed_refused}
 use Rattle.transactions.proofs.Sessions.{seen}

@@ -3,14 +3,16 @@ use Rattle.std.proofs.lemmas.List.{with_items_is}
 use Rattle.std.specs.List.{length_refill}
 use Rattle.std.specs.Vec.{with_items}
 use Rattle.ex_base.specs.declared.names.Oid.{Oid}
+use Rattle.ex_base.specs.declared.names.Area.TheVariants.{Page}
 use Rattle.ex_base.specs.declared.names.OpNote.{OpNote}
 use Rattle.meta_pages.specs.Overlays.{AreRows}
-use Rattle.object_updates.specs.Performed.{NamesOid}
+use Rattle.object_updates.specs.Performed.{CanPerform, NamesOid}
 use Rattle.object_updates.specs.Updates.{updated}
 use Rattle.table_model.specs.Machines.{shown, updates_most}
 use Rattle.transactions.specs.contracts.session.Session as session
 use Rattle.transactions.specs.Sessions.{SessionState, IsSession, TakenBack}
 use Rattle.transactions.specs.Lines.{IsOutside}
+use Rattle.transactions.specs.Refused.{free_in}
 use Rattle.std.specs.Prelude.{Result, IfErr}
 use Rattle.session_views.specs.declared.engine.Stop.{Stop}
 use Rattle.ex_base.specs.declared.faults.PortFault.{PortFault}
@@ -21,6 +23,9 @@ use Rattle.transactions.proofs.Moved.{at_oid, moved_session, note_with_oid, give
 use Rattle.transactions.proofs.Moving.{parts}
 use Rattle.transactions.proofs.session.Session.update_objects.Goals.{else-is_ok-via-then-is_ok+then-keeps_to+then-has_work+else-is_ok-2, else-is_ok-via-then-is_ok+then-keeps_to+else-has_work, else-is_ok-via-then-is_ok+else-keeps_to, else-is_ok-via-else-is_ok, in-Err, in-Ok}
 use Rattle.transactions.proofs.session.Session.update_objects.Goals as goal
+
+pub update_on-done-requires-clause-can : goal.update_on-done-requires-clause-can
+update_on-done-requires-clause-can g c = subst (λ (t : SessionState). CanPerform c.args.update.now (free_in t Page)) (sym c.self.view_is) c.requires.can
 
 pub invariant_of-self : goal.invariant_of-self
 invariant_of-self g c =

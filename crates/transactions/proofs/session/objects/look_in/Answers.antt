@@ -1,4 +1,4 @@
-use Rattle.versions.specs.Versions.{place_of}
+use Rattle.version_model.specs.Versions.{place_of}
 use Rattle.transactions.proofs.Finding.{looked, looks_sound, limit_found}
 use Rattle.transactions.proofs.session.objects.look_in.Goals as goal
 

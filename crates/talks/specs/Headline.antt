@@ -1,0 +1,74 @@
+-- What a whole run promises, from the opening of the volume to the last line that was taken.
+use Rattle.std.specs.Prelude.{◌≡◌, ◌⊎◌, ◌≤◌, ℕ, IsTrue, Option, Some, None, List, [], ◌++◌}
+use Rattle.disk_model.specs.Outside.{Outside, Along, DiskOnly, Leaves, Only}
+use Rattle.table_model.specs.declared.table.Table.{Table}
+use Rattle.script_lang.specs.Reading.{Reading}
+use Rattle.session_views.specs.View.{View, Meaning}
+use Rattle.session_views.specs.Opening.{IsStart}
+use Rattle.talks.specs.Stops.{IsOpeningStop}
+use Rattle.talks.specs.Talking.{Talking, HasTalked}
+use Rattle.talks.specs.Transcript.{Row, ShowsAt, Trail, IsRunMoment, LastText, Ended, exchanges, output_of, request_in}
+use Rattle.talks.specs.declared.stopped.Stopped.{Stopped}
+use Rattle.talks.specs.declared.stopped.Stopped.TheVariants.{Output}
+
+-- An honest disk holds an image that stands for this table, and the sink tells what it was sent.
+pub record HoldsTable {S : Type 0} (M : Meaning S) (entry : Outside) (table : Table) (was : List ℕ) : Type 0 where
+  pub image : List ℕ
+  pub honest : IsTrue entry.honest
+  pub holds : entry.disk ≡ Some image
+  pub stands : M.StandsFor image table
+  pub sent : entry.sent ≡ Some was
+
+-- The premises of the headline: besides the image stands for no other table, and nothing is pending.
+pub record RunStarts {S : Type 0} (M : Meaning S) (entry : Outside) (table : Table) (was : List ℕ) : Type 0 where
+  pub on : HoldsTable M entry table was
+  pub settled : Only on.image entry.images
+  pub alone : (other : Table) → M.StandsFor on.image other → other ≡ table
+
+-- The volume was opened: this view shows it, with the table at its start and nothing else, at a time before the first line was taken.
+pub record OpenedAt {S : Type 0} (M : Meaning S) (Fresh : View S → Type 0) (table : Table) (was : List ℕ) (entry now : Outside) (time : ℕ) (opening : View S) : Type 0 where
+  pub starts : IsStart opening.machine table
+  pub fresh : Fresh opening
+  pub later : entry.clock ≤ time
+  pub shown : ShowsAt M now time was opening
+
+-- The volume was opened and lines were stepped, to the end of the talk (None) or to a stop.
+-- The first sentence, what was written: talked, sent, is_front, uncut. The second, the views between: opened, trail, ended. The third, what a stop
+-- leaves: stops.
+pub record SteppedTalk {S T : Type 0} (M : Meaning S) (Fresh : View S → Type 0) (K : Talking T) (first : T) (table : Table) (was : List ℕ) (entry now : Outside) (ending : Option Stopped) : Type 0 where
+  pub opening : View S
+  pub time : ℕ
+  pub opened : OpenedAt M Fresh table was entry now time opening
+  -- the rows of the lines whose texts were sent whole, with their views, and what the line after them asked for, where there is one
+  pub rows : List (Row S)
+  pub after : View S
+  pub last : Option Reading
+  pub talked : HasTalked K first entry.left (exchanges rows) last ending now.left
+  -- what handed in the last line, as it stood when it did
+  pub at : T
+  pub front : List ℕ
+  pub sent : now.sent ≡ Some (was ++ output_of rows ++ front)
+  pub is_front : LastText M (K.text at) after last front
+  pub uncut : (ending ≡ Some Output → ⊥) → front ≡ []
+  pub trail : Trail M now was time [] opening rows after
+  pub ended : ending ≡ None → Ended M after now
+  pub stops : Along entry now (IsRunMoment M K.acking opening.machine rows after.machine (request_in last) was)
+
+-- The volume wasn't opened: nothing was sent and no byte of the source taken, and each image stands for the table.
+pub record Unopened {S : Type 0} (M : Meaning S) (table : Table) (was : List ℕ) (entry now : Outside) (ending : Option Stopped) : Type 0 where
+  pub why : Stopped
+  pub is : ending ≡ Some why
+  pub opening : IsOpeningStop why
+  pub sent : now.sent ≡ Some was
+  pub left : now.left ≡ entry.left
+  pub stops : Along entry now (λ s d. (s ≡ was) × M.StandsFor d table)
+
+-- What stands on the disk is no volume, and it was read at most: nothing was sent and no byte of the source taken, and a crash leaves what it could
+-- leave before, or what the disk held.
+pub record LeftUnopened (image : List ℕ) (entry now : Outside) : Type 0 where
+  pub only : DiskOnly entry now
+  pub moments : Leaves entry now (λ d. entry.images d ⊎ (d ≡ image))
+
+-- what a run promises, given how it ends
+abbrev pub TalkHeadline : {S T : Type 0} → Meaning S → (View S → Type 0) → Talking T → T → Table → List ℕ → Outside → Outside → Option Stopped → Type 0
+TalkHeadline M Fresh K first table was entry now ending = SteppedTalk M Fresh K first table was entry now ending ⊎ Unopened M table was entry now ending

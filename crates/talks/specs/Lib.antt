@@ -1,0 +1,9 @@
+pub mod Acking
+pub mod Asking
+pub mod Sending
+pub mod Stops
+pub mod Talking
+pub mod Transcript
+pub mod Opening
+pub mod Passage
+pub mod Headline

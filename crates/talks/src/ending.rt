@@ -1,0 +1,37 @@
+//! The end of a script.
+ghost use Rattle.std.specs.Prelude.{◌≡◌, OnOk, IfErr};
+ghost use Rattle.disk_model.specs.Outside.{DiskOnly, Leaves};
+ghost use Rattle.session_views.specs.View.{View, ShowsNow};
+ghost use Rattle.talks.specs.Stops.{CausedBy, IsSessionStop, IsSoundStop};
+ghost use Rattle.talks.specs.Transcript.{Ended};
+
+use crate::stopped::{Stopped, stopped_by};
+use disk_model::Host;
+use session_views::Engine;
+use std::alloc::Global;
+use table_model::Command;
+
+/// Aborts a transaction that is open. It sends nothing, and where none is open it changes nothing.
+pub(crate) fn abort_open<E: Engine, H: Host>(
+    alloc: Global,
+    session: &mut E,
+    host: &mut H,
+) -> Result<(), Stopped>
+    ensures only { DiskOnly (H.outside host.old) (H.outside host.new) }
+    ensures caused { IfErr result (λ why. CausedBy why (H.outside host.old) (H.outside host.new)) }
+    ensures stops { IfErr result IsSessionStop }
+    ensures aborted { (before : View E) → before.session ≡ session.old
+        → ShowsNow E.meaning (H.outside host.old) before
+        → OnOk result (Ended E.meaning before (H.outside host.new)) }
+    ensures sound { (before : View E) → before.session ≡ session.old
+        → ShowsNow E.meaning (H.outside host.old) before → IfErr result IsSoundStop }
+    ensures any_moment { (before : View E) → before.session ≡ session.old
+        → ShowsNow E.meaning (H.outside host.old) before
+        → Leaves (H.outside host.old) (H.outside host.new)
+        (λ d. E.meaning.StandsFor d before.machine.committed) }
+{
+    match session.step(alloc, host, &Command::Abort) {
+        Ok(_told) => Ok(()),
+        Err(stop) => Err(stopped_by(stop)),
+    }
+}

@@ -1,0 +1,45 @@
+//! A session steps on lines, whoever hands them in.
+ghost use Rattle.std.specs.Prelude.{◌≡◌, List, ℕ, OnOk, IfErr};
+ghost use Rattle.disk_model.specs.Outside.{Goes};
+ghost use Rattle.session_views.specs.View.{View};
+ghost use Rattle.talks.specs.Passage.{Ran, WasCut};
+ghost use Rattle.talks.specs.Stops.{CausedBy, IsLinesStop, IsSoundStop};
+ghost use Rattle.talks.specs.Transcript.{Opens};
+
+use crate::stopped::{Stopped, stopped_by};
+use crate::talk::{Asked, Talk};
+use disk_model::Host;
+use session_views::Engine;
+use std::alloc::Global;
+use table_model::Reply;
+
+/// Takes one line after the other. The session steps on each that asks for a step, and each reply is told before the next line is taken.
+pub(crate) fn step_lines<E: Engine, T: Talk, H: Host>(
+    alloc: Global,
+    session: &mut E,
+    talk: &mut T,
+    host: &mut H,
+) -> Result<(), Stopped>
+    ensures goes { Goes (H.outside host.old) (H.outside host.new) }
+    ensures whole { OnOk result (Ran E.meaning T.talking (H.outside host.old)
+        (H.outside host.new) session.old session.new talk.old talk.new) }
+    ensures cut { IfErr result (λ why. WasCut E.meaning T.talking (H.outside host.old)
+        (H.outside host.new) session.old talk.old why) }
+    ensures caused { IfErr result (λ why. CausedBy why (H.outside host.old) (H.outside host.new)) }
+    ensures stops { IfErr result IsLinesStop }
+    ensures sound { (opening : View E) (was : List ℕ) → opening.session ≡ session.old
+        → Opens E.meaning (H.outside host.old) opening was → IfErr result IsSoundStop }
+{
+    'lines: while talk.advance(alloc, host)? {
+        let told = match talk.asked() {
+            Asked::Nothing => continue 'lines,
+            Asked::Refused(why) => Reply::No(why),
+            Asked::Step(command) => match session.step(alloc, host, &command) {
+                Ok(told) => told,
+                Err(stop) => return Err(stopped_by(stop)),
+            },
+        };
+        talk.tell(alloc, host, told)?;
+    }
+    Ok(())
+}

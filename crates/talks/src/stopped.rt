@@ -1,0 +1,50 @@
+//! Why a run ends before its script does.
+ghost use Rattle.std.specs.Prelude.{◌≡◌};
+ghost use Rattle.talks.specs.Stops.{stop_as, unopened_as};
+
+use ex_base::{PageNo, Seen};
+use session_views::{OpenFault, Part, Stop};
+
+/// Why a run ended before its script did.
+#[derive(Clone, Copy, Debug, PartialEq, Eq)]
+pub enum Stopped {
+    /// The source failed: its count of faults rose.
+    Script,
+    /// The sink failed: its count of faults rose.
+    Output,
+    /// The disk failed: its count of faults rose.
+    Disk,
+    /// No memory was there.
+    Memory,
+    /// The disk holds no volume: this is the first part that fails. Nothing was sent and no line taken.
+    BadVolume { part: Part },
+    /// What a read gave isn't what the page that names it says. `want` and `got` differ.
+    Damaged { page: PageNo, want: Seen, got: Seen },
+    /// The script has more bytes than count. All whole lines among those that do were stepped and answered.
+    ScriptLong,
+    /// The session says that an earlier call of it failed. A session that shows a volume never says so.
+    Down,
+}
+
+/// A session's stop, as a run ends by it.
+pub(crate) fn stopped_by(stop: Stop) -> Stopped
+    ensures { result ≡ stop_as stop }
+{
+    match stop {
+        Stop::Memory => Stopped::Memory,
+        Stop::Disk => Stopped::Disk,
+        Stop::Damaged { page, want, got } => Stopped::Damaged { page, want, got },
+        Stop::Down => Stopped::Down,
+    }
+}
+
+/// A fault of an opening, as a run ends by it.
+pub(crate) fn unopened_by(fault: OpenFault) -> Stopped
+    ensures { result ≡ unopened_as fault }
+{
+    match fault {
+        OpenFault::Memory => Stopped::Memory,
+        OpenFault::Disk => Stopped::Disk,
+        OpenFault::BadVolume { part } => Stopped::BadVolume { part },
+    }
+}
