@@ -362,7 +362,7 @@ def compare(programs, peer, runs, quick):
 def growth(programs, peer, runs, quick):
     """Panels of the plot: a title, and for each label pairs of a size or a number and a time."""
     sizes = [1, 4, 16] if quick else [1, 4, 16, 64, 256]
-    counts = [500, 1000, 2000] if quick else [1000, 2000, 5000, 10000, 20000]
+    counts = [500, 1000, 2000] if quick else [1000, 2000, 5000, 10000, 20000, 100000]
     edits, looks, makes = {}, {}, {}
     for p in programs:
         for mib in sizes:
