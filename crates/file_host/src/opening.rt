@@ -14,6 +14,13 @@ use std::os::unix::fs::FileExt;
 /// How many bytes the magic of a volume has.
 const MAGIC_LEN: usize = 8;
 
+/// The most bytes of a new file that are written with zeros, so that the file system has given room to them before the first commit. What lies behind
+/// them is sparse.
+const FILLED_MOST: u64 = 134_217_728;
+
+/// How many zeros one call writes.
+const ZEROS_LEN: usize = 65_536;
+
 /// An open volume file that no other run has. One that was made has no name of its own yet, and is removed where it never gets one.
 #[derive(Drop)]
 pub struct VolumeFile<F: Drop, R: Files + Drop> {
@@ -99,6 +106,7 @@ where
                 let (naming, file) = Naming::make(alloc, files, path)?;
                 take(&file)?;
                 file.set_len(size)?;
+                fill_with_zeros(&file, size.min(FILLED_MOST))?;
                 Ok(VolumeFile {
                     naming: Some(naming),
                     file,
@@ -109,6 +117,16 @@ where
             _ => Err(cause),
         },
     }
+}
+
+// Writes zeros over the first `size` bytes of a file.
+fn fill_with_zeros<F: FileExt>(file: &F, size: u64) -> io::Result<()> {
+    let zeros = [0u8; ZEROS_LEN];
+    for at in (0..size).step_by(ZEROS_LEN) {
+        let len = (size - at).min(ZEROS_LEN as u64) as usize;
+        file.write_all_at(&zeros[..len], at)?;
+    }
+    Ok(())
 }
 
 // Takes the file for this run.

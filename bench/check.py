@@ -1,0 +1,98 @@
+#!/usr/bin/env python3
+"""Times `exsm check` on volumes of several sizes, and `exsm gen`.
+
+    python3 bench/check.py PROGRAM [--folder FOLDER] [--quick]
+
+PROGRAM is a built exsm. Volumes lie in a new folder below FOLDER (/dev/shm where there is none given). Each figure is the least of three runs: seconds
+of the clock, seconds of the processor, and the most memory that the process had. The volumes: one object of 100 MiB, one of 4 GiB, and 100,000 objects of
+100 bytes in one file. `gen` makes 10,000 and 100,000 lines on a volume of 64,000 pages. `--quick` leaves out what takes more than some seconds.
+"""
+import argparse
+import os
+import subprocess
+import sys
+import tempfile
+import time
+
+MIB = 1 << 20
+LINE_MOST = 16 * MIB
+RUNS = 3
+
+
+def once(words, script=None):
+    """Seconds of the clock and of the processor, MiB, and what was sent."""
+    with tempfile.TemporaryFile() as source, tempfile.TemporaryFile() as sink:
+        source.write(script or b"")
+        source.seek(0)
+        start = time.perf_counter()
+        child = subprocess.Popen([str(word) for word in words], stdin=source, stdout=sink)
+        _, status, used = os.wait4(child.pid, 0)
+        wall = time.perf_counter() - start
+        child.returncode = os.waitstatus_to_exitcode(status)
+        sink.seek(0)
+        sent = sink.read().decode()
+    if child.returncode:
+        sys.exit(f"check.py: {' '.join(map(str, words))} ended with status {child.returncode}")
+    return wall, used.ru_utime + used.ru_stime, used.ru_maxrss / 1024, sent
+
+
+def tell(what, runs):
+    wall, processor, memory = (min(run[at] for run in runs) for at in range(3))
+    print(f"{what}: {wall * 1000:.1f} ms, {processor * 1000:.1f} ms of the processor, {memory:.1f} MiB; {runs[0][3].strip()}", flush=True)
+
+
+def one_object(size):
+    lines = ["begin", "file docs", "create docs as @d"]
+    lines += [f"append @d rep:{min(LINE_MOST, size - at)}:61" for at in range(0, size, LINE_MOST)]
+    return lines + ["commit"]
+
+
+def small_objects(count, block=200):
+    lines = ["begin", "file small", "commit"]
+    for first in range(0, count, block):
+        lines.append("begin")
+        for number in range(first, min(first + block, count)):
+            lines += [f"create small as @n{number}", f"append @n{number} rep:100:63"]
+        lines.append("commit")
+    return lines
+
+
+def volume(program, path, pages, segs):
+    if os.path.exists(path):
+        os.remove(path)
+    once([program, "format", path, "--page-size", 4096, "--pages", pages, "--segs", segs, "--seg-len", 1, "--fan", 169])
+
+
+def checked(program, path, what, pages, segs, lines):
+    volume(program, path, pages, segs)
+    once([program, "run", path], "".join(line + "\n" for line in lines).encode())
+    tell(f"check of {what}", [once([program, "check", path]) for _ in range(RUNS)])
+
+
+def generated(program, path, count):
+    runs = []
+    for _ in range(RUNS):
+        volume(program, path, 64_000, 64_000)
+        runs.append(once([program, "gen", path, "--seed", 1, "--count", count]))
+    tell(f"gen of {count:,} lines", runs)
+
+
+def main():
+    parser = argparse.ArgumentParser(description=__doc__.splitlines()[0])
+    parser.add_argument("program")
+    parser.add_argument("--folder", default="/dev/shm")
+    parser.add_argument("--quick", action="store_true")
+    asked = parser.parse_args()
+    program = os.path.abspath(asked.program)
+    with tempfile.TemporaryDirectory(dir=asked.folder) as folder:
+        path = os.path.join(folder, "volume")
+        checked(program, path, "one object of 100 MiB", 1024, 32_000, one_object(100 * MIB))
+        generated(program, path, 10_000)
+        if not asked.quick:
+            checked(program, path, "100,000 objects of 100 bytes", 64_000, 1024, small_objects(100_000))
+            checked(program, path, "one object of 4 GiB", 16_000, 1_100_000, one_object(4096 * MIB - 1))
+            generated(program, path, 100_000)
+
+
+if __name__ == "__main__":
+    main()
