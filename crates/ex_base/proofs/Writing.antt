@@ -21,3 +21,10 @@ written_on_zeros front field at left is =
     let rest : drop (at + length field) (front ++ zeros left) ≡ zeros (left - length field) =
     sym (drop-drop (length field) at (front ++ zeros left)) ∙ ap (λ (t : List ℕ). drop (length field) t) (drop_at front (zeros left) at (sym is)) ∙ drop-replicate (length field) left 0 in
     ap (λ (t : List ℕ). (t ++ field) ++ drop (at + length field) (front ++ zeros left)) kept ∙ ap (λ (t : List ℕ). (front ++ field) ++ t) rest
+
+-- a field in the place of as many bytes, between others
+pub written_at : (a old new b : List ℕ) (at : ℕ) → length a ≡ at → length old ≡ length new → written (a ++ (old ++ b)) at new ≡ a ++ (new ++ b)
+written_at a old new b at len same =
+    let kept : take at (a ++ (old ++ b)) ≡ a = take_at a (old ++ b) at len in
+    let rest : drop (at + length new) (a ++ (old ++ b)) ≡ b = ap (drop (at + length new)) (sym (append_assoc a old b)) ∙ drop_at (a ++ old) b (at + length new) (omega (arith, length-append a old)) in
+    ap (λ (t : List ℕ). t ++ new ++ drop (at + length new) (a ++ (old ++ b))) kept ∙ ap (λ (t : List ℕ). a ++ new ++ t) rest ∙ append_assoc a new b

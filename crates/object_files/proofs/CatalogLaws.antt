@@ -2,6 +2,7 @@
 use Rattle.std.proofs.Common.{◌≡◌, ◌≢◌, ℕ, zero, suc, ◌+◌, ◌-◌, ◌*◌, ◌^◌, ◌<◌, ◌≤◌, true, List, [], ◌∷◌, ◌++◌, length, drop, map, get_or, Option, Some, refl, sym, ap, subst, ◌∙◌, arith, append_assoc}
 use Rattle.std.specs.Prelude.{slice_index, slice_get, IsSome}
 use Rattle.std.specs.List.{flat_map, AllByRecursion}
+use Rattle.std.specs.Option.{option_map}
 use Rattle.std.specs.Ordering.{nat_cmp}
 use Rattle.std.specs.Cmp.Lexicographic.{slice_cmp}
 use Rattle.std.specs.declared.cmp.Ordering.TheVariants.{Less}
@@ -14,6 +15,7 @@ use Rattle.ex_base.proofs.FieldLaws.{two_is, four_is, eight_is}
 use Rattle.ex_base.proofs.Reading.{length-page_field}
 use Rattle.ex_base.proofs.Places.{behind_more, bytes_there, number_there, number_spelled, bytes_spelled, length-bytes_at, page_there, page_spelled, page_fits, zero_run, zeros_spelled, AreZero-as}
 use Rattle.ex_base.proofs.Lists.{two_front}
+pub use Rattle.object_files.specs.Catalog.{headed}
 use Rattle.object_files.specs.Catalog.{FileEntry, Catalog, entry_bytes, catalog_page, is_name_byte, IsEntry, name_of, number_of, CatalogOf}
 use Rattle.object_files.specs.Reads.{name_in, number_in, entry_in, read_entries, catalog_on, EntryReads, CatalogReads}
 
@@ -34,10 +36,10 @@ catalog_fields size c = simp append_assoc
 abbrev made_entry : List ℕ → ℕ → Option PageNo → ℕ → FileEntry
 made_entry name level root file_no = record { name = name; level = level; root = root; file_no = file_no }
 
-record EntryThere (page : List ℕ) (at : ℕ) (e : FileEntry) (rest : List ℕ) : Type 0 where
-  reads : EntryReads page at
-  same : entry_in page at ≡ e
-  behind : drop (at + 48) page ≡ rest
+pub record EntryThere (page : List ℕ) (at : ℕ) (e : FileEntry) (rest : List ℕ) : Type 0 where
+  pub reads : EntryReads page at
+  pub same : entry_in page at ≡ e
+  pub behind : drop (at + 48) page ≡ rest
 
 head_there : (x y : ℕ) (page rest : List ℕ) (at : ℕ) → drop at page ≡ x ∷ rest → slice_index page at ≡ x
 head_there x y page rest at e = sym (add_zero page at) ∙ ap (λ (t : List ℕ). slice_index t 0) e
@@ -63,7 +65,7 @@ some_root page at some = read_some (number_at 4 page at) some
     read_some zero some = absurd (omega arith)
     read_some (suc n) some = refl
 
-entry_there : (page rest : List ℕ) (at : ℕ) (e : FileEntry) → IsEntry e → drop at page ≡ entry_bytes e ++ rest → EntryThere page at e rest
+pub entry_there : (page rest : List ℕ) (at : ℕ) (e : FileEntry) → IsEntry e → drop at page ≡ entry_bytes e ++ rest → EntryThere page at e rest
 entry_there page rest at e fits is =
     let n : ℕ = length e.name in
     let t44 : List ℕ = zeros 4 ++ rest in
@@ -105,12 +107,12 @@ entry_there page rest at e fits is =
       behind = d48;
     }
 
-record EntriesThere (page : List ℕ) (at : ℕ) (entries : List FileEntry) (rest : List ℕ) : Type 0 where
-  same : read_entries page (length entries) at ≡ entries
-  reads : (i : ℕ) → i < length entries → EntryReads page (at + 48 * i)
-  behind : drop (at + 48 * length entries) page ≡ rest
+pub record EntriesThere (page : List ℕ) (at : ℕ) (entries : List FileEntry) (rest : List ℕ) : Type 0 where
+  pub same : read_entries page (length entries) at ≡ entries
+  pub reads : (i : ℕ) → i < length entries → EntryReads page (at + 48 * i)
+  pub behind : drop (at + 48 * length entries) page ≡ rest
 
-entries_there : (page rest : List ℕ) (at : ℕ) (entries : List FileEntry) → AllByRecursion IsEntry entries → drop at page ≡ flat_map entry_bytes entries ++ rest → EntriesThere page at entries rest
+pub entries_there : (page rest : List ℕ) (at : ℕ) (entries : List FileEntry) → AllByRecursion IsEntry entries → drop at page ≡ flat_map entry_bytes entries ++ rest → EntriesThere page at entries rest
 entries_there page rest at [] fits is = record { same = refl; reads = λ i lt. absurd (omega arith); behind = ap (λ (k : ℕ). drop k page) (let e : at + 48 * 0 ≡ at = omega arith in e) ∙ is }
 entries_there page rest at (e ∷ entries) fits is =
     let here = entry_there page (flat_map entry_bytes entries ++ rest) at e fits.0 (is ∙ append_assoc (entry_bytes e) (flat_map entry_bytes entries) rest) in
@@ -195,7 +197,7 @@ differ_to page (suc n) at h (suc i) li (suc j) lt lj e =
 
 -- ---- an entry that is read, and spelled so
 
-entry_back : (page : List ℕ) (at : ℕ) → IsBytes page → at + 48 ≤ length page → EntryReads page at → (IsEntry (entry_in page at)) × (drop at page ≡ entry_bytes (entry_in page at) ++ drop (at + 48) page)
+pub entry_back : (page : List ℕ) (at : ℕ) → IsBytes page → at + 48 ≤ length page → EntryReads page at → (IsEntry (entry_in page at)) × (drop at page ≡ entry_bytes (entry_in page at) ++ drop (at + 48) page)
 entry_back page at bytes room h =
     let n : ℕ = slice_index page at in
     let short : slice_index page at ≤ 32 = h.short in
@@ -223,7 +225,7 @@ entry_back page at bytes room h =
       whole ∙ sym (entry_fields (entry_in page at) (drop (at + 48) page)),
     )
 
-entries_back : (page : List ℕ) (n at : ℕ) → IsBytes page → at + 48 * n ≤ length page → ((i : ℕ) → i < n → EntryReads page (at + 48 * i)) → (AllByRecursion IsEntry (read_entries page n at)) × (drop at page ≡ flat_map entry_bytes (read_entries page n at) ++ drop (at + 48 * n) page)
+pub entries_back : (page : List ℕ) (n at : ℕ) → IsBytes page → at + 48 * n ≤ length page → ((i : ℕ) → i < n → EntryReads page (at + 48 * i)) → (AllByRecursion IsEntry (read_entries page n at)) × (drop at page ≡ flat_map entry_bytes (read_entries page n at) ++ drop (at + 48 * n) page)
 entries_back page zero at bytes room h = (tt, ap (λ (k : ℕ). drop k page) (let e : at ≡ at + 48 * 0 = omega arith in e))
 entries_back page (suc n) at bytes room h =
     let here = entry_back page at bytes (omega arith) (subst (EntryReads page) (let e : at + 48 * 0 ≡ at = omega arith in e) (h 0 (omega arith))) in
@@ -234,7 +236,7 @@ entries_back page (suc n) at bytes room h =
 
 -- ---- the page
 
-length-entry : (e : FileEntry) → length e.name ≤ 32 → length (entry_bytes e) ≡ 48
+pub length-entry : (e : FileEntry) → length e.name ≤ 32 → length (entry_bytes e) ≡ 48
 length-entry e short =
     let whole : entry_bytes e ≡ length e.name ∷ (e.name ++ (zeros (32 - length e.name) ++ (e.level ∷ (zeros 2 ++ (page_field e.root ++ (four_bytes e.file_no ++ (zeros 4 ++ []))))))) = sym (append-nil (entry_bytes e)) ∙ entry_fields e [] in
     omega (arith, ap length whole, length-append e.name (zeros (32 - length e.name) ++ (e.level ∷ (zeros 2 ++ (page_field e.root ++ (four_bytes e.file_no ++ (zeros 4 ++ [])))))), length-append (zeros (32 - length e.name)) (e.level ∷ (zeros 2 ++ (page_field e.root ++ (four_bytes e.file_no ++ (zeros 4 ++ []))))), length-append (page_field e.root) (four_bytes e.file_no ++ (zeros 4 ++ [])), length-append (four_bytes e.file_no) (zeros 4 ++ []), length-replicate {A = ℕ} (32 - length e.name) 0, length-page_field e.root, four_is.len e.file_no)
@@ -247,9 +249,6 @@ length-head : (c : Catalog) → AllByRecursion IsEntry c.entries → length (hea
 length-head c each =
     let start : List ℕ = (1 ∷ 0 ∷ []) ++ two_bytes (length c.entries) ++ zeros 4 ++ eight_bytes c.next_unique ++ eight_bytes c.last ++ zeros 8 in
     omega (arith, length-append ((1 ∷ 0 ∷ []) ++ two_bytes (length c.entries) ++ zeros 4 ++ eight_bytes c.next_unique ++ eight_bytes c.last ++ zeros 8) (flat_map entry_bytes c.entries), length-append ((1 ∷ 0 ∷ []) ++ two_bytes (length c.entries) ++ zeros 4 ++ eight_bytes c.next_unique ++ eight_bytes c.last) (zeros 8), length-append ((1 ∷ 0 ∷ []) ++ two_bytes (length c.entries) ++ zeros 4 ++ eight_bytes c.next_unique) (eight_bytes c.last), length-append ((1 ∷ 0 ∷ []) ++ two_bytes (length c.entries) ++ zeros 4) (eight_bytes c.next_unique), length-append ((1 ∷ 0 ∷ []) ++ two_bytes (length c.entries)) (zeros 4), length-append (1 ∷ 0 ∷ []) (two_bytes (length c.entries)), two_is.len (length c.entries), eight_is.len c.next_unique, eight_is.len c.last, length-spelled c.entries each)
-
-abbrev pub headed : ℕ → ℕ → ℕ → List ℕ → List ℕ
-headed n next last x = 1 ∷ 0 ∷ (two_bytes n ++ (zeros 4 ++ (eight_bytes next ++ (eight_bytes last ++ (zeros 8 ++ x)))))
 
 pub page_headed : (page : List ℕ) (c : Catalog) → AllByRecursion IsEntry c.entries → catalog_page (length page) c ≡ headed (length c.entries) c.next_unique c.last (flat_map entry_bytes c.entries ++ zeros (length page - (32 + 48 * length c.entries)))
 page_headed page c each = catalog_fields (length page) c ∙ ap (λ (k : ℕ). headed (length c.entries) c.next_unique c.last (flat_map entry_bytes c.entries ++ zeros (length page - k))) (length-head c each)
@@ -382,3 +381,17 @@ inside_of page c i h is lt =
     let number = count_given page c is in
     let short : slice_index page (32 + 48 * i) ≤ 32 = (h.entries i (omega arith)).short in
     record { room = omega (arith, h.room); name = omega (arith, h.room) }
+
+-- the bytes of the entry at a position
+pub entry_spelled : (page : List ℕ) (at n : ℕ) → n ≡ 48 → IsBytes page → at + 48 ≤ length page → EntryReads page at → bytes_at page at n ≡ entry_bytes (entry_in page at)
+entry_spelled page at n is bytes room h =
+    let here = entry_back page at bytes room h in
+    let short : length (name_in page at) ≤ 32 = here.0.name.short in
+    bytes_there page (entry_bytes (entry_in page at)) (drop (at + 48) page) at n here.1 (length-entry (entry_in page at) short ∙ sym is)
+
+-- and of the entry at an index
+pub spelled_given : (page : List ℕ) (c : Catalog) (i : ℕ) (x : List ℕ) → catalog_on page ≡ c → i < length c.entries → x ≡ entry_bytes (entry_in page (32 + 48 * i)) → option_map entry_bytes (slice_get c.entries i) ≡ Some x
+unfolding catalog_on
+spelled_given page c i x is lt spelled =
+    let number = count_given page c is in
+    ap (option_map entry_bytes) (sym (ap (λ (x : Catalog). slice_get x.entries i) is) ∙ entry_here page (number_at 2 page 2) 32 i (omega (arith, number))) ∙ ap (λ (t : List ℕ). Some t) (sym spelled)

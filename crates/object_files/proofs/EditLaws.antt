@@ -5,17 +5,12 @@ use Rattle.std.proofs.lemmas.List.{length-append, length-replicate, take_at, dro
 use Rattle.ex_base.specs.Bytes.{written}
 use Rattle.ex_base.specs.Fields.{field_bytes, two_bytes, eight_bytes, zeros}
 use Rattle.ex_base.proofs.FieldLaws.{two_is, eight_is}
+use Rattle.ex_base.proofs.Writing.{written_at}
 use Rattle.object_files.specs.Catalog.{Catalog, entry_bytes, fresh_catalog, CatalogOf}
 use Rattle.object_files.specs.Reads.{with_numbers}
 use Rattle.object_files.proofs.CatalogLaws.{headed, page_headed}
 
-pub written_at : (a old new b : List ℕ) (at : ℕ) → length a ≡ at → length old ≡ length new → written (a ++ (old ++ b)) at new ≡ a ++ (new ++ b)
-written_at a old new b at len same =
-    let kept : take at (a ++ (old ++ b)) ≡ a = take_at a (old ++ b) at len in
-    let rest : drop (at + length new) (a ++ (old ++ b)) ≡ b = ap (drop (at + length new)) (sym (append_assoc a old b)) ∙ drop_at (a ++ old) b (at + length new) (omega (arith, length-append a old)) in
-    ap (λ (t : List ℕ). t ++ new ++ drop (at + length new) (a ++ (old ++ b))) kept ∙ ap (λ (t : List ℕ). a ++ new ++ t) rest ∙ append_assoc a new b
-
-both_written : (start x y b : List ℕ) (next last : ℕ) → length start ≡ 8 → length x ≡ 8 → length y ≡ 8 → written (written (start ++ (x ++ (y ++ b))) 8 (eight_bytes next)) 16 (eight_bytes last) ≡ start ++ (eight_bytes next ++ (eight_bytes last ++ b))
+pub both_written : (start x y b : List ℕ) (next last : ℕ) → length start ≡ 8 → length x ≡ 8 → length y ≡ 8 → written (written (start ++ (x ++ (y ++ b))) 8 (eight_bytes next)) 16 (eight_bytes last) ≡ start ++ (eight_bytes next ++ (eight_bytes last ++ b))
 both_written start x y b next last ls lx ly =
     ap (λ (t : List ℕ). written t 16 (eight_bytes last)) (written_at start x (eight_bytes next) (y ++ b) 8 ls (lx ∙ sym (eight_is.len next)) ∙ sym (append_assoc start (eight_bytes next) (y ++ b)))
     ∙ written_at (start ++ eight_bytes next) y (eight_bytes last) b 16 (omega (arith, length-append start (eight_bytes next), ls, eight_is.len next)) (ly ∙ sym (eight_is.len last))

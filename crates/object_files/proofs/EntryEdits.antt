@@ -18,7 +18,7 @@ use Rattle.object_files.specs.Catalog.{FileEntry, Catalog, entry_bytes, IsName, 
 use Rattle.object_files.specs.Edits.{IsCatalogPage, entries_on, numbers_on, with_entries, new_file, entry_inserted, without_name, indexed, IsLowestUnused}
 use Rattle.object_files.specs.Reads.{name_in, number_in, entry_in, read_entries, catalog_on, entry_at, EachReads}
 use Rattle.object_files.proofs.CatalogLaws.{headed, spelled_reads, length-spelled, length-entries, entry_fields}
-use Rattle.object_files.proofs.EditLaws.{written_at}
+use Rattle.ex_base.proofs.Writing.{written_at}
 use Rattle.object_files.proofs.EntryLists.{other_way, contains_of, inserted_at, sorted-more, numbers-more, without_at, sorted-less, numbers-less, indexed_at, names-indexed, numbers-indexed, each-indexed}
 use Rattle.object_files.proofs.SpliceLaws.{length-headed, count_written, Spliced, spliced, split_page, CanStand, page_of}
 

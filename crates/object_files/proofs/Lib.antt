@@ -4,3 +4,4 @@ pub mod EntryEdits
 pub mod EntryLists
 pub mod MarkLaws
 pub mod SpliceLaws
+pub mod WholePages

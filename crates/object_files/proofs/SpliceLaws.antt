@@ -11,7 +11,7 @@ use Rattle.object_files.specs.Catalog.{FileEntry, Catalog, entry_bytes, IsEntry,
 use Rattle.object_files.specs.Edits.{with_entries}
 use Rattle.object_files.proofs.CatalogLaws.{headed, page_headed, length-spelled}
 
-headed-append : (n next last : ℕ) (x y : List ℕ) → headed n next last x ++ y ≡ headed n next last (x ++ y)
+pub headed-append : (n next last : ℕ) (x y : List ℕ) → headed n next last x ++ y ≡ headed n next last (x ++ y)
 headed-append n next last x y = simp append_assoc
 
 pub length-headed : (n next last : ℕ) (x : List ℕ) → length (headed n next last x) ≡ 32 + length x

@@ -1,6 +1,6 @@
-ghost use Rattle.std.specs.Prelude.{◌≡◌, ℕ, ◌+◌, ◌*◌, ◌<◌, ◌≤◌, length, map, Contains, IsSome};
-ghost use Rattle.ex_base.specs.Fields.{IsPageField};
-ghost use Rattle.object_files.specs.Catalog.{CatalogOf, IsName, entry_bytes, fresh_catalog, name_of};
+ghost use Rattle.std.specs.Prelude.{◌≡◌, ℕ, ◌+◌, ◌-◌, ◌*◌, ◌/◌, ◌<◌, ◌≤◌, ◌++◌, length, map, Contains, IsSome};
+ghost use Rattle.ex_base.specs.Fields.{IsPageField, zeros};
+ghost use Rattle.object_files.specs.Catalog.{CatalogOf, IsName, entry_bytes, headed, fresh_catalog, name_of};
 ghost use Rattle.object_files.specs.Edits.{IsCatalogPage, entries_on, numbers_on, with_entries, new_file, entry_inserted, without_name, indexed, IsLowestUnused};
 ghost use Rattle.object_files.specs.Reads.{catalog_on, with_numbers};
 
@@ -33,6 +33,20 @@ pub fn set_numbers(image: &mut [u8], next_unique: u64, last_txn: u64)
 {
     put_u64(image, NEXT_UNIQUE, next_unique);
     put_u64(image, LAST, last_txn);
+}
+
+/// Makes a page that of two numbers and of entries that are spelled one behind the other. It is a catalog where a catalog has these.
+pub fn write_catalog(image: &mut [u8], next_unique: u64, last_txn: u64, entries: &[u8])
+    requires room { 32 + length entries.now ≤ length image.old }
+    requires size { length image.old ≤ 8192 }
+    ensures { image.new ≡ headed (length entries.now / 48) next_unique last_txn (entries.now
+        ++ zeros (length image.old - (32 + length entries.now))) }
+{
+    empty_catalog(image);
+    put_u16(image, COUNT, (entries.len() / ENTRY_LEN) as u16);
+    put_u64(image, NEXT_UNIQUE, next_unique);
+    put_u64(image, LAST, last_txn);
+    put_bytes(image, HEAD_LEN, entries);
 }
 
 /// The bytes of the entry of a file without pages.

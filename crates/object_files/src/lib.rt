@@ -11,7 +11,7 @@ mod marks;
 mod reads;
 mod view;
 
-pub use edit::{add_file, empty_catalog, remove_file, set_index, set_numbers};
+pub use edit::{add_file, empty_catalog, remove_file, set_index, set_numbers, write_catalog};
 use ex_base::PageNo;
 pub use view::CatalogView;
 

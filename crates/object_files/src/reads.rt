@@ -2,8 +2,8 @@ ghost use Rattle.std.specs.Prelude.{◌≡◌, ◌≢◌, ℕ, ◌↔◌, ◌+�
 ghost use Rattle.std.specs.List.{AllByRecursion};
 ghost use Rattle.ex_base.specs.Bytes.{bytes_at};
 ghost use Rattle.ex_base.specs.Fields.{AreZero};
-ghost use Rattle.object_files.specs.Catalog.{is_name_byte};
-ghost use Rattle.object_files.specs.Reads.{name_in, number_in, entry_at, EntryReads, EachReads, NamesRise, CatalogReads};
+ghost use Rattle.object_files.specs.Catalog.{is_name_byte, entry_bytes};
+ghost use Rattle.object_files.specs.Reads.{name_in, number_in, entry_in, entry_at, EntryReads, EachReads, NamesRise, CatalogReads};
 
 use crate::marks::numbers_differ;
 use crate::{
@@ -56,6 +56,15 @@ pub fn number_of(page: &[u8], at: usize) -> u32
     ensures { result ≡ number_in page.now at }
 {
     get_u32(page, at + FILE_NO)
+}
+
+/// The bytes that spell the entry at a position.
+pub fn spelled_at(page: &[u8], at: usize) -> &[u8]
+    requires room { at + 48 ≤ length page.now }
+    requires entry { EntryReads page.now at }
+    ensures { result.now ≡ entry_bytes (entry_in page.now at) }
+{
+    &page[at..at + ENTRY_LEN]
 }
 
 /// Whether an entry stands at a position.

@@ -1,8 +1,9 @@
 ghost use Rattle.std.specs.Prelude.{◌≡◌, ◌<◌, length, slice_get, Some, IfSome, IfNone};
-ghost use Rattle.object_files.specs.Catalog.{Catalog, CatalogOf};
+ghost use Rattle.std.specs.Option.{option_map};
+ghost use Rattle.object_files.specs.Catalog.{Catalog, CatalogOf, entry_bytes};
 ghost use Rattle.object_files.specs.Reads.{CatalogReads, catalog_on, entry_of};
 
-use crate::reads::{is_catalog, name_of, number_of};
+use crate::reads::{is_catalog, name_of, number_of, spelled_at};
 use crate::{COUNT, ENTRY_LEN, Entry, HEAD_LEN, LAST, LEVEL, NEXT_UNIQUE, ROOT};
 use ex_base::{get_page, get_u16, get_u64};
 use std::marker::Model;
@@ -51,6 +52,14 @@ impl<'a> CatalogView<'a> {
             root: get_page(self.page, at + ROOT),
             file_no: number_of(self.page, at),
         }
+    }
+
+    /// The bytes that spell a file's entry.
+    pub fn spelled(&self, index: u32) -> &'a [u8]
+        requires { index < length self.now.entries }
+        ensures { option_map entry_bytes (slice_get self.now.entries index) ≡ Some result.now }
+    {
+        spelled_at(self.page, HEAD_LEN + ENTRY_LEN * index as usize)
     }
 
     /// The unique number that the next version gets.

@@ -4,3 +4,4 @@ pub mod ViewLaws
 pub mod BytesLaws
 pub mod EditLaws
 pub mod SlotLaws
+pub mod WholeLaws

@@ -240,7 +240,7 @@ ends_before None (t ∷ slots) live = live
 ends_before (Some body) [] live = tt
 ends_before (Some body) (t ∷ slots) live = live
 
-trimmed_live : (slots : List Slot) → EndsLive (trimmed slots)
+pub trimmed_live : (slots : List Slot) → EndsLive (trimmed slots)
 trimmed_live [] = tt
 trimmed_live (s ∷ slots) = ends_before s (trimmed slots) (trimmed_live slots)
 

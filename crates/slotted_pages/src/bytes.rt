@@ -52,7 +52,7 @@ pub fn replace_bytes(
 }
 
 /// Writes a slot's field.
-fn write_field(image: &mut [u8], slot: usize, at: usize, len: usize)
+pub fn write_field(image: &mut [u8], slot: usize, at: usize, len: usize)
     requires room { 4 * (slot + 1) ≤ length image.old }
     requires at { at < 65536 }
     requires len { len < 65536 }

@@ -10,10 +10,12 @@ mod bytes;
 mod edit;
 mod reads;
 mod view;
+mod whole;
 
 pub use bytes::replace_bytes;
 pub use edit::{empty_page, insert_body, remove_body, resize_body};
 pub use view::SlottedView;
+pub use whole::{SlotBody, write_slots};
 
 // The bytes of a page's fields. The bodies begin behind its head.
 const KIND: usize = 0;
