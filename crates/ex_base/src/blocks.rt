@@ -1,5 +1,5 @@
 //! The ports of tree pages: one for reading alone, and one that also takes units and gives them back.
-ghost use Rattle.std.specs.Prelude.{◌≡◌, ◌≤◌, ◌+◌, ◌↔◌, IsTrue, true, length, IfOk, IfErr, OnOk};
+ghost use Rattle.std.specs.Prelude.{◌≡◌, ◌≤◌, ◌+◌, ◌↔◌, IsTrue, true, false, length, IfOk, IfErr, OnOk};
 ghost use Rattle.std.specs.Borrow.{sem};
 ghost use Rattle.ex_base.specs.Area.{InPageArea, NamesLeaf, IsUnit};
 ghost use Rattle.ex_base.specs.Bytes.{bytes_at};
@@ -109,11 +109,12 @@ pub trait Blocks: ReadBlocks {
         ensures counts { CountsRefs Self.Ground self.old self.new page.0
             (without_ref (Self.refs self.old page.0)) };
 
-    /// Gives back a unit that has no reference.
+    /// Gives back a unit that has no reference and is no logged page.
     fn give_unit(&mut self, page: PageNo)
         requires ready { Self.ready self.old }
         requires unit { IsUnit (Self.geometry self.old) page.0 }
         requires used { Self.used self.old page.0 ≡ true }
         requires unnamed { Self.refs self.old page.0 ≡ 0 }
+        requires apart { Self.held self.old page.0 ≡ false }
         ensures { GivesUnit Self.Ground self.old self.new page.0 };
 }

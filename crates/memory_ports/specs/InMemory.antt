@@ -1,11 +1,11 @@
 -- The meanings of a volume in memory, over its parts.
-use Rattle.std.specs.Prelude.{◌≡◌, ◌≤◌, ◌+◌, ◌*◌, ℕ, Bool, false, List, length, Some, slice_index_or, refl}
+use Rattle.std.specs.Prelude.{◌≡◌, ◌≤◌, ◌+◌, ◌*◌, ℕ, Bool, true, false, List, length, Some, slice_index_or, refl}
 use Rattle.std.proofs.Common.{◌∙◌, arith}
 use Rattle.ex_base.specs.declared.geometry.Geometry.{Geometry}
-use Rattle.ex_base.specs.Area.{NamesLeaf, area_end}
+use Rattle.ex_base.specs.Area.{NamesLeaf, area_end, catalog_no}
 use Rattle.ex_base.specs.Bytes.{part, length-part}
 use Rattle.ex_base.specs.Sizes.{leaf_bytes, volume_bytes}
-use Rattle.page_alloc.specs.UnitSet.{UnitSet}
+use Rattle.page_alloc.specs.UnitSet.{UnitSet, used_at}
 use Rattle.tree_store.specs.Stored.{IsCounted, unit_bytes}
 use Rattle.tree_store.specs.Whole.{leaf_len, leaf_range}
 use Rattle.std.proofs.Common.{ap}
@@ -18,12 +18,19 @@ image_in g images p = part images (p * g.page_size) g.page_size
 abbrev pub flag_in : List Bool → ℕ → Bool
 flag_in flags p = slice_index_or flags p false
 
--- The parts are of one geometry: a byte for each place of the volume, an image and a flag for each page up to the end of the page area.
+-- each page whose flag is set is used
+abbrev pub AreInUse : UnitSet → List Bool → Type 0
+AreInUse units flags = (page : ℕ) → flag_in flags page ≡ true → used_at units page ≡ true
+
+-- The parts are of one geometry: a byte for each place of the volume, an image and a flag for each page up to the end of the page area. The catalog's
+-- flag is set, and each page whose flag is set is used.
 pub record IsVolume (g : Geometry) (units : UnitSet) (bytes images : List ℕ) (flags : List Bool) : Type 0 where
   pub counted : IsCounted g units
   pub bytes_len : length bytes ≡ volume_bytes g
   pub images_len : length images ≡ area_end g * g.page_size
   pub flags_len : length flags ≡ area_end g
+  pub catalog : flag_in flags catalog_no ≡ true
+  pub in_use : AreInUse units flags
 
 -- an earlier and a later state
 pub record Follows (g h : Geometry) (u v : UnitSet) (a b images later : List ℕ) (flags set : List Bool) : Type 0 where

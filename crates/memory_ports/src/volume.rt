@@ -1,5 +1,7 @@
 //! The volume in memory.
-ghost use Rattle.std.specs.Prelude.{◌≡◌, ℕ, List, IfOk, Some};
+ghost use Rattle.std.specs.Prelude.{◌≡◌, ◌≢◌, ℕ, List, true, false, length, eqb, IfOk, Some};
+ghost use Rattle.ex_base.specs.Area.{area_end, catalog_no};
+ghost use Rattle.memory_ports.specs.InMemory.{flag_in};
 
 use crate::bytes::{part_of, put_part};
 use ex_base::{
@@ -22,8 +24,6 @@ pub struct MemoryVolume {
 }
 
 impl MemoryVolume {
-    ghost use Rattle.std.specs.Prelude.{eqb};
-    ghost use Rattle.ex_base.specs.Area.{catalog_no};
     ghost use Rattle.page_alloc.specs.UnitSet.{used_at, refs_at};
     ghost use Rattle.memory_ports.specs.InMemory.{IsVolume};
 
@@ -37,16 +37,27 @@ impl MemoryVolume {
     {
         let pages = (PageNo::CATALOG.0 + geometry.pages) as usize;
         let size = geometry.page_size as usize;
-        let mut held = vec![in alloc; false; pages]?;
-        held[PageNo::CATALOG.0 as usize] = true;
         Ok(MemoryVolume {
             geometry: *geometry,
             units: Units::make(alloc, geometry)?,
             bytes: vec![in alloc; 0u8; geometry.volume_bytes() as usize]?,
             images: vec![in alloc; 0u8; pages * size]?,
-            held,
+            held: fresh_flags(alloc, geometry)?,
         })
     }
+}
+
+// The flags of a fresh volume: that of the catalog's page alone is set.
+fn fresh_flags(alloc: Global, geometry: &Geometry) -> Result<Vec<bool>, AllocError>
+    ensures len { IfOk result (λ flags. length flags.items ≡ area_end geometry.now) }
+    ensures catalog { IfOk result (λ flags. flag_in flags.items catalog_no ≡ true) }
+    ensures others { IfOk result
+        (λ flags. (p : ℕ) → p ≢ catalog_no → flag_in flags.items p ≡ false) }
+{
+    let pages = (PageNo::CATALOG.0 + geometry.pages) as usize;
+    let mut held = vec![in alloc; false; pages]?;
+    held[PageNo::CATALOG.0 as usize] = true;
+    Ok(held)
 }
 
 impl Ground for MemoryVolume {
@@ -54,7 +65,7 @@ impl Ground for MemoryVolume {
     ghost use Rattle.page_alloc.specs.UnitSet.{used_at, refs_at, free_count};
     ghost use Rattle.count_nodes.specs.Names.{names_on};
     ghost use Rattle.tree_store.specs.Stored.{unit_bytes};
-    ghost use Rattle.memory_ports.specs.InMemory.{IsVolume, Follows, follows_same, follows_on, image_in, flag_in, leaf_in};
+    ghost use Rattle.memory_ports.specs.InMemory.{IsVolume, Follows, follows_same, follows_on, image_in, leaf_in};
 
     ghost geometry = { λ m. m.geometry };
 
@@ -193,9 +204,6 @@ impl Pages for MemoryVolume {
 
     fn take_page(&mut self, _alloc: Global, image: &[u8]) -> Result<PageNo, PortFault> {
         let page = self.units.take(Area::Page);
-        if page.0 == PageNo::CATALOG.0 || self.held[page.0 as usize] {
-            return Err(PortFault::Memory);
-        }
         self.held[page.0 as usize] = true;
         let at = page.0 as usize * self.geometry.page_size as usize;
         put_part(&mut self.images, at, image);

@@ -40,7 +40,7 @@ pub differ_used : (used : ℕ → Bool) (p q : ℕ) → used p ≡ false → use
 differ_used used p q free is same = both_ways _ free (ap used (sym same) ∙ is)
 
 -- a used unit stays used when a free one is taken
-grows : (old new : ℕ → Bool) (p : ℕ) → new ≡ updated old p true → old p ≡ false → (q : ℕ) → old q ≡ true → new q ≡ true
+pub grows : (old new : ℕ → Bool) (p : ℕ) → new ≡ updated old p true → old p ≡ false → (q : ℕ) → old q ≡ true → new q ≡ true
 grows old new p is free q used = ap (λ (f : ℕ → Bool). f q) is ∙ updated_other old p true q (differ_used old p q free used) ∙ used
 
 in_both : (at m to n i : ℕ) → Apart at m to n → InRange at m i → InRange to n i → ⊥

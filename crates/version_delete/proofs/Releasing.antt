@@ -23,7 +23,7 @@ use Rattle.trees.specs.Rows.{parts_of}
 use Rattle.trees.proofs.Reading.{no_part}
 use Rattle.trees.specs.Counted.{HasCounts}
 use Rattle.trees.specs.Made.{pages_of}
-use Rattle.version_delete.specs.Released.{Owned, AreAt, IsFreed, Gives, Released}
+use Rattle.version_delete.specs.Released.{Owned, AreAt, AreApart, IsFreed, Gives, Released}
 
 each_of : (P Q : ℕ → Type 0) (xs : List ℕ) → ((p : ℕ) → 1 ≤ times p xs → P p → Q p) → AllByRecursion P xs → AllByRecursion Q xs
 each_of P Q [] f all = tt
@@ -61,6 +61,7 @@ module _ {S : Type 0} (g : ground.Ghosts S) where
     held = refl;
     touched = refl;
     counts = λ h. h;
+    apart = λ h. h;
     frees = g.frees_leads (IsFreed g a a) a a (g.leads_refl a);
   }
 
@@ -78,6 +79,7 @@ module _ {S : Type 0} (g : ground.Ghosts S) where
     held = y.held ∙ x.held;
     touched = y.touched ∙ x.touched;
     counts = λ h. y.counts (x.counts h);
+    apart = λ h. y.apart (x.apart h);
     frees = g.frees_trans (IsFreed g a c) a b c (g.frees_more (IsFreed g a b) (IsFreed g a c) (λ p h. (h.0, unused c p (λ is. true≢false (sym (y.fewer p is) ∙ h.1)))) a b x.frees)
         (g.frees_more (IsFreed g b c) (IsFreed g a c) (λ p h. (x.fewer p h.0, h.1)) b c y.frees);
   }
@@ -140,6 +142,12 @@ module _ {S : Type 0} (g : ground.Ghosts S) where
         | inr d ↦ omega (arith, c.others p d, some)
       ]
 
+  apart_on : (a b : S) (page : ℕ) → Drops a b page (without_ref (g.refs a page)) → AreApart g a → AreApart g b
+  apart_on a b page c h p some = ap (λ (f : ℕ → Bool). f p) c.held ∙ h p (elim (cases_eq p page) [
+    | inl e ↦ subst (λ q. 1 ≤ g.refs a q) (sym e) (omega (arith, c.counted, subst (λ q. 1 ≤ g.refs b q) e some))
+    | inr d ↦ omega (arith, c.others p d, some)
+  ])
+
   pub gives_less : (a b : S) (page : ℕ) → Drops a b page (without_ref (g.refs a page)) → Gives g a b
   gives_less a b page c = record {
     fewer = λ p h. sym (ap (λ (f : ℕ → Bool). f p) c.used) ∙ h;
@@ -148,6 +156,7 @@ module _ {S : Type 0} (g : ground.Ghosts S) where
     held = c.held;
     touched = c.touched;
     counts = counts_on a b page c;
+    apart = apart_on a b page c;
     frees = g.frees_leads (IsFreed g a b) a b c.leads;
   }
 
@@ -206,6 +215,7 @@ module _ {S : Type 0} (g : ground.Ghosts S) where
       touched = gives.touched ∙ c.touched;
       held = gives.held ∙ c.held;
       counts = counts_given;
+      apart = λ h p some. ap (λ (f : ℕ → Bool). f p) (gives.held ∙ c.held) ∙ h p (omega (arith, some, refs_same p (λ same. absurd (omega (arith, some, ap (g.refs d) same, refs_gone)))));
       frees = g.frees_trans (IsFreed g a d) a b d (g.frees_leads (IsFreed g a d) a b c.leads)
           (g.frees_more (λ p. p ≡ page) (IsFreed g a d) (λ p same. (ap (g.used a) same ∙ was_used, ap (g.used d) same ∙ gives.gone)) b d gives.frees);
     }

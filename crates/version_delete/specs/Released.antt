@@ -1,5 +1,5 @@
 -- What it means that an owner is taken away from each of some trees.
-use Rattle.std.specs.Prelude.{◌≡◌, ℕ, true, false, List, ◌++◌}
+use Rattle.std.specs.Prelude.{◌≡◌, ◌≤◌, ℕ, true, false, List, ◌++◌}
 use Rattle.std.specs.List.{AllByRecursion}
 use Rattle.ex_base.specs.declared.faults.PortFault.{PortFault}
 use Rattle.ex_base.specs.declared.ground.Ground as ground
@@ -17,6 +17,10 @@ Owned g s logged roots = IsOwned (g.geometry s) (g.unit s) (g.used s) (g.refs s)
 abbrev pub AreAt : {S : Type 0} → ground.Ghosts S → S → ℕ → List ℕ → Type 0
 AreAt g s level pages = AllByRecursion (StandsAt (g.geometry s) (g.unit s) level) pages
 
+-- a unit that has references is no logged page
+abbrev pub AreApart : {S : Type 0} → ground.Ghosts S → S → Type 0
+AreApart g s = (p : ℕ) → 1 ≤ g.refs s p → g.held s p ≡ false
+
 -- a unit that was used and is free now
 abbrev pub IsFreed : {S : Type 0} → ground.Ghosts S → S → S → ℕ → Type 0
 IsFreed g old new p = (g.used old p ≡ true) × (g.used new p ≡ false)
@@ -29,6 +33,7 @@ pub record Gives {S : Type 0} (g : ground.Ghosts S) (old new : S) : Type 0 where
   pub held : g.held new ≡ g.held old
   pub touched : g.touched new ≡ g.touched old
   pub counts : HasCounts g old → HasCounts g new
+  pub apart : AreApart g old → AreApart g new
   pub frees : g.frees (IsFreed g old new) old new
 
 -- An owner less of each tree of a level at these pages: where they were owners, the others own what is left.

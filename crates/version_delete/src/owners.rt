@@ -4,7 +4,7 @@ ghost use Rattle.ex_base.specs.Ports.{HasCause};
 ghost use Rattle.ex_base.specs.declared.names.Area.TheVariants.{Page};
 ghost use Rattle.trees.specs.Owners.{root_pages};
 ghost use Rattle.trees.specs.Counted.{HasCounts};
-ghost use Rattle.version_delete.specs.Released.{Gives, Released, Blames};
+ghost use Rattle.version_delete.specs.Released.{AreApart, Gives, Released, Blames};
 ghost use Rattle.trees.specs.Damage.{IsLeafFault, root_row};
 
 use crate::steps::Steps;
@@ -17,6 +17,7 @@ use trees::{Part, names_node, no_leaf, no_node, row_of};
 fn release_leaf<B: Blocks>(blocks: &mut B, page: PageNo) -> Result<(), PortFault>
     requires ready { B.ready blocks.old }
     requires counts { HasCounts B.Ground blocks.old }
+    requires apart { AreApart B.Ground blocks.old }
     ensures released { OnOk result (Released B.Ground blocks.old blocks.new 0 (page.0 ∷ [])) }
     ensures gives { Gives B.Ground blocks.old blocks.new }
     ensures pages { B.free blocks.new Page ≡ B.free blocks.old Page }
@@ -43,6 +44,7 @@ fn release<B: Blocks, L: Ledger>(
 ) -> Result<(), PortFault>
     requires ready { B.ready blocks.old }
     requires counts { HasCounts B.Ground blocks.old }
+    requires apart { AreApart B.Ground blocks.old }
     ensures released { OnOk result (Released B.Ground blocks.old blocks.new level (tree.page.0
         ∷ [])) }
     ensures gives { Gives B.Ground blocks.old blocks.new }
@@ -86,6 +88,7 @@ pub fn release_tree<B: Blocks, L: Ledger>(
 ) -> Result<(), PortFault>
     requires ready { B.ready blocks.old }
     requires counts { HasCounts B.Ground blocks.old }
+    requires apart { AreApart B.Ground blocks.old }
     ensures released { OnOk result (Released B.Ground blocks.old blocks.new root.now.height
         (root_pages (root.now ∷ []))) }
     ensures gives { Gives B.Ground blocks.old blocks.new }

@@ -1,4 +1,4 @@
-use Rattle.std.proofs.Common.{◌≡◌, ◌-◌, ◌≤◌, [], ◌∷◌, sym, ap, subst, ◌∙◌, arith, rules, true≢false, true, OnOk}
+use Rattle.std.proofs.Common.{◌≡◌, ◌-◌, ◌≤◌, ℕ, Bool, false, [], ◌∷◌, sym, ap, subst, ◌∙◌, arith, rules, true≢false, true, OnOk}
 use Rattle.ex_base.specs.declared.geometry.Geometry.{Geometry}
 use Rattle.ex_base.specs.Area.{InPageArea}
 use Rattle.ex_base.specs.Ports.{without_ref}
@@ -6,8 +6,8 @@ use Rattle.trees.specs.Rows.{parts_of, IsRowOn, IsFilled}
 use Rattle.trees.specs.Trees.{Units}
 use Rattle.count_nodes.specs.Node.{pairs_on}
 use Rattle.trees.specs.Counted.{HasCounts}
-use Rattle.version_delete.specs.Released.{IsFreed, Released}
-use Rattle.version_delete.proofs.Releasing.{drops_of, drops_kept, not_last, node_released, so_far_more, gives_last, gives_on, counts_given, all_of, some_level, suc_less, node_left, gives_geometry}
+use Rattle.version_delete.specs.Released.{AreApart, IsFreed, Released}
+use Rattle.version_delete.proofs.Releasing.{drops_of, drops_kept, not_last, node_released, so_far_more, gives_last, gives_less, gives_on, counts_given, all_of, some_level, suc_less, node_left, gives_geometry}
 use Rattle.version_delete.proofs.Blaming.{row_fault}
 use Rattle.trees.specs.Owners.{StandsAt}
 use Rattle.trees.specs.Damage.{NamesNode, IsWalkFault}
@@ -24,6 +24,14 @@ pub returns-then-level-eq0-clause-released : goal.returns-then-level-eq0-clause-
 returns-then-level-eq0-clause-released g t c =
     subst (λ k. OnOk c.release_leaf.result (Released g.B.Ground c.args.blocks.now c.release_leaf.new.blocks k (c.args.tree.page.0 ∷ []))) (sym c.if-level-eq0.true) c.release_leaf.ensures.released
 
+pub give_unit-requires : goal.give_unit-requires
+give_unit-requires g t c =
+    let page = c.args.tree.page.0 in
+    let b = g.B.Ground in
+    let last = c.drop_ref.ensures.last.0 c.if-not-drop_ref.false in
+    let apart : b.held c.row_of.new.blocks page ≡ false = ap (λ (f : ℕ → Bool). f page) (c.in-Ok.ensures.kept.held ∙ c.drop_ref.ensures.counts.held) ∙ c.requires.apart page (omega (arith, last)) in
+    search rules
+
 pub release-requires : goal.release-requires
 release-requires g t c κs within =
     let page = c.args.tree.page.0 in
@@ -33,6 +41,9 @@ release-requires g t c κs within =
     let drops = drops_kept b c.args.blocks.now c.drop_ref.new.self c.row_of.new.blocks page (without_ref (b.refs c.args.blocks.now page)) (drops_of b c.args.blocks.now c.drop_ref.new.self page (without_ref (b.refs c.args.blocks.now page)) c.drop_ref.ensures.counts) c.in-Ok.ensures.kept in
     let counts : HasCounts b c.loop-child.blocks = c.loop-child.invariant.gives.counts
     (counts_given b c.args.blocks.now c.row_of.new.blocks c.give_unit.new.self page drops c.give_unit.ensures (c.drop_ref.ensures.last.0 c.if-not-drop_ref.false) (c.requires.counts.used page (omega (arith, c.drop_ref.ensures.last.0 c.if-not-drop_ref.false))) c.requires.counts) in
+    let last = c.drop_ref.ensures.last.0 c.if-not-drop_ref.false in
+    let apart : AreApart b c.loop-child.blocks = c.loop-child.invariant.gives.apart
+    ((gives_last b c.args.blocks.now c.row_of.new.blocks c.give_unit.new.self page drops c.give_unit.ensures last (c.requires.counts.used page (omega (arith, last)))).apart c.requires.apart) in
     search rules
 
 pub loop-child-preserved : goal.loop-child-preserved
@@ -102,3 +113,16 @@ returns-in-Err-release-clause-fault g t c = λ told logged roots at is.
     c.loop-child.invariant.gives c.loop-child.invariant.released c.in-Err-release.ensures.fault in
     walk_below (b.geometry c.args.blocks.now) (b.unit c.args.blocks.now) c.args.level c.args.least 0 (c.args.tree ∷ []) row c.in-Err-release.fault c.if-level-eq0.false (omega arith) area found filled
     (subst (λ k. IsWalkFault (b.geometry c.args.blocks.now) (b.unit c.args.blocks.now) (c.args.level - 1) k row c.in-Err-release.fault) (ap (λ (x : Geometry). x.fan) c.geometry-geometry.ensures) walk)
+
+pub returns-then-not-drop_ref-clause-gives : goal.returns-then-not-drop_ref-clause-gives
+returns-then-not-drop_ref-clause-gives g t c =
+    let page = c.args.tree.page.0 in
+    let b = g.B.Ground in
+    gives_less b c.args.blocks.now c.drop_ref.new.self page (drops_of b c.args.blocks.now c.drop_ref.new.self page (without_ref (b.refs c.args.blocks.now page)) c.drop_ref.ensures.counts)
+
+pub returns-in-Err-clause-gives : goal.returns-in-Err-clause-gives
+returns-in-Err-clause-gives g t c =
+    let page = c.args.tree.page.0 in
+    let b = g.B.Ground in
+    let first = drops_of b c.args.blocks.now c.drop_ref.new.self page (without_ref (b.refs c.args.blocks.now page)) c.drop_ref.ensures.counts in
+    gives_less b c.args.blocks.now c.row_of.new.blocks page (drops_kept b c.args.blocks.now c.drop_ref.new.self c.row_of.new.blocks page (without_ref (b.refs c.args.blocks.now page)) first c.in-Err.ensures.kept)

@@ -1,9 +1,17 @@
-use Rattle.std.proofs.Common.{sym, subst, ◌∙◌, arith, true≢false}
+use Rattle.std.proofs.Common.{◌≡◌, ℕ, Bool, false, sym, ap, subst, ◌∙◌, arith, rules, true≢false}
 use Rattle.ex_base.specs.declared.geometry.Geometry.{Geometry}
 use Rattle.ex_base.specs.Area.{NamesLeaf}
 use Rattle.ex_base.specs.Ports.{without_ref}
 use Rattle.version_delete.proofs.Releasing.{drops_of, not_last, leaf_released, gives_last, gives_less}
 use Rattle.version_delete.proofs.owners.release_leaf.Goals as goal
+
+pub give_unit-requires : goal.give_unit-requires
+give_unit-requires g c =
+    let page = c.args.page.0 in
+    let b = g.B.Ground in
+    let last = c.drop_ref.ensures.last.0 c.if-drop_ref.true in
+    let apart : b.held c.drop_ref.new.self page ≡ false = ap (λ (f : ℕ → Bool). f page) c.drop_ref.ensures.counts.held ∙ c.requires.apart page (omega (arith, last)) in
+    search rules
 
 pub returns-then-drop_ref-clause-released : goal.returns-then-drop_ref-clause-released
 returns-then-drop_ref-clause-released g c =

@@ -1,10 +1,10 @@
-use Rattle.std.proofs.Common.{ℕ, refl, ap, ◌∙◌}
+use Rattle.std.proofs.Common.{ℕ, Bool, refl, ap, ◌∙◌}
 use mathlib.Core.Path.{fun_ext}
 use Rattle.ex_base.specs.Ports.{with_ref}
 use Rattle.page_alloc.specs.UnitSet.{used_at, refs_at}
 use Rattle.tree_store.proofs.Counting.{one_more_counted}
 use Rattle.tree_store.proofs.Taking.{same_free, updated_here, updated_other}
-use Rattle.memory_ports.proofs.Writing.{follows_on_parts}
+use Rattle.memory_ports.proofs.Writing.{follows_on_units}
 use Rattle.memory_ports.proofs.volume.MemoryVolumeBlocks.add_ref.Goals as goal
 
 pub returns : goal.returns
@@ -24,5 +24,5 @@ returns c =
       free = fun_ext (λ area. same_free m.geometry m.units c.add_ref.new.self area c.requires.ready.counted (counted c.requires.ready.counted) added.used);
       touched = refl;
       faults = refl;
-      leads = follows_on_parts m.geometry m.units c.add_ref.new.self m.bytes.items m.bytes.items m.images.items m.images.items m.held.items m.held.items counted refl refl refl;
+      leads = follows_on_units m.geometry m.units c.add_ref.new.self m.bytes.items m.bytes.items m.images.items m.images.items m.held.items counted refl refl (λ p is. ap (λ (f : ℕ → Bool). f p) added.used ∙ is);
     }

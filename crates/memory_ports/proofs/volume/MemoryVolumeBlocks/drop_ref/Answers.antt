@@ -1,9 +1,9 @@
-use Rattle.std.proofs.Common.{◌≤◌, ◌-◌, ℕ, refl, ap, ◌∙◌, arith}
+use Rattle.std.proofs.Common.{◌≤◌, ◌-◌, ℕ, Bool, refl, ap, ◌∙◌, arith}
 use mathlib.Core.Path.{fun_ext}
 use Rattle.ex_base.specs.Ports.{refs_most}
 use Rattle.page_alloc.specs.UnitSet.{refs_at}
 use Rattle.tree_store.proofs.Taking.{recounted, same_free, updated_here, updated_other}
-use Rattle.memory_ports.proofs.Writing.{follows_on_parts}
+use Rattle.memory_ports.proofs.Writing.{follows_on_units}
 use Rattle.memory_ports.proofs.volume.MemoryVolumeBlocks.drop_ref.Goals as goal
 
 pub returns-clause-counts : goal.returns-clause-counts
@@ -24,5 +24,5 @@ returns-clause-counts c =
       free = fun_ext (λ area. same_free m.geometry m.units c.drop_ref.new.self area c.requires.ready.counted (counted c.requires.ready.counted) dropped.used);
       touched = refl;
       faults = refl;
-      leads = follows_on_parts m.geometry m.units c.drop_ref.new.self m.bytes.items m.bytes.items m.images.items m.images.items m.held.items m.held.items counted refl refl refl;
+      leads = follows_on_units m.geometry m.units c.drop_ref.new.self m.bytes.items m.bytes.items m.images.items m.images.items m.held.items counted refl refl (λ p is. ap (λ (f : ℕ → Bool). f p) dropped.used ∙ is);
     }

@@ -4,8 +4,8 @@ use Rattle.ex_base.specs.Bytes.{length-repl}
 use Rattle.page_alloc.specs.UnitSet.{used_at, updated}
 use Rattle.tree_store.specs.Stored.{unit_bytes, unit_len}
 use Rattle.tree_store.proofs.Places.{area_unit, node_fits, page_len}
-use Rattle.tree_store.proofs.Taking.{differ_used, front_written, other_written, same_free, taken_area, taken_counted, updated_here, updated_other, whole_written}
-use Rattle.memory_ports.proofs.Writing.{follows_on_parts}
+use Rattle.tree_store.proofs.Taking.{differ_used, front_written, grows, other_written, same_free, taken_area, taken_counted, updated_here, updated_other, whole_written}
+use Rattle.memory_ports.proofs.Writing.{follows_on_units}
 use Rattle.memory_ports.proofs.volume.MemoryVolumeBlocks.new_node.Goals as goal
 
 pub take-page-requires : goal.take-page-requires
@@ -39,8 +39,10 @@ returns-clause-leads c =
     let area = taken_area g c.count_names.new.units Page p named.counted.geometry took.lowest in
     let unit = area_unit g Page p area in
     let fits = node_fits g p (length c.args.bytes.now) (length m.bytes.items) area c.requires.page (omega (arith, c.requires.ready.bytes_len)) in
-    follows_on_parts g m.units c.take-page.new.self m.bytes.items c.put_part.new.bytes.items m.images.items m.images.items m.held.items m.held.items (λ before. taken_counted g c.count_names.new.units c.take-page.new.self p named.counted unit took.geometry took.used took.refs)
-    (ap length c.put_part.ensures ∙ length-repl m.bytes.items (p * g.page_size) c.args.bytes.now fits) refl refl
+    let used : used_at c.take-page.new.self ≡ updated (used_at m.units) p true = took.used ∙ ap (λ (f : ℕ → Bool). updated f p true) named.used in
+    let free : used_at m.units p ≡ false = ap (λ (f : ℕ → Bool). f p) (sym named.used) ∙ took.lowest.free in
+    follows_on_units g m.units c.take-page.new.self m.bytes.items c.put_part.new.bytes.items m.images.items m.images.items m.held.items (λ before. taken_counted g c.count_names.new.units c.take-page.new.self p named.counted unit took.geometry took.used took.refs)
+    (ap length c.put_part.ensures ∙ length-repl m.bytes.items (p * g.page_size) c.args.bytes.now fits) refl (grows (used_at m.units) (used_at c.take-page.new.self) p used free)
 
 pub returns-clause-taken : goal.returns-clause-taken
 returns-clause-taken c =

@@ -1,7 +1,7 @@
 use Rattle.std.proofs.Common.{◌*◌, List, ℕ, length, refl, ap, ◌∙◌}
 use Rattle.memory_ports.specs.InMemory.{image_in}
 use Rattle.ex_base.specs.Bytes.{length-repl}
-use Rattle.memory_ports.proofs.Writing.{follows_on_parts, image_fits, image_put, image_stays}
+use Rattle.memory_ports.proofs.Writing.{follows_on_units, image_fits, image_put, image_stays}
 use Rattle.memory_ports.proofs.volume.MemoryVolumePages.put.Goals as goal
 
 pub returns-clause-put : goal.returns-clause-put
@@ -28,5 +28,5 @@ returns-clause-leads c =
     let p = c.args.page.0 in
     let x = c.args.image.now in
     let fits = image_fits g p (length x) (length m.images.items) c.requires.page c.requires.len c.requires.ready.images_len in
-    follows_on_parts g m.units m.units m.bytes.items m.bytes.items m.images.items c.put_part.new.bytes.items m.held.items m.held.items (λ is. is)
-    refl (ap length c.put_part.ensures ∙ length-repl m.images.items (p * g.page_size) x fits) refl
+    follows_on_units g m.units m.units m.bytes.items m.bytes.items m.images.items c.put_part.new.bytes.items m.held.items (λ is. is)
+    refl (ap length c.put_part.ensures ∙ length-repl m.images.items (p * g.page_size) x fits) (λ q is. is)

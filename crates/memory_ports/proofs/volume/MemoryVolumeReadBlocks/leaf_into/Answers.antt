@@ -1,7 +1,15 @@
-use Rattle.std.proofs.Common.{◌≡◌, ◌+◌, ◌*◌, List, ℕ, Some, length, refl, ap, ◌∙◌}
+use Rattle.std.proofs.Common.{arith, ◌≡◌, ◌+◌, ◌*◌, List, ℕ, Some, length, refl, ap, ◌∙◌}
 use Rattle.ex_base.specs.Bytes.{part}
+use Rattle.tree_store.specs.Whole.{leaf_range}
 use Rattle.tree_store.proofs.Places.{leaf_part}
 use Rattle.memory_ports.proofs.volume.MemoryVolumeReadBlocks.leaf_into.Goals as goal
+
+pub part_of-requires : goal.part_of-requires
+part_of-requires c =
+    let m = c.args.self.now in
+    let g = m.geometry in
+    let n = length c.args.out.now in
+    omega (arith, leaf_range g c.args.page.0 c.args.from n (length m.bytes.items) c.requires.page c.requires.range (omega (arith, c.requires.ready.bytes_len)), ap length c.deref.ensures.value)
 
 pub returns-clause-bytes : goal.returns-clause-bytes
 returns-clause-bytes c = λ told.
