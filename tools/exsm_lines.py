@@ -53,7 +53,7 @@ MEANINGS = {
     "no_scan": "no open scan has the name",
     "no_group": "no group of frames has the name",
     "range": "the place is behind the end: `size X` tells the size",
-    "too_large": "an object has at most 4,294,967,295 bytes",
+    "too_large": "an object has at most 1,099,511,627,775 bytes",
     "too_many": "there are as many {0} as there may be: `close` one first",
     "ids_spent": "the numbers of this volume are spent",
     "long_txn": "the transaction is full (at most 512 updates and 128 pages; it has {0} and {1}): "

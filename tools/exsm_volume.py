@@ -23,7 +23,7 @@ from typing import Callable, Iterator, NamedTuple, Optional
 from exsm_geometry import CATALOG, LOG_PAGES, Geometry
 
 MAGIC = b"EXSMVOL1"
-FORMAT = 1
+FORMATS = (1, 2)
 PAGE_SIZES = (512, 1024, 2048, 4096, 8192)
 SUPERBLOCK = struct.Struct(">8s6I")
 CATALOG_HEAD = struct.Struct(">BxH4xQQ8x")
@@ -35,17 +35,18 @@ INDEX_ENTRY = struct.Struct(">II")
 RECORD_HEAD = struct.Struct(">BBQIHIHH")
 LARGE_BODY = struct.Struct(">QI")
 NODE_HEAD = struct.Struct(">BBH4x")
-PAIR = struct.Struct(">II")
+# The pairs of a node, by the node's kind: a count of four bytes or of eight, and a page.
+PAIRS = {2: struct.Struct(">II"), 5: struct.Struct(">QI")}
 LOG_HEAD = struct.Struct(">BBIQHHH")
 NOTE_BYTES = 31
 PAGE_NUMBER = struct.Struct(">I")
 NAME = re.compile(rb"[a-z0-9_]{1,32}")
-KIND_CATALOG, KIND_NODE, KIND_FILE_PAGE, KIND_INDEX = 1, 2, 3, 4
+KIND_CATALOG, KIND_FILE_PAGE, KIND_INDEX = 1, 3, 4
 FORM_SMALL, FORM_LARGE = 1, 2
 BODY_LEAST = LARGE_BODY.size
 HEIGHT_MOST = 255
 STATE_CURRENT = 1
-OBJECT_MOST = (1 << 32) - 1
+OBJECT_MOST = (1 << 40) - 1
 
 
 class BadVolume(Exception):
@@ -165,7 +166,7 @@ class Volume:
         if len(head) < SUPERBLOCK.size or not head.startswith(MAGIC):
             raise BadVolume("super: the file doesn't begin as a volume does")
         _, page_size, pages, segs, seg_len, fan, form = SUPERBLOCK.unpack(head)
-        if form != FORMAT:
+        if form not in FORMATS:
             raise BadVolume(f"super: format {form}")
         if page_size not in PAGE_SIZES or not pages or not 1 <= seg_len <= 16:
             raise BadVolume(f"super: page size {page_size}, {pages} pages, {seg_len} pages a unit")
@@ -280,21 +281,22 @@ class Volume:
 
     # Trees.
 
-    def node(self, record: Record, page: int, level: int, size: int) -> list[Pair]:
-        """The pairs of a node that is to have a level and a number of bytes."""
+    def node(self, record: Record, page: int, level: int, size: int) -> tuple[list[Pair], int]:
+        """The pairs of a node that is to have a level and a number of bytes, and the bytes of its page that it fills."""
         image = self.home(page) if self.geometry.has_page(page) else bytes(NODE_HEAD.size)
         kind, there, count = NODE_HEAD.unpack_from(image)
-        end = NODE_HEAD.size + count * PAIR.size
-        if (kind, there) != (KIND_NODE, level) or not 1 <= count <= 2 * self.geometry.fan + 1:
+        pair_of = PAIRS.get(kind)
+        if pair_of is None or there != level or not 1 <= count <= 2 * self.geometry.fan + 1:
             raise BadVolume(f"node: page {page} of {record.oid} is no node of level {level}")
-        pairs = [Pair(*pair) for pair in PAIR.iter_unpack(image[NODE_HEAD.size:end])]
+        end = NODE_HEAD.size + count * pair_of.size
+        pairs = [Pair(*pair) for pair in pair_of.iter_unpack(image[NODE_HEAD.size:end])]
         counts = [0, *(pair.count for pair in pairs)]
         if end > len(image) or any(low >= high for low, high in zip(counts, counts[1:])):
             raise BadVolume(f"node: page {page} of {record.oid} has counts that don't rise")
         if counts[-1] != size:
             raise BadVolume(f"balance: page {page} of {record.oid} has {counts[-1]} bytes, "
                             f"not {size}")
-        return pairs
+        return pairs, end
 
     def leaves(self, record: Record, fault: Callable[[BadVolume, int, int], None],
                seen: Callable[[int, Use], bool] = lambda page, use: True) -> Iterator[Leaf]:
@@ -312,11 +314,11 @@ class Volume:
                     if seen(page, Use("leaf", record.oid, size)):
                         yield Leaf(position, page, size)
                     continue
-                pairs = self.node(record, page, level, size)
+                pairs, used = self.node(record, page, level, size)
             except BadVolume as found:
                 fault(found, position, position + size)
                 continue
-            if seen(page, Use("node", record.oid, NODE_HEAD.size + len(pairs) * PAIR.size)):
+            if seen(page, Use("node", record.oid, used)):
                 starts = [0, *(pair.count for pair in pairs)]
                 todo.extend((position + start, pair.page, level - 1, pair.count - start)
                             for start, pair in reversed(list(zip(starts, pairs))))

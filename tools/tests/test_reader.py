@@ -153,7 +153,7 @@ class ReaderTest(InFolder):
         """of an object with a damaged node all but the node's bytes are saved"""
         with Volume("v") as volume:
             record = max(volume.all(), key=lambda record: record.size)
-            pairs = volume.node(record, record.root, record.height, record.size)
+            pairs, _ = volume.node(record, record.root, record.height, record.size)
             size = volume.geometry.page_size
         start, child = pairs[0].count, pairs[1]
         with open("v", "r+b") as file:

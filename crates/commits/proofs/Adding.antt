@@ -13,6 +13,7 @@ use Rattle.ex_base.specs.declared.names.OpNote.{OpNote}
 use Rattle.ex_base.specs.Area.{catalog_no, area_end, page_at, leaf_at}
 use Rattle.ex_base.specs.Order.{Rising}
 use Rattle.ex_base.specs.Sizes.{leaf_bytes}
+use Rattle.ex_base.specs.Superblock.{IsSuper}
 use Rattle.disk_model.specs.Outside.{Outside, Only, Leaves}
 use Rattle.disk_model.specs.Changes.{SameBut, InRange, ChangesWithin, changes_wider}
 use Rattle.disk_model.specs.Runs.{leaves_wider}
@@ -77,7 +78,7 @@ module _ (d : Decoded) (r : LogRecord) (x e : List ℕ) (fits : log_end d.record
 
   super_kept : SuperOf x d.geometry → SuperOf e d.geometry
   super_kept super = record {
-    spelled = same_part e x 0 d.geometry.page_size same.same_length (λ i from to. same.each i (λ written. absurd (omega (arith, to, written.0)))) ∙ super.spelled;
+    spelled = subst (λ (page : List ℕ). IsSuper page d.geometry) (sym (same_part e x 0 d.geometry.page_size same.same_length (λ i from to. same.each i (λ written. absurd (omega (arith, to, written.0)))))) super.spelled;
     large = omega (arith, super.large, same.same_length);
   }
 
@@ -99,7 +100,7 @@ module _ (d : Decoded) (disk : List ℕ) (r : LogRecord) (x e : List ℕ) (parts
 
   old_super : SuperOf x d.geometry
   old_super = record {
-    spelled = same_part x disk 0 d.geometry.page_size agrees.size (λ i from to. agrees.each i (inl (omega (arith, to)))) ∙ parts.0.spelled;
+    spelled = subst (λ (page : List ℕ). IsSuper page d.geometry) (sym (same_part x disk 0 d.geometry.page_size agrees.size (λ i from to. agrees.each i (inl (omega (arith, to)))))) parts.0.spelled;
     large = omega (arith, parts.0.large, agrees.size);
   }
 

@@ -10,6 +10,7 @@ use Rattle.std.proofs.lemmas.Option.{same_Some}
 use Rattle.ex_base.specs.declared.geometry.Geometry.{Geometry}
 use Rattle.ex_base.specs.Area.{catalog_no, area_end, InPageArea, page_at, leaf_at}
 use Rattle.ex_base.specs.Sizes.{least_volume, least_page}
+use Rattle.ex_base.specs.Superblock.{IsSuper}
 use Rattle.disk_model.specs.Outside.{Outside, IsWorld, Only, Leaves}
 use Rattle.disk_model.specs.Changes.{SameBut, InRange, ChangesWithin, changes_wider, leaves_changes}
 use Rattle.buffer_groups.specs.Frames.{page_of}
@@ -139,7 +140,7 @@ module _ (d : Decoded) (disk mid e : List ℕ) (parts : Decodes disk d) (home : 
 
   pub super_is : SuperOf e d.geometry
   super_is = record {
-    spelled = same_part e disk 0 d.geometry.page_size (same.same_length ∙ home.size) (λ i from to. same.each i (λ inside. absurd (omega (arith, to, inside.0))) ∙ home.front i (omega (arith, to))) ∙ parts.0.spelled;
+    spelled = subst (λ (page : List ℕ). IsSuper page d.geometry) (sym (same_part e disk 0 d.geometry.page_size (same.same_length ∙ home.size) (λ i from to. same.each i (λ inside. absurd (omega (arith, to, inside.0))) ∙ home.front i (omega (arith, to))))) parts.0.spelled;
     large = omega (arith, parts.0.large, same.same_length, home.size);
   }
 

@@ -1,16 +1,36 @@
 -- What stands on the page of an inner node.
-use Rattle.std.specs.Prelude.{◌≡◌, ℕ, zero, suc, ◌<◌, ◌≤◌, ◌^◌, List, [], ◌∷◌, ◌++◌, length, map, drop, slice_index}
+use Rattle.std.specs.Prelude.{◌≡◌, ℕ, zero, suc, ◌+◌, ◌<◌, ◌≤◌, ◌^◌, ◌==◌, if◌then◌else◌, List, [], ◌∷◌, ◌++◌, length, map, drop, slice_index}
 use Rattle.std.specs.List.{flat_map, AllByRecursion}
-use Rattle.ex_base.specs.Fields.{two_bytes, four_bytes, zeros, padded, number_at}
+use Rattle.ex_base.specs.Fields.{field_bytes, two_bytes, four_bytes, zeros, padded, number_at}
 use Rattle.count_nodes.specs.declared.Pair.{Pair}
+use Rattle.count_nodes.specs.declared.width.Width.{Width}
+use Rattle.count_nodes.specs.declared.width.Width.TheVariants.{Narrow, Wide}
 use Rattle.count_nodes.specs.Split.{most_pairs}
 
-abbrev pub pair_bytes : Pair → List ℕ
-pair_bytes pair = four_bytes pair.count ++ four_bytes pair.page.0
+-- the first byte of a node's page
+abbrev pub kind_of : Width → ℕ
+kind_of Narrow = 2
+kind_of Wide = 5
 
--- kind 2, the level, the number of pairs, the pairs
-unfoldable pub node_page : ℕ → ℕ → List Pair → List ℕ
-node_page size level pairs = padded size ((2 ∷ level ∷ []) ++ two_bytes (length pairs) ++ zeros 4 ++ flat_map pair_bytes pairs)
+-- the bytes of a count
+abbrev pub count_len : Width → ℕ
+count_len Narrow = 4
+count_len Wide = 8
+
+-- the bytes of a pair: a count and a page number
+abbrev pub pair_len : Width → ℕ
+pair_len width = count_len width + 4
+
+abbrev pub pair_bytes : Width → Pair → List ℕ
+pair_bytes width pair = field_bytes (count_len width) pair.count ++ four_bytes pair.page.0
+
+-- the kind, the level, the number of pairs, the pairs
+unfoldable pub node_of : Width → ℕ → ℕ → List Pair → List ℕ
+node_of width size level pairs = padded size ((kind_of width ∷ level ∷ []) ++ two_bytes (length pairs) ++ zeros 4 ++ flat_map (pair_bytes width) pairs)
+
+-- nodes are written wide
+abbrev pub node_page : ℕ → ℕ → List Pair → List ℕ
+node_page size level pairs = node_of Wide size level pairs
 
 -- the last count, which is the bytes of the whole node
 abbrev pub total_of : List Pair → ℕ
@@ -23,36 +43,42 @@ abbrev pub RiseFrom : ℕ → List Pair → Type 0
 RiseFrom before [] = Unit {0}
 RiseFrom before (pair ∷ pairs) = (before < pair.count) × RiseFrom pair.count pairs
 
-abbrev pub HasPairFields : Pair → Type 0
-HasPairFields pair = (pair.count < 2 ^ 32) × (pair.page.0 < 2 ^ 32)
+-- the count and the page fit their fields
+abbrev pub HasPairFields : Width → Pair → Type 0
+HasPairFields width pair = (pair.count < 256 ^ count_len width) × (pair.page.0 < 2 ^ 32)
 
--- what has a page
+-- what a node says: a level, and at least one pair and no more than the fan allows, with counts that rise
 pub record IsNode (fan level : ℕ) (pairs : List Pair) : Type 0 where
   pub inner : 1 ≤ level
   pub byte : level < 256
   pub some : 1 ≤ length pairs
   pub few : length pairs ≤ most_pairs fan
   pub rising : RiseFrom 0 pairs
-  pub fields : AllByRecursion HasPairFields pairs
 
--- the page is a node of this level with these pairs
+-- the page is a node of this level with these pairs, of either width
 pub record PairsOf (fan : ℕ) (page : List ℕ) (level : ℕ) (pairs : List Pair) : Type 0 where
   pub fits : IsNode fan level pairs
-  pub spelled : page ≡ node_page (length page) level pairs
+  pub width : Width
+  pub fields : AllByRecursion (HasPairFields width) pairs
+  pub spelled : page ≡ node_of width (length page) level pairs
+
+-- the width in which a page is read: wide exactly where its first byte says so
+abbrev pub width_on : List ℕ → Width
+width_on page = if slice_index page 0 == kind_of Wide then Wide else Narrow
 
 -- the pairs as they are read, whatever stands on the page
-abbrev pub pair_at : List ℕ → Pair
-pair_at bytes = record { count = number_at 4 bytes 0; page = record { 0 = number_at 4 bytes 4 } }
+abbrev pub pair_at : Width → List ℕ → Pair
+pair_at width bytes = record { count = number_at (count_len width) bytes 0; page = record { 0 = number_at 4 bytes (count_len width) } }
 
-abbrev pub read_pairs : ℕ → List ℕ → List Pair
-read_pairs zero bytes = []
-read_pairs (suc n) bytes = pair_at bytes ∷ read_pairs n (drop 8 bytes)
+abbrev pub read_pairs : Width → ℕ → List ℕ → List Pair
+read_pairs width zero bytes = []
+read_pairs width (suc n) bytes = pair_at width bytes ∷ read_pairs width n (drop (pair_len width) bytes)
 
 unfoldable pub level_on : List ℕ → ℕ
 level_on page = slice_index page 1
 
 unfoldable pub pairs_on : List ℕ → List Pair
-pairs_on page = read_pairs (number_at 2 page 2) (drop 8 page)
+pairs_on page = read_pairs (width_on page) (number_at 2 page 2) (drop 8 page)
 
 -- ---- what callers see of a node
 

@@ -2,15 +2,15 @@
 use Rattle.std.specs.Prelude.{◌≡◌, ℕ, ◌+◌, ◌*◌, ◌≤◌, List, length, take, drop, slice_index}
 use Rattle.ex_base.specs.Fields.{AreZero, number_at}
 use Rattle.count_nodes.specs.Split.{most_pairs}
-use Rattle.count_nodes.specs.Node.{read_pairs, RiseFrom}
+use Rattle.count_nodes.specs.Node.{kind_of, pair_len, width_on, read_pairs, RiseFrom}
 
 pub record NodeReads (fan : ℕ) (page : List ℕ) : Type 0 where
   pub long : 8 ≤ length page
-  pub kind : slice_index page 0 ≡ 2
+  pub kind : slice_index page 0 ≡ kind_of (width_on page)
   pub inner : 1 ≤ slice_index page 1
   pub gap : AreZero (take 4 (drop 4 page))
   pub some : 1 ≤ number_at 2 page 2
   pub few : number_at 2 page 2 ≤ most_pairs fan
-  pub room : 8 + 8 * number_at 2 page 2 ≤ length page
-  pub rising : RiseFrom 0 (read_pairs (number_at 2 page 2) (drop 8 page))
-  pub rest : AreZero (drop (8 + 8 * number_at 2 page 2) page)
+  pub room : 8 + pair_len (width_on page) * number_at 2 page 2 ≤ length page
+  pub rising : RiseFrom 0 (read_pairs (width_on page) (number_at 2 page 2) (drop 8 page))
+  pub rest : AreZero (drop (8 + pair_len (width_on page) * number_at 2 page 2) page)

@@ -1,17 +1,16 @@
 //! Inner nodes of trees: pages of counts and children. A node's page begins with its kind, its level and the number of its pairs; four bytes of zero
-//! follow, then the pairs, and zeros to the end of the page. No call takes memory.
+//! follow, then the pairs, and zeros to the end of the page. Its kind says how many bytes a count has: nodes are written with counts of eight bytes,
+//! and read with counts of eight or four. No call takes memory.
 #![tactic(auto)]
 
 pub mod names;
 mod reads;
 pub mod split;
 pub mod view;
+pub mod width;
 pub mod write;
 
 use ex_base::PageNo;
-
-/// The first byte of a node's page.
-const NODE_KIND: u8 = 2;
 
 /// Where the level stands, a byte of at least 1.
 const LEVEL_AT: usize = 1;
@@ -24,12 +23,6 @@ const GAP_AT: usize = 4;
 
 /// Where the pairs begin.
 const PAIRS_AT: usize = 8;
-
-/// The bytes of a pair: a count and a page number of four bytes each.
-const PAIR_BYTES: usize = 8;
-
-/// Where the page number stands in a pair.
-const PAGE_AT: usize = 4;
 
 /// A child and how many bytes the node spells up to the child's end.
 #[derive(Clone, Copy, Debug, PartialEq, Eq)]

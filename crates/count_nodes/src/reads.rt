@@ -1,18 +1,19 @@
 ghost use Rattle.std.specs.Prelude.{◌≡◌, ◌↔◌, ◌+◌, ◌*◌, ◌<◌, ◌≤◌, length, IsTrue};
-ghost use Rattle.count_nodes.specs.Node.{RiseFrom, read_pairs};
+ghost use Rattle.count_nodes.specs.Node.{pair_len, RiseFrom, read_pairs};
 ghost use Rattle.count_nodes.specs.Reads.{NodeReads};
 
-use crate::{GAP_AT, LEN_AT, LEVEL_AT, NODE_KIND, PAIR_BYTES, PAIRS_AT};
-use ex_base::{get_u16, get_u32, is_zero};
+use crate::width::Width;
+use crate::{GAP_AT, LEN_AT, LEVEL_AT, PAIRS_AT};
+use ex_base::{get_u16, is_zero};
 
 /// Whether the counts of n pairs rise strictly from above 0.
-fn counts_rise(bytes: &[u8], n: usize) -> bool
-    requires { 8 * n ≤ length bytes.now }
-    ensures { IsTrue result ↔ RiseFrom 0 (read_pairs n bytes.now) }
+fn counts_rise(width: Width, bytes: &[u8], n: usize) -> bool
+    requires { pair_len width * n ≤ length bytes.now }
+    ensures { IsTrue result ↔ RiseFrom 0 (read_pairs width n bytes.now) }
 {
     let mut last = 0;
     for i in 0..n {
-        let count = get_u32(bytes, PAIR_BYTES * i);
+        let count = width.count(bytes, width.pair_len() * i);
         if count <= last {
             return false;
         }
@@ -21,7 +22,7 @@ fn counts_rise(bytes: &[u8], n: usize) -> bool
     true
 }
 
-/// Whether the page is a node: of its kind, of a level of at least 1, with 1 to 2 * fan + 1 pairs whose counts rise strictly from above 0, and zero
+/// Whether the page is a node: of a kind of nodes, of a level of at least 1, with 1 to 2 * fan + 1 pairs whose counts rise strictly from above 0, and zero
 /// elsewhere.
 pub fn is_node(page: &[u8], fan: u32) -> bool
     requires { fan ≤ 340 }
@@ -30,12 +31,13 @@ pub fn is_node(page: &[u8], fan: u32) -> bool
     if page.len() < PAIRS_AT {
         return false;
     }
+    let width = Width::of(page);
     let n = get_u16(page, LEN_AT) as usize;
-    if page[0] != NODE_KIND || page[LEVEL_AT] == 0 || !is_zero(&page[GAP_AT..PAIRS_AT]) {
+    if page[0] != width.kind() || page[LEVEL_AT] == 0 || !is_zero(&page[GAP_AT..PAIRS_AT]) {
         return false;
     }
-    if n == 0 || n > 2 * fan as usize + 1 || page.len() < PAIRS_AT + PAIR_BYTES * n {
+    if n == 0 || n > 2 * fan as usize + 1 || page.len() < PAIRS_AT + width.pair_len() * n {
         return false;
     }
-    counts_rise(&page[PAIRS_AT..], n) && is_zero(&page[PAIRS_AT + PAIR_BYTES * n..])
+    counts_rise(width, &page[PAIRS_AT..], n) && is_zero(&page[PAIRS_AT + width.pair_len() * n..])
 }

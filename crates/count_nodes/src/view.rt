@@ -1,9 +1,10 @@
 ghost use Rattle.std.specs.Prelude.{◌≡◌, ℕ, ◌+◌, ◌-◌, ◌*◌, ◌<◌, ◌≤◌, List, length, slice_get, IfSome, IfNone, IsTrue};
 ghost use Rattle.count_nodes.specs.declared.Pair.{Pair};
-ghost use Rattle.count_nodes.specs.Node.{Node, node_on, pairs_on, PairsOf, total_of, counts_of, start_of, IsFirst, RiseFrom};
+ghost use Rattle.count_nodes.specs.Node.{Node, node_on, pair_len, width_on, pairs_on, PairsOf, total_of, counts_of, start_of, IsFirst, RiseFrom};
 
 use crate::reads::is_node;
-use crate::{LEN_AT, LEVEL_AT, PAGE_AT, PAIR_BYTES, PAIRS_AT, Pair};
+use crate::width::Width;
+use crate::{LEN_AT, LEVEL_AT, PAIRS_AT, Pair};
 use ex_base::{PageNo, get_u16, get_u32};
 use std::marker::Model;
 
@@ -18,7 +19,7 @@ impl<'a> Model for NodeView<'a> {
 
     ghost view = { λ v. node_on v.page.now };
 
-    ghost invariant = { λ v. (1 ≤ length (pairs_on v.page.now)) × (8 + 8 * length (pairs_on v.page.now) ≤ length v.page.now) × RiseFrom 0 (pairs_on v.page.now) };
+    ghost invariant = { λ v. (1 ≤ length (pairs_on v.page.now)) × (8 + pair_len (width_on v.page.now) * length (pairs_on v.page.now) ≤ length v.page.now) × RiseFrom 0 (pairs_on v.page.now) };
 }
 
 impl<'a> NodeView<'a> {
@@ -56,10 +57,11 @@ impl<'a> NodeView<'a> {
         requires { index < length self.now.pairs }
         ensures { slice_get self.now.pairs index ≡ Some result }
     {
-        let at = PAIRS_AT + PAIR_BYTES * index as usize;
+        let width = Width::of(self.page);
+        let at = PAIRS_AT + width.pair_len() * index as usize;
         Pair {
-            count: u64::from(get_u32(self.page, at)),
-            page: PageNo(get_u32(self.page, at + PAGE_AT)),
+            count: width.count(self.page, at),
+            page: PageNo(get_u32(self.page, at + width.count_len())),
         }
     }
 

@@ -50,7 +50,7 @@ files_most g = (g.page_size - 32) / 48
 
 -- the bytes of the largest object
 abbrev pub object_most : ℕ
-object_most = 4294967295
+object_most = 1099511627775
 
 pub least_page : (g : Geometry) → 512 ≤ g.page_size
 least_page g = page_size_least g.page_size g.a_page_size

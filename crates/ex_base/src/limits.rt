@@ -10,7 +10,7 @@ pub const UPDATES_MOST: usize = 512;
 pub const TOUCHED_MOST: u32 = 128;
 
 /// The most bytes of an object.
-pub const OBJECT_MOST: u64 = 4_294_967_295;
+pub const OBJECT_MOST: u64 = 1_099_511_627_775;
 
 /// The greatest height of a tree.
 pub const HEIGHT_MOST: u8 = 64;

@@ -5,7 +5,7 @@ use Rattle.std.proofs.lemmas.List.{take_rest}
 use Rattle.std.proofs.lemmas.Option.{same_Some}
 use Rattle.ex_base.specs.Bytes.{part, repl, part-repl, part-repl_apart, length-repl, repl_same_outside, same_or_not, same_parts, part_joined, part_byte}
 use Rattle.ex_base.specs.Sizes.{volume_bytes, least_page, least_volume}
-use Rattle.ex_base.specs.Superblock.{magic, super_page, super_rest, length-super_rest, drop-super_page}
+use Rattle.ex_base.specs.Superblock.{format_now, magic, super_page, super_rest, IsSuper, length-super_rest, drop-super_page}
 use Rattle.ex_base.specs.declared.geometry.Geometry.{Geometry}
 use Rattle.object_files.specs.Catalog.{CatalogOf, fresh_catalog}
 use Rattle.volume_model.specs.Parts.{SuperOf}
@@ -39,13 +39,13 @@ abbrev pub with_catalog : Geometry → List ℕ → List ℕ → List ℕ → Li
 with_catalog g d rest catalog = repl (with_gate g d rest) (257 * g.page_size) catalog
 
 -- what stands after the three writes
-pub prepared : (g : Geometry) (d rest catalog : List ℕ) → rest ≡ super_rest g → CatalogOf catalog fresh_catalog → length catalog ≡ g.page_size → volume_bytes g ≤ length d
+pub prepared : (g : Geometry) (d rest catalog : List ℕ) → rest ≡ super_rest format_now g → CatalogOf catalog fresh_catalog → length catalog ≡ g.page_size → volume_bytes g ≤ length d
     → IsPrepared g (with_catalog g d rest catalog)
 prepared g d rest catalog is_rest is_catalog one_page room =
     let page = g.page_size in
     let least = least_page g in
     let wide = least_volume g in
-    let rest_length : length rest ≡ page - 8 = ap length is_rest ∙ length-super_rest g in
+    let rest_length : length rest ≡ page - 8 = ap length is_rest ∙ length-super_rest format_now g in
     let one_fits : 8 + length rest ≤ length d = omega (arith, least, wide, rest_length, room) in
     let one : length (with_rest d rest) ≡ length d = length-repl d 8 rest one_fits in
     let two_fits : page + 1 ≤ length (with_rest d rest) = omega (arith, least, wide, room, one) in
@@ -81,16 +81,18 @@ made_whole g d e before same has =
     let wide = least_volume g in
     let whole : 8 + (page - 8) ≡ page = omega (arith, least) in
     let gate : slice_index e page ≡ 0 = part_byte e page 0 (behind_stays d e page 1 same (omega (arith, before.large, wide, least)) (omega (arith, least)) ∙ before.gate) in
+    let spelled : part e 0 g.page_size ≡ super_page format_now g =
+    ap (λ (n : ℕ). part e 0 n) (sym whole)
+    ∙ part_joined e 0 8 (page - 8)
+    ∙ ap (λ (l : List ℕ). l ++ part e 8 (page - 8)) has
+    ∙ ap (λ (l : List ℕ). magic ++ l) (behind_stays d e 8 (page - 8) same (omega (arith, before.large, wide, least)) (omega arith) ∙ before.rest) in
     let super : SuperOf e g = record {
-      spelled =
-          ap (λ (n : ℕ). part e 0 n) (sym whole)
-          ∙ part_joined e 0 8 (page - 8)
-          ∙ ap (λ (l : List ℕ). l ++ part e 8 (page - 8)) has
-          ∙ ap (λ (l : List ℕ). magic ++ l) (behind_stays d e 8 (page - 8) same (omega (arith, before.large, wide, least)) (omega arith) ∙ before.rest);
+      spelled = record { format = format_now; known = (omega arith, omega arith); spelled = spelled };
       large = omega (arith, before.large, same.same_length);
     } in
     record {
       superblock = super;
+      format = spelled;
       table = fresh_stands g e super (λ is. (let no_ : 0 ≡ 1 = sym gate ∙ is in absurd (omega (arith, no_))))
           (subst (λ (l : List ℕ). CatalogOf l fresh_catalog) (sym (behind_stays d e (257 * page) page same (omega (arith, before.large, wide)) (omega (arith, least)))) before.catalog);
     }
@@ -106,8 +108,8 @@ made_of g d before =
     made_whole g d (repl d 0 magic) before (same_but_range 0 8 d (repl d 0 magic) (repl_same_outside d 0 magic fits)) (part-repl d 0 magic fits)
 
 -- the slice that is written
-pub rest_of : (g : Geometry) (s : List ℕ) → s ≡ super_page g → take (length s - 8) (drop 8 s) ≡ super_rest g
-rest_of g s is = take_rest s 8 ∙ ap (λ (l : List ℕ). drop 8 l) is ∙ drop-super_page g
+pub rest_of : (g : Geometry) (s : List ℕ) → s ≡ super_page format_now g → take (length s - 8) (drop 8 s) ≡ super_rest format_now g
+rest_of g s is = take_rest s 8 ∙ ap (λ (l : List ℕ). drop 8 l) is ∙ drop-super_page format_now g
 
 -- A crash while all but the magic is written leaves no volume.
 pub leaves_unmade : {a b : Outside} (g : Geometry) → IsWorld a → (d : List ℕ) → RestsOn a d → (HasMagic d → ⊥) → 8 ≤ a.size → ChangesWithin IsBehindMagic a b → Leaves a b (IsUnmadeOrEmpty g)

@@ -3,7 +3,7 @@ use Rattle.std.specs.Prelude.{◌≡◌, ◌≤◌, ◌⊎◌, ℕ, ◌-◌, Lis
 use Rattle.ex_base.specs.Area.{page_at, catalog_no}
 use Rattle.ex_base.specs.Bytes.{part}
 use Rattle.ex_base.specs.Sizes.{volume_bytes}
-use Rattle.ex_base.specs.Superblock.{magic, super_rest}
+use Rattle.ex_base.specs.Superblock.{format_now, magic, super_page, super_rest}
 use Rattle.ex_base.specs.declared.geometry.Geometry.{Geometry}
 use Rattle.table_model.specs.Tables.{empty_table}
 use Rattle.volume_model.specs.Parts.{StandsFor, SuperOf}
@@ -13,9 +13,10 @@ use Rattle.object_files.specs.Catalog.{CatalogOf, fresh_catalog}
 abbrev pub HasMagic : List ℕ → Type 0
 HasMagic d = part d 0 8 ≡ magic
 
--- The image stands for the empty table, and its superblock holds this geometry.
+-- The image stands for the empty table, and its superblock holds this geometry and the number of the format in which volumes are made.
 pub record IsEmptyVolume (g : Geometry) (d : List ℕ) : Type 0 where
   pub superblock : SuperOf d g
+  pub format : part d 0 g.page_size ≡ super_page format_now g
   pub table : StandsFor d empty_table
 
 -- There is no volume yet, or the empty one.
@@ -29,6 +30,6 @@ IsBehindMagic i = 8 ≤ i
 -- All of the empty volume stands but the magic.
 pub record IsPrepared (g : Geometry) (d : List ℕ) : Type 0 where
   pub large : volume_bytes g ≤ length d
-  pub rest : part d 8 (g.page_size - 8) ≡ super_rest g
+  pub rest : part d 8 (g.page_size - 8) ≡ super_rest format_now g
   pub gate : part d g.page_size 1 ≡ 0 ∷ []
   pub catalog : CatalogOf (page_at g d catalog_no) fresh_catalog

@@ -1,7 +1,7 @@
 //! A volume is made.
 ghost use Rattle.std.specs.Prelude.{◌≡◌, ◌≢◌, ◌≤◌, ◌<◌, ◌⊎◌, ◌++◌, List, ℕ, IsTrue, Some, length, take, OnOk, OnErr, IfOk, string_bytes};
 ghost use Rattle.ex_base.specs.Sizes.{volume_bytes};
-ghost use Rattle.ex_base.specs.Superblock.{magic, super_page};
+ghost use Rattle.ex_base.specs.Superblock.{format_now, magic, super_page};
 ghost use Rattle.object_files.specs.Catalog.{CatalogOf, fresh_catalog};
 ghost use Rattle.disk_model.specs.Outside.{Rose, Goes, Only, DiskOnly, ReadsOnly, RestsOn, Leaves, Along};
 ghost use Rattle.disk_model.specs.Changes.{ChangesWithin};
@@ -110,7 +110,7 @@ fn lay_out<D: Disk>(
     catalog: &[u8],
 ) -> Result<(), Failed>
     requires room { volume_bytes geometry.now ≤ (D.outside disk.old).size }
-    requires superblock { superblock.now ≡ super_page geometry.now }
+    requires superblock { superblock.now ≡ super_page format_now geometry.now }
     requires catalog { CatalogOf catalog.now fresh_catalog }
     requires one_page { length catalog.now ≡ geometry.now.page_size }
     ensures only { DiskOnly (D.outside disk.old) (D.outside disk.new) }
@@ -128,7 +128,7 @@ fn lay_out<D: Disk>(
 
 // The magic that a volume's superblock begins with.
 fn magic_of<'a>(geometry: &Geometry, superblock: &'a [u8]) -> &'a [u8]
-    requires { superblock.now ≡ super_page geometry.now }
+    requires { superblock.now ≡ super_page format_now geometry.now }
     ensures { result.now ≡ magic }
 {
     &superblock[..MAGIC_LEN]
@@ -142,7 +142,7 @@ fn prepare<D: Disk>(
     catalog: &[u8],
 ) -> Result<(), Failed>
     requires room { volume_bytes geometry.now ≤ (D.outside disk.old).size }
-    requires superblock { superblock.now ≡ super_page geometry.now }
+    requires superblock { superblock.now ≡ super_page format_now geometry.now }
     requires catalog { CatalogOf catalog.now fresh_catalog }
     requires one_page { length catalog.now ≡ geometry.now.page_size }
     ensures changes { ChangesWithin IsBehindMagic (D.outside disk.old) (D.outside disk.new) }
@@ -162,7 +162,7 @@ fn prepare<D: Disk>(
 }
 
 fn superblock_of(alloc: Global, geometry: &Geometry) -> Result<Vec<u8>, AllocError>
-    ensures { IfOk result (λ page. page.items ≡ super_page geometry.now) }
+    ensures { IfOk result (λ page. page.items ≡ super_page format_now geometry.now) }
 {
     let mut page = vec![in alloc; 0u8; geometry.page_size as usize]?;
     write_super(geometry, &mut page);

@@ -12,7 +12,7 @@ use Rattle.index_pages.specs.IndexPage.{entry_bytes, entry_at, read_entries, Ris
 abbrev made_entry : ℕ → ℕ → Entry
 made_entry key page = record { key = key; page = record { 0 = page } }
 
-are_rows : AreRows made_entry (λ entry. entry.key) (λ entry. entry.page.0) read_entries
+are_rows : AreRows 4 made_entry (λ entry. entry.key) (λ entry. entry.page.0) read_entries
 are_rows = record {
   whole = λ entry. refl;
   one_is = λ key page. refl;

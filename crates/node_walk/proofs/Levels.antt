@@ -73,3 +73,10 @@ pub not_named : (g : Geometry) (u : Units) (pages : ℕ → List ℕ) (l page : 
 not_named g u pages zero page met below some shows on other named = absurd (omega arith)
 not_named g u pages (suc l) page met below some shows on other named =
     other (one_level g.fan (pages page) met.level (suc l) _ _ (narrow g) on.fits (subst (λ (bytes : List ℕ). PairsOf g.fan bytes (suc l) (pairs_on (u page))) (shows page named.0) named.1))
+
+-- no node stands on the page as it is read
+pub not_read : (g : Geometry) (u : Units) (pages : ℕ → List ℕ) (level page : ℕ) → 1 ≤ level → ShowsPages g pages u → ((l : ℕ) (pairs : List Pair) → PairsOf g.fan (pages page) l pairs → ⊥)
+    → IsNamed g u level page → ⊥
+not_read g u pages zero page some shows none named = absurd (omega (arith, some))
+not_read g u pages (suc l) page some shows none named =
+    none (suc l) (pairs_on (u page)) (subst (λ (bytes : List ℕ). PairsOf g.fan bytes (suc l) (pairs_on (u page))) (shows page named.0) named.1)

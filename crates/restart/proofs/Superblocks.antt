@@ -6,7 +6,7 @@ use Rattle.ex_base.specs.declared.geometry.Geometry.{Geometry}
 use Rattle.ex_base.specs.Bytes.{part}
 use Rattle.ex_base.specs.Fields.{four_bytes, number_at, length-field_bytes}
 use Rattle.ex_base.specs.Sizes.{volume_bytes, least_volume, least_page, most_page}
-use Rattle.ex_base.specs.Superblock.{super_page, length-super_page}
+use Rattle.ex_base.specs.Superblock.{super_page, IsSuper, length-super_page}
 use Rattle.ex_base.proofs.FieldLaws.{four_is}
 use Rattle.ex_base.proofs.Places.{number_there}
 use Rattle.disk_model.specs.Outside.{Outside, IsWorld}
@@ -22,7 +22,7 @@ use Rattle.restart.proofs.BadParts.{super_bad}
 pub page_size_on : (image : List ℕ) (g : Geometry) (field : List ℕ) → SuperOf image g → field ≡ part image 8 4 → number_at 4 field 0 ≡ g.page_size
 unfolding part
 page_size_on image g field super is =
-    let whole = sym (super_fields g (drop g.page_size image)) ∙ super_front image g super in
+    let whole = sym (super_fields super.spelled.format g (drop g.page_size image)) ∙ super_front image g super in
     let tail = ap (drop 8) whole in
     let there : field ≡ four_bytes g.page_size = is ∙ ap (take 4) (sym tail) ∙ take_at (four_bytes g.page_size) _ 4 (length-field_bytes 4 g.page_size) in
     number_there 4 (2 ^ 32) four_bytes four_is field [] 0 g.page_size (there ∙ sym (append-nil (four_bytes g.page_size))) (omega (arith, most_page g))
@@ -36,16 +36,16 @@ pub too_small : (image : List ℕ) (g : Geometry) → SuperOf image g → (258 *
 too_small image g super = (omega (arith, super.large, least_volume g), least_page g, most_page g)
 
 -- a page that is no superblock
-pub not_super : (image page : List ℕ) (size : ℕ) (g : Geometry) → SuperOf image g → size ≡ g.page_size → page ≡ part image 0 size → page ≡ super_page g
-not_super image page size g super same is = is ∙ ap (λ (n : ℕ). part image 0 n) same ∙ super.spelled
+pub not_super : (image page : List ℕ) (size : ℕ) (g : Geometry) → SuperOf image g → size ≡ g.page_size → page ≡ part image 0 size → IsSuper page g
+not_super image page size g super same is = subst (λ (s : List ℕ). IsSuper s g) (sym (is ∙ ap (λ (n : ℕ). part image 0 n) same)) super.spelled
 
 -- the superblock of another geometry
-pub same_page_same : (page : List ℕ) (a b : Geometry) → page ≡ super_page a → page ≡ super_page b → a ≡ b
-same_page_same page a b one two = same_super a b [] [] (ap (λ (l : List ℕ). l ++ []) (sym one ∙ two))
+pub same_page_same : (page : List ℕ) (a b : Geometry) → IsSuper page a → IsSuper page b → a ≡ b
+same_page_same page a b one two = same_super _ _ a b [] [] (ap (λ (l : List ℕ). l ++ []) (sym one.spelled ∙ two.spelled))
 
-pub is_super : (image page : List ℕ) (n : ℕ) (g : Geometry) → page ≡ super_page g → page ≡ part image 0 n → n ≡ length page → volume_bytes g ≤ length image → SuperOf image g
+pub is_super : (image page : List ℕ) (n : ℕ) (g : Geometry) → IsSuper page g → page ≡ part image 0 n → n ≡ length page → volume_bytes g ≤ length image → SuperOf image g
 is_super image page n g is read long large = record {
-  spelled = ap (λ (k : ℕ). part image 0 k) (sym (long ∙ ap length is ∙ length-super_page g)) ∙ sym read ∙ is;
+  spelled = subst (λ (s : List ℕ). IsSuper s g) (sym (ap (λ (k : ℕ). part image 0 k) (sym (long ∙ ap length is.spelled ∙ length-super_page is.format g)) ∙ sym read)) is;
   large = large;
 }
 

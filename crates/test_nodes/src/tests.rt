@@ -4,7 +4,7 @@ ghost use Rattle.object_records.specs.Record.{IsRootField};
 
 use count_nodes::Pair;
 use count_nodes::write::write_node;
-use ex_base::{Geometry, PageNo, ReadVolume, Root, Volume};
+use ex_base::{Geometry, OBJECT_MOST, PageNo, ReadVolume, Root, Volume};
 use memory_ports::MemoryVolume;
 use node_walk::walk_trees;
 use page_alloc::Units;
@@ -23,7 +23,7 @@ const NO_NODE: NodeRow = (0, 0, [(0, 0), (0, 0)]);
 const GOOD: NodeRow = (258, 1, [(300, 273), (600, 274)]);
 
 /// The height, the page and the size of a root. At page 0 there is no root.
-type RootRow = (u8, u32, u32);
+type RootRow = (u8, u32, u64);
 
 /// No root.
 const NO_ROOT: RootRow = (0, 0, 0);
@@ -235,11 +235,8 @@ fn put_node<V: Volume>(
 {
     let page = PageNo(page);
     let size = volume.page_size() as usize;
-    if !volume.in_area(page) || size < 8 || size > 8192 || pairs.len() > (size - 8) / 8 {
+    if !volume.in_area(page) || size < 8 || size > 8192 || pairs.len() > (size - 8) / 12 {
         return Err("no page for the node")?;
-    }
-    if !pairs.iter().all(|pair| pair.count <= u32::MAX as u64) {
-        return Err("a count of more than four bytes")?;
     }
     let mut image = vec![in alloc; 0u8; size]?;
     write_node(level, pairs, &mut image);
@@ -286,7 +283,7 @@ fn roots_of(alloc: Global, rows: &[RootRow]) -> Result<Vec<Root>, Fail> {
             roots.push(Root {
                 height: *height,
                 page: Some(PageNo(*page)),
-                size: *size as u64,
+                size: *size,
             })?;
         }
     }
@@ -380,27 +377,27 @@ fn crafted_trees_are_answered(rt: HostRuntime) -> Result<(), Fail> {
     Ok(())
 }
 
-/// Writes a node of level 1 whose pairs all name one full leaf, but for so many bytes less at the end.
-fn put_full<V: Volume>(
-    volume: &mut V,
+/// The pairs of a node that names trees of so many bytes each: one page all but once, and another one last, which lacks some bytes.
+fn named_often(
     alloc: Global,
+    times: u64,
+    each: u64,
     page: u32,
-    leaf: u32,
+    last: u32,
     less: u64,
-) -> Result<(), Fail>
-    requires { V.ready volume.old }
-    ensures { V.leads volume.old volume.new }
-{
-    let full = volume.geometry().leaf_bytes() as u64;
+) -> Result<Vec<Pair>, Fail> {
     let mut pairs = Vec::new(alloc);
-    for index in 1..257u64 {
-        let less = if index == 256 { less } else { 0 };
+    for index in 1..times {
         pairs.push(Pair {
-            count: (full * index).saturating_sub(less),
-            page: PageNo(leaf),
+            count: each.wrapping_mul(index),
+            page: PageNo(page),
         })?;
     }
-    put_node(volume, alloc, page, 1, &pairs)
+    pairs.push(Pair {
+        count: each.wrapping_mul(times).wrapping_sub(less),
+        page: PageNo(last),
+    })?;
+    Ok(pairs)
 }
 
 /// Whether a page lies in the page area and is used.
@@ -412,40 +409,44 @@ fn uses_page<V: ReadVolume>(volume: &V, units: &Units, page: u32) -> bool
     volume.in_area(page) && units.is_used(page)
 }
 
-/// The bytes of a node of 256 pairs that name leaves of 131,072 bytes.
-const NODE_BYTES: u64 = 33_554_432;
+/// The bytes of a leaf of 16 pages.
+const LEAF_BYTES: u64 = 131_072;
 
-/// The pairs of a root that names the node of page 258 so many times, and that of page 259 once, which has a byte less.
-fn root_pairs(alloc: Global) -> Result<Vec<Pair>, Fail> {
-    let mut pairs = Vec::new(alloc);
-    for index in 1..128u64 {
-        pairs.push(Pair {
-            count: index * NODE_BYTES,
-            page: PageNo(258),
-        })?;
-    }
-    pairs.push(Pair {
-        count: u32::MAX as u64,
-        page: PageNo(259),
-    })?;
-    Ok(pairs)
+/// The bytes of a node over 256 leaves.
+const LOW_BYTES: u64 = 256 * LEAF_BYTES;
+
+/// The bytes of a node over 256 such nodes.
+const HIGH_BYTES: u64 = 256 * LOW_BYTES;
+
+/// The nodes of the largest tree: 128 times 256 times 256 namings of one leaf, of which the last one lacks a byte.
+fn put_largest<V: Volume>(volume: &mut V, alloc: Global) -> Result<(), Fail>
+    requires { V.ready volume.old }
+    ensures { V.leads volume.old volume.new }
+{
+    let low = named_often(alloc, 256, LEAF_BYTES, 265, 265, 0)?;
+    put_node(volume, alloc, 258, 1, &low)?;
+    let short = named_often(alloc, 256, LEAF_BYTES, 265, 265, 1)?;
+    put_node(volume, alloc, 259, 1, &short)?;
+    let high = named_often(alloc, 256, LOW_BYTES, 258, 258, 0)?;
+    put_node(volume, alloc, 260, 2, &high)?;
+    let shorter = named_often(alloc, 256, LOW_BYTES, 258, 259, 1)?;
+    put_node(volume, alloc, 261, 2, &shorter)?;
+    let root = named_often(alloc, 128, HIGH_BYTES, 260, 261, 1)?;
+    put_node(volume, alloc, 262, 3, &root)
 }
 
-/// Writes the largest tree: 128 times 256 namings of one leaf.
+/// Walks the largest tree.
 fn check_largest<V: Volume>(rt: &impl Abort, alloc: Global, volume: &mut V) -> Result<(), Fail>
     requires { V.ready volume.old }
 {
     let geometry = volume.geometry();
-    put_full(volume, alloc, 258, 265, 0)?;
-    put_full(volume, alloc, 259, 265, 1)?;
-    let pairs = root_pairs(alloc)?;
-    put_node(volume, alloc, 260, 2, &pairs)?;
+    put_largest(volume, alloc)?;
     let mut units = Units::make(alloc, &geometry)?;
-    let roots = roots_of(alloc, &[(2, 260, u32::MAX)])?;
+    let roots = roots_of(alloc, &[(3, 262, OBJECT_MOST)])?;
     assert_eq!(rt; walked(volume, alloc, &mut units, &roots)?, Ok(()));
     assert!(rt; uses_page(volume, &units, 259));
-    assert!(rt; uses_page(volume, &units, 260));
-    assert!(rt; !uses_page(volume, &units, 261));
+    assert!(rt; uses_page(volume, &units, 262));
+    assert!(rt; !uses_page(volume, &units, 263));
     Ok(())
 }
 

@@ -25,39 +25,48 @@ const WIDE_PAGE: usize = 8192;
 
 const WIDE_BYTES: usize = (257 + 64 + 64 * 16) * WIDE_PAGE;
 
-const UNIT_BYTES: u32 = 131_072;
+const UNIT_BYTES: u64 = 131_072;
 
 /// The size of the largest object.
-const LARGEST: u32 = u32::MAX;
+const LARGEST: u64 = 1_099_511_627_775;
 
-/// The pages of its nodes, and its one leaf.
+/// The pages of its nodes, level by level, and its one leaf.
 const ROOT: u32 = 259;
 
-const FULL: u32 = 260;
+const HIGH: u32 = 260;
 
-const SHORT: u32 = 261;
+const HIGH_SHORT: u32 = 261;
+
+const LOW: u32 = 262;
+
+const LOW_SHORT: u32 = 263;
 
 const LEAF: u32 = 321;
+
+/// The bytes of the nodes over 256 leaves, and of those over 256 such nodes.
+const LOW_BYTES: u64 = 256 * 131_072;
+
+const HIGH_BYTES: u64 = 256 * LOW_BYTES;
 
 // A node of a level with so many pairs: each has `each` bytes more than the one before and names `page`, the last one `short` bytes fewer and `last`.
 fn node(
     alloc: Global,
     level: u8,
     pairs: u16,
-    each: u32,
-    short: u32,
+    each: u64,
+    short: u64,
     page: u32,
     last: u32,
 ) -> Result<Vec<u8>, AllocError> {
     let mut bytes = Vec::new(alloc);
-    bytes.extend_from_slice(&[2, level])?;
+    bytes.extend_from_slice(&[5, level])?;
     bytes.extend_from_slice(&pairs.to_be_bytes())?;
     bytes.extend_from_slice(&[0; 4])?;
-    for pair in 1..u32::from(pairs) {
+    for pair in 1..u64::from(pairs) {
         bytes.extend_from_slice(&each.wrapping_mul(pair).to_be_bytes())?;
         bytes.extend_from_slice(&page.to_be_bytes())?;
     }
-    let total = each.wrapping_mul(u32::from(pairs)).wrapping_sub(short);
+    let total = each.wrapping_mul(u64::from(pairs)).wrapping_sub(short);
     bytes.extend_from_slice(&total.to_be_bytes())?;
     bytes.extend_from_slice(&last.to_be_bytes())?;
     Ok(bytes)
@@ -81,7 +90,27 @@ fn record(
     Ok(bytes)
 }
 
-// A volume with the largest object: a root over 127 times the same node and a shorter one, each over 256 times the same leaf.
+// The nodes of the largest object: a root over 127 times the same node and a shorter one, each over 256 nodes, each of these over 256 times the same leaf.
+fn nodes_of_largest(alloc: Global, image: &[u8]) -> Result<Vec<u8>, AllocError> {
+    let nodes = [
+        (ROOT, node(alloc, 3, 128, HIGH_BYTES, 1, HIGH, HIGH_SHORT)?),
+        (HIGH, node(alloc, 2, 256, LOW_BYTES, 0, LOW, LOW)?),
+        (
+            HIGH_SHORT,
+            node(alloc, 2, 256, LOW_BYTES, 1, LOW, LOW_SHORT)?,
+        ),
+        (LOW, node(alloc, 1, 256, UNIT_BYTES, 0, LEAF, LEAF)?),
+        (LOW_SHORT, node(alloc, 1, 256, UNIT_BYTES, 1, LEAF, LEAF)?),
+    ];
+    let mut image = with_bytes(alloc, image, 0, &[])?;
+    for (page, bytes) in &nodes {
+        let next = with_bytes(alloc, &image, *page as usize * WIDE_PAGE, bytes)?;
+        image = next;
+    }
+    Ok(image)
+}
+
+// A volume with the largest object.
 fn largest(rt: &impl std::process::Abort, alloc: Global) -> Result<Vec<u8>, AllocError> {
     let volume = made_by(alloc, &WIDE_PAGES, WIDE_BYTES)?;
     let empty = left_by(
@@ -90,31 +119,13 @@ fn largest(rt: &impl std::process::Abort, alloc: Global) -> Result<Vec<u8>, Allo
         &volume,
         "begin\nfile a\ncreate a as @x\ncommit\ncheckpoint\n",
     )?;
-    let under = UNIT_BYTES.wrapping_mul(256);
-    let mut image = with_bytes(
+    let image = with_bytes(
         alloc,
         &empty,
         258 * WIDE_PAGE + 16,
-        &record(alloc, 1, 2, u64::from(LARGEST), ROOT)?,
+        &record(alloc, 1, 3, LARGEST, ROOT)?,
     )?;
-    image = with_bytes(
-        alloc,
-        &image,
-        ROOT as usize * WIDE_PAGE,
-        &node(alloc, 2, 128, under, 1, FULL, SHORT)?,
-    )?;
-    image = with_bytes(
-        alloc,
-        &image,
-        FULL as usize * WIDE_PAGE,
-        &node(alloc, 1, 256, UNIT_BYTES, 0, LEAF, LEAF)?,
-    )?;
-    with_bytes(
-        alloc,
-        &image,
-        SHORT as usize * WIDE_PAGE,
-        &node(alloc, 1, 256, UNIT_BYTES, 1, LEAF, LEAF)?,
-    )
+    nodes_of_largest(alloc, &image)
 }
 
 #[test]
@@ -123,7 +134,7 @@ fn the_largest_object_is_opened_at_once(rt: HostRuntime) -> Result<(), Fail> {
     let image = largest(&rt, alloc)?;
     let script = "size 258.0.1\nstat 258.0.1\nbegin\nappend 258.0.1 hex:00\n";
     let mut output = String::new(alloc);
-    output.push_str("ok size 4294967295\nok stat large 4294967295 height 2 leaves 32768")?;
+    output.push_str("ok size 1099511627775\nok stat large 1099511627775 height 3 leaves 8388608")?;
     for _ in 0..16 {
         output.push_str(" 131072")?;
     }

@@ -1,6 +1,8 @@
 // Trees whose nodes are written byte by byte: one that names a few nodes often, and some with a page that isn't what names it.
 
-use crate::tests::{LENGTHS_MOST, grown, leaves_of, replaced, shortened};
+use crate::tests::{LENGTHS_MOST, Object, grown, leaves_of, replaced, shortened, spells, walk};
+use count_nodes::names::{name_at, names_len};
+use count_nodes::width::Width;
 use ex_base::{Area, Blocks, Geometry, OBJECT_MOST, PageNo, PortFault, Root, Seen};
 use memory_ports::MemoryVolume;
 use std::alloc::Global;
@@ -12,24 +14,37 @@ use trees::is_root_for;
 /// A tree below a node: how many bytes it spells, and its page.
 #[derive(Clone, Copy)]
 struct Tree {
-    size: u32,
+    size: u64,
     page: PageNo,
 }
 
 /// The most pairs of a node on the smallest page.
-const PAIRS_MOST: usize = 63;
+const PAIRS_MOST: usize = 42;
 
-/// The page of a node: its kind, its level, how many pairs it has, four zeros, and for each pair the count of the bytes up to its end and its page.
-fn node_page(alloc: Global, page_size: u32, level: u8, row: &[Tree]) -> Result<Vec<u8>, Fail> {
+/// The page of a node: its kind, its level, how many pairs it has, four zeros, and for each pair the count of the bytes up to its end, in eight bytes or
+/// in four, and its page.
+fn node_page(
+    alloc: Global,
+    page_size: u32,
+    width: Width,
+    level: u8,
+    row: &[Tree],
+) -> Result<Vec<u8>, Fail> {
     if row.len() > PAIRS_MOST {
         return Err("too many pairs")?;
     }
     let mut page = Vec::new(alloc);
-    page.extend_from_slice(&[Seen::NODE_KIND, level, 0, row.len() as u8, 0, 0, 0, 0])?;
-    let mut count = 0u32;
+    page.extend_from_slice(&[width.kind(), level, 0, row.len() as u8, 0, 0, 0, 0])?;
+    let mut count = 0u64;
     for tree in row {
         count = count.wrapping_add(tree.size);
-        page.extend_from_slice(&count.to_be_bytes())?;
+        match width {
+            Width::Narrow => {
+                let count = u32::try_from(count).map_err(|_| "a count of more than four bytes")?;
+                page.extend_from_slice(&count.to_be_bytes())?
+            }
+            Width::Wide => page.extend_from_slice(&count.to_be_bytes())?,
+        }
         page.extend_from_slice(&tree.page.0.to_be_bytes())?;
     }
     let rest = (page_size as usize).saturating_sub(page.len());
@@ -38,17 +53,31 @@ fn node_page(alloc: Global, page_size: u32, level: u8, row: &[Tree]) -> Result<V
     Ok(page)
 }
 
-/// Writes a node of a level over a row.
+/// Writes a node of a level over a row, with counts of eight bytes.
 fn put_node<B: Blocks>(blocks: &mut B, alloc: Global, level: u8, row: &[Tree]) -> Result<Tree, Fail>
     requires { B.ready blocks.old }
     ensures { B.leads blocks.old blocks.new }
 {
+    put_node_in(blocks, alloc, Width::Wide, level, row)
+}
+
+/// Writes a node of a level over a row.
+fn put_node_in<B: Blocks>(
+    blocks: &mut B,
+    alloc: Global,
+    width: Width,
+    level: u8,
+    row: &[Tree],
+) -> Result<Tree, Fail>
+    requires { B.ready blocks.old }
+    ensures { B.leads blocks.old blocks.new }
+{
     let page_size = blocks.geometry().page_size;
-    let bytes = node_page(alloc, page_size, level, row)?;
+    let bytes = node_page(alloc, page_size, width, level, row)?;
     if bytes.len() != page_size as usize || blocks.free(Area::Page) == 0 {
         return Err("no room")?;
     }
-    let mut size = 0u32;
+    let mut size = 0u64;
     for tree in row {
         size = size.wrapping_add(tree.size);
     }
@@ -67,7 +96,10 @@ fn put_leaf<B: Blocks>(blocks: &mut B, alloc: Global) -> Result<Tree, Fail>
         return Err("no room")?;
     }
     let page = blocks.new_leaf(&bytes)?;
-    Ok(Tree { size, page })
+    Ok(Tree {
+        size: u64::from(size),
+        page,
+    })
 }
 
 /// A tree so many times, and another one behind.
@@ -82,14 +114,14 @@ fn root_over(height: u8, tree: Tree) -> Root {
     Root {
         height,
         page: Some(tree.page),
-        size: u64::from(tree.size),
+        size: tree.size,
     }
 }
 
 /// How many levels of nodes are below the root of the tree that names its nodes often.
-const LEVELS: u8 = 4;
+const LEVELS: u8 = 6;
 
-/// The largest object over one leaf of 512 bytes: a root of 8 trees, and 32 trees below each other node. A level has two nodes: one over full trees, and
+/// The largest object over one leaf of 512 bytes: a root of 2 trees, and 32 trees below each other node. A level has two nodes: one over full trees, and
 /// one whose last tree lacks a byte.
 fn largest<B: Blocks>(blocks: &mut B, alloc: Global) -> Result<Root, Fail>
     requires { B.ready blocks.old }
@@ -106,7 +138,7 @@ fn largest<B: Blocks>(blocks: &mut B, alloc: Global) -> Result<Root, Fail>
         short = put_node(blocks, alloc, below + 1, &shorts)?;
         full = put_node(blocks, alloc, below + 1, &fulls)?;
     }
-    let row = repeated(alloc, full, 7, short)?;
+    let row = repeated(alloc, full, 1, short)?;
     let root = put_node(blocks, alloc, LEVELS + 1, &row)?;
     Ok(root_over(LEVELS + 1, root))
 }
@@ -119,7 +151,7 @@ fn leaves_that_are_named_often_are_counted_at_once(rt: HostRuntime) -> Result<()
     let root = largest(volume, alloc)?;
     assert_eq!(&rt; root.size, OBJECT_MOST);
     let (leaves, lengths) = leaves_of(volume, alloc, &root)?;
-    assert_eq!(&rt; leaves, 8_388_608);
+    assert_eq!(&rt; leaves, 2_147_483_648);
     assert_eq!(&rt; lengths, [512; LENGTHS_MOST]);
     Ok(())
 }
@@ -246,7 +278,7 @@ fn check_child<B: Blocks>(
     let want = if is_leaf {
         Seen::LEAF
     } else {
-        Seen::node(level.saturating_sub(1), u64::from(tree.size))
+        Seen::node(level.saturating_sub(1), tree.size)
     };
     let told = PortFault::Damaged {
         page: tree.page,
@@ -317,4 +349,130 @@ fn damage_is_told_as_it_was_wanted_and_found(rt: HostRuntime) -> Result<(), Fail
     check_other_nodes(&rt, alloc, volume)?;
     check_no_nodes(&rt, alloc, volume)?;
     check_no_leaf(&rt, alloc, volume)
+}
+
+/// The bytes of a leaf of the smallest page.
+const LEAF_LEN: usize = 512;
+
+/// A tree as older volumes have it, and its bytes: a root over two nodes of three full leaves, all with counts of four bytes.
+fn older_tree<B: Blocks>(blocks: &mut B, alloc: Global) -> Result<Object, Fail>
+    requires { B.ready blocks.old }
+    ensures { B.leads blocks.old blocks.new }
+{
+    let leaf = put_leaf(blocks, alloc)?;
+    let row = repeated(alloc, leaf, 2, leaf)?;
+    let node = put_node_in(blocks, alloc, Width::Narrow, 1, &row)?;
+    let row = repeated(alloc, node, 1, node)?;
+    let root = put_node_in(blocks, alloc, Width::Narrow, 2, &row)?;
+    Ok(Object {
+        root: root_over(2, root),
+        bytes: vec![in alloc; 97u8; 6 * LEAF_LEN]?,
+    })
+}
+
+/// How wide the counts of the root's node are, and those of its children: of the first one and of the last one.
+fn widths_of<B: Blocks>(
+    blocks: &mut B,
+    alloc: Global,
+    root: &Root,
+) -> Result<Option<(Width, Width, Width)>, Fail>
+    requires { B.ready blocks.old }
+    ensures { B.leads blocks.old blocks.new }
+{
+    let Some(page) = root.page else {
+        return Ok(None);
+    };
+    if !blocks.geometry().in_page_area(page) {
+        return Ok(None);
+    }
+    let bytes = blocks.node(alloc, page)?;
+    if bytes.len() < 8 {
+        return Ok(None);
+    }
+    let width = Width::of(bytes);
+    let names = names_len(bytes);
+    if names == 0 {
+        return Ok(None);
+    }
+    let (first, last) = (name_at(bytes, 0), name_at(bytes, names - 1));
+    let Some(first) = width_at(blocks, alloc, first)? else {
+        return Ok(None);
+    };
+    let Some(last) = width_at(blocks, alloc, last)? else {
+        return Ok(None);
+    };
+    Ok(Some((width, first, last)))
+}
+
+/// How wide the counts on a page are.
+fn width_at<B: Blocks>(blocks: &mut B, alloc: Global, page: PageNo) -> Result<Option<Width>, Fail>
+    requires { B.ready blocks.old }
+    ensures { B.leads blocks.old blocks.new }
+{
+    if !blocks.geometry().in_page_area(page) {
+        return Ok(None);
+    }
+    let bytes = blocks.node(alloc, page)?;
+    if bytes.is_empty() {
+        return Ok(None);
+    }
+    Ok(Some(Width::of(bytes)))
+}
+
+/// An older tree is read as its bytes, and has nodes of the older kind alone.
+fn check_older<B: Blocks>(
+    rt: &impl Abort,
+    alloc: Global,
+    blocks: &mut B,
+    object: &Object,
+) -> Result<(), Fail>
+    requires { B.ready blocks.old }
+    ensures { B.leads blocks.old blocks.new }
+{
+    assert!(rt; spells(blocks, alloc, &object.root, &object.bytes)?);
+    let older = Some((Width::Narrow, Width::Narrow, Width::Narrow));
+    assert_eq!(rt; widths_of(blocks, alloc, &object.root)?, older);
+    Ok(())
+}
+
+/// An edit of an older tree leaves a tree of nodes of both kinds: what it goes through is written with counts of eight bytes, and what it doesn't stays.
+fn check_both_kinds<B: Blocks>(
+    rt: &impl Abort,
+    alloc: Global,
+    blocks: &mut B,
+    root: &Root,
+) -> Result<(), Fail>
+    requires { B.ready blocks.old }
+    ensures { B.leads blocks.old blocks.new }
+{
+    let Some(made) = replaced(blocks, alloc, root, POS, &GIVEN)? else {
+        return Err("no room")?;
+    };
+    let root = made?;
+    let both = Some((Width::Wide, Width::Wide, Width::Narrow));
+    assert_eq!(rt; widths_of(blocks, alloc, &root)?, both);
+    Ok(())
+}
+
+/// Edits older trees at random, so that trees of both kinds of node are edited in every way, and compares each with its list.
+fn walk_older<B: Blocks>(rt: &impl Abort, alloc: Global, blocks: &mut B) -> Result<(), Fail>
+    requires { B.ready blocks.old }
+    ensures { B.leads blocks.old blocks.new }
+{
+    for seed in 0..20u64 {
+        let object = older_tree(blocks, alloc)?;
+        assert_eq!(rt; walk(rt, alloc, blocks, object, seed, 12)?, 12);
+    }
+    Ok(())
+}
+
+#[test]
+fn trees_of_both_kinds_of_node_are_edited(rt: HostRuntime) -> Result<(), Fail> {
+    let alloc = rt.alloc();
+    let geometry = Geometry::make(512, 4000, 4000, 1, 2).map_err(|_| "geometry")?;
+    let volume = &mut MemoryVolume::make(alloc, &geometry)?;
+    let object = older_tree(volume, alloc)?;
+    check_older(&rt, alloc, volume, &object)?;
+    check_both_kinds(&rt, alloc, volume, &object.root)?;
+    walk_older(&rt, alloc, volume)
 }

@@ -170,9 +170,9 @@ const ROWS: [Row; 14] = [
 
 /// An object in a volume, and its bytes in a plain list.
 #[derive(Drop)]
-struct Object {
-    root: Root,
-    bytes: Vec<u8>,
+pub(crate) struct Object {
+    pub(crate) root: Root,
+    pub(crate) bytes: Vec<u8>,
 }
 
 /// New bytes at a position of a tree, or at its end. None where the need isn't free.
@@ -322,7 +322,7 @@ fn edited<B: Blocks>(
 }
 
 /// Whether a root spells these bytes.
-fn spells<B: ReadBlocks>(
+pub(crate) fn spells<B: ReadBlocks>(
     blocks: &mut B,
     alloc: Global,
     root: &Root,
@@ -434,20 +434,18 @@ fn random_edit(state: &mut u64, size: u64) -> (Edit, u64) {
 }
 
 /// Edits an object at random, and compares it with its list now and then, until all edits are done or the volume is full. Answers how many were done.
-fn walk<B: Blocks>(
+pub(crate) fn walk<B: Blocks>(
     rt: &impl Abort,
     alloc: Global,
     blocks: &mut B,
+    object: Object,
     seed: u64,
     edits: u32,
 ) -> Result<u32, Fail>
     requires { B.ready blocks.old }
     ensures { B.leads blocks.old blocks.new }
 {
-    let object = &mut Object {
-        root: Root::EMPTY,
-        bytes: Vec::new(alloc),
-    };
+    let object = &mut { object };
     let state = &mut seed.wrapping_add(1);
     for done in 0..edits {
         let (edit, len) = random_edit(state, object.root.size);
@@ -542,7 +540,11 @@ fn walk_on(rt: &impl Abort, alloc: Global, sizes: &Sizes) -> Result<bool, Fail> 
     .map_err(|_| "geometry")?;
     let volume = &mut MemoryVolume::make(alloc, &geometry)?;
     let seed = u64::from(sizes.segs);
-    Ok(walk(rt, alloc, volume, seed, sizes.edits)? == sizes.edits)
+    let object = Object {
+        root: Root::EMPTY,
+        bytes: Vec::new(alloc),
+    };
+    Ok(walk(rt, alloc, volume, object, seed, sizes.edits)? == sizes.edits)
 }
 
 /// Takes each of the random walks.

@@ -14,6 +14,7 @@ use Rattle.ex_base.specs.declared.geometry.Geometry.{Geometry}
 use Rattle.ex_base.proofs.Rows.{each-append, each-take, each-drop, IsRow}
 use Rattle.ex_base.proofs.Spread.{Between, evenly_row, least_parts_is, IsLeast, just_one, less_than_children, some_part, length-evenly, IsPiece, row_of_pieces, cut_count}
 use Rattle.count_nodes.specs.declared.Pair.{Pair}
+use Rattle.count_nodes.specs.declared.width.Width.TheVariants.{Wide}
 use Rattle.count_nodes.specs.Node.{IsNode, PairsOf, HasPairFields, RiseFrom, pairs_on, node_page, total_of}
 use Rattle.count_nodes.specs.Split.{most_pairs, nodes_for}
 use Rattle.count_nodes.proofs.NodeLaws.{spelled_reads}
@@ -81,12 +82,8 @@ length-pairs_of before [] = refl
 length-pairs_of before (part ∷ row) = omega (arith, length-pairs_of (before + part.size) row)
 
 -- the bytes of an object are counted in the field of a pair
-field_holds : (count : ℕ) → count ≤ object_most → count < 2 ^ 32
+field_holds : (count : ℕ) → count ≤ object_most → count < 2 ^ 64
 field_holds count le = omega arith
-
-pub small_counts : (before : ℕ) (row : List Part) → before + row_size row ≤ object_most → AllByRecursion (λ (pair : Pair). pair.count < 2 ^ 32) (pairs_of before row)
-small_counts before [] le = tt
-small_counts before (part ∷ row) le = (field_holds (before + part.size) (omega arith), small_counts (before + part.size) row (omega arith))
 
 -- ---- one node
 
@@ -133,7 +130,7 @@ named_small geo u zero page sizes named =
     omega (arith, named.2, sizes.pages, sizes.seg_len)
 named_small geo u (suc l) page sizes named = omega (arith, named.0.1, sizes.pages)
 
-fields_of : (geo : Geometry) (u : Units) (l before : ℕ) (row : List Part) → IsGeometry geo → before + row_size row ≤ object_most → AreTrees geo u l row → AllByRecursion HasPairFields (pairs_of before row)
+fields_of : (geo : Geometry) (u : Units) (l before : ℕ) (row : List Part) → IsGeometry geo → before + row_size row ≤ object_most → AreTrees geo u l row → AllByRecursion (HasPairFields Wide) (pairs_of before row)
 fields_of geo u l before [] sizes le trees = tt
 fields_of geo u l before (part ∷ row) sizes le trees = ((field_holds (before + part.size) (omega arith), named_small geo u l part.page.0 sizes trees.0.0), fields_of geo u l (before + part.size) row sizes (omega arith) trees.1)
 
@@ -161,9 +158,13 @@ node_over_piece geo u l page piece sizes small byte area is fit trees =
       some = omega (arith, length-pairs_of 0 piece, fit.some);
       few = omega (arith, length-pairs_of 0 piece, fit.few);
       rising = rise_of 0 piece fit.sizes;
-      fields = fields_of geo u l 0 piece sizes (omega (arith, fit.limit)) trees;
     } in
-    let spelled : PairsOf geo.fan (u page) (suc l) (pairs_of 0 piece) = record { fits = fits; spelled = is } in
+    let spelled : PairsOf geo.fan (u page) (suc l) (pairs_of 0 piece) = record {
+      fits = fits;
+      width = Wide;
+      fields = fields_of geo u l 0 piece sizes (omega (arith, fit.limit)) trees;
+      spelled = is;
+    } in
     let pairs : pairs_on (u page) ≡ pairs_of 0 piece = (spelled_reads geo.fan (u page) (suc l) (pairs_of 0 piece) small spelled).same_pairs in
     let total : total_of (pairs_on (u page)) ≡ row_size piece = ap total_of pairs ∙ total_of_pairs 0 piece fit.some ∙ omega arith in
     let named : AllByRecursion (λ (pair : Pair). IsNamed geo u l pair.page.0) (pairs_of 0 piece) = each_named_of (IsNamed geo u l) 0 piece (each_as _ (λ (part : Part). IsNamed geo u l part.page.0) piece (λ part h. h.0) trees) in

@@ -7,7 +7,7 @@ use Rattle.ex_base.specs.declared.names.Place.{Place}
 use Rattle.ex_base.specs.Bytes.{part}
 use Rattle.ex_base.specs.Fields.{four_bytes, zeros}
 use Rattle.ex_base.specs.Sizes.{most_page}
-use Rattle.ex_base.specs.Superblock.{magic, super_rest, super_page}
+use Rattle.ex_base.specs.Superblock.{magic, super_rest, super_page, IsSuper}
 use Rattle.ex_base.proofs.FieldLaws.{same_front, same_four}
 use Rattle.ex_base.proofs.Geometries.{same_numbers}
 use Rattle.slotted_pages.specs.FilePage.{FilePage}
@@ -20,18 +20,18 @@ use Rattle.volume_model.specs.Volume.{Stored, FileContent}
 
 -- ---- the superblock
 
-pub super_fields : (g : Geometry) (x : List ℕ) → super_page g ++ x ≡ magic ++ (four_bytes g.page_size ++ (four_bytes g.pages ++ (four_bytes g.segs ++ (four_bytes g.seg_len ++ (four_bytes g.fan ++ (four_bytes 1 ++ (zeros (g.page_size - 32) ++ x)))))))
+pub super_fields : (format : ℕ) (g : Geometry) (x : List ℕ) → super_page format g ++ x ≡ magic ++ (four_bytes g.page_size ++ (four_bytes g.pages ++ (four_bytes g.segs ++ (four_bytes g.seg_len ++ (four_bytes g.fan ++ (four_bytes format ++ (zeros (g.page_size - 32) ++ x)))))))
 unfolding super_page super_rest
-super_fields g x = simp append_assoc
+super_fields format g x = simp append_assoc
 
-pub super_front : (disk : List ℕ) (g : Geometry) → SuperOf disk g → super_page g ++ drop g.page_size disk ≡ disk
+pub super_front : (disk : List ℕ) (g : Geometry) (super : SuperOf disk g) → super_page super.spelled.format g ++ drop g.page_size disk ≡ disk
 unfolding part
-super_front disk g super = ap (λ (t : List ℕ). t ++ drop g.page_size disk) (sym super.spelled) ∙ take-append-drop g.page_size disk
+super_front disk g super = ap (λ (t : List ℕ). t ++ drop g.page_size disk) (sym super.spelled.spelled) ∙ take-append-drop g.page_size disk
 
--- superblocks determine their geometry
-pub same_super : (a b : Geometry) (x y : List ℕ) → super_page a ++ x ≡ super_page b ++ y → a ≡ b
-same_super a b x y is =
-    let whole = sym (super_fields a x) ∙ is ∙ super_fields b y in
+-- superblocks determine their geometry, of whatever formats they are
+pub same_super : (m n : ℕ) (a b : Geometry) (x y : List ℕ) → super_page m a ++ x ≡ super_page n b ++ y → a ≡ b
+same_super m n a b x y is =
+    let whole = sym (super_fields m a x) ∙ is ∙ super_fields n b y in
     let head = same_front magic magic _ _ refl whole in
     let size = same_four a.page_size b.page_size _ _ (omega (arith, most_page a)) (omega (arith, most_page b)) head.1 in
     let pages = same_four a.pages b.pages _ _ (omega (arith, a.few_pages)) (omega (arith, b.few_pages)) size.1 in
@@ -41,7 +41,7 @@ same_super a b x y is =
     same_numbers a b size.0 pages.0 segs.0 len.0 fan.0
 
 pub one_geometry : (disk : List ℕ) (a b : Geometry) → SuperOf disk a → SuperOf disk b → a ≡ b
-one_geometry disk a b p q = same_super a b (drop a.page_size disk) (drop b.page_size disk) (super_front disk a p ∙ sym (super_front disk b q))
+one_geometry disk a b p q = same_super _ _ a b (drop a.page_size disk) (drop b.page_size disk) (super_front disk a p ∙ sym (super_front disk b q))
 
 -- ---- pages and records
 

@@ -1,11 +1,12 @@
 -- An image that agrees with a disk on the bytes that no crash may change decodes as the disk does.
-use Rattle.std.proofs.Common.{◌≡◌, inl, inr, ℕ, ◌+◌, ◌-◌, ◌*◌, ◌<◌, ◌≤◌, Bool, true, false, cond, ltb, List, [], ◌∷◌, length, drop, slice_index, min, Option, Some, None, refl, sym, ◌∙◌, arith}
+use Rattle.std.proofs.Common.{◌≡◌, inl, inr, ℕ, ◌+◌, ◌-◌, ◌*◌, ◌<◌, ◌≤◌, Bool, true, false, cond, ltb, List, [], ◌∷◌, length, drop, slice_index, min, Option, Some, None, refl, sym, subst, ◌∙◌, arith}
 use Rattle.std.specs.Prelude.{Contains, unwrap_or}
 use Rattle.std.proofs.lemmas.Bool.{ltb-true, ltb-false}
 use Rattle.std.proofs.lemmas.List.{ext_get_or, length-take, length-drop}
 use Rattle.ex_base.specs.Area.{area_end, page_at, leaf_at}
 use Rattle.ex_base.specs.Bytes.{part, get-part}
 use Rattle.ex_base.specs.Sizes.{volume_bytes, least_volume, leaf_bytes}
+use Rattle.ex_base.specs.Superblock.{IsSuper}
 use Rattle.ex_base.proofs.Each.{each_from}
 use Rattle.op_log.specs.AfterLog.{logged, after_log}
 use Rattle.op_log.specs.Gates.{front_of, front_kept, says_of}
@@ -59,7 +60,7 @@ log_kept d disk image agrees large says =
 
 super_kept : (d : Decoded) (disk image : List ℕ) → Agrees d disk image → SuperOf disk d.geometry → SuperOf image d.geometry
 super_kept d disk image agrees super = record {
-  spelled = same_part image disk 0 d.geometry.page_size agrees.size (λ i from to. agrees.each i (inl (omega (arith, to)))) ∙ super.spelled;
+  spelled = subst (λ (page : List ℕ). IsSuper page d.geometry) (sym (same_part image disk 0 d.geometry.page_size agrees.size (λ i from to. agrees.each i (inl (omega (arith, to)))))) super.spelled;
   large = omega (arith, super.large, agrees.size);
 }
 

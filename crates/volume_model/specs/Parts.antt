@@ -9,7 +9,7 @@ use Rattle.ex_base.specs.Area.{catalog_no, log_at}
 use Rattle.ex_base.specs.Bytes.{part}
 use Rattle.ex_base.specs.Order.{Rising, AllDiffer}
 use Rattle.ex_base.specs.Sizes.{leaf_bytes, object_most, volume_bytes}
-use Rattle.ex_base.specs.Superblock.{super_page}
+use Rattle.ex_base.specs.Superblock.{IsSuper}
 use Rattle.op_log.specs.declared.record.LogRecord.{LogRecord}
 use Rattle.op_log.specs.Log.{LogSpells}
 use Rattle.slotted_pages.specs.FilePage.{FilePage, Slot, SlotsOf}
@@ -26,9 +26,9 @@ use Rattle.volume_model.specs.Volume.{Stored, Line, FileContent, Volume, Decoded
 
 -- ---- Super
 
--- The disk begins with the superblock of a geometry, and is large enough for it.
+-- The disk begins with the superblock of a geometry, of a format that is read, and is large enough for it.
 pub record SuperOf (disk : List ℕ) (g : Geometry) : Type 0 where
-  pub spelled : part disk 0 g.page_size ≡ super_page g
+  pub spelled : IsSuper (part disk 0 g.page_size) g
   pub large : volume_bytes g ≤ length disk
 
 -- ---- Catalog

@@ -1,6 +1,11 @@
-use Rattle.std.proofs.Common.{◌-◌, ◌/◌, ◌∙◌, sym, ap, min, length}
+use Rattle.std.proofs.Common.{ℕ, ◌≡◌, ◌-◌, ◌/◌, ◌∙◌, sym, ap, min, length}
+use Rattle.ex_base.specs.Fields.{number_at}
+use Rattle.count_nodes.specs.Node.{pair_len, width_on}
 use Rattle.count_nodes.proofs.NameLaws.{length-names}
 use Rattle.count_nodes.proofs.names.names_len.Goals as goal
 
 pub returns : goal.returns
-returns c = c.min.ensures ∙ ap (λ n. min n ((length c.args.page.now - 8) / 8)) c.get_u16.ensures ∙ sym (length-names c.args.page.now)
+returns c =
+    let len : c.pair_len.result ≡ pair_len (width_on c.args.page.now) = c.pair_len.ensures ∙ ap pair_len c.of.ensures in
+    c.min.ensures ∙ ap (λ (n : ℕ). min n ((length c.args.page.now - 8) / c.pair_len.result)) c.get_u16.ensures
+    ∙ ap (λ (k : ℕ). min (number_at 2 c.args.page.now 2) ((length c.args.page.now - 8) / k)) len ∙ sym (length-names c.args.page.now)

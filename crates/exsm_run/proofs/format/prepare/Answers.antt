@@ -1,6 +1,6 @@
 use Rattle.std.proofs.Common.{◌≡◌, ◌≤◌, ◌*◌, ◌∙◌, ℕ, List, Some, ap, length, arith, rules}
 use Rattle.ex_base.specs.Sizes.{least_page, least_volume}
-use Rattle.ex_base.specs.Superblock.{length-super_page, length-super_rest}
+use Rattle.ex_base.specs.Superblock.{format_now, length-super_page, length-super_rest}
 use Rattle.exsm_run.proofs.Making.{behind_write, prepared, rest_of}
 use Rattle.exsm_run.specs.EmptyVolume.{IsBehindMagic, IsPrepared}
 use Rattle.disk_model.specs.Changes.{changes_trans, changes_nothing}
@@ -9,17 +9,17 @@ use Rattle.exsm_run.proofs.format.prepare.Goals as goal
 
 pub slice_bounds-write-count : goal.slice_bounds-write-count
 slice_bounds-write-count g c =
-    omega (arith, ap length c.requires.superblock, length-super_page c.args.geometry.now, least_page c.args.geometry.now)
+    omega (arith, ap length c.requires.superblock, length-super_page format_now c.args.geometry.now, least_page c.args.geometry.now)
 
 pub slice_bounds-write-start : goal.slice_bounds-write-start
 slice_bounds-write-start g c =
-    let long : 8 ≤ length c.args.superblock.now = omega (arith, ap length c.requires.superblock, length-super_page c.args.geometry.now, least_page c.args.geometry.now) in
+    let long : 8 ≤ length c.args.superblock.now = omega (arith, ap length c.requires.superblock, length-super_page format_now c.args.geometry.now, least_page c.args.geometry.now) in
     search rules
 
 pub write-requires : goal.write-requires
 write-requires g c =
     let geo = c.args.geometry.now in
-    omega (arith, ap length (rest_of geo c.args.superblock.now c.requires.superblock), length-super_rest geo, c.requires.room, least_volume geo, least_page geo)
+    omega (arith, ap length (rest_of geo c.args.superblock.now c.requires.superblock), length-super_rest format_now geo, c.requires.room, least_volume geo, least_page geo)
 
 pub returns-in_err-write-2-clause-changes : goal.returns-in_err-write-2-clause-changes
 returns-in_err-write-2-clause-changes g c =

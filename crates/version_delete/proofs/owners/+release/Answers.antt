@@ -10,8 +10,8 @@ use Rattle.version_delete.specs.Released.{AreApart, IsFreed, Released}
 use Rattle.version_delete.proofs.Releasing.{drops_of, drops_kept, not_last, node_released, so_far_more, gives_last, gives_less, gives_on, counts_given, all_of, some_level, suc_less, node_left, gives_geometry}
 use Rattle.version_delete.proofs.Blaming.{row_fault}
 use Rattle.trees.specs.Owners.{StandsAt}
-use Rattle.trees.specs.Damage.{NamesNode, IsWalkFault}
-use Rattle.trees.proofs.Blame.{walk_below}
+use Rattle.trees.specs.Damage.{NamesNode, IsNodeFault, IsWalkFault}
+use Rattle.trees.proofs.Blame.{walk_below, walk_node}
 use Rattle.version_delete.proofs.owners.+release.Goals as goal
 
 pub returns-then-not-drop_ref-clause-released : goal.returns-then-not-drop_ref-clause-released
@@ -84,6 +84,18 @@ returns-clause-gives g t c =
     let drops = drops_kept b c.args.blocks.now c.drop_ref.new.self c.row_of.new.blocks page (without_ref (b.refs c.args.blocks.now page)) first c.in-Ok.ensures.kept in
     gives_on b c.args.blocks.now c.give_unit.new.self c.loop-child.blocks
     (gives_last b c.args.blocks.now c.row_of.new.blocks c.give_unit.new.self page drops c.give_unit.ensures last (c.requires.counts.used page (omega (arith, last)))) c.loop-child.invariant.gives
+
+pub returns-in-Err-clause-fault : goal.returns-in-Err-clause-fault
+returns-in-Err-clause-fault g t c = λ told logged roots at is.
+    let page = c.args.tree.page.0 in
+    let b = g.B.Ground in
+    let first = drops_of b c.args.blocks.now c.drop_ref.new.self page (without_ref (b.refs c.args.blocks.now page)) c.drop_ref.ensures.counts in
+    let geo : b.geometry c.drop_ref.new.self ≡ b.geometry c.args.blocks.now = b.leads_geometry c.args.blocks.now c.drop_ref.new.self c.drop_ref.ensures.counts.leads in
+    let fault : IsNodeFault (b.geometry c.args.blocks.now) (b.unit c.args.blocks.now page) c.args.level c.args.tree.size c.args.least page c.in-Err.fault =
+    subst (λ (x : Geometry). IsNodeFault x (b.unit c.args.blocks.now page) c.args.level c.args.tree.size c.args.least page c.in-Err.fault) geo
+    (subst (λ (us : Units). IsNodeFault (b.geometry c.drop_ref.new.self) (us page) c.args.level c.args.tree.size c.args.least page c.in-Err.fault) first.units
+    (c.in-Err.ensures.fault (b.leads_told c.args.blocks.now c.drop_ref.new.self c.drop_ref.ensures.counts.leads told))) in
+    walk_node (b.geometry c.args.blocks.now) (b.unit c.args.blocks.now) c.args.level c.args.least 0 (c.args.tree ∷ []) c.in-Err.fault c.if-level-eq0.false (omega arith) fault
 
 pub returns-in-Err-release-clause-fault : goal.returns-in-Err-release-clause-fault
 returns-in-Err-release-clause-fault g t c = λ told logged roots at is.
