@@ -290,6 +290,10 @@ class Store:
             return Shape(int(size), None, 0, [])
         return Shape(int(size), int(words[1]), int(words[3]), [int(word) for word in words[4:]])
 
+    def digest(self, oid: str) -> bytes:
+        """The SHA-256 of an object's bytes, which the program reads itself."""
+        return bytes.fromhex(self.ask(f"digest {oid}")[0])
+
     def append(self, oid: str, data: bytes) -> None:
         """Puts bytes at the end, in as many lines as they need."""
         for start in range(0, len(data), PIECE):

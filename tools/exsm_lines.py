@@ -18,6 +18,7 @@ FORMS = {
     "destroy": "destroy X",
     "size": "size X",
     "stat": "stat X",
+    "digest": "digest X",
     "read": "read X POS LEN",
     "insert": "insert X POS DATA",
     "append": "append X DATA",
@@ -26,7 +27,7 @@ FORMS = {
 }
 """The lines that the program takes, by their first word."""
 
-LATER = ("digest", "freeze", "versions", "drop", "group", "scan", "next", "close")
+LATER = ("freeze", "versions", "drop", "group", "scan", "next", "close")
 """Lines of docs/RULES.md that the program doesn't take yet."""
 
 WORDS = ("X is @NAME or page.slot.unique; DATA is hex:DIGITS, two a byte, or rep:COUNT:BYTE; "

@@ -1,6 +1,7 @@
 """The client, against a plain model and the reader of the bytes."""
 from __future__ import annotations
 
+import hashlib
 import random
 from typing import Callable
 
@@ -151,6 +152,7 @@ class ClientTest(InFolder):
             self.assertEqual(store.read(oid), wanted)
             self.assertEqual(store.read(oid, PIECE, 10), wanted[PIECE:PIECE + 10])
             self.assertEqual(store.stat(oid).size, store.size(oid))
+            self.assertEqual(store.digest(oid), hashlib.sha256(wanted).digest())
 
     def test_refusal(self) -> None:
         """a refused line raises, aborts its transaction, and the run goes on"""

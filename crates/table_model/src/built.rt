@@ -7,7 +7,7 @@ use crate::command::Command;
 
 /// Whether the command is one of the product's yet. A line that spells another one is refused as no command.
 ///
-/// To build `Digest`, say, is to answer `true` for it here, and in the definition that the contract cites.
+/// To build `Versions`, say, is to answer `true` for it here, and in the definition that the contract cites.
 pub fn is_built(command: &Command) -> bool
     ensures { result ≡ is_built (request_of command.now) }
 {
@@ -21,8 +21,11 @@ pub fn is_built(command: &Command) -> bool
         | Command::Space => true,
         Command::File { .. } | Command::Unfile { .. } => true,
         Command::List { .. } | Command::Create { .. } => true,
-        Command::Destroy { .. } | Command::Size { .. } | Command::Stat { .. } => true,
-        Command::Digest { .. } | Command::Versions { .. } | Command::DropVersion { .. } => false,
+        Command::Destroy { .. }
+        | Command::Size { .. }
+        | Command::Stat { .. }
+        | Command::Digest { .. } => true,
+        Command::Versions { .. } | Command::DropVersion { .. } => false,
         Command::Read { .. }
         | Command::Insert { .. }
         | Command::Append { .. }

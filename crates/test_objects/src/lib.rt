@@ -5,6 +5,8 @@
 #[cfg(test)]
 mod crafted;
 #[cfg(test)]
+mod digests;
+#[cfg(test)]
 mod editing;
 #[cfg(test)]
 mod large;

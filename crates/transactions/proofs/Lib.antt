@@ -37,6 +37,7 @@ pub mod Beside
 pub mod Picking
 pub mod EditRefusals
 pub mod Shaping
+pub mod Digests
 pub mod Vacancy
 pub mod Updated
 pub mod UpdateLines

@@ -4,6 +4,7 @@ mod catalog;
 mod changes;
 mod commit;
 mod creation;
+mod digests;
 mod edits;
 mod moving;
 mod needs;
@@ -200,6 +201,7 @@ impl Session {
             Command::Destroy { x } => self.destroy(alloc, host, x),
             Command::Size { x } => self.size(alloc, host, x),
             Command::Stat { x } => self.stat(alloc, host, x),
+            Command::Digest { x } => self.digest(alloc, host, x),
             Command::Read { x, pos, len } => self.read(alloc, host, x, *pos, *len),
             Command::Insert { x, pos, given } => self.insert(alloc, host, x, *pos, given),
             Command::Append { x, given } => self.append(alloc, host, x, given),

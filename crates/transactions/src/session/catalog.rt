@@ -11,7 +11,6 @@ ghost use Rattle.object_files.specs.Edits.{IsCatalogPage};
 ghost use Rattle.object_files.specs.Reads.{catalog_on};
 ghost use Rattle.ex_base.specs.Area.{catalog_no};
 ghost use Rattle.commits.specs.Room.{AreBehindLog};
-ghost use Rattle.ex_base.specs.Seen.{catalog_seen, nothing_seen};
 ghost use Rattle.transactions.specs.Catalogs.{stop_of, catalog_over, ReadingStops};
 
 use super::{MAIN, Session};
@@ -52,15 +51,11 @@ fn copy_of<D: Disk>(
 }
 
 /// What the session is to stop at where the catalog is outside of its grammar.
-fn damaged_catalog() -> Stop
-    ensures { result ≡ Stop.Damaged (record { 0 = catalog_no }) catalog_seen nothing_seen }
-{
-    Stop::Damaged {
-        page: PageNo::CATALOG,
-        want: Seen::CATALOG,
-        got: Seen::NOTHING,
-    }
-}
+const DAMAGED_CATALOG: Stop = Stop::Damaged {
+    page: PageNo::CATALOG,
+    want: Seen::CATALOG,
+    got: Seen::NOTHING,
+};
 
 /// What the session is to stop at where a page can't be read.
 fn unread(fault: FetchFault) -> Stop
@@ -111,7 +106,7 @@ fn read_catalog<D: Disk>(
         Err(fault) => return Err(unread(fault)),
     };
     if !is_catalog(&page) {
-        return Err(damaged_catalog());
+        return Err(DAMAGED_CATALOG);
     }
     Ok(page)
 }

@@ -15,7 +15,7 @@ ghost use Rattle.version_model.specs.Versions.{count_of, record_len};
 ghost use Rattle.transactions.specs.Editing.{bytes_refusal, is_outside, root_height, room_beside, fits_beside, size_after};
 
 use super::moving::Limit;
-use super::needs::{count_of, is_inside, size_after};
+use super::needs::{is_inside, size_after};
 use super::objects::{Named, stopped};
 use super::{MAIN, Session};
 use buffer_groups::Groups;
@@ -266,7 +266,7 @@ impl Session {
         ensures few { IsNeed result }
     {
         let (mut pages, mut segs) = (0, 0);
-        if !small && count_of(edit) != 0 {
+        if !small && edit.count() != 0 {
             let height = height_of(found);
             pages = large_need(&self.geometry, edit, height, Area::Page);
             segs = large_need(&self.geometry, edit, height, Area::Segment);

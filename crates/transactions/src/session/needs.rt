@@ -2,24 +2,11 @@
 ghost use Rattle.std.specs.Prelude.{◌≡◌, ◌≤◌, not, false};
 ghost use Rattle.ex_base.specs.Sizes.{object_most};
 ghost use Rattle.versions.specs.Edited.{change_of};
-ghost use Rattle.version_model.specs.Versions.{count_of};
 ghost use Rattle.transactions.specs.Editing.{is_outside, size_after, edit_note, edit_reply};
 
 use ex_base::{NoteKind, Oid, OpNote};
 use table_model::Reply;
 use versions::Edit;
-
-/// How many bytes an edit names.
-pub(super) fn count_of(edit: &Edit<'_>) -> u64
-    ensures { result ≡ count_of (change_of edit.now) }
-{
-    match edit {
-        Edit::Insert { bytes, .. } => bytes.len() as u64,
-        Edit::Append { bytes } => bytes.len() as u64,
-        Edit::Replace { bytes, .. } => bytes.len() as u64,
-        Edit::Delete { len, .. } => *len,
-    }
-}
 
 /// Whether the bytes that an edit names lie inside an object of this size.
 pub(super) fn is_inside(edit: &Edit<'_>, size: u64) -> bool
@@ -61,7 +48,7 @@ pub(super) fn note_of(edit: &Edit<'_>, oid: &Oid, size: u64) -> OpNote
         kind,
         oid: *oid,
         first,
-        second: count_of(edit),
+        second: edit.count(),
     }
 }
 

@@ -13,6 +13,9 @@ returns-in-Size g c = of_read (request_of c.args.command.now) (request.Size (ref
 pub returns-in-Stat : goal.returns-in-Stat
 returns-in-Stat g c = of_read (request_of c.args.command.now) (request.Stat (reference_of c.in-Stat.x)) c.stat.result (ap request_of c.in-Stat.is) refl (g.H.World.is_world c.args.host.now) c.stat.ensures
 
+pub returns-in-Digest : goal.returns-in-Digest
+returns-in-Digest g c = of_read (request_of c.args.command.now) (request.Digest (reference_of c.in-Digest.x)) c.digest.result (ap request_of c.in-Digest.is) refl (g.H.World.is_world c.args.host.now) c.digest.ensures
+
 pub returns-in-Read : goal.returns-in-Read
 returns-in-Read g c = of_read (request_of c.args.command.now) (request.Read (reference_of c.in-Read.x) c.in-Read.pos c.in-Read.len) c.read.result (ap request_of c.in-Read.is) refl (g.H.World.is_world c.args.host.now) c.read.ensures
 
