@@ -1,12 +1,12 @@
 -- What the status of a run says of how it was stopped.
-use Rattle.std.proofs.Common.{◌≡◌, ◌⊎◌, ⊎_elim, ℕ, List, Some, arith, inl, inr, refl, sym, subst}
+use Rattle.std.proofs.Common.{◌≡◌, ◌⊎◌, ℕ, List, Some, arith, inl, inr, refl, sym, subst}
 use Rattle.ex_base.specs.declared.geometry.Geometry.{Geometry}
-use Rattle.disk_model.specs.Outside.{Outside, IsWorld, Rose}
-use Rattle.disk_model.specs.Runs.{leaves_wider}
+use Rattle.disk_model.specs.Outside.{Outside, IsWorld, Rose, WritesNothing}
+use Rattle.disk_model.specs.Runs.{leaves_quiet, leaves_start}
 use Rattle.talks.specs.declared.stopped.Stopped.{Stopped}
 use Rattle.talks.specs.declared.stopped.Stopped.TheVariants as stopped
 use Rattle.table_model.specs.declared.table.Table.{Table}
-use Rattle.talks.specs.Headline.{LeftUnopened, RunStarts}
+use Rattle.talks.specs.Headline.{RunStarts}
 use Rattle.runs.specs.Headline.{MayComplete}
 use Rattle.transactions.specs.Meant.{meant}
 use Rattle.volume_model.proofs.AtMostOne.{one_table}
@@ -27,7 +27,6 @@ run_status stopped.Memory sound = tt
 run_status (stopped.BadVolume part) sound = sound
 run_status (stopped.Damaged page want got) sound = sound
 run_status stopped.ScriptLong sound = tt
-run_status stopped.Down sound = tt
 
 -- what stops an opening gives one of its statuses
 pub opening_status : (why : Stopped) → IsOpeningStop why → IsOpeningStatus (status_of (Some why))
@@ -38,14 +37,12 @@ opening_status stopped.Memory stop = tt
 opening_status (stopped.BadVolume part) stop = tt
 opening_status (stopped.Damaged page want got) stop = stop
 opening_status stopped.ScriptLong stop = stop
-opening_status stopped.Down stop = tt
 
--- what the disk holds is one of the images that a crash may leave
-pub left_alone : {a b : Outside} (image : List ℕ) → IsWorld a → a.disk ≡ Some image → LeftUnopened image a b → LeftAlone a b
-left_alone {a} {b} image world holds left = record {
-  only = left.only;
-  moments = leaves_wider (λ d. a.images d ⊎ (d ≡ image)) a.images left.moments
-      (λ d old. ⊎_elim (λ was. was) (λ same. subst a.images (sym same) (world.held_may_stay image holds)) old);
+-- where nothing was written a crash leaves what it could leave before
+pub left_alone : {a b : Outside} → IsWorld a → WritesNothing a b → LeftAlone a b
+left_alone {a} {b} world nothing = record {
+  nothing = nothing;
+  moments = λ honest. leaves_quiet a.images (leaves_start a a.images world (λ d here. here)) honest nothing;
 }
 
 -- a run that was stopped is not refused
@@ -57,7 +54,6 @@ no_refusal stopped.Memory is = is
 no_refusal (stopped.BadVolume part) is = is
 no_refusal (stopped.Damaged page want got) is = is
 no_refusal stopped.ScriptLong is = is
-no_refusal stopped.Down is = is
 
 -- so it is not answered as wrong words
 pub no_usage : (s : Status) → (IsRefusal s → ⊥) → s ≡ status.Usage → ⊥

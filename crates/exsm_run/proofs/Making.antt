@@ -10,19 +10,50 @@ use Rattle.ex_base.specs.declared.geometry.Geometry.{Geometry}
 use Rattle.object_files.specs.Catalog.{CatalogOf, fresh_catalog}
 use Rattle.volume_model.specs.Parts.{SuperOf}
 use Rattle.volume_model.proofs.FreshVolume.{fresh_stands}
-use Rattle.disk_model.specs.Outside.{Outside, IsWorld, DiskOnly, Only, ReadsOnly, SinkOnly, RestsOn, Leaves, Along}
-use Rattle.disk_model.specs.Runs.{leaves_wider, along_start, along_quiet, along_disk, along_sink, rests_quiet}
+use Rattle.disk_model.specs.Outside.{Outside, IsWorld, DiskOnly, Only, ReadsOnly, SinkOnly, RestsOn, Leaves, Along, WritesNothing}
+use Rattle.disk_model.specs.Runs.{honest_on, leaves_wider, along_start, along_quiet, along_disk, along_sink, rests_quiet}
 use Rattle.disk_model.specs.Calls.{Tears}
-use Rattle.disk_model.specs.Changes.{SameBut, ChangesWithin, InRange, same_but_range, changes_write, changes_wider, leaves_changes}
-use Rattle.exsm_run.specs.EmptyVolume.{HasMagic, IsBehindMagic, IsPrepared, IsEmptyVolume, IsUnmadeOrEmpty}
-use Rattle.exsm_run.specs.Format.{IsFormatMoment, IsFormatted}
+use Rattle.disk_model.specs.Changes.{SameBut, ChangesWithin, InRange, same_but_range, same_but_refl, changes_trans, changes_write, changes_wider, leaves_changes}
+use Rattle.exsm_run.specs.EmptyVolume.{HasMagic, IsBehindMagic, IsMade, IsPrepared, IsPreparedAt, IsEmptyVolume, IsUnmadeOrEmpty}
+use Rattle.exsm_run.specs.Format.{IsFormatMoment, IsFormatted, WritesAlone}
 
 abbrev pub NoMagic : List ℕ → Type 0
 NoMagic d = HasMagic d → ⊥
 
--- a write behind the magic
-pub behind_write : {a b : Outside} (at n : ℕ) → 8 ≤ at → DiskOnly a b → (IsTrue a.honest → Tears at n a b) → ChangesWithin IsBehindMagic a b
-behind_write at n behind only tears = changes_wider (InRange at n) IsBehindMagic (changes_write at n only tears) (λ i (inside : InRange at n i). omega (arith, behind, inside.0))
+-- a write behind the magic, in a place that `format` writes
+pub behind_write : {a b : Outside} (g : Geometry) (at n : ℕ) → 8 ≤ at → ((i : ℕ) → InRange at n i → IsMade g i) → DiskOnly a b → (IsTrue a.honest → Tears at n a b)
+    → ChangesWithin (IsPreparedAt g) a b
+behind_write g at n behind made only tears =
+    changes_wider (InRange at n) (IsPreparedAt g) (changes_write at n only tears) (λ i (inside : InRange at n i). (omega (arith, behind, inside.0), made i inside))
+
+-- the three places
+module _ (g : Geometry) where
+  pub in_superblock : (at n i : ℕ) → at + n ≤ g.page_size → InRange at n i → IsMade g i
+  in_superblock at n i fits inside = inl (omega arith, omega (arith, fits, inside.1))
+
+  pub in_gate : (i : ℕ) → InRange g.page_size 1 i → IsMade g i
+  in_gate i inside = inr (inl inside)
+
+  pub in_catalog : (n i : ℕ) → n ≡ g.page_size → InRange (257 * g.page_size) n i → IsMade g i
+  in_catalog n i size inside = inr (inr (inside.0, omega (arith, inside.1, size)))
+
+-- what was prepared, and the magic over it
+pub made_within : {a b c : Outside} (g : Geometry) → ChangesWithin (IsPreparedAt g) a b → ChangesWithin (InRange 0 8) b c → ChangesWithin (IsMade g) a c
+made_within g one two =
+    changes_trans (changes_wider (IsPreparedAt g) (IsMade g) one (λ i (place : IsPreparedAt g i). place.1))
+    (changes_wider (InRange 0 8) (IsMade g) two (λ i (inside : InRange 0 8 i). in_superblock g 0 8 i (omega (arith, least_page g)) inside))
+
+-- nothing was written yet
+pub unwritten : {a b : Outside} (g : Geometry) → WritesNothing a b → (d : List ℕ) → a.disk ≡ Some d → WritesAlone g d b
+unwritten g nothing d holds = (d, nothing.disk ∙ holds, same_but_refl (IsMade g) d)
+
+-- the layout was written, in whole or in part
+pub laid_alone : {a b c : Outside} (g : Geometry) → ReadsOnly a b → ChangesWithin (IsMade g) b c → IsTrue a.honest → (d : List ℕ) → a.disk ≡ Some d → WritesAlone g d c
+laid_alone g reads changes honest d holds = changes.disk (honest_on reads.nothing.only.goes honest) d (reads.nothing.disk ∙ holds)
+
+-- and the line was sent
+pub sent_alone : {b c : Outside} (g : Geometry) (d : List ℕ) → WritesAlone g d b → SinkOnly b c → WritesAlone g d c
+sent_alone g d alone only = (alone.0, only.disk ∙ alone.1, alone.2)
 
 -- What changes behind the magic alone has it as before.
 pub no_magic_on : (d e : List ℕ) → 8 ≤ length d → SameBut IsBehindMagic d e → (HasMagic d → ⊥) → HasMagic e → ⊥
@@ -112,10 +143,10 @@ pub rest_of : (g : Geometry) (s : List ℕ) → s ≡ super_page format_now g �
 rest_of g s is = take_rest s 8 ∙ ap (λ (l : List ℕ). drop 8 l) is ∙ drop-super_page format_now g
 
 -- A crash while all but the magic is written leaves no volume.
-pub leaves_unmade : {a b : Outside} (g : Geometry) → IsWorld a → (d : List ℕ) → RestsOn a d → (HasMagic d → ⊥) → 8 ≤ a.size → ChangesWithin IsBehindMagic a b → Leaves a b (IsUnmadeOrEmpty g)
+pub leaves_unmade : {a b : Outside} (g : Geometry) → IsWorld a → (d : List ℕ) → RestsOn a d → (HasMagic d → ⊥) → 8 ≤ a.size → ChangesWithin (IsPreparedAt g) a b → Leaves a b (IsUnmadeOrEmpty g)
 leaves_unmade {a} g world d rests unmade large changes =
     leaves_wider NoMagic (IsUnmadeOrEmpty g)
-    (leaves_changes IsBehindMagic NoMagic world rests.honest changes
+    (leaves_changes IsBehindMagic NoMagic world rests.honest (changes_wider (IsPreparedAt g) IsBehindMagic changes (λ i (place : IsPreparedAt g i). place.0))
     (λ x e here same. no_magic_on x e (omega (arith, large, world.whole x here)) same (subst NoMagic (sym (rests.settled x here)) unmade)))
     (λ e without. inl without)
 

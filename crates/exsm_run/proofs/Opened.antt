@@ -69,11 +69,6 @@ shows_opened {w} p image table parts honest on stands =
 pub err_same : {T E : Type 0} {x y : E} (a b : Result T E) → a ≡ Err x → b ≡ Err y → a ≡ b → x ≡ y
 err_same a b one two same = cc (one, two, same)
 
--- the volume stood for a table
-pub stood : {image : List ℕ} {g : Geometry} {w : Outside} {log : LogState} {overlay : List PageRow} {used has : ℕ → Bool} → OpenedOn image g w log overlay used has
-    → (table : Table) × StandsFor image table
-stood {image} on = (table_of (units_of on.decoded image) on.decoded.volume, record { decoded = on.decoded; parts = on.was; same = refl })
-
 pub leaves_opening : {a b : Outside} (image : List ℕ) → Leaves a b (OpensAs a.images image) → Leaves a b (StandsOpening meant a.images image)
 leaves_opening {a} {b} image leaves = leaves_wider (OpensAs a.images image) (StandsOpening meant a.images image) leaves
     (λ d is. ⊎_elim (λ old. inl old) (λ other. inr (⊎_elim (λ same. inl same) (λ (same : StandsForSame image d). inr (record { table = same.table; was = same.was; stands = same.stands })) other)) is)

@@ -1,5 +1,6 @@
 -- The empty volume, and what a disk may be while one is made.
-use Rattle.std.specs.Prelude.{◌≡◌, ◌≤◌, ◌⊎◌, ℕ, ◌-◌, List, [], ◌∷◌, length}
+use Rattle.std.specs.Prelude.{◌≡◌, ◌≤◌, ◌⊎◌, ℕ, ◌-◌, ◌*◌, List, [], ◌∷◌, length}
+use Rattle.disk_model.specs.Changes.{InRange}
 use Rattle.ex_base.specs.Area.{page_at, catalog_no}
 use Rattle.ex_base.specs.Bytes.{part}
 use Rattle.ex_base.specs.Sizes.{volume_bytes}
@@ -26,6 +27,14 @@ IsUnmadeOrEmpty g d = (HasMagic d → ⊥) ⊎ IsEmptyVolume g d
 -- The place lies behind the magic.
 abbrev pub IsBehindMagic : ℕ → Type 0
 IsBehindMagic i = 8 ≤ i
+
+-- The place is one that `format` writes: in the superblock, the first gate of the log, or in the catalog's page.
+abbrev pub IsMade : Geometry → ℕ → Type 0
+IsMade g i = InRange 0 g.page_size i ⊎ (InRange g.page_size 1 i ⊎ InRange (257 * g.page_size) g.page_size i)
+
+-- one behind the magic
+abbrev pub IsPreparedAt : Geometry → ℕ → Type 0
+IsPreparedAt g i = IsBehindMagic i × IsMade g i
 
 -- All of the empty volume stands but the magic.
 pub record IsPrepared (g : Geometry) (d : List ℕ) : Type 0 where

@@ -4,7 +4,8 @@ use Rattle.std.specs.Fmt.{decimal}
 use Rattle.ex_base.specs.Sizes.{volume_bytes}
 use Rattle.ex_base.specs.declared.geometry.Geometry.{Geometry}
 use Rattle.disk_model.specs.Outside.{Outside, RestsOn, Rose}
-use Rattle.exsm_run.specs.EmptyVolume.{HasMagic, IsEmptyVolume, IsUnmadeOrEmpty}
+use Rattle.disk_model.specs.Changes.{SameBut}
+use Rattle.exsm_run.specs.EmptyVolume.{HasMagic, IsEmptyVolume, IsMade, IsUnmadeOrEmpty}
 use Rattle.command_line.specs.declared.status.Status.{Status}
 use Rattle.command_line.specs.declared.status.Status.TheVariants.{Done, Usage, ScriptFault, OutputFault, DiskFault, BadVolume, Memory, Damaged, AlreadyVolume, TooSmall, ScriptLong}
 
@@ -50,6 +51,10 @@ pub record IsFormatted (g : Geometry) (after : Outside) : Type 0 where
   pub disk : List ℕ
   pub rests : RestsOn after disk
   pub empty : IsEmptyVolume g disk
+
+-- The disk, which held d, differs from that only where `format` writes.
+abbrev pub WritesAlone : Geometry → List ℕ → Outside → Type 0
+WritesAlone g d after = (e : List ℕ) × (after.disk ≡ Some e) × SameBut (IsMade g) d e
 
 -- At each moment of `format` a crash leaves no volume or the empty one, and the empty one once a byte of the line was sent.
 pub record IsFormatMoment (g : Geometry) (sent_before sent image : List ℕ) : Type 0 where

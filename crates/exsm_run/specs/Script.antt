@@ -15,8 +15,7 @@ use Rattle.command_line.specs.declared.status.Status.TheVariants.{Done, Usage, S
 abbrev pub script_most : ℕ
 script_most = 1099511627776
 
--- The status of a run that ended so: at the end of its script (None), or by a stop. A session that was just opened is never down; such a stop would
--- be answered as want of memory.
+-- the status of a run that ended so: at the end of its script (None), or by a stop
 abbrev pub status_of : Option Stopped → Status
 status_of None = Done
 status_of (Some stopped.Script) = ScriptFault
@@ -26,7 +25,6 @@ status_of (Some stopped.Memory) = Memory
 status_of (Some (stopped.BadVolume part)) = BadVolume part
 status_of (Some (stopped.Damaged page want got)) = Damaged page want got
 status_of (Some stopped.ScriptLong) = ScriptLong script_most
-status_of (Some stopped.Down) = Memory
 
 -- The run ended with this status, and this is what it did.
 pub record Ran {S : Type 0} (M : Meaning S) (Fresh : View S → Type 0) (table : Table) (was : List ℕ) (before after : Outside) (status : Status) : Type 0 where

@@ -5,9 +5,9 @@ ghost use Rattle.ex_base.specs.Superblock.{format_now, magic, super_page};
 ghost use Rattle.object_files.specs.Catalog.{CatalogOf, fresh_catalog};
 ghost use Rattle.disk_model.specs.Outside.{Rose, Goes, Only, DiskOnly, ReadsOnly, RestsOn, Leaves, Along};
 ghost use Rattle.disk_model.specs.Changes.{ChangesWithin};
-ghost use Rattle.exsm_run.specs.EmptyVolume.{HasMagic, IsUnmadeOrEmpty, IsBehindMagic, IsPrepared};
+ghost use Rattle.exsm_run.specs.EmptyVolume.{HasMagic, IsUnmadeOrEmpty, IsMade, IsPrepared, IsPreparedAt};
 ghost use Rattle.exsm_run.specs.Status.{IsRefusal};
-ghost use Rattle.exsm_run.specs.Format.{format_line, IsFormatStatus, IsFormatted, IsFormatMoment};
+ghost use Rattle.exsm_run.specs.Format.{format_line, IsFormatStatus, IsFormatted, IsFormatMoment, WritesAlone};
 
 use crate::status::Status;
 use disk_model::{Disk, Failed, Host, send_all, write_settled};
@@ -63,6 +63,9 @@ pub fn format<H: Host>(alloc: Global, host: &mut H, geometry: &Geometry) -> Stat
         → (H.outside host.new).sent ≡ (H.outside host.old).sent }
     ensures left { (H.outside host.new).left ≡ (H.outside host.old).left }
 
+    ensures writes { IsTrue (H.outside host.old).honest → (d : List ℕ)
+        → (H.outside host.old).disk ≡ Some d
+        → WritesAlone geometry.now d (H.outside host.new) }
     ensures formatted { result ≡ Status.Done → IsTrue (H.outside host.old).honest → (d : List ℕ)
         → (H.outside host.old).disk ≡ Some d
         → IsFormatted geometry.now (H.outside host.new) }
@@ -113,7 +116,8 @@ fn lay_out<D: Disk>(
     requires superblock { superblock.now ≡ super_page format_now geometry.now }
     requires catalog { CatalogOf catalog.now fresh_catalog }
     requires one_page { length catalog.now ≡ geometry.now.page_size }
-    ensures only { DiskOnly (D.outside disk.old) (D.outside disk.new) }
+    ensures changes { ChangesWithin (IsMade geometry.now) (D.outside disk.old)
+        (D.outside disk.new) }
     ensures cause { OnErr result (Rose (D.outside disk.old).disk_faults
         (D.outside disk.new).disk_faults) }
     ensures formatted { OnOk result (IsTrue (D.outside disk.old).honest → (d : List ℕ)
@@ -145,7 +149,8 @@ fn prepare<D: Disk>(
     requires superblock { superblock.now ≡ super_page format_now geometry.now }
     requires catalog { CatalogOf catalog.now fresh_catalog }
     requires one_page { length catalog.now ≡ geometry.now.page_size }
-    ensures changes { ChangesWithin IsBehindMagic (D.outside disk.old) (D.outside disk.new) }
+    ensures changes { ChangesWithin (IsPreparedAt geometry.now) (D.outside disk.old)
+        (D.outside disk.new) }
     ensures cause { OnErr result (Rose (D.outside disk.old).disk_faults
         (D.outside disk.new).disk_faults) }
     ensures prepared { OnOk result ((d : List ℕ) → (D.outside disk.old).disk ≡ Some d

@@ -1,7 +1,8 @@
 //! What a program does with the words that it was started with.
-ghost use Rattle.std.specs.Prelude.{◌≡◌};
+ghost use Rattle.std.specs.Prelude.{◌≡◌, ◌≢◌, ◌⊎◌, None};
 ghost use Rattle.std.specs.Process.{exit_status};
 ghost use Rattle.command_line.specs.Status.{code_of};
+ghost use Rattle.command_line.specs.Words.{texts, IsOutside};
 
 use crate::status::Status;
 use crate::top_call::run;
@@ -26,8 +27,12 @@ fn words_of(rt: &HostRuntime) -> io::Result<Vec<String>> {
     Ok(words)
 }
 
-// Runs the command line on the file that it names.
-fn run_words(rt: &HostRuntime, words: &[String]) -> Ending {
+// Runs the command line on the file that it names. Words outside of the grammar are refused, but for want of memory.
+fn run_words(rt: &HostRuntime, words: &[String]) -> Ending
+    ensures usage { result.status ≡ Status.Usage → IsOutside (texts words.now) }
+    ensures outside { IsOutside (texts words.now)
+        → (result.status ≡ Status.Usage) ⊎ (result.status ≡ Status.Memory) }
+{
     let file = file_of(words);
     let path = file.map(|file| file.path);
     let make = file.and_then(|file| file.make);
@@ -44,11 +49,17 @@ fn run_words(rt: &HostRuntime, words: &[String]) -> Ending {
     }
 }
 
-// The system's reason for a status.
+// The system's reason for a status: that of the file, the input or the output, by which of them failed.
 fn cause_of<V: Drop, I: Drop, O: Drop>(
     status: Status,
     host: &FileHost<V, I, O>,
-) -> Option<io::Error> {
+) -> Option<io::Error>
+    ensures script { status ≡ Status.ScriptFault → result ≡ host.now.source.cause }
+    ensures output { status ≡ Status.OutputFault → result ≡ host.now.sink.cause }
+    ensures disk { status ≡ Status.DiskFault → result ≡ host.now.disk.cause }
+    ensures none { status ≢ Status.ScriptFault → status ≢ Status.OutputFault
+        → status ≢ Status.DiskFault → result ≡ None }
+{
     match status {
         Status::ScriptFault => host.source_faults().cause,
         Status::OutputFault => host.sink_faults().cause,

@@ -1,6 +1,6 @@
 //! A script is run on a volume.
 ghost use Rattle.std.specs.Prelude.{◌≡◌, ◌≢◌, ◌≤◌, ◌<◌, ◌+◌, ◌⊎◌, ℕ, List, [], Some, IsTrue, drop, length};
-ghost use Rattle.disk_model.specs.Outside.{Rose, Goes, DiskOnly, Only};
+ghost use Rattle.disk_model.specs.Outside.{Rose, Goes, Only};
 ghost use Rattle.ex_base.specs.declared.names.PageNo.{PageNo};
 ghost use Rattle.ex_base.specs.declared.faults.Seen.{Seen};
 ghost use Rattle.table_model.specs.declared.table.Table.{Table};
@@ -28,7 +28,7 @@ fn status_of(stopped: Stopped) -> Status
         Stopped::Script => Status::ScriptFault,
         Stopped::Output => Status::OutputFault,
         Stopped::Disk => Status::DiskFault,
-        Stopped::Memory | Stopped::Down => Status::Memory,
+        Stopped::Memory => Status::Memory,
         Stopped::BadVolume { part } => Status::BadVolume { part },
         Stopped::Damaged { page, want, got } => Status::Damaged { page, want, got },
         Stopped::ScriptLong => Status::ScriptLong { max: SCRIPT_MOST },
@@ -59,7 +59,7 @@ pub fn run_script<S: Opener + Drop, H: Host>(alloc: Global, host: &mut H) -> Sta
     ensures sound { (table : Table) (was : List ℕ)
         → HoldsTable S.meaning (H.outside host.old) table was → IsRunStatus result }
 
-    // The script is long exactly where the source gave more bytes than count, of which it loses one more at most.
+    // The script is long exactly where the source gave more bytes than count, of which it loses one more at most, however the run ends.
     ensures within { result ≡ Status.Done → (script : List ℕ)
         → (H.outside host.old).left ≡ Some script → length script ≤ script_most }
     ensures reads_all { result ≡ Status.Done → (script : List ℕ)
@@ -67,24 +67,21 @@ pub fn run_script<S: Opener + Drop, H: Host>(alloc: Global, host: &mut H) -> Sta
     ensures script_long { (most : ℕ) → result ≡ Status.ScriptLong most → (script : List ℕ)
         → (H.outside host.old).left ≡ Some script
         → (most ≡ script_most) × (script_most < length script) }
-    ensures drawn { result ≢ Status.ScriptFault → (script : List ℕ)
-        → (H.outside host.old).left ≡ Some script
+    ensures drawn { (script : List ℕ) → (H.outside host.old).left ≡ Some script
         → (n : ℕ) × (n ≤ script_most + 1) × ((H.outside host.new).left ≡ Some (drop n script)) }
 
-    // The disk holds no volume exactly where a part of it fails. Then nothing is sent, no line is taken, and nothing is written.
+    // The disk holds no volume exactly where a part of it fails. Then nothing is sent, no line is taken, and nothing is written, whatever is answered.
     ensures bad { (part : Part) → result ≡ Status.BadVolume part → (image : List ℕ)
         → (H.outside host.old).disk ≡ Some image → S.meaning.FirstBad image part }
-    ensures unopened { (image : List ℕ) (part : Part) → IsTrue (H.outside host.old).honest
-        → (H.outside host.old).disk ≡ Some image
+    ensures unopened { (image : List ℕ) (part : Part) → (H.outside host.old).disk ≡ Some image
         → S.meaning.FirstBad image part → IsOpeningStatus result }
     ensures bad_only { (part : Part) → result ≡ Status.BadVolume part
-        → DiskOnly (H.outside host.old) (H.outside host.new) }
+        → LeftAlone (H.outside host.old) (H.outside host.new) }
     ensures bad_kept { (part : Part) → result ≡ Status.BadVolume part → (image : List ℕ)
         → IsTrue (H.outside host.old).honest
         → (H.outside host.old).disk ≡ Some image → ((H.outside host.new).disk ≡ Some image)
         × Only image (H.outside host.new).images }
-    ensures left { (image : List ℕ) (part : Part) → IsTrue (H.outside host.old).honest
-        → (H.outside host.old).disk ≡ Some image
+    ensures left { (image : List ℕ) (part : Part) → (H.outside host.old).disk ≡ Some image
         → S.meaning.FirstBad image part → LeftAlone (H.outside host.old) (H.outside host.new) }
 
     // Without a fault of the outside, a run on a volume of a script that isn't too long reaches the end of the script.

@@ -1,5 +1,5 @@
 //! The session of a run: one that is opened on the volume of a disk.
-ghost use Rattle.std.specs.Prelude.{◌≡◌};
+ghost use Rattle.std.specs.Prelude.{◌≡◌, false};
 
 use disk_model::Host;
 use restart::{OpenedParts, open_volume};
@@ -28,6 +28,8 @@ impl Engine for VolumeSession {
     ghost use Rattle.transactions.specs.Meant.{meant};
 
     ghost meaning = { meant };
+
+    ghost up = { λ s. s.down ≡ false };
 
     fn step<H: Host>(
         &mut self,

@@ -85,21 +85,21 @@ impl<V: Drop, I: Drop, O: Drop> FileHost<V, I, O> {
 
     /// How often the disk failed, and why at first.
     pub fn disk_faults(&self) -> Faults
-        ensures { result.count ≡ (⟦<FileHost<V, I, O> as World>⟧.outside self.now).disk_faults }
+        ensures { result ≡ self.now.disk }
     {
         self.disk
     }
 
     /// How often the input failed, and why at first.
     pub fn source_faults(&self) -> Faults
-        ensures { result.count ≡ (⟦<FileHost<V, I, O> as World>⟧.outside self.now).read_faults }
+        ensures { result ≡ self.now.source }
     {
         self.source
     }
 
     /// How often the output failed, and why at first.
     pub fn sink_faults(&self) -> Faults
-        ensures { result.count ≡ (⟦<FileHost<V, I, O> as World>⟧.outside self.now).write_faults }
+        ensures { result ≡ self.now.sink }
     {
         self.sink
     }

@@ -3,12 +3,13 @@ ghost use Rattle.std.specs.Prelude.{◌≡◌, ◌≤◌, ◌<◌, ℕ, List, []
 ghost use Rattle.std.specs.List.{AllByRecursion};
 ghost use Rattle.ex_base.specs.Area.{log_size};
 ghost use Rattle.ex_base.specs.Sizes.{volume_bytes};
-ghost use Rattle.disk_model.specs.Outside.{DiskOnly, ReadsOnly, Leaves, Only, Rose};
+ghost use Rattle.disk_model.specs.Outside.{DiskOnly, ReadsOnly, Leaves, Only, Rose, WritesNothing};
+ghost use Rattle.table_model.specs.declared.table.Table.{Table};
 ghost use Rattle.op_log.specs.Decoding.{last_number};
 ghost use Rattle.op_log.specs.Log.{SaysLog, log_end};
 ghost use Rattle.op_log.specs.Records.{IsLogRecord};
 ghost use Rattle.page_alloc.specs.UnitSet.{used_at};
-ghost use Rattle.volume_model.specs.Parts.{SuperOf, FirstBad};
+ghost use Rattle.volume_model.specs.Parts.{SuperOf, FirstBad, StandsFor};
 ghost use Rattle.volume_port.specs.Logged.{is_held};
 ghost use Rattle.restart.specs.Content.{IsReached};
 ghost use Rattle.restart.specs.Opening.{AreFresh, AreOpened, OpenedOn, OpensAs, ReadsAs};
@@ -43,7 +44,7 @@ pub struct OpenedParts {
 }
 
 /// Opens the volume on a disk. It begins with a sync, then reads the volume and tests its parts in their order, and where records count it makes a
-/// checkpoint. A volume that stands for no table isn't written.
+/// checkpoint. A volume of which a part fails isn't written.
 pub fn open_volume<D: Disk>(alloc: Global, disk: &mut D) -> Result<OpenedParts, OpenFault>
     ensures only { DiskOnly (D.outside disk.old) (D.outside disk.new) }
     ensures disk { result ≡ Err OpenFault.Disk
@@ -56,14 +57,20 @@ pub fn open_volume<D: Disk>(alloc: Global, disk: &mut D) -> Result<OpenedParts, 
         → (D.outside disk.old).disk ≡ Some image
         → OpenedOn image p.geometry (D.outside disk.new) p.log p.meta.committed (used_at p.units)
         (is_held p.pages)) }
+    ensures stood { IfOk result (λ p. (image : List ℕ) → (D.outside disk.old).disk ≡ Some image
+        → (table : Table) × StandsFor image table) }
 
-    // Or it stood for none, and holds what it held.
+    // Or a part of it failed, and nothing was written, whatever is answered.
     ensures bad { (part : Part) → result ≡ Err (OpenFault.BadVolume part) → (image : List ℕ)
         → (D.outside disk.old).disk ≡ Some image → FirstBad image part }
     ensures kept { (part : Part) → result ≡ Err (OpenFault.BadVolume part)
         → IsTrue (D.outside disk.old).honest → (image : List ℕ)
         → (D.outside disk.old).disk ≡ Some image
         → ((D.outside disk.new).disk ≡ Some image) × Only image (D.outside disk.new).images }
+    ensures unwritten { (part : Part) → result ≡ Err (OpenFault.BadVolume part)
+        → WritesNothing (D.outside disk.old) (D.outside disk.new) }
+    ensures left { (image : List ℕ) (part : Part) → (D.outside disk.old).disk ≡ Some image
+        → FirstBad image part → WritesNothing (D.outside disk.old) (D.outside disk.new) }
 
     // A crash at any moment leaves what could be left before, or the volume as it reads, or what stands for the same table.
     ensures any_moment { (image : List ℕ) → IsTrue (D.outside disk.old).honest

@@ -1,12 +1,12 @@
 -- What the sending of a text left, where it failed.
-use Rattle.std.proofs.Common.{◌≡◌, ◌<◌, ◌∙◌, ◌≤◌, ℕ, true, Option, Some, None, List, ◌++◌, length, take, Result, Ok, Err, OnErr, inl, inr, refl, sym, ap}
+use Rattle.std.proofs.Common.{◌≡◌, ◌<◌, ◌∙◌, ℕ, true, Option, Some, None, List, ◌++◌, length, take, Result, Ok, Err, OnErr, inl, inr, refl, sym, ap}
 use Rattle.std.proofs.lemmas.Option.{same_Some}
 use Rattle.std.specs.Result.{is_err}
 use Rattle.std.proofs.lemmas.List.{append-nil}
 use Rattle.disk_model.specs.Outside.{Outside, SinkOnly}
 use Rattle.disk_model.specs.Runs.{sink_refl}
 use Rattle.talks.specs.declared.stopped.Stopped.{Stopped}
-use Rattle.talks.specs.Sending.{SentFront, SentPart}
+use Rattle.talks.specs.Sending.{SentPart}
 use Rattle.talks.specs.declared.stopped.Stopped.TheVariants.{Output}
 
 pub at_err : {T E : Type 0} (r : Result T E) (Q : Type 0) → is_err r ≡ true → OnErr r Q → Q

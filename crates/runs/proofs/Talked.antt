@@ -1,5 +1,5 @@
 -- A script is taken, line after line.
-use Rattle.std.proofs.Common.{◌≡◌, ℕ, Option, Some, None, List, [], ◌∷◌, ◌++◌, refl, sym, subst}
+use Rattle.std.proofs.Common.{◌≡◌, ℕ, Some, None, List, [], ◌∷◌, ◌++◌, refl, sym, subst}
 use Rattle.std.proofs.lemmas.List.{append-nil}
 use Rattle.table_model.specs.declared.reply.Reply.{Reply}
 use Rattle.script_lines.specs.Lines.{Line}
@@ -11,7 +11,7 @@ use Rattle.script_replies.specs.ReplyText.{text_of}
 use Rattle.talks.specs.Stops.{IsPart, IsSendingStop}
 use Rattle.talks.specs.Talking.{Exchange, Left}
 use Rattle.talks.specs.declared.stopped.Stopped.{Stopped}
-use Rattle.talks.specs.declared.stopped.Stopped.TheVariants.{Output, Disk, Memory, BadVolume, Damaged, ScriptLong, Down}
+use Rattle.talks.specs.declared.stopped.Stopped.TheVariants.{Output, Disk, Memory, BadVolume, Damaged, ScriptLong}
 use Rattle.talks.specs.declared.stopped.Stopped.TheVariants as stop
 use Rattle.runs.specs.Heard.{AsksOf}
 use Rattle.runs.specs.Script.{TakenBy, TakesNext, line_if}
@@ -53,15 +53,16 @@ with_none : {ahead : List ℕ} {left : Left} (most : ℕ) (why : Stopped) (lines
 with_none most why lines told = record { each = λ bytes r. subst (λ (l : List Line). TakenBy (Some why) most bytes l) (sym (append-nil lines)) (told.each bytes r) }
 
 -- The source failed.
-pub broken_read : {first old : Script} {left a : Left} {had : List Exchange} (b : Left) → HasHeard first left had old a → IsBrokenOff first left had None stop.Script b
-broken_read {first} {old} {left} {a} {had} b so_far = record {
+pub broken_read : {first old : Script} {still : ℕ} {left a b : Left} {had : List Exchange} → HasHeard first left had old a → Draws (to_take old.reader) a still b
+    → IsBrokenOff first left had None stop.Script b
+broken_read {first} {old} {still} {left} {a} {b} {had} so_far drawn = record {
   lines = so_far.lines;
   next = None;
   asks = tt;
   complete = λ whole. refl;
   script = with_none (counted first.reader) stop.Script so_far.lines (told_part (ahead first.reader) (ahead old.reader) left a (counted first.reader) (counted old.reader) so_far.lines stop.Script so_far.moved (λ whole. whole));
   heard = so_far.heard;
-  drawn = λ other. absurd (other refl);
+  drawn = loses (draws_more (to_take first.reader) (to_take old.reader) still left a b so_far.drawn drawn);
 }
 
 -- The script is too long.
@@ -74,7 +75,7 @@ broken_long {first} {old} {still} {left} {a} {b} {had} so_far cut drawn = record
   complete = λ whole. refl;
   script = with_none (counted first.reader) ScriptLong so_far.lines (told_cut (ahead first.reader) (ahead old.reader) left a (counted first.reader) (counted old.reader) so_far.lines so_far.moved cut);
   heard = so_far.heard;
-  drawn = λ other. loses (draws_more (to_take first.reader) (to_take old.reader) still left a b so_far.drawn drawn);
+  drawn = loses (draws_more (to_take first.reader) (to_take old.reader) still left a b so_far.drawn drawn);
 }
 
 -- ---- a reply was sent
@@ -97,7 +98,6 @@ sending_part Memory stops whole = whole
 sending_part (BadVolume part) stops whole = whole
 sending_part (Damaged page want got) stops whole = whole
 sending_part ScriptLong stops whole = stops
-sending_part Down stops whole = whole
 
 -- The sending failed.
 pub broken_answer : {first old : Script} {left a b : Left} {had : List Exchange} {reading : Reading} (why : Stopped) → HasNext first left had old a → AsksOf (current old.reader) reading

@@ -1,27 +1,25 @@
 -- From a talk of a script to what its run promises.
 use Rattle.std.proofs.Common.{◌≡◌, ◌⊎◌, ◌∙◌, ◌≤◌, ◌<◌, ◌+◌, ℕ, Option, Some, None, Result, Ok, Err, OnOk, IfErr, List, [], ◌++◌, length, drop, inl, inr, ⊎_elim, refl, sym, ap, subst, arith}
 use Rattle.std.proofs.lemmas.List.{append-nil}
-use Rattle.std.specs.Prelude.{◌≢◌}
 use Rattle.disk_model.specs.Outside.{DiskOnly, Outside, Rose}
 use Rattle.table_model.specs.declared.table.Table.{Table}
-use Rattle.table_model.specs.Requests.{Request}
 use Rattle.script_lines.specs.Lines.{Line}
 use Rattle.script_lines.specs.Reader.{ahead, counted, to_take}
 use Rattle.script_lines.specs.Remains.{IfTold}
 use Rattle.script_lang.specs.Reading.{Reading, Silent, Asks, Fails}
 use Rattle.script_replies.specs.ReplyText.{text_of}
 use Rattle.session_views.specs.View.{View, Meaning}
-use Rattle.talks.specs.Headline.{SteppedTalk, TalkHeadline, Unopened}
+use Rattle.talks.specs.Headline.{SteppedTalk, TalkHeadline}
 use Rattle.talks.specs.Passage.{IsBroken, IsOver}
 use Rattle.talks.specs.Stops.{CausedBy, IsOpeningStop, IsSoundStop, IsWhole}
 use Rattle.talks.specs.Talking.{Exchange, HasTalked, Left}
-use Rattle.talks.specs.Transcript.{IsRunMoment, LastText, exchanges, request_in}
+use Rattle.talks.specs.Transcript.{LastText, exchanges, request_in}
 use Rattle.talks.specs.declared.stopped.Stopped.{Stopped}
-use Rattle.talks.specs.declared.stopped.Stopped.TheVariants.{Output, Disk, Memory, BadVolume, Damaged, ScriptLong, Down}
+use Rattle.talks.specs.declared.stopped.Stopped.TheVariants.{Output, Disk, Memory, BadVolume, Damaged, ScriptLong}
 use Rattle.talks.specs.declared.stopped.Stopped.TheVariants as stopped
-use Rattle.runs.specs.Headline.{AskedBy, FrontOfReply, Headline, LastReply, MayComplete, SteppedLines}
+use Rattle.runs.specs.Headline.{AskedBy, Headline, LastReply, MayComplete, SteppedLines}
 use Rattle.runs.specs.Heard.{Heard, LastAsks}
-use Rattle.runs.specs.Script.{Loses, TakenBy, line_if}
+use Rattle.runs.specs.Script.{TakenBy, line_if}
 use Rattle.runs.specs.ScriptTalk.{script_talking}
 use Rattle.runs.specs.Talked.{IsBrokenOff, IsRead}
 use Rattle.runs.specs.declared.script.Script.{Script}
@@ -140,17 +138,17 @@ long_script {before} {after} {first} most why none same broken long script told 
 
 -- The source loses no more than the reader may take.
 pub draws_of : {T : Type 0} (before after : Outside) (first : Script) (most : ℕ) (r : Result T Stopped) → to_take first.reader ≡ most + 1
-    → OnOk r (IsOver script_talking first before.left after.left) → IfErr r (HasBroken first before after) → r ≢ Err stopped.Script
+    → OnOk r (IsOver script_talking first before.left after.left) → IfErr r (HasBroken first before after)
     → (script : List ℕ) → before.left ≡ Some script → (n : ℕ) × (n ≤ most + 1) × (after.left ≡ Some (drop n script))
-draws_of before after first most (Ok x) may over broken differs script told =
+draws_of before after first most (Ok x) may over broken script told =
     let read : IsRead first before.left over.0 over.1 after.left = over.2 in
     let lost = read.drawn script told in (lost.0, omega (arith, lost.1, may), lost.2)
-draws_of before after first most (Err why) may over broken differs script told = ⊎_elim stepped (λ opening. (0, omega arith, opening.1.left ∙ told)) broken
+draws_of before after first most (Err why) may over broken script told = ⊎_elim stepped (λ opening. (0, omega arith, opening.1.left ∙ told)) broken
   where
     stepped : IsBroken script_talking first before.left why after.left → (n : ℕ) × (n ≤ most + 1) × (after.left ≡ Some (drop n script))
     stepped talk =
         let off : IsBrokenOff first before.left talk.0 talk.1 why after.left = talk.2 in
-        let lost = off.drawn (λ same. differs (ap (λ (w : Stopped). Err w) same)) script told in (lost.0, omega (arith, lost.1, may), lost.2)
+        let lost = off.drawn script told in (lost.0, omega (arith, lost.1, may), lost.2)
 
 -- ---- a run that isn't stopped from outside
 
@@ -164,7 +162,6 @@ memory_left Memory before after sound caused short read write disk = refl
 memory_left (BadVolume part) before after sound caused short read write disk = absurd sound
 memory_left (Damaged page want got) before after sound caused short read write disk = absurd sound
 memory_left stopped.ScriptLong before after sound caused short read write disk = absurd (short refl)
-memory_left Down before after sound caused short read write disk = absurd sound
 
 pub memory_if : {S : Type 0} {M : Meaning S} {before after : Outside} {most : ℕ} (why : Stopped) → MayComplete M before after most → IsSoundStop why → CausedBy why before after → (why ≡ ScriptLong → ⊥) → why ≡ Memory
 memory_if {S} {M} {before} {after} why may sound caused short = memory_left why before after sound caused short may.no_read_fault may.no_output_fault may.no_disk_fault

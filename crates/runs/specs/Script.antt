@@ -5,7 +5,7 @@ use Rattle.script_lines.specs.Remains.{Moves}
 use Rattle.script_lines.specs.Taking.{Takes}
 use Rattle.talks.specs.Talking.{Left}
 use Rattle.talks.specs.declared.stopped.Stopped.{Stopped}
-use Rattle.talks.specs.declared.stopped.Stopped.TheVariants.{Script, Output, Disk, Memory, BadVolume, Damaged, ScriptLong, Down}
+use Rattle.talks.specs.declared.stopped.Stopped.TheVariants.{Script, Output, Disk, Memory, BadVolume, Damaged, ScriptLong}
 
 -- These lines are the first ones of those.
 abbrev pub IsFrontOf : List Line → List Line → Type 0
@@ -32,7 +32,6 @@ TakenBy (Some Disk) most script lines = IsFrontOf lines (lines_of script)
 TakenBy (Some Memory) most script lines = IsFrontOf lines (lines_of script)
 TakenBy (Some (BadVolume part)) most script lines = IsFrontOf lines (lines_of script)
 TakenBy (Some (Damaged page want got)) most script lines = IsFrontOf lines (lines_of script)
-TakenBy (Some Down) most script lines = IsFrontOf lines (lines_of script)
 
 -- the lines that were taken, with what stands in the reader and in the source
 abbrev pub HasMoved : List ℕ → Left → ℕ → List Line → List ℕ → Left → ℕ → Type 0

@@ -3,11 +3,11 @@ use Rattle.std.proofs.Common.{◌≡◌, ◌∙◌, ℕ, Option, Some, None, Lis
 use Rattle.std.specs.Prelude.{◌≢◌}
 use Rattle.std.proofs.lemmas.List.{append-nil}
 use Rattle.script_lines.specs.Lines.{Line, lines_of, lines_within}
-use Rattle.script_lines.specs.Remains.{Remains, Draws, IfTold, Moves}
+use Rattle.script_lines.specs.Remains.{Remains, Draws, IfTold}
 use Rattle.script_lines.specs.Taking.{IsCut, TakesLine, Takes}
 use Rattle.script_lines.proofs.Buffers.{draws_trans}
 use Rattle.talks.specs.declared.stopped.Stopped.{Stopped}
-use Rattle.talks.specs.declared.stopped.Stopped.TheVariants.{Script, Output, Disk, Memory, BadVolume, Damaged, ScriptLong, Down}
+use Rattle.talks.specs.declared.stopped.Stopped.TheVariants.{Script, Output, Disk, Memory, BadVolume, Damaged, ScriptLong}
 use Rattle.talks.specs.Stops.{IsPart}
 use Rattle.talks.specs.Talking.{Left}
 use Rattle.runs.specs.Script.{HasTaken, HasMoved, IsFrontOf, Loses, TakenBy, TakesNext}
@@ -49,7 +49,6 @@ taken_part Memory most script lines part front = front
 taken_part (BadVolume part_of) most script lines part front = front
 taken_part (Damaged page want got) most script lines part front = front
 taken_part ScriptLong most script lines part front = absurd (part tt)
-taken_part Down most script lines part front = front
 
 -- All lines are some of the first ones.
 pub part_of_whole : (why : Stopped) (most : ℕ) (script : List ℕ) (lines : List Line) → IsPart why → TakenBy None most script lines → TakenBy (Some why) most script lines

@@ -1,5 +1,5 @@
 -- The laws of a script as a talk.
-use Rattle.std.proofs.Common.{◌≡◌, ◌⊎◌, ◌∙◌, Option, Some, None, List, [], ◌∷◌, ◌++◌, inl, inr, ⊎_elim, refl, sym, ap, subst}
+use Rattle.std.proofs.Common.{◌≡◌, ◌∙◌, Option, Some, None, List, [], ◌∷◌, ◌++◌, inl, inr, ⊎_elim, refl, sym, ap, subst}
 use Rattle.std.proofs.lemmas.List.{append-nil}
 use Rattle.table_model.specs.declared.reply.Reply.{Reply}
 use Rattle.script_lines.specs.Lines.{Line}
@@ -61,7 +61,7 @@ stopped first now left at had reading why waits asks part = record {
   complete = λ whole. absurd (part whole);
   script = told_part (ahead first.reader) (ahead now.reader) left at (counted first.reader) (counted now.reader) (waits.lines ++ waits.next ∷ []) why waits.moved part;
   heard = waits.heard;
-  drawn = λ other. loses waits.drawn;
+  drawn = loses waits.drawn;
 }
 
 pub ended : (first now : Script) (left at : Left) (had : List Exchange) (why : Stopped) → IsRead first left had now at → IsPart why → IsBrokenOff first left had None why at
@@ -74,7 +74,7 @@ ended first now left at had why over part = record {
     each = λ bytes told. taken_part why (counted first.reader) bytes (over.lines ++ []) part ([], sym ((over.script.each bytes told).0) ∙ sym (append-nil over.lines) ∙ sym (append-nil (over.lines ++ [])));
   };
   heard = over.heard;
-  drawn = λ other. over.drawn;
+  drawn = over.drawn;
 }
 
 pub tells : (script : Script) (told : Reply) → IsReply told → IsLine told × (text_of told ≡ text_of told)

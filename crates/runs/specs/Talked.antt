@@ -7,7 +7,6 @@ use Rattle.script_lang.specs.Reading.{Reading}
 use Rattle.talks.specs.Stops.{IsWhole}
 use Rattle.talks.specs.Talking.{Exchange, Left}
 use Rattle.talks.specs.declared.stopped.Stopped.{Stopped}
-use Rattle.talks.specs.declared.stopped.Stopped.TheVariants as stopped
 use Rattle.runs.specs.Heard.{Heard, LastAsks}
 use Rattle.runs.specs.Script.{HasMoved, Loses, TakenBy, line_if}
 use Rattle.runs.specs.declared.script.Script.{Script}
@@ -44,4 +43,4 @@ pub record IsBrokenOff (first : Script) (left : Left) (had : List Exchange) (las
   pub complete : IsWhole (Some why) → next ≡ None
   pub script : IfTold (ahead first.reader) left (λ bytes. TakenBy (Some why) (counted first.reader) bytes (lines ++ line_if next))
   pub heard : Heard lines had
-  pub drawn : (why ≡ stopped.Script → ⊥) → Loses (to_take first.reader) left at
+  pub drawn : Loses (to_take first.reader) left at

@@ -1,9 +1,9 @@
 //! A whole run of a script.
-ghost use Rattle.std.specs.Prelude.{◌≡◌, ◌≢◌, ◌≤◌, ◌<◌, ◌+◌, ℕ, List, [], None, Some, Err, IsTrue, OnOk, IfErr, drop, length};
-ghost use Rattle.disk_model.specs.Outside.{DiskOnly, Goes, Only};
+ghost use Rattle.std.specs.Prelude.{◌≡◌, ◌≤◌, ◌<◌, ◌+◌, ℕ, List, [], None, Some, Err, IsTrue, OnOk, IfErr, drop, length};
+ghost use Rattle.disk_model.specs.Outside.{Goes, Only, WritesNothing};
 ghost use Rattle.table_model.specs.declared.table.Table.{Table};
 ghost use Rattle.session_views.specs.declared.Part.{Part};
-ghost use Rattle.talks.specs.Headline.{HoldsTable, LeftUnopened, RunStarts};
+ghost use Rattle.talks.specs.Headline.{HoldsTable, RunStarts};
 ghost use Rattle.talks.specs.Stops.{CausedBy, IsOpeningStop, IsSoundStop};
 ghost use Rattle.runs.specs.Headline.{Headline, MayComplete};
 
@@ -44,27 +44,24 @@ pub fn run_volume<E: Opener + Drop, H: Host>(
     ensures script_long { result ≡ Err Stopped.ScriptLong → (script : List ℕ)
         → (H.outside host.old).left ≡ Some script → max_bytes < length script }
 
-    // The source loses one byte more than count at most, but where it failed.
-    ensures drawn { result ≢ Err Stopped.Script → (script : List ℕ)
-        → (H.outside host.old).left ≡ Some script
+    // The source loses a front, of one byte more than count at most, however the run ends.
+    ensures drawn { (script : List ℕ) → (H.outside host.old).left ≡ Some script
         → (n : ℕ) × (n ≤ max_bytes + 1) × ((H.outside host.new).left ≡ Some (drop n script)) }
 
-    // The disk holds no volume exactly where a part of it fails. Then nothing is sent, no line is taken, and nothing is written.
+    // The disk holds no volume exactly where a part of it fails. Then nothing is sent, no line is taken, and nothing is written, whatever is answered.
     ensures bad { (part : Part) → result ≡ Err (Stopped.BadVolume part) → (image : List ℕ)
         → (H.outside host.old).disk ≡ Some image → E.meaning.FirstBad image part }
     ensures bad_only { (part : Part) → result ≡ Err (Stopped.BadVolume part)
-        → DiskOnly (H.outside host.old) (H.outside host.new) }
+        → WritesNothing (H.outside host.old) (H.outside host.new) }
     ensures bad_kept { (part : Part) → result ≡ Err (Stopped.BadVolume part) → (image : List ℕ)
         → IsTrue (H.outside host.old).honest
         → (H.outside host.old).disk ≡ Some image → ((H.outside host.new).disk ≡ Some image)
         × Only image (H.outside host.new).images }
-    ensures unopened { (image : List ℕ) (part : Part) → IsTrue (H.outside host.old).honest
-        → (H.outside host.old).disk ≡ Some image
+    ensures unopened { (image : List ℕ) (part : Part) → (H.outside host.old).disk ≡ Some image
         → E.meaning.FirstBad image part → (why : Stopped) × (result ≡ Err why) × IsOpeningStop why }
-    ensures left { (image : List ℕ) (part : Part) → IsTrue (H.outside host.old).honest
-        → (H.outside host.old).disk ≡ Some image
+    ensures left { (image : List ℕ) (part : Part) → (H.outside host.old).disk ≡ Some image
         → E.meaning.FirstBad image part
-        → LeftUnopened image (H.outside host.old) (H.outside host.new) }
+        → WritesNothing (H.outside host.old) (H.outside host.new) }
 
     // On a volume nothing but a fault of the outside, want of memory or too long a script stops a run, and without those it reaches the end.
     ensures sound { (table : Table) (was : List ℕ)

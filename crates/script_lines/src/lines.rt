@@ -51,10 +51,7 @@ impl Lines {
             (ahead self.new) (S.outside source.new).left
             (λ script rest. Takes (counted self.old) script (current self.new)
             (counted self.new) rest)) }
-        ensures drawn { OnOk result (Draws (to_take self.old) (S.outside source.old).left
-            (to_take self.new) (S.outside source.new).left) }
-        ensures drawn_too_much { result ≡ Err LineFault.TooMuch
-            → Draws (to_take self.old) (S.outside source.old).left (to_take self.new)
+        ensures drawn { Draws (to_take self.old) (S.outside source.old).left (to_take self.new)
             (S.outside source.new).left }
         ensures none { OnErr result (current self.new ≡ None) }
         ensures fewer { OnOk result (IfSome (current self.new) (λ line. counted self.new
@@ -81,12 +78,9 @@ impl Lines {
         ensures* takes { sem 𝓛 (ReaderRests self.entry (λ new.
             IfOk result (λ line. Moves (ahead self.old) (S.outside source.old).left (ahead new)
             (S.outside source.new).left
-            (λ script rest. Takes (counted self.old) script (line_lent line) (counted new) rest)
+            (λ script rest. Takes (counted self.old) script (line_lent line) (counted new) rest))
             × Draws (to_take self.old) (S.outside source.old).left (to_take new)
-            (S.outside source.new).left)
-            × (result ≡ Err LineFault.TooMuch
-            → Draws (to_take self.old) (S.outside source.old).left (to_take new)
-            (S.outside source.new).left))) }
+            (S.outside source.new).left)) }
         ensures only { SourceOnly (S.outside source.old) (S.outside source.new) }
         ensures read { result ≡ Err LineFault.Read
             → Rose (S.outside source.old).read_faults (S.outside source.new).read_faults }

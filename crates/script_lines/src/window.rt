@@ -42,6 +42,7 @@ fn take_at<S: Source>(
         × ((S.outside source.new).left ≡ Some (drop n was))) }
     ensures end { IfOk result (λ n. n ≡ 0 → (was : List ℕ) → (S.outside source.old).left ≡ Some was
         → was ≡ []) }
+    ensures failed { OnErr result ((S.outside source.new).left ≡ (S.outside source.old).left) }
 {
     match source.take(&mut buffer[at..at + more]) {
         Ok(n) => Ok(n),
@@ -188,8 +189,8 @@ impl Window {
         ensures same { IfOk result (λ came. came ≡ false → held self.new ≡ held self.old) }
         ensures none { IfOk result (λ came. came ≡ false
             → AllHere (held self.old) (S.outside source.old).left (held self.new)) }
-        ensures drawn { OnOk result (Draws (may_take self.old) (S.outside source.old).left
-            (may_take self.new) (S.outside source.new).left) }
+        ensures drawn { Draws (may_take self.old) (S.outside source.old).left (may_take self.new)
+            (S.outside source.new).left }
     {
         self.make_room();
         let end = self.end;
@@ -216,8 +217,8 @@ impl Window {
             (held self.new) (S.outside source.new).left) }
         ensures rest { IfOk result (λ found. found ≡ None
             → AllHere (held self.old) (S.outside source.old).left (held self.new)) }
-        ensures drawn { OnOk result (Draws (may_take self.old) (S.outside source.old).left
-            (may_take self.new) (S.outside source.new).left) }
+        ensures drawn { Draws (may_take self.old) (S.outside source.old).left (may_take self.new)
+            (S.outside source.new).left }
     {
         let mut clear = 0;
         'gathered: loop {
@@ -288,6 +289,7 @@ impl Window {
         }
     }
 
+    #[tactic(auto, using(crate::proofs::Buffers::draws_trans))]
     /// Passes the rest of a line that is too long.
     fn skip<S: Source>(&mut self, source: &mut S) -> Result<(), LineFault>
         ensures only { SourceOnly (S.outside source.old) (S.outside source.new) }
@@ -298,10 +300,7 @@ impl Window {
             (λ script rest. Passes self.old.allowed script self.new.allowed rest)) }
         ensures clear { result ≡ Err LineFault.TooMuch
             → IfTold (held self.old) (S.outside source.old).left (IsClear self.old.allowed) }
-        ensures drawn { OnOk result (Draws (may_take self.old) (S.outside source.old).left
-            (may_take self.new) (S.outside source.new).left) }
-        ensures drawn_clear { result ≡ Err LineFault.TooMuch
-            → Draws (may_take self.old) (S.outside source.old).left (may_take self.new)
+        ensures drawn { Draws (may_take self.old) (S.outside source.old).left (may_take self.new)
             (S.outside source.new).left }
         ensures no_more { OnOk result (self.new.allowed ≤ self.old.allowed) }
     {
@@ -332,10 +331,7 @@ impl Window {
             (shown_in self.new.buffer.items shown) self.new.allowed rest)) }
         ensures clear { result ≡ Err LineFault.TooMuch
             → IfTold (held self.old) (S.outside source.old).left (IsClear self.old.allowed) }
-        ensures drawn { OnOk result (Draws (may_take self.old) (S.outside source.old).left
-            (may_take self.new) (S.outside source.new).left) }
-        ensures drawn_clear { result ≡ Err LineFault.TooMuch
-            → Draws (may_take self.old) (S.outside source.old).left (may_take self.new)
+        ensures drawn { Draws (may_take self.old) (S.outside source.old).left (may_take self.new)
             (S.outside source.new).left }
         ensures fewer { IfOk result (λ shown. IfSome (shown_in self.new.buffer.items shown)
             (λ line. self.new.allowed < self.old.allowed)) }

@@ -1,21 +1,13 @@
--- What the opening of a volume gives, and what a crash in it leaves.
+-- The machine that an opening gives, and what a crash in it leaves.
 use Rattle.std.specs.Prelude.{◌≡◌, ◌⊎◌, ℕ, List}
-use Rattle.disk_model.specs.Outside.{Outside}
 use Rattle.table_model.specs.declared.table.Table.{Table}
 use Rattle.table_model.specs.declared.machine.Machine.{Machine}
 use Rattle.table_model.specs.Machines.{start}
-use Rattle.session_views.specs.View.{View, Meaning, ShowsNow}
+use Rattle.session_views.specs.View.{Meaning}
 
 -- The machine before the first line: the table is committed, and nothing else is there.
 pub record IsStart (m : Machine) (table : Table) : Type 0 where
   pub is : m ≡ start m.geometry table m.pages_used m.segs_used
-
--- The volume was opened: the view shows the table, with nothing else, on what stands outside.
-pub record Opened {S : Type 0} (M : Meaning S) (table : Table) (session : S) (w : Outside) : Type 0 where
-  pub view : View S
-  pub is : view.session ≡ session
-  pub starts : IsStart view.machine table
-  pub shows : ShowsNow M w view
 
 -- The image stands for a table for which the other one stands too.
 pub record SameTable {S : Type 0} (M : Meaning S) (image other : List ℕ) : Type 0 where

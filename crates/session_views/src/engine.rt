@@ -1,5 +1,5 @@
 //! What a run needs of a session.
-ghost use Rattle.std.specs.Prelude.{◌≡◌, ◌≢◌, ◌⊎◌, Err, IsTrue, IfOk};
+ghost use Rattle.std.specs.Prelude.{◌≡◌, ◌≢◌, ◌⊎◌, Err, IsTrue, IfOk, OnOk};
 ghost use Rattle.disk_model.specs.Outside.{DiskOnly, Leaves, Rose};
 ghost use Rattle.table_model.specs.Built.{is_built};
 ghost use Rattle.table_model.specs.Requests.{request_of, is_request};
@@ -27,6 +27,9 @@ pub enum Stop {
 pub trait Engine {
     /// When a session shows a volume, and what it decides.
     ghost meaning: { Meaning Self };
+
+    /// No step of it met a fault.
+    ghost up: { Self → Type 0 };
 
     /// Steps on a command that is built, to its reply. Refusals are replies.
     fn step<H: Host>(
@@ -58,5 +61,9 @@ pub trait Engine {
         ensures any_moment { (before : View Self) → before.session ≡ self.old
             → ShowsNow meaning (H.outside host.old) before
             → Leaves (H.outside host.old) (H.outside host.new) (StandsDuring meaning before.machine
-            (request_of command.now)) };
+            (request_of command.now)) }
+
+        // Only a session that isn't up says that it is down, and one that replied is up.
+        ensures was_down { result ≡ Err Stop.Down → up self.old → ⊥ }
+        ensures stays_up { OnOk result (up self.new) };
 }

@@ -6,5 +6,5 @@ mod opener;
 mod part;
 
 pub use engine::{Engine, Stop};
-pub use opener::{OpenFault, Opener};
+pub use opener::OpenFault;
 pub use part::Part;

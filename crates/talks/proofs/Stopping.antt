@@ -1,5 +1,9 @@
 -- Why a run stops, by cases.
-use Rattle.std.proofs.Common.{◌≡◌, ◌⊎◌, IfErr, Result, Ok, Err, inl, inr, refl, sym, subst, arith}
+use Rattle.std.proofs.Common.{◌≡◌, ◌⊎◌, IfErr, Result, Ok, Err, Some, inl, inr, refl, sym, subst, arith}
+use Rattle.std.specs.Prelude.{◌≢◌}
+use Rattle.std.proofs.lemmas.Option.{same_Some}
+use Rattle.ex_base.specs.declared.names.PageNo.{PageNo}
+use Rattle.ex_base.specs.declared.faults.Seen.{Seen}
 use Rattle.disk_model.specs.Outside.{Outside, Rose, Goes}
 use Rattle.session_views.specs.declared.Part.{Part}
 use Rattle.session_views.specs.declared.Stop.{Stop}
@@ -7,16 +11,16 @@ use Rattle.session_views.specs.declared.Stop.TheVariants as stop
 use Rattle.session_views.specs.declared.OpenFault.{OpenFault}
 use Rattle.session_views.specs.declared.OpenFault.TheVariants as open_fault
 use Rattle.talks.specs.declared.stopped.Stopped.{Stopped}
-use Rattle.talks.specs.declared.stopped.Stopped.TheVariants.{Script, Output, Disk, Memory, BadVolume, Damaged, ScriptLong, Down}
+use Rattle.talks.specs.declared.stopped.Stopped.TheVariants.{Script, Output, Disk, Memory, BadVolume, Damaged, ScriptLong}
 use Rattle.talks.specs.Stops.{stop_as, unopened_as, CausedBy, IsSoundStop, IsOpeningStop, IsSessionStop, IsTakingStop, IsSendingStop, IsLinesStop, IsPart}
 
 -- ---- what a stop is
 
-pub session_stop : (s : Stop) → IsSessionStop (stop_as s)
-session_stop stop.Memory = tt
-session_stop stop.Disk = tt
-session_stop (stop.Damaged page want got) = tt
-session_stop stop.Down = tt
+pub session_stop : (s : Stop) (why : Stopped) → Some why ≡ stop_as s → IsSessionStop why
+session_stop stop.Memory why is = subst IsSessionStop (sym (same_Some why Memory is)) tt
+session_stop stop.Disk why is = subst IsSessionStop (sym (same_Some why Disk is)) tt
+session_stop (stop.Damaged page want got) why is = subst IsSessionStop (sym (same_Some why (Damaged page want got) is)) tt
+session_stop stop.Down why is = absurd (cc)
 
 pub opening_stop : (f : OpenFault) → IsOpeningStop (unopened_as f)
 opening_stop open_fault.Memory = tt
@@ -31,7 +35,6 @@ session_part Memory stops whole = whole
 session_part (BadVolume part) stops whole = whole
 session_part (Damaged page want got) stops whole = whole
 session_part ScriptLong stops whole = stops
-session_part Down stops whole = whole
 
 pub taking_lines : (why : Stopped) → IsTakingStop why → IsLinesStop why
 taking_lines Script stops = tt
@@ -41,7 +44,6 @@ taking_lines Memory stops = tt
 taking_lines (BadVolume part) stops = stops
 taking_lines (Damaged page want got) stops = tt
 taking_lines ScriptLong stops = tt
-taking_lines Down stops = tt
 
 pub taking_sound : (why : Stopped) → IsTakingStop why → IsSoundStop why
 taking_sound Script stops = tt
@@ -51,7 +53,6 @@ taking_sound Memory stops = tt
 taking_sound (BadVolume part) stops = stops
 taking_sound (Damaged page want got) stops = stops
 taking_sound ScriptLong stops = tt
-taking_sound Down stops = stops
 
 pub sending_sound : (why : Stopped) → IsSendingStop why → IsSoundStop why
 sending_sound Script stops = tt
@@ -61,7 +62,6 @@ sending_sound Memory stops = tt
 sending_sound (BadVolume part) stops = stops
 sending_sound (Damaged page want got) stops = stops
 sending_sound ScriptLong stops = tt
-sending_sound Down stops = stops
 
 pub sending_lines : (why : Stopped) → IsSendingStop why → IsLinesStop why
 sending_lines Script stops = tt
@@ -71,34 +71,27 @@ sending_lines Memory stops = tt
 sending_lines (BadVolume part) stops = stops
 sending_lines (Damaged page want got) stops = tt
 sending_lines ScriptLong stops = tt
-sending_lines Down stops = tt
 
-pub session_lines : (s : Stop) → IsLinesStop (stop_as s)
-session_lines stop.Memory = tt
-session_lines stop.Disk = tt
-session_lines (stop.Damaged page want got) = tt
-session_lines stop.Down = tt
-
-pub bad_fault : (f : OpenFault) (part : Part) → unopened_as f ≡ BadVolume part → f ≡ open_fault.BadVolume part
-bad_fault open_fault.Memory part is = absurd (cc)
-bad_fault open_fault.Disk part is = absurd (cc)
-bad_fault (open_fault.BadVolume p) part is = cc
+pub session_lines : (why : Stopped) → IsSessionStop why → IsLinesStop why
+session_lines Script stops = tt
+session_lines Output stops = tt
+session_lines Disk stops = tt
+session_lines Memory stops = tt
+session_lines (BadVolume part) stops = stops
+session_lines (Damaged page want got) stops = tt
+session_lines ScriptLong stops = tt
 
 pub opening_sound : (f : OpenFault) → ((part : Part) → f ≡ open_fault.BadVolume part → ⊥) → IsSoundStop (unopened_as f)
 opening_sound open_fault.Memory good = tt
 opening_sound open_fault.Disk good = tt
 opening_sound (open_fault.BadVolume part) good = good part refl
 
--- A session and a talk stop by no bad volume.
-pub lines_good : (why : Stopped) (part : Part) → IsLinesStop why → why ≡ BadVolume part → ⊥
-lines_good why part stops is = subst IsLinesStop is stops
-
-pub session_good : (why : Stopped) (part : Part) → IsSessionStop why → why ≡ BadVolume part → ⊥
-session_good why part stops is = subst IsSessionStop is stops
-
-pub disk_or_memory : (s : Stop) → (s ≡ stop.Disk) ⊎ (s ≡ stop.Memory) → IsSoundStop (stop_as s)
-disk_or_memory s (inl disk) = subst (λ (x : Stop). IsSoundStop (stop_as x)) (sym disk) tt
-disk_or_memory s (inr memory) = subst (λ (x : Stop). IsSoundStop (stop_as x)) (sym memory) tt
+pub disk_or_memory : (s : Stop) (why : Stopped) → Some why ≡ stop_as s → (s ≡ stop.Disk) ⊎ (s ≡ stop.Memory) → IsSoundStop why
+disk_or_memory stop.Memory why is one = subst IsSoundStop (sym (same_Some why Memory is)) tt
+disk_or_memory stop.Disk why is one = subst IsSoundStop (sym (same_Some why Disk is)) tt
+disk_or_memory (stop.Damaged page want got) why is (inl disk) = absurd (cc)
+disk_or_memory (stop.Damaged page want got) why is (inr memory) = absurd (cc)
+disk_or_memory stop.Down why is one = absurd (cc)
 
 -- ---- what shows of it
 
@@ -106,6 +99,15 @@ pub opening_caused : (f : OpenFault) (before after : Outside) → (f ≡ open_fa
 opening_caused open_fault.Memory before after disk = tt
 opening_caused open_fault.Disk before after disk = disk refl
 opening_caused (open_fault.BadVolume part) before after disk = tt
+
+-- what a session's stop shows
+pub session_caused : (s : Stop) (why : Stopped) (before after : Outside) → Some why ≡ stop_as s → (s ≡ stop.Disk → Rose before.disk_faults after.disk_faults)
+    → ((page : PageNo) (want got : Seen) → s ≡ stop.Damaged page want got → want ≢ got) → CausedBy why before after
+session_caused stop.Memory why before after is disk damaged = subst (λ (w : Stopped). CausedBy w before after) (sym (same_Some why Memory is)) tt
+session_caused stop.Disk why before after is disk damaged = subst (λ (w : Stopped). CausedBy w before after) (sym (same_Some why Disk is)) (disk refl)
+session_caused (stop.Damaged page want got) why before after is disk damaged =
+    subst (λ (w : Stopped). CausedBy w before after) (sym (same_Some why (Damaged page want got) is)) (damaged page want got refl)
+session_caused stop.Down why before after is disk damaged = absurd (cc)
 
 -- A fault that came later came since each earlier time.
 pub caused_later : (why : Stopped) (a b c : Outside) → Goes a b → CausedBy why b c → CausedBy why a c
@@ -116,7 +118,6 @@ caused_later Memory a b c goes caused = tt
 caused_later (BadVolume part) a b c goes caused = tt
 caused_later (Damaged page want got) a b c goes caused = caused
 caused_later ScriptLong a b c goes caused = tt
-caused_later Down a b c goes caused = tt
 
 -- ---- results
 

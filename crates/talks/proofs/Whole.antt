@@ -1,5 +1,5 @@
 -- From the opening of a volume to the end of its run.
-use Rattle.std.proofs.Common.{◌≡◌, ◌⊎◌, ◌∙◌, ℕ, Option, Some, None, List, [], ◌∷◌, ◌++◌, refl, sym, ap, subst, inl, inr, ⊎_elim}
+use Rattle.std.proofs.Common.{◌≡◌, ◌∙◌, ℕ, Option, Some, None, List, [], ◌∷◌, ◌++◌, refl, sym, ap, subst, inl, ⊎_elim}
 use Rattle.std.proofs.lemmas.List.{append-nil}
 use Rattle.std.proofs.lemmas.Option.{same_Some}
 use Rattle.disk_model.specs.Outside.{Outside, IsWorld, DiskOnly, Goes, Along, Leaves}
@@ -8,12 +8,11 @@ use Rattle.table_model.specs.declared.table.Table.{Table}
 use Rattle.table_model.specs.declared.machine.Machine.{Machine}
 use Rattle.table_model.specs.Requests.{Request}
 use Rattle.script_lang.specs.Reading.{Reading}
-use Rattle.session_views.specs.declared.Part.{Part}
 use Rattle.session_views.specs.View.{View, Meaning}
 use Rattle.session_views.specs.Opening.{StandsOpening}
 use Rattle.talks.specs.Opening.{Opened}
 use Rattle.talks.specs.Acking.{Acking}
-use Rattle.talks.specs.Headline.{HoldsTable, RunStarts, OpenedAt, SteppedTalk, Unopened, LeftUnopened}
+use Rattle.talks.specs.Headline.{HoldsTable, RunStarts, OpenedAt, SteppedTalk, Unopened}
 use Rattle.talks.specs.Stops.{IsOpeningStop}
 use Rattle.talks.specs.Talking.{Exchange, Talking}
 use Rattle.talks.specs.Transcript.{Row, Committed, IsRunMoment, Opens, Reached, CutShort, Ended, output_of, request_in}
@@ -40,15 +39,6 @@ leaves_table {S} {M} {entry} {mid} {table} {was} starts leaves =
   where
     as_entry : (d : List ℕ) → d ≡ starts.on.image → M.StandsFor d table
     as_entry d same = subst (λ (x : List ℕ). M.StandsFor x table) (sym same) starts.on.stands
-
--- The opening of what is no volume leaves what could be left before, and what the disk holds.
-pub left_unopened : {S : Type 0} (M : Meaning S) {entry mid : Outside} (image : List ℕ) (part : Part) → M.FirstBad image part
-    → DiskOnly entry mid → Leaves entry mid (StandsOpening M entry.images image) → LeftUnopened image entry mid
-left_unopened {S} M {entry} {mid} image part bad only leaves = record {
-  only = only;
-  moments = leaves_wider (StandsOpening M entry.images image) (λ d. entry.images d ⊎ (d ≡ image)) leaves
-      (λ d here. ⊎_elim (λ early. inl early) (λ later. ⊎_elim (λ same. inr same) (λ stands. absurd (M.no_table image stands.table part stands.was bad)) later) here);
-}
 
 -- ---- the opening of a run
 

@@ -1,6 +1,6 @@
 -- What a whole run promises, from the opening of the volume to the last line that was taken.
 use Rattle.std.specs.Prelude.{◌≡◌, ◌⊎◌, ◌≤◌, ℕ, IsTrue, Option, Some, None, List, [], ◌++◌}
-use Rattle.disk_model.specs.Outside.{Outside, Along, DiskOnly, Leaves, Only}
+use Rattle.disk_model.specs.Outside.{Outside, Along, Only}
 use Rattle.table_model.specs.declared.table.Table.{Table}
 use Rattle.script_lang.specs.Reading.{Reading}
 use Rattle.session_views.specs.View.{View, Meaning}
@@ -62,12 +62,6 @@ pub record Unopened {S : Type 0} (M : Meaning S) (table : Table) (was : List ℕ
   pub sent : now.sent ≡ Some was
   pub left : now.left ≡ entry.left
   pub stops : Along entry now (λ s d. (s ≡ was) × M.StandsFor d table)
-
--- What stands on the disk is no volume, and it was read at most: nothing was sent and no byte of the source taken, and a crash leaves what it could
--- leave before, or what the disk held.
-pub record LeftUnopened (image : List ℕ) (entry now : Outside) : Type 0 where
-  pub only : DiskOnly entry now
-  pub moments : Leaves entry now (λ d. entry.images d ⊎ (d ≡ image))
 
 -- what a run promises, given how it ends
 abbrev pub TalkHeadline : {S T : Type 0} → Meaning S → (View S → Type 0) → Talking T → T → Table → List ℕ → Outside → Outside → Option Stopped → Type 0

@@ -6,14 +6,14 @@ use Rattle.session_views.specs.declared.Stop.TheVariants as stop
 use Rattle.session_views.specs.declared.OpenFault.{OpenFault}
 use Rattle.session_views.specs.declared.OpenFault.TheVariants as open_fault
 use Rattle.talks.specs.declared.stopped.Stopped.{Stopped}
-use Rattle.talks.specs.declared.stopped.Stopped.TheVariants.{Script, Output, Disk, Memory, BadVolume, Damaged, ScriptLong, Down}
+use Rattle.talks.specs.declared.stopped.Stopped.TheVariants.{Script, Output, Disk, Memory, BadVolume, Damaged, ScriptLong}
 
--- a session's stop, as a run ends by it
-abbrev pub stop_as : Stop → Stopped
-stop_as stop.Memory = Memory
-stop_as stop.Disk = Disk
-stop_as (stop.Damaged page want got) = Damaged page want got
-stop_as stop.Down = Down
+-- a session's stop, as a run ends by it; none where the session was down before, which a run never meets
+abbrev pub stop_as : Stop → Option Stopped
+stop_as stop.Memory = Some Memory
+stop_as stop.Disk = Some Disk
+stop_as (stop.Damaged page want got) = Some (Damaged page want got)
+stop_as stop.Down = None
 
 -- a fault of an opening, as a run ends by it
 abbrev pub unopened_as : OpenFault → Stopped
@@ -30,7 +30,6 @@ CausedBy Memory before after = ⊤
 CausedBy (BadVolume part) before after = ⊤
 CausedBy (Damaged page want got) before after = want ≢ got
 CausedBy ScriptLong before after = ⊤
-CausedBy Down before after = ⊤
 
 -- what may stop a run on a volume: a fault of the outside, want of memory, or too long a script
 abbrev pub IsSoundStop : Stopped → Type 0
@@ -41,7 +40,6 @@ IsSoundStop Memory = ⊤
 IsSoundStop (BadVolume part) = ⊥
 IsSoundStop (Damaged page want got) = ⊥
 IsSoundStop ScriptLong = ⊤
-IsSoundStop Down = ⊥
 
 -- what may stop the opening of a volume
 abbrev pub IsOpeningStop : Stopped → Type 0
@@ -52,7 +50,6 @@ IsOpeningStop Memory = ⊤
 IsOpeningStop (BadVolume part) = ⊤
 IsOpeningStop (Damaged page want got) = ⊥
 IsOpeningStop ScriptLong = ⊥
-IsOpeningStop Down = ⊥
 
 -- what may stop a step of a session
 abbrev pub IsSessionStop : Stopped → Type 0
@@ -63,7 +60,6 @@ IsSessionStop Memory = ⊤
 IsSessionStop (BadVolume part) = ⊥
 IsSessionStop (Damaged page want got) = ⊤
 IsSessionStop ScriptLong = ⊥
-IsSessionStop Down = ⊤
 
 -- what may stop the taking of a line
 abbrev pub IsTakingStop : Stopped → Type 0
@@ -74,7 +70,6 @@ IsTakingStop Memory = ⊤
 IsTakingStop (BadVolume part) = ⊥
 IsTakingStop (Damaged page want got) = ⊥
 IsTakingStop ScriptLong = ⊤
-IsTakingStop Down = ⊥
 
 -- what may stop the sending of a reply
 abbrev pub IsSendingStop : Stopped → Type 0
@@ -85,7 +80,6 @@ IsSendingStop Memory = ⊤
 IsSendingStop (BadVolume part) = ⊥
 IsSendingStop (Damaged page want got) = ⊥
 IsSendingStop ScriptLong = ⊥
-IsSendingStop Down = ⊥
 
 -- what may stop the stepping of lines
 abbrev pub IsLinesStop : Stopped → Type 0
@@ -96,7 +90,6 @@ IsLinesStop Memory = ⊤
 IsLinesStop (BadVolume part) = ⊥
 IsLinesStop (Damaged page want got) = ⊤
 IsLinesStop ScriptLong = ⊤
-IsLinesStop Down = ⊤
 
 -- The run answered each line that it took: it reached the end of the script (None), or of what counts of it.
 abbrev pub IsWhole : Option Stopped → Type 0
@@ -108,7 +101,6 @@ IsWhole (Some Disk) = ⊥
 IsWhole (Some Memory) = ⊥
 IsWhole (Some (BadVolume part)) = ⊥
 IsWhole (Some (Damaged page want got)) = ⊥
-IsWhole (Some Down) = ⊥
 
 -- A stop that leaves lines unanswered.
 abbrev pub IsPart : Stopped → Type 0

@@ -17,6 +17,7 @@ pub(crate) fn abort_open<E: Engine, H: Host>(
     session: &mut E,
     host: &mut H,
 ) -> Result<(), Stopped>
+    requires up { E.up session.old }
     ensures only { DiskOnly (H.outside host.old) (H.outside host.new) }
     ensures caused { IfErr result (λ why. CausedBy why (H.outside host.old) (H.outside host.new)) }
     ensures stops { IfErr result IsSessionStop }

@@ -20,7 +20,9 @@ pub(crate) fn step_lines<E: Engine, T: Talk, H: Host>(
     talk: &mut T,
     host: &mut H,
 ) -> Result<(), Stopped>
+    requires up { E.up session.old }
     ensures goes { Goes (H.outside host.old) (H.outside host.new) }
+    ensures up { OnOk result (E.up session.new) }
     ensures whole { OnOk result (Ran E.meaning T.talking (H.outside host.old)
         (H.outside host.new) session.old session.new talk.old talk.new) }
     ensures cut { IfErr result (λ why. WasCut E.meaning T.talking (H.outside host.old)

@@ -1,6 +1,6 @@
 //! What a run needs of the opening of a volume.
 ghost use Rattle.std.specs.Prelude.{◌≡◌, List, ℕ, Some, Err, IsTrue, IfOk, OnOk};
-ghost use Rattle.disk_model.specs.Outside.{DiskOnly, Leaves, Only, Rose};
+ghost use Rattle.disk_model.specs.Outside.{DiskOnly, Leaves, Only, Rose, WritesNothing};
 ghost use Rattle.table_model.specs.declared.table.Table.{Table};
 ghost use Rattle.session_views.specs.declared.Part.{Part};
 ghost use Rattle.session_views.specs.Opening.{StandsOpening};
@@ -16,16 +16,16 @@ pub trait Opener: Engine {
     /// The view is of a session that was just opened: no record of the log counts, and in use is exactly what the volume reaches.
     ghost fresh: { View Self → Type 0 };
 
-    /// Opens the volume on the disk. It begins with a sync. A volume that stands for no table isn't written.
+    /// Opens the volume on the disk. It begins with a sync.
     fn open<H: Host>(alloc: Global, host: &mut H) -> Result<Self, OpenFault>
         ensures only { DiskOnly (H.outside host.old) (H.outside host.new) }
         ensures disk { result ≡ Err OpenFault.Disk
             → Rose (H.outside host.old).disk_faults (H.outside host.new).disk_faults }
 
-        // Ok exactly where the volume, as it reads, stands for a table, and then the session shows it, as it was just opened.
-        ensures opened { OnOk result ((image : List ℕ) → IsTrue (H.outside host.old).honest
-            → (H.outside host.old).disk ≡ Some image → (table : Table)
-            × Self.meaning.StandsFor image table) }
+        // Ok exactly where the volume, as it reads, stands for a table, and then the session is up and shows it, as it was just opened.
+        ensures opened { OnOk result ((image : List ℕ) → (H.outside host.old).disk ≡ Some image
+            → (table : Table) × Self.meaning.StandsFor image table) }
+        ensures up { IfOk result (λ session. Self.up session) }
         ensures shows { (image : List ℕ) (table : Table) → IsTrue (H.outside host.old).honest
             → (H.outside host.old).disk ≡ Some image → Self.meaning.StandsFor image table
             → IfOk result (λ session. Opened Self.meaning fresh table session
@@ -34,7 +34,12 @@ pub trait Opener: Engine {
             → (H.outside host.old).disk ≡ Some image
             → Self.meaning.FirstBad image part }
 
-        // A volume that stands for no table holds what it held, and nothing is pending.
+        // A volume of which a part fails isn't written, whatever is answered; where it is answered, nothing is pending besides.
+        ensures left { (image : List ℕ) (part : Part) → (H.outside host.old).disk ≡ Some image
+            → Self.meaning.FirstBad image part
+            → WritesNothing (H.outside host.old) (H.outside host.new) }
+        ensures unwritten { (part : Part) → result ≡ Err (OpenFault.BadVolume part)
+            → WritesNothing (H.outside host.old) (H.outside host.new) }
         ensures kept { (part : Part) → result ≡ Err (OpenFault.BadVolume part)
             → IsTrue (H.outside host.old).honest → (image : List ℕ)
             → (H.outside host.old).disk ≡ Some image

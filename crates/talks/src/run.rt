@@ -1,9 +1,9 @@
 //! A whole run: the volume is opened, and the session steps on each line of a talk.
 ghost use Rattle.std.specs.Prelude.{◌≡◌, ◌⊎◌, ℕ, List, None, Some, Err, IsTrue, OnOk, IfErr};
-ghost use Rattle.disk_model.specs.Outside.{DiskOnly, Goes, Only};
+ghost use Rattle.disk_model.specs.Outside.{DiskOnly, Goes, Only, WritesNothing};
 ghost use Rattle.table_model.specs.declared.table.Table.{Table};
 ghost use Rattle.session_views.specs.declared.Part.{Part};
-ghost use Rattle.talks.specs.Headline.{HoldsTable, LeftUnopened, RunStarts, TalkHeadline};
+ghost use Rattle.talks.specs.Headline.{HoldsTable, RunStarts, TalkHeadline};
 ghost use Rattle.talks.specs.Passage.{IsBroken, IsOver};
 ghost use Rattle.talks.specs.Stops.{CausedBy, IsOpeningStop, IsSoundStop};
 
@@ -48,22 +48,20 @@ pub fn run_talk<E: Opener + Drop, T: Talk, H: Host>(
     ensures sound { (table : Table) (was : List ℕ)
         → HoldsTable E.meaning (H.outside host.old) table was → IfErr result IsSoundStop }
 
-    // The disk holds no volume exactly where a part of it fails. Then nothing is sent, no line is taken, and nothing is written.
+    // The disk holds no volume exactly where a part of it fails. Then nothing is sent, no line is taken, and nothing is written, whatever is answered.
     ensures bad { (part : Part) → result ≡ Err (Stopped.BadVolume part) → (image : List ℕ)
         → (H.outside host.old).disk ≡ Some image → E.meaning.FirstBad image part }
     ensures bad_only { (part : Part) → result ≡ Err (Stopped.BadVolume part)
-        → DiskOnly (H.outside host.old) (H.outside host.new) }
+        → WritesNothing (H.outside host.old) (H.outside host.new) }
     ensures bad_kept { (part : Part) → result ≡ Err (Stopped.BadVolume part) → (image : List ℕ)
         → IsTrue (H.outside host.old).honest
         → (H.outside host.old).disk ≡ Some image → ((H.outside host.new).disk ≡ Some image)
         × Only image (H.outside host.new).images }
-    ensures unopened { (image : List ℕ) (part : Part) → IsTrue (H.outside host.old).honest
-        → (H.outside host.old).disk ≡ Some image
+    ensures unopened { (image : List ℕ) (part : Part) → (H.outside host.old).disk ≡ Some image
         → E.meaning.FirstBad image part → (why : Stopped) × (result ≡ Err why) × IsOpeningStop why }
-    ensures left { (image : List ℕ) (part : Part) → IsTrue (H.outside host.old).honest
-        → (H.outside host.old).disk ≡ Some image
+    ensures left { (image : List ℕ) (part : Part) → (H.outside host.old).disk ≡ Some image
         → E.meaning.FirstBad image part
-        → LeftUnopened image (H.outside host.old) (H.outside host.new) }
+        → WritesNothing (H.outside host.old) (H.outside host.new) }
 {
     let mut session = match E::open(alloc, host) {
         Ok(session) => session,

@@ -1,5 +1,5 @@
 //! Why a run ends before its script does.
-ghost use Rattle.std.specs.Prelude.{◌≡◌};
+ghost use Rattle.std.specs.Prelude.{◌≡◌, ◌≢◌, Some};
 ghost use Rattle.talks.specs.Stops.{stop_as, unopened_as};
 
 use ex_base::{PageNo, Seen};
@@ -22,19 +22,18 @@ pub enum Stopped {
     Damaged { page: PageNo, want: Seen, got: Seen },
     /// The script has more bytes than count. All whole lines among those that do were stepped and answered.
     ScriptLong,
-    /// The session says that an earlier call of it failed. A session that shows a volume never says so.
-    Down,
 }
 
-/// A session's stop, as a run ends by it.
+/// The stop of a session that was up, as a run ends by it.
 pub(crate) fn stopped_by(stop: Stop) -> Stopped
-    ensures { result ≡ stop_as stop }
+    requires { stop ≢ Stop.Down }
+    ensures { Some result ≡ stop_as stop }
 {
     match stop {
         Stop::Memory => Stopped::Memory,
         Stop::Disk => Stopped::Disk,
         Stop::Damaged { page, want, got } => Stopped::Damaged { page, want, got },
-        Stop::Down => Stopped::Down,
+        Stop::Down => unreachable!(),
     }
 }
 

@@ -231,6 +231,8 @@ impl Engine for Session {
 
     ghost meaning = { meant };
 
+    ghost up = { λ s. s.down ≡ false };
+
     fn step<H: Host>(
         &mut self,
         alloc: Global,

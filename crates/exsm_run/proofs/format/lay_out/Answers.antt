@@ -9,13 +9,17 @@ use Rattle.disk_model.specs.Calls.{Wrote}
 use Rattle.disk_model.specs.Runs.{honest_on, leaves_trans}
 use Rattle.exsm_run.specs.EmptyVolume.{IsUnmadeOrEmpty}
 use Rattle.exsm_run.specs.Format.{IsFormatted}
-use Rattle.exsm_run.proofs.Making.{leaves_unmade, leaves_made, made_of}
+use Rattle.exsm_run.proofs.Making.{leaves_unmade, leaves_made, made_of, made_within}
 use Rattle.exsm_run.proofs.format.lay_out.Goals as goal
 
 pub returns-in_err-prepare-clause-any_moment : goal.returns-in_err-prepare-clause-any_moment
 returns-in_err-prepare-clause-any_moment g c d rests unmade =
     let geo = c.args.geometry.now in
     leaves_unmade geo (g.D.World.is_world c.args.disk.now) d rests unmade (omega (arith, c.requires.room, least_volume geo, least_page geo)) c.prepare.ensures.changes
+
+pub returns-clause-changes : goal.returns-clause-changes
+returns-clause-changes g c = made_within c.args.geometry.now c.prepare.ensures.changes
+    (subst (λ (n : ℕ). ChangesWithin (InRange 0 n) (g.D.World.outside c.prepare.new.disk) (g.D.World.outside c.write_settled.new.disk)) (ap length c.magic_of.ensures) c.write_settled.ensures.changes)
 
 pub returns-clause-formatted : goal.returns-clause-formatted
 returns-clause-formatted g c = on_ok_both c.write_settled.result _ _ _ made (subst (λ (bytes : List ℕ). OnOk c.write_settled.result (Wrote 0 bytes (g.D.World.outside c.prepare.new.disk) (g.D.World.outside c.write_settled.new.disk))) c.magic_of.ensures c.write_settled.ensures.written) c.write_settled.ensures.settled

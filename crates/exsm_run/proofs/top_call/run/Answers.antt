@@ -26,6 +26,7 @@ returns-in-Format-clause-formats g c geo asks =
       answers = answers;
       sends = record { line = promise.line; front = promise.front; nothing = promise.nothing; left = promise.left };
       keeps = promise.keeps;
+      writes = promise.writes;
       makes = promise.formatted;
       moments = promise.any_moment;
       succeeds = λ may. made_or_memory c.in-Format.geometry (g.H.World.outside c.args.host.now) (g.H.World.outside c.format.new.host) c.format.result may answers promise.disk promise.output;

@@ -1,6 +1,11 @@
 use Rattle.std.proofs.Common.{◌≡◌, ℕ, List, Some, IsTrue, refl, ◌∙◌}
 use Rattle.disk_model.specs.Outside.{DiskOnly, Leaves}
-use Rattle.disk_model.specs.Runs.{disk_trans, honest_on, writes_nothing_refl}
+use Rattle.disk_model.specs.Runs.{disk_trans, honest_on, writes_nothing_refl, writes_nothing_trans}
+use Rattle.session_views.specs.declared.Part.{Part}
+use Rattle.table_model.specs.declared.table.Table.{Table}
+use Rattle.volume_model.specs.Meaning.{no_part}
+use Rattle.volume_model.specs.Parts.{FirstBad, StandsFor}
+use Rattle.volume_model.specs.Volume.{table_of, units_of}
 use Rattle.volume_model.specs.Committed.{Committed}
 use Rattle.page_alloc.specs.UnitSet.{used_at}
 use Rattle.volume_port.specs.Logged.{is_held}
@@ -21,6 +26,12 @@ returns-in-Err-clause-bad g c part is image holds = c.read_volume.ensures.bad pa
 pub returns-in-Err-clause-any_moment : goal.returns-in-Err-clause-any_moment
 returns-in-Err-clause-any_moment g c image honest holds =
     quiet_leaves (g.D.World.outside c.args.disk.now) (g.D.World.outside c.sync.new.self) (g.D.World.outside c.read_volume.new.disk) image (g.D.World.is_world c.args.disk.now) honest c.sync.ensures.only c.read_volume.ensures.only.nothing
+
+pub returns-in-Err-clause-unwritten : goal.returns-in-Err-clause-unwritten
+returns-in-Err-clause-unwritten g c part is = writes_nothing_trans c.sync.ensures.only c.read_volume.ensures.only.nothing
+
+pub returns-in-Err-clause-left : goal.returns-in-Err-clause-left
+returns-in-Err-clause-left g c image part holds bad = writes_nothing_trans c.sync.ensures.only c.read_volume.ensures.only.nothing
 
 -- ---- once it was read
 
@@ -43,6 +54,22 @@ committed g c image honest holds =
     let p = c.in-Ok-read_volume.parts in
     read_committed (g.D.World.outside c.args.disk.now) (g.D.World.outside c.sync.new.self) (g.D.World.outside c.read_volume.new.disk) image p.geometry p.log p.meta.committed (used_at p.units) (is_held p.pages) honest holds c.sync.ensures.only c.in-Ok.ensures.settles
     c.read_volume.ensures.only.nothing (reads g c image holds)
+
+-- the volume stood for a table, so no part of it fails
+stood : (g : given.Over) (c : After-checkpoint g) (image : List ℕ) → (g.D.World.outside c.args.disk.now).disk ≡ Some image → (table : Table) × StandsFor image table
+stood g c image holds = let read = reads g c image holds in (table_of (units_of read.decoded image) read.decoded.volume, record { decoded = read.decoded; parts = read.parts; same = refl })
+
+whole : (g : given.Over) (c : After-checkpoint g) (image : List ℕ) (part : Part) → (g.D.World.outside c.args.disk.now).disk ≡ Some image → FirstBad image part → ⊥
+whole g c image part holds bad = let table = stood g c image holds in no_part image table.0 part table.1 bad
+
+pub returns-clause-stood : goal.returns-clause-stood
+returns-clause-stood g c image holds = stood g (goal.at.returns-clause-stood g c).After-checkpoint image holds
+
+pub returns-clause-left : goal.returns-clause-left
+returns-clause-left g c image part holds bad = absurd (whole g (goal.at.returns-clause-left g c).After-checkpoint image part holds bad)
+
+pub returns-in_default-checkpoint-clause-left : goal.returns-in_default-checkpoint-clause-left
+returns-in_default-checkpoint-clause-left g c image part holds bad = absurd (whole g (goal.at.returns-in_default-checkpoint-clause-left g c).After-checkpoint image part holds bad)
 
 leaves : (g : given.Over) (c : After-checkpoint g) (image : List ℕ) → IsTrue (g.D.World.outside c.args.disk.now).honest → (g.D.World.outside c.args.disk.now).disk ≡ Some image
     → Leaves (g.D.World.outside c.args.disk.now) (g.D.World.outside c.checkpoint.new.disk) (OpensAs (g.D.World.outside c.args.disk.now).images image)

@@ -4,7 +4,7 @@ use Rattle.disk_model.specs.Runs.{goes_refl, goes_trans}
 use Rattle.table_model.specs.Requests.{request_of}
 use Rattle.table_model.specs.declared.reply.Reply.TheVariants as reply
 use Rattle.script_lang.specs.Reading.{Asks, Fails}
-use Rattle.talks.specs.Stops.{IsLinesStop, IsPart, IsSessionStop, IsSoundStop}
+use Rattle.talks.specs.Stops.{IsPart}
 use Rattle.talks.specs.Talking.{Left}
 use Rattle.talks.specs.Talking as talking
 use Rattle.talks.proofs.Stopping.{session_stop, session_part, session_lines, sending_lines, sending_sound, taking_lines, taking_sound, disk_or_memory}
@@ -14,6 +14,7 @@ use Rattle.talks.proofs.lines.step_lines.Goals as goal
 
 pub lines-init : goal.lines-init
 lines-init g c = record {
+  up = c.requires.up;
   goes = goes_refl (g.H.World.outside c.args.host.now);
   so_far = record {
     had = [];
@@ -54,6 +55,7 @@ pub lines-preserved-in-Nothing : goal.lines-preserved-in-Nothing
 lines-preserved-in-Nothing g c =
     let old = c.lines.invariant.so_far in
     let waits = c.in_ok-advance.ensures.taken (search rules) c.args.talk.now (g.H.World.outside c.args.host.now).left old.had old.talked in record {
+      up = c.lines.invariant.up;
       goes = goes_trans c.lines.invariant.goes c.advance.ensures.only.goes;
       so_far = record {
         had = old.had;
@@ -72,7 +74,7 @@ returns-in-Err-clause-cut g c =
     let at = c.advance.new.self in
     let waits = c.in_ok-advance.ensures.taken (search rules) first entry.left old.had old.talked in
     let r = request_of c.in-Step.command in
-    let part : IsPart c.stopped_by.result = session_part c.stopped_by.result (subst IsSessionStop (sym c.stopped_by.ensures) (session_stop c.in-Err.stop)) in record {
+    let part : IsPart c.stopped_by.result = session_part c.stopped_by.result (session_stop c.in-Err.stop c.stopped_by.result c.stopped_by.ensures) in record {
       at = at;
       had = old.had;
       last = Some (Asks r);
@@ -84,12 +86,12 @@ returns-in-Err-clause-cut g c =
     }
 
 pub returns-in-Err-clause-stops : goal.returns-in-Err-clause-stops
-returns-in-Err-clause-stops g c = subst IsLinesStop (sym c.stopped_by.ensures) (session_lines c.in-Err.stop)
+returns-in-Err-clause-stops g c = session_lines c.stopped_by.result (session_stop c.in-Err.stop c.stopped_by.result c.stopped_by.ensures)
 
 pub returns-in-Err-clause-sound : goal.returns-in-Err-clause-sound
 returns-in-Err-clause-sound g c opening was same opens =
     let so_far = reached_taken (g.H.World.is_world c.lines.host) c.advance.ensures.only (c.lines.invariant.so_far.reached opening was same opens) in
-    subst IsSoundStop (sym c.stopped_by.ensures) (disk_or_memory c.in-Err.stop (c.in-Err.ensures.sound so_far.view c.in-Err.stop so_far.is so_far.shows refl))
+    disk_or_memory c.in-Err.stop c.stopped_by.result c.stopped_by.ensures (c.in-Err.ensures.sound so_far.view c.in-Err.stop so_far.is so_far.shows refl)
 
 -- ---- a reply was told
 
@@ -113,6 +115,7 @@ lines-preserved g c =
           let sent = rw (w.host-is, told) at c.in_ok-tell.ensures.sent in
           let had = rw (w.host-is, told) at c.in_ok-tell.ensures.had in
           rw w.session-is (record {
+            up = c.lines.invariant.up;
             goes = goes_trans goes_b sent.only.goes;
             so_far = record {
               had = old.had ++ record { reading = Fails why; told = reply.No why; text = K.text at (reply.No why) } ∷ [];
@@ -128,6 +131,7 @@ lines-preserved g c =
           let sent = rw (w.host-is, told_is) at c.in_ok-tell.ensures.sent in
           let had = rw (w.host-is, told_is, w.step.ensures.only.left) at c.in_ok-tell.ensures.had in
           rw w.session-is (record {
+            up = w.in-Ok.ensures.stays_up;
             goes = goes_trans (goes_trans goes_b w.step.ensures.only.goes) sent.only.goes;
             so_far = record {
               had = old.had ++ record { reading = Asks r; told = told; text = K.text at told } ∷ [];

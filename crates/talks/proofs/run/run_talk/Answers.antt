@@ -5,7 +5,7 @@ use Rattle.talks.specs.Stops.{IsOpeningStop, IsSessionStop, IsSoundStop}
 use Rattle.talks.specs.Talking.{Left}
 use Rattle.talks.proofs.Going.{cut_ending}
 use Rattle.talks.proofs.Stopping.{opening_stop, opening_sound, session_part, if_err_from}
-use Rattle.talks.proofs.Whole.{leaves_table, left_unopened, unopened, opens_of, stepped_whole, stepped_cut}
+use Rattle.talks.proofs.Whole.{leaves_table, unopened, opens_of, stepped_whole, stepped_cut}
 use Rattle.talks.proofs.run.run_talk.Goals as goal
 
 -- ---- the volume wasn't opened
@@ -19,10 +19,6 @@ pub returns-in-Err-clause-sound : goal.returns-in-Err-clause-sound
 returns-in-Err-clause-sound g c table was on =
     subst IsSoundStop (sym c.unopened_by.ensures) (opening_sound c.in-Err.fault (λ part fault.
     g.E.Engine.meaning.no_table on.image table part on.stands (c.in-Err.ensures.bad part (ap (λ f. Err f) fault) on.image on.holds)))
-
-pub returns-in-Err-clause-left : goal.returns-in-Err-clause-left
-returns-in-Err-clause-left g c image part honest holds bad =
-    left_unopened g.E.Engine.meaning image part bad c.open.ensures.only (c.open.ensures.any_moment image honest holds)
 
 -- ---- the stepping of the lines stopped
 
@@ -46,12 +42,12 @@ returns-in_err-step_lines-clause-sound g c table was on =
     rw (p.1, p.2) (c.in_err-step_lines.ensures.sound opened.view was opened.is (opens_of on c.open.ensures.only opened))
 
 pub returns-in_err-step_lines-clause-unopened : goal.returns-in_err-step_lines-clause-unopened
-returns-in_err-step_lines-clause-unopened g c image part honest holds bad =
-    let stands = c.in-Ok.ensures.opened image honest holds in absurd (g.E.Engine.meaning.no_table image stands.0 part stands.1 bad)
+returns-in_err-step_lines-clause-unopened g c image part holds bad =
+    let stands = c.in-Ok.ensures.opened image holds in absurd (g.E.Engine.meaning.no_table image stands.0 part stands.1 bad)
 
 pub returns-in_err-step_lines-clause-left : goal.returns-in_err-step_lines-clause-left
-returns-in_err-step_lines-clause-left g c image part honest holds bad =
-    let stands = c.in-Ok.ensures.opened image honest holds in absurd (g.E.Engine.meaning.no_table image stands.0 part stands.1 bad)
+returns-in_err-step_lines-clause-left g c image part holds bad =
+    let stands = c.in-Ok.ensures.opened image holds in absurd (g.E.Engine.meaning.no_table image stands.0 part stands.1 bad)
 
 -- ---- the talk is over
 
@@ -91,5 +87,5 @@ returns-clause-sound g c table was on =
     c.abort_open.ensures.sound so_far.view so_far.is so_far.shows
 
 pub returns-clause-left : goal.returns-clause-left
-returns-clause-left g c image part honest holds bad =
-    let stands = c.in-Ok.ensures.opened image honest holds in absurd (g.E.Engine.meaning.no_table image stands.0 part stands.1 bad)
+returns-clause-left g c image part holds bad =
+    let stands = c.in-Ok.ensures.opened image holds in absurd (g.E.Engine.meaning.no_table image stands.0 part stands.1 bad)

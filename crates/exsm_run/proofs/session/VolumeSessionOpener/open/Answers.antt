@@ -4,7 +4,7 @@ use Rattle.talks.specs.Opening.{Opened}
 use Rattle.exsm_run.specs.Fresh.{IsFresh}
 use Rattle.transactions.specs.Meant.{meant}
 use Rattle.transactions.specs.Sessions.{SessionState}
-use Rattle.exsm_run.proofs.Opened.{err_same, stood, shows_opened, leaves_opening}
+use Rattle.exsm_run.proofs.Opened.{err_same, shows_opened, leaves_opening}
 use Rattle.exsm_run.proofs.session.VolumeSessionOpener.open.Goals as goal
 
 pub returns-in-Err-clause-bad : goal.returns-in-Err-clause-bad
@@ -13,8 +13,11 @@ returns-in-Err-clause-bad g c part same image holds = c.open_volume.ensures.bad 
 pub returns-in-Err-clause-any_moment : goal.returns-in-Err-clause-any_moment
 returns-in-Err-clause-any_moment g c image honest holds = leaves_opening image (c.open_volume.ensures.any_moment image honest holds)
 
-pub returns-in-Ok-make-clause-opened : goal.returns-in-Ok-make-clause-opened
-returns-in-Ok-make-clause-opened g c image honest holds = stood (c.in-Ok.ensures.opened image honest holds)
+pub returns-in-Ok-make-clause-left : goal.returns-in-Ok-make-clause-left
+returns-in-Ok-make-clause-left g c image part holds bad = c.open_volume.ensures.left image part holds bad
+
+pub returns-in-Err-make-clause-left : goal.returns-in-Err-make-clause-left
+returns-in-Err-make-clause-left g c image part holds bad = c.open_volume.ensures.left image part holds bad
 
 pub returns-in-Ok-make-clause-shows : goal.returns-in-Ok-make-clause-shows
 returns-in-Ok-make-clause-shows g c image table honest holds stands =

@@ -12,6 +12,6 @@ returns g c =
     let ok = c.in_ok-advance.ensures in
     let P : Option Line → Type 0 = λ line. Moves (ahead old) (g.S.World.outside c.args.source.now).left (ahead new) (g.S.World.outside c.advance.new.source).left
     (λ script rest. Takes (counted old) script line (counted new) rest) in (
-      (refl, (λ lines. tt), ((subst P (sym c.line.ensures) ok.takes, ok.drawn), λ bad. cc)),
+      (refl, (λ lines. tt), (subst P (sym c.line.ensures) ok.takes, c.advance.ensures.drawn)),
       record { takes = tt; only = ok.only; read = λ bad. cc; too_much = λ bad. cc; not_cut = ok.not_cut },
     )

@@ -16,12 +16,6 @@ returns-in-Some-TooMuch-clause-clear g c = λ same.
     first.allowed s.allowed c.skipped.invariant.drops c.in_ok-gather.ensures.script
     (λ j lt. found.0 j (omega (arith, c.in_ok-gather.ensures.allowed))) (omega (arith, found.1, c.in_ok-gather.ensures.allowed))
 
-pub returns-in-Some-TooMuch-clause-drawn_clear : goal.returns-in-Some-TooMuch-clause-drawn_clear
-returns-in-Some-TooMuch-clause-drawn_clear g c = λ same.
-    draws_trans (may_take c.args.self.now) (may_take c.skipped.self) (may_take c.gather.new.self)
-    (g.S.World.outside c.args.source.now).left (g.S.World.outside c.skipped.source).left (g.S.World.outside c.gather.new.source).left
-    c.skipped.invariant.drawn c.in_ok-gather.ensures.drawn
-
 pub returns-in-Some-Feed-clause-passes : goal.returns-in-Some-Feed-clause-passes
 returns-in-Some-Feed-clause-passes g c =
     let first = c.args.self.now in
@@ -68,5 +62,5 @@ skipped-preserved g c =
           found.0 m.allowed (omega (arith, c.pass-in-Some-Full.ensures.allowed, c.in_ok-gather.ensures.allowed)) (held m)
           (c.pass-in-Some-Full.ensures.bytes ∙ ap (λ (k : ℕ). drop k p) (sym size));
       drawn = subst D (sym c.pass-in-Some-Full.ensures.may)
-          (draws_trans (may_take first) (may_take s) (may_take n) left (g.S.World.outside c.skipped.source).left is c.skipped.invariant.drawn c.in_ok-gather.ensures.drawn);
+          (draws_trans (may_take first) (may_take s) (may_take n) left (g.S.World.outside c.skipped.source).left is c.skipped.invariant.drawn c.gather.ensures.drawn);
     }
