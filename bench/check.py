@@ -3,8 +3,8 @@
 
     python3 bench/check.py PROGRAM [--folder FOLDER] [--quick]
 
-PROGRAM is a built exsm. Volumes lie in a new folder below FOLDER (/dev/shm where there is none given). Each figure is the least of three runs: seconds
-of the clock, seconds of the processor, and the most memory that the process had. The volumes: one object of 100 MiB, one of 4 GiB, and 100,000 objects of
+PROGRAM is a built exsm. Volumes lie in a new folder below FOLDER (/dev/shm where there is none given). Each figure is the least of three runs: time
+of the clock, time of the processor, and the most memory that the process had, of which the system can't tell less than what Python has, some 14 MiB. The volumes: one object of 100 MiB, one of 4 GiB, and 100,000 objects of
 100 bytes in one file. `gen` makes 10,000 and 100,000 lines on a volume of 64,000 pages. `--quick` leaves out what takes more than some seconds.
 """
 import argparse
@@ -19,10 +19,10 @@ LINE_MOST = 16 * MIB
 RUNS = 3
 
 
-def once(words, script=None):
+def once(words, lines=()):
     """Seconds of the clock and of the processor, MiB, and what was sent."""
     with tempfile.TemporaryFile() as source, tempfile.TemporaryFile() as sink:
-        source.write(script or b"")
+        source.writelines(f"{line}\n".encode() for line in lines)
         source.seek(0)
         start = time.perf_counter()
         child = subprocess.Popen([str(word) for word in words], stdin=source, stdout=sink)
@@ -42,19 +42,19 @@ def tell(what, runs):
 
 
 def one_object(size):
-    lines = ["begin", "file docs", "create docs as @d"]
-    lines += [f"append @d rep:{min(LINE_MOST, size - at)}:61" for at in range(0, size, LINE_MOST)]
-    return lines + ["commit"]
+    yield from ("begin", "file docs", "create docs as @d")
+    for at in range(0, size, LINE_MOST):
+        yield f"append @d rep:{min(LINE_MOST, size - at)}:61"
+    yield "commit"
 
 
 def small_objects(count, block=200):
-    lines = ["begin", "file small", "commit"]
+    yield from ("begin", "file small", "commit")
     for first in range(0, count, block):
-        lines.append("begin")
+        yield "begin"
         for number in range(first, min(first + block, count)):
-            lines += [f"create small as @n{number}", f"append @n{number} rep:100:63"]
-        lines.append("commit")
-    return lines
+            yield from (f"create small as @n{number}", f"append @n{number} rep:100:63")
+        yield "commit"
 
 
 def volume(program, path, pages, segs):
@@ -65,7 +65,7 @@ def volume(program, path, pages, segs):
 
 def checked(program, path, what, pages, segs, lines):
     volume(program, path, pages, segs)
-    once([program, "run", path], "".join(line + "\n" for line in lines).encode())
+    once([program, "run", path], lines)
     tell(f"check of {what}", [once([program, "check", path]) for _ in range(RUNS)])
 
 

@@ -10,17 +10,19 @@ _exsm_files_here() {                              # offers names of files
 }
 
 _exsm() {
-    local options=(--page-size --pages --segs --seg-len --fan)
     case $COMP_CWORD in
-    1) _exsm_offer "format run" ;;
+    1) _exsm_offer "format run check gen" ;;
     2) _exsm_files_here ;;
     *)
-        [ "${COMP_WORDS[1]}" = format ] || return
-        if [ $((COMP_CWORD % 2)) = 1 ]; then
-            _exsm_offer "${options[(COMP_CWORD - 3) / 2]:-}"
-        elif [ "${COMP_WORDS[COMP_CWORD - 1]}" = --page-size ]; then
+        if [ "${COMP_WORDS[COMP_CWORD - 1]}" = --page-size ]; then
             _exsm_offer "512 1024 2048 4096 8192"
+            return
         fi
+        case "${COMP_WORDS[1]}" in
+        format) _exsm_offer "--page-size --pages --segs --seg-len --fan" ;;
+        run) _exsm_offer "--max-bytes" ;;
+        gen) _exsm_offer "--seed --count" ;;
+        esac
         ;;
     esac
 }

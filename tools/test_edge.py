@@ -22,9 +22,20 @@ BYTES = (257 + 64 + 64) * 512
 # All words that close streams, as a shell writes them.
 CLOSED = [f"{i} {o} {e}" for i in ("<&-", "") for o in (">&-", "") for e in ("2>&-", "")]
 
+FORMAT = [
+    "usage: exsm format VOLUME [--page-size 512|1024|2048|4096|8192] [--pages 1..4000000] [--segs 0..4000000]"
+    " [--seg-len 1..16] [--fan 2..(page size - 20) / 24]",
+    "           by default --page-size 4096 --pages 4096 --segs 16384 --seg-len 1 and the largest fan",
+]
+RUN = [
+    "usage: exsm run VOLUME [--max-bytes N] < SCRIPT",
+    "           by default --max-bytes 1099511627776",
+]
 USAGE = [
-    "usage: exsm format VOLUME --page-size N --pages N --segs N --seg-len N --fan N",
-    "       exsm run VOLUME < SCRIPT",
+    *FORMAT,
+    *(line.replace("usage:", "      ") for line in RUN),
+    "       exsm check VOLUME",
+    "       exsm gen VOLUME --seed N --count 1..1000000",
 ]
 
 
@@ -192,31 +203,31 @@ class Causes(InAFolder):
         self.assertEqual(ran.returncode, status)
 
     def test_words(self):
+        grammar = "the words aren't in the command's grammar"
         table = [
-            ("", "no command"),
-            ("frob v", "'frob' is no command"),
-            ("--help", "'--help' is no command"),
-            ("run", "run takes one word, the volume; the script is standard input"),
-            ("run v w", "run takes one word, the volume; the script is standard input"),
-            ("run -v", "run takes one word, the volume; the script is standard input"),
-            ("format", "format takes the volume first, a word that doesn't begin with '-'"),
-            ("format --pages", "format takes the volume first, a word that doesn't begin with '-'"),
-            ("format v", "--page-size is wanted at the end: all five options, in this order"),
-            ("format v --pages 64", "--page-size is wanted before '--pages': all five options, in this order"),
-            ("format v --page-size", "--page-size takes a number"),
-            ("format v --page-size 4k", "--page-size takes a number of decimal digits, not '4k'"),
-            ("format v --page-size 512 --pages 64 --segs 16 --seg-len 1 --fan", "--fan takes a number"),
-            ("format v --page-size 512 --pages 64 --segs 16 --seg-len 1 --fan 2 w", "'w' follows the five options"),
-            ("format v --page-size 500 --pages 64 --segs 16 --seg-len 1 --fan 2", "--page-size is 512, 1024, 2048, 4096 or 8192, not 500"),
-            ("format v --page-size 512 --pages 0 --segs 16 --seg-len 1 --fan 2", "--pages is 1 to 4000000, not 0"),
-            ("format v --page-size 512 --pages 64 --segs 4000001 --seg-len 1 --fan 2", "--segs is 0 to 4000000, not 4000001"),
-            ("format v --page-size 512 --pages 64 --segs 16 --seg-len 17 --fan 2", "--seg-len is 1 to 16, not 17"),
-            ("format v --page-size 512 --pages 64 --segs 16 --seg-len 1 --fan 21", "at page size 512 the fan is 2 to 20, not 21"),
+            ("", "no command", USAGE),
+            ("frob v", "'frob' is no command", USAGE),
+            ("--help", "'--help' is no command", USAGE),
+            ("run", grammar, RUN),
+            ("run v w", grammar, RUN),
+            ("run -v", grammar, RUN),
+            ("run v --max-bytes 1 --max-bytes 2", grammar, RUN),
+            ("run v --help", grammar, RUN),
+            ("run -- v", grammar, RUN),
+            ("format", grammar, FORMAT),
+            ("format --pages", grammar, FORMAT),
+            ("format v --page-size", grammar, FORMAT),
+            ("format v --page-size 4k", grammar, FORMAT),
+            ("format v --page-size 500", grammar, FORMAT),
+            ("format v --pages 0", grammar, FORMAT),
+            ("format v --segs 4000001", grammar, FORMAT),
+            ("format v --seg-len 17", grammar, FORMAT),
+            ("format v --page-size 512 --fan 21", grammar, FORMAT),
         ]
-        for words, text in table:
+        for words, text, usage in table:
             with self.subTest(words=words):
                 ran = exsm(*words.split())
-                self.check(ran, 2, "usage", f"exsm: {text}", *USAGE)
+                self.check(ran, 2, "usage", f"exsm: {text}", *usage)
                 self.assertEqual(ran.stdout, b"")
         self.assertEqual(os.listdir(), [])
 
@@ -267,7 +278,7 @@ class Causes(InAFolder):
         ran = subprocess.run(words, input=b"", capture_output=True)
         if b"not permitted" in ran.stderr or ran.returncode in (126, 127):
             self.skipTest("another user can't be had")
-        self.check(ran, 5, "disk fault", f"exsm: {os.path.abspath('v')}: Permission denied (os error 13) (run also writes)")
+        self.check(ran, 5, "disk fault", f"exsm: {os.path.abspath('v')}: Permission denied (os error 13) (an opening also writes)")
 
     def test_no_volume(self):
         with open("v", "wb") as file:

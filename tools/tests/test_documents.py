@@ -195,10 +195,13 @@ compopt() { :; }
 $(complete -p "$1" | sed 's/.*-F \([a-z_]*\) .*/\1/')
 printf '%s\n' "${COMPREPLY[@]}"
 """
+SIZES = ["--fan", "--page-size", "--pages", "--seg-len", "--segs"]
 COMPLETIONS = [
-    ("exsm|", ["format", "run"]), ("exsm|f", ["format"]), ("exsm|run|", ["other", "v"]),
-    ("exsm|format|v|", ["--page-size"]), ("exsm|format|v|--page-size|8", ["8192"]),
-    ("exsm|format|v|--page-size|512|", ["--pages"]), ("exsm|run|v|", [""]),
+    ("exsm|", ["check", "format", "gen", "run"]), ("exsm|f", ["format"]),
+    ("exsm|run|", ["other", "v"]), ("exsm|check|", ["other", "v"]),
+    ("exsm|format|v|", SIZES), ("exsm|format|v|--page-size|8", ["8192"]),
+    ("exsm|format|v|--page-size|512|", SIZES), ("exsm|run|v|", ["--max-bytes"]),
+    ("exsm|gen|v|", ["--count", "--seed"]),
     ("exsm_files.py|v|", ["get", "ls", "put", "rm"]), ("exsm_new.py|v|", ["16G", "1G", "80M"]),
     ("exsm_volume.py|v|s", ["save"]), ("exsm_do.py|o", ["other"]),
 ]

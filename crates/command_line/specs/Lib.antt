@@ -1,4 +1,2 @@
 pub mod Status
-pub mod Numerals
-pub mod Words
 pub mod Texts

@@ -2,17 +2,13 @@
 ghost use Rattle.std.specs.Prelude.{◌≡◌, ◌≢◌, Some, MatchOption};
 ghost use Rattle.command_line.specs.Texts.{status_line};
 
-use crate::misuse::Misuse;
 use crate::seen::Damage;
 use crate::status::{Status, part_name};
-use crate::words::misuse_of;
+use crate::usage::Usage;
+use command_words::CommandWord;
 use session_views::Part;
 use std::io::ErrorKind;
 use std::{fmt, io};
-
-/// How the program is called.
-pub const USAGE: &str =
-    "usage: exsm format VOLUME --page-size N --pages N --segs N --seg-len N --fan N\n       exsm run VOLUME < SCRIPT";
 
 /// The last line: the status's number and its name.
 #[derive(Clone, Copy)]
@@ -46,6 +42,8 @@ impl fmt::Display for StatusLine {
 pub struct Explanation<'a> {
     /// The words of the command line, as far as they were read.
     pub words: &'a [String],
+    /// The word that names the volume, where they are a command line.
+    pub volume: Option<&'a str>,
     /// How it ended.
     pub status: Status,
     /// The system's reason, where a call failed. Words that couldn't be read have one.
@@ -93,28 +91,37 @@ impl fmt::Display for Explanation<'_> {
 }
 
 impl Explanation<'_> {
-    // The words `run VOLUME` or `format VOLUME ..`: the command.
-    fn command(&self) -> &str {
+    fn command(&self) -> Option<CommandWord> {
         match self.words.first() {
-            Some(word) => word.as_str(),
-            None => "",
+            Some(word) => CommandWord::named(word.as_str()),
+            None => None,
         }
     }
 
     fn volume(&self) -> &str {
-        match self.words.get(1) {
-            Some(word) => word.as_str(),
+        match self.volume {
+            Some(word) => word,
             None => "the volume",
         }
     }
 
     fn misuse<W: fmt::Write>(&self, f: &mut fmt::Formatter<W>) -> fmt::Result {
+        let command = self.command();
         if self.cause.is_some() {
             f.write_str("exsm: a word isn't UTF-8 text\n")?;
-        } else if let Some(misuse) = misuse_of(self.words) {
-            write!(f, "exsm: {misuse}\n")?;
+        } else if command.is_none() {
+            match self.words.first() {
+                Some(word) => {
+                    let word = word.as_str();
+                    write!(f, "exsm: '{word}' is no command\n")?;
+                }
+                None => f.write_str("exsm: no command\n")?,
+            }
+        } else {
+            f.write_str("exsm: the words aren't in the command's grammar\n")?;
         }
-        f.write_str(USAGE)
+        let usage = Usage(command);
+        write!(f, "{usage}")
     }
 
     fn stream<W: fmt::Write>(&self, f: &mut fmt::Formatter<W>, name: &str) -> fmt::Result {
@@ -127,7 +134,7 @@ impl Explanation<'_> {
     // What stays where the output failed.
     fn kept(&self) -> &str {
         match self.command() {
-            "format" => "; the volume is made",
+            Some(CommandWord::Format) => "; the volume is made",
             _ => "; commits whose reply was sent stay",
         }
     }
@@ -138,8 +145,9 @@ impl Explanation<'_> {
         };
         write!(f, "exsm: {volume}: {cause}")?;
         match (self.command(), cause.kind()) {
-            ("run", ErrorKind::NotFound) => f.write_str(" (exsm format makes a volume)"),
-            ("run", ErrorKind::PermissionDenied) => f.write_str(" (run also writes)"),
+            (Some(CommandWord::Format), _) => Ok(()),
+            (_, ErrorKind::NotFound) => f.write_str(" (exsm format makes a volume)"),
+            (_, ErrorKind::PermissionDenied) => f.write_str(" (an opening also writes)"),
             _ => Ok(()),
         }
     }

@@ -1,13 +1,11 @@
-//! The command line of exsm: its words, the statuses that it ends with, and what it says of them.
+//! What the program says of how it ended: the statuses, their texts, and the grammar of its words.
 #![tactic(auto)]
 
 mod explanation;
-mod misuse;
 mod seen;
 mod status;
-mod words;
+mod usage;
 
-pub use explanation::{Explanation, StatusLine, USAGE};
-pub use misuse::Misuse;
+pub use explanation::{Explanation, StatusLine};
 pub use status::Status;
-pub use words::{Invocation, NamedFile, Target, file_of, invocation_of, misuse_of, volume_of};
+pub use usage::Usage;

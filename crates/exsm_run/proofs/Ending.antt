@@ -15,28 +15,28 @@ use Rattle.command_line.specs.declared.status.Status.{Status}
 use Rattle.command_line.specs.declared.status.Status.TheVariants as status
 use Rattle.exsm_run.specs.Status.{IsRefusal}
 use Rattle.exsm_run.specs.Format.{FormatAnswers, MayFormat}
-use Rattle.exsm_run.specs.Promises.{LeftAlone}
-use Rattle.exsm_run.specs.Script.{script_most, status_of, IsOnVolume, MayRun, IsOpeningStatus, IsRunStatus}
+use Rattle.exsm_run.specs.Openings.{LeftAlone}
+use Rattle.exsm_run.specs.Script.{status_of, IsOnVolume, MayRun, IsOpeningStatus, IsRunStatus}
 
 -- what stops a run on a volume gives one of its statuses
-pub run_status : (why : Stopped) → IsSoundStop why → IsRunStatus (status_of (Some why))
-run_status stopped.Script sound = tt
-run_status stopped.Output sound = tt
-run_status stopped.Disk sound = tt
-run_status stopped.Memory sound = tt
-run_status (stopped.BadVolume part) sound = sound
-run_status (stopped.Damaged page want got) sound = sound
-run_status stopped.ScriptLong sound = tt
+pub run_status : (most : ℕ) (why : Stopped) → IsSoundStop why → IsRunStatus (status_of most (Some why))
+run_status most stopped.Script sound = tt
+run_status most stopped.Output sound = tt
+run_status most stopped.Disk sound = tt
+run_status most stopped.Memory sound = tt
+run_status most (stopped.BadVolume part) sound = sound
+run_status most (stopped.Damaged page want got) sound = sound
+run_status most stopped.ScriptLong sound = tt
 
 -- what stops an opening gives one of its statuses
-pub opening_status : (why : Stopped) → IsOpeningStop why → IsOpeningStatus (status_of (Some why))
-opening_status stopped.Script stop = stop
-opening_status stopped.Output stop = stop
-opening_status stopped.Disk stop = tt
-opening_status stopped.Memory stop = tt
-opening_status (stopped.BadVolume part) stop = tt
-opening_status (stopped.Damaged page want got) stop = stop
-opening_status stopped.ScriptLong stop = stop
+pub opening_status : (most : ℕ) (why : Stopped) → IsOpeningStop why → IsOpeningStatus (status_of most (Some why))
+opening_status most stopped.Script stop = stop
+opening_status most stopped.Output stop = stop
+opening_status most stopped.Disk stop = tt
+opening_status most stopped.Memory stop = tt
+opening_status most (stopped.BadVolume part) stop = tt
+opening_status most (stopped.Damaged page want got) stop = stop
+opening_status most stopped.ScriptLong stop = stop
 
 -- where nothing was written a crash leaves what it could leave before
 pub left_alone : {a b : Outside} → IsWorld a → WritesNothing a b → LeftAlone a b
@@ -46,14 +46,14 @@ left_alone {a} {b} world nothing = record {
 }
 
 -- a run that was stopped is not refused
-pub no_refusal : (why : Stopped) → IsRefusal (status_of (Some why)) → ⊥
-no_refusal stopped.Script is = is
-no_refusal stopped.Output is = is
-no_refusal stopped.Disk is = is
-no_refusal stopped.Memory is = is
-no_refusal (stopped.BadVolume part) is = is
-no_refusal (stopped.Damaged page want got) is = is
-no_refusal stopped.ScriptLong is = is
+pub no_refusal : (most : ℕ) (why : Stopped) → IsRefusal (status_of most (Some why)) → ⊥
+no_refusal most stopped.Script is = is
+no_refusal most stopped.Output is = is
+no_refusal most stopped.Disk is = is
+no_refusal most stopped.Memory is = is
+no_refusal most (stopped.BadVolume part) is = is
+no_refusal most (stopped.Damaged page want got) is = is
+no_refusal most stopped.ScriptLong is = is
 
 -- so it is not answered as wrong words
 pub no_usage : (s : Status) → (IsRefusal s → ⊥) → s ≡ status.Usage → ⊥
@@ -68,7 +68,7 @@ starts_on {entry} {table} {was} volume = record {
   alone = λ other stood. one_table volume.on.image other table stood volume.on.stands;
 }
 
-pub completes_on : {before after : Outside} → MayRun before after → MayComplete meant before after script_most
+pub completes_on : {most : ℕ} {before after : Outside} → MayRun most before after → MayComplete meant before after most
 completes_on may = record {
   table = may.table;
   was = may.was;

@@ -1,3 +1,7 @@
 mod Ending
 mod Making
 mod Opened
+mod Lines
+mod Counting
+mod Checking
+mod Generating

@@ -3,4 +3,7 @@ pub mod EmptyVolume
 pub mod Format
 pub mod Fresh
 pub mod Script
+pub mod Openings
+pub mod Check
+pub mod Generate
 pub mod Promises

@@ -1,18 +1,21 @@
 -- What each command promises, given what stood outside before and after it, and its status.
 use Rattle.std.specs.Prelude.{◌≡◌, ◌≤◌, ◌<◌, ◌+◌, ◌⊎◌, ℕ, IsTrue, Some, List, [], drop, length}
-use Rattle.disk_model.specs.Outside.{Outside, Along, Leaves, Only, ReadsOnly, RestsOn, WritesNothing}
+use Rattle.disk_model.specs.Outside.{Outside, Along, ReadsOnly, RestsOn}
 use Rattle.ex_base.specs.Sizes.{volume_bytes}
 use Rattle.ex_base.specs.declared.geometry.Geometry.{Geometry}
 use Rattle.table_model.specs.declared.table.Table.{Table}
-use Rattle.session_views.specs.declared.Part.{Part}
 use Rattle.transactions.specs.Meant.{meant}
-use Rattle.volume_model.specs.Parts.{FirstBad}
 use Rattle.command_line.specs.declared.status.Status.{Status}
-use Rattle.command_line.specs.declared.status.Status.TheVariants.{Done, BadVolume, Memory, ScriptLong}
+use Rattle.command_line.specs.declared.status.Status.TheVariants.{Done, Memory, ScriptLong}
+use Rattle.command_words.specs.declared.wish.Wish.{Wish}
+use Rattle.command_words.specs.declared.wish.Wish.TheVariants.{Format, Run, Check, Gen}
+use Rattle.exsm_run.specs.Check.{CheckPromise}
+use Rattle.exsm_run.specs.Generate.{GenPromise}
 use Rattle.exsm_run.specs.EmptyVolume.{HasMagic}
 use Rattle.exsm_run.specs.Format.{FormatAnswers, FormatSends, IsFormatted, IsFormatMoment, MayFormat, WritesAlone}
 use Rattle.exsm_run.specs.Fresh.{IsFresh}
-use Rattle.exsm_run.specs.Script.{script_most, Ran, HoldsVolume, IsOnVolume, MayRun, IsOpeningStatus, IsRunStatus}
+use Rattle.exsm_run.specs.Openings.{OpeningPromise}
+use Rattle.exsm_run.specs.Script.{Ran, HoldsVolume, IsOnVolume, MayRun, IsRunStatus}
 
 -- What `format` promises.
 pub record FormatPromise (g : Geometry) (before after : Outside) (status : Status) : Type 0 where
@@ -29,34 +32,25 @@ pub record FormatPromise (g : Geometry) (before after : Outside) (status : Statu
   -- when it succeeds
   pub succeeds : MayFormat g before after → (status ≡ Done) ⊎ (status ≡ Memory)
 
--- Nothing was sent, taken or written: the disk was read and synced at most, and, where it is honest, a crash at any moment leaves what it could leave
--- before.
-pub record LeftAlone (before after : Outside) : Type 0 where
-  pub nothing : WritesNothing before after
-  pub moments : IsTrue before.honest → Leaves before after before.images
-
--- What the opening of a volume promises: a bad volume is answered exactly where a part of it fails, but for a fault of the disk and want of memory, with
--- the first part. Where a part fails, whatever is answered, and where a bad volume is answered, nothing is sent, taken or written.
-pub record OpeningPromise (before after : Outside) (status : Status) : Type 0 where
-  pub bad : (part : Part) → status ≡ BadVolume part → (image : List ℕ) → before.disk ≡ Some image → FirstBad image part
-  pub unopened : (image : List ℕ) (part : Part) → before.disk ≡ Some image → FirstBad image part → IsOpeningStatus status
-  pub left : (image : List ℕ) (part : Part) → before.disk ≡ Some image → FirstBad image part → LeftAlone before after
-  pub only : (part : Part) → status ≡ BadVolume part → LeftAlone before after
-  pub kept : (part : Part) → status ≡ BadVolume part → (image : List ℕ) → IsTrue before.honest → before.disk ≡ Some image
-      → (after.disk ≡ Some image) × Only image after.images
-
--- What `run` promises.
-pub record RunPromise (before after : Outside) (status : Status) : Type 0 where
+-- What `run` promises, where at most so many bytes of a script count.
+pub record RunPromise (most : ℕ) (before after : Outside) (status : Status) : Type 0 where
   -- what was replied, from view to view, and what a stop at any moment leaves
-  pub headline : (table : Table) (was : List ℕ) → IsOnVolume before table was → Ran meant IsFresh table was before after status
+  pub headline : (table : Table) (was : List ℕ) → IsOnVolume before table was → Ran meant IsFresh most table was before after status
   -- On a volume nothing but a fault of the outside, want of memory or too long a script stops it, and without those it reaches the script's end.
   pub sound : (table : Table) (was : List ℕ) → HoldsVolume before table was → IsRunStatus status
-  pub completes : MayRun before after → (status ≡ Done) ⊎ (status ≡ Memory)
+  pub completes : MayRun most before after → (status ≡ Done) ⊎ (status ≡ Memory)
   -- The script is read to its end, or it is too long: exactly where the source gave more bytes than count. Of these it loses one more at most, however
   -- the run ends, and what is left is the rest.
   pub reads_all : status ≡ Done → (script : List ℕ) → before.left ≡ Some script → after.left ≡ Some []
-  pub within : status ≡ Done → (script : List ℕ) → before.left ≡ Some script → length script ≤ script_most
-  pub long : (most : ℕ) → status ≡ ScriptLong most → (script : List ℕ) → before.left ≡ Some script → (most ≡ script_most) × (script_most < length script)
-  pub draws : (script : List ℕ) → before.left ≡ Some script → (n : ℕ) × (n ≤ script_most + 1) × (after.left ≡ Some (drop n script))
+  pub within : status ≡ Done → (script : List ℕ) → before.left ≡ Some script → length script ≤ most
+  pub long : (max : ℕ) → status ≡ ScriptLong max → (script : List ℕ) → before.left ≡ Some script → (max ≡ most) × (most < length script)
+  pub draws : (script : List ℕ) → before.left ≡ Some script → (n : ℕ) × (n ≤ most + 1) × (after.left ≡ Some (drop n script))
   -- The disk holds a volume, or nothing is done.
   pub opening : OpeningPromise before after status
+
+-- What each command promises.
+abbrev pub Promise : Wish → Outside → Outside → Status → Type 0
+Promise (Format g) before after status = FormatPromise g before after status
+Promise (Run most) before after status = RunPromise most before after status
+Promise Check before after status = CheckPromise before after status
+Promise (Gen seed count) before after status = GenPromise seed count before after status

@@ -11,26 +11,22 @@ use Rattle.transactions.specs.Meant.{meant}
 use Rattle.command_line.specs.declared.status.Status.{Status}
 use Rattle.command_line.specs.declared.status.Status.TheVariants.{Done, Usage, ScriptFault, OutputFault, DiskFault, BadVolume, Memory, Damaged, AlreadyVolume, TooSmall, ScriptLong}
 
--- the most bytes of a script that count
-abbrev pub script_most : ℕ
-script_most = 1099511627776
+-- the status of a run that ended so, where at most so many bytes of a script count: at the end of its script (None), or by a stop
+abbrev pub status_of : ℕ → Option Stopped → Status
+status_of most None = Done
+status_of most (Some stopped.Script) = ScriptFault
+status_of most (Some stopped.Output) = OutputFault
+status_of most (Some stopped.Disk) = DiskFault
+status_of most (Some stopped.Memory) = Memory
+status_of most (Some (stopped.BadVolume part)) = BadVolume part
+status_of most (Some (stopped.Damaged page want got)) = Damaged page want got
+status_of most (Some stopped.ScriptLong) = ScriptLong most
 
--- the status of a run that ended so: at the end of its script (None), or by a stop
-abbrev pub status_of : Option Stopped → Status
-status_of None = Done
-status_of (Some stopped.Script) = ScriptFault
-status_of (Some stopped.Output) = OutputFault
-status_of (Some stopped.Disk) = DiskFault
-status_of (Some stopped.Memory) = Memory
-status_of (Some (stopped.BadVolume part)) = BadVolume part
-status_of (Some (stopped.Damaged page want got)) = Damaged page want got
-status_of (Some stopped.ScriptLong) = ScriptLong script_most
-
--- The run ended with this status, and this is what it did.
-pub record Ran {S : Type 0} (M : Meaning S) (Fresh : View S → Type 0) (table : Table) (was : List ℕ) (before after : Outside) (status : Status) : Type 0 where
+-- The run of a script of at most so many bytes ended with this status, and this is what it did.
+pub record Ran {S : Type 0} (M : Meaning S) (Fresh : View S → Type 0) (most : ℕ) (table : Table) (was : List ℕ) (before after : Outside) (status : Status) : Type 0 where
   pub ending : Option Stopped
-  pub is : status ≡ status_of ending
-  pub headline : Headline M Fresh table was script_most before after ending
+  pub is : status ≡ status_of most ending
+  pub headline : Headline M Fresh table was most before after ending
 
 -- the statuses of a run that took no line: the disk holds no volume, or could not be read, or no memory was there
 abbrev pub IsOpeningStatus : Status → Type 0
@@ -70,13 +66,13 @@ pub record IsOnVolume (entry : Outside) (table : Table) (was : List ℕ) : Type 
   pub settled : Only on.image entry.images
 
 -- What a run needs to reach the end of its script: a volume, a script that isn't too long, and no fault of the outside.
-pub record MayRun (before after : Outside) : Type 0 where
+pub record MayRun (most : ℕ) (before after : Outside) : Type 0 where
   pub table : Table
   pub was : List ℕ
   pub on : HoldsVolume before table was
   pub script : List ℕ
   pub left : before.left ≡ Some script
-  pub within : length script ≤ script_most
+  pub within : length script ≤ most
   pub no_read_fault : Rose before.read_faults after.read_faults → ⊥
   pub no_output_fault : Rose before.write_faults after.write_faults → ⊥
   pub no_disk_fault : Rose before.disk_faults after.disk_faults → ⊥

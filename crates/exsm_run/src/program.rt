@@ -2,11 +2,12 @@
 ghost use Rattle.std.specs.Prelude.{◌≡◌, ◌≢◌, ◌⊎◌, None};
 ghost use Rattle.std.specs.Process.{exit_status};
 ghost use Rattle.command_line.specs.Status.{code_of};
-ghost use Rattle.command_line.specs.Words.{texts, IsOutside};
+ghost use Rattle.command_words.specs.Wishes.{texts, IsOutside};
 
 use crate::status::Status;
 use crate::top_call::run;
-use command_line::{Explanation, StatusLine, file_of};
+use command_line::{Explanation, StatusLine};
+use command_words::{NamedFile, file_of};
 use file_host::FileHost;
 use std::process::ExitCode;
 use std::{env, io};
@@ -16,6 +17,14 @@ use std::{env, io};
 struct Ending {
     status: Status,
     cause: Option<io::Error>,
+}
+
+impl Ending {
+    // No memory was there.
+    const OF_NO_MEMORY: Ending = Ending {
+        status: Status::Memory,
+        cause: None,
+    };
 }
 
 // The words of the command line, without the program's name.
@@ -28,12 +37,11 @@ fn words_of(rt: &HostRuntime) -> io::Result<Vec<String>> {
 }
 
 // Runs the command line on the file that it names. Words outside of the grammar are refused, but for want of memory.
-fn run_words(rt: &HostRuntime, words: &[String]) -> Ending
+fn run_words(rt: &HostRuntime, words: &[String], file: Option<NamedFile<'_>>) -> Ending
     ensures usage { result.status ≡ Status.Usage → IsOutside (texts words.now) }
     ensures outside { IsOutside (texts words.now)
         → (result.status ≡ Status.Usage) ⊎ (result.status ≡ Status.Memory) }
 {
-    let file = file_of(words);
     let path = file.map(|file| file.path);
     let make = file.and_then(|file| file.make);
     match FileHost::open(rt.alloc(), rt, path, make, rt.stdin(), rt.stdout()) {
@@ -42,10 +50,7 @@ fn run_words(rt: &HostRuntime, words: &[String]) -> Ending
             let cause = cause_of(status, &host);
             Ending { status, cause }
         }
-        Err(_) => Ending {
-            status: Status::Memory,
-            cause: None,
-        },
+        Err(_) => Ending::OF_NO_MEMORY,
     }
 }
 
@@ -69,13 +74,14 @@ fn cause_of<V: Drop, I: Drop, O: Drop>(
 }
 
 // Where not all was done, says so on the standard error: why, and the status in the last line. What that gives is the program's exit status.
-fn tell(rt: &HostRuntime, words: &[String], ending: Ending) -> ExitCode
+fn tell(rt: &HostRuntime, words: &[String], volume: Option<&str>, ending: Ending) -> ExitCode
     ensures { exit_status result ≡ code_of ending.status }
 {
     let Ending { status, cause } = ending;
     if let Some(line) = StatusLine::of(status) {
         let _ = rt.eprintln(Explanation {
             words,
+            volume,
             status,
             cause,
         });
@@ -88,16 +94,19 @@ fn tell(rt: &HostRuntime, words: &[String], ending: Ending) -> ExitCode
 /// all, it says so on the standard error. The exit status is the status's code.
 pub fn run_program(rt: HostRuntime) -> ExitCode {
     match words_of(&rt) {
-        Ok(words) => {
-            let ending = run_words(&rt, &words);
-            tell(&rt, &words, ending)
-        }
+        Ok(words) => match file_of(rt.alloc(), &words) {
+            Ok(file) => {
+                let ending = run_words(&rt, &words, file);
+                tell(&rt, &words, file.map(|file| file.path), ending)
+            }
+            Err(_) => tell(&rt, &words, None, Ending::OF_NO_MEMORY),
+        },
         Err(cause) => {
             let ending = Ending {
                 status: Status::of_unread_words(cause.kind()),
                 cause: Some(cause),
             };
-            tell(&rt, &[], ending)
+            tell(&rt, &[], None, ending)
         }
     }
 }

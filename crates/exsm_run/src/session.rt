@@ -8,7 +8,7 @@ use std::alloc::Global;
 use std::marker::Model;
 use table_model::{Command, Reply};
 use talks::Opener;
-use transactions::{Parts, Session};
+use transactions::{Parts, Session, Summary};
 
 /// A session that was opened on the volume of a disk.
 #[derive(Drop)]
@@ -22,6 +22,46 @@ impl Model for VolumeSession {
     ghost Value = { SessionState };
 
     ghost view = { λ s. s.session };
+}
+
+impl VolumeSession {
+    ghost use Rattle.std.specs.Prelude.{◌≢◌, ◌⊎◌, Err, IfOk, OnOk, true};
+    ghost use Rattle.disk_model.specs.Outside.{ReadsOnly, Rose};
+    ghost use Rattle.ex_base.specs.declared.faults.Seen.{Seen};
+    ghost use Rattle.ex_base.specs.declared.names.PageNo.{PageNo};
+    ghost use Rattle.session_views.specs.declared.engine.Stop.{Stop};
+    ghost use Rattle.session_views.specs.View.{View, ShowsNow};
+    ghost use Rattle.transactions.specs.Meant.{meant};
+    ghost use Rattle.transactions.specs.Sessions.{SessionState};
+    ghost use Rattle.transactions.specs.Summaries.{IsSummary};
+
+    /// Sums up what the session shows. The disk is read at most.
+    pub fn summary<H: Host>(&mut self, alloc: Global, host: &mut H) -> Result<Summary, Stop>
+        ensures only { ReadsOnly (H.outside host.old) (H.outside host.new) }
+        ensures disk { result ≡ Err Stop.Disk
+            → Rose (H.outside host.old).disk_faults (H.outside host.new).disk_faults }
+        ensures damaged { (page : PageNo) (want got : Seen)
+            → result ≡ Err (Stop.Damaged page want got) → want ≢ got }
+
+        // Where a view shows, it is the summary of the machine that the view shows, and the view goes on to be shown.
+        ensures sums { (before : View SessionState) → before.session ≡ self.old
+            → ShowsNow meant (H.outside host.old) before
+            → IfOk result (IsSummary before.machine) }
+        ensures shows { (before : View SessionState) → before.session ≡ self.old
+            → ShowsNow meant (H.outside host.old) before
+            → OnOk result (ShowsNow meant (H.outside host.new)
+            (record before { session = self.new })) }
+
+        // Where it shows, nothing but a fault of the disk or want of memory stops it.
+        ensures sound { (before : View SessionState) (stop : Stop) → before.session ≡ self.old
+            → ShowsNow meant (H.outside host.old) before
+            → result ≡ Err stop → (stop ≡ Stop.Disk) ⊎ (stop ≡ Stop.Memory) }
+
+        // Only a session that was down says so.
+        ensures was_down { result ≡ Err Stop.Down → self.old.down ≡ true }
+    {
+        self.session.summary(alloc, host)
+    }
 }
 
 impl Engine for VolumeSession {

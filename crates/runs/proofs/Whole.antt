@@ -51,10 +51,10 @@ record Lined (most : ℕ) (left : Left) (had : List Exchange) (last : Option Rea
   script : (bytes : List ℕ) → left ≡ Some bytes → TakenBy ending most bytes (done ++ line_if next)
   heard : Heard done had
 
-lined : (most : ℕ) (first : Script) (left at : Left) (had : List Exchange) (last : Option Reading) (ending : Option Stopped) → ahead first.reader ≡ [] → counted first.reader ≡ most
-    → HasTalked script_talking first left had last ending at → Lined most left had last ending
-lined most first left at had last None none same talked =
-    let over : IsRead first left had talked.1.0 at = talked.1.1 in record {
+lined : (most : ℕ) (first talk : Script) (left at : Left) (had : List Exchange) (last : Option Reading) (ending : Option Stopped) → ahead first.reader ≡ [] → counted first.reader ≡ most
+    → HasTalked script_talking first left had last ending talk at → Lined most left had last ending
+lined most first talk left at had last None none same talked =
+    let over : IsRead first left had talk at = talked.1 in record {
       done = over.lines;
       next = None;
       asks = subst (λ (l : Option Reading). LastAsks None l) (sym talked.0) tt;
@@ -63,7 +63,7 @@ lined most first left at had last None none same talked =
           (told_script None (ahead first.reader) left left (counted first.reader) most over.lines none same refl over.script bytes told);
       heard = over.heard;
     }
-lined most first left at had last (Some why) none same talked =
+lined most first talk left at had last (Some why) none same talked =
     let broken : IsBrokenOff first left had last why at = talked in record {
       done = broken.lines;
       next = broken.next;
@@ -73,10 +73,10 @@ lined most first left at had last (Some why) none same talked =
       heard = broken.heard;
     }
 
-stepped_lines : {S : Type 0} {M : Meaning S} {Fresh : View S → Type 0} {first : Script} {table : Table} {was : List ℕ} {entry now : Outside} {ending : Option Stopped} (most : ℕ) → ahead first.reader ≡ [] → counted first.reader ≡ most
-    → SteppedTalk M Fresh script_talking first table was entry now ending → SteppedLines M Fresh table was most entry now ending
-stepped_lines {S} {M} {Fresh} {first} {table} {was} {entry} {now} {ending} most none same talk =
-    let lines : Lined most entry.left (exchanges talk.rows) talk.last ending = lined most first entry.left now.left (exchanges talk.rows) talk.last ending none same talk.talked in record {
+stepped_lines : {S : Type 0} {M : Meaning S} {Fresh : View S → Type 0} {first last : Script} {table : Table} {was : List ℕ} {entry now : Outside} {ending : Option Stopped} (most : ℕ) → ahead first.reader ≡ [] → counted first.reader ≡ most
+    → SteppedTalk M Fresh script_talking first last table was entry now ending → SteppedLines M Fresh table was most entry now ending
+stepped_lines {S} {M} {Fresh} {first} {last} {table} {was} {entry} {now} {ending} most none same talk =
+    let lines : Lined most entry.left (exchanges talk.rows) talk.last ending = lined most first last entry.left now.left (exchanges talk.rows) talk.last ending none same talk.talked in record {
       opening = talk.opening;
       time = talk.time;
       opened = talk.opened;
@@ -100,8 +100,8 @@ stepped_lines {S} {M} {Fresh} {first} {table} {was} {entry} {now} {ending} most 
       stops = talk.stops;
     }
 
-pub headline_of : {S : Type 0} {M : Meaning S} {Fresh : View S → Type 0} {first : Script} {table : Table} {was : List ℕ} {entry now : Outside} {ending : Option Stopped} (most : ℕ) → ahead first.reader ≡ [] → counted first.reader ≡ most
-    → TalkHeadline M Fresh script_talking first table was entry now ending → Headline M Fresh table was most entry now ending
+pub headline_of : {S : Type 0} {M : Meaning S} {Fresh : View S → Type 0} {first last : Script} {table : Table} {was : List ℕ} {entry now : Outside} {ending : Option Stopped} (most : ℕ) → ahead first.reader ≡ [] → counted first.reader ≡ most
+    → TalkHeadline M Fresh script_talking first last table was entry now ending → Headline M Fresh table was most entry now ending
 headline_of most none same talk = ⊎_elim (λ stepped. inl (stepped_lines most none same stepped)) (λ unopened. inr unopened) talk
 
 -- ---- what shows without the volume

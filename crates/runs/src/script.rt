@@ -1,9 +1,9 @@
 //! A script as a talk: its lines come from the host's source, and the texts of replies go to its sink.
-ghost use Rattle.std.specs.Prelude.{◌≡◌, ◌+◌, [], Err, length, OnOk, IfOk, IfErr};
+ghost use Rattle.std.specs.Prelude.{◌≡◌, ◌⊎◌, ◌+◌, [], Err, length, OnOk, IfOk, IfErr};
 ghost use Rattle.script_lines.specs.Reader.{ahead, counted, to_take};
 ghost use Rattle.script_replies.specs.ReplyText.{text_of};
 ghost use Rattle.talks.specs.Sending.{SentFront, SentPart};
-ghost use Rattle.talks.specs.Stops.{CausedBy, IsSendingStop};
+ghost use Rattle.talks.specs.Stops.{CausedBy, IsSendingStop, IsTakingStop};
 
 use disk_model::{Host, Sink, send_all};
 use script_lang::parse;
@@ -43,6 +43,8 @@ impl Talk for Script {
     ghost talking = { script_talking };
 
     ghost rest = { λ script. counted script.reader };
+
+    ghost fails = { λ why. IsTakingStop why ⊎ IsSendingStop why };
 
     fn advance<H: Host>(&mut self, _alloc: Global, host: &mut H) -> Result<bool, Stopped> {
         match self.reader.advance(host) {

@@ -110,7 +110,7 @@ opened_at {M = M} {was = was} starts only mid_world goes opened = record {
 pub stepped_whole : {S T : Type 0} {M : Meaning S} {Fresh : View S → Type 0} (K : Talking T) (first talk : T) {entry mid end now : Outside} {session now_session : S} {table : Table} {was : List ℕ} {had : List Exchange} → IsWorld entry → IsWorld mid → IsWorld end
     → (starts : RunStarts M entry table was) → DiskOnly entry mid → Leaves entry mid (λ d. M.StandsFor d table) → (opened : Opened M Fresh table session mid)
     → (so_far : Reached M K.acking opened.view was mid end now_session had) → DiskOnly end now → Leaves end now (λ d. M.StandsFor d so_far.view.machine.committed)
-    → Ended M so_far.view now → K.Over first entry.left had talk now.left → SteppedTalk M Fresh K first table was entry now None
+    → Ended M so_far.view now → K.Over first entry.left had talk now.left → SteppedTalk M Fresh K first talk table was entry now None
 stepped_whole {S} {T} {M} {Fresh} K first talk {entry} {mid} {end} {now} {session} {now_session} {table} {was} {had} world mid_world end_world starts only leaves opened so_far end_only end_leaves ended over =
     let stops = stops_kept so_far end_only end_leaves in record {
       opening = opened.view;
@@ -119,7 +119,7 @@ stepped_whole {S} {T} {M} {Fresh} K first talk {entry} {mid} {end} {now} {sessio
       rows = so_far.rows;
       after = so_far.view;
       last = None;
-      talked = (refl, (talk, subst (λ (l : List Exchange). K.Over first entry.left l talk now.left) (sym so_far.heard) over));
+      talked = (refl, subst (λ (l : List Exchange). K.Over first entry.left l talk now.left) (sym so_far.heard) over);
       at = talk;
       front = [];
       sent = end_only.sent ∙ so_far.sent ∙ ap (λ (l : List ℕ). Some l) (sym (append-nil (was ++ output_of so_far.rows)));
@@ -130,10 +130,10 @@ stepped_whole {S} {T} {M} {Fresh} K first talk {entry} {mid} {end} {now} {sessio
       stops = stops_open K.acking world starts only leaves opened so_far.rows so_far.view.machine None stops;
     }
 
-pub stepped_cut : {S T : Type 0} {M : Meaning S} {Fresh : View S → Type 0} (K : Talking T) (first at : T) {entry mid now : Outside} {session : S} {table : Table} {was : List ℕ} {had : List Exchange} {last : Option Reading} → IsWorld entry → IsWorld mid
+pub stepped_cut : {S T : Type 0} {M : Meaning S} {Fresh : View S → Type 0} (K : Talking T) (first talk at : T) {entry mid now : Outside} {session : S} {table : Table} {was : List ℕ} {had : List Exchange} {last : Option Reading} → IsWorld entry → IsWorld mid
     → (starts : RunStarts M entry table was) → DiskOnly entry mid → Leaves entry mid (λ d. M.StandsFor d table) → (opened : Opened M Fresh table session mid) (why : Stopped)
-    → CutShort M K.acking (K.text at) opened.view was mid now had last why → K.Broken first entry.left had last why now.left → SteppedTalk M Fresh K first table was entry now (Some why)
-stepped_cut {S} {T} {M} {Fresh} K first at {entry} {mid} {now} {session} {table} {was} {had} {last} world mid_world starts only leaves opened why cut broken = record {
+    → CutShort M K.acking (K.text at) opened.view was mid now had last why → K.Broken first entry.left had last why now.left → SteppedTalk M Fresh K first talk table was entry now (Some why)
+stepped_cut {S} {T} {M} {Fresh} K first talk at {entry} {mid} {now} {session} {table} {was} {had} {last} world mid_world starts only leaves opened why cut broken = record {
   opening = opened.view;
   time = mid.clock;
   opened = opened_at starts only mid_world cut.stops.goes opened;

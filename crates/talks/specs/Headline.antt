@@ -32,10 +32,10 @@ pub record OpenedAt {S : Type 0} (M : Meaning S) (Fresh : View S → Type 0) (ta
   pub later : entry.clock ≤ time
   pub shown : ShowsAt M now time was opening
 
--- The volume was opened and lines were stepped, to the end of the talk (None) or to a stop.
+-- The volume was opened and lines were stepped, to the end of the talk (None) or to a stop, from the talk's first value to its last.
 -- The first sentence, what was written: talked, sent, is_front, uncut. The second, the views between: opened, trail, ended. The third, what a stop
 -- leaves: stops.
-pub record SteppedTalk {S T : Type 0} (M : Meaning S) (Fresh : View S → Type 0) (K : Talking T) (first : T) (table : Table) (was : List ℕ) (entry now : Outside) (ending : Option Stopped) : Type 0 where
+pub record SteppedTalk {S T : Type 0} (M : Meaning S) (Fresh : View S → Type 0) (K : Talking T) (first talk : T) (table : Table) (was : List ℕ) (entry now : Outside) (ending : Option Stopped) : Type 0 where
   pub opening : View S
   pub time : ℕ
   pub opened : OpenedAt M Fresh table was entry now time opening
@@ -43,7 +43,7 @@ pub record SteppedTalk {S T : Type 0} (M : Meaning S) (Fresh : View S → Type 0
   pub rows : List (Row S)
   pub after : View S
   pub last : Option Reading
-  pub talked : HasTalked K first entry.left (exchanges rows) last ending now.left
+  pub talked : HasTalked K first entry.left (exchanges rows) last ending talk now.left
   -- what handed in the last line, as it stood when it did
   pub at : T
   pub front : List ℕ
@@ -64,5 +64,5 @@ pub record Unopened {S : Type 0} (M : Meaning S) (table : Table) (was : List ℕ
   pub stops : Along entry now (λ s d. (s ≡ was) × M.StandsFor d table)
 
 -- what a run promises, given how it ends
-abbrev pub TalkHeadline : {S T : Type 0} → Meaning S → (View S → Type 0) → Talking T → T → Table → List ℕ → Outside → Outside → Option Stopped → Type 0
-TalkHeadline M Fresh K first table was entry now ending = SteppedTalk M Fresh K first table was entry now ending ⊎ Unopened M table was entry now ending
+abbrev pub TalkHeadline : {S T : Type 0} → Meaning S → (View S → Type 0) → Talking T → T → T → Table → List ℕ → Outside → Outside → Option Stopped → Type 0
+TalkHeadline M Fresh K first talk table was entry now ending = SteppedTalk M Fresh K first talk table was entry now ending ⊎ Unopened M table was entry now ending

@@ -54,7 +54,7 @@ pub record Talking (T : Type 0) : Type 1 where
   -- Each reply has its text.
   pub tells : (t : T) (told : Reply) → IsReply told → acking.Tells told (text t told)
 
--- The talk ended so: there was no further line (None), or a stop left the last one unanswered.
-abbrev pub HasTalked : {T : Type 0} → Talking T → T → Left → List Exchange → Option Reading → Option Stopped → Left → Type 0
-HasTalked {T} K first left had last None at = (last ≡ None) × ((talk : T) × K.Over first left had talk at)
-HasTalked {T} K first left had last (Some why) at = K.Broken first left had last why at
+-- The talk ended so, with this value: there was no further line (None), or a stop left the last one unanswered.
+abbrev pub HasTalked : {T : Type 0} → Talking T → T → Left → List Exchange → Option Reading → Option Stopped → T → Left → Type 0
+HasTalked K first left had last None talk at = (last ≡ None) × K.Over first left had talk at
+HasTalked K first left had last (Some why) talk at = K.Broken first left had last why at

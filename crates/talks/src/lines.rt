@@ -1,9 +1,9 @@
 //! A session steps on lines, whoever hands them in.
-ghost use Rattle.std.specs.Prelude.{◌≡◌, List, ℕ, OnOk, IfErr};
+ghost use Rattle.std.specs.Prelude.{◌≡◌, ◌⊎◌, List, ℕ, OnOk, IfErr};
 ghost use Rattle.disk_model.specs.Outside.{Goes};
 ghost use Rattle.session_views.specs.View.{View};
 ghost use Rattle.talks.specs.Passage.{Ran, WasCut};
-ghost use Rattle.talks.specs.Stops.{CausedBy, IsLinesStop, IsSoundStop};
+ghost use Rattle.talks.specs.Stops.{CausedBy, IsLinesStop, IsSessionStop, IsSoundStop};
 ghost use Rattle.talks.specs.Transcript.{Opens};
 
 use crate::stopped::{Stopped, stopped_by};
@@ -29,6 +29,7 @@ pub(crate) fn step_lines<E: Engine, T: Talk, H: Host>(
         (H.outside host.new) session.old talk.old why) }
     ensures caused { IfErr result (λ why. CausedBy why (H.outside host.old) (H.outside host.new)) }
     ensures stops { IfErr result IsLinesStop }
+    ensures whence { IfErr result (λ why. IsSessionStop why ⊎ T.fails why) }
     ensures sound { (opening : View E) (was : List ℕ) → opening.session ≡ session.old
         → Opens E.meaning (H.outside host.old) opening was → IfErr result IsSoundStop }
 {

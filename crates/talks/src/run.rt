@@ -5,7 +5,7 @@ ghost use Rattle.table_model.specs.declared.table.Table.{Table};
 ghost use Rattle.session_views.specs.declared.Part.{Part};
 ghost use Rattle.talks.specs.Headline.{HoldsTable, RunStarts, TalkHeadline};
 ghost use Rattle.talks.specs.Passage.{IsBroken, IsOver};
-ghost use Rattle.talks.specs.Stops.{CausedBy, IsOpeningStop, IsSoundStop};
+ghost use Rattle.talks.specs.Stops.{CausedBy, IsOpeningStop, IsSessionStop, IsSoundStop};
 
 use crate::ending::abort_open;
 use crate::lines::step_lines;
@@ -27,11 +27,11 @@ pub fn run_talk<E: Opener + Drop, T: Talk, H: Host>(
     // What was replied, from view to view, and what a stop at any moment leaves.
     ensures whole { OnOk result ((table : Table) (was : List ℕ)
         → RunStarts E.meaning (H.outside host.old) table was
-        → TalkHeadline E.meaning E.fresh T.talking talk.old table was (H.outside host.old)
+        → TalkHeadline E.meaning E.fresh T.talking talk.old talk.new table was (H.outside host.old)
         (H.outside host.new) None) }
     ensures stopped { IfErr result (λ why. (table : Table) (was : List ℕ)
         → RunStarts E.meaning (H.outside host.old) table was
-        → TalkHeadline E.meaning E.fresh T.talking talk.old table was (H.outside host.old)
+        → TalkHeadline E.meaning E.fresh T.talking talk.old talk.new table was (H.outside host.old)
         (H.outside host.new) (Some why)) }
 
     // The talk went to its end, or it was broken, or it wasn't begun.
@@ -40,6 +40,10 @@ pub fn run_talk<E: Opener + Drop, T: Talk, H: Host>(
     ensures broken { IfErr result (λ why. IsBroken T.talking talk.old (H.outside host.old).left why
         (H.outside host.new).left
         ⊎ (IsOpeningStop why × DiskOnly (H.outside host.old) (H.outside host.new))) }
+
+    // The opening stopped it, or the session, or the talk itself.
+    ensures whence { IfErr result
+        (λ why. IsOpeningStop why ⊎ (IsSessionStop why ⊎ T.fails why)) }
 
     // A fault of the outside is answered only where the count of such faults rose, and damage only of two things that differ.
     ensures caused { IfErr result (λ why. CausedBy why (H.outside host.old) (H.outside host.new)) }

@@ -6,6 +6,7 @@ ghost use Rattle.talks.specs.Asking.{reading_of, IsFormed};
 ghost use Rattle.talks.specs.Sending.{SentFront, SentPart};
 ghost use Rattle.talks.specs.Stops.{CausedBy, IsTakingStop, IsSendingStop};
 ghost use Rattle.talks.specs.Talking.{Exchange, Talking, Left};
+ghost use Rattle.talks.specs.declared.stopped.Stopped.{Stopped};
 
 use crate::stopped::Stopped;
 use disk_model::Host;
@@ -31,12 +32,16 @@ pub trait Talk {
     /// How much it may still take: each line takes some.
     ghost rest: { Self → ℕ };
 
+    /// Why its own calls may fail.
+    ghost fails: { Stopped → Type 0 };
+
     /// Takes the next line, and says whether there is one.
     fn advance<H: Host>(&mut self, alloc: Global, host: &mut H) -> Result<bool, Stopped>
         ensures only { SourceOnly (H.outside host.old) (H.outside host.new) }
         ensures caused { IfErr result
             (λ why. CausedBy why (H.outside host.old) (H.outside host.new)) }
         ensures stops { IfErr result IsTakingStop }
+        ensures fails { IfErr result fails }
         ensures fewer { result ≡ Ok true → rest self.new < rest self.old }
 
         // A line waits, or there is none, or the talk is broken.
@@ -60,6 +65,7 @@ pub trait Talk {
         ensures caused { IfErr result
             (λ why. CausedBy why (H.outside host.old) (H.outside host.new)) }
         ensures stops { IfErr result IsSendingStop }
+        ensures fails { IfErr result fails }
         ensures rest { OnOk result (rest self.new ≡ rest self.old) }
 
         // The text was sent whole, or a front of it where the sink failed, or else nothing of it.

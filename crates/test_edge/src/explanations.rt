@@ -1,6 +1,7 @@
 //! What the program says of how it ended.
 
-use command_line::{Explanation, Status, StatusLine, USAGE, file_of, misuse_of};
+use command_line::{Explanation, Status, StatusLine, Usage};
+use command_words::CommandWord;
 use ex_base::{Geometry, PageNo, Seen};
 use session_views::Part;
 use std::alloc::{AllocError, Global};
@@ -19,91 +20,40 @@ fn words_of(alloc: Global, line: &str) -> Result<Vec<String>, AllocError> {
 }
 
 #[test]
-fn wrong_words_are_told_by_the_first_thing_that_is_wrong(rt: HostRuntime) -> Result<(), Fail> {
+fn wrong_words_are_told_by_the_grammar_of_their_command(rt: HostRuntime) -> Result<(), Fail> {
     let alloc = rt.alloc();
     let rows = [
-        ("", "no command"),
-        ("frob v", "'frob' is no command"),
+        ("", "no command", None),
+        ("frob v", "'frob' is no command", None),
         (
             "run",
-            "run takes one word, the volume; the script is standard input",
+            "the words aren't in the command's grammar",
+            Some(CommandWord::Run),
         ),
         (
             "format -v",
-            "format takes the volume first, a word that doesn't begin with '-'",
-        ),
-        (
-            "format v --pages 64",
-            "--page-size is wanted before '--pages': all five options, in this order",
-        ),
-        (
-            "format v",
-            "--page-size is wanted at the end: all five options, in this order",
-        ),
-        ("format v --page-size", "--page-size takes a number"),
-        (
-            "format v --page-size +512",
-            "--page-size takes a number of decimal digits, not '+512'",
-        ),
-        (
-            "format v --page-size 512 --pages 64 --segs 16 --seg-len 1 --fan 2 w",
-            "'w' follows the five options",
-        ),
-        (
-            "format v --page-size 512 --pages 64 --segs 16 --seg-len 1 --fan 21",
-            "at page size 512 the fan is 2 to 20, not 21",
+            "the words aren't in the command's grammar",
+            Some(CommandWord::Format),
         ),
     ];
-    for (line, text) in rows {
+    for (line, text, command) in rows {
         let words = words_of(alloc, line)?;
         let told = Explanation {
             words: &words,
+            volume: None,
             status: Status::Usage,
             cause: None,
         };
-        let wanted = format!(in alloc; "exsm: {text}\n{USAGE}")?;
+        let usage = Usage(command);
+        let wanted = format!(in alloc; "exsm: {text}\n{usage}")?;
         assert_eq!(rt; format!(in alloc; "{told}")?.as_str(), wanted.as_str());
-        assert!(rt; file_of(&words).is_none());
-    }
-    for line in [FORMAT, "run v"] {
-        let words = words_of(alloc, line)?;
-        assert!(rt; misuse_of(&words).is_none());
-        assert!(rt; file_of(&words).is_some());
     }
     Ok(())
 }
 
-// The limits that texts name are those that geometries keep.
+// The limits that the grammar of `format` names are those that geometries keep.
 #[test]
 fn limits_that_texts_name_are_kept(rt: HostRuntime) -> Result<(), Fail> {
-    let alloc = rt.alloc();
-    let rows = [
-        (
-            "500 64 16 1 2",
-            "--page-size is 512, 1024, 2048, 4096 or 8192, not 500",
-        ),
-        ("512 0 16 1 2", "--pages is 1 to 4000000, not 0"),
-        ("512 4000001 16 1 2", "--pages is 1 to 4000000, not 4000001"),
-        ("512 64 4000001 1 2", "--segs is 0 to 4000000, not 4000001"),
-        ("512 64 16 0 2", "--seg-len is 1 to 16, not 0"),
-        ("512 64 16 17 2", "--seg-len is 1 to 16, not 17"),
-        (
-            "8192 64 16 1 341",
-            "at page size 8192 the fan is 2 to 340, not 341",
-        ),
-    ];
-    for (numbers, text) in rows {
-        let mut line = format!(in alloc; "format v")?;
-        let names = ["--page-size", "--pages", "--segs", "--seg-len", "--fan"];
-        for (name, number) in names.iter().zip(numbers.split(' ')) {
-            line.push_str(&format!(in alloc; " {name} {number}")?)?;
-        }
-        let words = words_of(alloc, &line)?;
-        let Some(misuse) = misuse_of(&words) else {
-            return Err("a number that breaks its limit was taken".into());
-        };
-        assert_eq!(rt; format!(in alloc; "{misuse}")?.as_str(), text);
-    }
     for page_size in [512, 1024, 2048, 4096, 8192] {
         for (pages, segs, seg_len) in [(1, 0, 1), (4_000_000, 4_000_000, 16)] {
             assert!(rt; Geometry::make(page_size, pages, segs, seg_len, 2).is_ok());
@@ -213,6 +163,7 @@ fn each_status_has_its_reason(rt: HostRuntime) -> Result<(), Fail> {
         let words = words_of(alloc, line)?;
         let told = Explanation {
             words: &words,
+            volume: words.get(1).map(|word| word.as_str()),
             status,
             cause,
         };

@@ -1,6 +1,6 @@
 //! `format` over a host in memory.
 use ex_base::Geometry;
-use exsm_run::{Status, run, volume_of};
+use exsm_run::{Status, file_of, run};
 use memory_host::{Choice, MemoryHost};
 use std::alloc::{AllocError, Global};
 use std::process::Abort;
@@ -17,7 +17,7 @@ const CALLS: u64 = 8;
 /// The front of its superblock.
 const SUPER: [u8; 32] = [
     0x45, 0x58, 0x53, 0x4d, 0x56, 0x4f, 0x4c, 0x31, 0, 0, 2, 0, 0, 0, 0, 0x40, 0, 0, 0, 0x10, 0, 0,
-    0, 1, 0, 0, 0, 2, 0, 0, 0, 1,
+    0, 1, 0, 0, 0, 2, 0, 0, 0, 2,
 ];
 
 /// The front of its catalog.
@@ -109,19 +109,18 @@ fn words_outside_of_the_grammar(rt: HostRuntime) -> Result<(), Fail> {
         "",
         "run",
         "format",
-        "format v",
         "format -v --page-size 512 --pages 64 --segs 16 --seg-len 1 --fan 2",
         "format v --page-size 512 --pages 64 --segs 16 --seg-len 1 --fan 21",
         "format v --page-size 512 --pages 0 --segs 16 --seg-len 1 --fan 2",
         "format v --page-size 512 --pages +64 --segs 16 --seg-len 1 --fan 2",
         "format v --page-size 512 --pages 4294967360 --segs 16 --seg-len 1 --fan 2",
         "format v --page-size 512 --pages 000000000000000000064 --segs 16 --seg-len 1 --fan 2",
-        "format v --pages 64 --page-size 512 --segs 16 --seg-len 1 --fan 2",
+        "format v --pages 64 --page-size 512 --pages 64",
         "format v --page-size 512 --pages 64 --segs 16 --seg-len 1 --fan 2 w",
     ];
     for line in rows {
         let words = words_of(alloc, line)?;
-        assert!(rt; volume_of(alloc, &words)?.is_none(), "{line}");
+        assert!(rt; file_of(alloc, &words)?.is_none(), "{line}");
         let mut host = blank(alloc, 8, &[], None)?;
         assert_eq!(rt; run(alloc, &words, &mut host), Status::Usage, "{line}");
         assert_eq!(rt; host.calls(), 0);
@@ -130,15 +129,12 @@ fn words_outside_of_the_grammar(rt: HostRuntime) -> Result<(), Fail> {
         alloc,
         "format v --page-size 0512 --pages 00000000000000000064 --segs 16 --seg-len 1 --fan 20",
     )?;
-    let Some(target) = volume_of(alloc, &words)? else {
+    let Some(file) = file_of(alloc, &words)? else {
         assert!(rt; false);
         return Ok(());
     };
-    assert_eq!(rt; target.volume, 1);
-    assert_eq!(rt;
-        target.make.map(|geometry| geometry.volume_bytes()),
-        Some(172_544)
-    );
+    assert_eq!(rt; file.path, "v");
+    assert_eq!(rt; file.make, Some(172_544));
     Ok(())
 }
 

@@ -14,6 +14,8 @@ none_is None never is = is
 none_is (Some x) never is = absurd (never x refl)
 
 pub returns-in_default-clause-bad : goal.returns-in_default-clause-bad
-returns-in_default-clause-bad g c = λ part is told bytes shows.
-    (same_part _ _ is, λ named. absurd (not_read c.args.geometry.now bytes (g.P.Ground.image c.args.pages.now) c.args.level c.args.page.0 c.requires.level shows
-    (none_is c.in-Ok.found c.in_default.not-Some (c.in-Ok.ensures.none told)) named))
+returns-in_default-clause-bad g c = λ part is told bytes shows. (
+  same_part _ _ is,
+  λ named. absurd (not_read c.args.geometry.now bytes (g.P.Ground.image c.args.pages.now) c.args.level c.args.page.0 c.requires.level shows
+      (none_is c.in-Ok.found c.in_default.not-Some (c.in-Ok.ensures.none told)) named),
+)

@@ -1,4 +1,4 @@
-use Rattle.std.proofs.Common.{rules, ◌≡◌, Some, None, [], ◌∷◌, ◌++◌, sym, subst, refl}
+use Rattle.std.proofs.Common.{rules, ◌≡◌, Some, None, [], ◌∷◌, ◌++◌, inl, inr, sym, subst, refl}
 use Rattle.std.proofs.lemmas.Result.{err_from_is_err_and}
 use Rattle.disk_model.specs.Runs.{goes_refl, goes_trans}
 use Rattle.table_model.specs.Requests.{request_of}
@@ -44,6 +44,11 @@ returns-in_err-advance-clause-stops g c =
     let p = err_from_is_err_and c.from_residual.result c.from_residual.ensures.1 in
     rw (p.1, p.2) (taking_lines c.in_err-advance.field-0.0 c.in_err-advance.ensures.stops)
 
+pub returns-in_err-advance-clause-whence : goal.returns-in_err-advance-clause-whence
+returns-in_err-advance-clause-whence g c =
+    let p = err_from_is_err_and c.from_residual.result c.from_residual.ensures.1 in
+    rw (p.1, p.2) (inr c.in_err-advance.ensures.fails)
+
 pub returns-in_err-advance-clause-sound : goal.returns-in_err-advance-clause-sound
 returns-in_err-advance-clause-sound g c opening was same opens =
     let p = err_from_is_err_and c.from_residual.result c.from_residual.ensures.1 in
@@ -87,6 +92,9 @@ returns-in-Err-clause-cut g c =
 
 pub returns-in-Err-clause-stops : goal.returns-in-Err-clause-stops
 returns-in-Err-clause-stops g c = session_lines c.stopped_by.result (session_stop c.in-Err.stop c.stopped_by.result c.stopped_by.ensures)
+
+pub returns-in-Err-clause-whence : goal.returns-in-Err-clause-whence
+returns-in-Err-clause-whence g c = inl (session_stop c.in-Err.stop c.stopped_by.result c.stopped_by.ensures)
 
 pub returns-in-Err-clause-sound : goal.returns-in-Err-clause-sound
 returns-in-Err-clause-sound g c opening was same opens =
@@ -192,6 +200,11 @@ pub returns-in_err-tell-clause-stops : goal.returns-in_err-tell-clause-stops
 returns-in_err-tell-clause-stops g c =
     let p = err_from_is_err_and c.from_residual-in_err-tell.result c.from_residual-in_err-tell.ensures.1 in
     rw (p.1, p.2) (sending_lines c.in_err-tell.field-0.0 c.in_err-tell.ensures.stops)
+
+pub returns-in_err-tell-clause-whence : goal.returns-in_err-tell-clause-whence
+returns-in_err-tell-clause-whence g c =
+    let p = err_from_is_err_and c.from_residual-in_err-tell.result c.from_residual-in_err-tell.ensures.1 in
+    rw (p.1, p.2) (inr c.in_err-tell.ensures.fails)
 
 pub returns-in_err-tell-clause-sound : goal.returns-in_err-tell-clause-sound
 returns-in_err-tell-clause-sound g c opening was same opens =

@@ -1,4 +1,4 @@
-use Rattle.std.proofs.Common.{Err, inl, inr, sym, ap, subst}
+use Rattle.std.proofs.Common.{Err, ◌⊎◌, ⊎_elim, inl, inr, sym, ap, subst}
 use Rattle.std.proofs.lemmas.Result.{err_from_is_err_and, IfOk-at_ok, IfErr-at_err}
 use Rattle.ex_base.proofs.Results.{on_ok_from}
 use Rattle.talks.specs.Stops.{IsOpeningStop, IsSessionStop, IsSoundStop}
@@ -20,7 +20,15 @@ returns-in-Err-clause-sound g c table was on =
     subst IsSoundStop (sym c.unopened_by.ensures) (opening_sound c.in-Err.fault (λ part fault.
     g.E.Engine.meaning.no_table on.image table part on.stands (c.in-Err.ensures.bad part (ap (λ f. Err f) fault) on.image on.holds)))
 
+pub returns-in-Err-clause-whence : goal.returns-in-Err-clause-whence
+returns-in-Err-clause-whence g c = inl (subst IsOpeningStop (sym c.unopened_by.ensures) (opening_stop c.in-Err.fault))
+
 -- ---- the stepping of the lines stopped
+
+pub returns-in_err-step_lines-clause-whence : goal.returns-in_err-step_lines-clause-whence
+returns-in_err-step_lines-clause-whence g c =
+    let p = err_from_is_err_and c.from_residual.result c.from_residual.ensures.1 in
+    rw (p.1, p.2) (inr c.in_err-step_lines.ensures.whence)
 
 pub returns-in_err-step_lines-clause-stopped : goal.returns-in_err-step_lines-clause-stopped
 returns-in_err-step_lines-clause-stopped g c =
@@ -31,7 +39,7 @@ returns-in_err-step_lines-clause-stopped g c =
     let leaves = leaves_table starts (c.open.ensures.any_moment starts.on.image starts.on.honest starts.on.holds) in
     let opened = c.in-Ok.ensures.shows starts.on.image table starts.on.honest starts.on.holds starts.on.stands in
     let cut = c.in_err-step_lines.ensures.cut in
-    inl (stepped_cut K c.args.talk.now cut.at (g.H.World.is_world c.args.host.now) (g.H.World.is_world c.open.new.host) starts c.open.ensures.only leaves opened why
+    inl (stepped_cut K c.args.talk.now c.step_lines.new.talk cut.at (g.H.World.is_world c.args.host.now) (g.H.World.is_world c.open.new.host) starts c.open.ensures.only leaves opened why
     (cut.cut opened.view was opened.is (opens_of starts.on c.open.ensures.only opened))
     (subst (λ (left : Left). K.Broken c.args.talk.now left cut.had cut.last why (g.H.World.outside c.step_lines.new.host).left) c.open.ensures.only.left cut.broken)))
 
@@ -76,9 +84,12 @@ returns-clause-stopped g c = if_err_from c.abort_open.result _ (λ why is table 
     let talk = c.step_lines.new.talk in
     let over = subst (λ (left : Left). K.Over c.args.talk.now left ran.had talk (g.H.World.outside c.abort_open.new.host).left) c.open.ensures.only.left
     (subst (λ (at : Left). K.Over c.args.talk.now (g.H.World.outside c.open.new.host).left ran.had talk at) (sym c.abort_open.ensures.only.left) ran.over) in
-    inl (stepped_cut K c.args.talk.now talk (g.H.World.is_world c.args.host.now) (g.H.World.is_world c.open.new.host) starts c.open.ensures.only leaves opened why
+    inl (stepped_cut K c.args.talk.now talk talk (g.H.World.is_world c.args.host.now) (g.H.World.is_world c.open.new.host) starts c.open.ensures.only leaves opened why
     (cut_ending (K.text talk) so_far (g.H.World.is_world c.step_lines.new.host) c.abort_open.ensures.only (c.abort_open.ensures.any_moment so_far.view so_far.is so_far.shows) why)
     (K.ended c.args.talk.now talk (g.H.World.outside c.args.host.now).left (g.H.World.outside c.abort_open.new.host).left ran.had why over part)))
+
+pub returns-clause-whence : goal.returns-clause-whence
+returns-clause-whence g c = if_err_from c.abort_open.result _ (λ why is. inr (inl (IfErr-at_err IsSessionStop is c.abort_open.ensures.stops)))
 
 pub returns-clause-sound : goal.returns-clause-sound
 returns-clause-sound g c table was on =

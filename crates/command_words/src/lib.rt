@@ -1,0 +1,12 @@
+//! The words of the command line: what they ask for, and on which volume.
+#![tactic(auto)]
+
+mod commands;
+mod numbers;
+mod parse;
+mod request;
+mod wish;
+
+pub use commands::CommandWord;
+pub use request::{NamedFile, Request, file_of, request_of, wish_of};
+pub use wish::Wish;

@@ -1,0 +1,228 @@
+-- What `gen` promises.
+use Rattle.std.proofs.Common.{◌≡◌, ◌≢◌, ◌∙◌, ◌⊎◌, ⊎_elim, ◌<◌, ◌^◌, ℕ, List, [], ◌∷◌, ◌++◌, Option, None, Some, Result, Err, IsTrue, length, take, inl, inr, refl, sym, ap, subst, arith}
+use Rattle.std.proofs.lemmas.List.{append-nil}
+use Rattle.std.specs.List.{flat_map}
+use Rattle.std.specs.Prelude.{is_some}
+use Rattle.disk_model.specs.Outside.{Outside, Along, Between, DiskOnly, Goes, IsWorld, Only, Rose, SinkOnly, WritesNothing}
+use Rattle.disk_model.specs.Runs.{along_sink, along_wider}
+use Rattle.ex_base.specs.declared.names.PageNo.{PageNo}
+use Rattle.ex_base.specs.declared.faults.Seen.{Seen}
+use Rattle.table_model.specs.declared.reply.Reply.{Reply}
+use Rattle.table_model.specs.declared.table.Table.{Table}
+use Rattle.session_views.specs.declared.part.Part.{Part}
+use Rattle.session_views.specs.View.{View}
+use Rattle.talks.specs.Headline.{HoldsTable, RunStarts, OpenedAt, SteppedTalk, TalkHeadline, Unopened}
+use Rattle.talks.specs.Passage.{IsBroken, IsOver}
+use Rattle.talks.specs.Stops.{CausedBy, IsOpeningStop, IsSessionStop, IsSoundStop}
+use Rattle.talks.specs.Talking.{Exchange}
+use Rattle.talks.specs.Transcript.{Row, IsRunMoment, exchanges, output_of, request_in}
+use Rattle.talks.specs.declared.stopped.Stopped.{Stopped}
+use Rattle.talks.specs.declared.stopped.Stopped.TheVariants as stopped
+use Rattle.talks.proofs.Rows.{shows_at_later, trail_later}
+use Rattle.generated.specs.GeneratedTalk.{generated_talking, silent_acking}
+use Rattle.generated.specs.Lines.{to_come}
+use Rattle.generated.specs.Replies.{IsTallyOf, gen_line}
+use Rattle.generated.specs.Script.{generated}
+use Rattle.generated.specs.Talked.{Heard, replies_of}
+use Rattle.generated.specs.declared.talk.Generated.{Generated}
+use Rattle.transactions.specs.Meant.{meant}
+use Rattle.transactions.specs.Sessions.{SessionState}
+use Rattle.volume_model.specs.Parts.{FirstBad, StandsFor}
+use Rattle.command_line.specs.declared.status.Status.{Status}
+use Rattle.command_line.specs.declared.status.Status.TheVariants as status
+use Rattle.exsm_run.specs.Check.{IsLineStatus}
+use Rattle.exsm_run.specs.Fresh.{IsFresh}
+use Rattle.exsm_run.specs.Generate.{Answered, GenPromise, StandsForOne, ToldOf}
+use Rattle.exsm_run.specs.Openings.{OpeningPromise}
+use Rattle.exsm_run.specs.Script.{HoldsVolume, IsOnVolume, status_of}
+use Rattle.exsm_run.proofs.Checking.{SentLine, line_good, line_ends}
+use Rattle.exsm_run.proofs.Ending.{left_alone, opening_status, starts_on}
+
+-- ---- how it is stopped
+
+-- what may stop it
+abbrev pub StopsGen : Stopped → Type 0
+StopsGen why = IsOpeningStop why ⊎ (IsSessionStop why ⊎ (why ≡ stopped.Memory))
+
+pub no_script : (why : Stopped) → StopsGen why → status_of 0 (Some why) ≡ status.ScriptFault → ⊥
+no_script stopped.Script (inl h) is = h
+no_script stopped.Script (inr (inl h)) is = h
+no_script stopped.Script (inr (inr h)) is = cc
+no_script stopped.Output whence is = cc
+no_script stopped.Disk whence is = cc
+no_script stopped.Memory whence is = cc
+no_script (stopped.BadVolume part) whence is = cc
+no_script (stopped.Damaged page want got) whence is = cc
+no_script stopped.ScriptLong whence is = cc
+
+pub no_output : (why : Stopped) → StopsGen why → status_of 0 (Some why) ≡ status.OutputFault → ⊥
+no_output stopped.Script whence is = cc
+no_output stopped.Output (inl h) is = h
+no_output stopped.Output (inr (inl h)) is = h
+no_output stopped.Output (inr (inr h)) is = cc
+no_output stopped.Disk whence is = cc
+no_output stopped.Memory whence is = cc
+no_output (stopped.BadVolume part) whence is = cc
+no_output (stopped.Damaged page want got) whence is = cc
+no_output stopped.ScriptLong whence is = cc
+
+not_output : (why : Stopped) → StopsGen why → why ≡ stopped.Output → ⊥
+not_output why whence is = no_output why whence (ap (λ (w : Stopped). status_of 0 (Some w)) is)
+
+no_done : (why : Stopped) → status_of 0 (Some why) ≡ status.Done → ⊥
+no_done stopped.Script is = cc
+no_done stopped.Output is = cc
+no_done stopped.Disk is = cc
+no_done stopped.Memory is = cc
+no_done (stopped.BadVolume part) is = cc
+no_done (stopped.Damaged page want got) is = cc
+no_done stopped.ScriptLong is = cc
+
+sound_kind : (why : Stopped) → StopsGen why → IsSoundStop why → IsLineStatus (status_of 0 (Some why))
+sound_kind stopped.Script (inl h) sound = h
+sound_kind stopped.Script (inr (inl h)) sound = h
+sound_kind stopped.Script (inr (inr h)) sound = absurd (cc)
+sound_kind stopped.Output whence sound = tt
+sound_kind stopped.Disk whence sound = tt
+sound_kind stopped.Memory whence sound = tt
+sound_kind (stopped.BadVolume part) whence sound = sound
+sound_kind (stopped.Damaged page want got) whence sound = sound
+sound_kind stopped.ScriptLong (inl h) sound = h
+sound_kind stopped.ScriptLong (inr (inl h)) sound = h
+sound_kind stopped.ScriptLong (inr (inr h)) sound = absurd (cc)
+
+disk_is : (why : Stopped) → status_of 0 (Some why) ≡ status.DiskFault → why ≡ stopped.Disk
+disk_is stopped.Script is = absurd (cc)
+disk_is stopped.Output is = absurd (cc)
+disk_is stopped.Disk is = refl
+disk_is stopped.Memory is = absurd (cc)
+disk_is (stopped.BadVolume part) is = absurd (cc)
+disk_is (stopped.Damaged page want got) is = absurd (cc)
+disk_is stopped.ScriptLong is = absurd (cc)
+
+bad_is : (why : Stopped) (part : Part) → status_of 0 (Some why) ≡ status.BadVolume part → why ≡ stopped.BadVolume part
+bad_is stopped.Script part is = absurd (cc)
+bad_is stopped.Output part is = absurd (cc)
+bad_is stopped.Disk part is = absurd (cc)
+bad_is stopped.Memory part is = absurd (cc)
+bad_is (stopped.BadVolume p) part is = cc
+bad_is (stopped.Damaged page want got) part is = absurd (cc)
+bad_is stopped.ScriptLong part is = absurd (cc)
+
+-- ---- what was sent by then
+
+-- Nothing is sent for a line.
+no_texts : (lines : List (List ℕ)) (rows : List (Row SessionState)) → Heard lines (exchanges rows) → output_of rows ≡ []
+no_texts [] [] heard = refl
+no_texts [] (row ∷ rows) heard = absurd heard
+no_texts (line ∷ lines) [] heard = absurd heard
+no_texts (line ∷ lines) (row ∷ rows) heard = ap (λ (t : List ℕ). t ++ output_of rows) heard.0.text ∙ no_texts lines rows heard.1
+
+none_sent : (was out front : List ℕ) → out ≡ [] → front ≡ [] → was ++ out ++ front ≡ was
+none_sent was out front none no_front =
+    ap (λ (t : List ℕ). was ++ t ++ front) none ∙ ap (λ (t : List ℕ). was ++ [] ++ t) no_front ∙ append-nil (was ++ []) ∙ append-nil was
+
+sent_none : {a b : Outside} {first talk : Generated} {table : Table} {was : List ℕ} (ending : Option Stopped) → (ending ≡ Some stopped.Output → ⊥)
+    → TalkHeadline meant IsFresh generated_talking first talk table was a b ending → b.sent ≡ Some was
+sent_none {first = first} None fine (inl s) = s.sent ∙ ap Some (none_sent _ _ _ (no_texts (to_come first.lines) s.rows s.talked.1.heard) (s.uncut fine))
+sent_none (Some why) fine (inl s) = s.sent ∙ ap Some (none_sent _ _ _ (no_texts s.talked.lines s.rows s.talked.heard) (s.uncut fine))
+sent_none ending fine (inr u) = u.sent
+
+-- ---- what a crash leaves
+
+stands_moments : {a b : Outside} {first talk : Generated} {table : Table} {was : List ℕ} (ending : Option Stopped)
+    → TalkHeadline meant IsFresh generated_talking first talk table was a b ending → Along a b StandsForOne
+stands_moments ending (inl s) = along_wider _ StandsForOne s.stops (λ sent d moment. (moment.table, moment.stands))
+stands_moments {table = table} ending (inr u) = along_wider _ StandsForOne u.stops (λ sent d moment. (table, moment.1))
+
+moments_on : {a b c : Outside} {was : List ℕ} → Along a b StandsForOne → SinkOnly b c → b.sent ≡ Some was → Along a c StandsForOne
+moments_on {a} {b} {c} {was} so_far only sent =
+    along_sink StandsForOne so_far only (ap is_some sent) (λ s d image between. so_far.stands.now was d sent image)
+
+-- ---- it was stopped
+
+pub gen_stopped : {a b : Outside} (seed count : ℕ) (first : Generated) (talk : Generated) (why : Stopped) → IsWorld a → StopsGen why → CausedBy why a b
+    → ((table : Table) (was : List ℕ) → RunStarts meant a table was → TalkHeadline meant IsFresh generated_talking first talk table was a b (Some why))
+    → (IsBroken generated_talking first a.left why b.left ⊎ (IsOpeningStop why × DiskOnly a b))
+    → ((table : Table) (was : List ℕ) → HoldsTable meant a table was → IsSoundStop why)
+    → ((part : Part) → why ≡ stopped.BadVolume part → (image : List ℕ) → a.disk ≡ Some image → FirstBad image part)
+    → ((part : Part) → why ≡ stopped.BadVolume part → WritesNothing a b)
+    → ((part : Part) → why ≡ stopped.BadVolume part → (image : List ℕ) → IsTrue a.honest → a.disk ≡ Some image → (b.disk ≡ Some image) × Only image b.images)
+    → ((image : List ℕ) (part : Part) → a.disk ≡ Some image → FirstBad image part → IsOpeningStop why)
+    → ((image : List ℕ) (part : Part) → a.disk ≡ Some image → FirstBad image part → WritesNothing a b)
+    → GenPromise seed count a b (status_of 0 (Some why))
+gen_stopped {a} {b} seed count first talk why world whence caused headline broken sound bad bad_only bad_kept unopened left = record {
+  done = λ table was on is. absurd (no_done why is);
+  front = λ table was on is. absurd (no_output why whence is);
+  nothing = λ table was on done output. sent_none (Some why) (λ is. not_output why whence (cc)) (headline table was (starts_on on));
+  left = ⊎_elim (λ cut. cut.2.left_so) (λ unopened. unopened.1.left) broken;
+  moments = λ table was on. stands_moments (Some why) (headline table was (starts_on on));
+  sound = λ table was on. sound_kind why whence (sound table was on);
+  completes = λ may. line_ends (status_of 0 (Some why)) (sound_kind why whence (sound may.table may.was may.on)) (no_output why whence)
+      (λ is. may.no_disk_fault (subst (λ (w : Stopped). CausedBy w a b) (disk_is why is) caused));
+  opening = record {
+    bad = λ part is. bad part (bad_is why part is);
+    unopened = λ image part holds fails. opening_status 0 why (unopened image part holds fails);
+    left = λ image part holds fails. left_alone world (left image part holds fails);
+    only = λ part is. left_alone world (bad_only part (bad_is why part is));
+    kept = λ part is. bad_kept part (bad_is why part is);
+  };
+}
+
+-- ---- all lines were answered
+
+answered_on : {a b c : Outside} {first talk : Generated} {table : Table} {was : List ℕ} → IsWorld b → Goes b c
+    → (s : SteppedTalk meant IsFresh generated_talking first talk table was a b None) → Answered table was a c (exchanges s.rows)
+answered_on {was = was} world goes s = record {
+  opening = s.opening;
+  time = s.time;
+  opened = record { starts = s.opened.starts; fresh = s.opened.fresh; later = s.opened.later; shown = shows_at_later meant world goes s.opened.shown };
+  rows = s.rows;
+  last = s.after;
+  are = refl;
+  trail = trail_later meant was s.time [] s.opening s.after s.rows world goes s.trail;
+}
+
+told_of : {a b c : Outside} {table : Table} {was : List ℕ} (seed count : ℕ) (first talk : Generated) (line : List ℕ) → IsWorld b → Goes b c → to_come first.lines ≡ generated seed count
+    → length (to_come first.lines) < 2 ^ 64 → IsTallyOf [] first.tally → ((replies : List Reply) → IsTallyOf replies talk.tally → line ≡ gen_line replies)
+    → TalkHeadline meant IsFresh generated_talking first talk table was a b None → ToldOf seed count table was a c line
+told_of seed count first talk line world goes script few none made (inl s) = record {
+  had = exchanges s.rows;
+  heard = subst (λ (lines : List (List ℕ)). Heard lines (exchanges s.rows)) script s.talked.1.heard;
+  answered = answered_on world goes s;
+  line_is = made (replies_of (exchanges s.rows)) (s.talked.1.tallied [] none (omega (arith, few)));
+}
+told_of seed count first talk line world goes script few none made (inr u) = absurd (let is = u.is in cc)
+
+pub gen_sent : {a b c : Outside} (s : Status) (seed count : ℕ) (first talk : Generated) (line : List ℕ) → IsWorld b → Goes a b → to_come first.lines ≡ generated seed count
+    → length (to_come first.lines) < 2 ^ 64 → IsTallyOf [] first.tally
+    → ((s ≡ status.Done) ⊎ (s ≡ status.OutputFault) → (replies : List Reply) → IsTallyOf replies talk.tally → line ≡ gen_line replies)
+    → ((table : Table) (was : List ℕ) → RunStarts meant a table was → TalkHeadline meant IsFresh generated_talking first talk table was a b None)
+    → IsOver generated_talking first a.left b.left
+    → ((image : List ℕ) (part : Part) → a.disk ≡ Some image → FirstBad image part → ⊥)
+    → SentLine s b c line → GenPromise seed count a c s
+gen_sent {a} {b} {c} s seed count first talk line world goes script few none made headline over good sent =
+    let told : (s ≡ status.Done) ⊎ (s ≡ status.OutputFault) → (table : Table) (was : List ℕ) → IsOnVolume a table was → ToldOf seed count table was a c line =
+    λ is table was on. told_of seed count first talk line world sent.only.goes script few none (made is) (headline table was (starts_on on)) in
+    let before : (table : Table) (was : List ℕ) → IsOnVolume a table was → b.sent ≡ Some was = λ table was on. sent_none None (λ is. cc) (headline table was (starts_on on)) in
+    record {
+      done = λ table was on is. (line, told (inl is) table was on, sent.done is was (before table was on));
+      front = λ table was on is. (line, told (inr is) table was on, sent.front is was (before table was on));
+      nothing = λ table was on done output. sent.nothing done output ∙ before table was on;
+      left = sent.only.left ∙ over.2.left_so;
+      moments = λ table was on. moments_on (stands_moments None (headline table was (starts_on on))) sent.only (before table was on);
+      sound = λ table was on. sent.kind;
+      completes = λ may. line_ends s sent.kind (λ output. may.no_output_fault (let rose = sent.output output in omega (arith, rose, goes.write_faults))) sent.no_disk;
+      opening = record {
+        bad = λ part is. absurd (line_good s part sent.kind is);
+        unopened = λ image part holds fails. absurd (good image part holds fails);
+        left = λ image part holds fails. absurd (good image part holds fails);
+        only = λ part is. absurd (line_good s part sent.kind is);
+        kept = λ part is. absurd (line_good s part sent.kind is);
+      };
+    }
+
+-- ---- one error is one stop
+
+pub same_stop : {X : Type 0} {a b : Stopped} → ◌≡◌ {A = Result X Stopped} (Err a) (Err b) → a ≡ b
+same_stop is = cc

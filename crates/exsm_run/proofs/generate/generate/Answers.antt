@@ -1,0 +1,45 @@
+use Rattle.std.proofs.Common.{◌≡◌, ◌∙◌, ⊎_elim, [], refl, sym, ap, subst, arith, Err}
+use Rattle.ex_base.proofs.Results.{if_no_error}
+use Rattle.talks.specs.Stops.{IsOpeningStop}
+use Rattle.command_line.specs.declared.status.Status.{Status}
+use Rattle.exsm_run.specs.Generate.{GenPromise}
+use Rattle.exsm_run.proofs.Checking.{cut_line, unsent, whole_line, at_error}
+use Rattle.exsm_run.proofs.Generating.{gen_stopped, gen_sent, same_stop}
+use Rattle.exsm_run.proofs.generate.generate.Goals as goal
+
+pub returns-in-Err-clause-promise : goal.returns-in-Err-clause-promise
+returns-in-Err-clause-promise g c =
+    let promise = c.in-Err.ensures in
+    subst (λ (s : Status). GenPromise c.args.seed c.args.count (g.H.World.outside c.args.host.now) (g.H.World.outside c.run_talk.new.host) s) (sym c.status_of.ensures)
+    (gen_stopped c.args.seed c.args.count c.make-talk.result c.run_talk.new.talk c.in-Err.stopped (g.H.World.is_world c.args.host.now) promise.whence promise.caused promise.stopped promise.broken promise.sound
+    (λ part is. promise.bad part (ap (λ w. Err w) is)) (λ part is. promise.bad_only part (ap (λ w. Err w) is)) (λ part is. promise.bad_kept part (ap (λ w. Err w) is))
+    (λ image part holds fails. let found = promise.unopened image part holds fails in subst IsOpeningStop (sym (same_stop found.1)) found.2) promise.left)
+
+pub returns-in_default-summary-clause-promise : goal.returns-in_default-summary-clause-promise
+returns-in_default-summary-clause-promise g c =
+    let promise = c.in_default.ensures in
+    gen_sent _ c.args.seed c.args.count c.make-talk.result c.run_talk.new.talk [] (g.H.World.is_world c.run_talk.new.host) promise.goes c.make-talk.ensures.lines c.make-talk.ensures.few c.make-talk.ensures.none
+    (λ is replies tally. ⊎_elim (λ done. absurd (cc)) (λ output. absurd (cc)) is) promise.whole promise.over
+    (λ image part holds fails. let is = (promise.unopened image part holds fails).1 in cc) (unsent (g.H.World.outside c.run_talk.new.host) [])
+
+pub returns-then-is_err-clause-output_fault : goal.returns-then-is_err-clause-output_fault
+returns-then-is_err-clause-output_fault g c is =
+    let rose = at_error c.send_all.result _ (sym c.is_err.ensures.value ∙ c.if-is_err.true) c.send_all.ensures.cause in
+    omega (arith, rose, c.run_talk.ensures.goes.write_faults)
+
+pub returns-then-is_err-clause-promise : goal.returns-then-is_err-clause-promise
+returns-then-is_err-clause-promise g c =
+    let promise = c.in_default.ensures in
+    gen_sent _ c.args.seed c.args.count c.make-talk.result c.run_talk.new.talk c.as_bytes.result.now (g.H.World.is_world c.run_talk.new.host) promise.goes c.make-talk.ensures.lines c.make-talk.ensures.few c.make-talk.ensures.none
+    (λ is replies tally. c.as_bytes.ensures.value ∙ c.in-Ok.ensures replies tally) promise.whole promise.over
+    (λ image part holds fails. let is = (promise.unopened image part holds fails).1 in cc)
+    (cut_line c.as_bytes.result.now c.send_all.ensures.only (at_error c.send_all.result _ (sym c.is_err.ensures.value ∙ c.if-is_err.true) c.send_all.ensures.cause)
+    (at_error c.send_all.result _ (sym c.is_err.ensures.value ∙ c.if-is_err.true) c.send_all.ensures.failed))
+
+pub returns-clause-promise : goal.returns-clause-promise
+returns-clause-promise g c =
+    let promise = c.in_default.ensures in
+    gen_sent _ c.args.seed c.args.count c.make-talk.result c.run_talk.new.talk c.as_bytes.result.now (g.H.World.is_world c.run_talk.new.host) promise.goes c.make-talk.ensures.lines c.make-talk.ensures.few c.make-talk.ensures.none
+    (λ is replies tally. c.as_bytes.ensures.value ∙ c.in-Ok.ensures replies tally) promise.whole promise.over
+    (λ image part holds fails. let is = (promise.unopened image part holds fails).1 in cc)
+    (whole_line c.as_bytes.result.now c.send_all.ensures.only (if_no_error c.send_all.result (sym c.is_err.ensures.value ∙ c.if-is_err.false) c.send_all.ensures.sent))

@@ -1,0 +1,58 @@
+use Rattle.std.proofs.Common.{sym, subst}
+use Rattle.command_words.specs.declared.wish.Wish.{Wish}
+use Rattle.exsm_run.specs.Format.{FormatAnswers, IsFormatStatus}
+use Rattle.exsm_run.specs.Promises.{FormatPromise, Promise, RunPromise}
+use Rattle.exsm_run.proofs.Ending.{no_usage, starts_on, completes_on, made_or_memory}
+use Rattle.exsm_run.proofs.top_call.fulfil.Goals as goal
+
+pub returns-in-Format-clause-promise : goal.returns-in-Format-clause-promise
+returns-in-Format-clause-promise g c =
+    let promise = c.format.ensures in
+    let answers : FormatAnswers c.in-Format.geometry c.format.result (g.H.World.outside c.args.host.now) = record {
+      one_of = promise.one_of;
+      small = promise.small;
+      too_small = promise.too_small;
+      volume = promise.volume;
+      large = promise.large;
+      magic = promise.magic;
+    } in
+    let whole : FormatPromise c.in-Format.geometry (g.H.World.outside c.args.host.now) (g.H.World.outside c.format.new.host) c.format.result = record {
+      answers = answers;
+      sends = record { line = promise.line; front = promise.front; nothing = promise.nothing; left = promise.left };
+      keeps = promise.keeps;
+      writes = promise.writes;
+      makes = promise.formatted;
+      moments = promise.any_moment;
+      succeeds = λ may. made_or_memory c.in-Format.geometry (g.H.World.outside c.args.host.now) (g.H.World.outside c.format.new.host) c.format.result may answers promise.disk promise.output;
+    } in
+    subst (λ (w : Wish). Promise w (g.H.World.outside c.args.host.now) (g.H.World.outside c.format.new.host) c.format.result) (sym c.in-Format.is) whole
+
+pub returns-in-Format-clause-never : goal.returns-in-Format-clause-never
+returns-in-Format-clause-never g c is = subst IsFormatStatus is c.format.ensures.one_of
+
+pub returns-in-Run-clause-never : goal.returns-in-Run-clause-never
+returns-in-Run-clause-never g c is = no_usage c.run_script.result c.run_script.ensures.never is
+
+pub returns-in-Run-clause-refused : goal.returns-in-Run-clause-refused
+returns-in-Run-clause-refused g c refused = absurd (c.run_script.ensures.never refused)
+
+pub returns-in-Run-clause-promise : goal.returns-in-Run-clause-promise
+returns-in-Run-clause-promise g c =
+    let promise = c.run_script.ensures in
+    let whole : RunPromise c.in-Run.most (g.H.World.outside c.args.host.now) (g.H.World.outside c.run_script.new.host) c.run_script.result = record {
+      headline = λ table was volume. promise.headline table was (starts_on volume);
+      sound = promise.sound;
+      completes = λ may. promise.completes (completes_on may);
+      reads_all = promise.reads_all;
+      within = promise.within;
+      long = promise.script_long;
+      draws = promise.drawn;
+      opening = record {
+        bad = promise.bad;
+        unopened = promise.unopened;
+        left = promise.left;
+        only = promise.bad_only;
+        kept = promise.bad_kept;
+      };
+    } in
+    subst (λ (w : Wish). Promise w (g.H.World.outside c.args.host.now) (g.H.World.outside c.run_script.new.host) c.run_script.result) (sym c.in-Run.is) whole

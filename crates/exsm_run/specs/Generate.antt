@@ -1,0 +1,58 @@
+-- What `gen` sends and leaves.
+use Rattle.std.specs.Prelude.{◌≡◌, ◌≢◌, ◌⊎◌, ◌<◌, ℕ, Some, List, [], ◌++◌, length, take}
+use Rattle.disk_model.specs.Outside.{Outside, Along}
+use Rattle.table_model.specs.declared.table.Table.{Table}
+use Rattle.session_views.specs.View.{View}
+use Rattle.talks.specs.Headline.{OpenedAt}
+use Rattle.talks.specs.Talking.{Exchange}
+use Rattle.talks.specs.Transcript.{Row, Trail, exchanges}
+use Rattle.generated.specs.Replies.{gen_line}
+use Rattle.generated.specs.Script.{generated}
+use Rattle.generated.specs.Talked.{Heard, replies_of}
+use Rattle.transactions.specs.Meant.{meant}
+use Rattle.transactions.specs.Sessions.{SessionState}
+use Rattle.volume_model.specs.Parts.{StandsFor}
+use Rattle.command_line.specs.declared.status.Status.{Status}
+use Rattle.command_line.specs.declared.status.Status.TheVariants.{Done, OutputFault, Memory}
+use Rattle.exsm_run.specs.Check.{IsLineStatus, MaySend}
+use Rattle.exsm_run.specs.Fresh.{IsFresh}
+use Rattle.exsm_run.specs.Openings.{OpeningPromise}
+use Rattle.exsm_run.specs.Script.{HoldsVolume, IsOnVolume}
+
+-- The volume was opened, and then lines were answered so: each reply is the machine's, with the volume's pick, and after it there is a view that shows.
+pub record Answered (table : Table) (was : List ℕ) (before after : Outside) (had : List Exchange) : Type 0 where
+  pub opening : View SessionState
+  pub time : ℕ
+  pub opened : OpenedAt meant IsFresh table was before after time opening
+  pub rows : List (Row SessionState)
+  pub last : View SessionState
+  pub are : exchanges rows ≡ had
+  pub trail : Trail meant after was time [] opening rows last
+
+-- Each line of the script was answered, and this line tells of the replies.
+pub record ToldOf (seed count : ℕ) (table : Table) (was : List ℕ) (before after : Outside) (line : List ℕ) : Type 0 where
+  pub had : List Exchange
+  pub heard : Heard (generated seed count) had
+  pub answered : Answered table was before after had
+  pub line_is : line ≡ gen_line (replies_of had)
+
+-- The image stands for a table.
+abbrev pub StandsForOne : List ℕ → List ℕ → Type 0
+StandsForOne sent d = (table : Table) × StandsFor d table
+
+-- What `gen` promises.
+pub record GenPromise (seed count : ℕ) (before after : Outside) (status : Status) : Type 0 where
+  -- On a volume its line tells of the replies to all lines of the script; a front of it is sent where the output failed, and else nothing.
+  pub done : (table : Table) (was : List ℕ) → IsOnVolume before table was → status ≡ Done
+      → (line : List ℕ) × ToldOf seed count table was before after line × (after.sent ≡ Some (was ++ line))
+  pub front : (table : Table) (was : List ℕ) → IsOnVolume before table was → status ≡ OutputFault
+      → (line : List ℕ) × ToldOf seed count table was before after line × ((n : ℕ) × (n < length line) × (after.sent ≡ Some (was ++ take n line)))
+  pub nothing : (table : Table) (was : List ℕ) → IsOnVolume before table was → status ≢ Done → status ≢ OutputFault → after.sent ≡ Some was
+  pub left : after.left ≡ before.left
+  -- A crash at any moment leaves a volume.
+  pub moments : (table : Table) (was : List ℕ) → IsOnVolume before table was → Along before after StandsForOne
+  -- On a volume nothing but a fault of the disk or of the output, or want of memory, stops it, and without those faults nothing but the latter.
+  pub sound : (table : Table) (was : List ℕ) → HoldsVolume before table was → IsLineStatus status
+  pub completes : MaySend before after → (status ≡ Done) ⊎ (status ≡ Memory)
+  -- The disk holds a volume, or nothing is done.
+  pub opening : OpeningPromise before after status

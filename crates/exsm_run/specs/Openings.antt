@@ -1,0 +1,24 @@
+-- What the opening of a volume promises, whichever command asked for it.
+use Rattle.std.specs.Prelude.{◌≡◌, ℕ, IsTrue, Some, List}
+use Rattle.disk_model.specs.Outside.{Outside, Leaves, Only, WritesNothing}
+use Rattle.session_views.specs.declared.Part.{Part}
+use Rattle.volume_model.specs.Parts.{FirstBad}
+use Rattle.command_line.specs.declared.status.Status.{Status}
+use Rattle.command_line.specs.declared.status.Status.TheVariants.{BadVolume}
+use Rattle.exsm_run.specs.Script.{IsOpeningStatus}
+
+-- Nothing was sent, taken or written: the disk was read and synced at most, and, where it is honest, a crash at any moment leaves what it could leave
+-- before.
+pub record LeftAlone (before after : Outside) : Type 0 where
+  pub nothing : WritesNothing before after
+  pub moments : IsTrue before.honest → Leaves before after before.images
+
+-- What the opening of a volume promises: a bad volume is answered exactly where a part of it fails, but for a fault of the disk and want of memory, with
+-- the first part. Where a part fails, whatever is answered, and where a bad volume is answered, nothing is sent, taken or written.
+pub record OpeningPromise (before after : Outside) (status : Status) : Type 0 where
+  pub bad : (part : Part) → status ≡ BadVolume part → (image : List ℕ) → before.disk ≡ Some image → FirstBad image part
+  pub unopened : (image : List ℕ) (part : Part) → before.disk ≡ Some image → FirstBad image part → IsOpeningStatus status
+  pub left : (image : List ℕ) (part : Part) → before.disk ≡ Some image → FirstBad image part → LeftAlone before after
+  pub only : (part : Part) → status ≡ BadVolume part → LeftAlone before after
+  pub kept : (part : Part) → status ≡ BadVolume part → (image : List ℕ) → IsTrue before.honest → before.disk ≡ Some image
+      → (after.disk ≡ Some image) × Only image after.images

@@ -1,0 +1,5 @@
+mod Words
+mod Turns
+pub mod Counting
+mod Spoken
+mod Talked

@@ -1,0 +1,9 @@
+pub mod Draws
+pub mod Commands
+pub mod Script
+pub mod Coming
+pub mod Lines
+pub mod Replies
+pub mod Talked
+pub mod TalkLaws
+pub mod GeneratedTalk

@@ -1,0 +1,64 @@
+-- The laws of the generated script as a talk.
+use Rattle.std.proofs.Common.{◌≡◌, ◌∙◌, ◌≤◌, ◌<◌, ◌+◌, ◌^◌, ℕ, Option, Some, None, List, [], ◌∷◌, ◌++◌, length, take, refl, sym, ap, subst, arith, append_assoc}
+use Rattle.std.proofs.lemmas.List.{append-nil}
+use Rattle.table_model.specs.declared.reply.Reply.{Reply}
+use Rattle.table_model.specs.declared.reply.Reply.TheVariants as reply
+use Rattle.script_lines.specs.Lines.{Short}
+use Rattle.script_lang.specs.Reading.{Reading, Silent, Reads}
+use Rattle.talks.specs.Acking.{IsNoCommit}
+use Rattle.talks.specs.Stops.{IsPart}
+use Rattle.talks.specs.Talking.{Exchange, IsReply, Left}
+use Rattle.talks.specs.declared.stopped.Stopped.{Stopped}
+use Rattle.generated.specs.Lines.{line_taken, to_come}
+use Rattle.generated.specs.Replies.{IsTallyOf}
+use Rattle.generated.specs.Talked.{HasMade, HasAsked, IsMade, IsCutOff}
+use Rattle.generated.specs.declared.tally.Tally.{Tally}
+use Rattle.generated.specs.declared.talk.Generated.{Generated}
+
+pub begun : (first : Generated) (left : Left) → HasMade first left [] first left
+begun first left = record {
+  lines = [];
+  made = refl;
+  heard = tt;
+  tallied = λ before is room. subst (λ (l : List Reply). IsTallyOf l first.tally) (sym (append-nil before)) is;
+  left_so = refl;
+}
+
+-- No line says nothing.
+pub quiet : (first now : Generated) (left at : Left) (had : List Exchange) → HasAsked first left had now at → Reads (Short (line_taken now.lines)) Silent → HasMade first left had now at
+quiet first now left at had waits silent = absurd (waits.spoken silent)
+
+pub stopped : (first now : Generated) (left at : Left) (had : List Exchange) (reading : Reading) (why : Stopped) → HasAsked first left had now at → Reads (Short (line_taken now.lines)) reading → IsPart why
+    → IsCutOff first left had (Some reading) why at
+stopped first now left at had reading why waits reads part = record {
+  lines = waits.lines;
+  next = Some (line_taken now.lines);
+  asks = reads;
+  front = (to_come now.lines, waits.made ∙ sym (append_assoc waits.lines (line_taken now.lines ∷ []) (to_come now.lines)));
+  heard = waits.heard;
+  left_so = waits.left_so;
+}
+
+pub ended : (first now : Generated) (left at : Left) (had : List Exchange) (why : Stopped) → IsMade first left had now at → IsPart why → IsCutOff first left had None why at
+ended first now left at had why over part = record {
+  lines = to_come first.lines;
+  next = None;
+  asks = tt;
+  front = ([], sym (append-nil (to_come first.lines)) ∙ sym (append-nil (to_come first.lines ++ [])));
+  heard = over.heard;
+  left_so = over.left_so;
+}
+
+-- ---- what is acknowledged: nothing is sent, so a stop may leave any commit of the script
+
+pub next_commit : (first : ℕ) (sent : List ℕ) (j : ℕ) → first ≤ j → first ≤ j + 1
+next_commit first sent j least = omega arith
+
+pub front_next : (first : ℕ) (sent : List ℕ) (j n : ℕ) (told : Reply) (text : List ℕ) → first ≤ j → text ≡ [] → n < length text → first ≤ j + 1
+front_next first sent j n told text least none short = omega arith
+
+pub one_commit : (first : ℕ) (sent : List ℕ) (j : ℕ) (text : List ℕ) → first ≤ j → text ≡ [] → j + 1 < 2 ^ 64 → first ≤ j + 1
+one_commit first sent j text least none fits = omega arith
+
+pub from_first : (first : ℕ) → first ≤ first
+from_first first = omega arith
