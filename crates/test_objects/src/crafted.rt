@@ -44,8 +44,8 @@ fn a_bad_part_is_named(rt: HostRuntime) -> Result<(), Fail> {
         (&base, FILE_PAGE + 4, &[1], Part::Page),
         (&base, FILE_PAGE + PAGE - 4, &[255, 255], Part::Page),
         (&base, RECORD, &[3], Part::Body),
-        (&base, NODE + 8, &[0, 0, 255, 255], Part::Node),
-        (&base, NODE + 12, &[0, 0, 0, 9], Part::Node),
+        (&base, NODE + 12, &[0, 0, 255, 255], Part::Node),
+        (&base, NODE + 16, &[0, 0, 0, 9], Part::Node),
         (&base, SIZE + 7, &[0xE7], Part::Balance),
         (&two, UNIQUE + 7, &[2], Part::Unique),
     ];
