@@ -11,6 +11,8 @@ mod editing;
 #[cfg(test)]
 mod large;
 #[cfg(test)]
+mod older;
+#[cfg(test)]
 mod stops;
 #[cfg(test)]
 mod volumes;
