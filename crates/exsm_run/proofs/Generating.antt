@@ -1,6 +1,7 @@
 -- What `gen` promises.
 use Rattle.std.proofs.Common.{◌≡◌, ◌≢◌, ◌∙◌, ◌⊎◌, ⊎_elim, ◌<◌, ◌^◌, ℕ, List, [], ◌∷◌, ◌++◌, Option, None, Some, Result, Err, IsTrue, length, take, inl, inr, refl, sym, ap, subst, arith}
 use Rattle.std.proofs.lemmas.List.{append-nil}
+use Rattle.std.proofs.lemmas.Option.{same_Some}
 use Rattle.std.specs.List.{flat_map}
 use Rattle.std.specs.Prelude.{is_some}
 use Rattle.disk_model.specs.Outside.{Outside, Along, Between, DiskOnly, Goes, IsWorld, Only, Rose, SinkOnly, WritesNothing}
@@ -18,6 +19,7 @@ use Rattle.talks.specs.Talking.{Exchange}
 use Rattle.talks.specs.Transcript.{Row, IsRunMoment, exchanges, output_of, request_in}
 use Rattle.talks.specs.declared.stopped.Stopped.{Stopped}
 use Rattle.talks.specs.declared.stopped.Stopped.TheVariants as stopped
+use Rattle.talks.proofs.Going.{shows_sent}
 use Rattle.talks.proofs.Rows.{shows_at_later, trail_later}
 use Rattle.generated.specs.GeneratedTalk.{generated_talking, silent_acking}
 use Rattle.generated.specs.Lines.{to_come}
@@ -171,28 +173,47 @@ gen_stopped {a} {b} seed count first talk why world whence caused headline broke
 
 -- ---- all lines were answered
 
-answered_on : {a b c : Outside} {first talk : Generated} {table : Table} {was : List ℕ} → IsWorld b → Goes b c
-    → (s : SteppedTalk meant IsFresh generated_talking first talk table was a b None) → Answered table was a c (exchanges s.rows)
-answered_on {was = was} world goes s = record {
-  opening = s.opening;
-  time = s.time;
-  opened = record { starts = s.opened.starts; fresh = s.opened.fresh; later = s.opened.later; shown = shows_at_later meant world goes s.opened.shown };
-  rows = s.rows;
-  last = s.after;
-  are = refl;
-  trail = trail_later meant was s.time [] s.opening s.after s.rows world goes s.trail;
-}
+moments_sent : {a b c : Outside} {first talk : Generated} {table : Table} {was : List ℕ} → SinkOnly b c → b.sent ≡ Some was
+    → (s : SteppedTalk meant IsFresh generated_talking first talk table was a b None) → Along a c (IsRunMoment meant silent_acking s.opening.machine s.rows s.after.machine (request_in s.last) was)
+moments_sent {was = was} only sent s =
+    along_sink (IsRunMoment meant silent_acking s.opening.machine s.rows s.after.machine (request_in s.last) was) s.stops only (ap is_some sent) (λ then d image between.
+    let moment = s.stops.stands.now was d sent image in
+    record {
+      number = moment.number;
+      table = moment.table;
+      after = moment.after;
+      stands = moment.stands;
+      more = between.begins.0;
+      sent = between.begins.1 ∙ ap (λ (front : List ℕ). front ++ between.begins.0) (same_Some between.first was (sym between.was ∙ sent));
+      may = moment.may;
+    })
 
-told_of : {a b c : Outside} {table : Table} {was : List ℕ} (seed count : ℕ) (first talk : Generated) (line : List ℕ) → IsWorld b → Goes b c → to_come first.lines ≡ generated seed count
+answered_on : {a b c : Outside} {first talk : Generated} {table : Table} {was : List ℕ} → IsWorld b → SinkOnly b c → b.sent ≡ Some was
+    → (s : SteppedTalk meant IsFresh generated_talking first talk table was a b None) → Answered table was a c (exchanges s.rows)
+answered_on {a} {b} {c} {was = was} world only sent s =
+    let ended = s.ended refl in
+    record {
+      opening = s.opening;
+      time = s.time;
+      opened = record { starts = s.opened.starts; fresh = s.opened.fresh; later = s.opened.later; shown = shows_at_later meant world only.goes s.opened.shown };
+      rows = s.rows;
+      last = s.after;
+      are = refl;
+      trail = trail_later meant was s.time [] s.opening s.after s.rows world only.goes s.trail;
+      ended = record { after = ended.after; told = ended.told; step = ended.step; shows = shows_sent only ended.shows };
+      stops = subst (λ last. Along a c (IsRunMoment meant silent_acking s.opening.machine s.rows s.after.machine (request_in last) was)) s.talked.0 (moments_sent only sent s);
+    }
+
+told_of : {a b c : Outside} {table : Table} {was : List ℕ} (seed count : ℕ) (first talk : Generated) (line : List ℕ) → IsWorld b → SinkOnly b c → b.sent ≡ Some was → to_come first.lines ≡ generated seed count
     → length (to_come first.lines) < 2 ^ 64 → IsTallyOf [] first.tally → ((replies : List Reply) → IsTallyOf replies talk.tally → line ≡ gen_line replies)
     → TalkHeadline meant IsFresh generated_talking first talk table was a b None → ToldOf seed count table was a c line
-told_of seed count first talk line world goes script few none made (inl s) = record {
+told_of seed count first talk line world only sent script few none made (inl s) = record {
   had = exchanges s.rows;
   heard = subst (λ (lines : List (List ℕ)). Heard lines (exchanges s.rows)) script s.talked.1.heard;
-  answered = answered_on world goes s;
+  answered = answered_on world only sent s;
   line_is = made (replies_of (exchanges s.rows)) (s.talked.1.tallied [] none (omega (arith, few)));
 }
-told_of seed count first talk line world goes script few none made (inr u) = absurd (let is = u.is in cc)
+told_of seed count first talk line world only sent script few none made (inr u) = absurd (let is = u.is in cc)
 
 pub gen_sent : {a b c : Outside} (s : Status) (seed count : ℕ) (first talk : Generated) (line : List ℕ) → IsWorld b → Goes a b → to_come first.lines ≡ generated seed count
     → length (to_come first.lines) < 2 ^ 64 → IsTallyOf [] first.tally
@@ -202,9 +223,9 @@ pub gen_sent : {a b c : Outside} (s : Status) (seed count : ℕ) (first talk : G
     → ((image : List ℕ) (part : Part) → a.disk ≡ Some image → FirstBad image part → ⊥)
     → SentLine s b c line → GenPromise seed count a c s
 gen_sent {a} {b} {c} s seed count first talk line world goes script few none made headline over good sent =
-    let told : (s ≡ status.Done) ⊎ (s ≡ status.OutputFault) → (table : Table) (was : List ℕ) → IsOnVolume a table was → ToldOf seed count table was a c line =
-    λ is table was on. told_of seed count first talk line world sent.only.goes script few none (made is) (headline table was (starts_on on)) in
     let before : (table : Table) (was : List ℕ) → IsOnVolume a table was → b.sent ≡ Some was = λ table was on. sent_none None (λ is. cc) (headline table was (starts_on on)) in
+    let told : (s ≡ status.Done) ⊎ (s ≡ status.OutputFault) → (table : Table) (was : List ℕ) → IsOnVolume a table was → ToldOf seed count table was a c line =
+    λ is table was on. told_of seed count first talk line world sent.only (before table was on) script few none (made is) (headline table was (starts_on on)) in
     record {
       done = λ table was on is. (line, told (inl is) table was on, sent.done is was (before table was on));
       front = λ table was on is. (line, told (inr is) table was on, sent.front is was (before table was on));

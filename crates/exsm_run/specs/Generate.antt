@@ -1,11 +1,12 @@
 -- What `gen` sends and leaves.
-use Rattle.std.specs.Prelude.{◌≡◌, ◌≢◌, ◌⊎◌, ◌<◌, ℕ, Some, List, [], ◌++◌, length, take}
+use Rattle.std.specs.Prelude.{◌≡◌, ◌≢◌, ◌⊎◌, ◌<◌, ℕ, Some, None, List, [], ◌++◌, length, take}
 use Rattle.disk_model.specs.Outside.{Outside, Along}
 use Rattle.table_model.specs.declared.table.Table.{Table}
 use Rattle.session_views.specs.View.{View}
 use Rattle.talks.specs.Headline.{OpenedAt}
 use Rattle.talks.specs.Talking.{Exchange}
-use Rattle.talks.specs.Transcript.{Row, Trail, exchanges}
+use Rattle.talks.specs.Transcript.{Row, Ended, IsRunMoment, Trail, exchanges}
+use Rattle.generated.specs.GeneratedTalk.{silent_acking}
 use Rattle.generated.specs.Replies.{gen_line}
 use Rattle.generated.specs.Script.{generated}
 use Rattle.generated.specs.Talked.{Heard, replies_of}
@@ -20,6 +21,7 @@ use Rattle.exsm_run.specs.Openings.{OpeningPromise}
 use Rattle.exsm_run.specs.Script.{HoldsVolume, IsOnVolume}
 
 -- The volume was opened, and then lines were answered so: each reply is the machine's, with the volume's pick, and after it there is a view that shows.
+-- At the end an open transaction was aborted, and the view after that shows; a crash at any moment leaves the table after a prefix of the commits.
 pub record Answered (table : Table) (was : List ℕ) (before after : Outside) (had : List Exchange) : Type 0 where
   pub opening : View SessionState
   pub time : ℕ
@@ -28,6 +30,8 @@ pub record Answered (table : Table) (was : List ℕ) (before after : Outside) (h
   pub last : View SessionState
   pub are : exchanges rows ≡ had
   pub trail : Trail meant after was time [] opening rows last
+  pub ended : Ended meant last after
+  pub stops : Along before after (IsRunMoment meant silent_acking opening.machine rows last.machine None was)
 
 -- Each line of the script was answered, and this line tells of the replies.
 pub record ToldOf (seed count : ℕ) (table : Table) (was : List ℕ) (before after : Outside) (line : List ℕ) : Type 0 where
