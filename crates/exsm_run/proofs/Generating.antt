@@ -1,5 +1,5 @@
 -- What `gen` promises.
-use Rattle.std.proofs.Common.{◌≡◌, ◌≢◌, ◌∙◌, ◌⊎◌, ⊎_elim, ◌<◌, ◌^◌, ℕ, List, [], ◌∷◌, ◌++◌, Option, None, Some, Result, Err, IsTrue, length, take, inl, inr, refl, sym, ap, subst, arith}
+use Rattle.std.proofs.Common.{◌≡◌, ◌≢◌, ◌∙◌, ◌⊎◌, ⊎_elim, ◌<◌, ◌^◌, ℕ, List, [], ◌∷◌, ◌++◌, Option, None, Some, IsTrue, length, take, inl, inr, refl, sym, ap, subst, arith}
 use Rattle.std.proofs.lemmas.List.{append-nil}
 use Rattle.std.proofs.lemmas.Option.{same_Some}
 use Rattle.std.specs.List.{flat_map}
@@ -242,8 +242,3 @@ gen_sent {a} {b} {c} s seed count first talk line world goes script few none mad
         kept = λ part is. absurd (line_good s part sent.kind is);
       };
     }
-
--- ---- one error is one stop
-
-pub same_stop : {X : Type 0} {a b : Stopped} → ◌≡◌ {A = Result X Stopped} (Err a) (Err b) → a ≡ b
-same_stop is = cc

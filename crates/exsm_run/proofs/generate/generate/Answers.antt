@@ -4,7 +4,8 @@ use Rattle.talks.specs.Stops.{IsOpeningStop}
 use Rattle.command_line.specs.declared.status.Status.{Status}
 use Rattle.exsm_run.specs.Generate.{GenPromise}
 use Rattle.exsm_run.proofs.Checking.{cut_line, unsent, whole_line, at_error}
-use Rattle.exsm_run.proofs.Generating.{gen_stopped, gen_sent, same_stop}
+use Rattle.exsm_run.proofs.Opened.{err_same}
+use Rattle.exsm_run.proofs.Generating.{gen_stopped, gen_sent}
 use Rattle.exsm_run.proofs.generate.generate.Goals as goal
 
 pub returns-in-Err-clause-promise : goal.returns-in-Err-clause-promise
@@ -13,7 +14,7 @@ returns-in-Err-clause-promise g c =
     subst (λ (s : Status). GenPromise c.args.seed c.args.count (g.H.World.outside c.args.host.now) (g.H.World.outside c.run_talk.new.host) s) (sym c.status_of.ensures)
     (gen_stopped c.args.seed c.args.count c.make-talk.result c.run_talk.new.talk c.in-Err.stopped (g.H.World.is_world c.args.host.now) promise.whence promise.caused promise.stopped promise.broken promise.sound
     (λ part is. promise.bad part (ap (λ w. Err w) is)) (λ part is. promise.bad_only part (ap (λ w. Err w) is)) (λ part is. promise.bad_kept part (ap (λ w. Err w) is))
-    (λ image part holds fails. let found = promise.unopened image part holds fails in subst IsOpeningStop (sym (same_stop found.1)) found.2) promise.left)
+    (λ image part holds fails. let found = promise.unopened image part holds fails in subst IsOpeningStop (sym (err_same _ _ refl refl found.1)) found.2) promise.left)
 
 pub returns-in_default-summary-clause-promise : goal.returns-in_default-summary-clause-promise
 returns-in_default-summary-clause-promise g c =
