@@ -1,11 +1,11 @@
 -- The slots that differ, put into the old ones, give the new ones.
-use Rattle.std.proofs.Common.{◌≡◌, ◌∙◌, ℕ, zero, suc, ◌+◌, Bool, true, false, cond, Option, Some, None, List, [], ◌∷◌, ◌++◌, refl, sym, ap, bytes_eq}
+use Rattle.std.proofs.Common.{◌≡◌, ◌∙◌, ℕ, Bool, true, false, cond, Some, None, List, [], ◌∷◌, ◌++◌, refl, ap, bytes_eq}
 use Rattle.std.proofs.lemmas.Slice.Eq.{bytes_eq-Decides}
 use Rattle.slotted_pages.specs.FilePage.{Slot}
 use Rattle.slotted_pages.specs.Edits.{trimmed, before_live}
 use Rattle.page_entries.specs.Said.{SlotChange}
 use Rattle.page_entries.specs.Applying.{slot_set, slots_after}
-use Rattle.page_entries.specs.Changed.{one_behind, change_if, same_slot, slots_added, slots_changed}
+use Rattle.page_entries.specs.Changed.{one_behind, change_if, slots_added, slots_changed}
 
 behind : (cs : List SlotChange) (x : Slot) (xs : List Slot) → slots_after (one_behind cs) (x ∷ xs) ≡ x ∷ slots_after cs xs
 behind [] x xs = refl

@@ -1,9 +1,9 @@
 -- Changes of slots that stand one behind the other: what is read is spelled so, and what is spelled is read.
-use Rattle.std.proofs.Common.{◌≡◌, ℕ, zero, suc, ◌+◌, ◌-◌, ◌*◌, ◌^◌, ◌<◌, ◌≤◌, ◌↔◌, List, [], ◌∷◌, ◌++◌, length, take, drop, map, Some, None, refl, sym, ap, subst, ◌∙◌, arith, append_assoc}
+use Rattle.std.proofs.Common.{◌≡◌, ℕ, zero, suc, ◌+◌, ◌-◌, ◌^◌, ◌<◌, ◌≤◌, List, [], ◌∷◌, ◌++◌, length, take, drop, map, Some, None, refl, sym, ap, subst, ◌∙◌, arith, append_assoc}
 use Rattle.std.specs.List.{flat_map, AllByRecursion}
 use Rattle.std.proofs.lemmas.List.{length-append, length-drop, length-take, take-append-drop, take_at}
 use Rattle.ex_base.specs.Bytes.{bytes_at, IsBytes}
-use Rattle.ex_base.specs.Fields.{field_bytes, two_bytes, zeros, number_at, AreZero}
+use Rattle.ex_base.specs.Fields.{two_bytes, zeros, number_at, AreZero}
 use Rattle.ex_base.proofs.FieldLaws.{two_is}
 use Rattle.ex_base.proofs.Places.{behind_more, bytes_there, number_there, number_spelled, bytes_spelled, length-bytes_at, zero_run, zeros_are}
 use Rattle.file_index.specs.Index.{Rises}

@@ -1,8 +1,8 @@
 -- The fields of changes of files: what is read is spelled so, and what is spelled is read.
-use Rattle.std.proofs.Common.{◌≡◌, ℕ, zero, suc, ◌+◌, ◌-◌, ◌*◌, ◌/◌, ◌^◌, ◌<◌, ◌≤◌, List, [], ◌∷◌, ◌++◌, length, take, drop, map, Option, Some, None, refl, sym, ap, subst, ◌∙◌, arith, append_assoc}
+use Rattle.std.proofs.Common.{◌≡◌, ℕ, ◌+◌, ◌-◌, ◌*◌, ◌/◌, ◌^◌, ◌<◌, ◌≤◌, List, [], ◌++◌, length, take, drop, map, Option, Some, None, refl, sym, ap, subst, ◌∙◌, arith, append_assoc}
 use Rattle.std.specs.Prelude.{IfSome, IfNone}
 use Rattle.std.specs.List.{flat_map, AllByRecursion}
-use Rattle.std.proofs.lemmas.List.{length-append, length-drop, length-take, take_at, take_rest, append-nil}
+use Rattle.std.proofs.lemmas.List.{length-append, length-drop, take_at, take_rest, append-nil}
 use Rattle.ex_base.specs.Bytes.{bytes_at, IsBytes}
 use Rattle.ex_base.specs.Fields.{two_bytes, four_bytes, eight_bytes, zeros, number_at}
 use Rattle.ex_base.specs.Order.{Rising}
@@ -12,7 +12,7 @@ use Rattle.object_files.specs.Catalog.{FileEntry, Catalog, entry_bytes, headed, 
 use Rattle.object_files.specs.Reads.{read_entries}
 use Rattle.object_files.proofs.CatalogLaws.{EntriesThere, entries_there, page_headed, length-spelled}
 use Rattle.page_entries.specs.declared.form.EntryForm.TheVariants.{FileChanges}
-use Rattle.page_entries.specs.Said.{Said, Whole, Slots, Files, said_bytes, form_of, FitsNumber, NoneOf, put_catalog, FitsFiles, IsSaid, numbers_read, removed_count, put_count, put_begin, Says}
+use Rattle.page_entries.specs.Said.{Said, Whole, Slots, Files, said_bytes, form_of, NoneOf, put_catalog, IsSaid, numbers_read, removed_count, put_count, put_begin, Says}
 use Rattle.page_entries.specs.Fronts.{ArePut, removed_read}
 use Rattle.page_entries.proofs.Numbers.{length-numbers, numbers_said, numbers_given, length-spelled_numbers}
 
@@ -174,3 +174,31 @@ says_files size bytes n put fits end inside few rising h apart =
   where
     grouped : (a b c d e f g : List ℕ) → a ++ (b ++ (c ++ (d ++ (e ++ (f ++ g))))) ≡ (a ++ (b ++ (c ++ (d ++ (e ++ f))))) ++ g
     grouped a b c d e f g = simp append_assoc
+
+-- ---- a page that is written of entries in their grammar
+
+pub one_list : (a b : List FileEntry) → AllByRecursion IsEntry a → AllByRecursion IsEntry b → length a ≡ length b → flat_map entry_bytes a ≡ flat_map entry_bytes b → a ≡ b
+one_list a b p q len e =
+    let first : EntriesThere (flat_map entry_bytes a) 0 a [] = entries_there (flat_map entry_bytes a) [] 0 a p (sym (append-nil (flat_map entry_bytes a))) in
+    let second : EntriesThere (flat_map entry_bytes a) 0 b [] = entries_there (flat_map entry_bytes a) [] 0 b q (e ∙ sym (append-nil (flat_map entry_bytes b))) in
+    sym first.same ∙ ap (λ (k : ℕ). read_entries (flat_map entry_bytes a) k 0) len ∙ second.same
+
+pub written_is : (page entries : List ℕ) (size next last : ℕ) (es : List FileEntry) → length page ≡ size → AllByRecursion IsEntry es → entries ≡ flat_map entry_bytes es → page ≡ headed (length entries / 48) next last (entries ++ zeros (size - (32 + length entries))) → page ≡ catalog_page (length page) (put_catalog next last es)
+written_is page entries size next last es long each is e =
+    let len : length entries ≡ 48 * length es = ap length is ∙ length-spelled es each in
+    let count : length entries / 48 ≡ length es = omega (arith, len) in
+    e ∙ ap (λ (k : ℕ). headed k next last (entries ++ zeros (size - (32 + length entries)))) count
+    ∙ ap (λ (k : ℕ). headed (length es) next last (entries ++ zeros (size - (32 + k)))) len
+    ∙ ap (λ (k : ℕ). headed (length es) next last (entries ++ zeros (k - (32 + 48 * length es)))) (sym long)
+    ∙ ap (λ (t : List ℕ). headed (length es) next last (t ++ zeros (length page - (32 + 48 * length es)))) is
+    ∙ sym (page_headed page (put_catalog next last es) each)
+
+pub made_is : (page : List ℕ) (next last : ℕ) (es : List FileEntry) (c : Catalog) → next < 2 ^ 64 → last < 2 ^ 64 → length es < 2 ^ 16 → AllByRecursion IsEntry es → page ≡ catalog_page (length page) (put_catalog next last es) → CatalogOf page c → c ≡ put_catalog next last es
+made_is page next last es c ln ll few each e h =
+    let small : length c.entries < 2 ^ 16 = omega (arith, h.fits.room, h.fits.page) in
+    let same = same_heads (length es) (length c.entries) next c.next_unique last c.last (flat_map entry_bytes es ++ zeros (length page - (32 + 48 * length es))) (flat_map entry_bytes c.entries ++ zeros (length page - (32 + 48 * length c.entries)))
+    few small ln h.fits.next_unique ll h.fits.last (sym (page_headed page (put_catalog next last es) each) ∙ sym e ∙ h.spelled ∙ page_headed page c h.fits.entries) in
+    let len : length (flat_map entry_bytes es) ≡ length (flat_map entry_bytes c.entries) = omega (arith, length-spelled es each, length-spelled c.entries h.fits.entries, same.0) in
+    let front = same_front (flat_map entry_bytes es) (flat_map entry_bytes c.entries) (zeros (length page - (32 + 48 * length es))) (zeros (length page - (32 + 48 * length c.entries))) len same.3 in
+    let entries : es ≡ c.entries = one_list es c.entries each h.fits.entries same.0 front.0 in
+    sym (ap (λ (k : ℕ). put_catalog k last es) same.1 ∙ ap (λ (k : ℕ). put_catalog c.next_unique k es) same.2 ∙ ap (put_catalog c.next_unique c.last) entries)

@@ -4,3 +4,11 @@ pub mod Files
 pub mod SetSlots
 pub mod ReadAgain
 pub mod ChangedSlots
+pub mod Listing
+pub mod FilesApplied
+pub mod Entered
+pub mod SlotsDiffering
+pub mod FilesDiffering
+pub mod FilesCompared
+pub mod RuleLaws
+pub mod Pushing

@@ -1,11 +1,11 @@
 -- Numbers of four bytes that stand one behind the other.
-use Rattle.std.proofs.Common.{◌≡◌, ◌≢◌, ℕ, zero, suc, ◌+◌, ◌-◌, ◌*◌, ◌^◌, ◌<◌, ◌≤◌, List, [], ◌∷◌, ◌++◌, length, take, drop, map, get_or, Some, refl, sym, ap, subst, ◌∙◌, arith, append_assoc, slice_get}
+use Rattle.std.proofs.Common.{◌≡◌, ◌≢◌, ℕ, zero, suc, ◌+◌, ◌-◌, ◌*◌, ◌^◌, ◌<◌, ◌≤◌, List, [], ◌∷◌, ◌++◌, length, drop, map, get_or, Some, refl, sym, ap, subst, ◌∙◌, arith, append_assoc, slice_get}
 use Rattle.std.specs.Prelude.{Contains}
 use Rattle.std.specs.List.{flat_map, AllByRecursion}
 use Rattle.std.proofs.lemmas.List.{length-append}
 use Rattle.ex_base.specs.Bytes.{IsBytes}
 use Rattle.ex_base.specs.Fields.{four_bytes, number_at}
-use Rattle.ex_base.proofs.Each.{each_from}
+use Rattle.ex_base.proofs.Each.{each_from, each_of}
 use Rattle.ex_base.proofs.FieldLaws.{four_is}
 use Rattle.ex_base.proofs.Places.{behind_more, number_there, number_spelled}
 use Rattle.file_index.specs.Index.{Rises}
@@ -45,7 +45,7 @@ number_not_in b n x differ (k, lt, is) =
 
 -- ---- none of them is that of a file
 
-entry_with : (es : List FileEntry) (k x : ℕ) → k < length (map number_of es) → get_or (map number_of es) k x ≡ x → (e : FileEntry) × (slice_get es k ≡ Some e) × (e.file_no ≡ x)
+pub entry_with : (es : List FileEntry) (k x : ℕ) → k < length (map number_of es) → get_or (map number_of es) k x ≡ x → (e : FileEntry) × (slice_get es k ≡ Some e) × (e.file_no ≡ x)
 entry_with [] k x lt is = absurd (omega arith)
 entry_with (e ∷ es) zero x lt is = (e, refl, is)
 entry_with (e ∷ es) (suc k) x lt is = entry_with es k x (omega arith) is
@@ -78,3 +78,12 @@ numbers_given b rest (x ∷ xs) at fits e =
 pub length-spelled_numbers : (xs : List ℕ) → length (flat_map four_bytes xs) ≡ 4 * length xs
 length-spelled_numbers [] = refl
 length-spelled_numbers (x ∷ xs) = omega (arith, length-append (four_bytes x) (flat_map four_bytes xs), four_is.len x, length-spelled_numbers xs)
+
+-- what each of them has
+pub each_number : (b : List ℕ) (n : ℕ) (P : ℕ → Type 0) → ((k : ℕ) → k < n → P (number_at 4 b (18 + 4 * k))) → AllByRecursion P (numbers_read b n 18)
+each_number b n P f = each_from P (numbers_read b n 18) (λ x here.
+    let lt : here.0 < n = omega (arith, here.1, length-numbers b n 18) in
+    subst P (sym (numbers_get b n 18 here.0 x lt) ∙ here.2) (f here.0 lt))
+
+pub number_has : (b : List ℕ) (n k : ℕ) (P : ℕ → Type 0) → k < n → AllByRecursion P (numbers_read b n 18) → P (number_at 4 b (18 + 4 * k))
+number_has b n k P lt each = each_of P (numbers_read b n 18) (number_at 4 b (18 + 4 * k)) each (number_in b n k (number_at 4 b (18 + 4 * k)) lt refl)

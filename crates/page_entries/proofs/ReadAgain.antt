@@ -1,11 +1,12 @@
 -- What is said is read where it is spelled, and in one way.
-use Rattle.std.proofs.Common.{◌≡◌, ℕ, List, [], ◌++◌, length, drop, refl, sym, ap, ◌∙◌, arith}
+use Rattle.std.proofs.Common.{◌≡◌, ℕ, List, [], ◌++◌, length, drop, refl, sym, ap, ◌∙◌}
 use Rattle.std.proofs.lemmas.List.{append-nil}
 use Rattle.ex_base.specs.Fields.{number_at}
 use Rattle.ex_base.proofs.FieldLaws.{same_front}
 use Rattle.object_files.specs.Catalog.{FileEntry}
 use Rattle.object_files.specs.Reads.{read_entries}
-use Rattle.page_entries.specs.Said.{SlotChange, Said, Whole, Slots, Files, said_bytes, said_on, form_of, IsSaid, changes_read, numbers_read, removed_count, put_count, put_begin}
+use Rattle.page_entries.specs.declared.form.EntryForm.{EntryForm}
+use Rattle.page_entries.specs.Said.{SlotChange, Said, Whole, Slots, Files, said_bytes, said_on, form_of, IsSaid, AreFields, changes_read, put_count, put_begin}
 use Rattle.page_entries.specs.Fronts.{removed_read, changes_end}
 use Rattle.page_entries.proofs.Changes.{FieldsGiven, fields_given}
 use Rattle.page_entries.proofs.Files.{FilesGiven, files_given}
@@ -55,3 +56,9 @@ one_said size (Files n l r f) (Files m k s h) x y p q same e =
           ∙ ap (λ (t : List ℕ). made_files m k t f) (sym one.numbers ∙ two.numbers) ∙ ap (made_files m k s) (sym one.read ∙ two.read),
       sym one.behind ∙ two.behind,
     )
+
+-- fields that say something in a form are spelled as they are read
+pub spelled_again : (size : ℕ) (form : EntryForm) (fields : List ℕ) → AreFields size form fields → fields ≡ said_bytes (said_on form fields)
+spelled_again size form fields h =
+    let read : said_on form fields ≡ h.0 = ap (λ (f : EntryForm). said_on f fields) (sym h.2) ∙ ap (said_on (form_of h.0)) h.3 ∙ read_again size h.0 h.1 in
+    h.3 ∙ ap said_bytes (sym read)

@@ -1,5 +1,5 @@
 -- The slots of a page after changes.
-use Rattle.std.proofs.Common.{◌≡◌, ℕ, zero, suc, true, false, Option, is_some, ◌+◌, ◌-◌, ◌<◌, ◌≤◌, List, [], ◌∷◌, ◌++◌, length, take, map, set, get_or, Some, None, refl, sym, ap, subst, ◌∙◌, arith}
+use Rattle.std.proofs.Common.{◌≡◌, ℕ, zero, suc, true, false, Option, is_some, ◌+◌, ◌-◌, ◌<◌, ◌≤◌, List, [], ◌∷◌, ◌++◌, length, take, set, get_or, Some, None, refl, sym, ap, subst, ◌∙◌, arith}
 use Rattle.std.specs.List.{AllByRecursion}
 use Rattle.std.specs.Option.{option_map}
 use Rattle.std.proofs.lemmas.List.{append-nil, map-append, length-map}
@@ -7,14 +7,13 @@ use Rattle.ex_base.specs.Bytes.{bytes_at}
 use Rattle.ex_base.specs.Fields.{number_at}
 use Rattle.slotted_pages.specs.declared.whole.SlotBody.{SlotBody}
 use Rattle.slotted_pages.specs.FilePage.{Slot, FilePage, file_page, IsSlot, taken, IsFilePage, SlotsOf}
-use Rattle.slotted_pages.specs.Reads.{page_on, IsPage}
 use Rattle.slotted_pages.specs.Edits.{slots_of, slot_with, before_live, trimmed, with_slots}
 use Rattle.slotted_pages.specs.Whole.{held, slots_held}
 use Rattle.slotted_pages.proofs.PageLaws.{page_read_is}
 use Rattle.slotted_pages.proofs.SlotLaws.{trimmed_live}
 use Rattle.slotted_pages.proofs.WholeLaws.{held_more}
 use Rattle.page_entries.specs.declared.form.EntryForm.TheVariants.{SlotChanges}
-use Rattle.page_entries.specs.Said.{SlotChange, Said, Slots, FitsChange, IsSaid, AreFields, changes_read, said_bytes}
+use Rattle.page_entries.specs.Said.{SlotChange, Slots, FitsChange, IsSaid, AreFields, changes_read, said_bytes}
 use Rattle.page_entries.specs.Fronts.{ChangesAt, change_end}
 use Rattle.page_entries.specs.Applying.{slot_set, slots_after, page_after_slots, SlotsApply}
 use Rattle.page_entries.proofs.Changes.{FieldsGiven, fields_given, here_from, only_slots}

@@ -1,5 +1,5 @@
 -- The slots that differ between two lists of them.
-use Rattle.std.specs.Prelude.{ℕ, suc, Bool, true, false, if◌then◌else◌, bytes_eq, List, [], ◌∷◌, ◌++◌, map, Some, None}
+use Rattle.std.specs.Prelude.{suc, Bool, true, false, if◌then◌else◌, bytes_eq, List, [], ◌∷◌, ◌++◌, map, Some, None}
 use Rattle.slotted_pages.specs.FilePage.{Slot}
 use Rattle.page_entries.specs.Said.{SlotChange}
 

@@ -1,9 +1,10 @@
 -- What the front of bytes has to show to be the fields of an entry.
-use Rattle.std.specs.Prelude.{◌≡◌, ℕ, zero, suc, ◌+◌, ◌*◌, ◌<◌, ◌≤◌, List, length}
+use Rattle.std.specs.Prelude.{◌≡◌, ℕ, zero, suc, ◌+◌, ◌*◌, ◌≤◌, List, length}
 use Rattle.std.specs.List.{flat_map}
 use Rattle.ex_base.specs.Bytes.{bytes_at}
 use Rattle.ex_base.specs.Fields.{number_at}
 use Rattle.object_files.specs.Catalog.{FileEntry, entry_bytes, IsCatalog}
+use Rattle.object_files.specs.Reads.{read_entries}
 use Rattle.page_entries.specs.Said.{put_catalog, numbers_read, removed_count, put_count, put_begin}
 
 -- a change stands at a position, of no slot below the least one
@@ -34,3 +35,7 @@ pub record ArePut (size : ℕ) (bytes : List ℕ) (put : List FileEntry) : Type 
 -- the numbers that are removed
 abbrev pub removed_read : List ℕ → List ℕ
 removed_read bytes = numbers_read bytes (removed_count bytes) 18
+
+-- the files that are put
+abbrev pub put_read : List ℕ → List FileEntry
+put_read bytes = read_entries bytes (put_count bytes) (put_begin bytes)

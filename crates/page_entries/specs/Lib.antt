@@ -3,3 +3,7 @@ pub mod Said
 pub mod Fronts
 pub mod Applying
 pub mod Changed
+pub mod FilesAfter
+pub mod After
+pub mod Rule
+pub mod EntryOf

@@ -1,8 +1,8 @@
 -- What a record of the log says of a page: all of it, or what changed on it.
-use Rattle.std.specs.Prelude.{◌≡◌, ◌≢◌, ℕ, zero, suc, ◌+◌, ◌*◌, ◌<◌, ◌≤◌, ◌^◌, List, [], ◌∷◌, ◌++◌, length, map, take, drop, Contains}
+use Rattle.std.specs.Prelude.{◌≡◌, ℕ, zero, suc, ◌+◌, ◌*◌, ◌<◌, ◌≤◌, ◌^◌, List, [], ◌∷◌, ◌++◌, length, map, take, Contains}
 use Rattle.std.specs.List.{flat_map, AllByRecursion}
 use Rattle.ex_base.specs.Bytes.{bytes_at}
-use Rattle.ex_base.specs.Fields.{field_bytes, two_bytes, four_bytes, eight_bytes, zeros, number_at}
+use Rattle.ex_base.specs.Fields.{two_bytes, four_bytes, eight_bytes, zeros, number_at}
 use Rattle.ex_base.specs.Order.{Rising}
 use Rattle.slotted_pages.specs.FilePage.{Slot, body_of, IsSlot}
 use Rattle.slotted_pages.specs.Edits.{slot_with}

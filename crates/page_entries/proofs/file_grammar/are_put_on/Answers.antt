@@ -1,4 +1,4 @@
-use Rattle.std.proofs.Common.{List, ℕ, map, ap, subst, sym, refl, ◌≡◌, true, length}
+use Rattle.std.proofs.Common.{List, ℕ, map, subst, sym, length}
 use Rattle.object_files.specs.Catalog.{FileEntry, number_of}
 use Rattle.page_entries.specs.Said.{NoneOf, numbers_read}
 use Rattle.page_entries.proofs.Files.{same_put}

@@ -1,4 +1,4 @@
-use Rattle.std.proofs.Common.{◌≡◌, ℕ, List, map, length, true, refl, sym, ap, subst, ◌∙◌, arith, rules}
+use Rattle.std.proofs.Common.{ℕ, List, map, sym, ap, subst, ◌∙◌, arith, rules}
 use Rattle.ex_base.specs.Order.{Rising}
 use Rattle.object_files.specs.Catalog.{number_of}
 use Rattle.page_entries.specs.Said.{numbers_read, NoneOf}

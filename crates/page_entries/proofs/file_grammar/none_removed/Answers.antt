@@ -1,4 +1,4 @@
-use Rattle.std.proofs.Common.{◌<◌, length, refl, arith}
+use Rattle.std.proofs.Common.{refl, arith}
 use Rattle.std.proofs.lemmas.Option.{slice_get_within}
 use Rattle.page_entries.specs.Said.{numbers_read}
 use Rattle.page_entries.proofs.Numbers.{none_of}

@@ -1,5 +1,4 @@
-use Rattle.std.proofs.Common.{ℕ, ◌+◌, ◌-◌, ◌*◌, ◌≡◌, ◌≤◌, refl, sym, subst, arith}
-use Rattle.ex_base.specs.Fields.{number_at}
+use Rattle.std.proofs.Common.{ℕ, ◌+◌, ◌-◌, ◌*◌, ◌≡◌, refl, sym, subst, arith}
 use Rattle.file_index.specs.Index.{Rises}
 use Rattle.file_index.proofs.Picking.{rises_of, rising_of}
 use Rattle.page_entries.specs.Said.{numbers_read}

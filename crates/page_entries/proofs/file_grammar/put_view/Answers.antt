@@ -1,8 +1,7 @@
-use Rattle.std.proofs.Common.{◌≡◌, ℕ, List, ◌+◌, ◌*◌, length, refl, sym, ap, ◌∙◌, arith}
+use Rattle.std.proofs.Common.{◌≡◌, ℕ, List, ◌+◌, ◌*◌, length, arith}
 use Rattle.object_files.specs.Catalog.{Catalog, CatalogOf, FileEntry}
-use Rattle.ex_base.specs.Bytes.{IsBytes}
 use Rattle.ex_base.specs.Fields.{number_at}
-use Rattle.page_entries.specs.Said.{put_catalog, put_begin}
+use Rattle.page_entries.specs.Said.{put_catalog}
 use Rattle.page_entries.specs.Fronts.{ArePut}
 use Rattle.page_entries.proofs.Files.{put_page, put_written, put_found, put_none, if_some_as, if_none_as}
 use Rattle.page_entries.proofs.file_grammar.put_view.Goals as goal

@@ -1,6 +1,6 @@
-use Rattle.std.proofs.Common.{◌≡◌, ◌<◌, ℕ, ◌-◌, ◌+◌, ◌∙◌, length, take, true, refl, sym, ap, subst, arith, rules}
+use Rattle.std.proofs.Common.{◌≡◌, ◌<◌, ℕ, ◌-◌, ◌+◌, ◌∙◌, sym, ap, subst, arith, rules}
 use Rattle.ex_base.specs.Fields.{number_at}
-use Rattle.page_entries.specs.Fronts.{ChangesAt, changes_end, change_end}
+use Rattle.page_entries.specs.Fronts.{ChangesAt, changes_end}
 use Rattle.page_entries.proofs.Changes.{no_slots, here_from, says_slots, step_here, step_back, step_end}
 use Rattle.page_entries.proofs.grammar.changes_len.Goals as goal
 use Rattle.page_entries.proofs.grammar.changes_len.Goals.{then-bytes-lt-CHANGE_HEAD-via-then-bytes-lt-CHANGE_HEAD, then-bytes-lt-CHANGE_HEAD-via-else-bytes-lt-CHANGE_HEAD+then-not-is_zero}

@@ -1,8 +1,8 @@
-use Rattle.std.proofs.Common.{◌≡◌, ◌≤◌, ℕ, List, length, take, true, refl, sym, ap, subst, ◌∙◌, arith, rules}
+use Rattle.std.proofs.Common.{◌≡◌, ℕ, List, length, take, sym, ap, ◌∙◌, arith, rules}
 use Rattle.std.proofs.lemmas.List.{take_at}
 use Rattle.ex_base.specs.Fields.{number_at}
 use Rattle.slotted_pages.specs.declared.whole.SlotBody.{SlotBody}
-use Rattle.slotted_pages.specs.FilePage.{Slot, taken, file_page}
+use Rattle.slotted_pages.specs.FilePage.{file_page}
 use Rattle.slotted_pages.specs.Edits.{trimmed}
 use Rattle.slotted_pages.specs.Whole.{slots_held}
 use Rattle.page_entries.specs.Said.{changes_read}

@@ -1,4 +1,4 @@
-use Rattle.std.proofs.Common.{◌≡◌, ℕ, refl, sym, ap, ◌∙◌, arith, rules}
+use Rattle.std.proofs.Common.{sym, ◌∙◌, arith}
 use Rattle.page_entries.proofs.SetSlots.{vacant_less, live_here}
 use Rattle.page_entries.proofs.slots.live_count.Goals as goal
 

@@ -1,4 +1,4 @@
-use Rattle.std.proofs.Common.{List, ◌≡◌, ◌<◌, ℕ, length, refl, sym, ap, ◌∙◌, arith}
+use Rattle.std.proofs.Common.{List, ◌<◌, length, ap, ◌∙◌, arith}
 use Rattle.slotted_pages.specs.declared.whole.SlotBody.{SlotBody}
 use Rattle.slotted_pages.specs.Whole.{held, slots_held}
 use Rattle.page_entries.specs.Applying.{slot_set}
