@@ -5,7 +5,7 @@
 
 PROGRAM is a built exsm. Volumes lie in a new folder below FOLDER (/dev/shm where there is none given). Each figure is the least of three runs: time
 of the clock, time of the processor, and the most memory that the process had, of which the system can't tell less than what Python has, some 14 MiB. The volumes: one object of 100 MiB, one of 4 GiB, and 100,000 objects of
-100 bytes in one file. `gen` makes 10,000 and 100,000 lines on a volume of 64,000 pages. `--quick` leaves out what takes more than some seconds.
+100 bytes in one file; and an empty script is run on the largest geometry. `gen` makes 10,000 and 100,000 lines on a volume of 64,000 pages. `--quick` leaves out what takes more than some seconds.
 """
 import argparse
 import os
@@ -77,6 +77,12 @@ def generated(program, path, count):
     tell(f"gen of {count:,} lines", runs)
 
 
+def largest(program, path):
+    os.remove(path)
+    once([program, "format", path, "--page-size", 512, "--pages", 4_000_000, "--segs", 4_000_000, "--seg-len", 1, "--fan", 2])
+    tell("an empty script on the largest geometry", [once([program, "run", path]) for _ in range(RUNS)])
+
+
 def main():
     parser = argparse.ArgumentParser(description=__doc__.splitlines()[0])
     parser.add_argument("program")
@@ -89,8 +95,9 @@ def main():
         checked(program, path, "one object of 100 MiB", 1024, 32_000, one_object(100 * MIB))
         generated(program, path, 10_000)
         if not asked.quick:
-            checked(program, path, "100,000 objects of 100 bytes", 64_000, 1024, small_objects(100_000))
             checked(program, path, "one object of 4 GiB", 16_000, 1_100_000, one_object(4096 * MIB - 1))
+            largest(program, path)
+            checked(program, path, "100,000 objects of 100 bytes", 64_000, 1024, small_objects(100_000))
             generated(program, path, 100_000)
 
 

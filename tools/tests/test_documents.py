@@ -152,9 +152,11 @@ class DocumentsTest(InFolder):
             self.assertEqual((ran.status, ran.out), (0, (crate / "stdout").read_bytes()), script.name)
 
     def test_formats(self) -> None:
-        """the example of FORMATS is what stands in the volume of README, byte for byte"""
+        """the example of FORMATS is what the session of README leaves on a small volume, byte for byte"""
         os.symlink(os.environ["EXSM"], "exsm")
-        session = transcripts.steps_of(text_of(README))[:2]
+        made = re.findall(r"`exsm (format v .*?)`", section(FORMATS, "An example"))[0]
+        self.assertEqual(self.exsm(*made.split()).status, 0)
+        session = transcripts.steps_of(text_of(README))[1:2]
         transcripts.run(session, self.folder, {"PATH": os.environ["PATH"]})
         first, later = (dict(re.findall(r"^\| (\d+) \| `([0-9a-f ]+)` \|", part, re.M))
                         for part in section(FORMATS, "An example").split("After the next opening"))

@@ -25,12 +25,13 @@ use Rattle.op_log.specs.Gates.{log_end-append}
 use Rattle.op_log.specs.Log.{Follow, SaysLog, DiskSays, KeepsLog, AddsHere, log_end}
 use Rattle.op_log.specs.Records.{record_len}
 use Rattle.op_log.specs.State.{LogState, Prolongs}
-use Rattle.volume_model.specs.Committed.{Committed, CommittedAs, MayCommit, IsOverlayOf, StandsForVolume, StandsForEither, record_of, with_records}
+use Rattle.volume_model.specs.Committed.{Committed, CommittedAs, HomesStay, MayCommit, IsOverlayOf, StandsForVolume, StandsForEither, record_of, with_records}
 use Rattle.volume_model.specs.CrashImage.{same_part, from_home}
 use Rattle.volume_model.specs.Durable.{Agrees}
 use Rattle.volume_model.specs.Parts.{SuperOf, IsLastOf, Decodes, HoldsOf, StandsFor, content_parts}
 use Rattle.volume_model.specs.Shown.{PageRow, WorkingRow, IsWorkingPage, laid_over, laid_over_page, working_units}
 use Rattle.volume_model.specs.Volume.{Volume, Decoded, file_pages, reach_of, table_of, units_of, units_after}
+use Rattle.volume_model.proofs.FoundRows.{found_is}
 use Rattle.commits.proofs.Closing.{settled_agrees}
 use Rattle.commits.proofs.LoggedPages.{logged_more}
 use Rattle.commits.proofs.Places.{behind_log, page_stays, leaf_stays, same_unit}
@@ -127,6 +128,11 @@ module _ (d : Decoded) (disk : List ℕ) (rows : List WorkingRow) (txn : ℕ) (n
       ∙ over_home (lookup (nat_eq page) rows) (logged d.records page) (page_at d.geometry disk page))
       (λ is_leaf. leaf_kept d (record_of txn notes rows) disk e fits same page is_leaf)
 
+  pub new_homes : HomesStay d disk e
+  new_homes unit le none =
+      same_unit d.geometry (page_at d.geometry disk) (page_at d.geometry e) disk e unit
+      (λ lt. page_kept d (record_of txn notes rows) disk e fits same unit le) (λ is_leaf. leaf_kept d (record_of txn notes rows) disk e fits same unit is_leaf)
+
   new_reach : (page : ℕ) → Contains (reach_of (working_units d disk rows) working) page → units_after d.geometry new_records e page ≡ working_units d disk rows page
   new_reach page at = new_units page (reach_behind d.geometry (working_units d disk rows) working page may.parts at)
 
@@ -152,16 +158,6 @@ adds_stands d disk log overlay rows txn notes working images e committed rising 
     (λ new. inr (new_stands d disk rows txn notes working e committed.parts rising may fits new.0 new.1)) adds
 
 -- ---- the overlay after it
-
--- what has a row that a look-up finds
-pub found_is : {V : Type 0} (P : ℕ × V → Type 0) (rows : List (ℕ × V)) (page : ℕ) (value : V) → AllByRecursion P rows → lookup (nat_eq page) rows ≡ Some value → P (page, value)
-found_is P [] page value all found = absurd (cc)
-found_is P (row ∷ rows) page value all found = ⊎_elim
-    (λ (same : (nat_eq page row.0 ≡ true) × (page ≡ row.0)).
-    let is : Some row.1 ≡ Some value = sym (ap (λ (t : Bool). cond t (Some row.1) (lookup (nat_eq page) rows)) same.0) ∙ found in
-    let here : row.1 ≡ value = cc in
-    subst (λ (v : _). P (page, v)) here (subst (λ (n : ℕ). P (n, row.1)) (sym same.1) all.0))
-    (λ (other : (nat_eq page row.0 ≡ false) × (page ≢ row.0)). found_is P rows page value all.1 (sym (ap (λ (t : Bool). cond t (Some row.1) (lookup (nat_eq page) rows)) other.0) ∙ found)) (eqb_tells page row.0)
 
 -- what holds of each page that a look-up finds holds of each row
 each_found : {V : Type 0} (P : ℕ → Type 0) (rows : List (ℕ × V)) → ((page : ℕ) (value : V) → lookup (nat_eq page) rows ≡ Some value → P page) → AllByRecursion (λ (row : ℕ × V). P row.0) rows
@@ -239,6 +235,7 @@ committed_as d disk log log' overlay overlay' rows txn notes working a b honest 
         in_order = rising_numbers overlay' in_order;
         pages = λ page le stale. new_units d disk rows txn notes working now.0 committed.parts rising may fits now.2 page le;
         table = new_table d disk rows txn notes working now.0 committed.parts rising may fits now.2;
+        homes = new_homes d disk rows txn notes working now.0 committed.parts rising may fits now.2;
       },
     )
 

@@ -1,5 +1,5 @@
 -- The committed images go home, and the log is closed.
-use Rattle.std.proofs.Common.{◌≡◌, ◌≢◌, ◌≤◌, ◌<◌, ◌*◌, ℕ, Bool, true, false, cond, ⊎_elim, List, [], ◌∷◌, length, slice_index, All, Option, Some, None, IsSome, Result, Ok, Err, OnOk, IsTrue, nat_eq, unwrap_or, refl, sym, ap, subst, ◌∙◌, arith}
+use Rattle.std.proofs.Common.{◌≡◌, ◌≢◌, ◌≤◌, ◌<◌, ◌*◌, ℕ, Bool, true, false, cond, inr, ⊎_elim, List, [], ◌∷◌, length, slice_index, All, Option, Some, None, IsSome, Result, Ok, Err, OnOk, IsTrue, nat_eq, unwrap_or, refl, sym, ap, subst, ◌∙◌, arith}
 use Rattle.std.proofs.lemmas.List.{nil_from_length}
 use Rattle.std.specs.Prelude.{Contains}
 use Rattle.std.specs.List.{AllByRecursion}
@@ -32,6 +32,7 @@ use Rattle.volume_model.specs.Parts.{SuperOf, Decodes, HoldsOf, content_parts}
 use Rattle.volume_model.specs.Shown.{PageRow}
 use Rattle.volume_model.specs.Volume.{Decoded, reach_of, table_of, units_of}
 use Rattle.commits.proofs.Places.{begins_behind, ends_before, not_in_both, behind_log, page_stays, leaf_stays, same_unit}
+use Rattle.commits.proofs.HomesKept.{homes_stay}
 use Rattle.commits.proofs.Reached.{reach_behind, without_last, decodes_as, table_as, stands_as}
 
 -- two promises of one run at once
@@ -179,6 +180,7 @@ none_to_close d disk log rows images count committed =
         table = subst (λ (rs : List LogRecord). table_of (units_of (with_records d rs d.volume) disk) d.volume ≡ table_of (units_of d disk) d.volume) none refl;
       };
       committed = subst (λ (rs : List LogRecord). Committed images (with_records d rs d.volume) disk log rows) none committed;
+      homes = λ unit le no_image. refl;
     }
 
 -- ---- over the outside
@@ -248,6 +250,7 @@ closed_down d disk log log' rows a b c committed went changes says settled count
           durable = settled_agrees (with_records d [] d.volume) now.0 c.images (settled went.honest now.0 now.1);
           shown = record { just = λ page. refl; log_is = counts ∙ ap (λ (s : LogState). record { geometry = s.geometry; end = 0; count = 0 }) committed.shown.log_is };
         };
+        homes = homes_stay d disk [] now.0 (inr refl) (units_without d disk went.mid now.0 parts went.home now.2);
       },
     )
 

@@ -19,13 +19,10 @@ use Rattle.volume_model.specs.Parts.{StandsFor}
 use Rattle.volume_model.specs.SameVolume.{RootKept, units_of_root, kept_from_reach, parts_kept, table_kept}
 use Rattle.volume_model.specs.Shown.{PageRow, WorkingRow, laid_over, laid_over_page, working_units}
 use Rattle.volume_model.specs.Volume.{Volume, Decoded, file_pages, reach_of, roots_in, stored_in, table_of}
-use Rattle.commits.proofs.Adding.{found_is}
+use Rattle.volume_model.proofs.FoundRows.{found_is}
+use Rattle.commits.proofs.HomesKept.{none_still, homes_on, homes_stay}
 use Rattle.commits.proofs.Places.{same_unit, unit_page, unit_leaf}
 use Rattle.commits.proofs.Reached.{reach_behind, same_reach}
-
--- what the log had of a page, where it has its records still or none
-none_still : (d : Decoded) (records : List LogRecord) (page : ℕ) → (records ≡ d.records) ⊎ (records ≡ []) → logged d.records page ≡ None → logged records page ≡ None
-none_still d records page those none = ⊎_elim (λ (is : records ≡ d.records). ap (λ (rs : List LogRecord). logged rs page) is ∙ none) (λ (is : records ≡ []). ap (λ (rs : List LogRecord). logged rs page) is) those
 
 -- a page that is stale now was stale before
 pub stale_before : (d : Decoded) (records : List LogRecord) (rows : List WorkingRow) (page : ℕ) → (records ≡ d.records) ⊎ (records ≡ []) → ¬ IsStale d rows page → ¬ IsStale (with_records d records d.volume) rows page
@@ -116,4 +113,5 @@ module _ (d : Decoded) (disk : List ℕ) (records : List LogRecord) (later : Lis
       in_order = done.in_order;
       pages = λ page le fresh. done.pages page le (stale_before d records rows page those fresh) ∙ same_working page le fresh;
       table = done.table ∙ working_table;
+      homes = homes_on d disk records later last those (homes_stay d disk records later those same.pages) done.homes;
     }

@@ -2,6 +2,7 @@ pub mod Places
 pub mod Reached
 pub mod WorkingRows
 pub mod Lending
+pub mod HomesKept
 pub mod Closing
 pub mod LoggedPages
 pub mod Adding

@@ -73,7 +73,7 @@ impl<'a> NodeView<'a> {
     }
 
     /// Where the bytes of the child at an index begin.
-    fn start(&self, index: u32) -> u64
+    pub fn start(&self, index: u32) -> u64
         requires { index < length self.now.pairs }
         ensures { result ≡ start_of self.now.pairs index }
     {

@@ -1,5 +1,5 @@
 -- What `check` promises.
-use Rattle.std.proofs.Common.{◌≡◌, ◌≢◌, ◌∙◌, ◌⊎◌, ⊎_elim, ◌<◌, ℕ, List, ◌++◌, Some, length, take, Result, Ok, Err, OnErr, true, inl, inr, refl, sym, ap, subst, arith, IsTrue}
+use Rattle.std.proofs.Common.{◌≡◌, ◌≢◌, ◌∙◌, ◌⊎◌, ⊎_elim, ◌<◌, ℕ, List, ◌++◌, Some, length, take, Result, Ok, Err, OnErr, true, inl, inr, refl, subst, arith, IsTrue}
 use Rattle.std.specs.Result.{is_err}
 use Rattle.disk_model.specs.Outside.{Outside, DiskOnly, IsWorld, Leaves, Rose, SinkOnly}
 use Rattle.disk_model.specs.Runs.{sink_refl}
@@ -7,15 +7,15 @@ use Rattle.table_model.specs.declared.table.Table.{Table}
 use Rattle.session_views.specs.declared.part.Part.{Part}
 use Rattle.session_views.specs.Opening.{StandsOpening}
 use Rattle.talks.proofs.Whole.{leaves_table}
-use Rattle.transactions.specs.Meant.{meant}
-use Rattle.transactions.specs.declared.session.summary.Summary.{Summary}
+use Rattle.session_core.specs.Meant.{meant}
+use Rattle.session_core.specs.declared.session.summary.Summary.{Summary}
 use Rattle.volume_model.specs.Parts.{StandsFor}
 use Rattle.command_line.specs.declared.status.Status.{Status}
 use Rattle.command_line.specs.declared.status.Status.TheVariants as status
 use Rattle.command_line.specs.Status.{IsRefusal}
 use Rattle.exsm_run.specs.Check.{CheckPromise, HoldsCounted, IsCount, IsLineStatus, StopsCount, check_line, counts_line}
 use Rattle.exsm_run.specs.Openings.{OpeningPromise}
-use Rattle.exsm_run.specs.Script.{HoldsVolume, IsOnVolume}
+use Rattle.exsm_run.specs.Script.{HoldsVolume}
 use Rattle.exsm_run.proofs.Ending.{starts_on}
 use Rattle.exsm_run.proofs.Lines.{leaves_sink, line_status, opened_well}
 

@@ -15,10 +15,10 @@ use Rattle.session_views.specs.declared.engine.Stop.TheVariants as stop
 use Rattle.session_views.specs.declared.opener.OpenFault.{OpenFault}
 use Rattle.session_views.specs.declared.opener.OpenFault.TheVariants as open_fault
 use Rattle.talks.specs.Opening.{Opened}
-use Rattle.transactions.specs.Meant.{meant}
-use Rattle.transactions.specs.Sessions.{SessionState, held}
-use Rattle.transactions.specs.Summaries.{IsSummary}
-use Rattle.transactions.specs.declared.session.summary.Summary.{Summary}
+use Rattle.session_core.specs.Meant.{meant}
+use Rattle.session_core.specs.Sessions.{SessionState, held}
+use Rattle.session_core.specs.Summaries.{IsSummary}
+use Rattle.session_core.specs.declared.session.summary.Summary.{Summary}
 use Rattle.volume_model.specs.Parts.{FirstBad, StandsFor}
 use Rattle.volume_model.specs.Shown.{used_in}
 use Rattle.volume_model.proofs.OneVolume.{one_geometry}

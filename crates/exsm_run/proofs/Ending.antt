@@ -8,7 +8,7 @@ use Rattle.talks.specs.declared.stopped.Stopped.TheVariants as stopped
 use Rattle.table_model.specs.declared.table.Table.{Table}
 use Rattle.talks.specs.Headline.{RunStarts}
 use Rattle.runs.specs.Headline.{MayComplete}
-use Rattle.transactions.specs.Meant.{meant}
+use Rattle.session_core.specs.Meant.{meant}
 use Rattle.volume_model.proofs.AtMostOne.{one_table}
 use Rattle.talks.specs.Stops.{IsOpeningStop, IsSoundStop}
 use Rattle.command_line.specs.declared.status.Status.{Status}

@@ -1,21 +1,16 @@
 -- What `gen` promises.
-use Rattle.std.proofs.Common.{◌≡◌, ◌≢◌, ◌∙◌, ◌⊎◌, ⊎_elim, ◌<◌, ◌^◌, ℕ, List, [], ◌∷◌, ◌++◌, Option, None, Some, IsTrue, length, take, inl, inr, refl, sym, ap, subst, arith}
+use Rattle.std.proofs.Common.{◌≡◌, ◌∙◌, ◌⊎◌, ⊎_elim, ◌<◌, ◌^◌, ℕ, List, [], ◌∷◌, ◌++◌, Option, None, Some, IsTrue, length, inl, inr, refl, sym, ap, subst, arith}
 use Rattle.std.proofs.lemmas.List.{append-nil}
 use Rattle.std.proofs.lemmas.Option.{same_Some}
-use Rattle.std.specs.List.{flat_map}
 use Rattle.std.specs.Prelude.{is_some}
-use Rattle.disk_model.specs.Outside.{Outside, Along, Between, DiskOnly, Goes, IsWorld, Only, Rose, SinkOnly, WritesNothing}
+use Rattle.disk_model.specs.Outside.{Outside, Along, DiskOnly, Goes, IsWorld, Only, SinkOnly, WritesNothing}
 use Rattle.disk_model.specs.Runs.{along_sink, along_wider}
-use Rattle.ex_base.specs.declared.names.PageNo.{PageNo}
-use Rattle.ex_base.specs.declared.faults.Seen.{Seen}
 use Rattle.table_model.specs.declared.reply.Reply.{Reply}
 use Rattle.table_model.specs.declared.table.Table.{Table}
 use Rattle.session_views.specs.declared.part.Part.{Part}
-use Rattle.session_views.specs.View.{View}
-use Rattle.talks.specs.Headline.{HoldsTable, RunStarts, OpenedAt, SteppedTalk, TalkHeadline, Unopened}
+use Rattle.talks.specs.Headline.{HoldsTable, RunStarts, SteppedTalk, TalkHeadline}
 use Rattle.talks.specs.Passage.{IsBroken, IsOver}
 use Rattle.talks.specs.Stops.{CausedBy, IsOpeningStop, IsSessionStop, IsSoundStop}
-use Rattle.talks.specs.Talking.{Exchange}
 use Rattle.talks.specs.Transcript.{Row, IsRunMoment, exchanges, output_of, request_in}
 use Rattle.talks.specs.declared.stopped.Stopped.{Stopped}
 use Rattle.talks.specs.declared.stopped.Stopped.TheVariants as stopped
@@ -25,18 +20,18 @@ use Rattle.generated.specs.GeneratedTalk.{generated_talking, silent_acking}
 use Rattle.generated.specs.Lines.{to_come}
 use Rattle.generated.specs.Replies.{IsTallyOf, gen_line}
 use Rattle.generated.specs.Script.{generated}
-use Rattle.generated.specs.Talked.{Heard, replies_of}
+use Rattle.generated.specs.Talked.{Heard, HeardFront, replies_of}
+use Rattle.generated.specs.TalkLaws.{heard_whole}
 use Rattle.generated.specs.declared.talk.Generated.{Generated}
-use Rattle.transactions.specs.Meant.{meant}
-use Rattle.transactions.specs.Sessions.{SessionState}
-use Rattle.volume_model.specs.Parts.{FirstBad, StandsFor}
+use Rattle.session_core.specs.Meant.{meant}
+use Rattle.session_core.specs.Sessions.{SessionState}
+use Rattle.volume_model.specs.Parts.{FirstBad}
 use Rattle.command_line.specs.declared.status.Status.{Status}
 use Rattle.command_line.specs.declared.status.Status.TheVariants as status
 use Rattle.exsm_run.specs.Check.{IsLineStatus}
 use Rattle.exsm_run.specs.Fresh.{IsFresh}
-use Rattle.exsm_run.specs.Generate.{Answered, GenPromise, StandsForOne, ToldOf}
-use Rattle.exsm_run.specs.Openings.{OpeningPromise}
-use Rattle.exsm_run.specs.Script.{HoldsVolume, IsOnVolume, status_of}
+use Rattle.exsm_run.specs.Generate.{Answered, GenPromise, StandsForOne, StopsUntold, ToldOf}
+use Rattle.exsm_run.specs.Script.{IsOnVolume, status_of}
 use Rattle.exsm_run.proofs.Checking.{SentLine, line_good, line_ends}
 use Rattle.exsm_run.proofs.Ending.{left_alone, opening_status, starts_on}
 
@@ -127,7 +122,7 @@ none_sent was out front none no_front =
 sent_none : {a b : Outside} {first talk : Generated} {table : Table} {was : List ℕ} (ending : Option Stopped) → (ending ≡ Some stopped.Output → ⊥)
     → TalkHeadline meant IsFresh generated_talking first talk table was a b ending → b.sent ≡ Some was
 sent_none {first = first} None fine (inl s) = s.sent ∙ ap Some (none_sent _ _ _ (no_texts (to_come first.lines) s.rows s.talked.1.heard) (s.uncut fine))
-sent_none (Some why) fine (inl s) = s.sent ∙ ap Some (none_sent _ _ _ (no_texts s.talked.lines s.rows s.talked.heard) (s.uncut fine))
+sent_none (Some why) fine (inl s) = s.sent ∙ ap Some (none_sent _ _ _ (no_texts s.talked.heard.lines s.rows s.talked.heard.heard) (s.uncut fine))
 sent_none ending fine (inr u) = u.sent
 
 -- ---- what a crash leaves
@@ -143,7 +138,17 @@ moments_on {a} {b} {c} {was} so_far only sent =
 
 -- ---- it was stopped
 
-pub gen_stopped : {a b : Outside} (seed count : ℕ) (first : Generated) (talk : Generated) (why : Stopped) → IsWorld a → StopsGen why → CausedBy why a b
+stopped_in : {a b : Outside} {table : Table} {was : List ℕ} (seed count : ℕ) (first talk : Generated) (why : Stopped) → to_come first.lines ≡ generated seed count
+    → TalkHeadline meant IsFresh generated_talking first talk table was a b (Some why) → StopsUntold seed count table was a b (status_of 0 (Some why))
+stopped_in seed count first talk why script (inl s) = inl (record {
+  had = exchanges s.rows;
+  asked = s.last;
+  heard = subst (λ (lines : List (List ℕ)). HeardFront lines (exchanges s.rows) s.last) script s.talked.heard;
+  answered = record { opening = s.opening; time = s.time; opened = s.opened; rows = s.rows; last = s.after; are = refl; trail = s.trail; stops = s.stops };
+})
+stopped_in seed count first talk why script (inr u) = inr (why, refl, u)
+
+pub gen_stopped : {a b : Outside} (seed count : ℕ) (first : Generated) (talk : Generated) (why : Stopped) → IsWorld a → to_come first.lines ≡ generated seed count → StopsGen why → CausedBy why a b
     → ((table : Table) (was : List ℕ) → RunStarts meant a table was → TalkHeadline meant IsFresh generated_talking first talk table was a b (Some why))
     → (IsBroken generated_talking first a.left why b.left ⊎ (IsOpeningStop why × DiskOnly a b))
     → ((table : Table) (was : List ℕ) → HoldsTable meant a table was → IsSoundStop why)
@@ -153,10 +158,11 @@ pub gen_stopped : {a b : Outside} (seed count : ℕ) (first : Generated) (talk :
     → ((image : List ℕ) (part : Part) → a.disk ≡ Some image → FirstBad image part → IsOpeningStop why)
     → ((image : List ℕ) (part : Part) → a.disk ≡ Some image → FirstBad image part → WritesNothing a b)
     → GenPromise seed count a b (status_of 0 (Some why))
-gen_stopped {a} {b} seed count first talk why world whence caused headline broken sound bad bad_only bad_kept unopened left = record {
+gen_stopped {a} {b} seed count first talk why world script whence caused headline broken sound bad bad_only bad_kept unopened left = record {
   done = λ table was on is. absurd (no_done why is);
   front = λ table was on is. absurd (no_output why whence is);
   nothing = λ table was on done output. sent_none (Some why) (λ is. not_output why whence (cc)) (headline table was (starts_on on));
+  stopped = λ table was on done output. stopped_in seed count first talk why script (headline table was (starts_on on));
   left = ⊎_elim (λ cut. cut.2.left_so) (λ unopened. unopened.1.left) broken;
   moments = λ table was on. stands_moments (Some why) (headline table was (starts_on on));
   sound = λ table was on. sound_kind why whence (sound table was on);
@@ -189,31 +195,43 @@ moments_sent {was = was} only sent s =
     })
 
 answered_on : {a b c : Outside} {first talk : Generated} {table : Table} {was : List ℕ} → IsWorld b → SinkOnly b c → b.sent ≡ Some was
-    → (s : SteppedTalk meant IsFresh generated_talking first talk table was a b None) → Answered table was a c (exchanges s.rows)
-answered_on {a} {b} {c} {was = was} world only sent s =
-    let ended = s.ended refl in
-    record {
-      opening = s.opening;
-      time = s.time;
-      opened = record { starts = s.opened.starts; fresh = s.opened.fresh; later = s.opened.later; shown = shows_at_later meant world only.goes s.opened.shown };
-      rows = s.rows;
-      last = s.after;
-      are = refl;
-      trail = trail_later meant was s.time [] s.opening s.after s.rows world only.goes s.trail;
-      ended = record { after = ended.after; told = ended.told; step = ended.step; shows = shows_sent only ended.shows };
-      stops = subst (λ last. Along a c (IsRunMoment meant silent_acking s.opening.machine s.rows s.after.machine (request_in last) was)) s.talked.0 (moments_sent only sent s);
-    }
+    → (s : SteppedTalk meant IsFresh generated_talking first talk table was a b None) → Answered table was a c (exchanges s.rows) None
+answered_on {a} {b} {c} {was = was} world only sent s = record {
+  opening = s.opening;
+  time = s.time;
+  opened = record { starts = s.opened.starts; fresh = s.opened.fresh; later = s.opened.later; shown = shows_at_later meant world only.goes s.opened.shown };
+  rows = s.rows;
+  last = s.after;
+  are = refl;
+  trail = trail_later meant was s.time [] s.opening s.after s.rows world only.goes s.trail;
+  stops = subst (λ last. Along a c (IsRunMoment meant silent_acking s.opening.machine s.rows s.after.machine (request_in last) was)) s.talked.0 (moments_sent only sent s);
+}
 
 told_of : {a b c : Outside} {table : Table} {was : List ℕ} (seed count : ℕ) (first talk : Generated) (line : List ℕ) → IsWorld b → SinkOnly b c → b.sent ≡ Some was → to_come first.lines ≡ generated seed count
     → length (to_come first.lines) < 2 ^ 64 → IsTallyOf [] first.tally → ((replies : List Reply) → IsTallyOf replies talk.tally → line ≡ gen_line replies)
     → TalkHeadline meant IsFresh generated_talking first talk table was a b None → ToldOf seed count table was a c line
-told_of seed count first talk line world only sent script few none made (inl s) = record {
-  had = exchanges s.rows;
-  heard = subst (λ (lines : List (List ℕ)). Heard lines (exchanges s.rows)) script s.talked.1.heard;
-  answered = answered_on world only sent s;
-  line_is = made (replies_of (exchanges s.rows)) (s.talked.1.tallied [] none (omega (arith, few)));
-}
+unfolding answered_on
+told_of seed count first talk line world only sent script few none made (inl s) =
+    let ended = s.ended refl in
+    record {
+      had = exchanges s.rows;
+      heard = subst (λ (lines : List (List ℕ)). Heard lines (exchanges s.rows)) script s.talked.1.heard;
+      answered = answered_on world only sent s;
+      ended = record { after = ended.after; told = ended.told; step = ended.step; shows = shows_sent only ended.shows };
+      line_is = made (replies_of (exchanges s.rows)) (s.talked.1.tallied [] none (omega (arith, few)));
+    }
 told_of seed count first talk line world only sent script few none made (inr u) = absurd (let is = u.is in cc)
+
+-- All lines were answered, but no line tells of it.
+untold_of : {a b c : Outside} {table : Table} {was : List ℕ} (seed count : ℕ) (first talk : Generated) (s : Status) → IsWorld b → SinkOnly b c → b.sent ≡ Some was → to_come first.lines ≡ generated seed count
+    → TalkHeadline meant IsFresh generated_talking first talk table was a b None → StopsUntold seed count table was a c s
+untold_of seed count first talk status world only sent script (inl s) = inl (record {
+  had = exchanges s.rows;
+  asked = None;
+  heard = heard_whole (subst (λ (lines : List (List ℕ)). Heard lines (exchanges s.rows)) script s.talked.1.heard);
+  answered = answered_on world only sent s;
+})
+untold_of seed count first talk status world only sent script (inr u) = absurd (let is = u.is in cc)
 
 pub gen_sent : {a b c : Outside} (s : Status) (seed count : ℕ) (first talk : Generated) (line : List ℕ) → IsWorld b → Goes a b → to_come first.lines ≡ generated seed count
     → length (to_come first.lines) < 2 ^ 64 → IsTallyOf [] first.tally
@@ -230,6 +248,7 @@ gen_sent {a} {b} {c} s seed count first talk line world goes script few none mad
       done = λ table was on is. (line, told (inl is) table was on, sent.done is was (before table was on));
       front = λ table was on is. (line, told (inr is) table was on, sent.front is was (before table was on));
       nothing = λ table was on done output. sent.nothing done output ∙ before table was on;
+      stopped = λ table was on done output. untold_of seed count first talk s world sent.only (before table was on) script (headline table was (starts_on on));
       left = sent.only.left ∙ over.2.left_so;
       moments = λ table was on. moments_on (stands_moments None (headline table was (starts_on on))) sent.only (before table was on);
       sound = λ table was on. sent.kind;

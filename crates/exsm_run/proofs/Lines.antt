@@ -1,10 +1,10 @@
 -- What the sending of one line leaves, and the statuses of commands that send one.
-use Rattle.std.proofs.Common.{◌≡◌, ◌⊎◌, ⊎_elim, ℕ, ◌≤◌, List, Some, arith, inl, inr, refl, sym, subst, IsTrue}
+use Rattle.std.proofs.Common.{◌≡◌, ◌⊎◌, ⊎_elim, ℕ, ◌≤◌, List, Some, arith, inl, inr, sym, subst}
 use Rattle.disk_model.specs.Outside.{Outside, Between, IsWorld, Leaves, SinkOnly}
 use Rattle.disk_model.specs.Runs.{adds_wider, leaves_trans}
 use Rattle.table_model.specs.declared.table.Table.{Table}
 use Rattle.session_views.specs.declared.part.Part.{Part}
-use Rattle.transactions.specs.Meant.{meant}
+use Rattle.session_core.specs.Meant.{meant}
 use Rattle.volume_model.specs.Parts.{StandsFor}
 use Rattle.command_line.specs.declared.status.Status.{Status}
 use Rattle.command_line.specs.declared.status.Status.TheVariants as status

@@ -5,7 +5,7 @@ use Rattle.std.proofs.lemmas.List.{take_rest}
 use Rattle.std.proofs.lemmas.Option.{same_Some}
 use Rattle.ex_base.specs.Bytes.{part, repl, part-repl, part-repl_apart, length-repl, repl_same_outside, same_or_not, same_parts, part_joined, part_byte}
 use Rattle.ex_base.specs.Sizes.{volume_bytes, least_page, least_volume}
-use Rattle.ex_base.specs.Superblock.{format_now, magic, super_page, super_rest, IsSuper, length-super_rest, drop-super_page}
+use Rattle.ex_base.specs.Superblock.{format_now, magic, super_page, super_rest, length-super_rest, drop-super_page}
 use Rattle.ex_base.specs.declared.geometry.Geometry.{Geometry}
 use Rattle.object_files.specs.Catalog.{CatalogOf, fresh_catalog}
 use Rattle.volume_model.specs.Parts.{SuperOf}

@@ -7,7 +7,7 @@ use Rattle.disk_model.specs.Outside.{Outside, Leaves}
 use Rattle.disk_model.specs.Runs.{leaves_wider}
 use Rattle.buffer_groups.specs.Frames.{Frames}
 use Rattle.op_log.specs.State.{LogState}
-use Rattle.page_alloc.specs.UnitSet.{used_at}
+use Rattle.page_alloc.specs.UnitSet.{refs_at, used_at}
 use Rattle.restart.specs.declared.opening.OpenedParts.{OpenedParts}
 use Rattle.restart.specs.Opening.{AreOpened, OpenedOn, OpensAs, StandsForSame}
 use Rattle.session_views.specs.View.{View}
@@ -17,8 +17,8 @@ use Rattle.table_model.specs.declared.table.Table.{Table}
 use Rattle.table_model.specs.declared.machine.Machine.{Machine}
 use Rattle.table_model.specs.Machines.{start}
 use Rattle.exsm_run.specs.Fresh.{IsFresh}
-use Rattle.transactions.specs.Meant.{meant}
-use Rattle.transactions.specs.Sessions.{SessionState, fresh_session, held}
+use Rattle.session_core.specs.Meant.{meant}
+use Rattle.session_core.specs.Sessions.{SessionState, fresh_session, held}
 use Rattle.trees.specs.Trees.{Units}
 use Rattle.volume_model.proofs.OpenedView.{opened_view}
 use Rattle.volume_model.specs.Committed.{Committed, with_records}
@@ -41,7 +41,7 @@ held_is p opened =
     cc (frames, working, taken, overlay)
 
 pub shows_opened : {w : Outside} (p : OpenedParts) (image : List ℕ) (table : Table) → AreOpened p → IsTrue w.honest
-    → OpenedOn image p.geometry w p.log p.meta.committed (used_at p.units) (is_held p.pages) → StandsFor image table
+    → OpenedOn image p.geometry w p.log p.meta.committed (used_at p.units) (refs_at p.units) (is_held p.pages) → StandsFor image table
     → Opened meant IsFresh table (opened_session p) w
 shows_opened {w} p image table parts honest on stands =
     let d = on.decoded in

@@ -1,7 +1,7 @@
 -- A session that was just opened.
 use Rattle.std.specs.Prelude.{◌≡◌, []}
 use Rattle.session_views.specs.View.{View}
-use Rattle.transactions.specs.Sessions.{SessionState, held}
+use Rattle.session_core.specs.Sessions.{SessionState, held}
 use Rattle.volume_model.specs.FreshView.{KnowsUnits}
 use Rattle.volume_model.specs.Parts.{Decodes}
 use Rattle.volume_model.specs.Volume.{Decoded}

@@ -4,7 +4,7 @@ use Rattle.disk_model.specs.Outside.{Outside, Along, ReadsOnly, RestsOn}
 use Rattle.ex_base.specs.Sizes.{volume_bytes}
 use Rattle.ex_base.specs.declared.geometry.Geometry.{Geometry}
 use Rattle.table_model.specs.declared.table.Table.{Table}
-use Rattle.transactions.specs.Meant.{meant}
+use Rattle.session_core.specs.Meant.{meant}
 use Rattle.command_line.specs.declared.status.Status.{Status}
 use Rattle.command_line.specs.declared.status.Status.TheVariants.{Done, Memory, ScriptLong}
 use Rattle.command_words.specs.declared.wish.Wish.{Wish}

@@ -5,7 +5,7 @@ ghost use Rattle.ex_base.specs.declared.names.PageNo.{PageNo};
 ghost use Rattle.ex_base.specs.declared.faults.Seen.{Seen};
 ghost use Rattle.table_model.specs.declared.table.Table.{Table};
 ghost use Rattle.session_views.specs.Opening.{StandsOpening};
-ghost use Rattle.transactions.specs.Meant.{meant};
+ghost use Rattle.session_core.specs.Meant.{meant};
 ghost use Rattle.volume_model.specs.Parts.{StandsFor};
 ghost use Rattle.exsm_run.specs.Check.{CheckPromise, IsCount, StopsAs, StopsCount, counts_line, unopened_status};
 ghost use Rattle.exsm_run.specs.Openings.{OpeningPromise};
@@ -15,10 +15,10 @@ ghost use Rattle.exsm_run.specs.Status.{IsRefusal};
 use crate::session::VolumeSession;
 use crate::status::Status;
 use disk_model::{Host, send_all};
+use session_core::Summary;
 use session_views::{OpenFault, Stop};
 use std::alloc::{AllocError, Global};
 use talks::Opener;
-use transactions::Summary;
 
 // The status where a volume wasn't opened.
 fn status_unopened(fault: OpenFault) -> Status

@@ -3,12 +3,13 @@ ghost use Rattle.std.specs.Prelude.{◌≡◌, false};
 
 use disk_model::Host;
 use restart::{OpenedParts, open_volume};
+use session_core::{Parts, Session, Summary};
 use session_views::{Engine, OpenFault, Stop};
 use std::alloc::Global;
 use std::marker::Model;
 use table_model::{Command, Reply};
 use talks::Opener;
-use transactions::{Parts, Session, Summary};
+use transactions::step;
 
 /// A session that was opened on the volume of a disk.
 #[derive(Drop)]
@@ -17,7 +18,7 @@ pub struct VolumeSession {
 }
 
 impl Model for VolumeSession {
-    ghost use Rattle.transactions.specs.Sessions.{SessionState};
+    ghost use Rattle.session_core.specs.Sessions.{SessionState};
 
     ghost Value = { SessionState };
 
@@ -31,9 +32,9 @@ impl VolumeSession {
     ghost use Rattle.ex_base.specs.declared.names.PageNo.{PageNo};
     ghost use Rattle.session_views.specs.declared.engine.Stop.{Stop};
     ghost use Rattle.session_views.specs.View.{View, ShowsNow};
-    ghost use Rattle.transactions.specs.Meant.{meant};
-    ghost use Rattle.transactions.specs.Sessions.{SessionState};
-    ghost use Rattle.transactions.specs.Summaries.{IsSummary};
+    ghost use Rattle.session_core.specs.Meant.{meant};
+    ghost use Rattle.session_core.specs.Sessions.{SessionState};
+    ghost use Rattle.session_core.specs.Summaries.{IsSummary};
 
     /// Sums up what the session shows. The disk is read at most.
     pub fn summary<H: Host>(&mut self, alloc: Global, host: &mut H) -> Result<Summary, Stop>
@@ -65,7 +66,7 @@ impl VolumeSession {
 }
 
 impl Engine for VolumeSession {
-    ghost use Rattle.transactions.specs.Meant.{meant};
+    ghost use Rattle.session_core.specs.Meant.{meant};
 
     ghost meaning = { meant };
 
@@ -77,7 +78,7 @@ impl Engine for VolumeSession {
         host: &mut H,
         command: &Command<'_>,
     ) -> Result<Reply, Stop> {
-        self.session.step(alloc, host, command)
+        step(&mut self.session, alloc, host, command)
     }
 }
 

@@ -9,7 +9,7 @@ use Rattle.ex_base.specs.Ports.{Keeps}
 use Rattle.ex_base.proofs.Keeping.{keeps_refl}
 use Rattle.slotted_pages.specs.FilePage.{Slot, room_of}
 use Rattle.slotted_pages.specs.Edits.{slots_of, place_for, need_of, vacant_at}
-use Rattle.file_index.specs.declared.Index.{Index}
+use Rattle.index_pages.specs.declared.Index.{Index}
 use Rattle.file_index.specs.Index.{IsFilesPage}
 use Rattle.file_index.specs.Least.{IsLeastFrom}
 use Rattle.file_bodies.specs.Bodies.{pages_in}

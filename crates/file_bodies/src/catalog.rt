@@ -15,7 +15,7 @@ ghost use Rattle.file_bodies.specs.Indexes.{IsUsable, SetsIndex};
 ghost use Rattle.file_bodies.specs.Damage.{root_seen, ListsFile, IsCatalogFault, IsFileFault, IsRootFault};
 
 use ex_base::{PageNo, Pages, PortFault, ReadPages, Seen};
-use file_index::Index;
+use index_pages::Index;
 use object_files::{CatalogView, set_index};
 use std::alloc::Global;
 

@@ -2,7 +2,7 @@
 ghost use Rattle.std.specs.Prelude.{◌≡◌, ◌≤◌, ℕ, List, length, Contains, IfErr, OnOk};
 ghost use Rattle.ex_base.specs.declared.names.Area.TheVariants.{Page};
 ghost use Rattle.ex_base.specs.Ports.{HasCause, IsDamage};
-ghost use Rattle.file_index.specs.declared.Index.{Index};
+ghost use Rattle.index_pages.specs.declared.Index.{Index};
 ghost use Rattle.file_index.specs.Index.{IsFilesPage};
 ghost use Rattle.file_bodies.specs.Bodies.{pages_in};
 ghost use Rattle.file_bodies.specs.Files.{HasFile, HasBody};

@@ -5,7 +5,7 @@ use Rattle.ex_base.specs.declared.ground.Ground as ground
 use Rattle.index_pages.specs.declared.Entry.{Entry}
 use Rattle.index_pages.specs.IndexPage.{index_page, most_entries, HasEntryFields}
 use Rattle.ex_base.specs.declared.names.PageNo.{PageNo}
-use Rattle.file_index.specs.declared.Index.{Index}
+use Rattle.index_pages.specs.declared.Index.{Index}
 use Rattle.file_index.specs.declared.spreading.Pair.{Pair}
 use Rattle.file_index.specs.Changes.{Changes}
 use Rattle.file_index.specs.Index.{IsFilesPage}

@@ -4,19 +4,18 @@ ghost use Rattle.ex_base.specs.declared.names.Area.TheVariants.{Page};
 ghost use Rattle.ex_base.specs.Area.{catalog_no};
 ghost use Rattle.ex_base.specs.Ports.{HasCause, IsDamage};
 ghost use Rattle.index_pages.specs.IndexPage.{most_entries};
-ghost use Rattle.file_index.specs.declared.Index.{Index};
+ghost use Rattle.index_pages.specs.declared.Index.{Index};
 ghost use Rattle.file_index.specs.Index.{IsFilesPage, HasRoot, HasPlacedRoot};
 ghost use Rattle.file_index.specs.Nodes.{PutsLeaf, leaves_of, IsRootOver};
 ghost use Rattle.file_index.specs.Edits.{IsRow, Becomes, HasIndex, EditsIndex, GrowsTo, put_in};
 ghost use Rattle.file_index.specs.Damage.{IsWayUnder, IsFaultUnder, HasWay, IsIndexFault, IsAddingFault};
 
-use crate::Index;
 use crate::named::{Named, no_index_page};
 use crate::nodes::{entries_at, page_buffer, take_index};
 use crate::rows::{entry_over, place_of, replace_one};
 use crate::storing::store;
 use ex_base::{INDEX_LEVEL_MOST, PageNo, Pages, PortFault};
-use index_pages::Entry;
+use index_pages::{Entry, Index};
 use std::alloc::Global;
 
 /// Puts a page of the file beside the one that a key leads to, and answers whether the entries changed.

@@ -6,10 +6,10 @@ ghost use Rattle.file_index.specs.Index.{IsFilesPage, IsNamed, IsUnder, Rises, k
 ghost use Rattle.file_index.specs.Least.{pick, first_from, IsLeastFrom, IsAtLeast};
 ghost use Rattle.file_index.specs.Damage.{IsPageFault, IsNamedAt, IsWay, IsWayFault, HasWay, IsIndexFault, found_under, found_in};
 
-use crate::Index;
 use crate::named::{Named, checked, no_index_page};
 use crate::step::{Step, pick};
 use ex_base::{PageNo, PortFault, ReadPages};
+use index_pages::Index;
 use std::alloc::Global;
 
 /// The entry of an index page that a key leads to.

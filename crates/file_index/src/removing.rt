@@ -10,13 +10,12 @@ ghost use Rattle.file_index.specs.Nodes.{IsWritten, RemovesLeaf, first_key};
 ghost use Rattle.file_index.specs.Edits.{IsRow, Becomes, HasIndex, EditsIndex, ShrinksTo, take_out};
 ghost use Rattle.file_index.specs.Damage.{IsWayUnder, IsFaultUnder, IsBesideUnder, HasWay, IsRemovalFault};
 
-use crate::Index;
 use crate::named::{Named, most_entries};
 use crate::nodes::{entries_at, page_buffer, put_index};
 use crate::rows::{place_of, replace_one, replace_two};
 use crate::spreading::{Pair, spread};
 use ex_base::{PageNo, Pages, PortFault};
-use index_pages::Entry;
+use index_pages::{Entry, Index};
 use std::alloc::Global;
 
 /// Takes a page of the file out of the entries, where it is the key's, and answers whether they changed.

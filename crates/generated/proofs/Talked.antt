@@ -1,7 +1,6 @@
 -- How far the script was made, and one line or one reply more.
-use Rattle.std.proofs.Common.{◌≡◌, ◌∙◌, ◌<◌, ◌+◌, ◌^◌, ℕ, Option, Some, None, List, [], ◌∷◌, ◌++◌, length, map, refl, sym, ap, subst, arith, append_assoc, length-append, IsTrue}
+use Rattle.std.proofs.Common.{◌≡◌, ◌∙◌, ◌<◌, ◌+◌, ◌^◌, ℕ, None, List, [], ◌∷◌, ◌++◌, length, refl, sym, ap, subst, arith, append_assoc, length-append}
 use Rattle.std.proofs.lemmas.List.{append-nil}
-use Rattle.std.specs.List.{AllZip}
 use Rattle.table_model.specs.declared.reply.Reply.{Reply}
 use Rattle.script_lines.specs.Lines.{Short}
 use Rattle.script_lang.specs.Reading.{Reading, Reads}
@@ -44,11 +43,13 @@ made_all {first} {old} {now} {left} {at} {had} so_far over same = record {
 -- No memory was there for the next line.
 pub cut_making : {first old : Generated} {left at : Left} {had : List Exchange} → HasMade first left had old at → IsCutOff first left had None Memory at
 cut_making {first} {old} so_far = record {
-  lines = so_far.lines;
-  next = None;
-  asks = tt;
-  front = (to_come old.lines, so_far.made ∙ ap (λ (l : List (List ℕ)). l ++ to_come old.lines) (sym (append-nil so_far.lines)));
-  heard = so_far.heard;
+  heard = record {
+    lines = so_far.lines;
+    next = None;
+    asks = tt;
+    front = (to_come old.lines, so_far.made ∙ ap (λ (l : List (List ℕ)). l ++ to_come old.lines) (sym (append-nil so_far.lines)));
+    heard = so_far.heard;
+  };
   left_so = so_far.left_so;
 }
 

@@ -1,14 +1,14 @@
 -- The lines before and behind a command.
-use Rattle.std.proofs.Common.{◌≡◌, ◌∙◌, ℕ, suc, ◌+◌, ◌-◌, ◌%◌, ◌<◌, Bool, true, false, cond, ◌&&◌, nat_lt, List, [], ◌∷◌, ◌++◌, refl, sym, ap, arith}
+use Rattle.std.proofs.Common.{◌≡◌, ◌∙◌, ℕ, suc, ◌+◌, ◌-◌, ◌%◌, ◌<◌, Bool, true, false, cond, ◌&&◌, nat_lt, List, [], ◌∷◌, ◌++◌, sym, ap, arith}
 use Rattle.std.specs.Prelude.{◌==◌, codes, slice_set}
 use Rattle.std.proofs.lemmas.Bool.Decides.{nat_tests}
 use Rattle.generated.specs.Draws.{state_after}
 use Rattle.generated.specs.Commands.{Basis, basis_after, byte_for, command_line, edit_for, line_for, object_for, size_after, size_for}
 use Rattle.generated.specs.Script.{breaks, commands_from, tail_lines}
-use Rattle.generated.specs.Coming.{lines_at, lines_on}
+use Rattle.generated.specs.Coming.{lines_at}
 use Rattle.generated.specs.declared.edit.Edit.{Edit}
 use Rattle.generated.specs.declared.stage.Stage.{Stage}
-use Rattle.generated.specs.declared.stage.Stage.TheVariants.{Commit, Begin, Command}
+use Rattle.generated.specs.declared.stage.Stage.TheVariants.{Commit, Command}
 
 -- ---- what stands before a command
 

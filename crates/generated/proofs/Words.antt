@@ -1,6 +1,5 @@
 -- Lines of a few words, with a space between each two.
-use Rattle.std.proofs.Common.{◌≡◌, ◌∙◌, ℕ, List, [], ◌∷◌, ◌++◌, ap, append_assoc}
-use Rattle.std.specs.List.{join_with_byte}
+use Rattle.std.proofs.Common.{◌≡◌, ◌∙◌, ℕ, List, ◌∷◌, ◌++◌, ap, append_assoc}
 
 pub three_words : (first second third : List ℕ) {mid line : List ℕ} → mid ≡ first ++ 32 ∷ second → line ≡ mid ++ 32 ∷ third → line ≡ first ++ 32 ∷ (second ++ 32 ∷ third)
 three_words first second third {mid} {line} one two =

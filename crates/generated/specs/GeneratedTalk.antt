@@ -1,5 +1,5 @@
 -- What the generated script means as a talk.
-use Rattle.std.specs.Prelude.{◌≡◌, ◌≤◌, ℕ, List, [], ◌++◌}
+use Rattle.std.specs.Prelude.{◌≡◌, ◌≤◌, []}
 use Rattle.script_lines.specs.Lines.{Short}
 use Rattle.script_lang.specs.Reading.{Reads}
 use Rattle.std.proofs.Common.{refl}

@@ -1,18 +1,16 @@
 -- The laws of the generated script as a talk.
-use Rattle.std.proofs.Common.{◌≡◌, ◌∙◌, ◌≤◌, ◌<◌, ◌+◌, ◌^◌, ℕ, Option, Some, None, List, [], ◌∷◌, ◌++◌, length, take, refl, sym, ap, subst, arith, append_assoc}
+use Rattle.std.proofs.Common.{◌≡◌, ◌∙◌, ◌≤◌, ◌<◌, ◌+◌, ◌^◌, ℕ, Some, None, List, [], ◌∷◌, ◌++◌, length, refl, sym, subst, arith, append_assoc}
 use Rattle.std.proofs.lemmas.List.{append-nil}
 use Rattle.table_model.specs.declared.reply.Reply.{Reply}
 use Rattle.table_model.specs.declared.reply.Reply.TheVariants as reply
 use Rattle.script_lines.specs.Lines.{Short}
 use Rattle.script_lang.specs.Reading.{Reading, Silent, Reads}
-use Rattle.talks.specs.Acking.{IsNoCommit}
 use Rattle.talks.specs.Stops.{IsPart}
-use Rattle.talks.specs.Talking.{Exchange, IsReply, Left}
+use Rattle.talks.specs.Talking.{Exchange, Left}
 use Rattle.talks.specs.declared.stopped.Stopped.{Stopped}
 use Rattle.generated.specs.Lines.{line_taken, to_come}
 use Rattle.generated.specs.Replies.{IsTallyOf}
-use Rattle.generated.specs.Talked.{HasMade, HasAsked, IsMade, IsCutOff}
-use Rattle.generated.specs.declared.tally.Tally.{Tally}
+use Rattle.generated.specs.Talked.{Heard, HeardFront, HasMade, HasAsked, IsMade, IsCutOff}
 use Rattle.generated.specs.declared.talk.Generated.{Generated}
 
 pub begun : (first : Generated) (left : Left) → HasMade first left [] first left
@@ -31,23 +29,28 @@ quiet first now left at had waits silent = absurd (waits.spoken silent)
 pub stopped : (first now : Generated) (left at : Left) (had : List Exchange) (reading : Reading) (why : Stopped) → HasAsked first left had now at → Reads (Short (line_taken now.lines)) reading → IsPart why
     → IsCutOff first left had (Some reading) why at
 stopped first now left at had reading why waits reads part = record {
-  lines = waits.lines;
-  next = Some (line_taken now.lines);
-  asks = reads;
-  front = (to_come now.lines, waits.made ∙ sym (append_assoc waits.lines (line_taken now.lines ∷ []) (to_come now.lines)));
-  heard = waits.heard;
+  heard = record {
+    lines = waits.lines;
+    next = Some (line_taken now.lines);
+    asks = reads;
+    front = (to_come now.lines, waits.made ∙ sym (append_assoc waits.lines (line_taken now.lines ∷ []) (to_come now.lines)));
+    heard = waits.heard;
+  };
   left_so = waits.left_so;
 }
 
-pub ended : (first now : Generated) (left at : Left) (had : List Exchange) (why : Stopped) → IsMade first left had now at → IsPart why → IsCutOff first left had None why at
-ended first now left at had why over part = record {
-  lines = to_come first.lines;
+-- All lines were answered.
+pub heard_whole : {script : List (List ℕ)} {had : List Exchange} → Heard script had → HeardFront script had None
+heard_whole {script} heard = record {
+  lines = script;
   next = None;
   asks = tt;
-  front = ([], sym (append-nil (to_come first.lines)) ∙ sym (append-nil (to_come first.lines ++ [])));
-  heard = over.heard;
-  left_so = over.left_so;
+  front = ([], sym (append-nil script) ∙ sym (append-nil (script ++ [])));
+  heard = heard;
 }
+
+pub ended : (first now : Generated) (left at : Left) (had : List Exchange) (why : Stopped) → IsMade first left had now at → IsPart why → IsCutOff first left had None why at
+ended first now left at had why over part = record { heard = heard_whole over.heard; left_so = over.left_so }
 
 -- ---- what is acknowledged: nothing is sent, so a stop may leave any commit of the script
 

@@ -66,11 +66,15 @@ pub record IsMade (first : Generated) (left : Left) (had : List Exchange) (now :
   pub tallied : Tallies first had now
   pub left_so : at ≡ left
 
--- It ended early: all lines that were made are answered but perhaps the last one, which asked for that.
-pub record IsCutOff (first : Generated) (left : Left) (had : List Exchange) (last : Option Reading) (why : Stopped) (at : Left) : Type 0 where
+-- The first of these lines were answered so, and the one behind them, where it was made, asked for that and has no answer.
+pub record HeardFront (script : List (List ℕ)) (had : List Exchange) (last : Option Reading) : Type 0 where
   pub lines : List (List ℕ)
   pub next : Option (List ℕ)
   pub asks : LastAsks next last
-  pub front : IsFrontOf (lines ++ line_if next) (to_come first.lines)
+  pub front : IsFrontOf (lines ++ line_if next) script
   pub heard : Heard lines had
+
+-- It ended early: all lines that were made are answered but perhaps the last one, which asked for that.
+pub record IsCutOff (first : Generated) (left : Left) (had : List Exchange) (last : Option Reading) (why : Stopped) (at : Left) : Type 0 where
+  pub heard : HeardFront (to_come first.lines) had last
   pub left_so : at ≡ left

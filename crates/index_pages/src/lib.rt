@@ -1,5 +1,6 @@
-//! Index pages: inner nodes of the tree that holds the pages of a file. A page of the index begins with its kind, its level and the number of its
-//! entries; four bytes of zero, the file's number and four bytes of zero follow, then the entries, and zeros to the end of the page.
+//! Index pages: inner nodes of the tree that holds the pages of a file; and the index of a file, which names that tree. A page of the index begins with
+//! its kind, its level and the number of its entries; four bytes of zero, the file's number and four bytes of zero follow, then the entries, and zeros to
+//! the end of the page.
 #![tactic(auto)]
 
 mod reads;
@@ -42,4 +43,14 @@ pub struct Entry {
     pub key: u32,
     /// At level 1 a page of the file, above an index page one level lower.
     pub page: PageNo,
+}
+
+/// An index: its root, the root's level and the file's number.
+#[derive(Clone, Copy, Debug, PartialEq, Eq)]
+pub struct Index {
+    /// The top index page, or the one page of the file at level 0; none of a file without pages.
+    pub root: Option<PageNo>,
+    /// How many index pages stand over each page of the file.
+    pub level: u8,
+    pub file_no: u32,
 }

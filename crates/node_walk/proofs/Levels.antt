@@ -9,12 +9,13 @@ use Rattle.ex_base.proofs.Members.{contains_later, contains_none}
 use Rattle.count_nodes.specs.declared.Pair.{Pair}
 use Rattle.count_nodes.specs.Node.{PairsOf, pairs_on}
 use Rattle.count_nodes.proofs.NodeLaws.{spelled_reads}
+use Rattle.trees.specs.Owners.{StandsAt}
 use Rattle.trees.specs.Trees.{Units, IsNamed, units_on}
 use Rattle.trees.specs.declared.rows.Part.{Part}
 use Rattle.trees.specs.Rows.{parts_of, row_units}
 use Rattle.node_walk.specs.declared.nodes.Met.{Met}
 use Rattle.node_walk.specs.TreesNamed.{ShowsPages}
-use Rattle.node_walk.specs.Walk.{IsAt, IsNodeOn, level_below, row_at}
+use Rattle.node_walk.specs.Walk.{IsNodeOn, level_below, row_at}
 use Rattle.node_walk.proofs.Lists.{in_first}
 
 pub narrow : (g : Geometry) → g.fan ≤ 340
@@ -27,7 +28,7 @@ page_or_leaf g page in_area (j, below, is) = omega (arith, in_area.1, is)
 pub one_level : (fan : ℕ) (bytes : List ℕ) (l m : ℕ) (xs ys : List Pair) → fan ≤ 340 → PairsOf fan bytes l xs → PairsOf fan bytes m ys → l ≡ m
 one_level fan bytes l m xs ys small x y = sym (spelled_reads fan bytes l xs small x).same_level ∙ (spelled_reads fan bytes m ys small y).same_level
 
-pub same_level : (g : Geometry) (u : Units) (l m page : ℕ) → IsAt g u l page → IsNamed g u m page → l ≡ m
+pub same_level : (g : Geometry) (u : Units) (l m page : ℕ) → StandsAt g u l page → IsNamed g u m page → l ≡ m
 same_level g u zero zero page at named = refl
 same_level g u zero (suc m) page at named = absurd (page_or_leaf g page named.0 at)
 same_level g u (suc l) zero page at named = absurd (page_or_leaf g page at.0 named)
@@ -64,7 +65,7 @@ pub named_below : (g : Geometry) (u : Units) (l page : ℕ) → IsNamed g u l pa
 named_below g u zero page named = tt
 named_below g u (suc l) page named = to_parts (IsNamed g u l) 0 _ named.2
 
-pub named_at : (g : Geometry) (u : Units) (l page : ℕ) → IsAt g u l page → AllByRecursion (λ (part : Part). IsNamed g u (level_below l) part.page.0) (row_at u l page) → IsNamed g u l page
+pub named_at : (g : Geometry) (u : Units) (l page : ℕ) → StandsAt g u l page → AllByRecursion (λ (part : Part). IsNamed g u (level_below l) part.page.0) (row_at u l page) → IsNamed g u l page
 named_at g u zero page at below = at
 named_at g u (suc l) page at below = (at.0, at.1, from_parts (IsNamed g u l) 0 _ below)
 

@@ -1,8 +1,12 @@
 pub mod Lists
 pub mod Levels
+pub mod Counting
 pub mod Steps
 pub mod Facts
+pub mod Tracking
 pub mod Loops
+pub mod Marks
 pub mod Whole
 pub mod Balance
 pub mod Roots
+pub mod Owning

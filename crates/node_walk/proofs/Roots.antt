@@ -1,8 +1,9 @@
 -- The tree of a root, and of one root after the other.
-use Rattle.std.proofs.Common.{◌≡◌, ◌⊎◌, ◌↔◌, ◌≤◌, ◌<◌, ◌+◌, ℕ, zero, suc, Bool, true, false, List, [], ◌∷◌, length, map, drop, get_or, Some, None, inl, inr, arith, refl, sym, ap, subst, ◌∙◌, true≢false}
+use Rattle.std.proofs.Common.{◌≡◌, ◌⊎◌, ◌↔◌, ◌≤◌, ◌<◌, ◌+◌, ℕ, zero, suc, Bool, true, false, List, [], ◌∷◌, ◌++◌, length, map, take, drop, get_or, Some, None, inl, inr, arith, refl, sym, ap, subst, ◌∙◌, true≢false}
 use Rattle.std.proofs.lemmas.Bool.{cases_Bool}
 use Rattle.std.proofs.lemmas.List.Elements.{Contains-append_left, Contains-append_right, Contains-append_cases}
-use Rattle.std.proofs.lemmas.List.{drop_all, drop_more}
+use Rattle.std.proofs.lemmas.Grind.{flat_map-append}
+use Rattle.std.proofs.lemmas.List.{append-nil, drop_all, drop_more, take_all, take_more}
 use Rattle.std.specs.Prelude.{Contains}
 use Rattle.std.specs.List.{flat_map, AllByRecursion}
 use Rattle.ex_base.specs.declared.geometry.Geometry.{Geometry}
@@ -11,7 +12,8 @@ use Rattle.ex_base.specs.declared.names.Root.{Root}
 use Rattle.ex_base.specs.Sizes.{leaf_bytes, object_most}
 use Rattle.ex_base.specs.declared.ground.Ground as ground
 use Rattle.ex_base.specs.Ports.{Keeps}
-use Rattle.page_alloc.specs.UnitSet.{UnitSet, used_at}
+use Rattle.page_alloc.specs.UnitSet.{UnitSet, used_at, refs_at}
+use Rattle.trees.specs.Owners.{page_here, root_pages}
 use Rattle.trees.specs.Shape.{IsBalanced}
 use Rattle.trees.specs.Trees.{Units, IsNamed, RootNamed, RootSized, root_shape_at, root_units, root_units_at, units_on}
 use Rattle.trees.specs.declared.rows.Part.{Part}
@@ -20,8 +22,10 @@ use Rattle.ex_base.proofs.Members.{contains_none}
 use Rattle.ex_base.proofs.Each.{each_as, each_from, each_of}
 use Rattle.volume_model.specs.Parts.{Apart, HasBalance}
 use Rattle.node_walk.specs.TreesNamed.{ShowsPages, AreFree, AreNamed, AreBalanced, UsesTrees}
-use Rattle.node_walk.specs.Walk.{IsFull, OnlyUses}
-use Rattle.node_walk.proofs.Loops.{uses_same, uses_on, shows_on}
+use Rattle.node_walk.specs.Counts.{AreCounted, CountsTrees}
+use Rattle.node_walk.specs.Walk.{IsFull}
+use Rattle.node_walk.proofs.Counting.{trees_none, trees_more as counts_more}
+use Rattle.node_walk.proofs.Loops.{shows_on}
 use Rattle.node_walk.proofs.Balance.{root_least, full_root, root_full}
 
 abbrev pub tree_of : Root → PageNo → Part
@@ -206,24 +210,39 @@ trees_end g u roots (r ∷ rest) used after balanced is h = absurd cc
 module _ {S : Type 0} (p : ground.Ghosts S) where
   pub record RootsSoFar (geo : Geometry) (old now : S) (before units : UnitSet) (roots : List Root) (i : ℕ) (balanced : Bool) : Type 0 where
     pub kept : Keeps p old now
-    pub uses : OnlyUses before units
+    pub geometry : units.geometry ≡ before.geometry
+    pub counted : AreCounted units
+    pub counts : p.tells old → (bytes : Units) → ShowsPages geo (p.image old) bytes
+        → CountsTrees geo bytes (root_pages (take i roots)) (used_at before) (refs_at before) (used_at units) (refs_at units)
     pub found : p.tells old → (bytes : Units) → ShowsPages geo (p.image old) bytes → TreesSoFar geo bytes roots (drop i roots) (used_at before) (used_at units) balanced
 
-  pub roots_start : (geo : Geometry) (old : S) (before : UnitSet) (roots : List Root) → RootsSoFar geo old old before before roots 0 true
-  roots_start geo old before roots = record {
+  pub roots_start : (geo : Geometry) (old : S) (before : UnitSet) (roots : List Root) → AreCounted before → RootsSoFar geo old old before before roots 0 true
+  roots_start geo old before roots counted = record {
     kept = keeps_refl p old;
-    uses = uses_same before;
+    geometry = refl;
+    counted = counted;
+    counts = λ told bytes shows. trees_none geo bytes (used_at before) (refs_at before) counted.few;
     found = λ told bytes shows. trees_start geo bytes roots (used_at before);
   }
 
   pub roots_more : (geo : Geometry) (old now new : S) (before mid units : UnitSet) (roots : List Root) (i : ℕ) (b c r : Bool)
       → i < length roots → (r ≡ true → (b ≡ true) × (c ≡ true)) → (r ≡ false → (b ≡ false) ⊎ (c ≡ false))
-      → RootsSoFar geo old now before mid roots i b → Keeps p now new → OnlyUses mid units
+      → RootsSoFar geo old now before mid roots i b → Keeps p now new → units.geometry ≡ mid.geometry → AreCounted units
+      → (p.tells now → (bytes : Units) → ShowsPages geo (p.image now) bytes → CountsTrees geo bytes (page_here (get_or roots i no_root).page) (used_at mid) (refs_at mid) (used_at units) (refs_at units))
       → (p.tells now → (bytes : Units) → ShowsPages geo (p.image now) bytes → TreeFound geo bytes (get_or roots i no_root) (used_at mid) (used_at units) c)
       → RootsSoFar geo old new before units roots (i + 1) r
-  roots_more geo old now new before mid units roots i b c r lt holds fails h k uses one = record {
+  roots_more geo old now new before mid units roots i b c r lt holds fails h k same counted counts one = record {
     kept = keeps_on p old now new h.kept k;
-    uses = uses_on before mid units h.uses uses;
+    geometry = same ∙ h.geometry;
+    counted = counted;
+    counts = λ told bytes shows.
+        let root = get_or roots i no_root in
+        let names : root_pages (take (i + 1) roots) ≡ root_pages (take i roots) ++ page_here root.page =
+        ap root_pages (take_more roots i no_root lt) ∙ flat_map-append (λ (r : Root). page_here r.page) (take i roots) (root ∷ [])
+        ∙ ap (λ (xs : List ℕ). root_pages (take i roots) ++ xs) (append-nil (page_here root.page)) in
+        subst (λ (xs : List ℕ). CountsTrees geo bytes xs (used_at before) (refs_at before) (used_at units) (refs_at units)) (sym names)
+        (counts_more geo bytes (root_pages (take i roots)) (page_here root.page) (used_at before) (used_at mid) (used_at units) (refs_at before) (refs_at mid) (refs_at units)
+        (h.counts told bytes shows) (counts (p.leads_told old now h.kept.leads told) bytes (shows_on p geo bytes old now h.kept shows)));
     found = λ told bytes shows.
         trees_more geo bytes roots (get_or roots i no_root) (drop (i + 1) roots) (used_at before) (used_at mid) (used_at units) b c r holds fails
         (subst (λ rest. TreesSoFar geo bytes roots rest (used_at before) (used_at mid) b) (drop_more roots i no_root lt) (h.found told bytes shows))
@@ -233,6 +252,11 @@ module _ {S : Type 0} (p : ground.Ghosts S) where
   pub roots_end : (geo : Geometry) (old now : S) (before units : UnitSet) (roots : List Root) (i : ℕ) (b : Bool) → length roots ≤ i → RootsSoFar geo old now before units roots i b
       → p.tells old → (bytes : Units) → ShowsPages geo (p.image old) bytes → TreesFound geo bytes roots (used_at before) (used_at units) b
   roots_end geo old now before units roots i b done h told bytes shows = trees_end geo bytes roots (drop i roots) (used_at before) (used_at units) b (drop_all i roots done) (h.found told bytes shows)
+
+  pub counts_end : (geo : Geometry) (old now : S) (before units : UnitSet) (roots : List Root) (i : ℕ) (b : Bool) → length roots ≤ i → RootsSoFar geo old now before units roots i b
+      → p.tells old → (bytes : Units) → ShowsPages geo (p.image old) bytes → CountsTrees geo bytes (root_pages roots) (used_at before) (refs_at before) (used_at units) (refs_at units)
+  counts_end geo old now before units roots i b done h told bytes shows =
+      subst (λ (rs : List Root). CountsTrees geo bytes (root_pages rs) (used_at before) (refs_at before) (used_at units) (refs_at units)) (take_all i roots done) (h.counts told bytes shows)
 
   -- where all trees are named, the next one is
   pub next_named : (geo : Geometry) (bytes : Units) (old now : S) (before mid : UnitSet) (roots : List Root) (i : ℕ) (b : Bool) → i < length roots → RootsSoFar geo old now before mid roots i b

@@ -1,20 +1,26 @@
 -- What a walk of a whole tree shows, which begins with no note.
-use Rattle.std.proofs.Common.{◌≡◌, ◌⊎◌, ◌↔◌, ℕ, zero, suc, Bool, true, false, List, [], ◌∷◌, ◌++◌, Some, None, inl, inr, sym, ap, subst, ◌∙◌}
+use Rattle.std.proofs.Common.{◌≡◌, ◌⊎◌, ◌↔◌, ℕ, zero, suc, Bool, true, false, List, [], ◌∷◌, ◌++◌, Some, None, inl, inr, refl, sym, ap, subst, ◌∙◌, true≢false, arith}
 use Rattle.std.proofs.lemmas.List.{append-nil}
 use Rattle.std.proofs.lemmas.List.Elements.{Contains-append_cases}
 use Rattle.std.specs.Prelude.{Contains}
 use Rattle.std.specs.List.{AllByRecursion}
 use Rattle.ex_base.specs.declared.geometry.Geometry.{Geometry}
 use Rattle.ex_base.proofs.Members.{contains_cases, contains_none}
-use Rattle.ex_base.proofs.Each.{each_as, each_from, each_with}
+use Rattle.ex_base.specs.Area.{InPageArea, IsUnit}
+use Rattle.ex_base.proofs.Counts.{contains_times, same_or_not, times_here, times_apart}
+use Rattle.ex_base.proofs.Each.{each_as, each_from, each_mapped, each_with}
+use Rattle.count_nodes.specs.Names.{page_of_pair}
+use Rattle.count_nodes.specs.Node.{pairs_on}
+use Rattle.trees.specs.Owners.{IsInner, StandsAt}
 use Rattle.trees.specs.Trees.{Units, IsNamed, units_on}
 use Rattle.trees.specs.declared.rows.Part.{Part}
 use Rattle.trees.specs.Rows.{row_units}
 use Rattle.node_walk.specs.declared.nodes.Met.{Met}
 use Rattle.node_walk.specs.declared.least.Least.{Least}
+use Rattle.node_walk.specs.Counts.{Came, CountsMet, CountsTrees}
 use Rattle.node_walk.specs.TreesNamed.{AreFree}
-use Rattle.node_walk.specs.Walk.{Notes, IsAt, IsKnown, IsMet, IsNew, HasLeast, IsFull, Walked, level_below, row_at, below_least}
-use Rattle.node_walk.proofs.Levels.{named_at, units_of_parts}
+use Rattle.node_walk.specs.Walk.{Notes, IsKnown, IsMet, IsNew, HasLeast, IsFull, Walked, level_below, row_at, below_least}
+use Rattle.node_walk.proofs.Levels.{from_parts, named_at, page_or_leaf, units_of_parts}
 
 module _ (g : Geometry) (u : Units) (height : ℕ) (least : Least) (tree : Part) (used after : ℕ → Bool) (known noted : Notes) (balanced : Bool)
     (walked : Walked g u height least (tree ∷ []) used known after noted balanced) (unknown : (p : ℕ) → known p ≡ None) where
@@ -24,8 +30,8 @@ module _ (g : Geometry) (u : Units) (height : ℕ) (least : Least) (tree : Part)
     | inr fresh ↦ fresh
   ]
 
-  at : (l page : ℕ) → IsMet noted l page → IsAt g u l page
-  at l page m = subst (λ k. IsAt g u k page) m.2 (walked.notes page m.0 m.1).at
+  at : (l page : ℕ) → IsMet noted l page → StandsAt g u l page
+  at l page m = subst (λ k. StandsAt g u k page) m.2 (walked.notes page m.0 m.1).at
 
   below : (l page : ℕ) → IsMet noted l page → AllByRecursion (λ (part : Part). IsMet noted (level_below l) part.page.0) (row_at u l page)
   below l page m = subst (λ k. AllByRecursion (λ (part : Part). IsMet noted (level_below k) part.page.0) (row_at u k page)) m.2 (new page m.0 m.1).below
@@ -83,3 +89,44 @@ module _ (g : Geometry) (u : Units) (height : ℕ) (least : Least) (tree : Part)
 
   pub whole_thin : balanced ≡ false → IsFull g u least height tree → ⊥
   whole_thin f full = walked.thin f (full, tt)
+
+  -- ---- owners
+
+  inner_at : (l page : ℕ) → IsMet noted l page → InPageArea g page → IsInner g u page
+  inner_at zero page m area = absurd (page_or_leaf g page area (at zero page m))
+  inner_at (suc l) page m area = record {
+    level = l;
+    stands = at (suc l) page m;
+    below = each_mapped (StandsAt g u l) page_of_pair (pairs_on (u page)) (from_parts (StandsAt g u l) 0 (pairs_on (u page)) (each_as _ _ (row_at u (suc l) page) (λ part is. at l part.page.0 is) (below (suc l) page m)));
+  }
+
+  -- what came into use has a note
+  met_new : (page : ℕ) → Came used after page → IsKnown noted page
+  met_new page came = elim (walked.used_then page came.1) [
+    | inl was ↦ absurd (true≢false (sym was ∙ came.0))
+    | inr is ↦ is
+  ]
+
+  pub whole_counts : (refs later : ℕ → ℕ) → ((p : ℕ) → IsKnown noted p → IsUnit g p) → CountsMet g u (tree.page.0 ∷ []) used refs after later noted → CountsTrees g u (tree.page.0 ∷ []) used refs after later
+  whole_counts refs later is_unit counted = record {
+    counts = counted.counts;
+    inner = each_from (IsInner g u) counted.counts.nodes (λ page here.
+        let came = counted.counts.came page (contains_times page counted.counts.nodes here) in
+        let is = met_new page came.0 in
+        inner_at is.0.level page (is.0, is.1, refl) came.1);
+    others = λ p was. elim (counted.others p) [
+      | inl same ↦ same
+      | inr is ↦ absurd (true≢false (sym was ∙ (new p is.0 is.1).free))
+    ];
+    once = λ p. elim (same_or_not p tree.page.0) [
+      | inl same ↦ omega (arith, times_here p tree.page.0 [] same)
+      | inr differ ↦ omega (arith, times_apart p tree.page.0 [] differ)
+    ];
+    roots = λ p some. elim (same_or_not p tree.page.0) [
+      | inl same ↦
+          let root = walked.met.0 in
+          let is = new tree.page.0 root.0 root.1 in
+          subst (λ q. Came used after q × IsUnit g q) (sym same) ((is.free, is.taken), is_unit tree.page.0 (root.0, root.1))
+      | inr differ ↦ absurd (omega (arith, some, times_apart p tree.page.0 [] differ))
+    ];
+  }

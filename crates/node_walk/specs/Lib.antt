@@ -1,2 +1,4 @@
+pub mod Notes
+pub mod Counts
 pub mod TreesNamed
 pub mod Walk

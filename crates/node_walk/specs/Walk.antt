@@ -2,10 +2,10 @@
 use Rattle.std.specs.Prelude.{◌≡◌, ◌⊎◌, ℕ, zero, suc, ◌/◌, ◌≤◌, Bool, true, false, List, [], length, Option, Some, None, nat_eq, Contains}
 use Rattle.std.specs.List.{AllByRecursion}
 use Rattle.ex_base.specs.declared.geometry.Geometry.{Geometry}
-use Rattle.ex_base.specs.Area.{InPageArea, NamesLeaf}
 use Rattle.ex_base.specs.Sizes.{leaf_bytes}
 use Rattle.count_nodes.specs.Node.{PairsOf, pairs_on, total_of}
 use Rattle.page_alloc.specs.UnitSet.{UnitSet, refs_at}
+use Rattle.trees.specs.Owners.{StandsAt}
 use Rattle.trees.specs.Trees.{Units, IsNamed}
 use Rattle.trees.specs.declared.rows.Part.{Part}
 use Rattle.trees.specs.Rows.{parts_of, row_units}
@@ -15,11 +15,6 @@ use Rattle.node_walk.specs.declared.least.Least.{Least}
 -- the notes of a tree's units, by the numbers that name them
 abbrev pub Notes : Type 0
 Notes = ℕ → Option Met
-
--- A tree of this level may have its root at the page: a leaf, or a node of this level.
-abbrev pub IsAt : Geometry → Units → ℕ → ℕ → Type 0
-IsAt g units zero page = NamesLeaf g page
-IsAt g units (suc l) page = InPageArea g page × PairsOf g.fan (units page) (suc l) (pairs_on (units page))
 
 -- the level below; 0 stays
 abbrev pub level_below : ℕ → ℕ
@@ -40,7 +35,7 @@ pub record IsNodeOn (fan : ℕ) (page : List ℕ) (met : Met) (below : List Part
 
 -- The note says what stands at the page.
 pub record IsNoted (g : Geometry) (units : Units) (page : ℕ) (met : Met) : Type 0 where
-  pub at : IsAt g units met.level page
+  pub at : StandsAt g units met.level page
   pub total : 1 ≤ met.level → met.total ≡ total_of (pairs_on (units page))
   pub pairs : 1 ≤ met.level → met.pairs ≡ length (pairs_on (units page))
 

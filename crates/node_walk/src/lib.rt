@@ -5,6 +5,7 @@ mod all_trees;
 mod faults;
 mod least;
 mod nodes;
+mod notes;
 mod tree;
 mod walk;
 

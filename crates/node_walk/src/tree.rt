@@ -4,21 +4,22 @@ ghost use Rattle.std.specs.List.{AllByRecursion};
 ghost use Rattle.ex_base.specs.Faults.{Rose};
 ghost use Rattle.ex_base.specs.Ports.{Keeps};
 ghost use Rattle.object_records.specs.Record.{IsRootField};
-ghost use Rattle.page_alloc.specs.UnitSet.{used_at};
+ghost use Rattle.page_alloc.specs.UnitSet.{used_at, refs_at};
+ghost use Rattle.trees.specs.Owners.{page_here};
 ghost use Rattle.trees.specs.Trees.{Units as Bytes, RootNamed, root_units};
 ghost use Rattle.session_views.specs.declared.part.Part.{Part as VolumePart};
 ghost use Rattle.session_views.specs.declared.part.Part.TheVariants.{Node as NodePart};
 ghost use Rattle.volume_model.specs.Parts.{HasBalance};
+ghost use Rattle.node_walk.specs.Counts.{AreCounted, CountsTrees};
 ghost use Rattle.node_walk.specs.TreesNamed.{ShowsPages, AreFree, UsesTrees};
-ghost use Rattle.node_walk.specs.Walk.{OnlyUses};
 
 use crate::least::ROOT_LEAST;
+use crate::notes::TreeNotes;
 use crate::walk::walk;
 use ex_base::{Geometry, OBJECT_MOST, ReadPages, Root};
 use page_alloc::Units;
 use session_views::OpenFault;
 use std::alloc::Global;
-use std::collections::HashMap;
 use trees::Part;
 
 /// Walks the tree of a root, and tells whether it is balanced.
@@ -32,6 +33,7 @@ pub(crate) fn walk_tree<P: ReadPages>(
     requires ready { P.ready pages.old }
     requires geometry { geometry.now ≡ P.geometry pages.old }
     requires units { units.old.geometry ≡ geometry.now }
+    requires counted { AreCounted units.old }
     requires root { IsRootField root.now }
     ensures named { OnOk result (P.tells pages.old → (bytes : Bytes)
         → ShowsPages geometry.now (P.image pages.old) bytes
@@ -51,7 +53,12 @@ pub(crate) fn walk_tree<P: ReadPages>(
         → AreFree (used_at units.old) (root_units bytes root.now) → ⊥) }
     ensures kept { Keeps P.Ground pages.old pages.new }
     ensures disk { result ≡ Err OpenFault.Disk → Rose (P.faults pages.old) (P.faults pages.new) }
-    ensures uses { OnlyUses units.old units.new }
+    ensures counts { OnOk result (P.tells pages.old → (bytes : Bytes)
+        → ShowsPages geometry.now (P.image pages.old) bytes
+        → CountsTrees geometry.now bytes (page_here root.now.page) (used_at units.old)
+        (refs_at units.old) (used_at units.new) (refs_at units.new)) }
+    ensures counted { OnOk result (AreCounted units.new) }
+    ensures geometry { units.new.geometry ≡ units.old.geometry }
 {
     let Some(page) = root.page else {
         return Ok(true);
@@ -60,7 +67,7 @@ pub(crate) fn walk_tree<P: ReadPages>(
         size: root.size,
         page,
     };
-    let mut known = HashMap::new(alloc);
+    let mut known = TreeNotes::new(alloc);
     let balanced = walk(
         pages,
         alloc,

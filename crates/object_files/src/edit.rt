@@ -11,7 +11,7 @@ use crate::{
     NEXT_UNIQUE, ROOT,
 };
 use ex_base::{get_u16, put_bytes, put_page, put_u16, put_u32, put_u64};
-use file_index::Index;
+use index_pages::Index;
 use slotted_pages::replace_bytes;
 
 /// Makes a page the catalog of a fresh volume: no file, next unique number 1, last transaction 0.

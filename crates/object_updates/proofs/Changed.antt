@@ -6,7 +6,7 @@ use Rattle.ex_base.specs.declared.faults.PortFault.{PortFault}
 use Rattle.ex_base.specs.declared.ground.Ground as ground
 use Rattle.ex_base.specs.declared.names.Oid.{Oid}
 use Rattle.ex_base.specs.Ports.{IsDamage, Keeps}
-use Rattle.file_index.specs.declared.Index.{Index}
+use Rattle.index_pages.specs.declared.Index.{Index}
 use Rattle.object_records.specs.Record.{Content}
 use Rattle.op_log.specs.declared.record.LogRecord.{LogRecord}
 use Rattle.table_model.specs.Tables.{with_bytes}

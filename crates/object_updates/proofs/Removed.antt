@@ -6,7 +6,7 @@ use Rattle.ex_base.specs.declared.ground.Ground as ground
 use Rattle.ex_base.specs.declared.names.Oid.{Oid}
 use Rattle.ex_base.specs.Ports.{IsDamage}
 use Rattle.file_bodies.specs.Places.{RemovesBody}
-use Rattle.file_index.specs.declared.Index.{Index}
+use Rattle.index_pages.specs.declared.Index.{Index}
 use Rattle.object_records.specs.Record.{Content, Record}
 use Rattle.table_model.specs.Tables.{without_object}
 use Rattle.version_model.specs.Versions.{HasRecord, HasVersion, content_units, place_of}

@@ -5,7 +5,7 @@ use Rattle.ex_base.specs.declared.faults.PortFault.{PortFault}
 use Rattle.ex_base.specs.declared.names.Oid.{Oid}
 use Rattle.ex_base.specs.Ports.{IsDamage}
 use Rattle.op_log.specs.declared.record.LogRecord.{LogRecord}
-use Rattle.file_index.specs.declared.Index.{Index}
+use Rattle.index_pages.specs.declared.Index.{Index}
 use Rattle.object_files.specs.Catalog.{FileEntry}
 use Rattle.object_records.specs.Record.{Content}
 use Rattle.table_model.specs.declared.table.Table.{Table}

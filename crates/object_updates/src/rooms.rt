@@ -75,8 +75,19 @@ impl Rooms {
         let _ = self.rooms.insert(room.file_no, room);
     }
 
+    // Whether the room of some file begins behind a page.
+    fn has_room_behind(&self, page: PageNo) -> bool {
+        for room in self.rooms.values() {
+            if page < room.from {
+                return true;
+            }
+        }
+        false
+    }
+
     /// Looks at the page of a version that was changed or removed. Where it may have room for the
-    /// record of a new object again, the room of its file is lowered to it.
+    /// record of a new object again, the room of its file is lowered to it. The page isn't read where
+    /// no file has its room behind it.
     pub(crate) fn look_at<V: ReadVolume>(
         &mut self,
         volume: &mut V,
@@ -90,7 +101,7 @@ impl Rooms {
         ensures kept { Keeps V.Ground volume.old volume.new }
         ensures cause { HasCause (V.faults volume.old) (V.faults volume.new) result }
     {
-        if !volume.in_area(oid.page) {
+        if !self.has_room_behind(oid.page) || !volume.in_area(oid.page) {
             return Ok(*oid);
         }
         if let Some(file_no) = file_with_room(volume.get(alloc, oid.page)?) {

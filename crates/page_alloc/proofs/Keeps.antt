@@ -1,10 +1,11 @@
 -- An area's lists and numbers stay sound when a unit is taken or given back.
-use Rattle.std.proofs.Common.{◌≡◌, ℕ, ◌+◌, ◌/◌, ◌-◌, ◌<◌, ◌≤◌, ◌≢◌, inl, inr, Bool, true, false, List, length, get_or, ap, ◌∙◌, arith, get_or-set_same, get_or-set_other, length-set}
+use Rattle.std.proofs.Common.{◌≡◌, ℕ, ◌+◌, ◌/◌, ◌-◌, ◌<◌, ◌≤◌, ◌≢◌, inl, inr, Bool, true, false, List, length, get_or, replicate, ap, sym, ◌∙◌, arith, get_or-set_same, get_or-set_other, length-set}
 use Rattle.std.proofs.Math.ListN.{set}
-use Rattle.std.proofs.lemmas.Bool.{cases_eq}
+use Rattle.std.proofs.lemmas.Bool.{cases_eq, cases_lt}
+use Rattle.std.proofs.lemmas.List.{length-replicate, get_or-replicate, get_or_past}
 use Rattle.page_alloc.specs.Flags.{IsFirstFree}
 use Rattle.page_alloc.specs.Hints.{IsHint, IsSound}
-use Rattle.page_alloc.proofs.Counts.{count_free-take, count_free-give}
+use Rattle.page_alloc.proofs.Counts.{count_free-take, count_free-give, count_free-fresh}
 
 -- a used unit stays used when another is taken
 used_more : (used : List Bool) (at k : ℕ) → at < length used → get_or used k true ≡ true → get_or (set used at true) k true ≡ true
@@ -35,6 +36,35 @@ hints_given size hints used at h hint = record {
         rw (get_or-set_other used at k false true n) (hint.sound k (rw (get_or-set_other hints (at / size) (k / size) false false other) at e))
   ];
 }
+
+-- no hint of a run is set at first
+hints_fresh : (size n : ℕ) (used : List Bool) → IsHint size (replicate n false) used
+hints_fresh size n used = record {
+  sound = λ k set. elim (cases_lt (k / size) n) [
+    | inl below ↦ let none : get_or (replicate n false) (k / size) false ≡ false = get_or-replicate n (k / size) false false below in cc
+    | inr above ↦ let none : get_or (replicate n false) (k / size) false ≡ false = get_or_past (replicate n false) (k / size) false (omega (arith, length-replicate n false)) in cc
+  ];
+}
+
+pub sound_fresh : (n : ℕ) (full crowded : List Bool) → n ≤ 4000000 → full ≡ replicate (n / 128 + 1) false → crowded ≡ replicate (n / 16384 + 1) false → IsSound (replicate n false) (replicate n 0) full crowded 0 n
+sound_fresh n full crowded small f c =
+    let len : length (replicate n false) ≡ n = length-replicate n false in
+    let zeros : List ℕ = replicate n 0 in
+    let refs : length zeros ≡ n = length-replicate n 0 in
+    record {
+      small = omega (arith, len);
+      same_len = refs ∙ sym len;
+      groups = rw (f, len) (length-replicate (n / 128 + 1) false);
+      blocks = rw (c, len) (length-replicate (n / 16384 + 1) false);
+      group_hints = rw f (hints_fresh 128 (n / 128 + 1) (replicate n false));
+      block_hints = rw c (hints_fresh 16384 (n / 16384 + 1) (replicate n false));
+      low = λ k below. absurd (omega arith);
+      free = sym (count_free-fresh n);
+      unowned = λ k none. elim (cases_lt k n) [
+        | inl below ↦ get_or-replicate n k 0 0 below
+        | inr above ↦ get_or_past zeros k 0 (omega (arith, refs))
+      ];
+    }
 
 pub sound_adopt : (used : List Bool) (refs : List ℕ) (full crowded : List Bool) (start count at : ℕ) → IsSound used refs full crowded start count → at < length used → get_or used at true ≡ false → IsSound (set used at true) refs full crowded start (count - 1)
 sound_adopt used refs full crowded start count at s inside free =

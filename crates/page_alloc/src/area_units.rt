@@ -3,14 +3,15 @@ ghost use Rattle.std.specs.Prelude.{◌≡◌, ℕ, ◌+◌, ◌-◌, ◌<◌, �
 ghost use Rattle.ex_base.specs.Ports.{with_ref, without_ref};
 ghost use Rattle.page_alloc.specs.Flags.{IsFirstFree, count_free};
 
+use crate::filled::Filled;
 use crate::search::{BLOCK, GROUP, first_free};
 use std::alloc::{AllocError, Global};
 use std::marker::Model;
 
 #[derive(Drop)]
 pub struct AreaUnits {
-    used: Vec<bool>,
-    refs: Vec<u32>,
+    used: Filled<bool>,
+    refs: Filled<u32>,
     // of each group and of each block, whether all its units are known to be used
     full: Vec<bool>,
     crowded: Vec<bool>,
@@ -26,9 +27,9 @@ impl Model for AreaUnits {
 
     ghost Value = { UnitFlags };
 
-    ghost view = { λ a. record { used = a.used.items; refs = a.refs.items } };
+    ghost view = { λ a. record { used = a.used; refs = a.refs } };
 
-    ghost invariant = { λ a. IsSound a.used.items a.refs.items a.full.items a.crowded.items a.low a.free };
+    ghost invariant = { λ a. IsSound a.used a.refs a.full.items a.crowded.items a.low a.free };
 }
 
 impl AreaUnits {
@@ -38,8 +39,8 @@ impl AreaUnits {
         ensures refs { IfOk result (λ a. a.refs ≡ replicate count 0) }
     {
         Ok(AreaUnits {
-            used: vec![in alloc; false; count]?,
-            refs: vec![in alloc; 0; count]?,
+            used: Filled::make(alloc, false, count)?,
+            refs: Filled::make(alloc, 0, count)?,
             full: vec![in alloc; false; count / GROUP + 1]?,
             crowded: vec![in alloc; false; count / BLOCK + 1]?,
             low: 0,
@@ -57,7 +58,7 @@ impl AreaUnits {
         requires { at < length self.now.used }
         ensures { result ≡ slice_index_or self.now.used at true }
     {
-        self.used[at]
+        self.used.get(at)
     }
 
     /// Takes the first free unit.
@@ -69,7 +70,7 @@ impl AreaUnits {
         ensures fresh { slice_index_or self.old.refs result 0 ≡ 0 }
     {
         let at = first_free(&self.used, &mut self.full, &mut self.crowded, self.low);
-        self.used[at] = true;
+        self.used.set(at, true);
         self.low = at + 1;
         self.free -= 1;
         at
@@ -83,7 +84,7 @@ impl AreaUnits {
         ensures refs { self.new.refs ≡ self.old.refs }
         ensures fresh { slice_index_or self.old.refs at 0 ≡ 0 }
     {
-        self.used[at] = true;
+        self.used.set(at, true);
         self.free -= 1;
     }
 
@@ -94,8 +95,8 @@ impl AreaUnits {
         ensures used { self.new.used ≡ slice_set self.old.used at false }
         ensures refs { self.new.refs ≡ slice_set self.old.refs at 0 }
     {
-        self.used[at] = false;
-        self.refs[at] = 0;
+        self.used.set(at, false);
+        self.refs.set(at, 0);
         self.full[at / GROUP] = false;
         self.crowded[at / BLOCK] = false;
         self.low = self.low.min(at);
@@ -107,7 +108,7 @@ impl AreaUnits {
         ensures refs { result ≡ slice_index_or self.now.refs at 0 }
         ensures unowned { slice_index_or self.now.used at true ≡ false → result ≡ 0 }
     {
-        self.refs[at]
+        self.refs.get(at)
     }
 
     /// Adds a reference to a used unit, unless it has the most that fit.
@@ -117,8 +118,9 @@ impl AreaUnits {
         ensures refs { self.new.refs ≡ slice_set self.old.refs at
             (with_ref (slice_index_or self.old.used at true) (slice_index_or self.old.refs at 0)) }
     {
-        if self.used[at] && self.refs[at] < u32::MAX {
-            self.refs[at] += 1;
+        let count = self.refs.get(at);
+        if self.used.get(at) && count < u32::MAX {
+            self.refs.set(at, count + 1);
         }
     }
 
@@ -130,11 +132,11 @@ impl AreaUnits {
         ensures refs { self.new.refs ≡ slice_set self.old.refs at
             (without_ref (slice_index_or self.old.refs at 0)) }
     {
-        let count = self.refs[at];
+        let count = self.refs.get(at);
         if count == 0 {
             return false;
         }
-        self.refs[at] = count - 1;
+        self.refs.set(at, count - 1);
         count == 1
     }
 }

@@ -2,8 +2,10 @@
 #![tactic(auto)]
 
 mod area_units;
+mod filled;
 mod history;
 mod search;
 mod units;
 
+pub use filled::Filled;
 pub use units::Units;

@@ -18,9 +18,10 @@ use Rattle.file_walk.specs.Parts.{HasWalked, IsBadFiles, IsListed}
 use Rattle.file_walk.specs.Walk.{page_numbers}
 use Rattle.node_walk.specs.TreesNamed.{AreBalanced, AreFree, AreNamed, FailsFirst, UsesTrees}
 use Rattle.object_files.specs.Catalog.{Catalog, FileEntry}
-use Rattle.page_alloc.specs.UnitSet.{used_at}
+use Rattle.page_alloc.specs.UnitSet.{refs_at, used_at}
 use Rattle.session_views.specs.declared.part.Part.{Part}
 use Rattle.session_views.specs.declared.part.Part.TheVariants.{Super, Log, Catalog as CatalogPart, File, Page, Body, Node, Balance, Unique}
+use Rattle.trees.specs.Owners.{IsOwned, root_pages}
 use Rattle.trees.specs.Trees.{RootNamed, Units, root_units}
 use Rattle.volume_model.proofs.OneVolume.{SameRecords, one_file}
 use Rattle.volume_model.specs.Parts.{Apart, HasBalance, HasIndex, HasLines, HasNodes, HasPages, HasUniques}
@@ -28,6 +29,7 @@ use Rattle.volume_model.specs.Volume.{FileContent, Stored, Volume, file_pages, l
 use Rattle.restart.specs.declared.content.Reached.{Reached}
 use Rattle.restart.specs.Content.{AreHeld, FilesHold, FilesReached, IsFirstBad, roots_found, volume_of}
 use Rattle.restart.proofs.FileRecords.{all_lines, all_unfrozen, lines_apart, numbers_are, numbers_listed, permuted, roots_apart, roots_listed, roots_permuted, stored_of, units_permuted}
+use Rattle.restart.proofs.Owners.{owned_permuted}
 use Rattle.restart.proofs.Permuted.{differ_parts, each_permuted}
 
 -- ---- the numbers
@@ -279,10 +281,13 @@ module _ (g : Geometry) (units : Units) (c : Catalog) (w : WalkedFiles) (walked 
       )
 
   pub files_reached : (r : Reached) → AreNamed g units used roots → AreBalanced g units roots → AreGoodNumbers c.next_unique (uniques w.records.items) → UsesTrees units roots used (used_at r.units)
-      → AreHeld r.pages (page_numbers w.pages.items) → FilesReached g units c r
-  files_reached r named balanced good uses held = record {
+      → IsOwned g units (used_at r.units) (refs_at r.units) (catalog_no ∷ page_numbers w.pages.items) (root_pages roots) → AreHeld r.pages (page_numbers w.pages.items) → FilesReached g units c r
+  files_reached r named balanced good uses owned held = record {
     files = files;
     holds = all_hold named balanced good;
     used = reached (used_at r.units) uses;
+    owned = owned_permuted g units (used_at r.units) (refs_at r.units) (catalog_no ∷ file_pages (volume_of c files)) (stored_of files) (stored_in (volume_of c files)) (permuted files walked.body)
+        (subst (λ (rs : List Root). IsOwned g units (used_at r.units) (refs_at r.units) (catalog_no ∷ file_pages (volume_of c files)) (root_pages rs)) roots_are
+        (subst (λ (pages : List ℕ). IsOwned g units (used_at r.units) (refs_at r.units) (catalog_no ∷ pages) (root_pages roots)) walked.pages owned));
     held = subst (AreHeld r.pages) walked.pages held;
   }

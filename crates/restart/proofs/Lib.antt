@@ -4,6 +4,7 @@ pub mod BadParts
 pub mod Superblocks
 pub mod UnitsNamed
 pub mod PortKept
+pub mod Owners
 pub mod PortShows
 pub mod FileRecords
 pub mod FilesTested

@@ -19,19 +19,22 @@ use Rattle.op_log.specs.AfterLog.{after_log, logged}
 use Rattle.op_log.specs.Decoding.{last_number}
 use Rattle.op_log.specs.Log.{SaysLog, log_end}
 use Rattle.op_log.specs.State.{LogState}
-use Rattle.page_alloc.specs.UnitSet.{used_at}
+use Rattle.page_alloc.specs.UnitSet.{refs_at, used_at}
 use Rattle.commits.proofs.Closing.{settled_agrees}
 use Rattle.commits.proofs.Reached.{reach_behind, without_last}
 use Rattle.volume_model.specs.Committed.{Checkpointed, Committed, SameAfterLog, StandsForVolume, with_records}
 use Rattle.volume_model.specs.FreshView.{KnowsUnits}
 use Rattle.volume_model.specs.Parts.{Decodes, HoldsOf, StandsFor, SuperOf, content_parts}
 use Rattle.volume_model.specs.SameVolume.{reach_kept}
-use Rattle.volume_model.specs.Volume.{Decoded, file_pages, reach_of, table_of, units_after, units_of}
+use Rattle.trees.specs.Owners.{root_pages}
+use Rattle.volume_model.specs.Volume.{Decoded, file_pages, reach_of, roots_in, stored_in, table_of, units_after, units_of}
 use Rattle.volume_port.specs.Logged.{is_held}
 use Rattle.restart.proofs.BadParts.{decoded_as, whole}
 use Rattle.restart.proofs.LastRecord.{no_rows}
 use Rattle.restart.specs.declared.content.Reached.{Reached}
-use Rattle.restart.specs.Content.{FilesReached, volume_of}
+use Rattle.restart.proofs.Owners.{owned_kept}
+use Rattle.restart.specs.Content.{FilesReached, OwnsUnits, volume_of}
+use Rattle.volume_model.specs.Homes.{home}
 use Rattle.restart.specs.Opening.{HasCatalog, OpenedOn, OpensAs, ReadsAs, empty_main}
 
 -- the page that was read is the one after the log
@@ -58,10 +61,11 @@ catalog_before_log g image records page last c is number here = subst (λ (n : O
 pub no_working : (m : Overlays) (page : ℕ) → m.working ≡ [] → image_at m page ≡ committed_image m page
 no_working m page none = ap (λ (rows : List (ℕ × Option (List ℕ))). over (lookup (nat_eq page) rows) (committed_image m page)) none
 
-pub reads_as : (image : List ℕ) (g g' : Geometry) (records : List LogRecord) (c : Catalog) (m m' : Overlays) (log : LogState) (r : Reached) (used held : ℕ → Bool) → SuperOf image g → SaysLog g records image
+pub reads_as : (image : List ℕ) (g g' : Geometry) (records : List LogRecord) (c : Catalog) (m m' : Overlays) (log : LogState) (r : Reached) (used : ℕ → Bool) (refs : ℕ → ℕ) (held : ℕ → Bool) → SuperOf image g → SaysLog g records image
     → HasCatalog (after_log g records image catalog_no) (last_number records) c → FilesReached g (units_after g records image) c r → ((p : ℕ) → committed_image m p ≡ logged records p) → m' ≡ m → g' ≡ g
-    → log ≡ log_of g (log_end records) (length records) → used ≡ used_at r.units → held ≡ is_held r.pages → ReadsAs image g' log m'.committed used held
-reads_as image g g' records c m m' log r used held super says here reached just same_meta same_geometry counts same_used same_held = record {
+    → log ≡ log_of g (log_end records) (length records) → used ≡ used_at r.units → refs ≡ refs_at r.units → held ≡ is_held r.pages
+    → ReadsAs image g' log m'.committed used refs held
+reads_as image g g' records c m m' log r used refs held super says here reached just same_meta same_geometry counts same_used same_refs same_held = record {
   decoded = decoded_as g records c reached.files;
   geometry = sym same_geometry;
   parts = whole image g records super says c here reached.files reached.holds;
@@ -70,6 +74,8 @@ reads_as image g g' records c m m' log r used held super says here reached just 
     units = subst (λ (f : ℕ → Bool). (unit : ℕ) → (f unit ≡ true) ↔ Contains (reach_of (units_after g records image) (volume_of c reached.files)) unit) (sym same_used) reached.used;
     pages = subst (λ (f : ℕ → Bool). (page : ℕ) → (f page ≡ true) ↔ Contains (catalog_no ∷ file_pages (volume_of c reached.files)) page) (sym same_held) reached.held;
   };
+  owned = subst (λ (f : ℕ → ℕ). OwnsUnits g (units_after g records image) (volume_of c reached.files) used f) (sym same_refs)
+      (subst (λ (f : ℕ → Bool). OwnsUnits g (units_after g records image) (volume_of c reached.files) f (refs_at r.units)) (sym same_used) reached.owned);
 }
 
 -- where no record counts, the log ends at its front and no page has an image
@@ -99,9 +105,9 @@ quiet_leaves a b c image world honest one two =
     leaves_quiet Q (leaves_quiet Q (leaves_start a Q world (λ e here. inl here)) honest one) (honest_on one.only.goes honest) two
 
 -- what was read is committed
-pub read_committed : (a b c : Outside) (image : List ℕ) (g : Geometry) (log : LogState) (rows : List (ℕ × List ℕ)) (used held : ℕ → Bool) → IsTrue a.honest → a.disk ≡ Some image → WritesNothing a b → (IsTrue a.honest → (d : List ℕ) → a.disk ≡ Some d → (e : List ℕ) → b.images e → e ≡ d)
-    → WritesNothing b c → (reads : ReadsAs image g log rows used held) → Committed c.images reads.decoded image log rows
-read_committed a b c image g log rows used held honest holds one settles two reads = record {
+pub read_committed : (a b c : Outside) (image : List ℕ) (g : Geometry) (log : LogState) (rows : List (ℕ × List ℕ)) (used : ℕ → Bool) (refs : ℕ → ℕ) (held : ℕ → Bool) → IsTrue a.honest → a.disk ≡ Some image → WritesNothing a b → (IsTrue a.honest → (d : List ℕ) → a.disk ≡ Some d → (e : List ℕ) → b.images e → e ≡ d)
+    → WritesNothing b c → (reads : ReadsAs image g log rows used refs held) → Committed c.images reads.decoded image log rows
+read_committed a b c image g log rows used refs held honest holds one settles two reads = record {
   parts = reads.parts;
   durable = settled_agrees reads.decoded image c.images (λ e here. settles honest image holds e (two.back (honest_on one.only.goes honest) e here));
   shown = reads.shown;
@@ -121,9 +127,15 @@ still_knows d image later used held (super, (log, content)) same knows = record 
   pages = knows.pages;
 }
 
-pub opened_on : (w : Outside) (image : List ℕ) (g : Geometry) (log log' : LogState) (rows rows' : List (ℕ × List ℕ)) (used held : ℕ → Bool) (reads : ReadsAs image g log rows used held)
-    → ((later : List ℕ) × (w.disk ≡ Some later) × Checkpointed reads.decoded image w.images later log' rows') → OpenedOn image g w log' rows' used held
-opened_on w image g log log' rows rows' used held reads done = record {
+-- once no record counts, each page stands at its home
+owned_at_home : (d : Decoded) (image later : List ℕ) (used : ℕ → Bool) (refs : ℕ → ℕ) → SameAfterLog d image [] later → OwnsUnits d.geometry (units_of d image) d.volume used refs
+    → OwnsUnits d.geometry (home d.geometry later) d.volume used refs
+owned_at_home d image later used refs same owned =
+    owned_kept d.geometry (units_of d image) (home d.geometry later) (λ page area. same.pages page area.0) used refs (catalog_no ∷ file_pages d.volume) (root_pages (roots_in (stored_in d.volume))) owned
+
+pub opened_on : (w : Outside) (image : List ℕ) (g : Geometry) (log log' : LogState) (rows rows' : List (ℕ × List ℕ)) (used : ℕ → Bool) (refs : ℕ → ℕ) (held : ℕ → Bool) (reads : ReadsAs image g log rows used refs held)
+    → ((later : List ℕ) × (w.disk ≡ Some later) × Checkpointed reads.decoded image w.images later log' rows') → OpenedOn image g w log' rows' used refs held
+opened_on w image g log log' rows rows' used refs held reads done = record {
   decoded = reads.decoded;
   disk = done.0;
   geometry = reads.geometry;
@@ -132,6 +144,7 @@ opened_on w image g log log' rows rows' used held reads done = record {
   committed = done.2.committed;
   table = done.2.same.table;
   knows = still_knows reads.decoded image done.0 used held reads.parts done.2.same reads.knows;
+  owned = owned_at_home reads.decoded image done.0 used refs done.2.same reads.owned;
 }
 
 -- ---- the parts

@@ -5,7 +5,8 @@ use Rattle.std.proofs.lemmas.List.{get_or_past}
 use Rattle.std.proofs.lemmas.Nat.{div-add-mod'}
 use Rattle.ex_base.specs.declared.geometry.Geometry.{Geometry}
 use Rattle.ex_base.specs.Area.{IsUnit, NamesLeaf, area_end}
-use Rattle.page_alloc.specs.UnitSet.{IsFitting, UnitSet, at_unit, refs_at, used_at}
+use Rattle.node_walk.specs.Counts.{AreCounted}
+use Rattle.page_alloc.specs.UnitSet.{IsFitting, UnitSet, at_unit, used_at}
 use Rattle.tree_store.specs.Stored.{IsCounted}
 
 at_low : (g : Geometry) (pages segs : List Bool) (p : ℕ) → p < 257 → at_unit g pages segs false p ≡ false
@@ -41,11 +42,11 @@ used_named u fits p used = ⊎_elim
     (cases_lt p (area_end u.geometry)))
     (cases_lt p 257)
 
--- units without references
-pub counted : (g : Geometry) (u : UnitSet) → IsFitting u → u.geometry ≡ g → refs_at u ≡ (λ _. 0) → IsCounted g u
-counted g u fits same refs = record {
+-- units that were counted
+pub counted : (g : Geometry) (u : UnitSet) → IsFitting u → u.geometry ≡ g → AreCounted u → IsCounted g u
+counted g u fits same counts = record {
   geometry = same;
   named = λ p used. subst (λ (h : Geometry). IsUnit h p) same (used_named u fits p used);
-  owned = λ p some. let none : refs_at u p ≡ 0 = ap (λ (f : ℕ → ℕ). f p) refs in absurd (omega (arith, none, some));
-  few = λ p. let none : refs_at u p ≡ 0 = ap (λ (f : ℕ → ℕ). f p) refs in omega (arith, none);
+  owned = counts.owned;
+  few = counts.few;
 }

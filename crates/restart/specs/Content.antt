@@ -1,5 +1,5 @@
 -- What the pages of a volume hold behind the catalog, and which part of it fails first.
-use Rattle.std.specs.Prelude.{◌≡◌, ◌↔◌, ◌-◌, ℕ, true, false, List, [], ◌∷◌, length, take, Option, Some, None, Contains}
+use Rattle.std.specs.Prelude.{◌≡◌, ◌↔◌, ◌-◌, ℕ, Bool, true, false, List, [], ◌∷◌, length, take, Option, Some, None, Contains}
 use Rattle.std.specs.List.{flat_map, AllByRecursion}
 use Rattle.ex_base.specs.declared.geometry.Geometry.{Geometry}
 use Rattle.ex_base.specs.declared.names.Root.{Root}
@@ -9,10 +9,11 @@ use Rattle.file_walk.specs.declared.Found.{Found}
 use Rattle.page_alloc.specs.UnitSet.{used_at, refs_at}
 use Rattle.session_views.specs.declared.part.Part.{Part}
 use Rattle.session_views.specs.declared.part.Part.TheVariants.{File, Page, Body, Node, Balance, Unique}
+use Rattle.trees.specs.Owners.{IsOwned, root_pages}
 use Rattle.trees.specs.Trees.{Units}
 use Rattle.tree_store.specs.Stored.{IsCounted}
 use Rattle.volume_model.specs.Parts.{HoldsOf, rank}
-use Rattle.volume_model.specs.Volume.{FileContent, Volume, file_pages, reach_of}
+use Rattle.volume_model.specs.Volume.{FileContent, Volume, file_pages, reach_of, roots_in, stored_in}
 use Rattle.volume_port.specs.Logged.{LoggedSet, is_held, is_taken}
 use Rattle.restart.specs.declared.content.Reached.{Reached}
 
@@ -45,19 +46,25 @@ roots_found records = flat_map (λ (found : Found). root_list found.root) record
 abbrev pub AreHeld : LoggedSet → List ℕ → Type 0
 AreHeld pages files = (page : ℕ) → (is_held pages page ≡ true) ↔ Contains (catalog_no ∷ files) page
 
--- What was found is of a geometry: the numbers of used units name units, and none has a reference; the catalog's page is there, and no page was taken.
+-- What was found is of a geometry: the numbers of used units name units, and what has a reference is used; the catalog's page is there, and no page was
+-- taken.
 pub record IsReached (g : Geometry) (r : Reached) : Type 0 where
   pub counted : IsCounted g r.units
-  pub refs : refs_at r.units ≡ (λ _. 0)
   pub held_len : length r.pages.held ≡ area_end g
   pub taken_len : length r.pages.taken ≡ area_end g
   pub home : is_held r.pages catalog_no ≡ true
   pub taken : (page : ℕ) → is_taken r.pages page ≡ false
 
--- These files hold all parts. The units in use are exactly those that the volume reaches, and the logged pages are exactly the catalog and the pages of
--- its files.
+-- Each unit of a tree has as many references as roots of the volume and pairs of its nodes name it. In use are these units, the catalog and the pages of
+-- its files, and no others.
+abbrev pub OwnsUnits : Geometry → Units → Volume → (ℕ → Bool) → (ℕ → ℕ) → Type 0
+OwnsUnits g units v used refs = IsOwned g units used refs (catalog_no ∷ file_pages v) (root_pages (roots_in (stored_in v)))
+
+-- These files hold all parts. The units in use are exactly those that the volume reaches, each with as many references as owners, and the logged pages are
+-- exactly the catalog and the pages of its files.
 pub record FilesReached (g : Geometry) (units : Units) (c : Catalog) (r : Reached) : Type 0 where
   pub files : List FileContent
   pub holds : FilesHold g units c 6 files
   pub used : (unit : ℕ) → (used_at r.units unit ≡ true) ↔ Contains (reach_of units (volume_of c files)) unit
+  pub owned : OwnsUnits g units (volume_of c files) (used_at r.units) (refs_at r.units)
   pub held : AreHeld r.pages (file_pages (volume_of c files))

@@ -8,7 +8,8 @@ use Rattle.object_files.specs.Catalog.{Catalog, CatalogOf}
 use Rattle.op_log.specs.State.{LogState}
 use Rattle.table_model.specs.declared.table.Table.{Table}
 use Rattle.restart.specs.declared.opening.OpenedParts.{OpenedParts}
-use Rattle.restart.specs.Content.{IsReached}
+use Rattle.restart.specs.Content.{IsReached, OwnsUnits}
+use Rattle.volume_model.specs.Homes.{home}
 use Rattle.volume_model.specs.Committed.{Committed, OverlayOf, with_records}
 use Rattle.volume_model.specs.FreshView.{KnowsUnits}
 use Rattle.volume_model.specs.Parts.{Decodes, StandsFor}
@@ -32,7 +33,7 @@ pub record HasCatalog (page : List ℕ) (last : Option ℕ) (c : Catalog) : Type
 abbrev pub empty_main : Geometry → Frames
 empty_main g = record { entries = []; cap = 64; page_size = g.page_size; policy = Lru }
 
--- The parts are of one geometry; no unit has a reference, no page is touched and none was taken, and no frame is filled.
+-- The parts are of one geometry; no page is touched and none was taken, and no frame is filled.
 pub record AreFresh (p : OpenedParts) : Type 0 where
   pub log : p.log.geometry ≡ p.geometry
   pub meta : p.meta.geometry ≡ p.geometry
@@ -46,17 +47,18 @@ pub record AreOpened (p : OpenedParts) : Type 0 where
   pub log : p.log ≡ record { geometry = p.geometry; end = 0; count = 0 }
   pub images : p.meta.committed ≡ []
 
--- The disk decodes so, log and overlay are those of its records, and units and logged pages are those that its volume reaches.
-pub record ReadsAs (image : List ℕ) (g : Geometry) (log : LogState) (overlay : List (ℕ × List ℕ)) (used held : ℕ → Bool) : Type 0 where
+-- The disk decodes so, log and overlay are those of its records, and units, their counts of references and logged pages are those of its volume.
+pub record ReadsAs (image : List ℕ) (g : Geometry) (log : LogState) (overlay : List (ℕ × List ℕ)) (used : ℕ → Bool) (refs : ℕ → ℕ) (held : ℕ → Bool) : Type 0 where
   pub decoded : Decoded
   pub geometry : decoded.geometry ≡ g
   pub parts : Decodes image decoded
   pub shown : OverlayOf decoded log overlay
   pub knows : KnowsUnits decoded image used held
+  pub owned : OwnsUnits decoded.geometry (units_of decoded image) decoded.volume used refs
 
 -- The disk stood for a table, as it decoded; now it holds the same volume with no record in its log, committed, and it is known which units and logged
--- pages that volume has.
-pub record OpenedOn (image : List ℕ) (g : Geometry) (w : Outside) (log : LogState) (overlay : List (ℕ × List ℕ)) (used held : ℕ → Bool) : Type 0 where
+-- pages that volume has, and how many owners each unit has, as it stands at its home.
+pub record OpenedOn (image : List ℕ) (g : Geometry) (w : Outside) (log : LogState) (overlay : List (ℕ × List ℕ)) (used : ℕ → Bool) (refs : ℕ → ℕ) (held : ℕ → Bool) : Type 0 where
   pub decoded : Decoded
   pub disk : List ℕ
   pub geometry : decoded.geometry ≡ g
@@ -65,6 +67,7 @@ pub record OpenedOn (image : List ℕ) (g : Geometry) (w : Outside) (log : LogSt
   pub committed : Committed w.images (with_records decoded [] decoded.volume) disk log overlay
   pub table : table_of (units_of (with_records decoded [] decoded.volume) disk) decoded.volume ≡ table_of (units_of decoded image) decoded.volume
   pub knows : KnowsUnits (with_records decoded [] decoded.volume) disk used held
+  pub owned : OwnsUnits decoded.geometry (home decoded.geometry disk) decoded.volume used refs
 
 -- The image stands for a table for which the other one stands too.
 pub record StandsForSame (image other : List ℕ) : Type 0 where

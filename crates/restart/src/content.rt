@@ -21,7 +21,7 @@ use session_views::{OpenFault, Part};
 use std::alloc::{AllocError, Global};
 use volume_port::LoggedPages;
 
-/// What the walks of an opening found: the units in use, and the logged pages.
+/// What the walks of an opening found: the units in use with their counts of references, and the logged pages.
 #[derive(Drop)]
 pub struct Reached {
     pub units: Units,

@@ -8,7 +8,7 @@ ghost use Rattle.table_model.specs.declared.table.Table.{Table};
 ghost use Rattle.op_log.specs.Decoding.{last_number};
 ghost use Rattle.op_log.specs.Log.{SaysLog, log_end};
 ghost use Rattle.op_log.specs.Records.{IsLogRecord};
-ghost use Rattle.page_alloc.specs.UnitSet.{used_at};
+ghost use Rattle.page_alloc.specs.UnitSet.{used_at, refs_at};
 ghost use Rattle.volume_model.specs.Parts.{SuperOf, FirstBad, StandsFor};
 ghost use Rattle.volume_port.specs.Logged.{is_held};
 ghost use Rattle.restart.specs.Content.{IsReached};
@@ -32,7 +32,7 @@ use std::alloc::{AllocError, Global};
 use volume_port::LoggedPages;
 
 /// What a session needs of the volume that was opened: no record counts, no page has an image, the units in use and the logged pages are those that the
-/// volume reaches, and no frame is filled.
+/// volume reaches, each unit of a tree has as many references as roots and nodes name it, and no frame is filled.
 #[derive(Drop)]
 pub struct OpenedParts {
     pub geometry: Geometry,
@@ -56,7 +56,7 @@ pub fn open_volume<D: Disk>(alloc: Global, disk: &mut D) -> Result<OpenedParts, 
     ensures opened { IfOk result (λ p. (image : List ℕ) → IsTrue (D.outside disk.old).honest
         → (D.outside disk.old).disk ≡ Some image
         → OpenedOn image p.geometry (D.outside disk.new) p.log p.meta.committed (used_at p.units)
-        (is_held p.pages)) }
+        (refs_at p.units) (is_held p.pages)) }
     ensures stood { IfOk result (λ p. (image : List ℕ) → (D.outside disk.old).disk ≡ Some image
         → (table : Table) × StandsFor image table) }
 
@@ -101,7 +101,8 @@ fn read_volume<D: Disk>(alloc: Global, disk: &mut D) -> Result<OpenedParts, Open
         × (p.meta.committed ≡ [])) }
     ensures room { IfOk result (λ p. volume_bytes p.geometry ≤ (D.outside disk.old).size) }
     ensures reads { IfOk result (λ p. (image : List ℕ) → (D.outside disk.old).disk ≡ Some image
-        → ReadsAs image p.geometry p.log p.meta.committed (used_at p.units) (is_held p.pages)) }
+        → ReadsAs image p.geometry p.log p.meta.committed (used_at p.units) (refs_at p.units)
+        (is_held p.pages)) }
     ensures bad { (part : Part) → result ≡ Err (OpenFault.BadVolume part) → (image : List ℕ)
         → (D.outside disk.old).disk ≡ Some image → FirstBad image part }
 {

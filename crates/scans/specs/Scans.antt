@@ -1,9 +1,9 @@
 -- What a scan is to its callers, and which bytes it shows.
-use Rattle.std.specs.Prelude.{◌≡◌, ℕ, ◌+◌, ◌-◌, ◌<◌, ◌≤◌, List, length, min, Option, Some, None}
+use Rattle.std.specs.Prelude.{ℕ, ◌+◌, ◌-◌, List, length, min, Option, Some, None}
 use Rattle.ex_base.specs.declared.geometry.Geometry.{Geometry}
 use Rattle.ex_base.specs.declared.names.Root.{Root}
-use Rattle.ex_base.specs.Sizes.{object_most}
-use Rattle.trees.specs.Trees.{Units, RootSpells}
+use Rattle.trees.specs.Shown.{BytesShown}
+use Rattle.trees.specs.Trees.{Units}
 
 -- A scan: the root of the tree that it reads, or else the bytes that it holds itself, and how many bytes it has given.
 pub record Position : Type 0 where
@@ -26,11 +26,6 @@ next_len n scan = min n (scan_size scan - scan.pos)
 -- the scan so many bytes on
 abbrev pub moved_by : ℕ → Position → Position
 moved_by n scan = record scan { pos = scan.pos + n }
-
--- the bytes of an object: what its root spells or, without a root, those that are held, which are fewer than a page
-abbrev pub BytesShown : Geometry → Units → List ℕ → List ℕ → Option Root → Type 0
-BytesShown g units bytes small None = (bytes ≡ small) × (length bytes < g.page_size)
-BytesShown g units bytes small (Some root) = RootSpells g units root bytes × (root.size ≤ object_most)
 
 -- the scan shows these bytes, as they were when it was opened
 abbrev pub Opened : Geometry → Units → Position → List ℕ → Type 0

@@ -1,6 +1,7 @@
 //! The text of what is answered to a line.
 #![tactic(auto)]
 
+mod digits;
 mod replies;
 mod text;
 

@@ -6,6 +6,7 @@ ghost use Rattle.hex.specs.Hex.{encode_lower};
 ghost use Rattle.script_replies.specs.ReplyText.{oid_word, hex_words, area_word, counted_words, refusal_words, ok, text_of};
 ghost use Rattle.script_replies.specs.Texts.{line_of, spaced, refusal_name, value_words, IsFront};
 
+use crate::digits::write_digits;
 use crate::text::Text;
 use ex_base::{Area, Oid};
 use itoa::Buffer;
@@ -70,7 +71,7 @@ fn push_digits(out: &mut Vec<u8>, bytes: &[u8]) -> Result<(), AllocError>
         return Err(AllocError);
     };
     out.resize(end, 0)?;
-    hex::encode_to_slice(bytes, &mut out[start..]).unwrap();
+    write_digits(bytes, &mut out[start..]);
     Ok(())
 }
 

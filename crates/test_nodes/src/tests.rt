@@ -1,6 +1,7 @@
 ghost use Rattle.std.specs.Prelude.{◌≡◌, IsTrue};
 ghost use Rattle.std.specs.List.{AllByRecursion};
 ghost use Rattle.object_records.specs.Record.{IsRootField};
+ghost use Rattle.page_alloc.specs.UnitSet.{refs_at};
 
 use count_nodes::Pair;
 use count_nodes::write::write_node;
@@ -222,6 +223,31 @@ const CASES: [Case; 24] = [
     },
 ];
 
+/// Trees on a volume of the pages 257 to 272 and the leaves 273 to 472: two leaves far from each other, which two nodes name in turn, in one tree and
+/// with another tree that has one of them.
+const FAR_CASES: [Case; 2] = [
+    Case {
+        nodes: [
+            (258, 2, [(600, 259), (1200, 260)]),
+            (259, 1, [(300, 273), (600, 400)]),
+            (260, 1, [(300, 273), (600, 400)]),
+        ],
+        file_page: 0,
+        roots: [(2, 258, 1200), (0, 401, 300)],
+        want: Ok(()),
+    },
+    Case {
+        nodes: [
+            (258, 2, [(600, 259), (1200, 260)]),
+            (259, 1, [(300, 273), (600, 400)]),
+            (260, 1, [(300, 273), (600, 400)]),
+        ],
+        file_page: 0,
+        roots: [(2, 258, 1200), (0, 273, 300)],
+        want: NODE,
+    },
+];
+
 /// Writes a node over a page.
 fn put_node<V: Volume>(
     volume: &mut V,
@@ -322,6 +348,7 @@ fn walked<V: ReadVolume>(
 ) -> Result<Result<(), OpenFault>, Fail>
     requires ready { V.ready volume.old }
     requires units { units.old.geometry ≡ V.geometry volume.old }
+    requires fresh { refs_at units.old ≡ (λ _. 0) }
     ensures leads { V.leads volume.old volume.new }
     ensures units { units.new.geometry ≡ units.old.geometry }
 {
@@ -336,7 +363,8 @@ fn walked<V: ReadVolume>(
 fn adopt_file<V: ReadVolume>(volume: &V, units: &mut Units, page: u32) -> Result<(), Fail>
     requires ready { V.ready volume.now }
     requires units { units.old.geometry ≡ V.geometry volume.now }
-    ensures { units.new.geometry ≡ units.old.geometry }
+    ensures geometry { units.new.geometry ≡ units.old.geometry }
+    ensures refs { refs_at units.new ≡ refs_at units.old }
 {
     if page != 0 {
         let page = PageNo(page);
@@ -373,6 +401,111 @@ fn crafted_trees_are_answered(rt: HostRuntime) -> Result<(), Fail> {
     for case in &CASES {
         let volume = &mut MemoryVolume::make(alloc, &geometry)?;
         check_case(&rt, alloc, volume, case)?;
+    }
+    Ok(())
+}
+
+#[test]
+fn leaves_far_apart_are_told_from_each_other(rt: HostRuntime) -> Result<(), Fail> {
+    let alloc = rt.alloc();
+    let geometry = Geometry::make(512, 16, 200, 1, 2).map_err(|_| "geometry")?;
+    for case in &FAR_CASES {
+        let volume = &mut MemoryVolume::make(alloc, &geometry)?;
+        check_case(&rt, alloc, volume, case)?;
+    }
+    Ok(())
+}
+
+/// A page, and how often roots and nodes name its unit.
+type CountRow = (u32, u32);
+
+/// Trees of height 2, and the counts of their units by hand.
+struct CountCase {
+    nodes: [NodeRow; 3],
+    roots: [RootRow; 2],
+    counts: [CountRow; 8],
+}
+
+/// The trees of `CASES` have the same volume.
+const COUNT_CASES: [CountCase; 2] = [
+    // Two nodes of level 1 share a leaf, and a lone leaf is a tree of its own. The catalog's page and a free leaf have no reference.
+    CountCase {
+        nodes: [
+            (258, 2, [(600, 259), (1200, 260)]),
+            (259, 1, [(300, 273), (600, 274)]),
+            (260, 1, [(300, 274), (600, 275)]),
+        ],
+        roots: [(2, 258, 1200), (0, 276, 512)],
+        counts: [
+            (257, 0),
+            (258, 1),
+            (259, 1),
+            (260, 1),
+            (273, 1),
+            (274, 2),
+            (275, 1),
+            (276, 1),
+        ],
+    },
+    // The root names a node twice, which counts its leaves once.
+    CountCase {
+        nodes: [
+            (258, 2, [(600, 259), (1200, 259)]),
+            (259, 1, [(300, 273), (600, 274)]),
+            NO_NODE,
+        ],
+        roots: [(2, 258, 1200), NO_ROOT],
+        counts: [
+            (257, 0),
+            (258, 1),
+            (259, 2),
+            (260, 0),
+            (272, 0),
+            (273, 1),
+            (274, 1),
+            (275, 0),
+        ],
+    },
+];
+
+/// How many references the unit of a page has. A page that names no unit fails.
+fn refs_of(geometry: &Geometry, units: &Units, page: u32) -> Result<u32, Fail>
+    requires { units.now.geometry ≡ geometry.now }
+{
+    let page = PageNo(page);
+    if !geometry.in_page_area(page) && !geometry.names_leaf(page) {
+        return Err("no unit")?;
+    }
+    Ok(units.refs(page))
+}
+
+/// Walks trees, and compares how often each unit was counted.
+fn check_counts<V: Volume>(
+    rt: &impl Abort,
+    alloc: Global,
+    volume: &mut V,
+    case: &CountCase,
+) -> Result<(), Fail>
+    requires { V.ready volume.old }
+{
+    let geometry = volume.geometry();
+    put_rows(volume, alloc, &case.nodes)?;
+    let mut units = Units::make(alloc, &geometry)?;
+    let roots = roots_of(alloc, &case.roots)?;
+    assert_eq!(rt; walked(volume, alloc, &mut units, &roots)?, Ok(()));
+    for (page, count) in &case.counts {
+        assert_eq!(rt; refs_of(&geometry, &units, *page)?, *count);
+    }
+    Ok(())
+}
+
+#[test]
+fn each_unit_counts_the_roots_and_pairs_that_name_it(rt: HostRuntime) -> Result<(), Fail> {
+    let alloc = rt.alloc();
+    let geometry = Geometry::make(512, 16, 16, 1, 2).map_err(|_| "geometry")?;
+    for case in &COUNT_CASES {
+        let volume = &mut MemoryVolume::make(alloc, &geometry)?;
+        check_counts(&rt, alloc, volume, case)?;
     }
     Ok(())
 }

@@ -18,8 +18,8 @@ struct Row {
 const ROWS: [Row; 9] = [
     Row {
         sizes: SMALL,
-        script: "begin\nfile a\ncreate a as @x\nappend @x hex:616263\nread @x 0 3\nstat @x\nread @x 3 0\nread @x 3 1\nread @x 0 16777217\nread @y 0 1\nread 258.0.2 0 1\n",
-        output: "ok begin 1\nok file a\nok create 258.0.1\nok append 3\nok read 3 616263\nok stat small 3\nok read 0\nno 18 range\nno 3 data_limit\nno 6 no_name\nno 11 no_object\n",
+        script: "begin\nfile a\nspace\ncreate a as @x\nappend @x hex:616263\nread @x 0 3\ndigest @x\nstat @x\nspace\nread @x 3 0\nread @x 3 1\nread @x 0 16777217\nread @y 0 1\nread 258.0.2 0 1\n",
+        output: "ok begin 1\nok file a\nok space pages 1 of 64 segs 0 of 16\nok create 258.0.1\nok append 3\nok read 3 616263\nok digest ba7816bf8f01cfea414140de5dae2223b00361a396177a9cb410ff61f20015ad\nok stat small 3\nok space pages 2 of 64 segs 0 of 16\nok read 0\nno 18 range\nno 3 data_limit\nno 6 no_name\nno 11 no_object\n",
     },
     Row {
         sizes: SMALL,

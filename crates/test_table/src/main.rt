@@ -4,7 +4,6 @@
 
 mod decided;
 mod form;
-mod picks;
 mod start;
 mod steps;
 

@@ -4,13 +4,11 @@ ghost use Rattle.table_model.specs.Machines.{IsMachine};
 
 use crate::decided::{number_of, pick_of};
 use crate::form::read;
-use crate::picks::is_allowed;
-use crate::start::empty_volume;
 use ex_base::Geometry;
 use script_replies::push_reply;
 use std::alloc::{AllocError, Global};
 use table_model::{Machine, Pick, Reply};
-use table_reference::step_plain;
+use table_picks::{empty_volume, step_decided};
 
 /// What stands in place of a reply where a volume may not decide so.
 const NOT_ALLOWED: &[u8] = b"not allowed\n";
@@ -37,11 +35,10 @@ fn reply_to(
         Err(why) => return text_of(alloc, &Reply::No(why)),
         Ok(Some(command)) => command,
     };
-    if !is_allowed(alloc, machine, &command, pick)? {
-        return Vec::from_slice(alloc, NOT_ALLOWED);
+    match step_decided(alloc, machine, &command, pick)? {
+        Some(reply) => text_of(alloc, &reply),
+        None => Vec::from_slice(alloc, NOT_ALLOWED),
     }
-    let reply = step_plain(alloc, machine, &command, pick)?;
-    text_of(alloc, &reply)
 }
 
 /// Begins anew with an empty volume of these sizes, where there is one.

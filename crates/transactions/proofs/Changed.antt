@@ -37,21 +37,23 @@ use Rattle.versions.specs.declared.finding.Found.{Found}
 use Rattle.versions.specs.Edited.{change_of}
 use Rattle.versions.specs.Needs.{most_need}
 use Rattle.version_model.specs.Versions.{Change, Inserts, Appends, Replaces, Deletes, InRange, changed, count_of, record_len}
-use Rattle.transactions.specs.declared.session.edits.Admitted.{Admitted}
-use Rattle.transactions.specs.declared.session.edits.Need.{Need}
-use Rattle.transactions.specs.declared.session.moving.Limit.{Limit}
-use Rattle.transactions.specs.declared.session.objects.Named.{Named}
-use Rattle.transactions.specs.Editing.{AsksFor, IsAdmitted, IsAnswered, IsWithin, bytes_refusal, edit_note, edit_reply, fits_beside, is_frozen, is_outside, limit_of, room_beside, room_refusal, root_height, size_after}
-use Rattle.transactions.specs.Lines.{IfShown, IsOutside, LineStops, NamesVersion, TellsVersion, UpdatesLine}
-use Rattle.transactions.specs.Meant.{meant, held_view}
-use Rattle.transactions.specs.Refused.{free_in}
-use Rattle.transactions.specs.Sessions.{SessionState, IsSession}
-use Rattle.transactions.specs.Steps.{OnlyFrames}
-use Rattle.transactions.specs.Updates.{HasRoomFor, HoldsTable, IfUpdated, Noted, note_with, parts_held}
+use Rattle.transactions.specs.declared.edits.Admitted.{Admitted}
+use Rattle.transactions.specs.declared.edits.Need.{Need}
+use Rattle.session_core.specs.declared.session.moving.Limit.{Limit}
+use Rattle.session_core.specs.declared.session.objects.Named.{Named}
+use Rattle.transactions.specs.Editing.{AsksFor, IsAdmitted, IsAnswered, IsWithin, bytes_refusal, edit_note, edit_reply, is_frozen, is_outside, limit_of, room_refusal}
+use Rattle.session_core.specs.Needs.{fits_beside, room_beside, root_height, size_after}
+use Rattle.session_core.specs.Finding.{IfShown, IsOutside, LineStops, NamesVersion, TellsVersion}
+use Rattle.transactions.specs.Lines.{UpdatesLine}
+use Rattle.session_core.specs.Meant.{meant, held_view}
+use Rattle.session_core.specs.Counts.{free_in}
+use Rattle.session_core.specs.Sessions.{SessionState, IsSession}
+use Rattle.session_core.specs.Steps.{OnlyFrames}
+use Rattle.session_core.specs.Updates.{HasRoomFor, HoldsTable, IfUpdated, Noted, note_with, parts_held}
 use Rattle.object_updates.specs.Updates as update
 use Rattle.transactions.proofs.EditRefusals.{pick_fits, pick_tall, same_units, units_told}
 use Rattle.transactions.proofs.Naming.{the_oid_named, the_size_named}
-use Rattle.transactions.proofs.Quiet.{with_groups}
+use Rattle.session_core.proofs.Quiet.{with_groups}
 use Rattle.transactions.proofs.Updated.{KeptTo, machine_with, noted_steps, own_names, pick_then, room_left, same_machine, same_session, view_then, within_need}
 use Rattle.transactions.proofs.UpdateLines.{WentOn, counted_then, frames_of, line_refused, opened_then, update_done, update_stopped}
 

@@ -10,14 +10,15 @@ use Rattle.session_views.specs.declared.engine.Stop.TheVariants as stop
 use Rattle.session_views.specs.View.{View, ShowsNow, Stepped}
 use Rattle.table_model.specs.declared.reply.Reply.{Reply}
 use Rattle.table_model.specs.Requests.{Request}
-use Rattle.transactions.specs.Sessions.{SessionState, IsSession}
-use Rattle.transactions.specs.Catalogs.{IsDamaged, catalog_bytes}
+use Rattle.session_core.specs.Sessions.{SessionState, IsSession}
+use Rattle.session_core.specs.Catalogs.{IsDamaged, catalog_bytes}
 use Rattle.transactions.specs.Commands.{Answers, IsOfCatalog, asks_objects, changes_objects}
-use Rattle.transactions.specs.Lines.{IfShown, IsOutside, LineStops, ReadsLine, UpdatesLine}
-use Rattle.transactions.specs.Meant.{meant}
-use Rattle.transactions.specs.Steps.{IsRefused, OnlyFrames, Steps, Stops, StepsQuietly}
-use Rattle.transactions.proofs.Listing.{unread_outside, unread_stops}
-use Rattle.transactions.proofs.Quiet.{quietly, quiet_moments, quiet_stop}
+use Rattle.session_core.specs.Finding.{IfShown, IsOutside, LineStops}
+use Rattle.transactions.specs.Lines.{ReadsLine, UpdatesLine}
+use Rattle.session_core.specs.Meant.{meant}
+use Rattle.session_core.specs.Steps.{IsRefused, OnlyFrames, Steps, Stops, StepsQuietly}
+use Rattle.session_core.proofs.Listing.{unread_outside, unread_stops}
+use Rattle.session_core.proofs.Quiet.{quietly, quiet_moments, quiet_stop}
 
 -- ---- any command
 

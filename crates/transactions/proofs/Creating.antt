@@ -41,21 +41,24 @@ use Rattle.session_views.specs.declared.engine.Stop.{Stop}
 use Rattle.session_views.specs.declared.engine.Stop.TheVariants as stop
 use Rattle.volume_edits.proofs.Finding.{find_in}
 use Rattle.volume_model.specs.Shown.{Shows}
-use Rattle.transactions.specs.declared.session.creation.NewObject.{NewObject}
-use Rattle.transactions.specs.declared.session.edits.Need.{Need}
+use Rattle.transactions.specs.declared.creation.NewObject.{NewObject}
+use Rattle.transactions.specs.declared.edits.Need.{Need}
 use Rattle.transactions.specs.Editing.{full_in, is_taken_by, limit_of, new_object_in, place_if, room_refusal}
-use Rattle.transactions.specs.Lines.{IsOutside, LineStops, UpdatesLine}
-use Rattle.transactions.specs.Meant.{held_view, meant, pick_of, place_bound}
-use Rattle.transactions.specs.Refused.{free_in, long_txn}
-use Rattle.transactions.specs.Sessions.{SessionState, IsSession}
-use Rattle.transactions.specs.Steps.{OnlyFrames}
-use Rattle.transactions.specs.Updates.{HasRoomFor, HoldsTable, IfUpdated, Noted, parts_held}
-use Rattle.transactions.proofs.Accepted.{ReadsCatalog, shown_on}
-use Rattle.transactions.proofs.Listing.{on_after}
+use Rattle.session_core.specs.Finding.{IsOutside, LineStops}
+use Rattle.transactions.specs.Lines.{UpdatesLine}
+use Rattle.session_core.specs.Meant.{held_view, meant, pick_of, place_bound}
+use Rattle.session_core.specs.Counts.{free_in}
+use Rattle.transactions.specs.Refused.{long_txn}
+use Rattle.session_core.specs.Sessions.{SessionState, IsSession}
+use Rattle.session_core.specs.Steps.{OnlyFrames}
+use Rattle.session_core.specs.Updates.{HasRoomFor, HoldsTable, IfUpdated, Noted, parts_held}
+use Rattle.session_core.proofs.Accepted.{ReadsCatalog, shown_on}
+use Rattle.session_core.proofs.Listing.{on_after}
 use Rattle.transactions.proofs.EditRefusals.{UpdateCounts, opens, room_back, room_is, units_counted, update_counts}
-use Rattle.transactions.proofs.Quiet.{shown_lends, with_groups}
-use Rattle.transactions.proofs.Refusing.{missing, none_is_false, same_counts}
-use Rattle.transactions.proofs.Showing.{shows_catalog}
+use Rattle.session_core.proofs.Quiet.{shown_lends, with_groups}
+use Rattle.transactions.proofs.Refusing.{missing, same_counts}
+use Rattle.session_core.proofs.Refusing.{none_is_false}
+use Rattle.session_core.proofs.Showing.{shows_catalog}
 use Rattle.transactions.proofs.UpdateLines.{WentOn, counted_then, line_refused, opened_then, update_done, update_stopped}
 use Rattle.transactions.proofs.Updated.{KeptTo, machine_then, noted_steps, pick_then, same_machine, within_need}
 use Rattle.transactions.proofs.Vacancy.{vacant}
@@ -95,11 +98,6 @@ taken_as {may_leave} v shows name =
     ∙ ap (λ (groups : List GroupRow). binds_name name v.machine.names || false || (bytes_eq main name || list_any (λ (g : GroupRow). bytes_eq g.name name) groups)) shows.shared.group_rows
     ∙ names_or_main (binds_name name v.machine.names) (bytes_eq main name) (bytes_eq name main) (same_either main name)
     ∙ ap (λ (names : List BoundName). bytes_eq name main || binds_name name names) shows.shared.names
-
--- as the session looked it up
-pub taken_told : {inside old : SessionState} {names : List BoundName} {result taken : Bool} (name : List ℕ) → inside ≡ old → names ≡ inside.names → result ≡ is_taken_by names name → result ≡ taken → is_taken_by old.names name ≡ taken
-taken_told {inside} {old} {names} name is same told so =
-    ap (λ (s : SessionState). is_taken_by s.names name) (sym is) ∙ ap (λ (ns : List BoundName). is_taken_by ns name) (sym same) ∙ sym told ∙ so
 
 -- ---- why it is refused
 
@@ -231,30 +229,30 @@ module _ {a b : Outside} {old mid : SessionState} (file name : List ℕ) (world 
 -- ---- a line that goes on
 
 -- the session with the name bound
-pub bound_session : {mid s : SessionState} (inside : SessionState) (noted : OpNote) (names : List BoundName) (b : BoundName) → inside ≡ s → Noted mid s noted → names ≡ inside.names ++ b ∷ [] → record s { names = mid.names ++ b ∷ [] } ≡ record inside { names = names }
-bound_session {mid} {s} inside noted names b is did bound =
-    ap (λ (ns : List BoundName). record s { names = ns ++ b ∷ [] }) (sym (ap (λ (t : SessionState). t.names) did.same))
-    ∙ ap (λ (t : SessionState). record t { names = t.names ++ b ∷ [] }) (sym is)
-    ∙ ap (λ (ns : List BoundName). record inside { names = ns }) (sym bound)
+pub bound_session : {mid s new : SessionState} (noted : OpNote) (b : BoundName) → Noted mid s noted → new ≡ record s { names = s.names ++ b ∷ [] } → record s { names = mid.names ++ b ∷ [] } ≡ new
+bound_session {mid} {s} {new} noted b did bound = ap (λ (ns : List BoundName). record s { names = ns ++ b ∷ [] }) (sym (ap (λ (t : SessionState). t.names) did.same)) ∙ sym bound
 
 -- a name that wasn't taken is still unbound after the update
-pub unbound_still : {a b : Outside} {old mid s inside : SessionState} {noted : OpNote} (name : List ℕ) → OnlyFrames a b old mid → Noted mid s noted → inside ≡ s → is_taken_by old.names name ≡ false
-    → is_bound inside.names name ≡ false
-unbound_still {inside = inside} name read did is untaken =
+pub unbound_still : {a b : Outside} {old mid s : SessionState} {noted : OpNote} (name : List ℕ) → OnlyFrames a b old mid → Noted mid s noted → is_taken_by old.names name ≡ false
+    → is_bound s.names name ≡ false
+unbound_still {s = s} name read did untaken =
     let taken : SessionState → Bool = λ t. is_taken_by t.names name in
-    or_no _ (is_bound inside.names name) (ap taken is ∙ ap taken did.same ∙ ap taken read.same ∙ untaken)
+    or_no _ (is_bound s.names name) (ap taken did.same ∙ ap taken read.same ∙ untaken)
   where
     or_no : (a b : Bool) → (a || b) ≡ false → b ≡ false
     or_no false b untaken = untaken
     or_no true b untaken = absurd (true≢false untaken)
 
-pub bound_went : {b c : Outside} {mid s : SessionState} (inside : SessionState) (names : List BoundName) → inside ≡ s → WentOn b c mid s → WentOn b c mid (record inside { names = names })
-bound_went inside names is went = record {
+pub bound_went : {b c : Outside} {mid s new : SessionState} (names : List BoundName) → new ≡ record s { names = names } → WentOn b c mid s → WentOn b c mid new
+bound_went names is went = record {
   only = went.only;
   log = ap (λ (t : SessionState). t.log) is ∙ went.log;
   down = ap (λ (t : SessionState). t.down) is ∙ went.down;
   moments = went.moments;
 }
+
+pub unbound_went : {b c : Outside} {mid s new : SessionState} → new ≡ s → WentOn b c mid s → WentOn b c mid new
+unbound_went {b} {c} {mid} is went = subst (λ (t : SessionState). WentOn b c mid t) (sym is) went
 
 place_last : (names : List BoundName) (b : BoundName) → place_bound (names ++ b ∷ []) ≡ record { page = b.oid.page; slot = b.oid.slot }
 place_last [] b = refl

@@ -34,22 +34,23 @@ use Rattle.volume_edits.proofs.Lists.{Paired}
 use Rattle.volume_model.specs.Parts.{HasIndex, HasLines}
 use Rattle.volume_model.specs.Shown.{working_units}
 use Rattle.volume_model.specs.Volume.{FileContent, Line, lines_of}
-use Rattle.transactions.specs.declared.session.edits.Need.{Need}
-use Rattle.transactions.specs.declared.session.moving.Limit.{Limit}
-use Rattle.transactions.specs.declared.session.objects.Named.{Named}
+use Rattle.transactions.specs.declared.edits.Need.{Need}
+use Rattle.session_core.specs.declared.session.moving.Limit.{Limit}
+use Rattle.session_core.specs.declared.session.objects.Named.{Named}
 use Rattle.transactions.specs.Editing.{destroy_refusal, has_older, is_frozen, limit_of, room_refusal}
-use Rattle.transactions.specs.Lines.{IfShown, IsMissing, IsOutside, LineStops, NamesVersion, TellsVersion, UpdatesLine}
-use Rattle.transactions.specs.Meant.{meant, held_view, pick_of}
-use Rattle.transactions.specs.Sessions.{SessionState, IsSession}
-use Rattle.transactions.specs.Steps.{OnlyFrames}
-use Rattle.transactions.specs.Updates.{HasRoomFor, HoldsTable, IfUpdated, Noted, note_with, parts_held}
+use Rattle.session_core.specs.Finding.{IfShown, IsMissing, IsOutside, LineStops, NamesVersion, TellsVersion}
+use Rattle.transactions.specs.Lines.{UpdatesLine}
+use Rattle.session_core.specs.Meant.{meant, held_view, pick_of}
+use Rattle.session_core.specs.Sessions.{SessionState, IsSession}
+use Rattle.session_core.specs.Steps.{OnlyFrames}
+use Rattle.session_core.specs.Updates.{HasRoomFor, HoldsTable, IfUpdated, Noted, note_with, parts_held}
 use Rattle.transactions.proofs.EditRefusals.{misses, names_current, opens, room_back, room_is, units_counted, update_counts}
 use Rattle.transactions.proofs.Changed.{names_then}
 use Rattle.transactions.proofs.Naming.{the_oid_named}
-use Rattle.transactions.proofs.Quiet.{with_groups}
+use Rattle.session_core.proofs.Quiet.{with_groups}
 use Rattle.transactions.proofs.Updated.{KeptTo, noted_steps, own_names, pick_then, same_machine, same_session, within_need}
 use Rattle.transactions.proofs.UpdateLines.{WentOn, counted_then, line_refused, opened_then, update_done, update_stopped}
-use Rattle.transactions.proofs.Volumes.{shown_parts, shown_table}
+use Rattle.session_core.proofs.Volumes.{shown_parts, shown_table}
 
 -- what the removal of an object may take
 abbrev pub removal_need : Need

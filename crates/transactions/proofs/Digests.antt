@@ -1,52 +1,22 @@
--- What a port that shows a view tells of the digest of a version, and how a line is answered that asks for it.
-use Rattle.std.proofs.Common.{◌≡◌, ◌∙◌, ◌≤◌, ℕ, List, [], length, take, Option, Result, Ok, Err, refl, sym, ap, arith}
-use Rattle.std.proofs.lemmas.List.{take_all}
-use Rattle.std.proofs.lemmas.Result.{IfErr-weaker, IfOk-weaker}
-use Rattle.std.specs.Prelude.{IfErr, IfOk}
+-- How a line is answered that asks for the digest of a version.
+use Rattle.std.proofs.Common.{◌≡◌, ◌∙◌, ◌≤◌, ℕ, List, [], length, Option, Ok, Err, refl, sym, ap, arith}
 use Rattle.sha2.specs.Sha256.{sha256}
-use Rattle.ex_base.specs.declared.faults.PortFault.{PortFault}
-use Rattle.ex_base.specs.declared.ground.Ground as ground
-use Rattle.ex_base.specs.declared.names.Oid.{Oid}
-use Rattle.ex_base.specs.Ports.{IsDamage}
 use Rattle.disk_model.specs.Outside.{Outside}
-use Rattle.file_index.specs.declared.Index.{Index}
-use Rattle.object_records.specs.Record.{Content}
 use Rattle.session_views.specs.declared.engine.Stop.{Stop}
-use Rattle.session_views.specs.View.{View}
 use Rattle.table_model.specs.declared.reply.Refusal.{Refusal}
 use Rattle.table_model.specs.declared.reply.Reply.TheVariants as reply
 use Rattle.table_model.specs.declared.table.Version.{Version}
 use Rattle.table_model.specs.Machines.{bytes_if}
 use Rattle.table_model.specs.Requests.{Reference}
 use Rattle.table_model.specs.Requests as request
-use Rattle.version_model.specs.Versions.{HoldsVersion}
-use Rattle.transactions.specs.declared.session.objects.Named.{Named}
-use Rattle.transactions.specs.Lines.{IfLive, IfShown, IsMissing, IsOutside, LineStops, NamesVersion, PortShows, ReadsLine}
-use Rattle.transactions.specs.Sessions.{SessionState, IsSession}
-use Rattle.transactions.specs.Steps.{OnlyFrames}
-use Rattle.transactions.proofs.Finding.{held_version, reads_live}
-use Rattle.transactions.proofs.Naming.{answers_so, frames_twice, later_stops, names_pass, refuses_missing, refuses_so, the_version}
-use Rattle.transactions.proofs.Quiet.{same_view, with_groups}
-
--- ---- through a port
-
--- the digest of as many bytes as the version has is that of the version
-of_all : (hash bytes : List ℕ) (size : ℕ) → length bytes ≡ size → hash ≡ sha256 (take size bytes) → hash ≡ sha256 bytes
-of_all hash bytes size long is = is ∙ ap sha256 (take_all size bytes (omega (arith, long)))
-
-module _ {S : Type 0} (g : ground.Ghosts S) (s : S) {before : View SessionState} (shows : PortShows g s before) (oid : Oid) (size : ℕ) (result : Result (List ℕ) PortFault) where
-  pub digests : IfOk result (λ hash. g.tells s → (index : Index) (content : Content) (bytes : List ℕ) → HoldsVersion g s index oid content bytes → (size ≤ length bytes) × (hash ≡ sha256 (take size bytes)))
-      → IfLive before oid (λ bytes. length bytes ≡ size → IfOk result (λ hash. hash ≡ sha256 bytes))
-  digests told version is long =
-      let reads = reads_live g s shows oid version is in
-      IfOk-weaker result _ _ (λ hash each. of_all hash version.bytes size long (each shows.tells reads.index reads.content version.bytes (held_version g s oid version reads)).1) told
-
-  -- no damage is told where the version has as many bytes
-  pub digests_soundly : IfErr result (λ fault. IsDamage fault → g.tells s → (index : Index) (content : Content) (bytes : List ℕ) → HoldsVersion g s index oid content bytes → size ≤ length bytes → ⊥)
-      → IfLive before oid (λ bytes. size ≤ length bytes → IfErr result (λ fault. IsDamage fault → ⊥))
-  digests_soundly never version is enough =
-      let reads = reads_live g s shows oid version is in
-      IfErr-weaker result _ _ (λ fault each damage. each damage shows.tells reads.index reads.content version.bytes (held_version g s oid version reads) enough) never
+use Rattle.session_core.specs.declared.session.objects.Named.{Named}
+use Rattle.session_core.specs.Finding.{IfLive, IfShown, IsMissing, IsOutside, LineStops, NamesVersion}
+use Rattle.transactions.specs.Lines.{ReadsLine}
+use Rattle.session_core.specs.Sessions.{SessionState, IsSession}
+use Rattle.session_core.specs.Steps.{OnlyFrames}
+use Rattle.transactions.proofs.Naming.{answers_so, names_pass, refuses_missing, refuses_so, the_version}
+use Rattle.session_core.proofs.Naming.{frames_twice, later_stops}
+use Rattle.session_core.proofs.Quiet.{same_view, with_groups}
 
 -- ---- the line
 

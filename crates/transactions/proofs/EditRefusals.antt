@@ -26,20 +26,21 @@ use Rattle.version_model.specs.Versions.{Change, Inserts, Appends, Replaces, Del
 use Rattle.versions.specs.Needs.{most_need}
 use Rattle.versions.specs.declared.finding.Found.{Found}
 use Rattle.volume_model.specs.Shown.{Held, Shows}
-use Rattle.transactions.specs.declared.session.objects.Named.{Named}
-use Rattle.transactions.specs.declared.session.edits.Need.{Need}
-use Rattle.transactions.specs.Sessions.{SessionState, IsSession}
-use Rattle.transactions.specs.Meant.{held_view, meant, pick_of, oid_asked, size_asked, fits_small, slots_at, content_at, height_of}
-use Rattle.transactions.specs.Refused.{free_in}
-use Rattle.transactions.specs.Lines.{IfLive, IfShown, IsOutside, NamesVersion, IsMissing}
-use Rattle.transactions.specs.Steps.{OnlyFrames}
+use Rattle.session_core.specs.declared.session.objects.Named.{Named}
+use Rattle.transactions.specs.declared.edits.Need.{Need}
+use Rattle.session_core.specs.Sessions.{SessionState, IsSession}
+use Rattle.session_core.specs.Meant.{held_view, meant, pick_of, oid_asked, size_asked, fits_small, slots_at, content_at, height_of}
+use Rattle.session_core.specs.Counts.{free_in}
+use Rattle.session_core.specs.Finding.{IfLive, IfShown, IsOutside, NamesVersion, IsMissing}
+use Rattle.session_core.specs.Steps.{OnlyFrames}
 use Rattle.session_views.specs.declared.engine.Stop.{Stop}
-use Rattle.transactions.proofs.Quiet.{same_view, with_groups}
-use Rattle.transactions.specs.Editing.{AsksFor, IsAdmitted, IsAnswered, fits_beside, is_outside, size_after, is_frozen, root_height, bytes_refusal, room_refusal, edit_need, edit_refusal}
+use Rattle.session_core.proofs.Quiet.{same_view, with_groups}
+use Rattle.transactions.specs.Editing.{AsksFor, IsAdmitted, IsAnswered, is_outside, is_frozen, bytes_refusal, room_refusal, edit_need, edit_refusal}
+use Rattle.session_core.specs.Needs.{fits_beside, size_after, root_height}
 use Rattle.transactions.proofs.Naming.{names_pass, refuses_missing, the_oid_named, the_size_named}
-use Rattle.transactions.proofs.Picking.{pick_small, pick_height}
-use Rattle.transactions.proofs.Refusing.{free_left, none_is_false}
-use Rattle.transactions.proofs.Showing.{session_geometry}
+use Rattle.session_core.proofs.Picking.{pick_small, pick_height}
+use Rattle.session_core.proofs.Refusing.{free_left, none_is_false}
+use Rattle.session_core.proofs.Showing.{session_geometry}
 
 -- ---- the counts
 

@@ -16,7 +16,7 @@ use Rattle.table_model.specs.declared.table.TableFile.{TableFile}
 use Rattle.table_model.specs.Tables.{file_inserted, with_file}
 use Rattle.volume_model.specs.Parts.{HasIndex, HasPages, HasLines, Apart, AllApart, HasBalance}
 use Rattle.volume_model.specs.Volume.{Stored, Line, FileContent, Volume, line_records, lines_of, stored_in, pages_of_file, file_pages, roots_in, unique_of, line_number, line_units, file_of, table_of}
-use Rattle.transactions.proofs.KeptOff.{Others}
+use Rattle.session_core.proofs.KeptOff.{Others}
 
 -- a file without pages
 abbrev pub empty_file : FileContent

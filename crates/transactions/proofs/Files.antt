@@ -16,7 +16,7 @@ use Rattle.table_model.specs.declared.reply.Refusal.TheVariants as refusal
 use Rattle.table_model.specs.Refusals.{when}
 use Rattle.table_model.proofs.Stepping.{neither, unmet}
 use Rattle.std.proofs.lemmas.Bool.{and_parts}
-use Rattle.transactions.specs.Sessions.{SessionState, IsSession}
+use Rattle.session_core.specs.Sessions.{SessionState, IsSession}
 use Rattle.transactions.specs.Refused.{file_refusal, unfile_refusal, entry_of, has_pages}
 
 -- ---- names

@@ -1,126 +1,33 @@
--- How a file is listed.
-use Rattle.std.proofs.Common.{◌≡◌, ◌∙◌, ◌⊎◌, ℕ, Bool, false, All, List, [], ◌∷◌, Option, Some, None, Result, Ok, Err, refl, sym, ap, subst, inl, inr}
-use Rattle.std.specs.Prelude.{Contains, IfOk, IfErr, IsPermutation, find, is_none, option_map}
-use Rattle.std.specs.List.{AllZip, flat_map}
+-- How a line is answered that lists a file.
+use Rattle.std.proofs.Common.{◌≡◌, ◌∙◌, ℕ, Bool, false, List, [], ◌∷◌, Option, Some, None, Ok, Err, refl, sym, ap, subst}
+use Rattle.std.specs.Prelude.{Contains, find, is_none, option_map}
 use Rattle.std.proofs.lemmas.Slice.Eq.{bytes_eq-Decides}
-use Rattle.ex_base.specs.declared.ground.Ground as ground
-use Rattle.ex_base.specs.declared.faults.PortFault.{PortFault}
 use Rattle.ex_base.specs.declared.names.Oid.{Oid}
-use Rattle.ex_base.specs.Ports.{IsDamage}
-use Rattle.ex_base.proofs.Members.{In, contains_in, in_contains}
+use Rattle.ex_base.proofs.Members.{contains_in}
 use Rattle.disk_model.specs.Outside.{Outside}
-use Rattle.buffer_groups.specs.Frames.{Frames}
-use Rattle.file_index.specs.declared.Index.{Index}
-use Rattle.file_bodies.specs.Bodies.{Row, bodies_of}
-use Rattle.file_bodies.specs.Files.{HasFile}
 use Rattle.object_files.specs.Catalog.{Catalog, FileEntry}
 use Rattle.object_files.specs.Edits.{has_name}
 use Rattle.object_files.specs.Reads.{catalog_on}
 use Rattle.table_model.specs.declared.reply.Refusal.TheVariants as refusal
 use Rattle.table_model.specs.declared.reply.Reply.TheVariants as reply
-use Rattle.table_model.specs.declared.table.Object.{Object}
-use Rattle.table_model.specs.declared.table.Table.{Table}
 use Rattle.table_model.specs.Machines.{shown}
 use Rattle.table_model.specs.Refusals.{first, when}
 use Rattle.table_model.specs.Requests as request
-use Rattle.table_model.specs.Steps.{current_oids, objects_if}
-use Rattle.table_model.specs.Tables.{current, file_at}
+use Rattle.table_model.specs.Tables.{file_at}
 use Rattle.session_views.specs.declared.engine.Stop.{Stop}
-use Rattle.session_views.specs.declared.engine.Stop.TheVariants as stop
-use Rattle.session_views.specs.View.{View, ShowsNow}
-use Rattle.version_model.specs.Listed.{AreByNumber, AreReadable, oids_of}
-use Rattle.volume_model.specs.Parts.{IsStored}
-use Rattle.volume_model.specs.Volume.{FileContent, Stored, Volume}
-use Rattle.volume_edits.specs.Ported.{HasContent, index_named}
-use Rattle.volume_edits.proofs.Contents.{contents}
+use Rattle.session_views.specs.View.{View}
 use Rattle.volume_edits.proofs.Finding.{find_in}
-use Rattle.volume_edits.proofs.Listed.{file_listed}
-use Rattle.transactions.specs.Catalogs.{FramesLend, catalog_bytes}
-use Rattle.transactions.specs.Lines.{IfFile, IfPortFile, IfShown, IsOutside, IsPortOver, LineStops, PortShows, ReadsLine, oids_listed}
-use Rattle.transactions.specs.Meant.{meant}
-use Rattle.transactions.specs.Sessions.{IsSession, SessionState}
-use Rattle.transactions.specs.Steps.{OnlyFrames, Stops}
-use Rattle.transactions.proofs.Accepted.{ReadsCatalog, shown_on}
-use Rattle.transactions.proofs.Dispatch.{damage_shows, sound_stop}
-use Rattle.transactions.proofs.Finding.{files, port_shows, port_working}
-use Rattle.transactions.proofs.Naming.{answers_so, frames_twice, later_stops, line_stops, refuses_so}
-use Rattle.transactions.proofs.Quiet.{same_view, shown_lends, with_groups}
+use Rattle.session_core.specs.Finding.{IfFile, IfShown, IsOutside, LineStops, oids_listed}
+use Rattle.transactions.specs.Lines.{ReadsLine}
+use Rattle.session_core.specs.Sessions.{IsSession, SessionState}
+use Rattle.session_core.specs.Steps.{OnlyFrames, Stops}
+use Rattle.session_core.proofs.Accepted.{ReadsCatalog, shown_on}
+use Rattle.session_core.proofs.Finding.{files}
+use Rattle.transactions.proofs.Naming.{answers_so, line_stops, refuses_so}
+use Rattle.session_core.proofs.Naming.{frames_twice, later_stops}
+use Rattle.session_core.proofs.Quiet.{same_view, shown_lends, with_groups}
 use Rattle.transactions.proofs.Refusing.{missing, same_counts}
-
--- ---- a file of a volume, through a port
-
-zip_at : {A B : Type 0} (R : A → B → Type 0) (xs : List A) (ys : List B) (x : A) → AllZip R xs ys → In x xs → (y : B) × R x y
-zip_at R [] ys x h there = absurd there
-zip_at R (z ∷ xs) [] x h there = absurd h
-zip_at {A = A} R (z ∷ xs) (y ∷ ys) x h (inl same) = (y, subst (λ (w : A). R w y) (sym same) h.0)
-zip_at R (z ∷ xs) (y ∷ ys) x h (inr later) = zip_at R xs ys x h.1 later
-
-stored_readable : (rows : List Row) (stored : List Stored) → AllZip IsStored rows stored → AreReadable rows
-stored_readable [] stored h = tt
-stored_readable (row ∷ rows) [] h = absurd h
-stored_readable (row ∷ rows) (s ∷ stored) h = ((s.body, h.0.1), stored_readable rows stored h.1)
-
-module _ {S : Type 0} (g : ground.Ghosts S) (s : S) where
-  content_here : {before : View SessionState} (shows : PortShows g s before) (e : FileEntry) → Contains shows.working.catalog.entries e → (f : FileContent) × HasContent g s e f
-  content_here shows e there = zip_at (HasContent g s) shows.working.catalog.entries shows.working.files e (contents g s shows.records shows.working shows.volume) (in_contains e shows.working.catalog.entries there)
-
-  module _ {T : Type 0} (items : T → List Oid) (file_no : ℕ) where
-    pub lists_here : (result : Result T PortFault)
-        → IfOk result (λ oids. g.tells s → (index : Index) → HasFile g s index → index.file_no ≡ file_no → IsPermutation (oids_of (bodies_of (g.image s) index)) (items oids))
-        → IfOk result (λ oids. AreByNumber (items oids)) → IfOk result (λ oids. IfPortFile g s file_no (λ before name. items oids ≡ oids_listed before.machine name))
-    lists_here (Err fault) moves sorted = tt
-    lists_here (Ok oids) moves sorted = λ before shows e there number.
-        let content = content_here shows e there in
-        let file = content.1.file in
-        file_listed g s shows.records shows.working shows.volume e (index_named e) (items oids) there file refl (moves shows.tells (index_named e) file number) sorted
-        ∙ sym (ap (λ (t : Table). flat_map (λ (o : Object). current_oids (current o.versions)) (objects_if (file_at t e.name))) shows.table)
-
-    pub lists_sound : (result : Result T PortFault)
-        → IfErr result (λ fault. IsDamage fault → g.tells s → (index : Index) → HasFile g s index → index.file_no ≡ file_no → AreReadable (bodies_of (g.image s) index) → ⊥)
-        → IfErr result (λ fault. IfPortFile g s file_no (λ before name. IsDamage fault → ⊥))
-    lists_sound (Ok oids) sound = tt
-    lists_sound (Err fault) sound = λ before shows e there number damage.
-        let content = content_here shows e there in
-        sound damage shows.tells (index_named e) content.1.file number (stored_readable (bodies_of (g.image s) (index_named e)) content.0.stored content.1.records)
-
-  -- what holds of the files of a port over a session holds of those that the session shows
-  pub file_on : {w : Outside} {old : SessionState} → IsPortOver g s w old → (file_no : ℕ) (P : View SessionState → List ℕ → Type 0) → IfPortFile g s file_no P → IfFile w old file_no P
-  file_on over file_no P each = λ before same now e there number.
-      each before (port_shows g s over before same now) e (subst (λ (v : Volume). Contains v.catalog.entries e) (sym (port_working g s over before same now)) there) number
-
--- ---- why the catalog was not read
-
-pub unread_stops : (a b : Outside) (old : SessionState) (why : Stop) → Stops a b old why → LineStops a b why
-unread_stops a b old stop.Memory stops = stops
-unread_stops a b old stop.Disk stops = stops
-unread_stops a b old (stop.Damaged page want got) stops = damage_shows a old page want got stops
-unread_stops a b old stop.Down stops = stops
-
-outside_by : (why : Stop) → (why ≡ stop.Disk) ⊎ (why ≡ stop.Memory) → IsOutside why
-outside_by why (inl is) = subst IsOutside (sym is) tt
-outside_by why (inr is) = subst IsOutside (sym is) tt
-
-pub unread_outside : {a : Outside} {old : SessionState} (b : Outside) (why : Stop) → IsSession old → Stops a b old why → IfShown a old (λ before. IsOutside why)
-unread_outside b why is stops = λ before same now. outside_by why (sound_stop b is before same now why stops)
-
--- ---- the catalog, once more after it was read
-
--- the catalog that was read is the one that the session goes on to show
-pub on_after : {a b : Outside} {old mid : SessionState} (page : List ℕ) → IsSession old → OnlyFrames a b old mid → ReadsCatalog a old page → (before : View SessionState) → before.session ≡ old → ShowsNow meant a before
-    → (later : ShowsNow meant b (with_groups before mid)) → catalog_on page ≡ later.shows.working.catalog
-on_after {a} {b} {old} {mid} page is one reads before same now later = shown_on later page (record { catalog = reads.catalog; read = λ d holds _. read_later d holds }) (shown_lends later sizes)
-  where
-    sizes : All (λ (f : Frames). f.page_size ≡ mid.geometry.page_size) mid.groups
-    sizes = subst (λ (n : ℕ). All (λ (f : Frames). f.page_size ≡ n) mid.groups) (ap (λ (s : SessionState). s.geometry.page_size) (sym one.same)) (one.sizes old.geometry.page_size is.sizes)
-
-    lends : FramesLend a old
-    lends = subst (FramesLend a) same (shown_lends now (subst (λ (s : SessionState). All (λ (f : Frames). f.page_size ≡ s.geometry.page_size) s.groups) (sym same) is.sizes))
-
-    read_later : (d : List ℕ) → b.disk ≡ Some d → page ≡ catalog_bytes mid d
-    read_later d holds =
-        let both : Some before.disk ≡ Some d = sym now.holds ∙ sym one.reads.nothing.disk ∙ holds in
-        let disk : before.disk ≡ d = cc in
-        reads.read before.disk now.holds lends ∙ ap (catalog_bytes old) disk ∙ ap (λ (s : SessionState). catalog_bytes s d) (sym one.same)
+use Rattle.session_core.proofs.Listing.{on_after, unread_outside, unread_stops}
 
 -- ---- the line
 

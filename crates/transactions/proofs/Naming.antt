@@ -1,51 +1,35 @@
 -- How a line that names a version is answered.
-use Rattle.std.proofs.Common.{◌≡◌, ◌∙◌, ℕ, ◌<◌, ◌≤◌, ◌+◌, Bool, true, false, List, [], ◌∷◌, ◌++◌, length, All, Option, Some, None, Result, Ok, Err, refl, sym, ap, subst, arith, inl, inr}
+use Rattle.std.proofs.Common.{◌≡◌, ◌∙◌, ℕ, ◌<◌, ◌≤◌, ◌+◌, Bool, true, false, List, [], ◌∷◌, ◌++◌, length, Option, Some, None, Result, Ok, Err, refl, sym, ap, subst, arith, inl, inr}
 use Rattle.std.proofs.lemmas.Bool.{le-ltb, lt-ltb}
 use Rattle.std.specs.Prelude.{is_none, nat_lt, take}
 use Rattle.std.specs.Option.{option_or}
 use Rattle.ex_base.specs.declared.names.Oid.{Oid}
 use Rattle.ex_base.specs.Bytes.{bytes_at}
-use Rattle.disk_model.specs.Outside.{Outside, ReadsOnly}
-use Rattle.disk_model.specs.Runs.{reads_trans}
-use Rattle.buffer_groups.specs.Frames.{Lends}
-use Rattle.table_model.specs.declared.machine.BoundName.{BoundName}
+use Rattle.disk_model.specs.Outside.{Outside}
 use Rattle.table_model.specs.declared.machine.Machine.{Machine}
 use Rattle.table_model.specs.declared.machine.Pick.{Pick}
 use Rattle.table_model.specs.declared.reply.Refusal.{Refusal}
 use Rattle.table_model.specs.declared.reply.Refusal.TheVariants as refusal
 use Rattle.table_model.specs.declared.reply.Reply.{Reply}
 use Rattle.table_model.specs.declared.reply.Reply.TheVariants as reply
-use Rattle.table_model.specs.declared.table.Table.{Table}
 use Rattle.table_model.specs.declared.table.Version.{Version}
 use Rattle.table_model.specs.Machines.{oid_of, shown, version_if, version_of, bytes_if, oid_if, size_of, the_oid}
 use Rattle.table_model.specs.Refusals.{first, no_name, no_object, range, refusal_of, when}
-use Rattle.table_model.specs.Requests.{Request, Reference, Bound, Numbered}
+use Rattle.table_model.specs.Requests.{Request, Reference}
 use Rattle.table_model.specs.Requests as request
 use Rattle.table_model.specs.Steps.{IsAllowed, IfAccepted, reply_to, machine_after}
 use Rattle.table_model.specs.Tables.{version_at}
 use Rattle.table_model.proofs.Stepping.{accepted, refused}
 use Rattle.session_views.specs.declared.engine.Stop.{Stop}
-use Rattle.session_views.specs.declared.engine.Stop.TheVariants as stop
 use Rattle.session_views.specs.View.{View, ShowsNow, Stepped}
-use Rattle.transactions.specs.declared.session.objects.Named.{Named}
-use Rattle.transactions.specs.Sessions.{SessionState, IsSession}
-use Rattle.transactions.specs.Meant.{meant, pick_of, held_view}
-use Rattle.transactions.specs.Steps.{OnlyFrames}
-use Rattle.transactions.specs.Lines.{IfLive, IfShown, IsMissing, IsNamed, IsOutside, IsUnnamed, LineStops, NamesVersion, ReadsLine, oid_among}
-use Rattle.volume_model.specs.Shown.{working_units}
-use Rattle.transactions.proofs.OutOfRange.{none_out_of_range}
-use Rattle.transactions.proofs.Volumes.{shown_parts, shown_table}
-use Rattle.transactions.proofs.Quiet.{same_view, with_groups}
-
--- ---- the names of a view
-
-pub oid_here : {w : Outside} {v : View SessionState} → ShowsNow meant w v → (x : Reference) → oid_of v.machine x ≡ oid_among v.session.names x
-oid_here {w} {v} now (Bound name) = ap (λ (names : List BoundName). oid_among names (Bound name)) now.shows.shared.names
-oid_here {w} {v} now (Numbered page slot unique) = refl
-
-pub oid_for : {w : Outside} {v : View SessionState} {s : SessionState} (names : List BoundName) (x : Reference) → names ≡ s.names → v.session ≡ s → ShowsNow meant w v → oid_of v.machine x ≡ oid_among names x
-oid_for {w} {v} {s} names x are same now =
-    oid_here now x ∙ ap (λ (t : SessionState). oid_among t.names x) same ∙ ap (λ (l : List BoundName). oid_among l x) (sym are)
+use Rattle.session_core.specs.declared.session.objects.Named.{Named}
+use Rattle.session_core.specs.Sessions.{SessionState, IsSession}
+use Rattle.session_core.specs.Meant.{meant, pick_of, held_view}
+use Rattle.session_core.specs.Steps.{OnlyFrames}
+use Rattle.session_core.specs.Finding.{IfLive, IfShown, IsMissing, IsNamed, IsOutside, LineStops, NamesVersion}
+use Rattle.transactions.specs.Lines.{ReadsLine}
+use Rattle.session_core.proofs.Quiet.{same_view, with_groups}
+use Rattle.session_core.proofs.Naming.{frames_twice, later_stops}
 
 -- ---- its first two refusals
 
@@ -56,14 +40,6 @@ refuses_missing m x why rest (inr (is, (oid, named, none))) =
     ap (λ (o : Option Oid). option_or (when (is_none o) refusal.NoName) (option_or (when (is_none (version_if (shown m) o)) refusal.NoObject) (first rest))) named
     ∙ ap (λ (v : Option Version). option_or (when (is_none v) refusal.NoObject) (first rest)) none
     ∙ ap (λ (w : Refusal). Some w) (sym is)
-
--- a line that names nothing, as the session tells it
-pub missing_here : {w : Outside} {v : View SessionState} {s : SessionState} (names : List BoundName) (x : Reference) (why : Refusal) → names ≡ s.names → v.session ≡ s → ShowsNow meant w v → IsUnnamed names x why → IsMissing v.machine x why
-missing_here {w} {v} {s} names x why are same now (inl (is, none)) = inl (is, oid_for names x are same now ∙ none)
-missing_here {w} {v} {s} names x why are same now (inr (is, (oid, named, out))) =
-    let d = now.shows.decoded in
-    let units = working_units d v.disk v.session.meta.working in
-    inr (is, (oid, oid_for names x are same now ∙ named, ap (λ (t : Table). version_at t oid) (shown_table now.shows) ∙ none_out_of_range d.geometry d.records units now.shows.working (shown_parts now.shows) oid out))
 
 pub the_version : (m : Machine) (x : Reference) (oid : Oid) (version : Version) → oid_of m x ≡ Some oid → version_at (shown m) oid ≡ Some version → version_of m x ≡ Some version
 the_version m x oid version named is = ap (λ (o : Option Oid). version_if (shown m) o) named ∙ is
@@ -143,24 +119,6 @@ size_refused x why only is missing = record {
   sound = tt;
   stepped = λ before same now. refuses_so (request.Size x) why only is before same now (λ q. refuses_missing before.machine x why [] (missing before same now));
 }
-
--- ---- a line that reads twice
-
-pub frames_twice : {a b c : Outside} {old mid new : SessionState} → OnlyFrames a b old mid → OnlyFrames b c mid new → OnlyFrames a c old new
-frames_twice {a} {b} {c} {old} {mid} {new} one two = record {
-  reads = reads_trans one.reads two.reads;
-  same = two.same ∙ ap (λ (s : SessionState). record s { groups = new.groups }) one.same;
-  lends = λ lends.
-      let same : b.disk ≡ a.disk = one.reads.nothing.disk in
-      subst (λ (o : Option (List ℕ)). All (Lends o) new.groups) same (two.lends (subst (λ (o : Option (List ℕ)). All (Lends o) mid.groups) (sym same) (one.lends lends)));
-  sizes = λ n sizes. two.sizes n (one.sizes n sizes);
-}
-
-pub later_stops : (a b c : Outside) (why : Stop) → ReadsOnly a b → LineStops b c why → LineStops a c why
-later_stops a b c stop.Memory reads stops = tt
-later_stops a b c stop.Disk reads stops = omega (arith, reads.nothing.only.goes.disk_faults, stops)
-later_stops a b c (stop.Damaged page want got) reads stops = stops
-later_stops a b c stop.Down reads stops = stops
 
 -- ---- bytes of a version
 

@@ -1,56 +1,36 @@
--- The refusals that a session tells are those of the machine that it shows.
-use Rattle.std.proofs.Common.{◌≡◌, ◌∙◌, ℕ, zero, suc, ◌+◌, ◌-◌, ◌≤◌, Bool, true, false, cond, List, [], ◌∷◌, length, map, Option, Some, None, is_some, refl, sym, ap, subst, arith, ◌^◌, eqb, eqb-true, eq-eqb}
+-- The refusals of commands on files are those of the machine that the session shows.
+use Rattle.std.proofs.Common.{◌≡◌, ◌∙◌, ℕ, ◌+◌, ◌-◌, Bool, true, false, cond, List, [], ◌∷◌, length, map, Option, Some, None, is_some, refl, sym, ap, subst, arith}
 use Rattle.std.specs.Prelude.{is_none, find, nat_lt, nat_le, ◌/◌, ◌||◌, bytes_eq}
 use Rattle.std.specs.Option.{option_or}
 use Rattle.ex_base.specs.declared.geometry.Geometry.{Geometry}
-use Rattle.ex_base.specs.declared.names.Area.{Area}
 use Rattle.ex_base.specs.declared.names.Area.TheVariants.{Page, Segment}
-use Rattle.ex_base.specs.Area.{unit_at}
 use Rattle.ex_base.specs.Sizes.{units}
-use Rattle.page_alloc.specs.UnitSet.{free_below, free_count, used_at}
+use Rattle.page_alloc.specs.UnitSet.{free_count, used_at}
 use Rattle.object_files.specs.Catalog.{Catalog, FileEntry}
 use Rattle.object_files.specs.Edits as entries
 use Rattle.table_model.specs.declared.table.TableFile.{TableFile}
 use Rattle.table_model.specs.declared.table.Table.{Table}
-use Rattle.table_model.specs.declared.machine.Machine.{Machine}
 use Rattle.table_model.specs.declared.machine.Pick.{Pick}
 use Rattle.table_model.specs.declared.reply.Refusal.{Refusal}
 use Rattle.table_model.specs.declared.reply.Refusal.TheVariants as refusal
 use Rattle.table_model.specs.Requests as request
 use Rattle.table_model.specs.Machines.{shown, updates_most, touched_most}
 use Rattle.table_model.specs.Needs.{free}
-use Rattle.table_model.specs.Refusals.{refusal_of, has_objects, when, no_txn}
+use Rattle.table_model.specs.Refusals.{refusal_of, has_objects, when}
 use Rattle.table_model.specs.Tables as tables
 use Rattle.session_views.specs.View.{View}
-use Rattle.volume_model.specs.Shown.{Shows, used_below, used_in}
-use Rattle.transactions.specs.Sessions.{SessionState}
-use Rattle.transactions.specs.Meant.{held_view}
-use Rattle.transactions.specs.Refused.{free_in, entry_of, has_pages, long_txn, full_pages, file_refusal, unfile_refusal}
+use Rattle.volume_model.specs.Shown.{Shows}
+use Rattle.session_core.specs.Sessions.{SessionState}
+use Rattle.session_core.specs.Meant.{held_view}
+use Rattle.session_core.specs.Counts.{free_in}
+use Rattle.transactions.specs.Refused.{entry_of, has_pages, long_txn, full_pages, file_refusal, unfile_refusal}
 use Rattle.std.proofs.lemmas.List.{length-map}
 use Rattle.object_files.specs.Catalog.{name_of}
 use Rattle.volume_model.specs.Parts.{HasIndex}
 use Rattle.volume_model.specs.Shown.{working_units}
-use Rattle.transactions.proofs.Volumes.{names_shown, shown_parts}
-use Rattle.transactions.proofs.Showing.{shows_catalog, session_geometry}
-
--- ---- the units that are free
-
-pub all_below : (used : ℕ → Bool) (at : ℕ → ℕ) (n : ℕ) → used_below used at n + free_below used at n ≡ n
-unfolding free_below
-all_below used at zero = refl
-all_below used at (suc n) = step (used (at n)) (used_below used at n) (free_below used at n) (all_below used at n)
-  where
-    step : (b : Bool) (x y : ℕ) → x + y ≡ n → (x + cond b 1 0) + (y + cond b 0 1) ≡ suc n
-    step true x y is = omega (arith, is)
-    step false x y is = omega (arith, is)
-
-pub free_left : (g : Geometry) (used : ℕ → Bool) (area : Area) → used_in g used area + free_count g used area ≡ units g area
-free_left g used area = all_below used (unit_at g area) (units g area)
-
-pub free_within : (g h : Geometry) (used : ℕ → Bool) (area : Area) (free : ℕ) → h ≡ g → free ≡ free_count h used area → free ≤ units g area
-free_within g h used area free same is =
-    let here : free ≡ free_count g used area = is ∙ ap (λ (g : Geometry). free_count g used area) same in
-    omega (arith, free_left g used area, here)
+use Rattle.session_core.proofs.Volumes.{names_shown, shown_parts}
+use Rattle.session_core.proofs.Showing.{shows_catalog, session_geometry}
+use Rattle.session_core.proofs.Refusing.{SameOpen, free_left, none_is_false}
 
 -- ---- the file of a name
 
@@ -73,18 +53,8 @@ found name (f ∷ fs) (e ∷ es) same =
       | false ↦ found name fs es both.1
     ])
 
-pub none_is_false : (o : Option Table) → is_some o ≡ true → is_none o ≡ false
-none_is_false None is = absurd (cc)
-none_is_false (Some t) is = refl
-
 below_zero : (n : ℕ) → nat_lt n 0 ≡ false
 below_zero n = grind arith
-
--- ---- as the machine tells them
-
--- the machine has a transaction open where the session has
-abbrev pub SameOpen : View SessionState → Type 0
-SameOpen v = is_some v.machine.working ≡ v.session.opened
 
 -- what the view gives of the machine
 pub record SameCounts (v : View SessionState) (c : Catalog) : Type 0 where
@@ -179,42 +149,6 @@ unfile_refused v c name q same empty opened =
     ≡ unfile_told false (is_none (entry_of c name)) (has_pages (entry_of c name)) (length v.session.notes) (length v.session.meta.working) false false (free v.machine Page) (free v.machine Segment) =
     untold (free v.machine Page) (free v.machine Segment) some absent empty (ap length same.notes) same.touched (below_zero (free v.machine Page)) (below_zero (free v.machine Segment)) in
     change
-
--- ---- of the commands that open or end a transaction
-
-pub open_refused : (v : View SessionState) (q : Pick) → SameOpen v → v.session.opened ≡ true → refusal_of v.machine request.Begin q ≡ Some refusal.TxnOpen
-open_refused v q same opened = let is : is_some v.machine.working ≡ true = same ∙ opened in rw is refl
-
-pub spent_refused : (v : View SessionState) (q : Pick) → SameOpen v → v.session.opened ≡ false → v.machine.committed.last ≡ 2 ^ 64 - 1 → refusal_of v.machine request.Begin q ≡ Some refusal.IdsSpent
-spent_refused v q same closed last =
-    let is : is_some v.machine.working ≡ false = same ∙ closed in
-    let spent = eq-eqb v.machine.committed.last (2 ^ 64 - 1) last in
-    rw (is, spent) refl
-
-pub begin_accepted : (v : View SessionState) (q : Pick) → SameOpen v → v.session.opened ≡ false → (v.machine.committed.last ≡ 2 ^ 64 - 1 → ⊥) → refusal_of v.machine request.Begin q ≡ None
-begin_accepted v q same closed last =
-    let is : is_some v.machine.working ≡ false = same ∙ closed in
-    let spent : eqb v.machine.committed.last (2 ^ 64 - 1) ≡ false = differ v.machine.committed.last last in
-    rw (is, spent) refl
-  where
-    differ : (n : ℕ) → (n ≡ 2 ^ 64 - 1 → ⊥) → eqb n (2 ^ 64 - 1) ≡ false
-    differ n isnt = (elim (eqb n (2 ^ 64 - 1)) as (λ b. eqb n (2 ^ 64 - 1) ≡ b → b ≡ false) [ true ↦ λ is. absurd (isnt (eqb-true n (2 ^ 64 - 1) is)) | false ↦ λ is. refl ]) refl
-
-none_is_true : (o : Option Table) → is_some o ≡ false → is_none o ≡ true
-none_is_true None is = refl
-none_is_true (Some t) is = absurd (cc)
-
-pub closed_refused : (m : Machine) (rest : Option Refusal) → is_some m.working ≡ false → option_or (no_txn m) rest ≡ Some refusal.NoTxn
-closed_refused m rest closed = rw (none_is_true m.working closed) refl
-
-pub checkpoint_refused : (v : View SessionState) (q : Pick) → SameOpen v → v.session.opened ≡ true → refusal_of v.machine request.Checkpoint q ≡ Some refusal.TxnOpen
-checkpoint_refused v q same opened = let is : is_some v.machine.working ≡ true = same ∙ opened in rw is refl
-
-pub checkpoint_accepted : (v : View SessionState) (q : Pick) → SameOpen v → v.session.opened ≡ false → refusal_of v.machine request.Checkpoint q ≡ None
-checkpoint_accepted v q same closed = let is : is_some v.machine.working ≡ false = same ∙ closed in rw is refl
-
-pub commit_accepted : (v : View SessionState) (q : Pick) → SameOpen v → v.session.opened ≡ true → refusal_of v.machine request.Commit q ≡ None
-commit_accepted v q same opened = rw (none_is_false v.machine.working (same ∙ opened)) refl
 
 pub abort_accepted : (v : View SessionState) (q : Pick) → SameOpen v → v.session.opened ≡ true → refusal_of v.machine request.Abort q ≡ None
 abort_accepted v q same opened = rw (none_is_false v.machine.working (same ∙ opened)) refl

@@ -29,7 +29,7 @@ use Rattle.table_model.specs.Refusals.{has_objects}
 use Rattle.volume_model.specs.Parts.{HasIndex, HasPage, HasPages, HasLines, IsStored, bodies_from, bodies_in, Apart, AllApart, HasBalance}
 use Rattle.volume_model.specs.Volume.{Stored, Line, FileContent, Volume, line_records, lines_of, stored_in, pages_of_file, file_pages, roots_in, unique_of, line_number, line_units, object_of, file_of, table_of}
 use Rattle.transactions.specs.Refused.{has_pages}
-use Rattle.transactions.proofs.KeptOff.{Others}
+use Rattle.session_core.proofs.KeptOff.{Others}
 use Rattle.transactions.proofs.Filed.{empty_file}
 use Rattle.std.proofs.lemmas.Bool.{both_ways}
 use Rattle.ex_base.proofs.Options.{none_from_test}

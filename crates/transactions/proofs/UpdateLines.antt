@@ -17,12 +17,13 @@ use Rattle.session_views.specs.declared.engine.Stop.TheVariants as stop
 use Rattle.session_views.specs.View.{View, ShowsNow, StandsDuring, Stepped}
 use Rattle.std.specs.Prelude.{is_some, true, false}
 use Rattle.volume_model.specs.Shown.{Held}
-use Rattle.transactions.specs.Lines.{IfShown, IsOutside, LineStops, UpdatesLine}
-use Rattle.transactions.specs.Meant.{meant, pick_of, held_view}
-use Rattle.transactions.specs.Sessions.{SessionState, IsSession}
-use Rattle.transactions.specs.Steps.{OnlyFrames}
-use Rattle.transactions.proofs.Naming.{later_stops}
-use Rattle.transactions.proofs.Quiet.{nothing_changed, quiet_moments, same_view, with_groups}
+use Rattle.session_core.specs.Finding.{IfShown, IsOutside, LineStops}
+use Rattle.transactions.specs.Lines.{UpdatesLine}
+use Rattle.session_core.specs.Meant.{meant, pick_of, held_view}
+use Rattle.session_core.specs.Sessions.{SessionState, IsSession}
+use Rattle.session_core.specs.Steps.{OnlyFrames}
+use Rattle.session_core.proofs.Naming.{later_stops}
+use Rattle.session_core.proofs.Quiet.{nothing_changed, quiet_moments, same_view, with_groups}
 
 -- ---- a line that read at most
 

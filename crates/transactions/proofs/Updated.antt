@@ -26,16 +26,17 @@ use Rattle.table_model.proofs.Keeping.{is_working}
 use Rattle.table_model.proofs.Stepping.{passes, unmet}
 use Rattle.session_views.specs.View.{View, ShowsNow, Stepped}
 use Rattle.volume_model.specs.Shown.{used_in}
-use Rattle.transactions.specs.declared.session.edits.Need.{Need}
-use Rattle.transactions.specs.declared.session.moving.Limit.{Limit}
+use Rattle.transactions.specs.declared.edits.Need.{Need}
+use Rattle.session_core.specs.declared.session.moving.Limit.{Limit}
 use Rattle.transactions.specs.Editing.{full_in, limit_of, room_refusal}
-use Rattle.transactions.specs.Meant.{meant, held_view, pick_of}
-use Rattle.transactions.specs.Refused.{free_in, long_txn}
-use Rattle.transactions.specs.Sessions.{SessionState, IsSession}
-use Rattle.transactions.specs.Updates.{HoldsTable, Noted, parts_held}
-use Rattle.transactions.proofs.Accepted.{took_place}
-use Rattle.transactions.proofs.Refusing.{free_left, none_is_false}
-use Rattle.transactions.proofs.Showing.{session_geometry}
+use Rattle.session_core.specs.Meant.{meant, held_view, pick_of}
+use Rattle.session_core.specs.Counts.{free_in}
+use Rattle.transactions.specs.Refused.{long_txn}
+use Rattle.session_core.specs.Sessions.{SessionState, IsSession}
+use Rattle.session_core.specs.Updates.{HoldsTable, Noted, parts_held}
+use Rattle.session_core.proofs.Accepted.{took_place}
+use Rattle.session_core.proofs.Refusing.{free_left, none_is_false}
+use Rattle.session_core.proofs.Showing.{session_geometry}
 
 -- a session with other names
 pub renamed : (s : SessionState) (names : List BoundName) → IsSession s → IsSession (record s { names = names })

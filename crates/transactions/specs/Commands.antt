@@ -6,10 +6,10 @@ use Rattle.table_model.specs.Requests.{Request}
 use Rattle.table_model.specs.Requests as request
 use Rattle.session_views.specs.declared.engine.Stop.{Stop}
 use Rattle.session_views.specs.View.{View, ShowsNow, Stepped, StandsDuring}
-use Rattle.transactions.specs.Lines.{IfShown, IsOutside, LineStops}
-use Rattle.transactions.specs.Meant.{meant}
-use Rattle.transactions.specs.Sessions.{SessionState}
-use Rattle.transactions.specs.Steps.{IsQuiet, IsRefused, OnlyFrames, Stops}
+use Rattle.session_core.specs.Finding.{IfShown, IsOutside, LineStops}
+use Rattle.session_core.specs.Meant.{meant}
+use Rattle.session_core.specs.Sessions.{SessionState}
+use Rattle.session_core.specs.Steps.{IsQuiet, IsRefused, OnlyFrames, Stops}
 
 -- The command makes, changes or removes a version. What it writes of a tree goes to units that are not in use, at once.
 abbrev pub changes_objects : Request → Bool

@@ -1,17 +1,16 @@
 -- What a line that edits a version asks for, why it is refused, and what it leaves.
-use Rattle.std.specs.Prelude.{◌≡◌, ◌≤◌, ◌^◌, ℕ, ◌+◌, ◌-◌, ◌==◌, ◌||◌, List, [], ◌∷◌, length, Bool, true, false, nat_lt, if◌then◌else◌, Option, Some, None, is_none, is_some, find, bytes_eq, Result, Ok, Err, nat_le, ◌&&◌}
+use Rattle.std.specs.Prelude.{◌≡◌, ◌≤◌, ◌^◌, ℕ, ◌+◌, ◌-◌, ◌==◌, ◌||◌, List, [], ◌∷◌, length, Bool, true, false, nat_lt, if◌then◌else◌, Option, Some, None, is_some, find, bytes_eq, Result, Ok, Err}
 use Rattle.std.specs.List.{list_any}
 use Rattle.std.specs.Option.{option_or}
 use Rattle.object_files.specs.Catalog.{Catalog, FileEntry}
 use Rattle.object_files.specs.Edits.{has_name}
 use Rattle.table_model.specs.declared.machine.BoundName.{BoundName}
-use Rattle.transactions.specs.declared.session.creation.NewObject.{NewObject}
+use Rattle.transactions.specs.declared.creation.NewObject.{NewObject}
 use Rattle.ex_base.specs.Sizes.{object_most}
 use Rattle.ex_base.specs.declared.geometry.Geometry.{Geometry}
 use Rattle.ex_base.specs.declared.names.Area.{Area}
 use Rattle.ex_base.specs.declared.names.Area.TheVariants.{Page, Segment}
 use Rattle.ex_base.specs.declared.names.Oid.{Oid}
-use Rattle.ex_base.specs.declared.names.Root.{Root}
 use Rattle.ex_base.specs.declared.names.OpNote.{OpNote}
 use Rattle.ex_base.specs.declared.notes.NoteKind.TheVariants as note_kind
 use Rattle.object_records.specs.declared.Head.{Head}
@@ -28,20 +27,18 @@ use Rattle.table_model.specs.Requests as request
 use Rattle.table_model.specs.Steps.{note}
 use Rattle.table_model.specs.Words.{data_bytes}
 use Rattle.versions.specs.declared.finding.Found.{Found}
-use Rattle.slotted_pages.specs.FilePage.{room_of}
-use Rattle.slotted_pages.specs.Edits.{slots_of}
 use Rattle.session_views.specs.View.{View}
-use Rattle.version_model.specs.Versions.{record_len, Change, Inserts, Appends, Replaces, Deletes, count_of}
-use Rattle.versions.specs.Needs.{most_need}
-use Rattle.transactions.specs.declared.session.edits.Need.{Need}
-use Rattle.transactions.specs.declared.session.moving.Limit.{Limit}
-use Rattle.transactions.specs.declared.session.objects.Named.{Named}
+use Rattle.version_model.specs.Versions.{Change, Inserts, Appends, Replaces, Deletes, count_of}
+use Rattle.transactions.specs.declared.edits.Need.{Need}
+use Rattle.session_core.specs.declared.session.moving.Limit.{Limit}
 use Rattle.volume_model.specs.Shown.{Held}
-use Rattle.transactions.specs.declared.session.edits.Admitted.{Admitted}
-use Rattle.transactions.specs.Lines.{held_image, NamesVersion}
-use Rattle.transactions.specs.Meant.{held_view, pick_of}
-use Rattle.transactions.specs.Refused.{free_in, long_txn}
-use Rattle.transactions.specs.Sessions.{SessionState}
+use Rattle.transactions.specs.declared.edits.Admitted.{Admitted}
+use Rattle.session_core.specs.Finding.{NamesVersion}
+use Rattle.session_core.specs.Needs.{fits_beside, size_after, units_need}
+use Rattle.session_core.specs.Meant.{held_view, pick_of}
+use Rattle.session_core.specs.Counts.{free_in}
+use Rattle.transactions.specs.Refused.{long_txn}
+use Rattle.session_core.specs.Sessions.{SessionState}
 
 -- the line asks for this change of the version that the reference names
 abbrev pub AsksFor : Request → Reference → Change → Type 0
@@ -57,13 +54,6 @@ is_outside (Inserts pos given) size = nat_lt size pos
 is_outside (Appends given) size = false
 is_outside (Replaces pos given) size = nat_lt size (pos + length given)
 is_outside (Deletes pos len) size = nat_lt size (pos + len)
-
--- the size after it
-abbrev pub size_after : Change → ℕ → ℕ
-size_after (Inserts pos given) size = size + length given
-size_after (Appends given) size = size + length given
-size_after (Replaces pos given) size = size
-size_after (Deletes pos len) size = size - len
 
 -- the note that it leaves, of an object of this size before
 abbrev pub edit_note : Change → Oid → ℕ → OpNote
@@ -88,15 +78,6 @@ abbrev pub bytes_refusal : Found → Change → Option Refusal
 bytes_refusal found change =
     first (when (is_frozen found.head.state) refusal.Frozen ∷ when (is_outside change found.size) refusal.Range ∷ when (nat_lt object_most (size_after change found.size)) refusal.TooLarge ∷ [])
 
--- the height of a tree, 0 where there is none
-abbrev pub root_height : Option Root → ℕ
-root_height None = 0
-root_height (Some root) = root.height
-
--- the units of an area that the change may take: none where it names no bytes or the version stays small
-abbrev pub units_need : Geometry → Found → Change → Bool → Area → ℕ
-units_need g found change small area = if count_of change == 0 || small then 0 else most_need g change (root_height found.root) area
-
 -- what the change of a version may take: one logged page is touched, that of its record
 abbrev pub edit_need : Geometry → Found → Change → Bool → Need
 edit_need g found change small = record { charge = 1; pages = units_need g found change small Page; segs = units_need g found change small Segment }
@@ -118,14 +99,6 @@ room_refusal s need = first (long_txn s need.charge ∷ full_in s Page need.page
 -- what the update may leave at the most of touched pages, and at the least of free units
 abbrev pub limit_of : SessionState → Need → Limit
 limit_of s need = record { touched = length s.meta.working + need.charge; pages = free_in s Page - need.pages; segs = free_in s Segment - need.segs }
-
--- the bytes that more bodies may take on the page where an OID leads
-abbrev pub room_beside : View SessionState → Oid → ℕ
-room_beside before oid = room_of before.session.geometry.page_size (slots_of (held_image (held_view before).session before.disk oid.page.0))
-
--- the version is small, and its record would fit its page with so many bytes
-abbrev pub fits_beside : View SessionState → Named → ℕ → Bool
-fits_beside before version n = is_none version.found.root && nat_le (record_len n) (record_len version.found.size + room_beside before version.oid)
 
 -- The machine answers a line that asks for the change of the version so: by this refusal, or by none where it accepts the line, whatever the view after.
 abbrev pub IsAnswered : View SessionState → Reference → Change → Option Refusal → Type 0

@@ -1,11 +1,5 @@
-pub mod Meant
-pub mod Sessions
-pub mod Catalogs
 pub mod Refused
-pub mod Steps
 pub mod Lines
 pub mod Commands
-pub mod Updates
 pub mod Editing
-pub mod Commits
-pub mod Summaries
+pub mod Asking

@@ -1,24 +1,15 @@
 -- Why a command is refused, as a session tells it from its catalog and its counts.
 use Rattle.std.specs.Prelude.{ℕ, ◌+◌, ◌-◌, List, [], ◌∷◌, length, Bool, false, ◌||◌, nat_le, nat_lt, Option, Some, None, is_some, is_none, find}
-use Rattle.ex_base.specs.declared.names.Area.{Area}
 use Rattle.ex_base.specs.declared.names.Area.TheVariants.{Page}
-use Rattle.ex_base.specs.Sizes.{files_most, units}
-use Rattle.page_alloc.specs.UnitSet.{free_count, used_at}
+use Rattle.ex_base.specs.Sizes.{files_most}
 use Rattle.object_files.specs.Catalog.{Catalog, FileEntry}
 use Rattle.object_files.specs.Edits.{has_name}
 use Rattle.table_model.specs.declared.reply.Refusal.{Refusal}
 use Rattle.table_model.specs.declared.reply.Refusal.TheVariants as refusal
 use Rattle.table_model.specs.Machines.{updates_most, touched_most}
 use Rattle.table_model.specs.Refusals.{when, first}
-use Rattle.transactions.specs.Sessions.{SessionState}
-
--- the units of an area that are not in use
-abbrev pub free_in : SessionState → Area → ℕ
-free_in s area = free_count s.units.geometry (used_at s.units) area
-
--- those that are
-abbrev pub used_of : SessionState → Area → ℕ
-used_of s area = units s.geometry area - free_in s area
+use Rattle.session_core.specs.Sessions.{SessionState}
+use Rattle.session_core.specs.Counts.{free_in}
 
 -- the update may touch n pages more
 abbrev pub long_txn : SessionState → ℕ → Option Refusal

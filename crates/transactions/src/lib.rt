@@ -1,6 +1,16 @@
-//! A session on a volume: the commands of transactions, over the log, the logged pages, the units and the frames.
+//! The lines of a script, stepped on a session: what each asks, why it is refused, and what it is answered.
 #![tactic(auto)]
 
-mod session;
+mod asked;
+mod changes;
+mod commands;
+mod creation;
+mod edits;
+mod needs;
+mod reads;
+mod refuse;
+mod removal;
+mod tell;
+mod updates;
 
-pub use session::{Parts, Session, Summary};
+pub use commands::step;

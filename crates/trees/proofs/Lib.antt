@@ -1,9 +1,11 @@
 pub mod TreeLaws
 pub mod SameUnits
+pub mod KeptRoots
 pub mod Balance
 pub mod Owned
 pub mod Released
 pub mod Owning
+pub mod OwnedTrees
 pub mod FewOwners
 pub mod Parts
 pub mod Sizes
@@ -14,6 +16,7 @@ pub mod Ways
 pub mod Counts
 pub mod Laid
 pub mod Over
+pub mod SpanLaws
 pub mod RowReads
 pub mod Kept
 pub mod RootSteps

@@ -14,9 +14,12 @@ use Rattle.trees.specs.Trees.{Units, bytes_on}
 use Rattle.trees.specs.declared.rows.Part.{Part}
 use Rattle.ex_base.specs.declared.faults.PortFault.{PortFault}
 use Rattle.ex_base.specs.declared.faults.PortFault.TheVariants.{Disk, Memory, Damaged}
-use Rattle.trees.specs.Damage.{IsSoundWay, IsWalkFault}
+use Rattle.count_nodes.specs.Node.{pairs_on}
+use Rattle.trees.specs.Damage.{IsSoundWay, IsWalkFault, IsNodeAt}
+use Rattle.trees.specs.Spans.{IsSpan}
+use Rattle.trees.proofs.SpanLaws.{span_trees, span_bytes}
 use Rattle.trees.proofs.Blame.{any_at}
-use Rattle.trees.specs.Rows.{row_bytes, row_size, AreTrees, IsRowOn}
+use Rattle.trees.specs.Rows.{row_bytes, row_size, parts_of, AreTrees}
 use Rattle.trees.proofs.TreeLaws.{AreWhole}
 use Rattle.trees.proofs.Reading.{no_part, row_trees, row_spells, part_of_front, trees_back, bytes_back}
 use Rattle.trees.proofs.Sizes.{around_row, size-front}
@@ -31,17 +34,22 @@ leaf_read u zero tree pos len out low fits is =
     is ∙ sym (part_of_front (u tree.page.0) pos len tree.size fits) ∙ ap (λ xs. take len (drop pos xs)) (sym (append-nil (take tree.size (u tree.page.0))))
 leaf_read u (suc l) tree pos len out low fits is = absurd (omega arith)
 
-pub node_read : {S : Type 0} (g : ground.Ghosts S) (a b : S) (l : ℕ) (tree : Part) (below lent : List Part) (pos len : ℕ) (out : List ℕ) → l ≢ 0 → lent ≡ below → Keeps g a b
-    → (g.tells a → IsRowOn (g.geometry a) (g.unit a tree.page.0) l tree.size below)
-    → (g.tells b → AreTrees (g.geometry b) (g.unit b) (l - 1) lent → out ≡ take len (drop pos (row_bytes (g.unit b) (l - 1) lent)))
+pub node_read : {S : Type 0} (g : ground.Ghosts S) (a b : S) (l least : ℕ) (tree : Part) (trees lent : List Part) (pos len inside : ℕ) (out : List ℕ) → g.ready a → l ≢ 0 → lent ≡ trees → Keeps g a b
+    → (g.tells a → IsNodeAt (g.geometry a) (g.unit a) l tree.size least tree.page.0)
+    → (g.tells a → IsSpan (parts_of 0 (pairs_on (g.unit a tree.page.0))) pos len trees inside)
+    → (g.tells b → AreTrees (g.geometry b) (g.unit b) (l - 1) lent → out ≡ take len (drop inside (row_bytes (g.unit b) (l - 1) lent)))
     → g.tells a → AreTrees (g.geometry a) (g.unit a) l (tree ∷ []) → out ≡ take len (drop pos (row_bytes (g.unit a) l (tree ∷ [])))
-node_read g a b zero tree below lent pos len out above same k found read told own = absurd (above refl)
-node_read g a b (suc l) tree below lent pos len out above same k found read told own =
-    let read' : g.tells b → AreTrees (g.geometry b) (g.unit b) l below → out ≡ take len (drop pos (row_bytes (g.unit b) l below)) = rw (sub-one, same) at read in
-    let on = found told in
-    let trees_below = row_trees (g.geometry a) (g.unit a) l tree.page.0 tree.size below own.0.0 own.0.1 on.parts in
-    bytes_back g a b l len pos below out k (read' (g.leads_told a b k.leads told) (trees_back g a b l below k trees_below))
-    ∙ ap (λ xs. take len (drop pos xs)) (row_spells (g.unit a) l tree.page.0 tree.size below on.parts ∙ sym (append-nil (bytes_on (g.unit a) (suc l) tree.page.0 tree.size)))
+node_read g a b zero least tree trees lent pos len inside out ready above same k node span read told own = absurd (above refl)
+node_read g a b (suc l) least tree trees lent pos len inside out ready above same k node span read told own =
+    let read' : g.tells b → AreTrees (g.geometry b) (g.unit b) l trees → out ≡ take len (drop inside (row_bytes (g.unit b) l trees)) = rw (sub-one, same) at read in
+    let geo = g.geometry a in
+    let u = g.unit a in
+    let below = parts_of 0 (pairs_on (g.unit a tree.page.0)) in
+    let trees_below : AreTrees (g.geometry a) (g.unit a) l (parts_of 0 (pairs_on (g.unit a tree.page.0))) = row_trees (g.geometry a) (g.unit a) l tree.page.0 tree.size (parts_of 0 (pairs_on (g.unit a tree.page.0))) own.0.0 own.0.1 (node told).row.parts in
+    bytes_back g a b l len inside trees out k
+    (read' (g.leads_told a b k.leads told) (trees_back g a b l trees k (span_trees (parts_of 0 (pairs_on (g.unit a tree.page.0))) trees pos len inside (span told) (g.geometry a) (g.unit a) l trees_below)))
+    ∙ sym (span_bytes (parts_of 0 (pairs_on (g.unit a tree.page.0))) trees pos len inside (span told) (g.geometry a) (g.unit a) l (g.whole a ready told) trees_below)
+    ∙ ap (λ xs. take len (drop pos xs)) (row_spells (g.unit a) l tree.page.0 tree.size (parts_of 0 (pairs_on (g.unit a tree.page.0))) (node told).row.parts ∙ sym (append-nil (bytes_on (g.unit a) (suc l) tree.page.0 tree.size)))
 
 -- a fault on the way down from one tree of a row
 pub walk_tree : (geo : Geometry) (u : Units) (level least i : ℕ) (row : List Part) (fault : PortFault) → i < length row → IsWalkFault geo u level least (get_or row i no_part ∷ []) fault → IsWalkFault geo u level least row fault

@@ -1,6 +1,7 @@
 pub mod Shape
 pub mod Trees
 pub mod Rows
+pub mod Spans
 pub mod Damage
 pub mod Made
 pub mod Built
@@ -8,3 +9,4 @@ pub mod Roots
 pub mod Owners
 pub mod Counted
 pub mod Grown
+pub mod Shown

@@ -4,12 +4,14 @@
 
 mod faults;
 mod leaves;
+mod lent_nodes;
 mod nodes;
 mod read;
 mod root_step;
 mod roots;
 mod rows;
 mod shape_laws;
+mod spans;
 
 pub use faults::{no_leaf, no_node};
 pub use leaves::{Change, write_leaves};

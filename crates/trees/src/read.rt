@@ -7,7 +7,8 @@ ghost use Rattle.trees.specs.Damage.{IsLeafFault, IsSoundWay, IsWalkFault};
 ghost use Rattle.trees.specs.Rows.{row_size, row_bytes, AreTrees, FitLeaves};
 
 use crate::faults::no_leaf;
-use crate::rows::{Part, row_of};
+use crate::rows::Part;
+use crate::spans::span_of;
 use ex_base::{PortFault, ReadBlocks};
 use std::alloc::Global;
 
@@ -67,9 +68,9 @@ fn read_tree<B: ReadBlocks>(
     if level == 0 {
         return read_leaf(blocks, alloc, tree, pos, out);
     }
-    let below = row_of(blocks, alloc, level, tree, least)?;
+    let span = span_of(blocks, alloc, level, tree, least, pos, out.len() as u64)?;
     let fan = blocks.geometry().fan;
-    read_row(blocks, alloc, level - 1, fan, &below, pos, out)
+    read_row(blocks, alloc, level - 1, fan, &span.row, span.inside, out)
 }
 
 /// Reads a part of what a row of trees of this level spells, from a position of the row on. The nodes of the row have at least so many children.

@@ -1,14 +1,13 @@
 //! Rows: trees of one level side by side.
 ghost use Rattle.std.specs.Prelude.{◌≡◌, ◌≤◌, ◌<◌, ◌+◌, ◌*◌, ◌++◌, ◌∷◌, ◌↔◌, [], length, take, drop, IfOk, IfErr, OnOk, IsTrue, ℕ};
 ghost use Rattle.ex_base.specs.Area.{NamesLeaf};
-ghost use Rattle.count_nodes.specs.Node.{RiseFrom};
 ghost use Rattle.ex_base.specs.Ports.{Keeps, HasCause};
 ghost use Rattle.trees.specs.Damage.{NamesNode, IsNodeFault};
-ghost use Rattle.trees.specs.Rows.{parts_of, AreHalfFull, IsCounted, IsRowOn};
+ghost use Rattle.trees.specs.Rows.{IsCounted, IsRowOn};
 
 use crate::faults::no_node;
-use count_nodes::view::NodeView;
-use ex_base::{Geometry, PageNo, PortFault, ReadBlocks, Seen};
+use crate::lent_nodes::{asked_node, children};
+use ex_base::{Geometry, PageNo, PortFault, ReadBlocks};
 use std::alloc::{AllocError, Global};
 
 /// A tree below a root: the number of its bytes, and its root page or its leaf.
@@ -35,32 +34,6 @@ pub fn names_node(geometry: &Geometry, page: PageNo) -> bool
     page != PageNo::CATALOG && geometry.in_page_area(page)
 }
 
-/// The children of a node.
-fn children(alloc: Global, node: &NodeView) -> Result<Vec<Part>, AllocError>
-    requires { RiseFrom 0 node.now.pairs }
-    ensures { IfOk result (λ row. row.items ≡ parts_of 0 node.now.pairs) }
-{
-    let mut row = Vec::with_capacity(alloc, node.len() as usize)?;
-    let mut before = 0;
-    for index in 0..node.len() {
-        let pair = node.pair(index);
-        let part = Part {
-            size: pair.count - before,
-            page: pair.page,
-        };
-        put(&mut row, part)?;
-        before = pair.count;
-    }
-    Ok(row)
-}
-
-/// Whether each leaf is half full.
-fn are_half_full(row: &[Part], full: u32) -> bool
-    ensures { IsTrue result ↔ AreHalfFull full row.now }
-{
-    row.iter().all(|part| (full / 2) as u64 <= part.size && part.size <= full as u64)
-}
-
 /// The children that stand on a page, where it is the node that its parent asks.
 fn row_on(
     alloc: Global,
@@ -76,26 +49,10 @@ fn row_on(
         (IsNodeFault geometry.now bytes.now level part.size least part.page.0) }
     ensures cause { (before now : ℕ) → HasCause before now result }
 {
-    let Some(node) = NodeView::of(bytes, geometry.fan) else {
-        return Err(no_node(part.page, level, part.size));
-    };
-    let want = Seen::node(level, part.size);
-    let got = Seen::node(node.level(), node.total());
-    if got != want {
-        return Err(PortFault::Damaged {
-            page: part.page,
-            want,
-            got,
-        });
+    match asked_node(bytes, geometry, level, part, least) {
+        Ok(node) => Ok(children(alloc, &node, 0, node.len())?),
+        Err(fault) => Err(fault),
     }
-    if node.len() < least {
-        return Err(no_node(part.page, level, part.size));
-    }
-    let row = children(alloc, &node)?;
-    if level == 1 && !are_half_full(&row, geometry.leaf_bytes()) {
-        return Err(no_node(part.page, level, part.size));
-    }
-    Ok(row)
 }
 
 /// The children of a node of a level, which has at least so many: the fan, or 2 where it is a root. A page that isn't this node, as its parent names

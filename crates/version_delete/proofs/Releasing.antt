@@ -320,17 +320,19 @@ module _ {S : Type 0} (g : ground.Ghosts S) where
     pub released : Released g old now (level - 1) (pages_of (take i row))
     pub gives : Gives g old now
     pub cost : steps + g.free old Page ≡ before + g.free now Page
+    pub rises : before ≤ steps
 
   pub so_far_start : (old : S) (level : ℕ) (row : List Part) (steps : ℕ) → SoFar old old level row 0 steps steps
-  so_far_start old level row steps = record { released = released_none old (level - 1); gives = gives_none old; cost = refl }
+  so_far_start old level row steps = record { released = released_none old (level - 1); gives = gives_none old; cost = refl; rises = omega arith }
 
   pub so_far_more : (old now next : S) (level : ℕ) (row : List Part) (i before mid steps : ℕ) → i < length row → SoFar old now level row i before mid
-      → Released g now next (level - 1) ((get_or row i no_part).page.0 ∷ []) → Gives g now next → steps + g.free now Page ≡ mid + g.free next Page → SoFar old next level row (i + 1) before steps
-  so_far_more old now next level row i before mid steps lt h more gives cost = record {
+      → Released g now next (level - 1) ((get_or row i no_part).page.0 ∷ []) → Gives g now next → steps + g.free now Page ≡ mid + g.free next Page → mid ≤ steps → SoFar old next level row (i + 1) before steps
+  so_far_more old now next level row i before mid steps lt h more gives cost rises = record {
     released = subst (λ (ps : List ℕ). Released g old next (level - 1) ps) (sym (ap pages_of (take_more row i no_part lt) ∙ map-append (λ (part : Part). part.page.0) (take i row) (get_or row i no_part ∷ [])))
         (released_on old now next (level - 1) (pages_of (take i row)) ((get_or row i no_part).page.0 ∷ []) h.gives h.released more);
     gives = gives_on old now next h.gives gives;
     cost = omega (arith, h.cost, cost);
+    rises = omega (arith, h.rises, rises);
   }
 
   -- all of them

@@ -1,5 +1,5 @@
 //! An owner is taken away from a tree.
-ghost use Rattle.std.specs.Prelude.{◌≡◌, ◌+◌, ℕ, List, [], ◌∷◌, OnOk, IfErr};
+ghost use Rattle.std.specs.Prelude.{◌≡◌, ◌+◌, ◌≤◌, ℕ, List, [], ◌∷◌, OnOk, IfErr};
 ghost use Rattle.ex_base.specs.Ports.{HasCause};
 ghost use Rattle.ex_base.specs.declared.names.Area.TheVariants.{Page};
 ghost use Rattle.trees.specs.Owners.{root_pages};
@@ -7,20 +7,22 @@ ghost use Rattle.trees.specs.Counted.{HasCounts};
 ghost use Rattle.version_delete.specs.Released.{AreApart, Gives, Released, Blames};
 ghost use Rattle.trees.specs.Damage.{IsLeafFault, root_row};
 
+use crate::count_blocks::CountBlocks;
 use crate::steps::Steps;
-use ex_base::{Blocks, PageNo, PortFault, ROOT_LEAST, Root};
+use ex_base::{PageNo, PortFault, ROOT_LEAST, Root};
 use std::alloc::Global;
 use std::sync::ledger::Ledger;
 use trees::{Part, names_node, no_leaf, no_node, row_of};
 
 /// Takes an owner away from a leaf. Where none is left it is given back.
-fn release_leaf<B: Blocks>(blocks: &mut B, page: PageNo) -> Result<(), PortFault>
+fn release_leaf<B: CountBlocks>(blocks: &mut B, page: PageNo) -> Result<(), PortFault>
     requires ready { B.ready blocks.old }
     requires counts { HasCounts B.Ground blocks.old }
     requires apart { AreApart B.Ground blocks.old }
     ensures released { OnOk result (Released B.Ground blocks.old blocks.new 0 (page.0 ∷ [])) }
     ensures gives { Gives B.Ground blocks.old blocks.new }
     ensures pages { B.free blocks.new Page ≡ B.free blocks.old Page }
+    ensures idle { B.idle blocks.old blocks.new }
     ensures fault { IfErr result (λ fault. IsLeafFault (B.geometry blocks.old) page fault) }
     ensures cause { HasCause (B.faults blocks.old) (B.faults blocks.new) result }
 {
@@ -34,7 +36,7 @@ fn release_leaf<B: Blocks>(blocks: &mut B, page: PageNo) -> Result<(), PortFault
 }
 
 /// Takes an owner away from the tree of a level. Where none is left the unit is given back, and each unit that it names has an owner less.
-fn release<B: Blocks, L: Ledger>(
+fn release<B: CountBlocks, L: Ledger>(
     blocks: &mut B,
     alloc: Global,
     level: u8,
@@ -50,6 +52,8 @@ fn release<B: Blocks, L: Ledger>(
     ensures gives { Gives B.Ground blocks.old blocks.new }
     ensures cost { OnOk result (steps.new + B.free blocks.old Page ≡ steps.old
         + B.free blocks.new Page) }
+    ensures rises { steps.old ≤ steps.new }
+    ensures idle { steps.new ≡ steps.old → B.idle blocks.old blocks.new }
     ensures fault { IfErr result (λ fault. Blames B.Ground blocks.old level least (tree
         ∷ []) fault) }
     ensures cause { HasCause (B.faults blocks.old) (B.faults blocks.new) result }
@@ -79,8 +83,8 @@ fn release<B: Blocks, L: Ledger>(
     Ok(())
 }
 
-/// Takes an owner away from the tree of a root.
-pub fn release_tree<B: Blocks, L: Ledger>(
+/// Takes an owner away from the tree of a root. Each node that is read is given back, and where none was read the disk wasn't called.
+pub fn release_tree<B: CountBlocks, L: Ledger>(
     blocks: &mut B,
     alloc: Global,
     root: &Root,
@@ -94,6 +98,8 @@ pub fn release_tree<B: Blocks, L: Ledger>(
     ensures gives { Gives B.Ground blocks.old blocks.new }
     ensures cost { OnOk result (steps.new + B.free blocks.old Page ≡ steps.old
         + B.free blocks.new Page) }
+    ensures rises { steps.old ≤ steps.new }
+    ensures idle { steps.new ≡ steps.old → B.idle blocks.old blocks.new }
     ensures fault { IfErr result (λ fault. Blames B.Ground blocks.old root.now.height 2
         (root_row root.now) fault) }
     ensures cause { HasCause (B.faults blocks.old) (B.faults blocks.new) result }

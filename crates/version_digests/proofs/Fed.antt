@@ -9,7 +9,7 @@ use Rattle.ex_base.specs.Bytes.{bytes_at}
 use Rattle.ex_base.specs.Ports.{Keeps}
 use Rattle.ex_base.proofs.Keeping.{keeps_on}
 use Rattle.object_records.specs.Record.{Content}
-use Rattle.file_index.specs.declared.Index.{Index}
+use Rattle.index_pages.specs.declared.Index.{Index}
 use Rattle.version_model.specs.Versions.{HoldsVersion}
 use Rattle.versions.proofs.Standing.{kept_holds}
 

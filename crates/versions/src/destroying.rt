@@ -4,7 +4,7 @@ ghost use Rattle.ex_base.specs.Ports.{HasCause, IsDamage};
 ghost use Rattle.ex_base.specs.declared.names.Area.TheVariants.{Page};
 ghost use Rattle.object_records.specs.Record.{Content, Record};
 ghost use Rattle.object_records.specs.declared.State.TheVariants.{Current};
-ghost use Rattle.file_index.specs.declared.Index.{Index};
+ghost use Rattle.index_pages.specs.declared.Index.{Index};
 ghost use Rattle.file_bodies.specs.Files.{HasFileOf};
 ghost use Rattle.file_bodies.specs.Places.{RemovesBody};
 ghost use Rattle.version_model.specs.Versions.{HasRecord, HasVersion, Stands, place_of};

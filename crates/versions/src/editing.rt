@@ -7,7 +7,7 @@ ghost use Rattle.object_records.specs.Record.{Content, Record, Small, BodyOf, Is
 ghost use Rattle.object_records.specs.Reads.{small_record};
 ghost use Rattle.object_records.specs.declared.Head.{Head};
 ghost use Rattle.object_records.specs.declared.State.TheVariants.{Current};
-ghost use Rattle.file_index.specs.declared.Index.{Index};
+ghost use Rattle.index_pages.specs.declared.Index.{Index};
 ghost use Rattle.file_bodies.specs.Files.{HasFileOf, HasBody};
 ghost use Rattle.version_model.specs.Versions.{HasRecord, HasVersion, Stands, Change, AreInUse, EditsVersion, StaysSmall, FitsIn, InRange, changed, count_of, lone_head, place_of};
 ghost use Rattle.ex_base.specs.Needs.{growth_need};

@@ -5,7 +5,7 @@ ghost use Rattle.ex_base.specs.Ports.{Keeps, HasCause, IsDamage};
 ghost use Rattle.object_records.specs.Record.{Content, Record, BodyOf, IsRecord};
 ghost use Rattle.object_records.specs.Reads.{small_record};
 ghost use Rattle.object_records.specs.declared.Head.{Head};
-ghost use Rattle.file_index.specs.declared.Index.{Index};
+ghost use Rattle.index_pages.specs.declared.Index.{Index};
 ghost use Rattle.file_bodies.specs.Files.{HasFileOf, HasBody};
 ghost use Rattle.trees.specs.Roots.{IsRootFor};
 ghost use Rattle.version_model.specs.Versions.{HasRecord, HoldsVersion, Stands, place_of};
@@ -66,6 +66,86 @@ fn told_of(body: &[u8], geometry: &Geometry, oid: &Oid) -> Result<Option<Found>,
     }
 }
 
+/// What a record tells, as `told_of` tells it. Of a small version the bytes from a position on are copied, as many as `out` holds, where it has them.
+fn told_reading(
+    body: &[u8],
+    geometry: &Geometry,
+    oid: &Oid,
+    pos: u64,
+    out: &mut [u8],
+) -> Result<Option<Found>, PortFault>
+    ensures some { IfOk result
+        (λ found. IfSome found (λ found. IsTold geometry.now oid.now.unique body.now found)) }
+    ensures none { IfOk result (λ found. IfNone found ((is : Record) → BodyOf body.now is
+        → is.head.unique ≡ oid.now.unique → ⊥)) }
+    ensures bytes { IfOk result (λ found. IfSome found (λ found. found.root ≡ None
+        → pos + length out.old ≤ found.size → (head : Head) (bytes : List ℕ)
+        → BodyOf body.now (small_record head bytes)
+        → out.new ≡ bytes_at bytes pos (length out.old))) }
+    ensures len { length out.new ≡ length out.old }
+    ensures sound { IfErr result (λ fault. IsRecordBody geometry.now body.now → ⊥) }
+    ensures fault { IfErr result (IsBodyFault geometry.now oid.now body.now) }
+    ensures cause { (before now : ℕ) → HasCause before now result }
+{
+    let told = told_of(body, geometry, oid)?;
+    if let Some(found) = told {
+        if found.root.is_none() && is_inside(pos, out.len(), found.size) {
+            copy_record(body, place_of(oid), pos, out)?;
+        }
+    }
+    Ok(told)
+}
+
+/// What is told of the version that an OID names, as `find` tells it. Of a small version the bytes from a position on are copied, as many as `out` holds,
+/// where it has them.
+fn find_reading<V: ReadVolume>(
+    volume: &mut V,
+    alloc: Global,
+    oid: &Oid,
+    pos: u64,
+    out: &mut [u8],
+) -> Result<Option<Found>, PortFault>
+    requires { V.ready volume.old }
+    ensures stands { IfOk result (λ found. IfSome found (λ _. V.tells volume.old
+        → HasFileOf V.Ground volume.old oid.now.page.0 → Stands V.Ground volume.old oid.now)) }
+    ensures told { IfOk result (λ found. V.tells volume.old → (index : Index) (is : Record)
+        → HasRecord V.Ground volume.old index oid.now is → found ≡ Some (found_of is)) }
+    ensures size { IfOk result (λ found. V.tells volume.old
+        → (index : Index) (content : Content) (bytes : List ℕ)
+        → HoldsVersion V.Ground volume.old index oid.now content bytes
+        → IfSome found (λ found. found.size ≡ length bytes)) }
+    ensures bytes { IfOk result (λ found. IfSome found (λ found. V.tells volume.old
+        → found.root ≡ None → pos + length out.old ≤ found.size
+        → (index : Index) (content : Content) (bytes : List ℕ)
+        → HoldsVersion V.Ground volume.old index oid.now content bytes
+        → out.new ≡ bytes_at bytes pos (length out.old))) }
+    ensures len { length out.new ≡ length out.old }
+    ensures head { IfOk result
+        (λ found. IfSome found (λ found. IsRecord (small_record found.head []))) }
+    ensures small { IfOk result (λ found. IfSome found (λ found. found.root ≡ None
+        → found.size < 65536)) }
+    ensures root { IfOk result (λ found. IfSome found (λ found. IfSome found.root
+        (λ root. IsRootFor (V.geometry volume.old) root))) }
+    ensures large { IfOk result (λ found. IfSome found (λ found. IfSome found.root
+        (λ root. found.size ≡ root.size))) }
+    ensures reads { IfOk result (λ found. IfSome found (λ found. V.tells volume.old
+        → IsFoundAt (V.geometry volume.old) (V.image volume.old) oid.now found)) }
+    ensures sound { IfErr result (λ fault. IsDamage fault → V.tells volume.old
+        → HasFileOf V.Ground volume.old oid.now.page.0
+        → IsReadable V.Ground volume.old (place_of oid.now) → ⊥) }
+    ensures fault { IfErr result (λ fault. V.tells volume.old
+        → IsFindingFault (V.geometry volume.old) (V.image volume.old) oid.now fault) }
+    ensures kept { Keeps V.Ground volume.old volume.new }
+    ensures cause { HasCause (V.faults volume.old) (V.faults volume.new) result }
+{
+    let geometry = volume.geometry();
+    match body_at(volume, alloc, place_of(oid)) {
+        Ok(Some(body)) => told_reading(body, &geometry, oid, pos, out),
+        Ok(None) => Ok(None),
+        Err(fault) => Err(fault),
+    }
+}
+
 /// What is told of the version that an OID names. None exactly where no record with its unique number stands where it leads.
 pub fn find<V: ReadVolume>(
     volume: &mut V,
@@ -99,12 +179,7 @@ pub fn find<V: ReadVolume>(
     ensures kept { Keeps V.Ground volume.old volume.new }
     ensures cause { HasCause (V.faults volume.old) (V.faults volume.new) result }
 {
-    let geometry = volume.geometry();
-    match body_at(volume, alloc, place_of(oid)) {
-        Ok(Some(body)) => told_of(body, &geometry, oid),
-        Ok(None) => Ok(None),
-        Err(fault) => Err(fault),
-    }
+    find_reading(volume, alloc, oid, 0, &mut [])
 }
 
 /// What is told of a version that a call asks for, else the fault of its place.
@@ -230,11 +305,11 @@ pub fn read_at<V: ReadVolume>(
     ensures cause { HasCause (V.faults volume.old) (V.faults volume.new) result }
 {
     let place = place_of(oid);
-    let told = find(volume, alloc, oid)?;
+    let told = find_reading(volume, alloc, oid, pos, out)?;
     let found = stood(told, place)?;
     check(is_inside(pos, out.len(), found.size), place)?;
     match found.root {
-        None => read_small(volume, alloc, place, pos, out),
+        None => Ok(()),
         Some(root) => read(volume, alloc, &root, pos, out),
     }
 }

@@ -13,7 +13,7 @@ use Rattle.ex_base.proofs.Counts.{contains_times, times-append}
 use Rattle.ex_base.proofs.Members.{In, contains_in, in_contains, in_left, in_right, of_each}
 use Rattle.ex_base.proofs.Each.{each_with}
 use Rattle.op_log.specs.declared.record.LogRecord.{LogRecord}
-use Rattle.file_index.specs.declared.Index.{Index}
+use Rattle.index_pages.specs.declared.Index.{Index}
 use Rattle.file_index.specs.Changes.{count_of}
 use Rattle.file_index.specs.Index.{IsFilesPage, pages_of}
 use Rattle.file_index.proofs.Counts.{count_most, is_counted}

@@ -12,7 +12,7 @@ use Rattle.ex_base.proofs.Each.{split_each}
 use Rattle.ex_base.proofs.Counts.{contains_times, times_apart, times_contains}
 use Rattle.ex_base.proofs.Members.{In, contains_in, in_contains}
 use Rattle.op_log.specs.declared.record.LogRecord.{LogRecord}
-use Rattle.file_index.specs.declared.Index.{Index}
+use Rattle.index_pages.specs.declared.Index.{Index}
 use Rattle.file_bodies.specs.Bodies.{Row}
 use Rattle.file_bodies.specs.Files.{HasFile, EditsFile}
 use Rattle.object_files.specs.Catalog.{FileEntry, name_of, number_of}

@@ -20,7 +20,7 @@ use Rattle.ex_base.proofs.Members.{In, contains_in, each_in, from_flat, in_conta
 use Rattle.op_log.specs.declared.record.LogRecord.{LogRecord}
 use Rattle.slotted_pages.specs.FilePage.{FilePage, Slot, SlotsOf}
 use Rattle.slotted_pages.specs.Reads.{page_on}
-use Rattle.file_index.specs.declared.Index.{Index}
+use Rattle.index_pages.specs.declared.Index.{Index}
 use Rattle.file_index.specs.Index.{IsFilesPage, IsIndex, keys_of, pages_of}
 use Rattle.file_index.proofs.Counts.{count_most, is_counted}
 use Rattle.file_index.proofs.Heights.{keys_of_pages, index_of_pages}

@@ -8,7 +8,7 @@ use Rattle.ex_base.specs.Area.{catalog_no}
 use Rattle.ex_base.specs.Ports.{times}
 use Rattle.ex_base.proofs.Counts.{times-append}
 use Rattle.slotted_pages.specs.Reads.{page_on}
-use Rattle.file_index.specs.declared.Index.{Index}
+use Rattle.index_pages.specs.declared.Index.{Index}
 use Rattle.file_index.specs.Index.{keys_of, pages_of}
 use Rattle.file_bodies.specs.Files.{all_pages}
 use Rattle.object_files.specs.Catalog.{FileEntry, Catalog}

@@ -13,7 +13,7 @@ use Rattle.ex_base.specs.Order.{Rising, RisingTexts, AllDiffer}
 use Rattle.ex_base.proofs.Each.{split_each}
 use Rattle.ex_base.proofs.Members.{In, contains_in, each_in, in_contains, of_each}
 use Rattle.op_log.specs.declared.record.LogRecord.{LogRecord}
-use Rattle.file_index.specs.declared.Index.{Index}
+use Rattle.index_pages.specs.declared.Index.{Index}
 use Rattle.file_bodies.specs.Bodies.{Row, bodies_of}
 use Rattle.file_bodies.specs.Files.{HasFile, index_at}
 use Rattle.object_files.specs.Catalog.{FileEntry, name_of}

@@ -9,7 +9,7 @@ use Rattle.ex_base.proofs.Members.{In, in_left, in_right}
 use Rattle.op_log.specs.declared.record.LogRecord.{LogRecord}
 use Rattle.slotted_pages.specs.FilePage.{FilePage, Slot}
 use Rattle.slotted_pages.specs.Reads.{page_on}
-use Rattle.file_index.specs.declared.Index.{Index}
+use Rattle.index_pages.specs.declared.Index.{Index}
 use Rattle.file_index.specs.Index.{keys_of, pages_of}
 use Rattle.file_bodies.specs.Bodies.{Row, row_of, bodies_of}
 use Rattle.file_bodies.specs.Files.{index_at}

@@ -14,7 +14,7 @@ use Rattle.ex_base.proofs.Counts.{none_or_some, not_equal, same_or_not, times-ap
 use Rattle.ex_base.proofs.Members.{each_in, in_left, in_right}
 use Rattle.op_log.specs.declared.record.LogRecord.{LogRecord}
 use Rattle.slotted_pages.specs.FilePage.{Slot}
-use Rattle.file_index.specs.declared.Index.{Index}
+use Rattle.index_pages.specs.declared.Index.{Index}
 use Rattle.file_index.specs.Changes.{count_of}
 use Rattle.file_index.proofs.Counts.{count_most, count_is}
 use Rattle.file_bodies.specs.Files.{HasFile, EditsFile, all_pages, with_index}

@@ -13,7 +13,7 @@ use Rattle.ex_base.proofs.Each.{split_each, each_parted, each_with}
 use Rattle.ex_base.proofs.Counts.{differ_once, times_here}
 use Rattle.ex_base.proofs.Members.{In, in_right, of_each}
 use Rattle.op_log.specs.declared.record.LogRecord.{LogRecord}
-use Rattle.file_index.specs.declared.Index.{Index}
+use Rattle.index_pages.specs.declared.Index.{Index}
 use Rattle.file_bodies.specs.Bodies.{Row, bodies_of, pages_in}
 use Rattle.object_records.specs.Record.{Content, Small, Large, Record, BodyOf}
 use Rattle.trees.specs.Trees.{root_units, RootNamed}

@@ -6,7 +6,7 @@ use Rattle.ex_base.specs.declared.names.Oid.{Oid}
 use Rattle.ex_base.specs.Area.{catalog_no}
 use Rattle.ex_base.specs.Ports.{PutsImage}
 use Rattle.op_log.specs.declared.record.LogRecord.{LogRecord}
-use Rattle.file_index.specs.declared.Index.{Index}
+use Rattle.index_pages.specs.declared.Index.{Index}
 use Rattle.file_bodies.specs.Files.{with_index}
 use Rattle.object_files.specs.Catalog.{FileEntry, Catalog, CatalogOf}
 use Rattle.trees.specs.Trees.{Units, root_units}

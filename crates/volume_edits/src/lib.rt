@@ -8,7 +8,7 @@ ghost use Rattle.ex_base.specs.declared.names.Oid.{Oid};
 ghost use Rattle.ex_base.specs.Ports.{Keeps, GivesUnit};
 ghost use Rattle.op_log.specs.declared.record.LogRecord.{LogRecord};
 ghost use Rattle.file_bodies.specs.Files.{HasFile, HasFiles};
-ghost use Rattle.file_index.specs.declared.Index.{Index};
+ghost use Rattle.index_pages.specs.declared.Index.{Index};
 ghost use Rattle.file_bodies.specs.Bodies.{bodies_of};
 ghost use Rattle.file_bodies.specs.Places.{RemovesBody};
 ghost use Rattle.object_files.specs.Catalog.{FileEntry, name_of};

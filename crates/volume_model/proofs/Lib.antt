@@ -9,3 +9,6 @@ pub mod RulesOfTable
 pub mod WholeUnits
 pub mod NoneBad
 pub mod OpenedView
+pub mod FoundRows
+pub mod ExactView
+pub mod ScansKept

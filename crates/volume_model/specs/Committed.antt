@@ -13,6 +13,7 @@ use Rattle.op_log.specs.declared.record.LogRecord.{LogRecord}
 use Rattle.op_log.specs.declared.record.PageImage.{PageImage}
 use Rattle.trees.specs.Trees.{root_units}
 use Rattle.volume_model.specs.Durable.{Agrees}
+use Rattle.volume_model.specs.Homes.{home}
 use Rattle.volume_model.specs.Parts.{Decodes, HoldsOf, StandsFor, content_parts}
 use Rattle.volume_model.specs.Shown.{PageRow, WorkingRow, IsWorkingPage, working_units}
 use Rattle.volume_model.specs.Volume.{Volume, Decoded, table_of, units_of, file_pages, roots_in, stored_in}
@@ -42,6 +43,10 @@ with_records d records v = record { geometry = d.geometry; records = records; vo
 abbrev pub StandsForVolume : Decoded → List ℕ → List ℕ → Type 0
 StandsForVolume d disk image = StandsFor image (table_of (units_of d disk) d.volume)
 
+-- Each unit from the catalog's page on of which the log had no image stands at its home as it did.
+abbrev pub HomesStay : Decoded → List ℕ → List ℕ → Type 0
+HomesStay d disk later = (unit : ℕ) → catalog_no ≤ unit → logged d.records unit ≡ None → home d.geometry later unit ≡ home d.geometry disk unit
+
 -- ---- a checkpoint
 
 -- On the later disk, with these records, the volume is what it was: the same in each page after the log.
@@ -49,10 +54,11 @@ pub record SameAfterLog (d : Decoded) (disk : List ℕ) (records : List LogRecor
   pub pages : (page : ℕ) → catalog_no ≤ page → units_of (with_records d records d.volume) later page ≡ units_of d disk page
   pub table : table_of (units_of (with_records d records d.volume) later) d.volume ≡ table_of (units_of d disk) d.volume
 
--- No record counts any more, and the volume is what it was.
+-- No record counts any more, and the volume is what it was. Units that the log didn't have are at home as before.
 pub record Checkpointed (d : Decoded) (disk : List ℕ) (may_leave : List ℕ → Type 0) (later : List ℕ) (log : LogState) (overlay : List PageRow) : Type 0 where
   pub same : SameAfterLog d disk [] later
   pub committed : Committed may_leave (with_records d [] d.volume) later log overlay
+  pub homes : HomesStay d disk later
 
 -- ---- a commit
 
@@ -86,7 +92,8 @@ pub record MayCommit (d : Decoded) (disk : List ℕ) (rows : List WorkingRow) (t
 abbrev pub IsStale : Decoded → List WorkingRow → ℕ → Type 0
 IsStale d rows page = (lookup (nat_eq page) rows ≡ Some None) × (logged d.records page ≢ None)
 
--- The working volume is committed: the log ends with the transaction's record, behind the records of before or none.
+-- The working volume is committed: the log ends with the transaction's record, behind the records of before or none. Units that the log
+-- didn't have are at home as before.
 pub record CommittedAs (d : Decoded) (disk : List ℕ) (rows : List WorkingRow) (txn : ℕ) (notes : List OpNote) (working : Volume)
     (may_leave : List ℕ → Type 0) (later : List ℕ) (log : LogState) (overlay : List PageRow) : Type 0 where
   pub earlier : List LogRecord
@@ -97,6 +104,7 @@ pub record CommittedAs (d : Decoded) (disk : List ℕ) (rows : List WorkingRow) 
   pub pages : (page : ℕ) → catalog_no ≤ page → ¬ IsStale d rows page
       → units_of (with_records d (earlier ++ record_of txn notes rows ∷ []) working) later page ≡ working_units d disk rows page
   pub table : table_of (units_of (with_records d (earlier ++ record_of txn notes rows ∷ []) working) later) working ≡ table_of (working_units d disk rows) working
+  pub homes : HomesStay d disk later
 
 -- During a commit an image stands for the committed table or for the working one.
 abbrev pub StandsForEither : Decoded → List ℕ → List WorkingRow → Volume → List ℕ → Type 0

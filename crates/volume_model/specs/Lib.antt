@@ -1,7 +1,9 @@
 pub mod Volume
 pub mod Parts
 pub mod Durable
+pub mod Homes
 pub mod Shown
+pub mod OwnersShown
 pub mod Committed
 pub mod SameVolume
 pub mod CrashImage

@@ -19,35 +19,14 @@ use Rattle.file_index.proofs.Frame.{same_under}
 use Rattle.object_files.specs.Catalog.{FileEntry, CatalogOf}
 use Rattle.object_records.specs.Record.{Content, Small, Large}
 use Rattle.trees.specs.Shape.{IsBalanced}
-use Rattle.trees.specs.Trees.{Units, root_units, root_units_at, root_shape_at, root_bytes_at, RootNamed, RootSized}
-use Rattle.trees.proofs.SameUnits.{Kept, units_same, bytes_same, shape_same, named_same, sized_same}
+use Rattle.trees.specs.Trees.{Units, root_units, RootNamed}
+use Rattle.trees.proofs.KeptRoots.{bytes_of_root, named_root, shape_of_root, sized_root}
+pub use Rattle.trees.proofs.KeptRoots.{RootKept, units_of_root}
+use Rattle.trees.proofs.SameUnits.{Kept}
 use Rattle.volume_model.specs.Parts.{HasIndex, HasPage, HasPages, Apart, AllApart, HasNodes, HasBalance, HoldsOf, content_parts}
 use Rattle.volume_model.specs.Volume.{Stored, Line, FileContent, Volume, line_records, lines_of, stored_in, pages_of_file, file_pages, root_in, roots_in, line_units, reach_of, content_in, version_of, object_of, file_of, table_of}
 
 -- ---- roots
-
-abbrev pub RootKept : Units → Units → Root → Type 0
-RootKept old new root = Kept old new (root_units old root)
-
-pub units_of_root : (old new : Units) (height : ℕ) (page : Option PageNo) → Kept old new (root_units_at old height page) → root_units_at new height page ≡ root_units_at old height page
-units_of_root old new height None kept = refl
-units_of_root old new height (Some page) kept = units_same old new height page.0 kept
-
-bytes_of_root : (old new : Units) (height size : ℕ) (page : Option PageNo) → Kept old new (root_units_at old height page) → root_bytes_at new height size page ≡ root_bytes_at old height size page
-bytes_of_root old new height size None kept = refl
-bytes_of_root old new height size (Some page) kept = bytes_same old new height page.0 size kept
-
-shape_of_root : (old new : Units) (height size : ℕ) (page : Option PageNo) → Kept old new (root_units_at old height page) → root_shape_at new height size page ≡ root_shape_at old height size page
-shape_of_root old new height size None kept = refl
-shape_of_root old new height size (Some page) kept = ap (λ shape. Some (height, shape)) (shape_same old new height page.0 size kept)
-
-named_root : (g : Geometry) (old new : Units) (height : ℕ) (page : Option PageNo) → Kept old new (root_units_at old height page) → RootNamed g old height page → RootNamed g new height page
-named_root g old new height None kept h = h
-named_root g old new height (Some page) kept h = named_same g old new height page.0 kept h
-
-sized_root : (g : Geometry) (old new : Units) (height size : ℕ) (page : Option PageNo) → Kept old new (root_units_at old height page) → RootSized g old height size page → RootSized g new height size page
-sized_root g old new height size None kept h = h
-sized_root g old new height size (Some page) kept h = sized_same g old new height page.0 size kept h
 
 balance_kept : (g : Geometry) (old new : Units) (root : Root) → RootKept old new root → HasBalance g old root → HasBalance g new root
 balance_kept g old new root kept h = record {

@@ -1,5 +1,5 @@
 -- A running session, and when it shows a volume.
-use Rattle.std.specs.Prelude.{◌≡◌, ◌⊎◌, ◌↔◌, ℕ, zero, suc, ◌+◌, ◌<◌, Bool, true, false, List, [], ◌∷◌, ◌++◌, length, map, Option, Some, None, IsSome, is_some, Contains, nat_eq, if◌then◌else◌}
+use Rattle.std.specs.Prelude.{◌≡◌, ◌⊎◌, ◌↔◌, ℕ, zero, suc, ◌+◌, Bool, true, false, List, [], ◌∷◌, ◌++◌, length, map, Option, Some, None, IsSome, is_some, Contains, nat_eq, if◌then◌else◌}
 use Rattle.std.specs.List.{flat_map, AllByRecursion, AllZip}
 use Rattle.std.specs.Map.{lookup}
 use Rattle.ex_base.specs.declared.geometry.Geometry.{Geometry}
@@ -13,7 +13,8 @@ use Rattle.ex_base.specs.Sizes.{units}
 use Rattle.op_log.specs.AfterLog.{logged, after_log}
 use Rattle.op_log.specs.Log.{log_end}
 use Rattle.op_log.specs.State.{LogState}
-use Rattle.trees.specs.Trees.{Units, RootSpells, root_units, units_from}
+use Rattle.trees.specs.Shown.{BytesShown}
+use Rattle.trees.specs.Trees.{Units, root_units, units_from}
 use Rattle.table_model.specs.declared.machine.BoundName.{BoundName}
 use Rattle.table_model.specs.declared.machine.GroupRow.{GroupRow}
 use Rattle.table_model.specs.declared.machine.ScanRow.{ScanRow}
@@ -97,11 +98,7 @@ abbrev pub WorkingShown : Decoded → View Held → Volume → Option Table → 
 WorkingShown d v working None = (v.session.working_pages ≡ []) × (working ≡ d.volume)
 WorkingShown d v working (Some table) = ShowsWorking d v working table
 
--- A scan's root spells its bytes; without a root the session holds them, and they are fewer than a page.
-abbrev pub BytesShown : Geometry → Units → List ℕ → List ℕ → Option Root → Type 0
-BytesShown g units bytes small None = (bytes ≡ small) × (length bytes < g.page_size)
-BytesShown g units bytes small (Some root) = RootSpells g units root bytes
-
+-- The scan of this row of the machine is open, and its bytes are those that it shows.
 pub record ScanShown (g : Geometry) (units : Units) (row : ScanRow) (held : HeldScan) : Type 0 where
   pub name : row.name ≡ held.name
   pub pos : row.pos ≡ held.pos

@@ -2,19 +2,25 @@
 //! leave of it. It has definitions and their laws alone.
 #![tactic(auto)]
 
-ghost use Rattle.std.specs.Prelude.{◌≡◌, ◌≢◌, ℕ, Bool, List, [], length, slice_index};
+ghost use Rattle.std.specs.Prelude.{◌≡◌, ◌≢◌, ◌↔◌, ◌++◌, ℕ, Bool, true, List, [], length, slice_index, Contains};
+ghost use Rattle.std.specs.List.{AllZip};
 ghost use Rattle.ex_base.specs.Area.{catalog_no, page_at};
 ghost use Rattle.ex_base.specs.declared.geometry.Geometry.{Geometry};
+ghost use Rattle.ex_base.specs.declared.names.Root.{Root};
 ghost use Rattle.object_files.specs.Catalog.{CatalogOf, fresh_catalog};
+ghost use Rattle.session_views.specs.View.{View};
 ghost use Rattle.session_views.specs.declared.Part.{Part};
 ghost use Rattle.table_model.specs.declared.table.Table.{Table};
 ghost use Rattle.table_model.specs.Tables.{empty_table, IsTable};
-ghost use Rattle.volume_model.specs.Committed.{Committed, with_records};
+ghost use Rattle.volume_model.specs.Committed.{Committed, HomesStay, with_records};
 ghost use Rattle.op_log.specs.State.{LogState};
 ghost use Rattle.volume_model.specs.Durable.{Agrees};
 ghost use Rattle.volume_model.specs.FreshView.{KnowsUnits, OpenedView};
+ghost use Rattle.volume_model.specs.Homes.{home};
+ghost use Rattle.volume_model.specs.OwnersShown.{NoImage, OwnedStay, OwnersOf};
 ghost use Rattle.volume_model.specs.Parts.{Decodes, FirstBad, StandsFor, SuperOf};
-ghost use Rattle.volume_model.specs.Volume.{Decoded, table_of, units_of};
+ghost use Rattle.volume_model.specs.Shown.{Held, OverlayShown, ScanShown, Shows, reach_of_view, trees_of_view};
+ghost use Rattle.volume_model.specs.Volume.{Volume, Decoded, file_pages, table_of, units_of};
 
 pub use session_views::Part;
 
@@ -69,4 +75,32 @@ pub fn an_opened_volume_shows_its_table()
         ≡ table_of (units_of d image) d.volume
         → KnowsUnits (with_records d [] d.volume) disk used held
         → OpenedView (λ left. left ≡ disk) (with_records d [] d.volume) disk log used held table }
+{}
+
+/// Where a view shows, whatever a crash may leave, and each unit of a tree has as many references as owners, just the units that it reaches are used,
+/// and no page of a file lies in a tree.
+pub fn owned_units_are_reached()
+    ensures reached { (v : View Held) (shows : Shows NoImage v)
+        → (refs : ℕ → ℕ) (gained lost : List Root)
+        → OwnersOf shows.decoded v refs gained lost shows.working
+        → (unit : ℕ) → (v.session.used unit ≡ true)
+        ↔ Contains (reach_of_view shows.decoded v shows.working) unit }
+    ensures apart { (v : View Held) (shows : Shows NoImage v)
+        → (refs : ℕ → ℕ) (gained lost : List Root)
+        → OwnersOf shows.decoded v refs gained lost shows.working → (page : ℕ)
+        → Contains (file_pages shows.decoded.volume ++ file_pages shows.working) page
+        → ¬ Contains (trees_of_view shows.decoded v shows.working) page }
+{}
+
+/// Where each unit of a tree has as many references as owners, of which open scans are some, a scan shows the same bytes on a later disk on which the
+/// units that have an owner stand at home as they did. They do over a checkpoint and a commit.
+pub fn open_scans_keep_their_bytes()
+    ensures kept { (d : Decoded) (v : View Held) (working : Volume) (refs : ℕ → ℕ) (gained lost
+        : List Root) → OwnersOf d v refs gained lost working → (later : List ℕ)
+        → OwnedStay d refs v.disk later
+        → AllZip (ScanShown d.geometry (home d.geometry v.disk)) v.machine.scans v.session.scans
+        → AllZip (ScanShown d.geometry (home d.geometry later)) v.machine.scans v.session.scans }
+    ensures committed { (d : Decoded) (v : View Held) (working : Volume) (refs : ℕ → ℕ) (gained lost
+        : List Root) → OwnersOf d v refs gained lost working → OverlayShown d v
+        → (later : List ℕ) → HomesStay d v.disk later → OwnedStay d refs v.disk later }
 {}

@@ -3,3 +3,4 @@ pub mod Moving
 pub mod WorkingRows
 pub mod ReadingAlone
 pub mod Staying
+pub mod Giving

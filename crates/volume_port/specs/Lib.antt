@@ -1,3 +1,4 @@
+pub mod Giving
 pub mod Logged
 pub mod Ported
 pub mod Reading

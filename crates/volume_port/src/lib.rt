@@ -3,6 +3,7 @@
 #![tactic(auto)]
 
 mod blocks;
+mod giving_port;
 mod ground;
 mod law;
 mod logged;
@@ -11,6 +12,7 @@ mod port;
 mod reading;
 mod reading_port;
 
+pub use giving_port::GivingPort;
 pub use law::committed_pages_stay;
 pub use logged::LoggedPages;
 pub use port::VolumePort;

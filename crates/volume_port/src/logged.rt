@@ -3,14 +3,15 @@ ghost use Rattle.std.specs.Prelude.{◌≡◌, ◌<◌, ℕ, true, false, length
 ghost use Rattle.ex_base.specs.Area.{area_end, catalog_no};
 
 use ex_base::{Geometry, PageNo};
+use page_alloc::Filled;
 use std::alloc::{AllocError, Global};
 use std::marker::Model;
 
 /// Which logged pages the working state has, and which of them the open transaction took. Contracts see two lists of flags, by page number.
 #[derive(Drop)]
 pub struct LoggedPages {
-    held: Vec<bool>,
-    taken: Vec<bool>,
+    held: Filled<bool>,
+    taken: Filled<bool>,
 }
 
 impl Model for LoggedPages {
@@ -19,7 +20,7 @@ impl Model for LoggedPages {
 
     ghost Value = { LoggedSet };
 
-    ghost view = { λ p. record { held = p.held.items; taken = p.taken.items } };
+    ghost view = { λ p. record { held = p.held; taken = p.taken } };
 }
 
 impl LoggedPages {
@@ -33,19 +34,19 @@ impl LoggedPages {
         ensures taken_len { IfOk result (λ s. length s.taken ≡ area_end geometry.now) }
     {
         let pages = (PageNo::CATALOG.0 + geometry.pages) as usize;
-        let mut held = vec![in alloc; false; pages]?;
-        held[PageNo::CATALOG.0 as usize] = true;
+        let mut held = Filled::make(alloc, false, pages)?;
+        held.set(PageNo::CATALOG.0 as usize, true);
         Ok(LoggedPages {
             held,
-            taken: vec![in alloc; false; pages]?,
+            taken: Filled::make(alloc, false, pages)?,
         })
     }
 
     /// Whether the working state has each page, by page number.
-    pub fn held(&self) -> &[bool]
+    pub fn held(&self) -> &Filled<bool>
         ensures { result.now ≡ self.now.held }
     {
-        self.held.as_slice()
+        &self.held
     }
 
     /// Whether the working state has a page.
@@ -53,7 +54,7 @@ impl LoggedPages {
         requires { page.0 < length self.now.held }
         ensures { result ≡ is_held self.now page.0 }
     {
-        self.held[page.0 as usize]
+        self.held.get(page.0 as usize)
     }
 
     /// Whether the transaction took a page.
@@ -61,7 +62,7 @@ impl LoggedPages {
         requires { page.0 < length self.now.taken }
         ensures { result ≡ is_taken self.now page.0 }
     {
-        self.taken[page.0 as usize]
+        self.taken.get(page.0 as usize)
     }
 
     /// The working state has a page, which the transaction did not take. An opening says so of each page of a file.
@@ -70,8 +71,8 @@ impl LoggedPages {
         requires taken { page.0 < length self.old.taken }
         ensures { self.new ≡ record { held = slice_set self.old.held page.0 true; taken = slice_set self.old.taken page.0 false } }
     {
-        self.held[page.0 as usize] = true;
-        self.taken[page.0 as usize] = false;
+        self.held.set(page.0 as usize, true);
+        self.taken.set(page.0 as usize, false);
     }
 
     /// The transaction takes a page.
@@ -80,8 +81,8 @@ impl LoggedPages {
         requires taken { page.0 < length self.old.taken }
         ensures { self.new ≡ record { held = slice_set self.old.held page.0 true; taken = slice_set self.old.taken page.0 true } }
     {
-        self.held[page.0 as usize] = true;
-        self.taken[page.0 as usize] = true;
+        self.held.set(page.0 as usize, true);
+        self.taken.set(page.0 as usize, true);
     }
 
     /// A page is given back.
@@ -90,7 +91,7 @@ impl LoggedPages {
         requires taken { page.0 < length self.old.taken }
         ensures { self.new ≡ record { held = slice_set self.old.held page.0 false; taken = slice_set self.old.taken page.0 false } }
     {
-        self.held[page.0 as usize] = false;
-        self.taken[page.0 as usize] = false;
+        self.held.set(page.0 as usize, false);
+        self.taken.set(page.0 as usize, false);
     }
 }

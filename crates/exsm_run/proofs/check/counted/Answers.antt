@@ -2,7 +2,7 @@ use Rattle.std.proofs.Common.{◌≡◌, ◌⊎◌, ◌∙◌, ◌<◌, refl, sy
 use Rattle.disk_model.specs.Outside.{Rose}
 use Rattle.disk_model.specs.Runs.{honest_on, leaves_quiet}
 use Rattle.session_views.specs.Opening.{StandsOpening}
-use Rattle.transactions.specs.Meant.{meant}
+use Rattle.session_core.specs.Meant.{meant}
 use Rattle.command_line.specs.declared.status.Status.{Status}
 use Rattle.command_line.specs.declared.status.Status.TheVariants as status
 use Rattle.exsm_run.specs.Check.{StopsCount}

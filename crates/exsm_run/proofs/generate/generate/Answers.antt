@@ -12,7 +12,7 @@ pub returns-in-Err-clause-promise : goal.returns-in-Err-clause-promise
 returns-in-Err-clause-promise g c =
     let promise = c.in-Err.ensures in
     subst (λ (s : Status). GenPromise c.args.seed c.args.count (g.H.World.outside c.args.host.now) (g.H.World.outside c.run_talk.new.host) s) (sym c.status_of.ensures)
-    (gen_stopped c.args.seed c.args.count c.make-talk.result c.run_talk.new.talk c.in-Err.stopped (g.H.World.is_world c.args.host.now) promise.whence promise.caused promise.stopped promise.broken promise.sound
+    (gen_stopped c.args.seed c.args.count c.make-talk.result c.run_talk.new.talk c.in-Err.stopped (g.H.World.is_world c.args.host.now) c.make-talk.ensures.lines promise.whence promise.caused promise.stopped promise.broken promise.sound
     (λ part is. promise.bad part (ap (λ w. Err w) is)) (λ part is. promise.bad_only part (ap (λ w. Err w) is)) (λ part is. promise.bad_kept part (ap (λ w. Err w) is))
     (λ image part holds fails. let found = promise.unopened image part holds fails in subst IsOpeningStop (sym (err_same _ _ refl refl found.1)) found.2) promise.left)
 

@@ -1,7 +1,11 @@
-use Rattle.std.proofs.Common.{rules, ◌≡◌, true, false, inl, inr, ◌∙◌, arith}
+use Rattle.std.proofs.Common.{rules, ◌≡◌, ℕ, true, false, inl, inr, ap, ◌∙◌, arith}
 use Rattle.node_walk.proofs.Facts.{handed_err, same_part, BothOf, both_then, both_else, both_swapped}
 use Rattle.node_walk.proofs.Loops.{shows_on}
-use Rattle.node_walk.proofs.Roots.{roots_more, roots_end, next_named}
+use Rattle.node_walk.proofs.Roots.{counts_end, roots_more, roots_start, roots_end, next_named}
+use Rattle.page_alloc.specs.UnitSet.{UnitSet, used_at, refs_at}
+use Rattle.trees.specs.Owners.{root_pages}
+use Rattle.node_walk.specs.Counts.{AreCounted}
+use Rattle.node_walk.proofs.Owning.{all_owned}
 use Rattle.node_walk.proofs.all_trees.walk_trees.Goals as goal
 use Rattle.node_walk.proofs.all_trees.walk_trees.Goals.{then-balanced, else-balanced}
 
@@ -24,7 +28,8 @@ loop-root-preserved g c =
       | else-balanced w ↦ both_swapped _ _ _ (both_else c.in_ok-same.same _ _ w.if-balanced.false (w.balanced-is ∙ w.if-balanced.false))
     ] in
     roots_more g.P.Ground c.args.geometry.now c.args.pages.now c.loop-root.pages c.walk_tree.new.pages c.args.units.now c.loop-root.units c.walk_tree.new.units c.args.roots.now c.loop-root.root-index c.loop-root.balanced c.in_ok-same.same c.if-balanced.balanced
-    c.loop-root-test.true found.holds found.fails c.loop-root.invariant c.in_ok-same.ensures.kept c.in_ok-same.ensures.uses
+    c.loop-root-test.true found.holds found.fails c.loop-root.invariant c.in_ok-same.ensures.kept c.in_ok-same.ensures.geometry c.in_ok-same.ensures.counted
+    c.in_ok-same.ensures.counts
     (λ told bytes shows. record {
       named = c.in_ok-same.ensures.named told bytes shows;
       free = c.in_ok-same.ensures.free told bytes shows;
@@ -50,3 +55,19 @@ returns-clause-balanced g c = λ told bytes shows.
 pub returns-clause-used : goal.returns-clause-used
 returns-clause-used g c = λ told bytes shows.
     (roots_end g.P.Ground c.args.geometry.now c.args.pages.now c.loop-root.pages c.args.units.now c.loop-root.units c.args.roots.now c.loop-root.root-index c.loop-root.balanced (omega arith) c.loop-root.invariant told bytes shows).taken
+
+-- units without a reference
+none_counted : (units : UnitSet) → refs_at units ≡ (λ _. 0) → AreCounted units
+none_counted units fresh = record {
+  owned = λ unit some. absurd (omega (arith, some, ap (λ (f : ℕ → ℕ). f unit) fresh));
+  few = λ unit. omega (arith, ap (λ (f : ℕ → ℕ). f unit) fresh);
+}
+
+pub loop-root-init : goal.loop-root-init
+loop-root-init g c = roots_start g.P.Ground c.args.geometry.now c.args.pages.now c.args.units.now c.args.roots.now (none_counted c.args.units.now c.requires.fresh)
+
+pub returns-clause-owned : goal.returns-clause-owned
+returns-clause-owned g c = λ told bytes shows logged is_used.
+    let now = c.loop-root.units in
+    let counts = counts_end g.P.Ground c.args.geometry.now c.args.pages.now c.loop-root.pages c.args.units.now now c.args.roots.now c.loop-root.root-index c.loop-root.balanced (omega arith) c.loop-root.invariant told bytes shows in
+    all_owned c.args.geometry.now bytes (root_pages c.args.roots.now) logged (used_at c.args.units.now) (used_at now) (refs_at c.args.units.now) (refs_at now) c.requires.fresh is_used c.loop-root.invariant.counted.owned counts

@@ -1,34 +1,28 @@
-use Rattle.std.proofs.Common.{rules, ◌≡◌, ℕ, Bool, true, Some, None, sym, subst, ap, ◌∙◌, inr, nat_eq}
-use Rattle.std.specs.HashMap.{get}
-use Rattle.page_alloc.specs.UnitSet.{used_at}
-use Rattle.node_walk.proofs.Facts.{same_part, handed_err, updated_here, updated_else}
-use Rattle.node_walk.proofs.Levels.{same_level}
+use Rattle.std.proofs.Common.{◌≡◌, ℕ, Bool, sym, subst}
+use Rattle.node_walk.specs.Notes.{notes_in}
+use Rattle.page_alloc.specs.UnitSet.{used_at, refs_at}
+use Rattle.node_walk.specs.Counts.{counted_at}
+use Rattle.node_walk.specs.Walk.{Meets}
+use Rattle.node_walk.proofs.Facts.{handed_err}
+use Rattle.node_walk.proofs.Tracking.{one_more, tracked_counted}
 use Rattle.node_walk.proofs.walk.meet.Goals as goal
 
-pub returns-then-met-level-clause-bad : goal.returns-then-met-level-clause-bad
-returns-then-met-level-clause-bad g c = λ part is told bytes shows notes.
-    let there : get nat_eq c.args.known.now c.args.page.0 ≡ Some c.in-Some.met = search rules in
-    (same_part _ _ is, λ named own. c.if-met-level.true (same_level c.args.geometry.now bytes c.in-Some.met.level c.args.level c.args.page.0 (notes c.args.page.0 c.in-Some.met there).at named))
-
 pub returns-in_err-node-clause-bad : goal.returns-in_err-node-clause-bad
-returns-in_err-node-clause-bad g c = λ part is told bytes shows notes.
-    let none : get nat_eq c.args.known.now c.args.page.0 ≡ None = search rules in
-    let bad = c.in_err-node.ensures.bad part (handed_err c.from_residual.result _ _ c.from_residual.ensures.1 is) told bytes shows in (
-      bad.0,
-      λ named own.
-          let met = own (bad.1 named) in
-          let clash : Some met.0 ≡ None = sym met.1 ∙ none in
-          absurd cc,
-    )
+returns-in_err-node-clause-bad g c = λ part is. c.in_err-node.ensures.bad part (handed_err c.from_residual.result _ _ c.from_residual.ensures.1 is)
 
-pub returns-in-Ok-clause-met : goal.returns-in-Ok-clause-met
-returns-in-Ok-clause-met g c = λ told bytes shows.
-    let none : get nat_eq c.args.known.now c.args.page.0 ≡ None = search rules in
-    inr (record {
-      first = c.in_ok-node.ensures.first told bytes shows;
-      unknown = none;
-      noted_as = c.in-Ok.ensures.updates.1;
-      other_notes = c.in-Ok.ensures.updates.2;
-      taken = subst (λ (f : ℕ → Bool). f c.args.page.0 ≡ true) (sym c.adopt.ensures.used) (updated_here (used_at c.args.units.now) c.args.page.0 true);
-      other_units = λ q apart. ap (λ (f : ℕ → Bool). f q) c.adopt.ensures.used ∙ updated_else (used_at c.args.units.now) c.args.page.0 true q apart;
-    })
+pub returns-clause-met : goal.returns-clause-met
+returns-clause-met g c = λ told bytes shows.
+    subst (λ (f : ℕ → Bool). Meets c.args.geometry.now bytes c.args.level c.args.page.0 c.in_ok-node.node.met c.in_ok-node.node.below.items (used_at c.args.units.now) (notes_in c.args.known.now) f (notes_in c.note.new.known))
+    (sym c.add_ref.ensures.used) (c.in_ok-node.ensures.met told bytes shows)
+
+pub returns-clause-counted : goal.returns-clause-counted
+returns-clause-counted g c =
+    let is = (c.in_ok-node.ensures.tracked.noted c.args.page.0 c.in_ok-node.ensures.noted).1 in
+    subst (λ (f : ℕ → ℕ). refs_at c.add_ref.new.self ≡ counted_at f c.args.page.0) c.in_ok-node.ensures.uses.refs
+    (one_more c.note.new.units c.add_ref.new.self c.args.page.0 c.in_ok-node.ensures.tracked.counted is c.add_ref.ensures.refs)
+
+pub returns-clause-tracked : goal.returns-clause-tracked
+returns-clause-tracked g c =
+    let is = (c.in_ok-node.ensures.tracked.noted c.args.page.0 c.in_ok-node.ensures.noted).1 in
+    tracked_counted c.args.geometry.now c.note.new.units c.add_ref.new.self (notes_in c.note.new.known) c.args.page.0 c.in_ok-node.ensures.tracked is c.add_ref.ensures.used
+    (one_more c.note.new.units c.add_ref.new.self c.args.page.0 c.in_ok-node.ensures.tracked.counted is c.add_ref.ensures.refs)

@@ -1,4 +1,4 @@
-use Rattle.std.proofs.Common.{◌≡◌, ◌<◌, arith, refl, true≢false, ℕ, List, sym, ap, subst, ◌∙◌}
+use Rattle.std.proofs.Common.{◌≡◌, ◌<◌, arith, refl, true≢false, ℕ, List, ◌∷◌, sym, ap, subst, ◌∙◌}
 use Rattle.std.specs.List.{AllByRecursion}
 use Rattle.ex_base.specs.declared.geometry.Geometry.{Geometry}
 use Rattle.ex_base.specs.declared.names.PageNo.{PageNo}
@@ -9,12 +9,14 @@ use Rattle.file_walk.specs.Numbers.{AreGoodNumbers, uniques}
 use Rattle.file_walk.specs.Parts.{HasWalked, IsBadFiles}
 use Rattle.file_walk.specs.Walk.{page_numbers}
 use Rattle.node_walk.specs.TreesNamed.{AreBalanced, AreNamed, FailsFirst, ShowsPages, UsesTrees}
-use Rattle.page_alloc.specs.UnitSet.{IsFitting, used_at}
+use Rattle.page_alloc.specs.UnitSet.{IsFitting, refs_at, used_at}
 use Rattle.session_views.specs.declared.part.Part.TheVariants.{Unique}
+use Rattle.trees.specs.Owners.{IsOwned, root_pages}
 use Rattle.trees.specs.Trees.{Units as Bytes}
 use Rattle.restart.specs.declared.content.Reached.{Reached}
 use Rattle.restart.specs.Content.{AreHeld, IsFirstBad, roots_found}
 use Rattle.restart.proofs.FilesTested.{UsedAre, files_bad, files_reached, trees_bad, unique_bad, used_are}
+use Rattle.restart.proofs.Owners.{used_times}
 use Rattle.restart.proofs.Superblocks.{fault_of, same_fault}
 use Rattle.restart.proofs.UnitsNamed.{counted}
 use Rattle.ex_base.proofs.Keeping.{keeps_on}
@@ -39,6 +41,9 @@ files_told g c bytes told shows =
 
 used_files : (g : given.Over) (c : After-walk_trees g) → UsedAre (used_at c.walk_files.new.units) (page_numbers c.in-Ok-walk_files.walked.pages.items)
 used_files g c = used_are (used_at c.in-Ok.units) (used_at c.walk_files.new.units) (page_numbers c.in-Ok-walk_files.walked.pages.items) c.in-Ok.ensures.used c.in-Ok-walk_files.ensures.used
+
+pub walk_trees-requires-clause-fresh : goal.walk_trees-requires-clause-fresh
+walk_trees-requires-clause-fresh g c = c.walk_files.ensures.units.refs ∙ c.in-Ok.ensures.refs
 
 -- the roots that the trees were walked from
 roots_now : (g : given.Over) (c : After-walk_trees g) → c.deref-2.result.now ≡ roots_found c.in-Ok-walk_files.walked.records.items
@@ -80,6 +85,9 @@ returns-in-Ok-false-clause-bad g c part is told bytes shows =
     (subst (AreBalanced h bytes) (roots_now g after) (trees.balanced later bytes shown))
     (λ good. true≢false (sym (c.in-Ok-false.ensures.1 (good_here c.as_slice.ensures.value c.next_unique.ensures good)) ∙ c.in-Ok-false.field-0-test)))
 
+pub returns-in-Err-walk_trees-clause-kept : goal.returns-in-Err-walk_trees-clause-kept
+returns-in-Err-walk_trees-clause-kept g c = keeps_on g.P.Ground _ _ _ c.walk_files.ensures.kept c.walk_trees.ensures.kept
+
 pub returns-in-Ok-false-clause-kept : goal.returns-in-Ok-false-clause-kept
 returns-in-Ok-false-clause-kept g c = keeps_on g.P.Ground _ _ _ c.walk_files.ensures.kept c.walk_trees.ensures.kept
 
@@ -93,11 +101,9 @@ logged_pages-requires g c =
 
 pub returns-in-Ok-logged_pages-clause-reached : goal.returns-in-Ok-logged_pages-clause-reached
 returns-in-Ok-logged_pages-clause-reached g c =
-    let refs = c.walk_trees.ensures.refs ∙ (c.walk_files.ensures.units.refs ∙ c.in-Ok.ensures.refs) in
     let geometry = c.walk_trees.ensures.geometry ∙ (c.walk_files.ensures.units.geometry ∙ c.in-Ok.ensures.geometry) in
     record {
-      counted = counted c.args.geometry.now c.walk_trees.new.units (subst IsFitting c.units-2.view_is c.units-2.invariant) geometry refs;
-      refs = refs;
+      counted = counted c.args.geometry.now c.walk_trees.new.units (subst IsFitting c.units-2.view_is c.units-2.invariant) geometry c.in-Ok-walk_trees.ensures.counted;
       held_len = c.in-Ok-logged_pages.ensures.lengths.0;
       taken_len = c.in-Ok-logged_pages.ensures.lengths.1;
       home = (c.in-Ok-logged_pages.ensures.held catalog_no).1 (0, omega arith, refl);
@@ -112,11 +118,14 @@ returns-in-Ok-logged_pages-clause-holds g c told bytes shows =
     let later = told_later g after told in
     let shown = shown_later g after bytes shows in
     let r : Reached = record { units = c.walk_trees.new.units; pages = c.in-Ok-logged_pages.pages } in
+    let logged : List ℕ = catalog_no ∷ page_numbers c.in-Ok-walk_files.walked.pages.items in
     files_reached h bytes c.args.catalog.now c.in-Ok-walk_files.walked (files_told g after bytes told shows) (used_at c.walk_files.new.units) (used_files g after) r
     (subst (AreNamed h bytes (used_at c.walk_files.new.units)) (roots_now g after) (trees.named later bytes shown))
     (subst (AreBalanced h bytes) (roots_now g after) (trees.balanced later bytes shown))
     (here_good c.as_slice.ensures.value c.next_unique.ensures (c.in-Ok-true.ensures.0 c.in-Ok-true.field-0-test))
     (subst (λ (roots : List Root). UsesTrees bytes roots (used_at c.walk_files.new.units) (used_at c.walk_trees.new.units)) (roots_now g after) (trees.used later bytes shown))
+    (subst (λ (roots : List Root). IsOwned h bytes (used_at c.walk_trees.new.units) (refs_at c.walk_trees.new.units) logged (root_pages roots)) (roots_now g after)
+    (trees.owned later bytes shown logged (used_times (used_at c.walk_files.new.units) logged (used_files g after))))
     (subst (λ (pages : List PageNo). AreHeld c.in-Ok-logged_pages.pages (page_numbers pages)) c.deref-3.ensures.value c.in-Ok-logged_pages.ensures.held)
 
 pub returns-in-Ok-logged_pages-clause-kept : goal.returns-in-Ok-logged_pages-clause-kept

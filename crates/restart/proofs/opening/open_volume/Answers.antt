@@ -7,7 +7,7 @@ use Rattle.volume_model.specs.Meaning.{no_part}
 use Rattle.volume_model.specs.Parts.{FirstBad, StandsFor}
 use Rattle.volume_model.specs.Volume.{table_of, units_of}
 use Rattle.volume_model.specs.Committed.{Committed}
-use Rattle.page_alloc.specs.UnitSet.{used_at}
+use Rattle.page_alloc.specs.UnitSet.{refs_at, used_at}
 use Rattle.volume_port.specs.Logged.{is_held}
 use Rattle.restart.proofs.Opened.{all_closed, opened_on, opens_as, quiet_leaves, read_committed}
 use Rattle.restart.specs.Opening.{OpensAs, ReadsAs}
@@ -45,14 +45,14 @@ pub returns-clause-only : goal.returns-clause-only
 returns-clause-only g c = only g (goal.at.returns-clause-only g c).After-checkpoint
 
 reads : (g : given.Over) (c : After-checkpoint g) (image : List ℕ) → (g.D.World.outside c.args.disk.now).disk ≡ Some image
-    → ReadsAs image c.in-Ok-read_volume.parts.geometry c.in-Ok-read_volume.parts.log c.in-Ok-read_volume.parts.meta.committed (used_at c.in-Ok-read_volume.parts.units) (is_held c.in-Ok-read_volume.parts.pages)
+    → ReadsAs image c.in-Ok-read_volume.parts.geometry c.in-Ok-read_volume.parts.log c.in-Ok-read_volume.parts.meta.committed (used_at c.in-Ok-read_volume.parts.units) (refs_at c.in-Ok-read_volume.parts.units) (is_held c.in-Ok-read_volume.parts.pages)
 reads g c image holds = c.in-Ok-read_volume.ensures.reads image (c.sync.ensures.only.disk ∙ holds)
 
 committed : (g : given.Over) (c : After-checkpoint g) (image : List ℕ) → IsTrue (g.D.World.outside c.args.disk.now).honest → (holds : (g.D.World.outside c.args.disk.now).disk ≡ Some image)
     → Committed (g.D.World.outside c.read_volume.new.disk).images (reads g c image holds).decoded image c.in-Ok-read_volume.parts.log c.in-Ok-read_volume.parts.meta.committed
 committed g c image honest holds =
     let p = c.in-Ok-read_volume.parts in
-    read_committed (g.D.World.outside c.args.disk.now) (g.D.World.outside c.sync.new.self) (g.D.World.outside c.read_volume.new.disk) image p.geometry p.log p.meta.committed (used_at p.units) (is_held p.pages) honest holds c.sync.ensures.only c.in-Ok.ensures.settles
+    read_committed (g.D.World.outside c.args.disk.now) (g.D.World.outside c.sync.new.self) (g.D.World.outside c.read_volume.new.disk) image p.geometry p.log p.meta.committed (used_at p.units) (refs_at p.units) (is_held p.pages) honest holds c.sync.ensures.only c.in-Ok.ensures.settles
     c.read_volume.ensures.only.nothing (reads g c image holds)
 
 -- the volume stood for a table, so no part of it fails
@@ -92,7 +92,7 @@ returns-clause-opened g c image honest holds =
     let p = c.in-Ok-read_volume.parts in
     let read = reads g after image holds in
     let here = honest_on c.read_volume.ensures.only.nothing.only.goes (honest_on c.sync.ensures.only.only.goes honest) in
-    opened_on (g.D.World.outside c.checkpoint.new.disk) image p.geometry p.log c.checkpoint.new.log p.meta.committed c.checkpoint.new.meta.committed (used_at p.units) (is_held p.pages) read
+    opened_on (g.D.World.outside c.checkpoint.new.disk) image p.geometry p.log c.checkpoint.new.log p.meta.committed c.checkpoint.new.meta.committed (used_at p.units) (refs_at p.units) (is_held p.pages) read
     (c.in-Ok-checkpoint.ensures.done read.decoded image here (c.read_volume.ensures.only.nothing.disk ∙ (c.sync.ensures.only.disk ∙ holds)) (committed g after image honest holds))
 
 pub returns-clause-parts : goal.returns-clause-parts

@@ -5,7 +5,7 @@ use Rattle.ex_base.specs.declared.geometry.Geometry.{Geometry}
 use Rattle.disk_model.specs.Outside.{ReadsOnly}
 use Rattle.disk_model.specs.Runs.{reads_trans}
 use Rattle.object_files.specs.Catalog.{Catalog}
-use Rattle.page_alloc.specs.UnitSet.{used_at}
+use Rattle.page_alloc.specs.UnitSet.{refs_at, used_at}
 use Rattle.session_views.specs.declared.Part.TheVariants.{Catalog as CatalogPart}
 use Rattle.volume_port.specs.Logged.{is_held}
 use Rattle.op_log.specs.AfterLog.{after_log, logged}
@@ -94,7 +94,7 @@ returns-in-Ok-make_parts-clause-reads g c image holds =
     let after = (goal.at.returns-in-Ok-make_parts-clause-reads g c).After-test_catalog in
     let made = c.in-Ok-make_parts.ensures in
     let p = c.in-Ok-make_parts.parts in
-    reads_as image c.in-Ok.geometry p.geometry c.in-Ok-read_log.records c.in-Some.catalog c.in-Ok-overlay_of.meta p.meta p.log c.in-Ok-walk_volume.reached (used_at p.units) (is_held p.pages)
+    reads_as image c.in-Ok.geometry p.geometry c.in-Ok-read_log.records c.in-Some.catalog c.in-Ok-overlay_of.meta p.meta p.log c.in-Ok-walk_volume.reached (used_at p.units) (refs_at p.units) (is_held p.pages)
     (c.in-Ok.ensures.found image holds) (c.in-Ok-read_log.ensures.records image (c.read_geometry.ensures.only.nothing.disk ∙ holds)) (tested_is g after image c.in-Some.catalog holds c.in-Some.ensures.found)
     (c.in-Ok-walk_volume.ensures.holds image c.in-Ok-read_log.records (held g after image holds) (shown g after)) (just g after) made.meta made.geometry
-    (made.log ∙ same_log c.in-Ok.geometry c.end.ensures (ap length c.as_slice-3.ensures)) (ap used_at made.units) (ap is_held made.pages)
+    (made.log ∙ same_log c.in-Ok.geometry c.end.ensures (ap length c.as_slice-3.ensures)) (ap used_at made.units) (ap refs_at made.units) (ap is_held made.pages)

@@ -1,15 +1,16 @@
-use Rattle.std.proofs.Common.{arith, rules, [], ◌∷◌, ◌≡◌, ◌+◌, ◌-◌, ◌∙◌, ap, sym, subst, length, min, drop, get_or}
+use Rattle.std.proofs.Common.{arith, rules, [], ◌∷◌, ◌≡◌, ◌+◌, ◌-◌, ◌≤◌, ◌∙◌, ap, sym, subst, length, min, drop, get_or}
 use Rattle.std.proofs.lemmas.List.{length-take-le, length-drop}
-use Rattle.std.proofs.lemmas.Result.{on_ok_weaker}
+use Rattle.std.proofs.lemmas.Result.{IfErr-weaker, on_ok_weaker}
 use Rattle.ex_base.specs.Area.{NamesLeaf}
 use Rattle.ex_base.proofs.Results.{if_err_handed}
-use Rattle.trees.specs.Rows.{row_size, FitLeaves}
-use Rattle.trees.specs.Damage.{IsSoundWay}
+use Rattle.count_nodes.specs.Node.{pairs_on}
+use Rattle.trees.specs.Rows.{parts_of, row_size, FitLeaves}
+use Rattle.trees.specs.Damage.{IsSoundWay, IsWalkFault}
 use Rattle.trees.proofs.Ways.{way_inner, way_kept}
-use Rattle.trees.proofs.Parts.{below_fit}
+use Rattle.trees.proofs.SpanLaws.{span_fault, span_way}
 use Rattle.trees.proofs.Reading.{no_part}
 use Rattle.trees.proofs.RowReads.{ReadSoFar, node_read, read_more, read_past, part_put, walk_tree}
-use Rattle.trees.proofs.Blame.{walk_back}
+use Rattle.trees.proofs.Blame.{walk_back, walk_below}
 use Rattle.trees.proofs.read.+read.Goals.{read_row-then-n-ne0+in_ok-read_tree, read_row-else-n-ne0}
 use Rattle.trees.proofs.read.+read.Goals as goal
 
@@ -38,26 +39,40 @@ read_row-loop-part-preserved g t c =
 
 pub read_tree-read_row-requires : goal.read_tree-read_row-requires
 read_tree-read_row-requires g t c κs within =
-    let counted = c.in_ok-below.ensures.counted in
     let items = c.deref.ensures.value in
-    let above = c.if-level-eq0.false in
-    let fit : FitLeaves (g.B.Ground.geometry c.row_of.new.blocks) (c.args.level - 1) c.deref.result.now =
-    subst (λ geo. FitLeaves geo (c.args.level - 1) c.deref.result.now) (sym (g.B.Ground.leads_geometry c.args.blocks.now c.row_of.new.blocks c.in_ok-below.ensures.kept.leads))
-    (subst (FitLeaves (g.B.Ground.geometry c.args.blocks.now) (c.args.level - 1)) (sym items) (below_fit (g.B.Ground.geometry c.args.blocks.now) c.args.level _ _ c.in_ok-below.below.items c.if-level-eq0.false counted)) in
-    let size : row_size c.deref.result.now ≡ c.args.tree.size = ap row_size items ∙ counted.sum in
+    let fit : FitLeaves (g.B.Ground.geometry c.span_of.new.blocks) (c.args.level - 1) c.deref.result.now =
+    subst (λ geo. FitLeaves geo (c.args.level - 1) c.deref.result.now) (sym (g.B.Ground.leads_geometry c.args.blocks.now c.span_of.new.blocks c.in_ok-span.ensures.kept.leads))
+    (subst (FitLeaves (g.B.Ground.geometry c.args.blocks.now) (c.args.level - 1)) (sym items) c.in_ok-span.ensures.leaves) in
+    let enough : c.in_ok-span.span.inside + length c.args.out.now ≤ row_size c.deref.result.now =
+    subst (λ r. c.in_ok-span.span.inside + length c.args.out.now ≤ row_size r) (sym items) c.in_ok-span.ensures.enough in
     search rules
 
 pub read_tree-returns-clause-bytes : goal.read_tree-returns-clause-bytes
 read_tree-returns-clause-bytes g t c =
     on_ok_weaker c.read_row.result (λ read told.
-    node_read g.B.Ground c.args.blocks.now c.row_of.new.blocks c.args.level c.args.tree c.in_ok-below.below.items c.deref.result.now c.args.pos (length c.args.out.now) c.read_row.new.out
-    c.if-level-eq0.false c.deref.ensures.value c.in_ok-below.ensures.kept c.in_ok-below.ensures.found read told) c.read_row.ensures.bytes
+    node_read g.B.Ground c.args.blocks.now c.span_of.new.blocks c.args.level c.args.least c.args.tree c.in_ok-span.span.row.items c.deref.result.now c.args.pos (length c.args.out.now) c.in_ok-span.span.inside c.read_row.new.out
+    c.requires.ready c.if-level-eq0.false c.deref.ensures.value c.in_ok-span.ensures.kept c.in_ok-span.ensures.node c.in_ok-span.ensures.span read told) c.read_row.ensures.bytes
 
 pub read_tree-returns-clause-way : goal.read_tree-returns-clause-way
 read_tree-returns-clause-way g t c =
     let b = g.B.Ground in
     on_ok_weaker c.read_row.result (λ read told at low high.
-    way_inner (b.geometry c.args.blocks.now) (b.unit c.args.blocks.now) (NamesLeaf (b.geometry c.args.blocks.now)) c.args.level c.args.least c.args.tree c.in_ok-below.below.items at at c.if-level-eq0.false c.in_ok-below.ensures.area (c.in_ok-below.ensures.found told) c.in_ok-below.ensures.counted.filled
-    (λ inside. way_kept b NamesLeaf c.args.blocks.now c.row_of.new.blocks (c.args.level - 1) (b.geometry c.args.blocks.now).fan c.in_ok-below.below.items at at c.in_ok-below.ensures.kept
-    (λ later. subst (λ k. IsSoundWay (b.geometry c.row_of.new.blocks) (b.unit c.row_of.new.blocks) (NamesLeaf (b.geometry c.row_of.new.blocks)) (c.args.level - 1) k c.in_ok-below.below.items at at) (ap (λ geo. geo.fan) (c.geometry-fan.ensures ∙ b.leads_geometry c.args.blocks.now c.row_of.new.blocks c.in_ok-below.ensures.kept.leads))
-    (subst (λ r. IsSoundWay (b.geometry c.row_of.new.blocks) (b.unit c.row_of.new.blocks) (NamesLeaf (b.geometry c.row_of.new.blocks)) (c.args.level - 1) c.geometry-fan.result.fan r at at) c.deref.ensures.value (read later at low high))) told)) c.read_row.ensures.way
+    let node = c.in_ok-span.ensures.node told in
+    way_inner (b.geometry c.args.blocks.now) (b.unit c.args.blocks.now) (NamesLeaf (b.geometry c.args.blocks.now)) c.args.level c.args.least c.args.tree (parts_of 0 (pairs_on (b.unit c.args.blocks.now c.args.tree.page.0))) at at c.if-level-eq0.false node.area node.row node.filled
+    (λ here. span_way (parts_of 0 (pairs_on (b.unit c.args.blocks.now c.args.tree.page.0))) c.in_ok-span.span.row.items c.args.pos (length c.args.out.now) c.in_ok-span.span.inside (c.in_ok-span.ensures.span told)
+    (b.geometry c.args.blocks.now) (b.unit c.args.blocks.now) (NamesLeaf (b.geometry c.args.blocks.now)) (c.args.level - 1) (b.geometry c.args.blocks.now).fan at low high
+    (λ k from to. way_kept b NamesLeaf c.args.blocks.now c.span_of.new.blocks (c.args.level - 1) (b.geometry c.args.blocks.now).fan c.in_ok-span.span.row.items k k c.in_ok-span.ensures.kept
+    (λ later. subst (λ fan. IsSoundWay (b.geometry c.span_of.new.blocks) (b.unit c.span_of.new.blocks) (NamesLeaf (b.geometry c.span_of.new.blocks)) (c.args.level - 1) fan c.in_ok-span.span.row.items k k) (ap (λ geo. geo.fan) (c.geometry-fan.ensures ∙ b.leads_geometry c.args.blocks.now c.span_of.new.blocks c.in_ok-span.ensures.kept.leads))
+    (subst (λ r. IsSoundWay (b.geometry c.span_of.new.blocks) (b.unit c.span_of.new.blocks) (NamesLeaf (b.geometry c.span_of.new.blocks)) (c.args.level - 1) c.geometry-fan.result.fan r k k) c.deref.ensures.value (read later k from to))) told))) c.read_row.ensures.way
+
+pub read_tree-returns-clause-fault : goal.read_tree-returns-clause-fault
+read_tree-returns-clause-fault g t c =
+    let b = g.B.Ground in
+    IfErr-weaker c.read_row.result _ _ (λ fault read told.
+    let node = c.in_ok-span.ensures.node told in
+    walk_below (b.geometry c.args.blocks.now) (b.unit c.args.blocks.now) c.args.level c.args.least 0 (c.args.tree ∷ []) (parts_of 0 (pairs_on (b.unit c.args.blocks.now c.args.tree.page.0))) fault c.if-level-eq0.false (omega arith) node.area node.row node.filled
+    (span_fault (parts_of 0 (pairs_on (b.unit c.args.blocks.now c.args.tree.page.0))) c.in_ok-span.span.row.items c.args.pos (length c.args.out.now) c.in_ok-span.span.inside (c.in_ok-span.ensures.span told)
+    (b.geometry c.args.blocks.now) (b.unit c.args.blocks.now) (c.args.level - 1) (b.geometry c.args.blocks.now).fan fault
+    (walk_back b c.args.blocks.now c.span_of.new.blocks (c.args.level - 1) (b.geometry c.args.blocks.now).fan c.in_ok-span.span.row.items fault c.in_ok-span.ensures.kept
+    (λ later. subst (λ fan. IsWalkFault (b.geometry c.span_of.new.blocks) (b.unit c.span_of.new.blocks) (c.args.level - 1) fan c.in_ok-span.span.row.items fault) (ap (λ geo. geo.fan) (c.geometry-fan.ensures ∙ b.leads_geometry c.args.blocks.now c.span_of.new.blocks c.in_ok-span.ensures.kept.leads))
+    (subst (λ r. IsWalkFault (b.geometry c.span_of.new.blocks) (b.unit c.span_of.new.blocks) (c.args.level - 1) c.geometry-fan.result.fan r fault) c.deref.ensures.value (read later))) told))) c.read_row.ensures.fault

@@ -1,21 +1,20 @@
-use Rattle.std.proofs.Common.{rules, arith, ap, subst, length}
-use Rattle.trees.specs.Rows.{IsRowOn, AreHalfFull}
-use Rattle.trees.proofs.Parts.{counted}
-use Rattle.trees.proofs.Blame.{breaks_rules, too_few}
+use Rattle.std.proofs.Common.{◌≡◌, ◌-◌, ◌∙◌, arith, ap, sym, subst, length, take_all}
+use Rattle.ex_base.specs.Sizes.{leaf_bytes}
+use Rattle.trees.specs.Rows.{parts_of, AreHalfFull, IsRowOn}
+use Rattle.trees.proofs.Parts.{counted, length-parts}
 use Rattle.trees.proofs.rows.row_on.Goals as goal
-use Rattle.trees.proofs.rows.row_on.Goals.{else-level-eq1-via-then-level-eq1+else-not-are_half_full, else-level-eq1-via-else-level-eq1}
 
-pub returns-clause-counted : goal.returns-clause-counted
-returns-clause-counted c =
-    let found : IsRowOn c.args.geometry.now c.args.bytes.now c.args.level c.args.part.size c.in_ok-row.row.items = search rules in
-    counted _ _ _ _ c.args.least _ found (omega (arith, c.len.ensures.len, ap (λ node. length node.pairs) c.in-Some.ensures.view))
-    (elim c.else-level-eq1.branch [
-      | else-level-eq1-via-then-level-eq1+else-not-are_half_full w ↦ λ one. subst (λ full. AreHalfFull full c.in_ok-row.row.items) w.leaf_bytes.ensures
-          (subst (λ items. AreHalfFull w.leaf_bytes.result items) w.deref.ensures.value (w.are_half_full.ensures.0 w.if-not-are_half_full.false))
-      | else-level-eq1-via-else-level-eq1 w ↦ λ one. absurd (omega arith)
-    ])
+pub returns-in_ok-children-in-Ok-clause-found : goal.returns-in_ok-children-in-Ok-clause-found
+returns-in_ok-children-in-Ok-clause-found c =
+    let items : c.in_ok-children-in-Ok.field-0.items ≡ parts_of 0 c.in-Ok.node.pairs =
+    c.in_ok-children-in-Ok.ensures ∙ take_all (c.len.result - 0) (parts_of 0 c.in-Ok.node.pairs) (omega (arith, c.len.ensures.len, length-parts 0 c.in-Ok.node.pairs)) in
+    subst (IsRowOn c.args.geometry.now c.args.bytes.now c.args.level c.args.part.size) (sym items) c.in-Ok.ensures.row
 
-pub returns-then-len-least-clause-fault : goal.returns-then-len-least-clause-fault
-returns-then-len-least-clause-fault c =
-    breaks_rules c.args.geometry.now c.args.bytes.now c.args.level c.args.part.size c.args.least c.args.part.page.0 c.no_node-then-len-least.result
-    (too_few c.args.geometry.now c.args.bytes.now c.args.level c.args.least (omega (arith, c.len.ensures.len, ap (λ node. length node.pairs) c.in-Some.ensures.view))) c.no_node-then-len-least.ensures
+pub returns-in_ok-children-in-Ok-clause-counted : goal.returns-in_ok-children-in-Ok-clause-counted
+returns-in_ok-children-in-Ok-clause-counted c =
+    let items : c.in_ok-children-in-Ok.field-0.items ≡ parts_of 0 c.in-Ok.node.pairs =
+    c.in_ok-children-in-Ok.ensures ∙ take_all (c.len.result - 0) (parts_of 0 c.in-Ok.node.pairs) (omega (arith, c.len.ensures.len, length-parts 0 c.in-Ok.node.pairs)) in
+    counted c.args.geometry.now c.args.bytes.now c.args.level c.args.part.size c.args.least c.in_ok-children-in-Ok.field-0.items
+    (subst (IsRowOn c.args.geometry.now c.args.bytes.now c.args.level c.args.part.size) (sym items) c.in-Ok.ensures.row)
+    (omega (arith, c.in-Ok.ensures.filled.enough, length-parts 0 c.in-Ok.node.pairs, ap (λ node. length node.pairs) c.in-Ok.ensures.view))
+    (λ one. subst (AreHalfFull (leaf_bytes c.args.geometry.now)) (sym items) (c.in-Ok.ensures.filled.halves one))

@@ -36,20 +36,20 @@ pub release-requires : goal.release-requires
 release-requires g t c κs within =
     let page = c.args.tree.page.0 in
     let b = g.B.Ground in
-    let ready : b.ready c.loop-child.blocks = b.frees_ready (IsFreed b c.give_unit.new.self c.loop-child.blocks) c.give_unit.new.self c.loop-child.blocks c.loop-child.invariant.gives.frees (b.frees_ready (λ p. p ≡ page) c.row_of.new.blocks c.give_unit.new.self c.give_unit.ensures.frees
+    let ready : b.ready c.loop-child.blocks = b.frees_ready (IsFreed b c.give_unit.new.self c.loop-child.blocks) c.give_unit.new.self c.loop-child.blocks c.loop-child.invariant.gives.frees (b.frees_ready (λ p. p ≡ page) c.row_of.new.blocks c.give_unit.new.self c.give_unit.ensures.given.frees
     (b.leads_ready c.drop_ref.new.self c.row_of.new.blocks c.in-Ok.ensures.kept.leads (b.leads_ready c.args.blocks.now c.drop_ref.new.self c.drop_ref.ensures.counts.leads c.requires.ready))) in
     let drops = drops_kept b c.args.blocks.now c.drop_ref.new.self c.row_of.new.blocks page (without_ref (b.refs c.args.blocks.now page)) (drops_of b c.args.blocks.now c.drop_ref.new.self page (without_ref (b.refs c.args.blocks.now page)) c.drop_ref.ensures.counts) c.in-Ok.ensures.kept in
     let counts : HasCounts b c.loop-child.blocks = c.loop-child.invariant.gives.counts
-    (counts_given b c.args.blocks.now c.row_of.new.blocks c.give_unit.new.self page drops c.give_unit.ensures (c.drop_ref.ensures.last.0 c.if-not-drop_ref.false) (c.requires.counts.used page (omega (arith, c.drop_ref.ensures.last.0 c.if-not-drop_ref.false))) c.requires.counts) in
+    (counts_given b c.args.blocks.now c.row_of.new.blocks c.give_unit.new.self page drops c.give_unit.ensures.given (c.drop_ref.ensures.last.0 c.if-not-drop_ref.false) (c.requires.counts.used page (omega (arith, c.drop_ref.ensures.last.0 c.if-not-drop_ref.false))) c.requires.counts) in
     let last = c.drop_ref.ensures.last.0 c.if-not-drop_ref.false in
     let apart : AreApart b c.loop-child.blocks = c.loop-child.invariant.gives.apart
-    ((gives_last b c.args.blocks.now c.row_of.new.blocks c.give_unit.new.self page drops c.give_unit.ensures last (c.requires.counts.used page (omega (arith, last)))).apart c.requires.apart) in
+    ((gives_last b c.args.blocks.now c.row_of.new.blocks c.give_unit.new.self page drops c.give_unit.ensures.given last (c.requires.counts.used page (omega (arith, last)))).apart c.requires.apart) in
     search rules
 
 pub loop-child-preserved : goal.loop-child-preserved
 loop-child-preserved g t c =
     so_far_more g.B.Ground c.give_unit.new.self c.loop-child.blocks c.release.new.blocks c.args.level c.deref-child-items.result.now c.loop-child.child-index c.tick.new.self c.loop-child.steps c.release.new.steps c.loop-child-test.true c.loop-child.invariant
-    c.in-Ok-release.ensures.released c.in-Ok-release.ensures.gives c.in-Ok-release.ensures.cost
+    c.in-Ok-release.ensures.released c.in-Ok-release.ensures.gives c.in-Ok-release.ensures.cost c.release.ensures.rises
 
 pub returns-clause-released : goal.returns-clause-released
 returns-clause-released g t c =
@@ -60,7 +60,7 @@ returns-clause-released g t c =
     let some : 1 ≤ c.args.level = some_level c.args.level c.if-level-eq0.false in
     let area : InPageArea (b.geometry c.args.blocks.now) page = subst (λ (x : Geometry). InPageArea x page) c.geometry-geometry.ensures (c.names_node.ensures.0 c.if-not-names_node.false).0 in
     subst (λ k. Released b c.args.blocks.now c.loop-child.blocks k (page ∷ [])) (suc_less c.args.level some)
-    (node_released b c.args.blocks.now c.row_of.new.blocks c.give_unit.new.self page drops c.give_unit.ensures (c.drop_ref.ensures.last.0 c.if-not-drop_ref.false) (c.requires.counts.used page (omega (arith, c.drop_ref.ensures.last.0 c.if-not-drop_ref.false))) c.loop-child.blocks (c.args.level - 1) c.deref-child-items.result.now area
+    (node_released b c.args.blocks.now c.row_of.new.blocks c.give_unit.new.self page drops c.give_unit.ensures.given (c.drop_ref.ensures.last.0 c.if-not-drop_ref.false) (c.requires.counts.used page (omega (arith, c.drop_ref.ensures.last.0 c.if-not-drop_ref.false))) c.loop-child.blocks (c.args.level - 1) c.deref-child-items.result.now area
     (λ told. c.deref-child-items.ensures.value ∙ (c.in-Ok.ensures.found (b.leads_told c.args.blocks.now c.drop_ref.new.self c.drop_ref.ensures.counts.leads told)).parts ∙ ap (λ (us : Units). parts_of 0 (pairs_on (us page))) first.units)
     (all_of b c.give_unit.new.self c.loop-child.blocks c.args.level c.deref-child-items.result.now c.loop-child.child-index c.tick.new.self c.loop-child.steps c.loop-child-test.false c.loop-child.invariant))
 
@@ -72,7 +72,7 @@ returns-in-Err-release-clause-gives g t c =
     let first = drops_of b c.args.blocks.now c.drop_ref.new.self page (without_ref (b.refs c.args.blocks.now page)) c.drop_ref.ensures.counts in
     let drops = drops_kept b c.args.blocks.now c.drop_ref.new.self c.row_of.new.blocks page (without_ref (b.refs c.args.blocks.now page)) first c.in-Ok.ensures.kept in
     gives_on b c.args.blocks.now c.loop-child.blocks c.release.new.blocks
-    (gives_on b c.args.blocks.now c.give_unit.new.self c.loop-child.blocks (gives_last b c.args.blocks.now c.row_of.new.blocks c.give_unit.new.self page drops c.give_unit.ensures last (c.requires.counts.used page (omega (arith, last)))) c.loop-child.invariant.gives)
+    (gives_on b c.args.blocks.now c.give_unit.new.self c.loop-child.blocks (gives_last b c.args.blocks.now c.row_of.new.blocks c.give_unit.new.self page drops c.give_unit.ensures.given last (c.requires.counts.used page (omega (arith, last)))) c.loop-child.invariant.gives)
     c.in-Err-release.ensures.gives
 
 pub returns-clause-gives : goal.returns-clause-gives
@@ -83,7 +83,7 @@ returns-clause-gives g t c =
     let first = drops_of b c.args.blocks.now c.drop_ref.new.self page (without_ref (b.refs c.args.blocks.now page)) c.drop_ref.ensures.counts in
     let drops = drops_kept b c.args.blocks.now c.drop_ref.new.self c.row_of.new.blocks page (without_ref (b.refs c.args.blocks.now page)) first c.in-Ok.ensures.kept in
     gives_on b c.args.blocks.now c.give_unit.new.self c.loop-child.blocks
-    (gives_last b c.args.blocks.now c.row_of.new.blocks c.give_unit.new.self page drops c.give_unit.ensures last (c.requires.counts.used page (omega (arith, last)))) c.loop-child.invariant.gives
+    (gives_last b c.args.blocks.now c.row_of.new.blocks c.give_unit.new.self page drops c.give_unit.ensures.given last (c.requires.counts.used page (omega (arith, last)))) c.loop-child.invariant.gives
 
 pub returns-in-Err-clause-fault : goal.returns-in-Err-clause-fault
 returns-in-Err-clause-fault g t c = λ told logged roots at is.
@@ -106,7 +106,7 @@ returns-in-Err-release-clause-fault g t c = λ told logged roots at is.
     let was : b.used c.args.blocks.now page ≡ true = c.requires.counts.used page (omega (arith, last)) in
     let first = drops_of b c.args.blocks.now c.drop_ref.new.self page (without_ref (b.refs c.args.blocks.now page)) c.drop_ref.ensures.counts in
     let drops = drops_kept b c.args.blocks.now c.drop_ref.new.self c.row_of.new.blocks page (without_ref (b.refs c.args.blocks.now page)) first c.in-Ok.ensures.kept in
-    let given = gives_last b c.args.blocks.now c.row_of.new.blocks c.give_unit.new.self page drops c.give_unit.ensures last was in
+    let given = gives_last b c.args.blocks.now c.row_of.new.blocks c.give_unit.new.self page drops c.give_unit.ensures.given last was in
     let geo : b.geometry c.drop_ref.new.self ≡ b.geometry c.args.blocks.now = b.leads_geometry c.args.blocks.now c.drop_ref.new.self c.drop_ref.ensures.counts.leads in
     let some : 1 ≤ c.args.level = some_level c.args.level c.if-level-eq0.false in
     let area : NamesNode (b.geometry c.args.blocks.now) page = subst (λ (x : Geometry). NamesNode x page) c.geometry-geometry.ensures (c.names_node.ensures.0 c.if-not-names_node.false) in
@@ -118,7 +118,7 @@ returns-in-Err-release-clause-fault g t c = λ told logged roots at is.
     let filled : IsFilled (b.geometry c.args.blocks.now) c.args.level c.args.least row =
     subst (IsFilled (b.geometry c.args.blocks.now) c.args.level c.args.least) (sym c.deref-child-items.ensures.value)
     (subst (λ (x : Geometry). IsFilled x c.args.level c.args.least c.in-Ok.below.items) geo c.in-Ok.ensures.counted.filled) in
-    let left = node_left b c.args.blocks.now c.row_of.new.blocks c.give_unit.new.self page drops c.give_unit.ensures last was (c.args.level - 1) row logged roots area.0 found.parts is
+    let left = node_left b c.args.blocks.now c.row_of.new.blocks c.give_unit.new.self page drops c.give_unit.ensures.given last was (c.args.level - 1) row logged roots area.0 found.parts is
     (subst (λ k. StandsAt (b.geometry c.args.blocks.now) (b.unit c.args.blocks.now) k page) (sym (suc_less c.args.level some)) at.0) in
     let walk = row_fault b c.args.blocks.now c.give_unit.new.self c.loop-child.blocks (c.args.level - 1) c.geometry-geometry.result.fan c.loop-child.child-index row c.in-Err-release.fault logged roots c.loop-child-test.true
     given.units (gives_geometry b c.args.blocks.now c.give_unit.new.self given) (b.frees_told (IsFreed b c.args.blocks.now c.give_unit.new.self) c.args.blocks.now c.give_unit.new.self given.frees told) left.1 left.0

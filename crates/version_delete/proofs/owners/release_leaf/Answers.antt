@@ -19,7 +19,7 @@ returns-then-drop_ref-clause-released g c =
     let b = g.B.Ground in
     let last = c.drop_ref.ensures.last.0 c.if-drop_ref.true in
     let drops = drops_of b c.args.blocks.now c.drop_ref.new.self page (without_ref (b.refs c.args.blocks.now page)) c.drop_ref.ensures.counts in
-    leaf_released b c.args.blocks.now c.drop_ref.new.self c.give_unit.new.self page drops c.give_unit.ensures last (c.requires.counts.used page (omega (arith, last)))
+    leaf_released b c.args.blocks.now c.drop_ref.new.self c.give_unit.new.self page drops c.give_unit.ensures.given last (c.requires.counts.used page (omega (arith, last)))
     (subst (λ (x : Geometry). NamesLeaf x page) c.geometry.ensures (c.names_leaf.ensures.0 c.if-not-names_leaf.false))
 
 pub returns-then-drop_ref-clause-gives : goal.returns-then-drop_ref-clause-gives
@@ -28,7 +28,7 @@ returns-then-drop_ref-clause-gives g c =
     let b = g.B.Ground in
     let last = c.drop_ref.ensures.last.0 c.if-drop_ref.true in
     let drops = drops_of b c.args.blocks.now c.drop_ref.new.self page (without_ref (b.refs c.args.blocks.now page)) c.drop_ref.ensures.counts in
-    gives_last b c.args.blocks.now c.drop_ref.new.self c.give_unit.new.self page drops c.give_unit.ensures last (c.requires.counts.used page (omega (arith, last)))
+    gives_last b c.args.blocks.now c.drop_ref.new.self c.give_unit.new.self page drops c.give_unit.ensures.given last (c.requires.counts.used page (omega (arith, last)))
 
 pub returns-else-drop_ref-clause-released : goal.returns-else-drop_ref-clause-released
 returns-else-drop_ref-clause-released g c =

@@ -1,16 +1,15 @@
-use Rattle.std.proofs.Common.{◌≡◌, length, true, false, subst, sym, ap, ◌∙◌, arith}
+use Rattle.std.proofs.Common.{◌≡◌, ◌+◌, ◌≤◌, length, true, false, ap, ◌∙◌, arith}
 use Rattle.std.proofs.lemmas.Result.{IfErr-weaker, on_ok_weaker}
-use Rattle.ex_base.specs.declared.names.Place.{Place}
+use Rattle.ex_base.specs.Bytes.{bytes_at}
 use Rattle.ex_base.proofs.Options.{at_some}
 use Rattle.ex_base.proofs.Results.{if_err_handed}
-use Rattle.object_records.specs.Record.{Small, Large}
-use Rattle.file_bodies.specs.Files.{HasBody}
-use Rattle.version_model.specs.Versions.{lone_head, place_of}
+use Rattle.object_records.specs.Record.{Large}
+use Rattle.version_model.specs.Versions.{place_of}
 use Rattle.file_bodies.proofs.Belonging.{file_of_body}
 use Rattle.versions.specs.Damage.{record_fault, looking, small, large, unlike, in_tree}
-use Rattle.versions.proofs.Faults.{root_at, step_version, tree_kept, version_kept}
+use Rattle.versions.proofs.Faults.{root_at, tree_kept}
 use Rattle.versions.proofs.Results.{none_some, same_some}
-use Rattle.versions.proofs.Standing.{version_readable, version_whole, kept_holds, small_version, large_version}
+use Rattle.versions.proofs.Standing.{version_readable, version_whole, kept_holds, large_version}
 use Rattle.versions.proofs.finding.read_at.Goals as goal
 
 pub returns-in_err-found-clause-sound : goal.returns-in_err-found-clause-sound
@@ -29,39 +28,29 @@ returns-in_err-check-clause-sound g c = if_err_handed c.from_residual-in_err-che
     cc)
 
 pub returns-in-None-clause-bytes : goal.returns-in-None-clause-bytes
-returns-in-None-clause-bytes g c = on_ok_weaker c.read_small.result (λ b told index content bytes has.
-    let kept = c.find.ensures.kept in
-    let told_b = g.V.Ground.leads_told c.args.volume.now c.find.new.volume kept.leads told in
-    let f_is = same_some c.in_ok-told.told c.in_ok-found.found _ c.in_ok-found.ensures.some (c.in_ok-told.ensures.told told index _ has.stored) in
-    let small = kept_holds g.V.Ground c.args.volume.now c.find.new.volume index c.args.oid.now (Small bytes) bytes kept (small_version g.V.Ground c.args.volume.now index c.args.oid.now content bytes c.in_ok-found.found f_is c.in-None.is has) in
-    let stands = subst (λ (p : Place). HasBody g.V.Ground c.find.new.volume index p small.stored.body) (sym c.place_of-place.ensures) small.stored.stands in
-    b told_b index small.stored.body (lone_head c.args.oid.now.unique) bytes stands small.stored.spelled) c.read_small.ensures.bytes
-
-pub returns-in-None-clause-sound : goal.returns-in-None-clause-sound
-returns-in-None-clause-sound g c = IfErr-weaker c.read_small.result _ _ (λ fault never damage told index content bytes has range.
-    let kept = c.find.ensures.kept in
-    let told_b = g.V.Ground.leads_told c.args.volume.now c.find.new.volume kept.leads told in
-    let f_is = same_some c.in_ok-told.told c.in_ok-found.found _ c.in_ok-found.ensures.some (c.in_ok-told.ensures.told told index _ has.stored) in
-    let small = kept_holds g.V.Ground c.args.volume.now c.find.new.volume index c.args.oid.now (Small bytes) bytes kept (small_version g.V.Ground c.args.volume.now index c.args.oid.now content bytes c.in_ok-found.found f_is c.in-None.is has) in
-    let stands = subst (λ (p : Place). HasBody g.V.Ground c.find.new.volume index p small.stored.body) (sym c.place_of-place.ensures) small.stored.stands in
-    never damage told_b index small.stored.body (lone_head c.args.oid.now.unique) bytes stands small.stored.spelled range) c.read_small.ensures.sound
+returns-in-None-clause-bytes g c = λ told index content bytes has.
+    let size : c.in_ok-found.found.size ≡ length bytes = at_some c.in_ok-told.told c.in_ok-found.found _ c.in_ok-found.ensures.some (c.in_ok-told.ensures.size told index content bytes has) in
+    let len : length c.find_reading.new.out ≡ length c.args.out.now = c.in_ok-told.ensures.len in
+    let inside : c.args.pos + length c.args.out.now ≤ c.in_ok-found.found.size = omega (arith, len, c.is_inside.ensures.0 c.in_ok-check.ensures.holds) in
+    (omega (arith, size, inside), at_some c.in_ok-told.told c.in_ok-found.found _ c.in_ok-found.ensures.some c.in_ok-told.ensures.bytes told c.in-None.is inside index content bytes has)
 
 pub returns-in-Some-clause-bytes : goal.returns-in-Some-clause-bytes
 returns-in-Some-clause-bytes g c = on_ok_weaker c.read.result (λ b told index content bytes has.
-    let kept = c.find.ensures.kept in
-    let told_b = g.V.Ground.leads_told c.args.volume.now c.find.new.volume kept.leads told in
+    let kept = c.find_reading.ensures.kept in
+    let told_b = g.V.Ground.leads_told c.args.volume.now c.find_reading.new.volume kept.leads told in
     let f_is = same_some c.in_ok-told.told c.in_ok-found.found _ c.in_ok-found.ensures.some (c.in_ok-told.ensures.told told index _ has.stored) in
-    let large = kept_holds g.V.Ground c.args.volume.now c.find.new.volume index c.args.oid.now (Large c.in-Some.root) bytes kept (large_version g.V.Ground c.args.volume.now index c.args.oid.now content bytes c.in_ok-found.found c.in-Some.root f_is c.in-Some.is has) in
+    let large = kept_holds g.V.Ground c.args.volume.now c.find_reading.new.volume index c.args.oid.now (Large c.in-Some.root) bytes kept (large_version g.V.Ground c.args.volume.now index c.args.oid.now content bytes c.in_ok-found.found c.in-Some.root f_is c.in-Some.is has) in
     let size : c.in_ok-found.found.size ≡ length bytes = at_some c.in_ok-told.told c.in_ok-found.found _ c.in_ok-found.ensures.some (c.in_ok-told.ensures.size told index content bytes has) in
-    (omega (arith, size, c.is_inside.ensures.0 c.in_ok-check.ensures.holds), b told_b bytes large.spells.0)) c.read.ensures.bytes
+    let len : length c.find_reading.new.out ≡ length c.args.out.now = c.in_ok-told.ensures.len in
+    (omega (arith, size, len, c.is_inside.ensures.0 c.in_ok-check.ensures.holds), b told_b bytes large.spells.0 ∙ ap (bytes_at bytes c.args.pos) len)) c.read.ensures.bytes
 
 pub returns-in-Some-clause-sound : goal.returns-in-Some-clause-sound
 returns-in-Some-clause-sound g c = IfErr-weaker c.read.result _ _ (λ fault never damage told index content bytes has range.
-    let kept = c.find.ensures.kept in
-    let told_b = g.V.Ground.leads_told c.args.volume.now c.find.new.volume kept.leads told in
+    let kept = c.find_reading.ensures.kept in
+    let told_b = g.V.Ground.leads_told c.args.volume.now c.find_reading.new.volume kept.leads told in
     let f_is = same_some c.in_ok-told.told c.in_ok-found.found _ c.in_ok-found.ensures.some (c.in_ok-told.ensures.told told index _ has.stored) in
-    let large = kept_holds g.V.Ground c.args.volume.now c.find.new.volume index c.args.oid.now (Large c.in-Some.root) bytes kept (large_version g.V.Ground c.args.volume.now index c.args.oid.now content bytes c.in_ok-found.found c.in-Some.root f_is c.in-Some.is has) in
-    never told_b (version_whole g.V.Ground c.find.new.volume index c.args.oid.now c.in-Some.root bytes large) damage) c.read.ensures.sound
+    let large = kept_holds g.V.Ground c.args.volume.now c.find_reading.new.volume index c.args.oid.now (Large c.in-Some.root) bytes kept (large_version g.V.Ground c.args.volume.now index c.args.oid.now content bytes c.in_ok-found.found c.in-Some.root f_is c.in-Some.is has) in
+    never told_b (version_whole g.V.Ground c.find_reading.new.volume index c.args.oid.now c.in-Some.root bytes large) damage) c.read.ensures.sound
 
 pub returns-in_err-told-clause-fault : goal.returns-in_err-told-clause-fault
 returns-in_err-told-clause-fault g c = if_err_handed c.from_residual.result _ _ c.from_residual.ensures.1 (λ told. looking (c.in_err-told.ensures.fault told))
@@ -72,13 +61,8 @@ returns-in_err-found-clause-fault g c = if_err_handed c.from_residual-in_err-fou
 pub returns-in_err-check-clause-fault : goal.returns-in_err-check-clause-fault
 returns-in_err-check-clause-fault g c = if_err_handed c.from_residual-in_err-check.result _ _ c.from_residual-in_err-check.ensures.1 (λ told. small (unlike (c.in_err-check.ensures.fault.1 ∙ ap record_fault c.place_of-place.ensures)))
 
-pub returns-in-None-clause-fault : goal.returns-in-None-clause-fault
-returns-in-None-clause-fault g c = IfErr-weaker c.read_small.result _ _ (λ fault h told.
-    version_kept g.V.Ground c.args.volume.now c.find.new.volume c.find.ensures.kept c.args.oid.now fault
-    (λ told_b. step_version (g.V.Ground.geometry c.find.new.volume) (g.V.Ground.unit c.find.new.volume) (g.V.Ground.image c.find.new.volume) c.place_of-place.result c.args.oid.now fault c.place_of-place.ensures (h told_b)) told) c.read_small.ensures.fault
-
 pub returns-in-Some-clause-fault : goal.returns-in-Some-clause-fault
 returns-in-Some-clause-fault g c = IfErr-weaker c.read.result _ _ (λ fault h told.
     let at = at_some c.in_ok-told.told c.in_ok-found.found _ c.in_ok-found.ensures.some c.in_ok-told.ensures.reads told in
     large c.in-Some.root (root_at (g.V.Ground.geometry c.args.volume.now) (g.V.Ground.image c.args.volume.now) c.args.oid.now c.in_ok-found.found c.in-Some.root at c.in-Some.is)
-    (in_tree (tree_kept g.V.Ground c.args.volume.now c.find.new.volume c.find.ensures.kept c.in-Some.root fault h told))) c.read.ensures.fault
+    (in_tree (tree_kept g.V.Ground c.args.volume.now c.find_reading.new.volume c.find_reading.ensures.kept c.in-Some.root fault h told))) c.read.ensures.fault

@@ -2,8 +2,8 @@ use Rattle.std.proofs.Common.{◌∙◌, ap, sym, subst, Err, refl}
 use Rattle.disk_model.specs.Runs.{honest_on}
 use Rattle.talks.specs.Opening.{Opened}
 use Rattle.exsm_run.specs.Fresh.{IsFresh}
-use Rattle.transactions.specs.Meant.{meant}
-use Rattle.transactions.specs.Sessions.{SessionState}
+use Rattle.session_core.specs.Meant.{meant}
+use Rattle.session_core.specs.Sessions.{SessionState}
 use Rattle.exsm_run.proofs.Opened.{err_same, shows_opened, leaves_opening}
 use Rattle.exsm_run.proofs.session.VolumeSessionOpener.open.Goals as goal
 

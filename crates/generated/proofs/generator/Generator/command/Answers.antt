@@ -1,4 +1,3 @@
-use Rattle.std.proofs.Common.{ℕ, List}
 use Rattle.generated.specs.Commands.{Basis}
 use Rattle.generated.specs.Lines.{basis_of}
 use Rattle.generated.proofs.Turns.{line_made, basis_made, turned}

@@ -1,4 +1,4 @@
-use Rattle.std.proofs.Common.{◌≡◌, ◌<◌, ◌%◌, arith}
+use Rattle.std.proofs.Common.{arith}
 use Rattle.generated.proofs.Turns.{lines_due, lines_next}
 use Rattle.generated.proofs.stage.Stage.before.Goals.{else-index-gt0-via-then-index-gt0+else-index-eq0, else-index-gt0-via-else-index-gt0}
 use Rattle.generated.proofs.stage.Stage.before.Goals as goal

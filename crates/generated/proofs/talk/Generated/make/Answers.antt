@@ -1,5 +1,4 @@
-use Rattle.std.proofs.Common.{◌≤◌, ◌+◌, ◌*◌, length, ap, arith}
-use Rattle.generated.specs.Lines.{to_come}
+use Rattle.std.proofs.Common.{length, ap, arith}
 use Rattle.generated.proofs.Counting.{few_generated}
 use Rattle.generated.proofs.talk.Generated.make.Goals as goal
 

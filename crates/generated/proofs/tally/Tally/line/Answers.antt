@@ -1,8 +1,7 @@
-use Rattle.std.proofs.Common.{◌≡◌, ◌+◌, List, length, arith}
+use Rattle.std.proofs.Common.{◌≡◌, length, arith}
 use Rattle.std.proofs.lemmas.Result.{IfOk-at_ok}
-use Rattle.table_model.specs.declared.reply.Reply.{Reply}
 use Rattle.ex_base.proofs.Results.{if_ok_from}
-use Rattle.generated.specs.Replies.{IsTallyOf, accepted_in, gen_line, refused_in, transcript}
+use Rattle.generated.specs.Replies.{gen_line, transcript}
 use Rattle.generated.proofs.Counting.{all_counted}
 use Rattle.generated.proofs.tally.Tally.line.Goals as goal
 

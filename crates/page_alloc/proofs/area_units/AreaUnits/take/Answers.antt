@@ -9,5 +9,5 @@ invariant_of-self c =
     let blocks : length c.first_free-at.new.crowded ≡ c.self.inside.crowded.len = search rules in
     let full : length c.first_free-at.new.full ≡ length c.self.inside.full.items = search rules in
     let crowded : length c.first_free-at.new.crowded ≡ length c.self.inside.crowded.items = search rules in
-    rw (with_items_is c.self.inside.full c.first_free-at.new.full groups, with_items_is c.self.inside.crowded c.first_free-at.new.crowded blocks)
-    (sound_take c.self.inside.used.items c.self.inside.refs.items c.self.inside.full.items c.self.inside.crowded.items c.first_free-at.new.full c.first_free-at.new.crowded c.self.inside.low c.self.inside.free c.first_free-at.result c.self.invariant (search rules) full crowded (search rules) (search rules))
+    rw (c.set.ensures, with_items_is c.self.inside.full c.first_free-at.new.full groups, with_items_is c.self.inside.crowded c.first_free-at.new.crowded blocks)
+    (sound_take c.self.inside.used c.self.inside.refs c.self.inside.full.items c.self.inside.crowded.items c.first_free-at.new.full c.first_free-at.new.crowded c.self.inside.low c.self.inside.free c.first_free-at.result c.self.invariant (search rules) full crowded (search rules) (search rules))

@@ -1,0 +1,82 @@
+//! Lists of which memory is touched only as far as they were changed.
+ghost use Rattle.std.specs.Prelude.{◌≡◌, ◌<◌, ◌≤◌, ◌+◌, length, replicate, slice_index_or, slice_set, IfOk};
+
+use std::alloc::{AllocError, Global};
+use std::marker::Model;
+
+/// A list of a fixed length, of equal elements at first. Room for all of them is taken when it is made, but it is written only up to the last place that
+/// was set, so the system gives no memory for what lies behind. Contracts see the whole list.
+#[derive(Drop)]
+pub struct Filled<T: Copy> {
+    // the elements up to the last place that was set
+    written: Vec<T>,
+    // what each element behind them is
+    rest: T,
+    len: usize,
+}
+
+impl<T: Copy> Model for Filled<T> {
+    ghost use Rattle.std.specs.Prelude.{List, ◌≤◌, ◌++◌, ◌-◌, length, replicate, vec_capacity};
+
+    ghost Value = { List T };
+
+    ghost view = { λ f. f.written.items ++ replicate (f.len - length f.written.items) f.rest };
+
+    ghost invariant = { λ f. (length f.written.items ≤ f.len) × (f.len ≤ vec_capacity f.written) };
+}
+
+impl<T: Copy> Filled<T> {
+    /// So many times this element.
+    pub fn make(alloc: Global, element: T, len: usize) -> Result<Filled<T>, AllocError>
+        ensures { IfOk result (λ list. list ≡ replicate len element) }
+    {
+        Ok(Filled {
+            written: Vec::with_capacity(alloc, len)?,
+            rest: element,
+            len,
+        })
+    }
+
+    /// A copy, which can be changed apart.
+    pub fn copy(&self, alloc: Global) -> Result<Filled<T>, AllocError>
+        ensures { IfOk result (λ list. list ≡ self.now) }
+    {
+        let mut written = Vec::with_capacity(alloc, self.len)?;
+        written.extend_from_slice(&self.written)?;
+        Ok(Filled {
+            written,
+            rest: self.rest,
+            len: self.len,
+        })
+    }
+
+    /// How many elements there are.
+    pub fn len(&self) -> usize
+        ensures { result ≡ length self.now }
+    {
+        self.len
+    }
+
+    /// The element at a place.
+    pub fn get(&self, at: usize) -> T
+        requires { at < length self.now }
+        ensures { (d : T) → result ≡ slice_index_or self.now at d }
+    {
+        if at < self.written.len() {
+            self.written[at]
+        } else {
+            self.rest
+        }
+    }
+
+    /// Puts an element in the place of another.
+    pub fn set(&mut self, at: usize, element: T)
+        requires { at < length self.old }
+        ensures { self.new ≡ slice_set self.old at element }
+    {
+        if at >= self.written.len() && self.written.resize(at + 1, self.rest).is_err() {
+            unreachable!();
+        }
+        self.written[at] = element;
+    }
+}

@@ -1,0 +1,81 @@
+-- The owners of units, of roots in another order and of pages that are kept.
+use Rattle.std.proofs.Common.{◌≡◌, ◌↔◌, ℕ, suc, Bool, true, List, [], ◌∷◌, ◌++◌, IsPermutation, sum_by, refl, sym, ap, subst, ◌∙◌, arith}
+use Rattle.std.specs.List.{flat_map, AllByRecursion}
+use Rattle.std.specs.Prelude.{Contains}
+use Rattle.std.proofs.lemmas.List.Concat.{flat_map-append}
+use Rattle.std.proofs.lemmas.List.Sorted.{sum_by-IsPermutation}
+use Rattle.ex_base.specs.declared.geometry.Geometry.{Geometry}
+use Rattle.ex_base.specs.declared.names.Root.{Root}
+use Rattle.ex_base.specs.Area.{InPageArea}
+use Rattle.ex_base.specs.Ports.{times}
+use Rattle.ex_base.proofs.Counts.{contains_times, times_contains, times_flat}
+use Rattle.ex_base.proofs.Each.{each_as}
+use Rattle.node_walk.specs.Counts.{AreUsed}
+use Rattle.trees.specs.Owners.{IsInner, IsOwned, StandsAt, named_on, page_here, root_pages}
+use Rattle.trees.specs.Trees.{Units}
+use Rattle.trees.proofs.Released.{each_kept, stands_kept}
+use Rattle.volume_model.specs.Volume.{Stored, root_in, roots_in}
+
+-- the used units, by how often they stand in a list
+pub used_times : (used : ℕ → Bool) (pages : List ℕ) → ((page : ℕ) → (used page ≡ true) ↔ Contains pages page) → AreUsed used pages
+used_times used pages is page = (
+  λ yes. contains_times page pages ((is page).0 yes),
+  λ some. (is page).1 (times_contains page pages some),
+)
+
+-- ---- roots in another order
+
+pages_listed : (stored : List Stored) → root_pages (roots_in stored) ≡ flat_map (λ (s : Stored). root_pages (root_in s.body.content)) stored
+pages_listed [] = refl
+pages_listed (s ∷ stored) =
+    flat_map-append (λ (root : Root). page_here root.page) (root_in s.body.content) (roots_in stored)
+    ∙ ap (λ (rest : List ℕ). root_pages (root_in s.body.content) ++ rest) (pages_listed stored)
+
+pages_counted : (unit : ℕ) (stored : List Stored) → times unit (root_pages (roots_in stored)) ≡ sum_by (λ (s : Stored). times unit (root_pages (root_in s.body.content))) stored
+pages_counted unit stored = ap (times unit) (pages_listed stored) ∙ times_flat unit (λ (s : Stored). root_pages (root_in s.body.content)) stored
+
+pages_permuted : (xs ys : List Stored) → IsPermutation xs ys → (unit : ℕ) → times unit (root_pages (roots_in ys)) ≡ times unit (root_pages (roots_in xs))
+pages_permuted xs ys same unit =
+    let sums = sum_by-IsPermutation (λ (s : Stored). times unit (root_pages (root_in s.body.content))) xs ys same in
+    omega (arith, pages_counted unit xs, pages_counted unit ys, sums)
+
+pub owned_permuted : (g : Geometry) (units : Units) (used : ℕ → Bool) (refs : ℕ → ℕ) (logged : List ℕ) (xs ys : List Stored) → IsPermutation xs ys → IsOwned g units used refs logged (root_pages (roots_in xs))
+    → IsOwned g units used refs logged (root_pages (roots_in ys))
+owned_permuted g units used refs logged xs ys same is = record {
+  nodes = is.nodes;
+  inner = is.inner;
+  once = is.once;
+  owners = λ unit. omega (arith, is.owners unit, pages_permuted xs ys same unit);
+  listed = is.listed;
+  owned = is.owned;
+  in_use = is.in_use;
+  apart = is.apart;
+}
+
+-- ---- pages that are kept
+
+module _ (g : Geometry) (units later : Units) (kept : (page : ℕ) → InPageArea g page → later page ≡ units page) where
+  inner_kept : (page : ℕ) → IsInner g units page → IsInner g later page
+  inner_kept page inner =
+      let same : later page ≡ units page = kept page inner.stands.0 in
+      let named : named_on later page ≡ named_on units page = ap (λ (bytes : List ℕ). named_on (λ _. bytes) 0) same in
+      record {
+        level = inner.level;
+        stands = stands_kept g units later (suc inner.level) page (kept page) inner.stands;
+        below = subst (AllByRecursion (StandsAt g later inner.level)) (sym named)
+            (each_as (StandsAt g units inner.level) (StandsAt g later inner.level) (named_on units page) (λ unit at. stands_kept g units later inner.level unit (kept unit) at) inner.below);
+      }
+
+  pub owned_kept : (used : ℕ → Bool) (refs : ℕ → ℕ) (logged roots : List ℕ) → IsOwned g units used refs logged roots → IsOwned g later used refs logged roots
+  owned_kept used refs logged roots is =
+      let names = each_kept units later is.nodes (each_as (IsInner g units) (λ page. later page ≡ units page) is.nodes (λ page inner. kept page inner.stands.0) is.inner) in
+      record {
+        nodes = is.nodes;
+        inner = each_as (IsInner g units) (IsInner g later) is.nodes inner_kept is.inner;
+        once = is.once;
+        owners = λ unit. omega (arith, is.owners unit, ap (times unit) names);
+        listed = is.listed;
+        owned = is.owned;
+        in_use = is.in_use;
+        apart = is.apart;
+      }

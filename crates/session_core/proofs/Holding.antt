@@ -1,0 +1,230 @@
+-- The parts that a port leaves hold the volume that its working state became.
+use Rattle.std.proofs.Common.{◌≡◌, ◌∙◌, ⊎_elim, ℕ, Bool, true, false, List, [], ◌∷◌, ◌++◌, All, Option, Some, None, nat_eq, sym, ap, subst, inl, inr, length, ◌≤◌, arith}
+use Rattle.std.specs.Prelude.{Contains, unwrap_or}
+use Rattle.std.specs.Map.{lookup}
+use Rattle.std.proofs.lemmas.List.Elements.{Contains-append_left}
+use Rattle.std.proofs.lemmas.Bool.{both_ways}
+use Rattle.ex_base.specs.declared.geometry.Geometry.{Geometry}
+use Rattle.ex_base.specs.declared.ground.Ground as ground
+use Rattle.ex_base.specs.Area.{InPageArea, catalog_no}
+use Rattle.disk_model.specs.Outside.{Outside}
+use Rattle.buffer_groups.specs.Frames.{Frames, Lends}
+use Rattle.meta_pages.specs.Overlays.{AreRows, image_at}
+use Rattle.page_alloc.specs.UnitSet.{free_count, used_at}
+use Rattle.trees.specs.Trees.{Units}
+use Rattle.tree_store.specs.Stored.{NoUnit, Tells, unit_bytes}
+use Rattle.table_model.specs.declared.table.Table.{Table}
+use Rattle.table_model.specs.Machines.{shown}
+use Rattle.table_model.specs.Tables.{IsTable}
+use Rattle.ex_base.specs.declared.names.Area.{Area}
+use Rattle.object_updates.specs.Updates.{BecomesVolume}
+use Rattle.op_log.specs.declared.record.LogRecord.{LogRecord}
+use Rattle.session_views.specs.View.{View, ShowsNow}
+use Rattle.version_model.specs.Versions.{AreInUse}
+use Rattle.volume_edits.specs.Edits.{trees_of}
+use Rattle.volume_edits.specs.Ported.{IsApart, IsVolume, units_in}
+use Rattle.volume_model.specs.Shown.{working_units}
+use Rattle.volume_model.specs.Volume.{Decoded, Volume, file_pages, reach_of, roots_in, stored_in, table_of, units_of}
+use Rattle.volume_port.specs.Logged.{is_held}
+use Rattle.volume_port.specs.Ported.{IsFixed, image_over}
+use Rattle.volume_port.specs.Stays.{StillCommitted}
+use Rattle.session_core.specs.Finding.{IsPortOf, PortShows}
+use Rattle.session_core.specs.Meant.{meant}
+use Rattle.session_core.specs.Sessions.{SessionState, IsSession}
+use Rattle.session_core.specs.Counts.{free_in}
+use Rattle.session_core.specs.Updates.{HasPortParts, HoldsTable, KeepsRest, Moved, PortParts, parts_held}
+use Rattle.session_core.proofs.Bridge.{image_is, image_shown, kept_page, no_image, shows_volume, table_is, volume_kept}
+use Rattle.session_core.proofs.Ending.{in_second}
+use Rattle.session_core.proofs.Finding.{shown_tells}
+use Rattle.session_core.proofs.KeptOff.{trees_kept}
+use Rattle.session_core.proofs.Ruling.{image_most, volume_rules}
+use Rattle.session_core.proofs.Showing.{trees_in}
+use Rattle.session_core.proofs.Updating.{LeavesVolume, IsSettled, update_stays, updates_show}
+
+-- The port is over a session's parts: it has their bytes, images and logged pages, the units in use, and as many free ones.
+pub record IsPortWith {S : Type 0} (g : ground.Ghosts S) (s : S) (geometry : Geometry) (disk : Option (List ℕ)) (p : PortParts) : Type 0 where
+  pub geometry_is : g.geometry s ≡ geometry
+  pub unit : g.unit s ≡ unit_bytes geometry disk
+  pub image : g.image s ≡ image_over geometry p.meta (unit_bytes geometry disk)
+  pub held : g.held s ≡ is_held p.pages
+  pub used : g.used s ≡ used_at p.units
+  pub free : g.free s ≡ free_count p.units.geometry (used_at p.units)
+
+pub port_of : {S : Type 0} (g : ground.Ghosts S) (s : S) (session : SessionState) (disk : Option (List ℕ)) → IsPortWith g s session.geometry disk (parts_held session) → IsPortOf g s session disk
+port_of g s session disk over = record { geometry = over.geometry_is; unit = over.unit; image = over.image; held = over.held }
+
+-- ---- before the update
+
+module _ {S : Type 0} (g : ground.Ghosts S) (s : S) {a : Outside} {before : View SessionState} (now : ShowsNow meant a before) (session : IsSession before.session)
+    (over : IsPortWith g s before.session.geometry a.disk (parts_held before.session)) where
+  abbrev d : Decoded
+  d = now.shows.decoded
+
+  abbrev working : Volume
+  working = now.shows.working
+
+  abbrev O : Units
+  O = working_units d before.disk before.session.meta.working
+
+  port : IsPortOf g s before.session a.disk
+  port = port_of g s before.session a.disk over
+
+  pub trees_before : trees_of (units_in g s) working ≡ trees_in O working
+  trees_before = trees_kept O (units_in g s) (roots_in (stored_in working)) (volume_kept g s now port).roots
+
+  used_before : (u : ℕ) → Contains (reach_of O working) u → used_at before.session.units u ≡ true
+  used_before u has = now.shows.used.reached u (in_second (reach_of (units_of d before.disk) d.volume) (reach_of O working) [] u has)
+
+  pub is_volume : IsVolume g s d.records working
+  is_volume = record {
+    shows = shows_volume g s now port session.pages;
+    used = λ u has. ap (λ (f : ℕ → Bool). f u) over.used ∙ used_before u (subst (λ (us : List ℕ). Contains ((catalog_no ∷ file_pages working) ++ us) u) trees_before has);
+  }
+
+  held_used : (page : ℕ) → is_held before.session.pages page ≡ true → used_at before.session.units page ≡ true
+  held_used page held = used_before page (Contains-append_left (catalog_no ∷ file_pages working) (trees_in O working) page ((now.shows.logged.held page).0 held))
+
+  -- ---- after it
+
+  module _ (t : S) {b : Outside} (p : PortParts) (moved : Moved a b before.session.geometry (parts_held before.session) p) (later_over : IsPortWith g t before.session.geometry b.disk p) where
+    pub in_use_after : AreInUse g t
+    in_use_after page held =
+        ap (λ (f : ℕ → Bool). f page) later_over.used ∙ moved.in_use page (held_used page) (sym (ap (λ (f : ℕ → Bool). f page) later_over.held) ∙ held)
+
+    nothing_over : (page : ℕ) → is_held p.pages page ≡ false → image_at p.meta page ≡ None
+    nothing_over page off = no_image (lookup (nat_eq page) p.meta.working) (lookup (nat_eq page) p.meta.committed)
+        (λ image row. both_ways _ off (moved.ready.images page image row))
+        (λ image row. moved.given_back page (session.pages.known page (kept_page g s now port session.pages page image (sym (ap (λ (rows : List (ℕ × List ℕ)). lookup (nat_eq page) rows) moved.committed) ∙ row))) off)
+
+    pub apart_after : IsApart g t
+    apart_after page area off =
+        let home = unit_bytes before.session.geometry b.disk in
+        let lies : InPageArea before.session.geometry page = subst (λ (h : Geometry). InPageArea h page) later_over.geometry_is area in
+        ap (λ (f : ℕ → List ℕ). f page) later_over.image
+        ∙ image_is before.session.geometry p.meta home page lies
+        ∙ ap (λ (o : Option (List ℕ)). unwrap_or o (home page)) (nothing_over page (sym (ap (λ (f : ℕ → Bool). f page) later_over.held) ∙ off))
+        ∙ sym (ap (λ (f : ℕ → List ℕ). f page) later_over.unit)
+
+    module _ (ready : g.ready t) (told_later : g.tells t) (rows : AreRows p.meta) (table : Table) (becomes : BecomesVolume g s t d.records working table) where
+      tells : Tells a before.session.groups
+      tells = let bytes = shown_tells now session.sizes in (now.honest, bytes.0, bytes.1)
+
+      -- a session with the parts
+      abbrev first : SessionState
+      first = record before.session { units = p.units; groups = p.groups; meta = p.meta; pages = p.pages; room = p.room }
+
+      abbrev Still : List ℕ → PortParts → Type 0
+      Still later q = StillCommitted (IsSettled before.session) (IsFixed NoUnit (used_at q.units) q.pages) d before.disk b.images later before.session.log q.meta.committed
+
+      stays : (later : List ℕ) × ((b.disk ≡ Some later) × Still later p)
+      stays = update_stays now session first moved.changes moved.fixed moved.committed
+
+      abbrev later : List ℕ
+      later = stays.0
+
+      free_before : (u : ℕ) → g.used s u ≡ false → used_at before.session.units u ≡ false
+      free_before u free = sym (ap (λ (f : ℕ → Bool). f u) over.used) ∙ free
+
+      port_after : (new : SessionState) → KeepsRest before.session new p → IsPortWith g t new.geometry b.disk (parts_held new)
+      port_after new rest = subst (λ (h : Geometry). IsPortWith g t h b.disk (parts_held new)) (sym rest.geometry) (subst (λ (q : PortParts). IsPortWith g t before.session.geometry b.disk q) (sym rest.parts) later_over)
+
+      leaves : (new : SessionState) → KeepsRest before.session new p → LeavesVolume g t b d working before new becomes.now later
+      leaves new rest =
+          let whole = port_after new rest in
+          record {
+            port = port_of g t new b.disk whole;
+            used = whole.used;
+            volume = becomes.volume;
+            pages = λ page has. ⊎_elim (λ was. inl was) (λ free. inr (free_before page free)) (becomes.pages page has);
+            units = λ u has. ⊎_elim (λ was. inl (subst (λ (us : List ℕ). Contains us u) trees_before was)) (λ free. inr (free_before u free)) (becomes.units u has);
+            holds = stays.1.0;
+            lends = subst (λ (q : PortParts). All (Lends b.disk) q.groups) (sym rest.parts) (moved.told tells).2;
+            still = subst (λ (q : PortParts). Still later q) (sym rest.parts) stays.1.1;
+            committed = ap (λ (q : PortParts). q.meta.committed) rest.parts ∙ moved.committed;
+            kept = rest.kept;
+            log = rest.log;
+            geometry = rest.geometry;
+          }
+
+      catalog_lies : (h : Geometry) → InPageArea h catalog_no
+      catalog_lies h = let some = h.some_pages in (omega arith, omega (arith, some))
+
+      catalog_fits : length (g.image t catalog_no) ≤ (g.geometry t).page_size
+      catalog_fits =
+          subst (λ (image : ℕ → List ℕ). length (image catalog_no) ≤ (g.geometry t).page_size) (sym later_over.image)
+          (subst (λ (h : Geometry). length (image_over before.session.geometry p.meta (unit_bytes before.session.geometry b.disk) catalog_no) ≤ h.page_size) (sym later_over.geometry_is)
+          (image_most before.session.geometry p.meta rows moved.ready.overlay catalog_no b.disk (catalog_lies before.session.geometry)))
+
+      rules_kept : IsTable before.session.geometry table
+      rules_kept =
+          subst (λ (h : Geometry). IsTable h table) later_over.geometry_is
+          (subst (λ (kept : Table). IsTable (g.geometry t) kept) becomes.shows
+          (volume_rules g t ready told_later d.records becomes.now (catalog_lies (g.geometry t)) catalog_fits becomes.volume.shows))
+
+      pub holds_table : HoldsTable before b p table
+      holds_table = record {
+        later = later;
+        holds = stays.1.0;
+        rules = rules_kept;
+        shows = λ m new rest with shared. updates_show g t now new becomes.now later (leaves new rest) rest.is m table with (sym becomes.shows) shared;
+      }
+
+-- ---- over the session that an update begins with
+
+-- as the parts are before and after the borrow
+pub with_parts : {S D : Type 0} (g : ground.Ghosts S) (s : S) (outside : D → Outside) (x y : D) (h k : Geometry) (p q : PortParts) → x ≡ y → h ≡ k → p ≡ q → IsPortWith g s h (outside x).disk p → IsPortWith g s k (outside y).disk q
+with_parts g s outside x y h k p q one two three over =
+    subst (λ z. IsPortWith g s k (outside z).disk q) one (subst (λ (l : Geometry). IsPortWith g s l (outside x).disk q) two (subst (λ (r : PortParts). IsPortWith g s h (outside x).disk r) three over))
+
+pub tells_at : {D : Type 0} (outside : D → Outside) (x y : D) (f h : List Frames) → x ≡ y → f ≡ h → Tells (outside x) f → Tells (outside y) h
+tells_at outside x y f h one two tells = subst (λ z. Tells (outside z) h) one (subst (λ (k : List Frames). Tells (outside x) k) two tells)
+
+module _ {S : Type 0} (g : ground.Ghosts S) (s : S) {a : Outside} (geometry : Geometry) (old : PortParts) (over : IsPortWith g s geometry a.disk old) (told : Tells a old.groups → g.tells s) where
+  module _ {before : View SessionState} (has : HasPortParts before.session geometry old) (now : ShowsNow meant a before) where
+    own_over : IsPortWith g s before.session.geometry a.disk (parts_held before.session)
+    own_over = subst (λ (h : Geometry). IsPortWith g s h a.disk (parts_held before.session)) (sym has.geometry) (subst (λ (p : PortParts). IsPortWith g s geometry a.disk p) (sym has.parts) over)
+
+    own_tells : g.tells s
+    own_tells = (let bytes = shown_tells now has.is.sizes in told (subst (λ (p : PortParts). Tells a p.groups) has.parts (now.honest, bytes.0, bytes.1)))
+
+    own_port : IsPortOf g s before.session a.disk
+    own_port = port_of g s before.session a.disk own_over
+
+    same_table : shown before.machine ≡ table_of (units_in g s) now.shows.working
+    same_table = table_is g s now own_port
+
+    -- the port has what the view shows, and as many free units as the session
+    pub own_shows : PortShows g s before
+    own_shows = record {
+      geometry = own_port.geometry;
+      records = now.shows.decoded.records;
+      working = now.shows.working;
+      volume = shows_volume g s now own_port has.is.pages;
+      table = same_table;
+      image = image_shown g s now own_port;
+      tells = own_tells;
+    }
+
+    pub own_free : (area : Area) → g.free s area ≡ free_in before.session area
+    own_free area = ap (λ (free : Area → ℕ). free area) own_over.free
+
+  module _ (asks : Volume → Table → Type 0) where
+    -- where a volume with such a table excludes a fault, so does a session that shows both
+    pub never_shown : ((records : List LogRecord) (v : Volume) → g.tells s → IsVolume g s records v → asks v (table_of (units_in g s) v) → ⊥)
+        → (before : View SessionState) → HasPortParts before.session geometry old → (now : ShowsNow meant a before) → asks now.shows.working (shown before.machine) → ⊥
+    never_shown never before has now asked =
+        never now.shows.decoded.records now.shows.working (own_tells has now) (is_volume g s now has.is (own_over has now)) (subst (asks now.shows.working) (same_table has now) asked)
+
+    module _ (t : S) (ready : g.ready s) (leads : g.leads s t) {b : Outside} (new : PortParts) (moved : Moved a b geometry old new) (later_over : IsPortWith g t geometry b.disk new) (rows : AreRows new.meta) (after : Table → Table) where
+      -- where it becomes a volume with another table, the parts hold that table
+      pub update_holds : ((records : List LogRecord) (v : Volume) → g.tells s → IsVolume g s records v → asks v (table_of (units_in g s) v) → IsApart g t → AreInUse g t → BecomesVolume g s t records v (after (table_of (units_in g s) v)))
+          → (before : View SessionState) → HasPortParts before.session geometry old → (now : ShowsNow meant a before) → asks now.shows.working (shown before.machine) → HoldsTable before b new (after (shown before.machine))
+      update_holds becomes before has now asked =
+          let own = own_over has now in
+          let moves = subst (λ (h : Geometry). Moved a b h (parts_held before.session) new) (sym has.geometry) (subst (λ (p : PortParts). Moved a b geometry p new) (sym has.parts) moved) in
+          let later = subst (λ (h : Geometry). IsPortWith g t h b.disk new) (sym has.geometry) later_over in
+          let same = same_table has now in
+          holds_table g s now has.is own t new moves later (g.leads_ready s t leads ready) (g.leads_told s t leads (own_tells has now)) rows (after (shown before.machine))
+          (subst (λ (table : Table). BecomesVolume g s t now.shows.decoded.records now.shows.working (after table)) (sym same)
+          (becomes now.shows.decoded.records now.shows.working (own_tells has now) (is_volume g s now has.is own) (subst (asks now.shows.working) same asked)
+          (apart_after g s now has.is own t new moves later) (in_use_after g s now has.is own t new moves later)))

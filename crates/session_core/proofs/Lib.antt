@@ -1,0 +1,33 @@
+pub mod Accepted
+mod Beside
+mod Bridge
+mod Committing
+mod Digests
+mod Stopping
+pub mod Ending
+pub mod Finding
+mod Frames
+mod Holding
+pub mod KeptOff
+pub mod Listing
+mod Moved
+mod Moving
+pub mod Naming
+mod OutOfRange
+mod Performing
+pub mod Picking
+pub mod Quiet
+mod Reading
+pub mod Refusing
+mod Roomed
+mod Ruling
+pub mod Sessions
+mod Settling
+mod Shaping
+pub mod Showing
+mod Summing
+mod Tracking
+mod Updating
+pub mod Volumes
+pub mod Working
+mod Writing

@@ -1,0 +1,112 @@
+-- An update that has its room in a session has it in the session's port.
+use Rattle.std.proofs.Common.{◌≡◌, ◌∙◌, ℕ, ◌+◌, ◌≤◌, Bool, true, false, List, length, take, drop, ◌++◌, Some, refl, sym, ap, subst, arith, inl, inr}
+use Rattle.std.specs.Prelude.{is_none, nat_le, ◌&&◌, ◌||◌, ◌==◌, if◌then◌else◌}
+use Rattle.std.proofs.lemmas.Bool.{cases_Bool, leb-true}
+use Rattle.std.proofs.lemmas.List.{length-append, length-take, length-drop}
+use Rattle.ex_base.specs.declared.ground.Ground as ground
+use Rattle.ex_base.specs.declared.geometry.Geometry.{Geometry}
+use Rattle.ex_base.specs.declared.names.Area.{Area}
+use Rattle.ex_base.specs.declared.names.Oid.{Oid}
+use Rattle.index_pages.specs.declared.Index.{Index}
+use Rattle.object_records.specs.Record.{Content, Small, Large, Record}
+use Rattle.object_updates.specs.Updates.{Asks, Changes, HasRoom, Makes, Removes, TableUpdate}
+use Rattle.session_views.specs.View.{View}
+use Rattle.slotted_pages.specs.Edits.{slots_of}
+use Rattle.slotted_pages.specs.FilePage.{room_of}
+use Rattle.table_model.specs.declared.table.Table.{Table}
+use Rattle.table_model.specs.declared.table.Version.{Version}
+use Rattle.table_model.specs.Machines.{shown}
+use Rattle.table_model.specs.Tables.{version_at}
+use Rattle.versions.specs.declared.finding.Found.{Found}
+use Rattle.versions.specs.Edited.{HasNeed}
+use Rattle.versions.specs.Found.{found_of, root_of, size_of}
+use Rattle.versions.specs.Needs.{edit_need, height_in, most_need}
+use Rattle.version_model.specs.Versions.{Appends, Change, Deletes, HasVersion, Inserts, InRange, Replaces, StaysSmall, changed, count_of, lone_head, place_of, record_len}
+use Rattle.versions.proofs.Standing.{holds_of, version_size}
+use Rattle.volume_edits.specs.Shown.{ReadsVersion}
+use Rattle.volume_model.specs.Volume.{Volume}
+use Rattle.session_core.specs.Needs.{fits_beside, room_beside, root_height, size_after, units_need}
+use Rattle.session_core.specs.Finding.{PortShows, TellsVersion}
+use Rattle.session_core.specs.Counts.{free_in}
+use Rattle.session_core.specs.Sessions.{SessionState}
+use Rattle.session_core.specs.Updates.{HasRoomFor}
+use Rattle.session_core.proofs.Beside.{beside}
+use Rattle.session_core.proofs.Finding.{held_version, named_content, page_lies, reads_live, tells_version}
+
+-- ---- the bytes after a change, and what it needs
+
+pub length_after : (change : Change) (bytes : List ℕ) → InRange change (length bytes) → length (changed change bytes) ≡ size_after change (length bytes)
+length_after (Inserts pos given) bytes range = omega (arith, range.0, length-append (take pos bytes) given, length-append (take pos bytes ++ given) (drop pos bytes), length-append given (drop pos bytes), length-append (take pos bytes) (given ++ drop pos bytes), length-take pos bytes, length-drop pos bytes)
+length_after (Appends given) bytes range = length-append bytes given
+length_after (Replaces pos given) bytes range = omega (arith, range, length-append (take pos bytes) given, length-append (take pos bytes ++ given) (drop (pos + length given) bytes), length-append given (drop (pos + length given) bytes), length-append (take pos bytes) (given ++ drop (pos + length given) bytes), length-take pos bytes, length-drop (pos + length given) bytes)
+length_after (Deletes pos len) bytes range = omega (arith, range, length-append (take pos bytes) (drop (pos + len) bytes), length-take pos bytes, length-drop (pos + len) bytes)
+
+or_not : (b : Bool) → (b || false) ≡ b
+or_not true = refl
+or_not false = refl
+
+height_is : (content : Content) → root_height (root_of content) ≡ height_in content
+height_is (Small held) = refl
+height_is (Large root) = refl
+
+-- where the version doesn't stay small, the session counts for its change what the port asks for
+need_is : (g : Geometry) (found : Found) (change : Change) (content : Content) (area : Area) → found.root ≡ root_of content → units_need g found change false area ≡ edit_need g change content area
+need_is g found change content area root =
+    ap (λ (b : Bool). if b then 0 else most_need g change (root_height found.root) area) (or_not (count_of change == 0))
+    ∙ ap (λ (height : ℕ). if count_of change == 0 then 0 else most_need g change height area) (ap root_height root ∙ height_is content)
+
+module _ {S : Type 0} (g : ground.Ghosts S) (s : S) {before : View SessionState} (shows : PortShows g s before) where
+  -- a version whose record fits beside the others stays small
+  stays_by : (oid : Oid) (content : Content) (n room : ℕ) → room ≡ room_of (g.geometry s).page_size (slots_of (g.image s oid.page.0))
+      → (is_none (root_of content) && nat_le (record_len n) (record_len (size_of content) + room)) ≡ true → StaysSmall g s (place_of oid) content n
+  stays_by oid (Small held) n room is fits =
+      subst (λ (k : ℕ). record_len n ≤ record_len (length held) + k) is (leb-true (record_len n) (record_len (length held) + room) fits)
+  stays_by oid (Large root) n room is fits = absurd (cc)
+
+  module _ (ready : g.ready s) (oid : Oid) (version : Version) (is : version_at (shown before.machine) oid ≡ Some version) (index : Index) (content : Content) (bytes : List ℕ) (has : HasVersion g s index oid content bytes) where
+    abbrev own : Record
+    own = record { head = lone_head oid.unique; content = content }
+
+    reads : ReadsVersion g s oid version
+    reads = reads_live g s shows oid version is
+
+    -- one record stands where the OID leads
+    same_content : content ≡ reads.content
+    same_content = sym (named_content g s shows index oid own has.stored) ∙ named_content g s shows reads.index oid (record { head = lone_head oid.unique; content = reads.content }) reads.stored
+
+    size_here : length bytes ≡ size_of content
+    size_here = version_size g s index oid content bytes ready shows.tells (holds_of g s index oid content bytes has)
+
+    size_live : length version.bytes ≡ size_of content
+    size_live = version_size g s reads.index oid reads.content version.bytes ready shows.tells (held_version g s oid version reads) ∙ ap size_of (sym same_content)
+
+    told : TellsVersion before oid (found_of own)
+    told =
+        tells_version g s shows oid (found_of own) version (ap (λ (t : Table). version_at t oid) (sym shows.table) ∙ is) reads
+        (ap (λ (c : Content). found_of (record { head = lone_head oid.unique; content = c })) same_content) (sym size_live)
+
+    room_here : room_beside before oid ≡ room_of (g.geometry s).page_size (slots_of (g.image s oid.page.0))
+    room_here = sym (beside g s shows oid (room_of (g.geometry s).page_size (slots_of (g.image s oid.page.0))) (page_lies g s shows index oid own has.stored) refl)
+
+    not_beside : (n : ℕ) → (StaysSmall g s (place_of oid) content n → ⊥) → fits_beside before (record { oid = oid; found = found_of own }) n ≡ false
+    not_beside n large = elim (cases_Bool (fits_beside before (record { oid = oid; found = found_of own }) n)) [
+      | inl fits ↦ absurd (large (stays_by oid content n (room_beside before oid) room_here fits))
+      | inr not ↦ not
+    ]
+
+    has_need : (change : Change) → InRange change (length version.bytes) → ((area : Area) → g.free s area ≡ free_in before.session area) → HasRoomFor before (Changes oid change)
+        → HasNeed g s (place_of oid) content change (length (changed change bytes))
+    has_need change inside free room large area =
+        let after : length (changed change bytes) ≡ size_after change (size_of content) =
+        length_after change bytes (subst (InRange change) (size_live ∙ sym size_here) inside) ∙ ap (size_after change) size_here in
+        let grown = not_beside (size_after change (size_of content)) (λ stays. large (subst (StaysSmall g s (place_of oid) content) (sym after) stays)) in
+        let need : units_need before.session.geometry (found_of own) change (fits_beside before (record { oid = oid; found = found_of own }) (size_after change (size_of content))) area ≡ edit_need (g.geometry s) change content area =
+        ap (λ (b : Bool). units_need before.session.geometry (found_of own) change b area) grown ∙ need_is before.session.geometry (found_of own) change content area refl
+        ∙ ap (λ (h : Geometry). edit_need h change content area) (sym shows.geometry) in
+        omega (arith, need, free area, room (found_of own) told area)
+
+  -- an update that a session has room for has its room in the port
+  pub has_room : g.ready s → ((area : Area) → g.free s area ≡ free_in before.session area) → (u : TableUpdate) (v : Volume) → Asks u v (shown before.machine) → HasRoomFor before u → HasRoom g s u
+  has_room ready free (Makes name file_no unique) v asks room = tt
+  has_room ready free (Changes oid change) v asks room = λ index content bytes has. has_need ready oid asks.version asks.is index content bytes has change asks.inside free room
+  has_room ready free (Removes oid) v asks room = tt

@@ -1,0 +1,191 @@
+-- What holds of every session goes on holding.
+use Rattle.std.proofs.Common.{◌≡◌, ◌≢◌, ◌∙◌, ℕ, ◌-◌, ◌^◌, ◌<◌, ◌≤◌, Bool, true, false, List, [], ◌∷◌, ◌++◌, length, map, All, Option, Some, nat_eq, refl, sym, ap, subst, arith, length-append}
+use Rattle.std.specs.List.{AllByRecursion}
+use Rattle.std.specs.Map.{lookup}
+use Rattle.std.specs.Prelude.{Result, Ok, Err, OnErr, is_err}
+use Rattle.object_files.specs.Catalog.{Catalog}
+use Rattle.ex_base.specs.declared.names.OpNote.{OpNote}
+use Rattle.ex_base.specs.Area.{catalog_no}
+use Rattle.op_log.specs.Records.{IsNote}
+use Rattle.op_log.proofs.Reading.{each-push}
+use Rattle.meta_pages.specs.Overlays.{Overlays}
+use Rattle.meta_pages.specs.Rows.{with_row, IsRising}
+use Rattle.meta_pages.proofs.RowLists.{rising_with}
+use Rattle.object_files.specs.Edits.{IsCatalogPage}
+use Rattle.object_files.specs.Reads.{catalog_on}
+use Rattle.table_model.specs.Machines.{updates_most, touched_most, no_oid}
+use Rattle.table_model.specs.Steps.{note}
+use Rattle.volume_model.specs.Shown.{WorkingRow}
+use Rattle.session_core.specs.Sessions.{SessionState, IsSession, IsTracked, HasWork, Settled, begun}
+use Rattle.volume_port.specs.Logged.{LoggedSet}
+use Rattle.page_alloc.specs.UnitSet.{UnitSet}
+use Rattle.session_core.proofs.Tracking.{tracked_put, tracked_settled, counted_gives}
+use Rattle.commits.specs.Room.{IsLogged, HasCatalog, AreBehindLog}
+use Rattle.buffer_groups.specs.Frames.{Frames}
+use Rattle.ex_base.specs.declared.geometry.Geometry.{Geometry}
+use Rattle.op_log.specs.State.{LogState}
+use Rattle.table_model.specs.declared.machine.BoundName.{BoundName}
+use Rattle.ex_base.specs.Order.{Rising}
+use Rattle.ex_base.specs.declared.notes.NoteKind.{NoteKind}
+use Rattle.std.proofs.lemmas.List.{length-map}
+use Rattle.std.proofs.lemmas.Bool.{both_ways}
+use Rattle.session_core.specs.Steps.{OnlyFrames}
+use Rattle.disk_model.specs.Outside.{Outside}
+use Rattle.session_core.proofs.Working.{lookup_put, length_put, firsts_put}
+
+-- with other working pages and notes
+abbrev pub working_on : SessionState → Overlays → List OpNote → Bool → SessionState
+working_on s meta notes opened = record s { meta = meta; notes = notes; opened = opened }
+
+pub works_on : (s : SessionState) (rows : List WorkingRow) (notes : List OpNote) (opened : Bool) (meta : Overlays) → IsSession s → meta ≡ record s.meta { working = rows } → length rows ≤ touched_most → length notes ≤ updates_most → AllByRecursion IsNote notes → IsRising rows
+    → (opened ≡ true → HasWork (record s.meta { working = rows })) → IsTracked s.geometry rows s.pages s.kept → (opened ≡ false → rows ≡ []) → IsSession (working_on s meta notes opened)
+works_on s rows notes opened meta is same few_rows few each rising work tracked idle = subst (λ (m : Overlays). IsSession (working_on s m notes opened)) (sym same) (record {
+  log = is.log;
+  meta = is.meta;
+  units = is.units;
+  pages = tracked;
+  room = is.room;
+  sizes = is.sizes;
+  main = is.main;
+  logged = record { images = is.logged.images; none = is.logged.none };
+  behind = is.behind;
+  few_notes = few;
+  notes = each;
+  few_pages = few_rows;
+  in_order = rising;
+  work = work;
+  idle = idle;
+})
+
+-- a page as the working catalog
+pub has_work : (meta : Overlays) (page : List ℕ) → IsCatalogPage page → (catalog_on page).last < 2 ^ 64 - 1 → HasWork (record meta { working = with_row catalog_no (Some page) meta.working })
+has_work meta page is room = record { image = page; there = lookup_put catalog_no (Some page) meta.working; is_catalog = is; room = room }
+
+is_note : (kind : NoteKind) → IsNote (note kind no_oid 0 0)
+is_note kind = record { page = omega arith; slot = omega arith; unique = omega arith; first = omega arith; second = omega arith }
+
+-- what an update's caller has to see to
+pub record MayUpdate (s : SessionState) (page : List ℕ) (kind : NoteKind) : Type 0 where
+  pub catalog : IsCatalogPage page
+  pub number : (catalog_on page).last < 2 ^ 64 - 1
+  pub updates : length s.notes < updates_most
+  pub touched : length s.meta.working < touched_most
+  pub opened : s.opened ≡ true
+
+pub edited : (s now : SessionState) (page : List ℕ) (kind : NoteKind) (meta : Overlays) (notes : List OpNote) → s ≡ now → IsSession s → MayUpdate now page kind → meta ≡ record s.meta { working = with_row catalog_no (Some page) s.meta.working }
+    → notes ≡ s.notes → IsSession (working_on s meta notes s.opened)
+edited s now page kind meta notes is session may same noted =
+    let here = subst (λ (t : SessionState). MayUpdate t page kind) (sym is) may in
+    works_on s (with_row catalog_no (Some page) s.meta.working) notes s.opened meta session same (omega (arith, length_put catalog_no (Some page) s.meta.working, here.touched))
+    (subst (λ (l : List OpNote). length l ≤ updates_most) (sym noted) session.few_notes) (subst (λ (l : List OpNote). AllByRecursion IsNote l) (sym noted) session.notes) (rising_with catalog_no (Some page) s.meta.working session.in_order) (λ _. has_work s.meta page here.catalog here.number) (tracked_put s.geometry s.meta.working s.pages s.kept session.pages page) (λ closed. absurd (both_ways _ closed here.opened))
+
+pub noted : (s now : SessionState) (page : List ℕ) (kind : NoteKind) (meta : Overlays) (notes : List OpNote) → s ≡ now → IsSession s → MayUpdate now page kind → meta ≡ record s.meta { working = with_row catalog_no (Some page) s.meta.working }
+    → notes ≡ s.notes ++ note kind no_oid 0 0 ∷ [] → IsSession (working_on s meta notes s.opened)
+noted s now page kind meta notes is session may same pushed =
+    let here = subst (λ (t : SessionState). MayUpdate t page kind) (sym is) may in
+    works_on s (with_row catalog_no (Some page) s.meta.working) notes s.opened meta session same (omega (arith, length_put catalog_no (Some page) s.meta.working, here.touched))
+    (subst (λ (l : List OpNote). length l ≤ updates_most) (sym pushed) (omega (arith, length-append s.notes (note kind no_oid 0 0 ∷ []), here.updates)))
+    (subst (λ (l : List OpNote). AllByRecursion IsNote l) (sym pushed) (each-push IsNote s.notes (note kind no_oid 0 0) session.notes (is_note kind))) (rising_with catalog_no (Some page) s.meta.working session.in_order) (λ _. has_work s.meta page here.catalog here.number) (tracked_put s.geometry s.meta.working s.pages s.kept session.pages page) (λ closed. absurd (both_ways _ closed here.opened))
+
+-- a transaction that could not be opened, and one that was
+pub not_begun : (s : SessionState) (meta : Overlays) → IsSession s → s.opened ≡ false → meta ≡ record s.meta { working = [] } → IsSession (working_on s meta s.notes s.opened)
+not_begun s meta is closed same = works_on s [] s.notes s.opened meta is same (omega arith) is.few_notes is.notes tt (λ opened. absurd (both_ways _ closed opened)) (subst (λ (rows : List WorkingRow). IsTracked s.geometry rows s.pages s.kept) (is.idle closed) is.pages) (λ _. refl)
+
+pub is_begun : (s : SessionState) (meta : Overlays) (notes : List OpNote) (page : List ℕ) → IsSession s → s.opened ≡ false → meta ≡ record s.meta { working = (catalog_no, Some page) ∷ [] } → notes ≡ [] → IsCatalogPage page → (catalog_on page).last < 2 ^ 64 - 1
+    → IsSession (working_on s meta notes true)
+is_begun s meta notes page is closed same none catalog room =
+    works_on s ((catalog_no, Some page) ∷ []) notes true meta is same (omega arith) (subst (λ (l : List OpNote). length l ≤ updates_most) (sym none) (omega arith)) (subst (λ (l : List OpNote). AllByRecursion IsNote l) (sym none) tt) (tt, tt)
+    (λ _. record { image = page; there = refl; is_catalog = catalog; room = room })
+    (tracked_put s.geometry [] s.pages s.kept (subst (λ (rows : List WorkingRow). IsTracked s.geometry rows s.pages s.kept) (is.idle closed) is.pages) page) (λ shut. absurd (cc))
+
+-- what a session is seen as
+pub seen : {s now : SessionState} → s ≡ now → IsSession s → IsSession now
+seen is session = subst IsSession is session
+
+pub still_closed : {a b : Outside} {s now old later : SessionState} → s ≡ now → later ≡ old → OnlyFrames a b old now → later.opened ≡ false → s.opened ≡ false
+still_closed is from only closed = ap (λ (s : SessionState). s.opened) is ∙ ap (λ (s : SessionState). s.opened) only.same ∙ ap (λ (s : SessionState). s.opened) (sym from) ∙ closed
+
+pub number_left : (last : ℕ) (page : List ℕ) → IsCatalogPage page → last ≡ (catalog_on page).last → (last ≢ 2 ^ 64 - 1) → (catalog_on page).last < 2 ^ 64 - 1
+number_left last page is same apart = omega (arith, is.fits.last, apart, same)
+
+pub begun_is : (s now : SessionState) (meta : Overlays) (notes : List OpNote) (page : List ℕ) → s ≡ now → meta ≡ record s.meta { working = (catalog_no, Some page) ∷ [] } → notes ≡ [] → begun now page ≡ working_on s meta notes true
+begun_is s now meta notes page is same none = ap (λ (t : SessionState). begun t page) (sym is) ∙ cc (same, none)
+
+pub if_error : {T E P : Type 0} (r : Result T E) → is_err r ≡ true → OnErr r P → P
+if_error (Ok x) is p = absurd (cc)
+if_error (Err e) is p = p
+
+pub read_last : (last : ℕ) (v : Catalog) (b page : List ℕ) → last ≡ v.last → v ≡ catalog_on b → b ≡ page → last ≡ (catalog_on page).last
+read_last last v b page one two three = one ∙ ap (λ (k : Catalog). k.last) two ∙ ap (λ (l : List ℕ). (catalog_on l).last) three
+
+pub started_with : (meta old : Overlays) (b page : List ℕ) → meta ≡ record old { working = (catalog_no, Some b) ∷ [] } → b ≡ page → meta ≡ record old { working = (catalog_no, Some page) ∷ [] }
+started_with meta old b page one two = one ∙ ap (λ (l : List ℕ). record old { working = (catalog_no, Some l) ∷ [] }) two
+
+pub viewed : (v : Catalog) (b page : List ℕ) → v ≡ catalog_on b → b ≡ page → v ≡ catalog_on page
+viewed v b page one two = one ∙ ap (λ (l : List ℕ). catalog_on l) two
+
+-- ---- what a commit asks
+
+abbrev first_of : WorkingRow → ℕ
+first_of row = row.0
+
+pub firsts_rise : (rows : List WorkingRow) → IsRising rows → Rising (map first_of rows)
+firsts_rise [] rising = tt
+firsts_rise (row ∷ []) rising = tt
+firsts_rise (row ∷ next ∷ rows) rising = (rising.0.0, firsts_rise (next ∷ rows) rising.1)
+
+-- a row that is put in the place of one
+pub as_many : (page : ℕ) (v x : Option (List ℕ)) (rows : List WorkingRow) → IsRising rows → lookup (nat_eq page) rows ≡ Some x → length (with_row page v rows) ≡ length rows
+as_many page v x rows rising there =
+    sym (length-map (with_row page v rows) first_of) ∙ ap (λ (l : List ℕ). length l) (firsts_put page v x rows (firsts_rise rows rising) there) ∙ length-map rows first_of
+
+-- the session whose working catalog has its new number
+pub record ReadyToCommit (s : SessionState) (meta : Overlays) : Type 0 where
+  pub logged : IsLogged s.log meta
+  pub few_pages : length meta.working ≤ touched_most
+  pub catalog : HasCatalog meta.working
+
+pub ready : (s : SessionState) (meta : Overlays) (page : List ℕ) → IsSession s → s.opened ≡ true → meta ≡ record s.meta { working = with_row catalog_no (Some page) s.meta.working } → ReadyToCommit s meta
+ready s meta page is opened same = subst (λ (m : Overlays). ReadyToCommit s m) (sym same) (record {
+  logged = record { images = is.logged.images; none = is.logged.none };
+  few_pages = (let work = is.work opened in omega (arith, as_many catalog_no (Some page) (Some work.image) s.meta.working is.in_order work.there, is.few_pages));
+  catalog = (page, lookup_put catalog_no (Some page) s.meta.working);
+})
+
+-- what a commit leaves of the log, the overlay, the frames and the logged pages
+pub record LeftByCommit (s : SessionState) (edited : Overlays) (log : LogState) (meta : Overlays) (groups later : List Frames) (kept : List Bool) (pages : LoggedSet) (units : UnitSet) : Type 0 where
+  pub edit : edited.geometry ≡ s.meta.geometry
+  pub log_is : log.geometry ≡ s.log.geometry
+  pub meta_is : meta.geometry ≡ edited.geometry
+  pub sizes : All (λ (f : Frames). f.page_size ≡ edited.geometry.page_size) later
+  pub len : length later ≡ length groups
+  pub logged : IsLogged log meta
+  pub behind : AreBehindLog groups → AreBehindLog later
+  pub none : meta.working ≡ []
+  pub settled : Settled edited.working s.kept kept s.pages pages s.units units
+
+pub after_commit : (s : SessionState) (edited : Overlays) (page : List ℕ) (log : LogState) (meta : Overlays) (later : List Frames) (kept : List Bool) (pages : LoggedSet) (units : UnitSet) (notes : List OpNote) (names : List BoundName) → IsSession s
+    → edited ≡ record s.meta { working = with_row catalog_no (Some page) s.meta.working } → LeftByCommit s edited log meta s.groups later kept pages units
+    → length notes ≤ updates_most → AllByRecursion IsNote notes
+    → IsSession (record s { log = log; meta = meta; pages = pages; kept = kept; units = units; groups = later; notes = notes; names = names; opened = false })
+after_commit s edited page log meta later kept pages units notes names is same left few each =
+    let rows = with_row catalog_no (Some page) s.meta.working in
+    let settled = subst (λ (o : Overlays). Settled o.working s.kept kept s.pages pages s.units units) same left.settled in
+    let tracked = tracked_settled s.geometry rows s.pages s.kept (tracked_put s.geometry s.meta.working s.pages s.kept is.pages page) kept pages s.units units settled in
+    record {
+      log = left.log_is ∙ is.log;
+      meta = left.meta_is ∙ left.edit ∙ is.meta;
+      units = counted_gives s.geometry _ s.units units is.units settled.units;
+      pages = subst (λ (none : List WorkingRow). IsTracked s.geometry none pages kept) (sym left.none) tracked;
+      room = is.room;
+      sizes = subst (λ (g : Geometry). All (λ (f : Frames). f.page_size ≡ g.page_size) later) (left.edit ∙ is.meta) left.sizes;
+      main = omega (arith, is.main, left.len);
+      logged = left.logged;
+      behind = left.behind is.behind;
+      few_notes = few;
+      notes = each;
+      few_pages = subst (λ (none : List WorkingRow). length none ≤ touched_most) (sym left.none) (omega arith);
+      in_order = subst IsRising (sym left.none) tt;
+      work = λ opened. absurd (cc);
+      idle = λ _. left.none;
+    }

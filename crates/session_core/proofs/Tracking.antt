@@ -1,0 +1,152 @@
+-- The flags of a session's logged pages go on being those of its pages.
+use Rattle.std.proofs.Common.{◌≡◌, ◌≢◌, ◌∙◌, ℕ, Bool, true, false, List, [], Option, Some, None, IsSome, nat_eq, refl, sym, ap, subst, inl, inr, ⊎_elim, arith}
+use Rattle.std.specs.Map.{lookup}
+use Rattle.std.proofs.lemmas.Bool.{cases_Bool, cases_eq, both_ways}
+use Rattle.ex_base.specs.declared.geometry.Geometry.{Geometry}
+use Rattle.ex_base.specs.Area.{catalog_no}
+use Rattle.ex_base.proofs.Options.{some_apart_inside}
+use Rattle.meta_pages.specs.Rows.{with_row}
+use Rattle.page_alloc.specs.UnitSet.{UnitSet}
+use Rattle.tree_store.specs.Stored.{IsCounted}
+use Rattle.volume_model.specs.Shown.{WorkingRow}
+use Rattle.volume_port.specs.Logged.{LoggedSet, is_held, is_taken}
+use Rattle.volume_port.proofs.WorkingRows.{put_here, put_other, put_touches}
+use Rattle.session_core.specs.Sessions.{IsTracked, OnlyGives, Settled, TakenBack, is_kept}
+
+some_none : (x : Option (List ℕ)) → Some x ≡ None → ⊥
+some_none x e = cc
+
+pub bits_same : (a b : Bool) → (a ≡ true → b ≡ true) → (b ≡ true → a ≡ true) → a ≡ b
+bits_same true b f g = sym (f refl)
+bits_same false true f g = absurd (cc (g refl))
+bits_same false false f g = refl
+
+none_some : {A : Type 0} (o : Option A) → o ≡ None → IsSome o → ⊥
+none_some {A} o is some = (let here : IsSome {T = A} None = subst (λ (x : Option A). IsSome x) is some in cc)
+
+-- a row, or none, or one that was given back
+pub data RowOf (o : Option (Option (List ℕ))) : Type 0 where
+  has_image : (image : List ℕ) → o ≡ Some (Some image) → RowOf o
+  is_gone : o ≡ Some None → RowOf o
+  has_none : o ≡ None → RowOf o
+
+pub row_of : (o : Option (Option (List ℕ))) → RowOf o
+row_of None = has_none refl
+row_of (Some None) = is_gone refl
+row_of (Some (Some image)) = has_image image refl
+
+module _ (g : Geometry) (rows : List WorkingRow) (pages : LoggedSet) (kept : List Bool) (is : IsTracked g rows pages kept) where
+  -- a working image of the catalog
+  pub tracked_put : (page : List ℕ) → IsTracked g (with_row catalog_no (Some page) rows) pages kept
+  tracked_put page = record {
+    held_len = is.held_len;
+    taken_len = is.taken_len;
+    kept_len = is.kept_len;
+    catalog = is.catalog;
+    catalog_kept = is.catalog_kept;
+    images = λ p image has. ⊎_elim
+        (λ (same : p ≡ catalog_no). ap (is_held pages) same ∙ is.catalog)
+        (λ (differ : p ≢ catalog_no). is.images p image (sym (put_other catalog_no (Some page) rows p (λ e. differ (sym e))) ∙ has)) (cases_eq p catalog_no);
+    gone = λ p has. ⊎_elim
+        (λ (same : p ≡ catalog_no). absurd (some_apart_inside page (sym (put_here catalog_no (Some page) rows) ∙ ap (λ (q : ℕ). lookup (nat_eq q) (with_row catalog_no (Some page) rows)) (sym same) ∙ has)))
+        (λ (differ : p ≢ catalog_no). is.gone p (sym (put_other catalog_no (Some page) rows p (λ e. differ (sym e))) ∙ has)) (cases_eq p catalog_no);
+    taken = λ p took. put_touches catalog_no (Some page) rows p (is.taken p took);
+    there = is.there;
+    known = λ p flag. ⊎_elim
+        (λ (same : p ≡ catalog_no). inl (ap (is_held pages) same ∙ is.catalog))
+        (λ (differ : p ≢ catalog_no). ⊎_elim (λ held. inl held) (λ gone. inr (put_other catalog_no (Some page) rows p (λ e. differ (sym e)) ∙ gone)) (is.known p flag)) (cases_eq p catalog_no);
+    untouched = λ p held none. ⊎_elim
+        (λ (same : p ≡ catalog_no). ap (is_kept kept) same ∙ is.catalog_kept)
+        (λ (differ : p ≢ catalog_no). is.untouched p held (sym (put_other catalog_no (Some page) rows p (λ e. differ (sym e))) ∙ none)) (cases_eq p catalog_no);
+  }
+
+  -- where a page has no row it is there exactly where the committed state has it
+  pub same_flags : (p : ℕ) → lookup (nat_eq p) rows ≡ None → is_held pages p ≡ is_kept kept p
+  same_flags p none = bits_same (is_held pages p) (is_kept kept p) (λ held. is.untouched p held none)
+      (λ flag. ⊎_elim (λ held. held) (λ gone. absurd (some_none None (sym gone ∙ none))) (is.known p flag))
+
+  -- the transaction took no page that it doesn't touch, nor one that it gave back
+  pub not_taken : (p : ℕ) → lookup (nat_eq p) rows ≡ None → is_taken pages p ≡ false
+  not_taken p none = ⊎_elim (λ took. absurd (none_some (lookup (nat_eq p) rows) none (is.taken p took))) (λ free. free) (cases_Bool (is_taken pages p))
+
+  gone_free : (p : ℕ) → lookup (nat_eq p) rows ≡ Some None → is_taken pages p ≡ false
+  gone_free p gone = ⊎_elim (λ took. absurd (both_ways _ (is.gone p gone) (is.there p took))) (λ free. free) (cases_Bool (is_taken pages p))
+
+  -- ---- an abort
+
+  module _ (new : LoggedSet) (u v : UnitSet) (back : TakenBack rows kept pages new u v) where
+    pub held_back : (p : ℕ) → is_held new p ≡ is_kept kept p
+    held_back p = elim (row_of (lookup (nat_eq p) rows)) [
+      | has_image image is_row ↦ (back.touched p (Some image) is_row).0
+      | is_gone is_row ↦ (back.touched p None is_row).0
+      | has_none none ↦ (back.others p none).0 ∙ same_flags p none
+    ]
+
+    pub none_taken_back : (p : ℕ) → is_taken new p ≡ false
+    none_taken_back p = elim (row_of (lookup (nat_eq p) rows)) [
+      | has_image image is_row ↦ (back.touched p (Some image) is_row).1
+      | is_gone is_row ↦ (back.touched p None is_row).1
+      | has_none none ↦ (back.others p none).1 ∙ not_taken p none
+    ]
+
+    pub tracked_back : IsTracked g [] new kept
+    tracked_back = record {
+      held_len = back.held_len ∙ is.held_len;
+      taken_len = back.taken_len ∙ is.taken_len;
+      kept_len = is.kept_len;
+      catalog = held_back catalog_no ∙ is.catalog_kept;
+      catalog_kept = is.catalog_kept;
+      images = λ p image has. absurd (some_none (Some image) (sym has));
+      gone = λ p has. absurd (some_none None (sym has));
+      taken = λ p took. absurd (both_ways _ (none_taken_back p) took);
+      there = λ p took. absurd (both_ways _ (none_taken_back p) took);
+      known = λ p flag. inl (held_back p ∙ flag);
+      untouched = λ p held none. sym (held_back p) ∙ held;
+    }
+
+  -- ---- a commit
+
+  module _ (now : List Bool) (new : LoggedSet) (u v : UnitSet) (done : Settled rows kept now pages new u v) where
+    pub held_settled : (p : ℕ) → is_held new p ≡ is_held pages p
+    held_settled p = elim (row_of (lookup (nat_eq p) rows)) [
+      | has_image image is_row ↦ (done.images p image is_row).1 ∙ sym (is.images p image is_row)
+      | is_gone is_row ↦ (done.gone p is_row).1
+      | has_none none ↦ (done.others p none).1
+    ]
+
+    pub kept_settled : (p : ℕ) → is_kept now p ≡ is_held pages p
+    kept_settled p = elim (row_of (lookup (nat_eq p) rows)) [
+      | has_image image is_row ↦ (done.images p image is_row).0 ∙ sym (is.images p image is_row)
+      | is_gone is_row ↦ (done.gone p is_row).0 ∙ sym (is.gone p is_row)
+      | has_none none ↦ (done.others p none).0 ∙ sym (same_flags p none)
+    ]
+
+    pub none_taken_settled : (p : ℕ) → is_taken new p ≡ false
+    none_taken_settled p = elim (row_of (lookup (nat_eq p) rows)) [
+      | has_image image is_row ↦ (done.images p image is_row).2
+      | is_gone is_row ↦ (done.gone p is_row).2 ∙ gone_free p is_row
+      | has_none none ↦ (done.others p none).2 ∙ not_taken p none
+    ]
+
+    pub tracked_settled : IsTracked g [] new now
+    tracked_settled = record {
+      held_len = done.held_len ∙ is.held_len;
+      taken_len = done.taken_len ∙ is.taken_len;
+      kept_len = done.kept_len ∙ is.kept_len;
+      catalog = held_settled catalog_no ∙ is.catalog;
+      catalog_kept = kept_settled catalog_no ∙ is.catalog;
+      images = λ p image has. absurd (some_none (Some image) (sym has));
+      gone = λ p has. absurd (some_none None (sym has));
+      taken = λ p took. absurd (both_ways _ (none_taken_settled p) took);
+      there = λ p took. absurd (both_ways _ (none_taken_settled p) took);
+      known = λ p flag. inl (held_settled p ∙ sym (kept_settled p) ∙ flag);
+      untouched = λ p held none. kept_settled p ∙ sym (held_settled p) ∙ held;
+    }
+
+pub counted_gives : (g : Geometry) (stays : ℕ → Type 0) (u v : UnitSet) → IsCounted g u → OnlyGives stays u v → IsCounted g v
+counted_gives g stays u v is gives = record {
+  geometry = gives.geometry ∙ is.geometry;
+  named = λ p used. is.named p (gives.used p used);
+  owned = λ p some. gives.owned p (is.owned p (omega (arith, some, gives.refs p))) some;
+  few = λ p. omega (arith, gives.refs p, is.few p);
+}

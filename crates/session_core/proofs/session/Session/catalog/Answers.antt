@@ -1,0 +1,16 @@
+use Rattle.session_core.specs.contracts.session.Session as session
+use Rattle.session_core.proofs.Sessions.{seen}
+use Rattle.session_core.proofs.Reading.{other_frames, only_frames, bytes_read}
+use Rattle.session_core.proofs.session.Session.catalog.Goals as goal
+
+pub invariant_of-self : goal.invariant_of-self
+invariant_of-self g c = other_frames (session.the_view c.self.inside) c.read_catalog.new.groups _ c.read_catalog.ensures.keeps c.read_catalog.ensures.behind c.self.invariant
+
+pub returns-clause-session : goal.returns-clause-session
+returns-clause-session g c = seen c.self.view_is c.self.invariant
+
+pub returns-clause-frames : goal.returns-clause-frames
+returns-clause-frames g c = only_frames (session.the_view c.self.inside) c.args.self.now c.read_catalog.new.groups c.self.view_is c.read_catalog.ensures.only c.read_catalog.ensures.keeps
+
+pub returns-clause-read : goal.returns-clause-read
+returns-clause-read g c = bytes_read c.read_catalog.result (λ page. page.items) (g.D.World.outside c.args.disk.now) (session.the_view c.self.inside) c.args.self.now c.self.view_is c.self.invariant.meta c.read_catalog.ensures.read

@@ -1,0 +1,24 @@
+use Rattle.std.proofs.Common.{subst, sym}
+use Rattle.session_core.specs.Finding.{IsOutside}
+use Rattle.session_core.specs.contracts.session.Session as session
+use Rattle.session_core.proofs.Finding.{no_damage, only_reads, parts_of, read_session}
+use Rattle.session_core.proofs.session.Session.digest_bytes.Goals as goal
+
+pub invariant_of-self : goal.invariant_of-self
+invariant_of-self g c = read_session (session.the_view c.self.inside) c.digest_on.new.groups c.digest_on.ensures.leaves c.self.invariant
+
+pub returns-in-Ok-clause-only : goal.returns-in-Ok-clause-only
+returns-in-Ok-clause-only g c = only_reads (session.the_view c.self.inside) c.args.self.now c.digest_on.new.groups c.self.view_is c.digest_on.ensures.leaves
+
+pub returns-in-Ok-clause-hash : goal.returns-in-Ok-clause-hash
+returns-in-Ok-clause-hash g c = c.in-Ok.ensures.hash c.args.self.now (parts_of c.self.view_is c.self.invariant)
+
+pub invariant_of-self-2 : goal.invariant_of-self-2
+invariant_of-self-2 g c = read_session (session.the_view c.self.inside) c.digest_on.new.groups c.digest_on.ensures.leaves c.self.invariant
+
+pub returns-clause-only : goal.returns-clause-only
+returns-clause-only g c = only_reads (session.the_view c.self.inside) c.args.self.now c.digest_on.new.groups c.self.view_is c.digest_on.ensures.leaves
+
+pub returns-clause-sound : goal.returns-clause-sound
+returns-clause-sound g c = λ before same now version is inside.
+    subst IsOutside (sym c.stopped.ensures) (no_damage c.in-Err.fault (c.in-Err.ensures.sound c.args.self.now (parts_of c.self.view_is c.self.invariant) before same now version is inside))

@@ -1,0 +1,27 @@
+use Rattle.std.proofs.Common.{◌≡◌, ◌∙◌, true, false, sym, subst, arith}
+use Rattle.std.specs.Option.{option_copied}
+use Rattle.meta_pages.specs.Overlays.{IsWorkingRow}
+use Rattle.page_alloc.specs.UnitSet.{UnitSet}
+use Rattle.volume_model.specs.Shown.{WorkingRow}
+use Rattle.volume_port.specs.Logged.{is_taken}
+use Rattle.session_core.specs.Sessions.{OnlyGives}
+use Rattle.session_core.proofs.Settling.{taken_back_next, at_row}
+use Rattle.session_core.proofs.session.settle.take_back.Goals.{in-Some, in_default}
+use Rattle.session_core.proofs.session.settle.take_back.Goals as goal
+
+pub loop-index-preserved : goal.loop-index-preserved
+loop-index-preserved c =
+    let meta = c.args.meta.now in
+    let rows = c.touched-index-end.ensures.rows in
+    let done = c.loop-index.invariant in
+    elim c.match-touched_at.branch [
+      | in-Some w ↦
+          let row : WorkingRow = (w.in-Some.page.0, option_copied w.in-Some.field-0-1) in
+          let inside = at_row (IsWorkingRow meta.geometry) meta.working c.loop-index.index row rows.working_pages w.in-Some.ensures in
+          taken_back_next meta.working c.loop-index.index row c.args.kept.now c.args.pages.now c.loop-index.pages c.match-touched_at.pages c.args.units.now c.loop-index.units c.match-touched_at.units
+          w.get.result rows.working_rising w.in-Some.ensures
+          (omega (arith, inside.0.1, done.held_len, c.requires.held)) (omega (arith, inside.0.1, done.taken_len, c.requires.taken)) (w.get.ensures false)
+          done (w.pages-is ∙ w.take_back_page.ensures.pages)
+          (subst (λ (u : UnitSet). OnlyGives (λ unit. (unit ≡ row.0) × (is_taken c.loop-index.pages unit ≡ true) → ⊥) c.loop-index.units u) (sym w.units-is) w.take_back_page.ensures.units)
+      | in_default w ↦ absurd (omega (arith, w.in_default.ensures, c.loop-index-test.true, c.touched-index-end.ensures.value))
+    ]

@@ -1,0 +1,10 @@
+pub mod Meant
+pub mod Sessions
+pub mod Catalogs
+pub mod Steps
+pub mod Finding
+pub mod Counts
+pub mod Needs
+pub mod Updates
+pub mod Commits
+pub mod Summaries

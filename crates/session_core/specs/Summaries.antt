@@ -1,0 +1,42 @@
+-- What a session sums up of what it shows.
+use Rattle.std.specs.Prelude.{◌≡◌, ℕ, List, length, Result, IfOk, IfErr}
+use Rattle.std.specs.List.{flat_map}
+use Rattle.ex_base.specs.declared.names.Oid.{Oid}
+use Rattle.disk_model.specs.Outside.{Outside}
+use Rattle.object_files.specs.Catalog.{FileEntry}
+use Rattle.object_files.specs.Reads.{catalog_on}
+use Rattle.table_model.specs.declared.machine.Machine.{Machine}
+use Rattle.table_model.specs.Machines.{shown}
+use Rattle.table_model.specs.Tables.{objects_of, versions_of}
+use Rattle.session_views.specs.declared.engine.Stop.{Stop}
+use Rattle.session_views.specs.View.{View, ShowsNow}
+use Rattle.session_core.specs.declared.session.summary.Summary.{Summary}
+use Rattle.session_core.specs.Sessions.{SessionState}
+use Rattle.session_core.specs.Meant.{meant}
+use Rattle.session_core.specs.Finding.{IfShown, IsOutside, LineStops, oids_listed}
+use Rattle.session_core.specs.Steps.{OnlyFrames}
+
+-- The summary counts what the table that the machine shows has, and the machine's units in use.
+pub record IsSummary (m : Machine) (s : Summary) : Type 0 where
+  pub last : s.last ≡ (shown m).last
+  pub files : s.files ≡ length (shown m).files
+  pub objects : s.objects ≡ length (objects_of (shown m))
+  pub versions : s.versions ≡ length (versions_of (shown m))
+  pub pages : s.pages ≡ m.pages_used
+  pub segs : s.segs ≡ m.segs_used
+
+-- the OIDs of all objects of the files of these entries, as the shown table has them
+abbrev pub oids_in : Machine → List FileEntry → List Oid
+oids_in m entries = flat_map (λ (e : FileEntry). oids_listed m e.name) entries
+
+-- what holds of each view of the session that shows what stands outside, where the page is the catalog of the shown volume
+abbrev pub IfCatalog : Outside → SessionState → List ℕ → (View SessionState → Type 0) → Type 0
+IfCatalog w s page P = (before : View SessionState) → before.session ≡ s → (now : ShowsNow meant w before) → catalog_on page ≡ now.shows.working.catalog → P before
+
+-- A session sums up what it shows, changes nothing but its frames, and goes on showing the same. Where it stops, that is no fault of a volume that shows.
+pub record SumsUp (a b : Outside) (old new : SessionState) (result : Result Summary Stop) : Type 0 where
+  pub frames : OnlyFrames a b old new
+  pub stops : IfErr result (LineStops a b)
+  pub sound : IfErr result (λ why. IfShown a old (λ before. IsOutside why))
+  pub sums : (before : View SessionState) → before.session ≡ old → ShowsNow meant a before → IfOk result (IsSummary before.machine)
+  pub shows : (before : View SessionState) → before.session ≡ old → ShowsNow meant a before → ShowsNow meant b (record before { session = new })

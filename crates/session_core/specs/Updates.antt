@@ -1,0 +1,140 @@
+-- What an update does with the parts of a session, and what it makes of the volume.
+use Rattle.std.specs.Prelude.{◌≡◌, ◌≤◌, ◌++◌, ◌∷◌, [], ℕ, true, false, List, length, Some, None, IsSome, nat_eq, Result, Ok, Err, ⊤}
+use Rattle.std.specs.Map.{lookup}
+use Rattle.ex_base.specs.declared.geometry.Geometry.{Geometry}
+use Rattle.ex_base.specs.Area.{area_end, catalog_no}
+use Rattle.ex_base.specs.declared.faults.PortFault.{PortFault}
+use Rattle.ex_base.specs.declared.names.Area.{Area}
+use Rattle.ex_base.specs.declared.names.Oid.{Oid}
+use Rattle.ex_base.specs.declared.names.OpNote.{OpNote}
+use Rattle.table_model.specs.Tables.{IsTable}
+use Rattle.disk_model.specs.Outside.{Outside}
+use Rattle.disk_model.specs.Changes.{ChangesWithin}
+use Rattle.buffer_groups.specs.Frames.{Frames}
+use Rattle.meta_pages.specs.Overlays.{Overlays}
+use Rattle.page_alloc.specs.UnitSet.{UnitSet, used_at}
+use Rattle.tree_store.specs.Stored.{Fits, InRest, NoUnit, Tells}
+use Rattle.ex_base.specs.declared.names.Area.TheVariants.{Page, Segment}
+use Rattle.table_model.specs.declared.machine.Machine.{Machine}
+use Rattle.table_model.specs.declared.table.Table.{Table}
+use Rattle.table_model.specs.Machines.{IsMachine}
+use Rattle.table_model.specs.Machines.{shown}
+use Rattle.session_views.specs.View.{View, ShowsNow}
+use Rattle.object_updates.specs.declared.ObjectUpdate.{ObjectUpdate}
+use Rattle.object_updates.specs.Performed.{IsUpdate}
+use Rattle.object_updates.specs.Updates.{TableUpdate, Makes, Changes, Removes, Asks}
+use Rattle.versions.specs.declared.finding.Found.{Found}
+use Rattle.volume_model.specs.Shown.{Shared, Shows, used_in}
+use Rattle.session_core.specs.Needs.{fits_beside, size_after, units_need}
+use Rattle.session_core.specs.Finding.{TellsVersion}
+use Rattle.session_core.specs.Meant.{meant, held_view}
+use Rattle.session_core.specs.Counts.{free_in}
+use Rattle.session_core.specs.Sessions.{SessionState, IsSession}
+use Rattle.volume_port.specs.Logged.{LoggedSet, is_held, is_taken}
+use Rattle.volume_port.specs.Ported.{IsFixed, IsKnown, IsLoose, IsUntouched, IsUsed}
+
+-- what a port of a session borrows besides the disk
+pub record PortParts : Type 0 where
+  pub units : UnitSet
+  pub groups : List Frames
+  pub meta : Overlays
+  pub pages : LoggedSet
+  pub room : List ℕ
+
+-- The parts are of one geometry, the disk has room for its volume, and no frame is of the superblock or the log. The working state has the catalog; of
+-- the touched pages it has just those with an image, and each page that the transaction took is one of them.
+pub record AreReady (g : Geometry) (disk_size : ℕ) (p : PortParts) : Type 0 where
+  pub fits : Fits g disk_size p.groups 0 p.units
+  pub overlay : p.meta.geometry ≡ g
+  pub held_len : length p.pages.held ≡ area_end g
+  pub taken_len : length p.pages.taken ≡ area_end g
+  pub room_len : length p.room ≡ g.page_size
+  pub catalog : is_held p.pages catalog_no ≡ true
+  pub images : (page : ℕ) (image : List ℕ) → lookup (nat_eq page) p.meta.working ≡ Some (Some image) → is_held p.pages page ≡ true
+  pub gone : (page : ℕ) → lookup (nat_eq page) p.meta.working ≡ Some None → is_held p.pages page ≡ false
+  pub taken : (page : ℕ) → is_taken p.pages page ≡ true → IsSome (lookup (nat_eq page) p.meta.working)
+  pub there : (page : ℕ) → is_taken p.pages page ≡ true → is_held p.pages page ≡ true
+
+-- What a port leaves of its parts: no unit was given back but such as the transaction took, on the disk nothing changed but bytes of other units, and
+-- the committed images are the same. A page that is there no more was given back, and one that is there untouched was so before.
+pub record Moved (a b : Outside) (g : Geometry) (old new : PortParts) : Type 0 where
+  pub changes : ChangesWithin (InRest g (used_at old.units) (IsLoose NoUnit (used_at old.units) old.pages)) a b
+  pub told : Tells a old.groups → Tells b new.groups
+  pub fixed : (unit : ℕ) → IsFixed NoUnit (used_at old.units) old.pages unit → IsFixed NoUnit (used_at new.units) new.pages unit
+  pub in_use : (page : ℕ) → IsUsed (used_at old.units) old.pages page → IsUsed (used_at new.units) new.pages page
+  pub given_back : (page : ℕ) → IsKnown old.meta old.pages page → is_held new.pages page ≡ false → lookup (nat_eq page) new.meta.working ≡ Some None
+  pub untouched : (page : ℕ) → IsUntouched new.meta new.pages page → IsUntouched old.meta old.pages page
+  pub committed : new.meta.committed ≡ old.meta.committed
+  pub ready : AreReady g b.size new
+
+-- the note of an update, of the version with this OID
+abbrev pub note_with : OpNote → Oid → OpNote
+note_with note oid = record note { oid = oid }
+
+-- the note of an update that was performed so: with the OID that it answered
+abbrev pub note_done : OpNote → Result Oid PortFault → OpNote
+note_done note (Ok oid) = note_with note oid
+note_done note (Err fault) = note
+
+-- ---- the session after it
+
+-- the parts of a session
+abbrev pub parts_held : SessionState → PortParts
+parts_held s = record { units = s.units; groups = s.groups; meta = s.meta; pages = s.pages; room = s.room }
+
+-- The machine after the update has this table as its working one, and counts the units in use.
+pub record MachineWith (old m : Machine) (new : SessionState) (table : Table) : Type 0 where
+  pub rules : IsMachine m
+  pub geometry : m.geometry ≡ old.geometry
+  pub committed : m.committed ≡ old.committed
+  pub scans : m.scans ≡ old.scans
+  pub working : m.working ≡ Some table
+  pub pages : m.pages_used ≡ used_in new.geometry (used_at new.units) Page
+  pub segs : m.segs_used ≡ used_in new.geometry (used_at new.units) Segment
+  pub touched : m.touched ≡ length new.meta.working
+
+-- The session after the update has these parts, and of the rest what the committed state is of.
+pub record KeepsRest (old new : SessionState) (p : PortParts) : Type 0 where
+  pub is : IsSession new
+  pub parts : parts_held new ≡ p
+  pub geometry : new.geometry ≡ old.geometry
+  pub log : new.log ≡ old.log
+  pub kept : new.kept ≡ old.kept
+
+-- The parts hold a volume with this table, which keeps the rules: each session that has them shows it, on what the disk holds, with a machine that has it as its working table.
+pub record HoldsTable (before : View SessionState) (b : Outside) (p : PortParts) (table : Table) : Type 0 where
+  pub later : List ℕ
+  pub holds : b.disk ≡ Some later
+  pub rules : IsTable before.session.geometry table
+  pub shows : (m : Machine) (new : SessionState) → KeepsRest before.session new p → MachineWith before.machine m new table → Shared (held_view (record { machine = m; session = new; disk = later }))
+      → Shows b.images (held_view (record { machine = m; session = new; disk = later }))
+
+-- The session has these parts, of this geometry.
+pub record HasPortParts (s : SessionState) (g : Geometry) (p : PortParts) : Type 0 where
+  pub is : IsSession s
+  pub geometry : s.geometry ≡ g
+  pub parts : parts_held s ≡ p
+
+-- An update was noted, and of the rest of the session nothing changed but the parts of its port.
+pub record Noted (old new : SessionState) (noted : OpNote) : Type 0 where
+  pub is : IsSession new
+  pub same : new ≡ record old { units = new.units; groups = new.groups; meta = new.meta; pages = new.pages; room = new.room; notes = old.notes ++ noted ∷ [] }
+
+-- ---- what an update asks of the session
+
+-- The units are free that the change of a version may take, as the machine counts them. The other updates take what they find.
+abbrev pub HasRoomFor : View SessionState → TableUpdate → Type 0
+HasRoomFor before (Makes name file_no unique) = ⊤
+HasRoomFor before (Changes oid change) = (found : Found) → TellsVersion before oid found → (area : Area)
+    → units_need before.session.geometry found change (fits_beside before (record { oid = oid; found = found }) (size_after change found.size)) area ≤ free_in before.session area
+HasRoomFor before (Removes oid) = ⊤
+
+-- what holds of each view that shows what stands outside, of a session with these parts, and whose volume and table have what the update asks
+abbrev pub IfAsked : Outside → Geometry → PortParts → ObjectUpdate → (View SessionState → TableUpdate → Type 0) → Type 0
+IfAsked w g p update P = (before : View SessionState) → HasPortParts before.session g p → (now : ShowsNow meant w before) (u : TableUpdate) → IsUpdate update u
+    → Asks u now.shows.working (shown before.machine) → P before u
+
+-- the same of a session
+abbrev pub IfUpdated : Outside → SessionState → ObjectUpdate → (View SessionState → TableUpdate → Type 0) → Type 0
+IfUpdated w s update P = (before : View SessionState) → before.session ≡ s → (now : ShowsNow meant w before) (u : TableUpdate) → IsUpdate update u
+    → Asks u now.shows.working (shown before.machine) → P before u

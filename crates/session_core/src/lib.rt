@@ -1,0 +1,6 @@
+//! A session on a volume: what it holds, what lines read of it, and how its transactions begin, are performed, committed and given up.
+#![tactic(auto)]
+
+mod session;
+
+pub use session::{Limit, Named, Parts, Session, Summary, view_of};

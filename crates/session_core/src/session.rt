@@ -1,0 +1,133 @@
+//! A session, and what it is made of.
+mod begin;
+mod beside;
+mod catalog;
+mod commit;
+mod counts;
+mod digests;
+mod moving;
+mod objects;
+mod settle;
+mod shapes;
+mod summary;
+
+use bound_names::NameMap;
+use buffer_groups::Groups;
+pub use catalog::view_of;
+use ex_base::{Geometry, OpNote};
+use meta_pages::Meta;
+pub use moving::Limit;
+use object_updates::Rooms;
+pub use objects::Named;
+use op_log::OpLog;
+use page_alloc::{Filled, Units};
+use std::alloc::{AllocError, Global};
+use std::marker::Model;
+pub use summary::Summary;
+use volume_port::LoggedPages;
+
+/// The index of `main` among the groups. Logged pages are read through it.
+const MAIN: u32 = 0;
+
+/// What a session is made of: its volume's sizes, and the log, the logged pages with their images, the units and the groups of frames as an opening
+/// found them.
+#[derive(Drop)]
+pub struct Parts {
+    pub geometry: Geometry,
+    pub log: OpLog,
+    pub meta: Meta,
+    pub pages: LoggedPages,
+    pub units: Units,
+    pub groups: Groups,
+}
+
+/// A session on a volume. Contracts see all that it holds; the machine that it shows is held nowhere.
+#[derive(Drop)]
+pub struct Session {
+    geometry: Geometry,
+    log: OpLog,
+    meta: Meta,
+    // the logged pages of the working state
+    pages: LoggedPages,
+    // whether the committed state has a logged page, by its number
+    kept: Filled<bool>,
+    units: Units,
+    groups: Groups,
+    // one page, which the port lends
+    room: Vec<u8>,
+    // of the open transaction's updates
+    notes: Vec<OpNote>,
+    names: NameMap,
+    // of the working state's files, and no part of what contracts see
+    rooms: Rooms,
+    // a transaction is open
+    opened: bool,
+    // a step met a fault
+    down: bool,
+}
+
+impl Model for Session {
+    ghost use Rattle.session_core.specs.Sessions.{SessionState, IsSession};
+
+    ghost Value = { SessionState };
+
+    ghost view = { λ s. record { geometry = s.geometry; log = s.log; meta = s.meta; pages = s.pages; kept = s.kept; units = s.units; groups = s.groups; room = s.room.items; notes = s.notes.items; names = s.names; opened = s.opened; down = s.down } };
+
+    ghost invariant = { λ s. IsSession (record { geometry = s.geometry; log = s.log; meta = s.meta; pages = s.pages; kept = s.kept; units = s.units; groups = s.groups; room = s.room.items; notes = s.notes.items; names = s.names; opened = s.opened; down = s.down }) };
+}
+
+impl Session {
+    ghost use Rattle.std.specs.Prelude.{◌≡◌, ◌<◌, ℕ, [], length, All, IfOk, true, false};
+    ghost use Rattle.ex_base.specs.Area.{area_end, catalog_no};
+    ghost use Rattle.tree_store.specs.Stored.{IsCounted};
+    ghost use Rattle.volume_port.specs.Logged.{is_held, is_taken};
+    ghost use Rattle.buffer_groups.specs.Frames.{Frames};
+    ghost use Rattle.commits.specs.Room.{IsLogged, AreBehindLog};
+    ghost use Rattle.session_core.specs.Sessions.{fresh_session};
+
+    /// A session over these parts, with no transaction, no scan and no bound name. The parts are of one geometry, `main` is among the groups, no page
+    /// is touched or taken, the catalog is among the logged pages, each committed image has its place in the log, and no frame is of a page of the log.
+    pub fn make(alloc: Global, parts: Parts) -> Result<Session, AllocError>
+        requires log { parts.log.geometry ≡ parts.geometry }
+        requires meta { parts.meta.geometry ≡ parts.geometry }
+        requires units { IsCounted parts.geometry parts.units }
+        requires held { length parts.pages.held ≡ area_end parts.geometry }
+        requires taken { length parts.pages.taken ≡ area_end parts.geometry }
+        requires catalog { is_held parts.pages catalog_no ≡ true }
+        requires none_taken { (page : ℕ) → is_taken parts.pages page ≡ false }
+        requires groups { All (λ (f : Frames). f.page_size
+            ≡ parts.geometry.page_size) parts.groups }
+        requires main { 0 < length parts.groups }
+        requires untouched { parts.meta.working ≡ [] }
+        requires logged { IsLogged parts.log parts.meta }
+        requires behind { AreBehindLog parts.groups }
+        ensures { IfOk result
+            (λ s. s ≡ fresh_session parts.geometry parts.log parts.meta parts.pages parts.units parts.groups) }
+    {
+        let Parts {
+            geometry,
+            log,
+            meta,
+            pages,
+            units,
+            groups,
+        } = parts;
+        let kept = pages.held().copy(alloc)?;
+        let room = vec![in alloc; 0u8; geometry.page_size as usize]?;
+        Ok(Session {
+            geometry,
+            log,
+            meta,
+            pages,
+            kept,
+            units,
+            groups,
+            room,
+            notes: Vec::new(alloc),
+            names: NameMap::new(alloc),
+            rooms: Rooms::new(alloc),
+            opened: false,
+            down: false,
+        })
+    }
+}

@@ -1,0 +1,111 @@
+//! A transaction is committed, and a checkpoint is made.
+ghost use Rattle.std.specs.Prelude.{◌≡◌, ◌≤◌, ◌<◌, ◌+◌, ◌-◌, ◌^◌, length, Ok, OnOk, true};
+ghost use Rattle.ex_base.specs.Sizes.{volume_bytes};
+ghost use Rattle.object_files.specs.Catalog.{CatalogOf};
+ghost use Rattle.object_files.specs.Edits.{IsCatalogPage};
+ghost use Rattle.object_files.specs.Reads.{catalog_on, with_numbers};
+ghost use Rattle.session_core.specs.Commits.{stop_of};
+
+use super::Session;
+use super::catalog::view_of;
+use super::settle::settle;
+use commits::{CommitFault, checkpoint, commit};
+use disk_model::Host;
+use ex_base::{Oid, PageNo, Seen};
+use object_files::set_numbers;
+use session_views::Stop;
+use std::alloc::Global;
+use table_model::{Refusal, Reply};
+
+/// Puts the number of the next commit into a copy of the catalog, and answers it.
+fn number_next(page: &mut Vec<u8>) -> u64
+    requires page { IsCatalogPage page.old.items }
+    requires room { (catalog_on page.old.items).last < 2 ^ 64 - 1 }
+    ensures number { result ≡ (catalog_on page.old.items).last + 1 }
+    ensures numbered { CatalogOf page.new.items (with_numbers (catalog_on page.old.items)
+        (catalog_on page.old.items).next_unique ((catalog_on page.old.items).last + 1)) }
+    ensures len { length page.new.items ≡ length page.old.items }
+{
+    let catalog = view_of(page);
+    let next_unique = catalog.next_unique();
+    let number = catalog.last_txn() + 1;
+    set_numbers(page, next_unique, number);
+    number
+}
+
+/// What the session is to stop at where a transaction could not be committed.
+fn uncommitted(fault: CommitFault) -> Stop
+    ensures { result ≡ stop_of fault }
+{
+    match fault {
+        CommitFault::Memory => Stop::Memory,
+        CommitFault::Disk => Stop::Disk,
+    }
+}
+
+impl Session {
+    ghost use Rattle.table_model.specs.Requests as request;
+    ghost use Rattle.session_views.specs.View.{View, ShowsNow};
+    ghost use Rattle.session_core.specs.Commits.{HasNotes};
+    ghost use Rattle.session_core.specs.Sessions.{SessionState};
+    ghost use Rattle.session_core.specs.Meant.{meant};
+    ghost use Rattle.session_core.specs.Steps.{Steps};
+
+    /// Makes the working state the committed one, under the number after that of the last commit. Refused where no transaction is open. It stops where the
+    /// disk fails and where memory is wanted.
+    pub fn commit<H: Host>(&mut self, alloc: Global, host: &mut H) -> Result<Reply, Stop>
+        requires room { volume_bytes self.old.geometry ≤ (H.outside host.old).size }
+        ensures steps { Steps (H.outside host.old)
+            (H.outside host.new) self.old self.new request.Commit result }
+        ensures noted { (before : View SessionState) → before.session ≡ self.old
+            → ShowsNow meant (H.outside host.old) before → self.old.opened ≡ true
+            → OnOk result (HasNotes (H.outside host.new) self.old.geometry self.old.notes) }
+    {
+        if !self.opened {
+            return Ok(Reply::No(Refusal::NoTxn));
+        }
+        let mut page = match self.catalog(alloc, host) {
+            Ok(page) => page,
+            Err(stop) => return Err(stop),
+        };
+        let number = number_next(&mut page);
+        if self.meta.edit(alloc, PageNo::CATALOG, &page).is_err() {
+            return Err(Stop::Memory);
+        }
+        // From here on the transaction is committed, or the session is down.
+        self.opened = false;
+        settle(&self.meta, &mut self.units, &mut self.pages, &mut self.kept);
+        if let Err(fault) = commit(
+            alloc,
+            &mut self.log,
+            &mut self.meta,
+            &mut self.groups,
+            host,
+            &self.notes,
+            number,
+        ) {
+            self.meta.undo();
+            self.rooms.forget();
+            return Err(uncommitted(fault));
+        }
+        self.names.unmark();
+        self.notes.clear();
+        Ok(Reply::Commit { number })
+    }
+
+    /// Writes the committed pages home and empties the log. Refused where a transaction is open. It stops where the disk fails.
+    pub fn checkpoint<H: Host>(&mut self, host: &mut H) -> Result<Reply, Stop>
+        requires room { volume_bytes self.old.geometry ≤ (H.outside host.old).size }
+        ensures steps { Steps (H.outside host.old)
+            (H.outside host.new) self.old self.new request.Checkpoint result }
+        ensures none_counts { result ≡ Ok Reply.Checkpoint → self.new.log.count ≡ 0 }
+    {
+        if self.opened {
+            return Ok(Reply::No(Refusal::TxnOpen));
+        }
+        if checkpoint(&mut self.log, &mut self.meta, &mut self.groups, host).is_err() {
+            return Err(Stop::Disk);
+        }
+        Ok(Reply::Checkpoint)
+    }
+}

@@ -1,0 +1,145 @@
+//! What a session shows, summed up.
+ghost use Rattle.std.specs.Prelude.{◌≡◌};
+
+use super::Session;
+use super::catalog::view_of;
+use disk_model::Host;
+use ex_base::Area;
+use session_views::Stop;
+use std::alloc::Global;
+
+/// What the table that a session shows has, and the units in use: the working table while a transaction is open, else the committed one.
+#[derive(Clone, Copy, Debug, PartialEq, Eq)]
+pub struct Summary {
+    /// The number of the last committed transaction.
+    pub last: u64,
+    /// The files of the table.
+    pub files: u32,
+    /// The objects of its files.
+    pub objects: u64,
+    /// The versions of its objects.
+    pub versions: u64,
+    /// The units of the page area in use.
+    pub pages: u32,
+    /// Those of the segment area.
+    pub segs: u32,
+}
+
+impl Session {
+    ghost use Rattle.std.specs.Prelude.{◌≢◌, ◌⊎◌, ◌≤◌, length, Ok, Err, IfOk, IfErr, OnOk, OnErr, true, false};
+    ghost use Rattle.ex_base.specs.declared.faults.Seen.{Seen};
+    ghost use Rattle.ex_base.specs.declared.names.PageNo.{PageNo};
+    ghost use Rattle.disk_model.specs.Outside.{ReadsOnly, Rose};
+    ghost use Rattle.session_views.specs.declared.engine.Stop.{Stop};
+    ghost use Rattle.session_views.specs.View.{View, ShowsNow};
+    ghost use Rattle.session_core.specs.Sessions.{SessionState};
+    ghost use Rattle.ex_base.specs.Sizes.{volume_bytes};
+    ghost use Rattle.object_files.specs.Edits.{IsCatalogPage};
+    ghost use Rattle.object_files.specs.Reads.{catalog_on};
+    ghost use Rattle.session_core.specs.Finding.{IfShown, IsOutside, LineStops};
+    ghost use Rattle.session_core.specs.Steps.{OnlyFrames};
+    ghost use Rattle.session_core.specs.Meant.{meant};
+    ghost use Rattle.session_core.specs.Summaries.{IfCatalog, IsSummary, SumsUp, oids_in};
+
+    // Sums up, in a session that met no fault.
+    fn sum_up<H: Host>(&mut self, alloc: Global, host: &mut H) -> Result<Summary, Stop>
+        ensures { SumsUp (H.outside host.old) (H.outside host.new) self.old self.new result }
+    {
+        // A disk that is smaller than the volume isn't the one that the session was opened on.
+        if host.size() < self.geometry.volume_bytes() {
+            return Err(Stop::Memory);
+        }
+        let page = match self.catalog(alloc, host) {
+            Ok(page) => page,
+            Err(stop) => return Err(stop),
+        };
+        let objects = match self.objects_in(alloc, host, &page) {
+            Ok(objects) => objects,
+            Err(stop) => return Err(stop),
+        };
+        let catalog = view_of(&page);
+        Ok(Summary {
+            last: catalog.last_txn(),
+            files: catalog.len(),
+            objects,
+            // No version is frozen yet.
+            versions: objects,
+            pages: self.used(Area::Page),
+            segs: self.used(Area::Segment),
+        })
+    }
+
+    // How many objects the files of a catalog have.
+    fn objects_in<H: Host>(&mut self, alloc: Global, host: &mut H, page: &[u8]) -> Result<u64, Stop>
+        requires room { volume_bytes self.old.geometry ≤ (H.outside host.old).size }
+        requires catalog { IsCatalogPage page.now }
+        ensures only { OnlyFrames (H.outside host.old) (H.outside host.new) self.old self.new }
+        ensures shows { IfShown (H.outside host.old) self.old
+            (λ before. ShowsNow meant (H.outside host.new) (record before { session = self.new })) }
+        ensures counts { IfOk result (λ count. IfCatalog (H.outside host.old) self.old page.now
+            (λ before. count ≡ length (oids_in before.machine (catalog_on page.now).entries))) }
+        ensures stops { IfErr result (LineStops (H.outside host.old) (H.outside host.new)) }
+        ensures sound { IfErr result (λ why. IfCatalog (H.outside host.old) self.old page.now
+            (λ before. IsOutside why)) }
+    {
+        let mut count: u64 = 0;
+        for index in 0..view_of(page).len() {
+            let file_no = view_of(page).entry(index).file_no;
+            let oids = match self.objects_of(alloc, host, file_no) {
+                Ok(oids) => oids,
+                Err(stop) => return Err(stop),
+            };
+            count = match count.checked_add(oids.len() as u64) {
+                Some(more) => more,
+                None => return Err(Stop::Memory),
+            };
+        }
+        Ok(count)
+    }
+
+    /// Sums up what the session shows. The disk is read at most.
+    pub fn summary<H: Host>(&mut self, alloc: Global, host: &mut H) -> Result<Summary, Stop>
+        ensures only { ReadsOnly (H.outside host.old) (H.outside host.new) }
+        ensures disk { result ≡ Err Stop.Disk
+            → Rose (H.outside host.old).disk_faults (H.outside host.new).disk_faults }
+        ensures damaged { (page : PageNo) (want got : Seen)
+            → result ≡ Err (Stop.Damaged page want got) → want ≢ got }
+
+        // Where a view shows, it is the summary of the machine that the view shows,
+        ensures sums { (before : View SessionState) → before.session ≡ self.old
+            → ShowsNow meant (H.outside host.old) before
+            → IfOk result (IsSummary before.machine) }
+
+        // which goes on to be shown, by the session as it is then.
+        ensures shows { (before : View SessionState) → before.session ≡ self.old
+            → ShowsNow meant (H.outside host.old) before
+            → OnOk result (ShowsNow meant (H.outside host.new)
+            (record before { session = self.new })) }
+
+        // Where it shows, nothing but a fault of the disk or want of memory stops it.
+        ensures sound { (before : View SessionState) (stop : Stop) → before.session ≡ self.old
+            → ShowsNow meant (H.outside host.old) before
+            → result ≡ Err stop → (stop ≡ Stop.Disk) ⊎ (stop ≡ Stop.Memory) }
+
+        // The session stays what it was but for its frames, and but that a fault puts it down.
+        ensures frames { OnOk result (OnlyFrames (H.outside host.old)
+            (H.outside host.new) self.old self.new) }
+        ensures kept { self.new ≡ record self.old { groups = self.new.groups; down = self.new.down } }
+
+        // After a fault it answers that the session is down, and calls nothing, as every step does; before one it doesn't.
+        ensures is_down { self.old.down ≡ true → (result ≡ Err Stop.Down) × (host.new ≡ host.old)
+            × (self.new ≡ self.old) }
+        ensures was_down { result ≡ Err Stop.Down → self.old.down ≡ true }
+        ensures goes_down { OnErr result (self.new.down ≡ true) }
+        ensures stays_up { OnOk result (self.new.down ≡ false) }
+    {
+        if self.down {
+            return Err(Stop::Down);
+        }
+        let summary = self.sum_up(alloc, host);
+        if summary.is_err() {
+            self.down = true;
+        }
+        summary
+    }
+}

@@ -1,0 +1,15 @@
+use Rattle.std.proofs.Common.{◌∙◌, refl, sym}
+use Rattle.table_model.specs.Requests.{reference_of}
+use Rattle.table_model.specs.Requests as request
+use Rattle.session_core.specs.Sessions.{SessionState}
+use Rattle.session_core.proofs.Refusing.{closed_refused}
+use Rattle.transactions.proofs.UpdateLines.{line_closed}
+use Rattle.transactions.proofs.changes.append.Goals as goal
+
+pub returns-then-not-is_open : goal.returns-then-not-is_open
+returns-then-not-is_open g c =
+    line_closed c.args.session.now (request.Append (reference_of c.args.x.now) c.args.given.now) (g.H.World.is_world c.args.host.now) c.is_open.ensures.session (sym c.is_open.ensures.value ∙ c.if-not-is_open.true)
+    (λ m q closed. closed_refused m _ closed)
+
+pub returns : goal.returns
+returns g c = c.change.ensures (request.Append (reference_of c.args.x.now) c.args.given.now) (refl, refl)

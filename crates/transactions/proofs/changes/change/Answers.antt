@@ -1,0 +1,43 @@
+use Rattle.std.proofs.Common.{refl, sym}
+use Rattle.table_model.specs.Requests.{reference_of}
+use Rattle.session_views.specs.declared.engine.Stop.TheVariants as stop
+use Rattle.transactions.specs.Asking.{asked_change}
+use Rattle.transactions.proofs.Changed.{admitted_so, answered_so, change_refused, change_stopped, changed_so, within_so}
+use Rattle.transactions.proofs.UpdateLines.{WentOn, line_stopped}
+use Rattle.transactions.proofs.changes.change.Goals as goal
+
+pub returns-in-Ok-Err : goal.returns-in-Ok-Err
+returns-in-Ok-Err g c = λ r asked.
+    let x = reference_of c.args.x.now in
+    let change = asked_change c.args.asked.now in
+    change_refused x change (g.H.World.is_world c.args.host.now) c.admit.ensures.session c.requires.is_open c.admit.ensures.only r asked c.in-Ok-Err.why
+    (answered_so x change c.in-Ok-Err.why c.in-Ok-Err.field-0 c.in-Ok-Err.field-0-is c.in-Ok-Err.ensures.refused)
+
+pub returns-in-Err : goal.returns-in-Err
+returns-in-Err g c = λ r asked. line_stopped r (g.H.World.is_world c.args.host.now) c.admit.ensures.only c.in-Err.stop c.in-Err.ensures.stops c.in-Err.ensures.sound
+
+pub returns-in_default : goal.returns-in_default
+returns-in_default g c = λ r asked. line_stopped r (g.H.World.is_world c.args.host.now) c.admit.ensures.only stop.Memory tt (λ before same now. tt)
+
+pub returns-in-Ok-update_objects : goal.returns-in-Ok-update_objects
+returns-in-Ok-update_objects g c = λ r asked.
+    let x = reference_of c.args.x.now in
+    let change = asked_change c.args.asked.now in
+    let given = c.in-Ok-Ok.given in
+    let went : WentOn (g.H.World.outside c.admit.new.host) (g.H.World.outside c.update_objects.new.host) c.admit.new.session c.update_objects.new.self =
+    record { only = c.update_objects.ensures.only; log = c.update_objects.ensures.log; down = c.update_objects.ensures.down; moments = c.update_objects.ensures.any_moment } in
+    changed_so x change (g.H.World.is_world c.args.host.now) c.admit.ensures.session c.requires.is_open c.admit.ensures.only r asked given
+    (admitted_so x change given c.in-Ok-Ok.field-0 c.in-Ok-Ok.field-0-is c.in-Ok-Ok.ensures.admitted) (within_so c.args.session.now change given c.in-Ok-Ok.field-0 c.in-Ok-Ok.field-0-is c.in-Ok-Ok.ensures.limits)
+    went c.with_bytes-edit.result (sym c.with_bytes-edit.ensures) c.in-Ok-update_objects.field-0 c.note_of-note.result c.limit-limit.result c.size_after.result c.reply_of.result c.in-Ok-update_objects.ensures.named c.note_of-note.ensures c.limit-limit.ensures c.size_after.ensures c.reply_of.ensures
+    c.in-Ok-update_objects.ensures.noted c.in-Ok-update_objects.ensures.kept c.in-Ok-update_objects.ensures.holds
+
+pub returns : goal.returns
+returns g c = λ r asked.
+    let x = reference_of c.args.x.now in
+    let change = asked_change c.args.asked.now in
+    let given = c.in-Ok-Ok.given in
+    let went : WentOn (g.H.World.outside c.admit.new.host) (g.H.World.outside c.update_objects.new.host) c.admit.new.session c.update_objects.new.self =
+    record { only = c.update_objects.ensures.only; log = c.update_objects.ensures.log; down = c.update_objects.ensures.down; moments = c.update_objects.ensures.any_moment } in
+    change_stopped x change (g.H.World.is_world c.args.host.now) c.admit.ensures.session c.requires.is_open c.admit.ensures.only r asked given
+    (admitted_so x change given c.in-Ok-Ok.field-0 c.in-Ok-Ok.field-0-is c.in-Ok-Ok.ensures.admitted) (within_so c.args.session.now change given c.in-Ok-Ok.field-0 c.in-Ok-Ok.field-0-is c.in-Ok-Ok.ensures.limits)
+    went c.with_bytes-edit.result (sym c.with_bytes-edit.ensures) c.in-Err-update_objects.stop c.in-Err-update_objects.ensures.stops c.in-Err-update_objects.ensures.sound

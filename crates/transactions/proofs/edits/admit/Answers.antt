@@ -1,0 +1,56 @@
+use Rattle.std.proofs.Common.{◌≡◌, ◌∙◌, Some, None, sym, rules}
+use Rattle.table_model.specs.Requests.{reference_of}
+use Rattle.transactions.specs.Asking.{asked_change}
+use Rattle.transactions.specs.Editing.{bytes_refusal}
+use Rattle.session_core.specs.Needs.{size_after}
+use Rattle.transactions.proofs.EditRefusals.{admits, answers_room, later_fits, limit_at, need_then, refuses_missed, refuses_range, room_back, room_then, still_outside}
+use Rattle.session_core.proofs.Naming.{frames_twice}
+use Rattle.transactions.proofs.Naming.{misses_so, names_so}
+use Rattle.transactions.proofs.edits.admit.Goals as goal
+
+pub returns-in-Err-clause-refused : goal.returns-in-Err-clause-refused
+returns-in-Err-clause-refused g c =
+    let x = reference_of c.args.x.now in
+    refuses_missed c.named.ensures.session c.requires.is_open x (asked_change c.args.asked.now) c.in-Err.why (misses_so x c.in-Err.why _ c.in-Err.is c.in_ok-version.ensures.named)
+
+pub returns-in-Some-clause-refused : goal.returns-in-Some-clause-refused
+returns-in-Some-clause-refused g c =
+    let x = reference_of c.args.x.now in
+    refuses_range c.named.ensures.session c.requires.is_open x (asked_change c.args.asked.now) c.in-Ok.version (names_so x c.in-Ok.version _ c.in-Ok.is c.in_ok-version.ensures.named) (limit_at c.in-Ok.version _ c.in-Ok.is c.in_ok-version.ensures.limit) c.in-Some.why c.in-Some.ensures.is
+
+pub returns-in-Err-stays_small-clause-only : goal.returns-in-Err-stays_small-clause-only
+returns-in-Err-stays_small-clause-only g c = frames_twice c.named.ensures.only c.stays_small.ensures.only
+
+pub returns-in-Err-stays_small-clause-sound : goal.returns-in-Err-stays_small-clause-sound
+returns-in-Err-stays_small-clause-sound g c =
+    let x = reference_of c.args.x.now in
+    still_outside c.in-Ok.version x c.in-Err-stays_small.stop c.named.ensures.only c.named.ensures.session (names_so x c.in-Ok.version _ c.in-Ok.is c.in_ok-version.ensures.named) c.in-Err-stays_small.ensures.sound
+
+pub returns-in-Some-refuses_room-clause-only : goal.returns-in-Some-refuses_room-clause-only
+returns-in-Some-refuses_room-clause-only g c = frames_twice c.named.ensures.only c.stays_small.ensures.only
+
+pub returns-in-Some-refuses_room-clause-refused : goal.returns-in-Some-refuses_room-clause-refused
+returns-in-Some-refuses_room-clause-refused g c =
+    let x = reference_of c.args.x.now in
+    let change = asked_change c.args.asked.now in
+    let version = c.in-Ok.version in
+    let passes : None ≡ bytes_refusal version.found change = search rules in
+    let room : Some c.in-Some-refuses_room.why ≡ c.refuses_room.result = sym c.in-Some-refuses_room.is in
+    answers_room c.named.ensures.session c.requires.is_open x change version (names_so x version _ c.in-Ok.is c.in_ok-version.ensures.named) (limit_at c.in-Ok.version _ c.in-Ok.is c.in_ok-version.ensures.limit) c.in-Ok-stays_small.small
+    (later_fits version (size_after change version.found.size) c.in-Ok-stays_small.small c.named.ensures.only c.named.ensures.session c.in-Ok-stays_small.ensures.small) passes (Some c.in-Some-refuses_room.why)
+    (room ∙ room_then version.found change c.in-Ok-stays_small.small c.need_of-need.result c.refuses_room.result (frames_twice c.named.ensures.only c.stays_small.ensures.only) c.need_of-need.ensures.is c.refuses_room.ensures)
+
+pub returns-in-None-clause-only : goal.returns-in-None-clause-only
+returns-in-None-clause-only g c = frames_twice c.named.ensures.only c.stays_small.ensures.only
+
+pub returns-in-None-clause-admitted : goal.returns-in-None-clause-admitted
+returns-in-None-clause-admitted g c =
+    let x = reference_of c.args.x.now in
+    let change = asked_change c.args.asked.now in
+    let version = c.in-Ok.version in
+    let only = frames_twice c.named.ensures.only c.stays_small.ensures.only in
+    let passes : None ≡ bytes_refusal version.found change = search rules in
+    let room : None ≡ c.refuses_room.result = sym c.in-None.is in
+    admits c.named.ensures.session c.requires.is_open x change version (names_so x version _ c.in-Ok.is c.in_ok-version.ensures.named) (limit_at c.in-Ok.version _ c.in-Ok.is c.in_ok-version.ensures.limit) c.in-Ok-stays_small.small
+    (later_fits version (size_after change version.found.size) c.in-Ok-stays_small.small c.named.ensures.only c.named.ensures.session c.in-Ok-stays_small.ensures.small) passes
+    c.need_of-need.result (need_then version.found change c.in-Ok-stays_small.small c.need_of-need.result only c.need_of-need.ensures.is) (room ∙ room_back c.need_of-need.result c.refuses_room.result only c.refuses_room.ensures)

@@ -1,9 +1,0 @@
-use Rattle.std.proofs.Common.{ap}
-use Rattle.table_model.specs.Requests.{reference_of}
-use Rattle.transactions.specs.Sessions.{SessionState}
-use Rattle.transactions.proofs.Naming.{missing_here}
-use Rattle.transactions.proofs.session.Session.named.Goals as goal
-
-pub returns-in-Err-clause-named : goal.returns-in-Err-clause-named
-returns-in-Err-clause-named g c = λ before same now.
-    missing_here c.self.inside.names (reference_of c.args.x.now) c.in-Err.why (ap (λ (s : SessionState). s.names) c.self.view_is) same now c.in-Err.ensures

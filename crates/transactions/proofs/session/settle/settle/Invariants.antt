@@ -1,6 +1,0 @@
-use Rattle.std.proofs.Common.{take}
-use Rattle.transactions.specs.Sessions.{Settled}
-use Rattle.transactions.proofs.session.settle.settle.Given as goal
-
-abbrev pub invariant-loop-index : goal.invariant-loop-index
-invariant-loop-index l = Settled (take l.index l.meta.working) l.initial.kept l.kept l.initial.pages l.pages l.initial.units l.units

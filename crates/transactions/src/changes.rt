@@ -1,0 +1,139 @@
+//! The bytes of a version are changed.
+ghost use Rattle.std.specs.Prelude.{◌≡◌, ◌≤◌, IsTrue, true};
+ghost use Rattle.ex_base.specs.Sizes.{volume_bytes};
+ghost use Rattle.table_model.specs.Requests.{Request, is_given, reference_of};
+ghost use Rattle.table_model.specs.Words.{data_count, data_most};
+ghost use Rattle.version_model.specs.Versions.{count_of};
+ghost use Rattle.transactions.specs.Asking.{asked_change, asked_count, asked_word};
+ghost use Rattle.table_model.specs.Requests as request;
+ghost use Rattle.transactions.specs.Editing.{AsksFor};
+ghost use Rattle.transactions.specs.Lines.{UpdatesLine};
+
+use crate::asked::{Asked, data_count};
+use crate::edits::{admit, limit};
+use crate::needs::{note_of, reply_of, size_after};
+use data_words::data_bytes;
+use disk_model::Host;
+use object_updates::ObjectUpdate;
+use session_core::Session;
+use session_views::Stop;
+use std::alloc::Global;
+use table_model::{Refusal, Reply, Subject};
+
+/// Changes a version, in an open transaction, and answers its new size.
+fn change<H: Host>(
+    session: &mut Session,
+    alloc: Global,
+    host: &mut H,
+    x: &Subject<'_>,
+    asked: &Asked<'_>,
+) -> Result<Reply, Stop>
+    requires room { volume_bytes session.old.geometry ≤ (H.outside host.old).size }
+    requires is_open { session.old.opened ≡ true }
+    requires counted { asked_count asked.now ≡ count_of (asked_change asked.now) }
+    requires few { data_count (asked_word asked.now) ≤ data_most }
+    ensures { (r : Request) → AsksFor r (reference_of x.now) (asked_change asked.now)
+        → UpdatesLine (H.outside host.old) (H.outside host.new) session.old session.new r result }
+{
+    let given = match admit(session, alloc, host, x, asked) {
+        Ok(Ok(given)) => given,
+        Ok(Err(why)) => return Ok(Reply::No(why)),
+        Err(stop) => return Err(stop),
+    };
+    let Ok(bytes) = data_bytes(alloc, asked.word()) else {
+        return Err(Stop::Memory);
+    };
+    let edit = asked.with_bytes(bytes.as_slice());
+    let limit = limit(session, &given.need);
+    let oid = given.version.oid;
+    let size = given.version.found.size;
+    let note = note_of(asked, &oid, size);
+    let update = ObjectUpdate::Change { oid, edit };
+    match session.update_objects(alloc, host, &update, &note, &limit) {
+        Ok(_) => Ok(reply_of(asked, size_after(asked, size))),
+        Err(stop) => Err(stop),
+    }
+}
+
+/// Puts bytes in before the byte at a position.
+pub(crate) fn insert<H: Host>(
+    session: &mut Session,
+    alloc: Global,
+    host: &mut H,
+    x: &Subject<'_>,
+    pos: u64,
+    given: &[u8],
+) -> Result<Reply, Stop>
+    requires room { volume_bytes session.old.geometry ≤ (H.outside host.old).size }
+    requires given { IsTrue (is_given given.now) }
+    ensures { UpdatesLine (H.outside host.old) (H.outside host.new) session.old session.new
+        (request.Insert (reference_of x.now) pos given.now) result }
+{
+    if !session.is_open() {
+        return Ok(Reply::No(Refusal::NoTxn));
+    }
+    let count = data_count(given);
+    let asked = Asked::Insert { pos, given, count };
+    change(session, alloc, host, x, &asked)
+}
+
+/// Puts bytes at the end.
+pub(crate) fn append<H: Host>(
+    session: &mut Session,
+    alloc: Global,
+    host: &mut H,
+    x: &Subject<'_>,
+    given: &[u8],
+) -> Result<Reply, Stop>
+    requires room { volume_bytes session.old.geometry ≤ (H.outside host.old).size }
+    requires given { IsTrue (is_given given.now) }
+    ensures { UpdatesLine (H.outside host.old) (H.outside host.new) session.old session.new
+        (request.Append (reference_of x.now) given.now) result }
+{
+    if !session.is_open() {
+        return Ok(Reply::No(Refusal::NoTxn));
+    }
+    let count = data_count(given);
+    change(session, alloc, host, x, &Asked::Append { given, count })
+}
+
+/// Puts bytes over those from a position on.
+pub(crate) fn replace<H: Host>(
+    session: &mut Session,
+    alloc: Global,
+    host: &mut H,
+    x: &Subject<'_>,
+    pos: u64,
+    given: &[u8],
+) -> Result<Reply, Stop>
+    requires room { volume_bytes session.old.geometry ≤ (H.outside host.old).size }
+    requires given { IsTrue (is_given given.now) }
+    ensures { UpdatesLine (H.outside host.old) (H.outside host.new) session.old session.new
+        (request.Replace (reference_of x.now) pos given.now) result }
+{
+    if !session.is_open() {
+        return Ok(Reply::No(Refusal::NoTxn));
+    }
+    let count = data_count(given);
+    let asked = Asked::Replace { pos, given, count };
+    change(session, alloc, host, x, &asked)
+}
+
+/// Takes bytes away, from a position on.
+pub(crate) fn delete<H: Host>(
+    session: &mut Session,
+    alloc: Global,
+    host: &mut H,
+    x: &Subject<'_>,
+    pos: u64,
+    len: u64,
+) -> Result<Reply, Stop>
+    requires room { volume_bytes session.old.geometry ≤ (H.outside host.old).size }
+    ensures { UpdatesLine (H.outside host.old) (H.outside host.new) session.old session.new
+        (request.Delete (reference_of x.now) pos len) result }
+{
+    if !session.is_open() {
+        return Ok(Reply::No(Refusal::NoTxn));
+    }
+    change(session, alloc, host, x, &Asked::Delete { pos, len })
+}

@@ -1,0 +1,168 @@
+//! The step of a session on a command.
+ghost use Rattle.std.specs.Prelude.{◌≡◌, ◌≢◌, ◌≤◌, ◌⊎◌, Ok, Err, IsTrue, IfOk, OnOk, OnErr, true, false};
+ghost use Rattle.ex_base.specs.declared.faults.Seen.{Seen};
+ghost use Rattle.ex_base.specs.declared.names.PageNo.{PageNo};
+ghost use Rattle.ex_base.specs.Sizes.{volume_bytes};
+ghost use Rattle.disk_model.specs.Outside.{DiskOnly, Leaves, ReadsOnly, Rose};
+ghost use Rattle.table_model.specs.Built.{is_built};
+ghost use Rattle.table_model.specs.Requests.{request_of, is_request};
+ghost use Rattle.table_model.specs.Requests as request;
+ghost use Rattle.session_views.specs.declared.engine.Stop.{Stop};
+ghost use Rattle.session_views.specs.View.{View, ShowsNow, Stepped, StandsDuring};
+ghost use Rattle.session_core.specs.Sessions.{SessionState};
+ghost use Rattle.session_core.specs.Catalogs.{IsDamaged, catalog_bytes};
+ghost use Rattle.session_core.specs.Commits.{HasNotes};
+ghost use Rattle.session_core.specs.Meant.{meant};
+ghost use Rattle.session_core.specs.Steps.{IsRefused, OnlyFrames, IsQuiet};
+ghost use Rattle.transactions.specs.Commands.{Answers, IsOfCatalog, ReadsAlone, asks_objects};
+
+use crate::changes::{append, delete, insert, replace};
+use crate::creation::create;
+use crate::reads::{digest, list, read, size, stat};
+use crate::removal::destroy;
+use crate::tell::{files, log, space};
+use crate::updates::{file, unfile};
+use disk_model::Host;
+use session_core::Session;
+use session_views::Stop;
+use std::alloc::Global;
+use table_model::{Command, Reply};
+
+// Steps on a command, in a session that met no fault.
+fn answer<H: Host>(
+    session: &mut Session,
+    alloc: Global,
+    host: &mut H,
+    command: &Command<'_>,
+) -> Result<Reply, Stop>
+    requires form { IsTrue (is_request (request_of command.now)) }
+    requires built { IsTrue (is_built (request_of command.now)) }
+    ensures answers { Answers (H.outside host.old) (H.outside host.new) session.old session.new
+        (request_of command.now) result }
+    ensures none_counts { request_of command.now ≡ request.Checkpoint
+        → result ≡ Ok Reply.Checkpoint → session.new.log.count ≡ 0 }
+    ensures noted { request_of command.now ≡ request.Commit → (before : View SessionState)
+        → before.session ≡ session.old → ShowsNow meant (H.outside host.old) before
+        → session.old.opened ≡ true
+        → OnOk result (HasNotes (H.outside host.new) session.old.geometry session.old.notes) }
+{
+    // A disk that is smaller than the volume isn't the one that the session was opened on.
+    if host.size() < session.geometry().volume_bytes() {
+        return Err(Stop::Memory);
+    }
+    match command {
+        Command::Begin => session.begin(alloc, host),
+        Command::Commit => session.commit(alloc, host),
+        Command::Abort => Ok(session.abort()),
+        Command::Checkpoint => session.checkpoint(host),
+        Command::Log => Ok(log(session)),
+        Command::Files => files(session, alloc, host),
+        Command::Space => Ok(space(session)),
+        Command::File { name } => file(session, alloc, host, name),
+        Command::Unfile { name } => unfile(session, alloc, host, name),
+        _ => answer_objects(session, alloc, host, command),
+    }
+}
+
+// Steps on a command that asks of objects.
+fn answer_objects<H: Host>(
+    session: &mut Session,
+    alloc: Global,
+    host: &mut H,
+    command: &Command<'_>,
+) -> Result<Reply, Stop>
+    requires room { volume_bytes session.old.geometry ≤ (H.outside host.old).size }
+    requires form { IsTrue (is_request (request_of command.now)) }
+    requires built { IsTrue (is_built (request_of command.now)) }
+    requires objects { asks_objects (request_of command.now) ≡ true }
+    ensures { Answers (H.outside host.old) (H.outside host.new) session.old session.new
+        (request_of command.now) result }
+{
+    match command {
+        Command::List { name } => list(session, alloc, host, name),
+        Command::Create { file, bind } => create(session, alloc, host, file, bind),
+        Command::Destroy { x } => destroy(session, alloc, host, x),
+        Command::Size { x } => size(session, alloc, host, x),
+        Command::Stat { x } => stat(session, alloc, host, x),
+        Command::Digest { x } => digest(session, alloc, host, x),
+        Command::Read { x, pos, len } => read(session, alloc, host, x, *pos, *len),
+        Command::Insert { x, pos, given } => insert(session, alloc, host, x, *pos, given),
+        Command::Append { x, given } => append(session, alloc, host, x, given),
+        Command::Replace { x, pos, given } => replace(session, alloc, host, x, *pos, given),
+        Command::Delete { x, pos, len } => delete(session, alloc, host, x, *pos, *len),
+        _ => unreachable!(),
+    }
+}
+
+/// Steps on a command, as the machine does that the session shows. A step that met a fault puts the session down, and then every step says so.
+pub fn step<H: Host>(
+    session: &mut Session,
+    alloc: Global,
+    host: &mut H,
+    command: &Command<'_>,
+) -> Result<Reply, Stop>
+    requires form { IsTrue (is_request (request_of command.now)) }
+    requires built { IsTrue (is_built (request_of command.now)) }
+    ensures only { DiskOnly (H.outside host.old) (H.outside host.new) }
+    ensures disk { result ≡ Err Stop.Disk
+        → Rose (H.outside host.old).disk_faults (H.outside host.new).disk_faults }
+    ensures damaged { (page : PageNo) (want got : Seen)
+        → result ≡ Err (Stop.Damaged page want got) → want ≢ got }
+
+    // From a view that shows to a view that shows, by the machine's step.
+    ensures stepped { (before : View SessionState) → before.session ≡ session.old
+        → ShowsNow meant (H.outside host.old) before
+        → IfOk result (λ told. Stepped meant before (request_of command.now) told session.new
+        (H.outside host.new)) }
+
+    // Where it shows, nothing but a fault of the disk or want of memory stops it.
+    ensures sound { (before : View SessionState) (stop : Stop) → before.session ≡ session.old
+        → ShowsNow meant (H.outside host.old) before
+        → result ≡ Err stop → (stop ≡ Stop.Disk) ⊎ (stop ≡ Stop.Memory) }
+
+    // A crash at any moment leaves the committed table before it, or in a commit that one or the next.
+    ensures any_moment { (before : View SessionState) → before.session ≡ session.old
+        → ShowsNow meant (H.outside host.old) before
+        → Leaves (H.outside host.old) (H.outside host.new) (StandsDuring meant before.machine
+        (request_of command.now)) }
+
+    // A refusal writes nothing and leaves the session but for its frames. But for a commit and a checkpoint the log stays, and nothing is written but
+    // by what makes, changes or removes objects.
+    ensures refused { IfOk result (λ told. IsRefused told
+        → OnlyFrames (H.outside host.old) (H.outside host.new) session.old session.new) }
+    ensures quiet { IsQuiet (request_of command.now) → session.new.log ≡ session.old.log }
+    ensures reads { ReadsAlone (request_of command.now)
+        → ReadsOnly (H.outside host.old) (H.outside host.new) }
+
+    // After an accepted checkpoint no record counts.
+    ensures none_counts { request_of command.now ≡ request.Checkpoint
+        → result ≡ Ok Reply.Checkpoint → session.new.log.count ≡ 0 }
+
+    // After an accepted commit the last record that counts has the notes of the transaction's updates.
+    ensures noted { request_of command.now ≡ request.Commit → (before : View SessionState)
+        → before.session ≡ session.old → ShowsNow meant (H.outside host.old) before
+        → session.old.opened ≡ true
+        → OnOk result (HasNotes (H.outside host.new) session.old.geometry session.old.notes) }
+
+    // To a command that asks of no objects, only a catalog that is outside of its grammar is damaged.
+    ensures catalog { IsOfCatalog (request_of command.now) → (page : PageNo) (want got : Seen)
+        → result ≡ Err (Stop.Damaged page want got)
+        → IsDamaged (H.outside host.old) session.old.groups
+        (catalog_bytes session.old) page want got }
+
+    // After a fault every step answers that the session is down, and calls nothing; before one none does.
+    ensures is_down { session.old.down ≡ true → (result ≡ Err Stop.Down) × (host.new ≡ host.old)
+        × (session.new ≡ session.old) }
+    ensures was_down { result ≡ Err Stop.Down → session.old.down ≡ true }
+    ensures goes_down { OnErr result (session.new.down ≡ true) }
+    ensures stays_up { OnOk result (session.new.down ≡ false) }
+{
+    if session.is_down() {
+        return Err(Stop::Down);
+    }
+    let told = answer(session, alloc, host, command);
+    if told.is_err() {
+        session.put_down();
+    }
+    told
+}

@@ -1,0 +1,107 @@
+//! An object is made.
+ghost use Rattle.std.specs.Prelude.{◌≡◌, ◌≤◌, ◌++◌, ◌∷◌, [], IsTrue, true, OnOk};
+ghost use Rattle.ex_base.specs.Sizes.{volume_bytes};
+ghost use Rattle.table_model.specs.Words.{is_name};
+ghost use Rattle.transactions.specs.Editing.{is_taken_by, new_object_in};
+ghost use Rattle.table_model.specs.Requests as request;
+ghost use Rattle.transactions.specs.Lines.{UpdatesLine};
+
+use crate::edits::{Need, limit, refuses_room};
+use crate::refuse::entry_named;
+use crate::removal::object_note;
+use disk_model::Host;
+use ex_base::{NoteKind, Oid};
+use object_files::CatalogView;
+use object_updates::ObjectUpdate;
+use session_core::{Session, view_of};
+use session_views::Stop;
+use std::alloc::Global;
+use table_model::{Refusal, Reply};
+
+/// The name of the group that every session has.
+const MAIN_NAME: &[u8] = b"main";
+
+/// What a new object may take: the pages of its record and of its file's index, and as many logged pages that it touches.
+const CREATION_NEED: Need = Need {
+    charge: 16,
+    pages: 16,
+    segs: 0,
+};
+
+/// The file that a new object is put into, and its number.
+#[derive(Clone, Copy)]
+pub(crate) struct NewObject {
+    pub file_no: u32,
+    pub unique: u64,
+}
+
+/// The place of a new object in a file, or why there is none.
+fn new_object(catalog: &CatalogView<'_>, file: &[u8]) -> Result<NewObject, Refusal>
+    ensures { result ≡ new_object_in catalog.now file.now }
+{
+    let Some(entry) = entry_named(catalog, file) else {
+        return Err(Refusal::NoFile);
+    };
+    let unique = catalog.next_unique();
+    if unique == u64::MAX {
+        return Err(Refusal::IdsSpent);
+    }
+    Ok(NewObject {
+        file_no: entry.file_no,
+        unique,
+    })
+}
+
+/// Whether a version is bound to a name, or the name is that of the group that every session has.
+fn is_taken(session: &Session, name: &[u8]) -> bool
+    ensures { result ≡ is_taken_by session.now.names name.now }
+{
+    name == MAIN_NAME || session.is_bound(name)
+}
+
+/// Makes an object without bytes in a file, and binds a name to it.
+pub(crate) fn create<H: Host>(
+    session: &mut Session,
+    alloc: Global,
+    host: &mut H,
+    file: &[u8],
+    name: &[u8],
+) -> Result<Reply, Stop>
+    requires room { volume_bytes session.old.geometry ≤ (H.outside host.old).size }
+    requires file { IsTrue (is_name file.now) }
+    requires name { IsTrue (is_name name.now) }
+    ensures { UpdatesLine (H.outside host.old) (H.outside host.new) session.old session.new
+        (request.Create file.now name.now) result }
+{
+    if !session.is_open() {
+        return Ok(Reply::No(Refusal::NoTxn));
+    }
+    if is_taken(session, name) {
+        return Ok(Reply::No(Refusal::NameTaken));
+    }
+    let page = match session.catalog(alloc, host) {
+        Ok(page) => page,
+        Err(stop) => return Err(stop),
+    };
+    let made = match new_object(&view_of(&page), file) {
+        Ok(made) => made,
+        Err(why) => return Ok(Reply::No(why)),
+    };
+    if let Some(why) = refuses_room(session, &CREATION_NEED) {
+        return Ok(Reply::No(why));
+    }
+    let limit = limit(session, &CREATION_NEED);
+    let note = object_note(NoteKind::ObjectMade, &Oid::NONE);
+    let update = ObjectUpdate::Create {
+        file_no: made.file_no,
+        unique: made.unique,
+    };
+    let oid = match session.update_objects(alloc, host, &update, &note, &limit) {
+        Ok(oid) => oid,
+        Err(stop) => return Err(stop),
+    };
+    match session.bind(alloc, name, oid) {
+        Ok(()) => Ok(Reply::Create { oid }),
+        Err(_) => Err(Stop::Memory),
+    }
+}

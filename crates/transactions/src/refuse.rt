@@ -1,0 +1,96 @@
+//! Why updates are refused.
+ghost use Rattle.std.specs.Prelude.{◌≡◌, ◌≤◌, find, option_map};
+ghost use Rattle.object_files.specs.Edits.{has_name};
+ghost use Rattle.object_files.specs.Reads.{entry_of};
+ghost use Rattle.transactions.specs.Refused.{file_refusal, unfile_refusal, long_txn, full_pages};
+
+use ex_base::{Area, TOUCHED_MOST, UPDATES_MOST};
+use object_files::{CatalogView, Entry};
+use session_core::Session;
+use table_model::Refusal;
+
+/// The pages that `file` may take.
+const FILE_NEED: u32 = 2;
+
+/// The logged pages that `file` and `unfile` may touch.
+const FILE_CHARGE: u32 = 2;
+
+/// The file with a name.
+pub(crate) fn entry_named<'a>(catalog: &CatalogView<'a>, name: &[u8]) -> Option<Entry<'a>>
+    ensures { option_map entry_of result ≡ find (has_name name.now) catalog.now.entries }
+{
+    for index in 0..catalog.len() {
+        let entry = catalog.entry(index);
+        if entry.name == name {
+            return Some(entry);
+        }
+    }
+    None
+}
+
+/// Why the open transaction makes no file of this name.
+pub(crate) fn refuses_file(
+    session: &Session,
+    catalog: &CatalogView<'_>,
+    name: &[u8],
+) -> Option<Refusal>
+    ensures { result ≡ file_refusal session.now catalog.now name.now }
+{
+    if entry_named(catalog, name).is_some() {
+        return Some(Refusal::FileExists);
+    }
+    if catalog.len() >= session.geometry().files_most() {
+        return Some(Refusal::FilesFull);
+    }
+    if let Some(why) = refuses_touching(session, FILE_CHARGE) {
+        return Some(why);
+    }
+    refuses_taking(session, FILE_NEED)
+}
+
+/// Why the open transaction removes no file of this name.
+pub(crate) fn refuses_unfile(
+    session: &Session,
+    catalog: &CatalogView<'_>,
+    name: &[u8],
+) -> Option<Refusal>
+    ensures { result ≡ unfile_refusal session.now catalog.now name.now }
+{
+    match entry_named(catalog, name) {
+        None => return Some(Refusal::NoFile),
+        Some(entry) => {
+            if entry.root.is_some() {
+                return Some(Refusal::NotEmpty);
+            }
+        }
+    }
+    refuses_touching(session, FILE_CHARGE)
+}
+
+/// Why the open transaction accepts no update that may touch so many logged pages more.
+pub(crate) fn refuses_touching(session: &Session, charge: u32) -> Option<Refusal>
+    requires { charge ≤ 128 }
+    ensures { result ≡ long_txn session.now charge }
+{
+    let updates = session.updates();
+    let touched = session.touched();
+    if updates as usize >= UPDATES_MOST || touched > TOUCHED_MOST - charge {
+        return Some(Refusal::LongTxn { updates, touched });
+    }
+    None
+}
+
+/// Why the open transaction takes no such number of pages more.
+fn refuses_taking(session: &Session, need: u32) -> Option<Refusal>
+    ensures { result ≡ full_pages session.now need }
+{
+    let free = session.free(Area::Page);
+    if free < need {
+        return Some(Refusal::Full {
+            area: Area::Page,
+            need: u64::from(need),
+            free: u64::from(free),
+        });
+    }
+    None
+}

@@ -1,0 +1,5 @@
+use Rattle.trees.proofs.Parts.{ChildrenFrom}
+use Rattle.trees.proofs.lent_nodes.children.Given as goal
+
+abbrev pub invariant-loop-index : goal.invariant-loop-index
+invariant-loop-index l = ChildrenFrom l.node.pairs l.from l.index l.before l.row.items

@@ -1,0 +1,96 @@
+// The node on a lent page: that it is the one that its parent asks, and its children.
+ghost use Rattle.std.specs.Prelude.{◌≡◌, ◌≤◌, ◌<◌, ◌-◌, ◌^◌, ◌↔◌, length, take, drop, IfOk, IfErr, IsTrue, ℕ};
+ghost use Rattle.count_nodes.specs.Node.{RiseFrom, node_on, total_of};
+ghost use Rattle.ex_base.specs.Ports.{HasCause};
+ghost use Rattle.trees.specs.Damage.{IsNodeFault};
+ghost use Rattle.trees.specs.Rows.{parts_of, AreHalfFull, IsFilled, IsRowOn};
+
+use crate::faults::no_node;
+use crate::rows::{Part, put};
+use count_nodes::view::NodeView;
+use ex_base::{Geometry, PortFault, Seen};
+use std::alloc::{AllocError, Global};
+
+/// Whether each leaf below a node is half full.
+fn are_half_full(node: &NodeView, full: u32) -> bool
+    requires { RiseFrom 0 node.now.pairs }
+    ensures { IsTrue result ↔ AreHalfFull full (parts_of 0 node.now.pairs) }
+{
+    let mut before = 0;
+    for index in 0..node.len() {
+        let count = node.pair(index).count;
+        let size = count - before;
+        if size < (full / 2) as u64 || size > full as u64 {
+            return false;
+        }
+        before = count;
+    }
+    true
+}
+
+/// The node that stands on a page, where it is the one that its parent asks.
+pub(crate) fn asked_node<'a>(
+    bytes: &'a [u8],
+    geometry: &Geometry,
+    level: u8,
+    part: Part,
+    least: u32,
+) -> Result<NodeView<'a>, PortFault>
+    ensures view { IfOk result (λ node. node ≡ node_on bytes.now) }
+    ensures row { IfOk result
+        (λ node. IsRowOn geometry.now bytes.now level part.size (parts_of 0 node.pairs)) }
+    ensures filled { IfOk result
+        (λ node. IsFilled geometry.now level least (parts_of 0 node.pairs)) }
+    ensures few { IfOk result (λ node. length node.pairs < 2 ^ 32) }
+    ensures limit { IfOk result (λ node. total_of node.pairs < 2 ^ 64) }
+    ensures fault { IfErr result
+        (IsNodeFault geometry.now bytes.now level part.size least part.page.0) }
+    ensures cause { (before now : ℕ) → HasCause before now result }
+{
+    let Some(node) = NodeView::of(bytes, geometry.fan) else {
+        return Err(no_node(part.page, level, part.size));
+    };
+    let want = Seen::node(level, part.size);
+    let got = Seen::node(node.level(), node.total());
+    if got != want {
+        return Err(PortFault::Damaged {
+            page: part.page,
+            want,
+            got,
+        });
+    }
+    if node.len() < least {
+        return Err(no_node(part.page, level, part.size));
+    }
+    if level == 1 && !are_half_full(&node, geometry.leaf_bytes()) {
+        return Err(no_node(part.page, level, part.size));
+    }
+    Ok(node)
+}
+
+/// The children of a node from one index up to another.
+pub(crate) fn children(
+    alloc: Global,
+    node: &NodeView,
+    from: u32,
+    end: u32,
+) -> Result<Vec<Part>, AllocError>
+    requires rise { RiseFrom 0 node.now.pairs }
+    requires order { from < end }
+    requires inside { end ≤ length node.now.pairs }
+    ensures { IfOk result
+        (λ row. row.items ≡ take (end - from) (drop from (parts_of 0 node.now.pairs))) }
+{
+    let mut row = Vec::with_capacity(alloc, (end - from) as usize)?;
+    let mut before = node.start(from);
+    for index in from..end {
+        let pair = node.pair(index);
+        let part = Part {
+            size: pair.count - before,
+            page: pair.page,
+        };
+        put(&mut row, part)?;
+        before = pair.count;
+    }
+    Ok(row)
+}

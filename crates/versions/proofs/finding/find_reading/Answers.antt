@@ -1,0 +1,67 @@
+use Rattle.std.proofs.Common.{ℕ, List, Some, refl, subst, sym}
+use Rattle.ex_base.specs.declared.names.Place.{Place}
+use Rattle.file_bodies.specs.Files.{HasFileOf, HasBody, HasSomeBody}
+use Rattle.ex_base.specs.declared.geometry.Geometry.{Geometry}
+use Rattle.ex_base.proofs.Results.{if_ok_both}
+use Rattle.file_bodies.specs.Damage.{IsBelongingFault}
+use Rattle.std.proofs.lemmas.Result.{IfOk-weaker, IfErr-weaker}
+use Rattle.ex_base.proofs.Options.{at_some}
+use Rattle.versions.specs.Found.{IsTold, IsRecordBody}
+use Rattle.versions.specs.Damage.{StandsOn, IsBodyFault, in_file, at_place}
+use Rattle.versions.proofs.Results.{if_some_both, some_both, same_some, match_some, match_none}
+use Rattle.object_records.specs.Record.{BodyOf}
+use Rattle.object_records.specs.Reads.{small_record}
+use Rattle.version_model.specs.Versions.{lone_head}
+use Rattle.versions.proofs.Standing.{found_is, told_size, file_at, one_body, small_version}
+use Rattle.version_model.specs.Versions.{place_of}
+use Rattle.versions.proofs.finding.find_reading.Goals as goal
+
+pub returns-in-Ok-Some-clause-told : goal.returns-in-Ok-Some-clause-told
+returns-in-Ok-Some-clause-told g c = if_ok_both c.told_reading.result _ _ _ (λ found some none told index is has.
+    let stands = subst (λ (p : Place). HasSomeBody g.V.Ground c.args.volume.now p c.in-Ok-Some.body.now) c.place_of.ensures (match_some c.in-Ok-Some.field-0 c.in-Ok-Some.body _ _ c.in-Ok-Some.field-0-is (c.in-Ok-Some.ensures.found told (file_at g.V.Ground c.args.volume.now index c.place_of.result (place_of c.args.oid.now) _ c.place_of.ensures has.stands))) in
+    found_is g.V.Ground c.args.volume.now c.geometry-geometry.result index c.args.oid.now c.in-Ok-Some.body.now is stands has found some none) c.told_reading.ensures.some c.told_reading.ensures.none
+
+pub returns-in-Ok-Some-clause-size : goal.returns-in-Ok-Some-clause-size
+returns-in-Ok-Some-clause-size g c = IfOk-weaker c.told_reading.result _ _ (λ found some told index content bytes has.
+    let stands = subst (λ (p : Place). HasSomeBody g.V.Ground c.args.volume.now p c.in-Ok-Some.body.now) c.place_of.ensures (match_some c.in-Ok-Some.field-0 c.in-Ok-Some.body _ _ c.in-Ok-Some.field-0-is (c.in-Ok-Some.ensures.found told (file_at g.V.Ground c.args.volume.now index c.place_of.result (place_of c.args.oid.now) _ c.place_of.ensures has.stored.stands))) in
+    told_size g.V.Ground c.args.volume.now c.geometry-geometry.result index c.args.oid.now c.in-Ok-Some.body.now content bytes c.requires told stands has found some) c.told_reading.ensures.some
+
+pub returns-in-Ok-Some-clause-cause : goal.returns-in-Ok-Some-clause-cause
+returns-in-Ok-Some-clause-cause g c = c.told_reading.ensures.cause _ _
+
+pub returns-in-Ok-None-clause-told : goal.returns-in-Ok-None-clause-told
+returns-in-Ok-None-clause-told g c = λ told index is has.
+    absurd (match_none c.in-Ok-None.field-0 _ _ c.in-Ok-None.field-0-is (c.in-Ok-None.ensures.found told (file_at g.V.Ground c.args.volume.now index c.place_of.result (place_of c.args.oid.now) _ c.place_of.ensures has.stands)) has.body
+    (record { index = index; has = subst (λ (p : Place). HasBody g.V.Ground c.args.volume.now index p has.body) (sym c.place_of.ensures) has.stands }))
+
+pub returns-in-Ok-Some-clause-reads : goal.returns-in-Ok-Some-clause-reads
+returns-in-Ok-Some-clause-reads g c = IfOk-weaker c.told_reading.result _ _ (λ found some. if_some_both found _ _ (λ f is told. record {
+  body = c.in-Ok-Some.body.now;
+  stands = subst (λ (p : Place). StandsOn (g.V.Ground.image c.args.volume.now) p c.in-Ok-Some.body.now) c.place_of.ensures
+      (at_some c.in-Ok-Some.field-0 c.in-Ok-Some.body _ c.in-Ok-Some.field-0-is (c.in-Ok-Some.ensures.stands told));
+  told = subst (λ (y : Geometry). IsTold y c.args.oid.now.unique c.in-Ok-Some.body.now f) c.geometry-geometry.ensures is;
+}) some) c.told_reading.ensures.some
+
+pub returns-in-Ok-Some-clause-fault : goal.returns-in-Ok-Some-clause-fault
+returns-in-Ok-Some-clause-fault g c = IfErr-weaker c.told_reading.result _ _ (λ fault h told. at_place c.in-Ok-Some.body.now
+    (subst (λ (p : Place). StandsOn (g.V.Ground.image c.args.volume.now) p c.in-Ok-Some.body.now) c.place_of.ensures
+    (at_some c.in-Ok-Some.field-0 c.in-Ok-Some.body _ c.in-Ok-Some.field-0-is (c.in-Ok-Some.ensures.stands told)))
+    (subst (λ (y : Geometry). IsBodyFault y c.args.oid.now c.in-Ok-Some.body.now fault) c.geometry-geometry.ensures h)) c.told_reading.ensures.fault
+
+pub returns-in-Err-clause-fault : goal.returns-in-Err-clause-fault
+returns-in-Err-clause-fault g c = λ told. in_file (subst (λ (p : Place). IsBelongingFault (g.V.Ground.geometry c.args.volume.now) (g.V.Ground.image c.args.volume.now) p.page.0 c.in-Err.fault) c.place_of.ensures (c.in-Err.ensures.fault told))
+
+pub returns-in-Ok-Some-clause-sound : goal.returns-in-Ok-Some-clause-sound
+returns-in-Ok-Some-clause-sound g c = IfErr-weaker c.told_reading.result _ _ (λ fault never damage told file readable.
+    let whole = subst (λ (p : Place). HasFileOf g.V.Ground c.args.volume.now p.page.0) (sym c.place_of.ensures) file in
+    let stands = subst (λ (p : Place). HasSomeBody g.V.Ground c.args.volume.now p c.in-Ok-Some.body.now) c.place_of.ensures (match_some c.in-Ok-Some.field-0 c.in-Ok-Some.body _ _ c.in-Ok-Some.field-0-is (c.in-Ok-Some.ensures.found told whole)) in
+    never (subst (λ (y : Geometry). IsRecordBody y c.in-Ok-Some.body.now) (sym c.geometry-geometry.ensures) (readable c.in-Ok-Some.body.now stands))) c.told_reading.ensures.sound
+
+pub returns-in-Ok-Some-clause-bytes : goal.returns-in-Ok-Some-clause-bytes
+returns-in-Ok-Some-clause-bytes g c = if_ok_both c.told_reading.result _ _ _ (λ found some copied.
+    some_both found _ _ _ (λ f is copies told small inside index content bytes has.
+    let stands = subst (λ (p : Place). HasSomeBody g.V.Ground c.args.volume.now p c.in-Ok-Some.body.now) c.place_of.ensures (match_some c.in-Ok-Some.field-0 c.in-Ok-Some.body _ _ c.in-Ok-Some.field-0-is (c.in-Ok-Some.ensures.found told (file_at g.V.Ground c.args.volume.now index c.place_of.result (place_of c.args.oid.now) _ c.place_of.ensures has.stored.stands))) in
+    let f_is = same_some (Some f) f _ refl (found_is g.V.Ground c.args.volume.now c.geometry-geometry.result index c.args.oid.now c.in-Ok-Some.body.now _ stands has.stored (Some f) is tt) in
+    let held = small_version g.V.Ground c.args.volume.now index c.args.oid.now content bytes f f_is small has in
+    copies small inside (lone_head c.args.oid.now.unique) bytes
+    (subst (λ (b : List ℕ). BodyOf b (small_record (lone_head c.args.oid.now.unique) bytes)) (sym (one_body g.V.Ground c.args.volume.now index (place_of c.args.oid.now) c.in-Ok-Some.body.now held.stored.body stands held.stored.stands)) held.stored.spelled)) some copied) c.told_reading.ensures.some c.told_reading.ensures.bytes

@@ -1,0 +1,193 @@
+//! A port that only gives trees up.
+ghost use Rattle.std.specs.Prelude.{◌≡◌, ◌≤◌, ◌+◌, [], ◌∷◌, length, false, OnOk, IfErr};
+ghost use Rattle.ex_base.specs.Area.{InPageArea};
+ghost use Rattle.ex_base.specs.Ports.{Keeps, HasCause, IsDamage};
+ghost use Rattle.ex_base.specs.declared.names.Area.TheVariants.{Page};
+ghost use Rattle.buffer_groups.specs.Groups.{HasFrame};
+ghost use Rattle.page_alloc.specs.UnitSet.{free_count, used_at};
+ghost use Rattle.trees.specs.Damage.{root_row};
+ghost use Rattle.trees.specs.Owners.{root_pages};
+ghost use Rattle.version_delete.specs.Released.{Blames, Gives, Released};
+
+use buffer_groups::Groups;
+use disk_model::Disk;
+use ex_base::{Geometry, Ground, PageNo, PortFault, ReadBlocks, Root};
+use page_alloc::Units;
+use std::alloc::Global;
+use std::sync::ledger::Ledger;
+use version_delete::{CountBlocks, Steps, release_tree};
+
+/// The units of a session and their owners, lent to give trees up. It takes no unit, knows no logged page, and writes nothing to the disk.
+#[derive(Drop)]
+pub struct GivingPort<'a, D: Disk> {
+    pub disk: &'a mut D,
+    pub units: &'a mut Units,
+    pub groups: &'a mut Groups,
+    /// The group that nodes are read through.
+    pub index: u32,
+    pub geometry: Geometry,
+}
+
+impl<'a, D: Disk> Ground for GivingPort<'a, D> {
+    ghost use Rattle.count_nodes.specs.Names.{names_on};
+    ghost use Rattle.page_alloc.specs.UnitSet.{used_at, refs_at, free_count};
+    ghost use Rattle.tree_store.specs.Stored.{unit_bytes, Fits, Tells, NoUnit};
+    ghost use Rattle.tree_store.specs.Whole.{leaf_whole};
+    ghost use Rattle.volume_port.specs.Giving.{GivesUp, gives_same, gives_on, gives_wider};
+
+    ghost geometry = { λ s. s.geometry };
+
+    ghost ready = { λ s. Fits s.geometry (D.outside s.disk.now).size s.groups.now s.index s.units.now };
+
+    ghost tells = { λ s. Tells (D.outside s.disk.now) s.groups.now };
+
+    ghost unit = { λ s. unit_bytes s.geometry (D.outside s.disk.now).disk };
+
+    ghost image = { λ s p. [] };
+
+    ghost used = { λ s. used_at s.units.now };
+
+    ghost refs = { λ s. refs_at s.units.now };
+
+    ghost names = { λ g bytes. names_on bytes };
+
+    ghost held = { λ s p. false };
+
+    ghost free = { λ s. free_count s.units.now.geometry (used_at s.units.now) };
+
+    ghost touched = { λ s. 0 };
+
+    ghost faults = { λ s. (D.outside s.disk.now).disk_faults };
+
+    ghost leads = { λ a b. GivesUp D.outside NoUnit a.disk b.disk a.units b.units a.groups b.groups a.index b.index a.geometry b.geometry };
+
+    ghost frees = { λ freed a b. GivesUp D.outside freed a.disk b.disk a.units b.units a.groups b.groups a.index b.index a.geometry b.geometry };
+
+    ghost whole = { λ s ready told page leaf. leaf_whole (D.outside s.disk.now) s.geometry page (D.is_world s.disk.now) ready.disk told.1 leaf };
+
+    ghost leads_refl = { λ s. gives_same D.outside s.disk s.units s.groups s.index s.geometry };
+
+    ghost leads_trans = { λ a b c x y. gives_on D.outside NoUnit a.disk b.disk c.disk a.units b.units c.units a.groups b.groups c.groups a.index b.index c.index a.geometry b.geometry c.geometry x y };
+
+    ghost leads_geometry = { λ a b x. x.store.geometry };
+
+    ghost leads_ready = { λ a b x. x.store.fits };
+
+    ghost leads_told = { λ a b x. x.store.told };
+
+    ghost leads_faults = { λ a b x. x.only.nothing.only.goes.disk_faults };
+
+    ghost frees_leads = { λ freed a b x. gives_wider D.outside NoUnit freed (λ p none. absurd none) a.disk b.disk a.units b.units a.groups b.groups a.index b.index a.geometry b.geometry x };
+
+    ghost frees_trans = { λ freed a b c x y. gives_on D.outside freed a.disk b.disk c.disk a.units b.units c.units a.groups b.groups c.groups a.index b.index c.index a.geometry b.geometry c.geometry x y };
+
+    ghost frees_more = { λ few many wider a b x. gives_wider D.outside few many wider a.disk b.disk a.units b.units a.groups b.groups a.index b.index a.geometry b.geometry x };
+
+    ghost frees_geometry = { λ freed a b x. x.store.geometry };
+
+    ghost frees_ready = { λ freed a b x. x.store.fits };
+
+    ghost frees_told = { λ freed a b x. x.store.told };
+
+    ghost frees_faults = { λ freed a b x. x.only.nothing.only.goes.disk_faults };
+}
+
+impl<'a, D: Disk> GivingPort<'a, D> {
+    // Brings a page into a frame of the group.
+    fn bring(&mut self, alloc: Global, page: PageNo) -> Result<(), PortFault>
+        requires ready { ⟦<GivingPort<'a, D> as Ground>⟧.ready self.old }
+        requires page { InPageArea self.old.geometry page.0 }
+        ensures held { OnOk result (HasFrame self.new.groups.now self.new.index page.0) }
+        ensures kept { Keeps ⟦<GivingPort<'a, D> as Ground>⟧ self.old self.new }
+        ensures no_damage { IfErr result (λ fault. IsDamage fault → ⊥) }
+        ensures cause { HasCause (⟦<GivingPort<'a, D> as Ground>⟧.faults self.old)
+            (⟦<GivingPort<'a, D> as Ground>⟧.faults self.new) result }
+    {
+        let index = self.index;
+        self.groups.bring(index, alloc, self.disk, page)?;
+        Ok(())
+    }
+
+    // Lends the bytes of a page that has a frame.
+    fn frame(&self, page: PageNo) -> &[u8]
+        requires ready { ⟦<GivingPort<'a, D> as Ground>⟧.ready self.now }
+        requires page { InPageArea self.now.geometry page.0 }
+        requires held { HasFrame self.now.groups.now self.now.index page.0 }
+        ensures bytes { ⟦<GivingPort<'a, D> as Ground>⟧.tells self.now
+            → result.now ≡ ⟦<GivingPort<'a, D> as Ground>⟧.unit self.now page.0 }
+        ensures len { length result.now ≡ self.now.geometry.page_size }
+    {
+        self.groups.get(self.index).frame(page)
+    }
+
+    /// Takes an owner away from the tree of a root. Units that have no owner left are free from then on. Each node that is read is given back: where no
+    /// page became free, the disk wasn't called. `Disk` comes only where the count of faults rose, and `Damaged` where a node isn't what names it.
+    pub fn give_up<L: Ledger>(
+        &mut self,
+        alloc: Global,
+        root: &Root,
+        steps: &mut Steps<L>,
+    ) -> Result<(), PortFault>
+        requires ready { ⟦<GivingPort<'a, D> as Ground>⟧.ready self.old }
+        ensures released { OnOk result (Released ⟦<GivingPort<'a, D> as Ground>⟧ self.old self.new
+            root.now.height (root_pages (root.now ∷ []))) }
+        ensures gives { Gives ⟦<GivingPort<'a, D> as Ground>⟧ self.old self.new }
+        ensures cost { OnOk result (steps.new
+            + ⟦<GivingPort<'a, D> as Ground>⟧.free self.old Page ≡ steps.old
+            + ⟦<GivingPort<'a, D> as Ground>⟧.free self.new Page) }
+        ensures rises { steps.old ≤ steps.new }
+        ensures quiet { OnOk result (⟦<GivingPort<'a, D> as Ground>⟧.free self.new Page
+            ≡ ⟦<GivingPort<'a, D> as Ground>⟧.free self.old Page
+            → self.new.disk.now ≡ self.old.disk.now) }
+        ensures fault { IfErr result (λ fault. Blames ⟦<GivingPort<'a, D> as Ground>⟧ self.old
+            root.now.height 2 (root_row root.now) fault) }
+        ensures cause { HasCause (⟦<GivingPort<'a, D> as Ground>⟧.faults self.old)
+            (⟦<GivingPort<'a, D> as Ground>⟧.faults self.new) result }
+    {
+        release_tree(self, alloc, root, steps)
+    }
+}
+
+impl<'a, D: Disk> ReadBlocks for GivingPort<'a, D> {
+    fn geometry(&self) -> Geometry {
+        self.geometry
+    }
+
+    fn node(&mut self, alloc: Global, page: PageNo) -> Result<&[u8], PortFault> {
+        self.bring(alloc, page)?;
+        Ok(self.frame(page))
+    }
+
+    fn leaf_into(
+        &mut self,
+        _alloc: Global,
+        page: PageNo,
+        from: u32,
+        out: &mut [u8],
+    ) -> Result<(), PortFault> {
+        let at = page.0 as u64 * self.geometry.page_size as u64 + from as u64;
+        match self.disk.read(at, out) {
+            Ok(()) => Ok(()),
+            Err(_) => Err(PortFault::Disk),
+        }
+    }
+}
+
+impl<'a, D: Disk> CountBlocks for GivingPort<'a, D> {
+    ghost use Rattle.std.specs.Prelude.{refl};
+    ghost use Rattle.std.proofs.Common.{◌∙◌};
+
+    ghost idle = { λ a b. b.disk.now ≡ a.disk.now };
+
+    ghost idle_refl = { λ s. refl };
+
+    ghost idle_trans = { λ a b c x y. y ∙ x };
+
+    fn drop_ref(&mut self, page: PageNo) -> bool {
+        self.units.drop_ref(page)
+    }
+
+    fn give_unit(&mut self, page: PageNo) {
+        self.units.give(page)
+    }
+}
