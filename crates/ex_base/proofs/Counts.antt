@@ -1,5 +1,5 @@
 -- How often a number stands in a list, and lists whose numbers differ.
-use Rattle.std.proofs.Common.{◌≡◌, ◌≢◌, ◌≤◌, ◌<◌, ◌+◌, ◌⊎◌, inl, inr, ℕ, zero, suc, true, false, List, [], ◌∷◌, ◌++◌, sum_by, length, refl, sym, subst, ◌∙◌, arith, true≢false, eqb, eq-eqb, eqb-true, IsPermutation}
+use Rattle.std.proofs.Common.{◌≡◌, ◌≢◌, ◌≤◌, ◌<◌, ◌+◌, ◌⊎◌, ◌↔◌, inl, inr, ℕ, zero, suc, Bool, true, false, List, [], ◌∷◌, ◌++◌, sum_by, length, refl, sym, subst, ◌∙◌, arith, true≢false, eqb, eq-eqb, eqb-true, IsPermutation}
 use Rattle.std.specs.Prelude.{Contains}
 use Rattle.std.specs.List.{flat_map, AllByRecursion}
 use Rattle.std.proofs.lemmas.List.Recursion.{is_sum_by}
@@ -138,3 +138,17 @@ times_permuted x xs ys same = counted ys ∙ sum_by-IsPermutation is xs ys same 
 
 pub differ_permuted : (xs ys : List ℕ) → IsPermutation xs ys → AllDiffer xs → AllDiffer ys
 differ_permuted xs ys same differ = once_differ ys (λ x. omega (arith, times_permuted x xs ys same, differ_once xs differ x))
+
+-- what stands in a list stands in it in another order
+pub contains_permuted : (x : ℕ) (xs ys : List ℕ) → IsPermutation xs ys → Contains xs x → Contains ys x
+contains_permuted x xs ys same here = times_contains x ys (omega (arith, times_permuted x xs ys same, contains_times x xs here))
+
+pub permuted_contains : (x : ℕ) (xs ys : List ℕ) → IsPermutation xs ys → Contains ys x → Contains xs x
+permuted_contains x xs ys same here = times_contains x xs (omega (arith, times_permuted x xs ys same, contains_times x ys here))
+
+-- the used units, by how often they stand in a list
+pub used_times : (used : ℕ → Bool) (pages : List ℕ) → ((page : ℕ) → (used page ≡ true) ↔ Contains pages page) → (page : ℕ) → (used page ≡ true) ↔ (1 ≤ times page pages)
+used_times used pages is page = (
+  λ yes. contains_times page pages ((is page).0 yes),
+  λ some. (is page).1 (times_contains page pages some),
+)

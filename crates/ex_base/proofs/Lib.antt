@@ -3,6 +3,7 @@ pub mod Booleans
 pub mod Counts
 pub mod Each
 pub mod FieldLaws
+pub mod Filters
 pub mod Geometries
 pub mod Keeping
 pub mod Lists

@@ -24,3 +24,17 @@ some_apart x is = absurd cc
 -- an option with a value is not one without
 pub some_apart_inside : {A : Type 0} (x : A) → Some (Some x) ≡ Some None → ⊥
 some_apart_inside x is = absurd cc
+
+-- what is promised where no value is there, of one that is none of those there are
+pub none_is : {A : Type 0} {X : Type 0} (o : Option A) → ((x : A) → o ≡ Some x → ⊥) → IfNone o X → X
+none_is None never is = is
+none_is (Some x) never is = absurd (never x refl)
+
+-- what one fact, or two, on a value that is there make
+pub if_some_both : {X : Type 0} (o : Option X) (P Q : X → Type 0) → ((x : X) → P x → Q x) → IfSome o P → IfSome o Q
+if_some_both None P Q f p = tt
+if_some_both (Some x) P Q f p = f x p
+
+pub some_both : {X : Type 0} (o : Option X) (P Q R : X → Type 0) → ((x : X) → P x → Q x → R x) → IfSome o P → IfSome o Q → IfSome o R
+some_both None P Q R f p q = tt
+some_both (Some x) P Q R f p q = f x p q

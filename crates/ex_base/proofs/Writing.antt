@@ -1,6 +1,6 @@
 -- What stands where a field was written.
 use Rattle.std.proofs.Common.{◌≡◌, ℕ, ◌+◌, ◌-◌, ◌≤◌, List, ◌++◌, length, take, drop, sym, ap, ◌∙◌, arith, append_assoc}
-use Rattle.std.proofs.lemmas.List.{take_at, drop_at, drop-drop, drop-replicate, length-append, length-take}
+use Rattle.std.proofs.lemmas.List.{append-nil, drop_all, take_at, drop_at, drop-drop, drop-replicate, length-append, length-take}
 use Rattle.ex_base.specs.Bytes.{written}
 use Rattle.ex_base.specs.Fields.{zeros}
 
@@ -28,3 +28,11 @@ written_at a old new b at len same =
     let kept : take at (a ++ (old ++ b)) ≡ a = take_at a (old ++ b) at len in
     let rest : drop (at + length new) (a ++ (old ++ b)) ≡ b = ap (drop (at + length new)) (sym (append_assoc a old b)) ∙ drop_at (a ++ old) b (at + length new) (omega (arith, length-append a old)) in
     ap (λ (t : List ℕ). t ++ new ++ drop (at + length new) (a ++ (old ++ b))) kept ∙ ap (λ (t : List ℕ). a ++ new ++ t) rest ∙ append_assoc a new b
+
+-- a field over all bytes
+pub over_all : (bytes field : List ℕ) → length field ≡ length bytes → written bytes 0 field ≡ field
+over_all bytes field same = ap (λ (t : List ℕ). field ++ t) (drop_all (0 + length field) bytes (omega (arith, same))) ∙ append-nil field
+
+-- a field that is put behind others
+pub pushed : (before after bytes now field : List ℕ) → after ≡ before ++ now → now ≡ written bytes 0 field → length field ≡ length bytes → after ≡ before ++ field
+pushed before after bytes now field is put same = is ∙ ap (λ (t : List ℕ). before ++ t) (put ∙ over_all bytes field same)

@@ -3,6 +3,7 @@
 #![tactic(auto)]
 
 mod blocks;
+mod count_blocks;
 mod faults;
 mod fields;
 mod geometry;
@@ -18,6 +19,7 @@ mod pages;
 mod superblock;
 
 pub use blocks::{Blocks, ReadBlocks};
+pub use count_blocks::CountBlocks;
 pub use faults::{PortFault, Seen};
 pub use fields::{
     clear_from, get_u16, get_u32, get_u64, is_zero, put_bytes, put_of_what_get_gave, put_u16,

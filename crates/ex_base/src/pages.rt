@@ -1,5 +1,5 @@
 //! The ports of logged pages, one for reading alone and one that also changes them, and both kinds of ports over one object.
-ghost use Rattle.std.specs.Prelude.{◌≡◌, ◌≢◌, ◌≤◌, ◌+◌, ◌↔◌, IsTrue, length, IfOk, IfErr, OnOk};
+ghost use Rattle.std.specs.Prelude.{◌≡◌, ◌≢◌, ◌≤◌, ◌+◌, ◌↔◌, IsTrue, true, length, IfOk, IfErr, OnOk};
 ghost use Rattle.std.specs.Borrow.{sem};
 ghost use Rattle.ex_base.specs.Area.{InPageArea, catalog_no};
 ghost use Rattle.ex_base.specs.Ports.{Rests, Keeps, HasCause, IsDamage, PutsImage, TakesPage, GivesPage};
@@ -39,10 +39,17 @@ pub trait ReadPages: Ground {
 
 /// Logged pages. Each call touches one page at most. `Disk` comes only where the count of faults rose in the call, and no call answers `Damaged`.
 pub trait Pages: ReadPages {
-    /// Changes the working image of a page, and touches the page.
+    /// Whether the working state has a page. Only such a page is changed.
+    fn has(&self, page: PageNo) -> bool
+        requires ready { Self.ready self.now }
+        requires page { InPageArea (Self.geometry self.now) page.0 }
+        ensures { result ≡ Self.held self.now page.0 };
+
+    /// Changes the working image of a page that the working state has, and touches the page.
     fn put(&mut self, alloc: Global, page: PageNo, image: &[u8]) -> Result<(), PortFault>
         requires ready { Self.ready self.old }
         requires page { InPageArea (Self.geometry self.old) page.0 }
+        requires held { Self.held self.old page.0 ≡ true }
         requires len { length image.now ≡ (Self.geometry self.old).page_size }
         ensures put { OnOk result (PutsImage Self.Ground self.old self.new page.0 image.now) }
         ensures no_damage { IfErr result (λ fault. IsDamage fault → ⊥) }
@@ -74,6 +81,9 @@ pub trait Pages: ReadPages {
         ensures touched { Self.touched self.new ≤ Self.touched self.old + 1 }
         ensures leads { Self.leads self.old self.new }
         ensures cause { HasCause (Self.faults self.old) (Self.faults self.new) result };
+
+    /// The working state has the catalog's page.
+    ghost has_catalog: { (s : Self) → Self.Ground.ready s → Self.Ground.held s catalog_no ≡ true };
 }
 
 /// Both ports for reading, over one object.

@@ -1,5 +1,5 @@
 -- A file in a state that keeps the images of its pages.
-use Rattle.std.proofs.Common.{◌≡◌, ◌≢◌, ◌≤◌, ◌+◌, ℕ, List, [], ◌∷◌, ◌++◌, length, Option, Some, None, refl, sym, ap, subst, ◌∙◌, arith, inl, inr}
+use Rattle.std.proofs.Common.{◌≡◌, ◌≢◌, ◌≤◌, ◌+◌, ℕ, true, List, [], ◌∷◌, ◌++◌, length, Option, Some, None, refl, sym, ap, subst, ◌∙◌, arith, inl, inr}
 use Rattle.std.specs.Prelude.{Contains}
 use Rattle.std.specs.List.{flat_map, AllByRecursion}
 use Rattle.std.proofs.lemmas.List.Concat.{flat_map-append}
@@ -68,6 +68,9 @@ module _ {S : Type 0} (g : ground.Ghosts S) where
   -- each page is named once, as a page with bodies or as one of the index
   pub once_of : (a : S) (index : Index) (p : ℕ) → HasFile g a index → times p (pages_in (g.image a) index) + times p (pages_of (g.image a) index.level index.root) ≤ count_of (g.held a p)
   once_of a index p file = omega (arith, file.once p, times-append p (pages_in (g.image a) index) (pages_of (g.image a) index.level index.root))
+
+  pub page_held : (a : S) (index : Index) (p : ℕ) → HasFile g a index → 1 ≤ times p (pages_in (g.image a) index) → g.held a p ≡ true
+  page_held a index p file c = is_counted (g.held a p) (omega (arith, c, once_of a index p file))
 
   pub has_index : (a : S) (index : Index) → HasFile g a index → HasIndex g a index
   has_index a index file = record {

@@ -1,11 +1,12 @@
 -- The search for a page with room.
-use Rattle.std.proofs.Common.{◌≡◌, ◌≤◌, ◌<◌, ◌+◌, ℕ, true, false, List, length, Option, Some, None, refl, ap, subst, ◌∙◌, arith, ◌⊎◌, inl, inr}
+use Rattle.std.proofs.Common.{◌≡◌, ◌≤◌, ◌<◌, ◌+◌, ℕ, true, false, List, length, Option, Some, None, refl, ap, subst, ◌∙◌, arith, inl, inr}
 use Rattle.std.specs.Prelude.{Bool, Contains, nat_le, if◌then◌else◌}
 use Rattle.std.proofs.lemmas.Bool.Decides.{nat_tests}
 use Rattle.std.proofs.lemmas.Bool.{cases_lt}
 use Rattle.ex_base.specs.declared.ground.Ground as ground
 use Rattle.ex_base.specs.declared.names.PageNo.{PageNo}
-use Rattle.ex_base.specs.Ports.{Keeps}
+use Rattle.ex_base.specs.Ports.{times, Keeps}
+use Rattle.ex_base.proofs.Counts.{contains_times}
 use Rattle.ex_base.proofs.Keeping.{keeps_refl}
 use Rattle.slotted_pages.specs.FilePage.{Slot, room_of}
 use Rattle.slotted_pages.specs.Edits.{slots_of, place_for, need_of, vacant_at}
@@ -17,7 +18,7 @@ use Rattle.file_bodies.specs.Files.{HasFile, IsPageOf}
 use Rattle.file_bodies.specs.Places.{slot_for, NoRoom}
 use Rattle.file_bodies.specs.Placing.{NoneFrom}
 use Rattle.file_bodies.specs.Damage.{IsLook}
-use Rattle.file_bodies.proofs.Moving.{kept_file}
+use Rattle.file_bodies.proofs.Moving.{kept_file, page_held}
 use Rattle.file_bodies.proofs.Following.{page_sound}
 
 le_false : (a b c : ℕ) → a ≤ b → nat_le a c ≡ false → nat_le b c ≡ false
@@ -77,8 +78,11 @@ module _ {S : Type 0} (g : ground.Ghosts S) where
       pub page_named : Contains (pages_in (g.image a) index) page.0
       page_named = at_page.0
 
-      pub load_sound : (c : S) → Keeps g b c → (IsFilesPage (g.geometry c) page.0 → IsPageOf index.file_no (g.image c page.0) → ⊥) → ⊥
-      load_sound c more never = page_sound g b c index key 0 file_now more page found some least never
+      pub load_sound : (c : S) → Keeps g b c → (IsFilesPage (g.geometry c) page.0 → g.held c page.0 ≡ true → IsPageOf index.file_no (g.image c page.0) → ⊥) → ⊥
+      load_sound c more never =
+          let named : 1 ≤ times page.0 (pages_in (g.image b) index) = contains_times page.0 (pages_in (g.image b) index) (rw to.kept.images at_page.0) in
+          let held : g.held c page.0 ≡ true = rw more.held (page_held g b index page.0 file_now named) in
+          page_sound g b c index key 0 file_now more page found some least (λ area of. never area held of)
 
   -- what a page that was read says of the room on it
   pub slot_read : (a b : S) (page len : ℕ) (image : List ℕ) (r : Option ℕ) → Keeps g a b → image ≡ g.image b page → length image ≡ (g.geometry a).page_size → r ≡ place_for (length image) (slots_of image) len → r ≡ slot_for g a page len

@@ -1,5 +1,5 @@
 -- One slot of a page of a file is changed, and the page is written.
-use Rattle.std.proofs.Common.{◌≡◌, ◌≤◌, ◌<◌, ℕ, zero, suc, List, [], ◌∷◌, length, Some, None, refl, sym, ap, subst, arith}
+use Rattle.std.proofs.Common.{◌≡◌, ◌≤◌, ◌<◌, ℕ, zero, suc, true, List, [], ◌∷◌, length, Some, None, refl, sym, ap, subst, arith}
 use Rattle.std.specs.Prelude.{slice_index_or, Contains}
 use Rattle.ex_base.specs.declared.ground.Ground as ground
 use Rattle.ex_base.specs.declared.names.Place.{Place}
@@ -14,7 +14,7 @@ use Rattle.file_index.specs.Index.{IsFilesPage}
 use Rattle.file_bodies.specs.Bodies.{Row, bodies_from, bodies_on, pages_in, EditsRow}
 use Rattle.file_bodies.specs.Files.{IsPageOf, IsLive, HasFile, HasBody, EditsFile}
 use Rattle.file_bodies.proofs.Pages.{stands_live, slots_are}
-use Rattle.file_bodies.proofs.Moving.{lies, kept_file, kept_edits, put_edits}
+use Rattle.file_bodies.proofs.Moving.{lies, page_held, kept_file, kept_edits, put_edits}
 use Rattle.file_bodies.proofs.Rows.{each_at, slot_edits, rows_trimmed}
 
 pub stands_below : (slots : List Slot) (i : ℕ) (body : List ℕ) → slice_index_or slots i None ≡ Some body → i < length slots
@@ -47,11 +47,11 @@ module _ {S : Type 0} (g : ground.Ghosts S) where
 
   -- what a read of the page of a body needs to be sound
   pub body_sound : (a : S) (index : Index) (place : Place) (body : List ℕ) → HasBody g a index place body
-      → (IsFilesPage (g.geometry a) place.page.0 → IsPage (g.image a place.page.0) → IsLive (g.image a place.page.0) place.slot → ⊥) → ⊥
+      → (IsFilesPage (g.geometry a) place.page.0 → g.held a place.page.0 ≡ true → IsPage (g.image a place.page.0) → IsLive (g.image a place.page.0) place.slot → ⊥) → ⊥
   body_sound a index place body has never =
       let at : 1 ≤ times place.page.0 (pages_in (g.image a) index) = contains_times place.page.0 (pages_in (g.image a) index) has.named in
       let page = (page_of a index place.page.0 has.file at).spelled in
-      never (lies g a index place.page.0 has.file at) page (stands_live (g.image a place.page.0) place.slot body page has.stands)
+      never (lies g a index place.page.0 has.file at) (page_held g a index place.page.0 has.file at) page (stands_live (g.image a place.page.0) place.slot body page has.stands)
 
   -- a body is put in the place of another
   pub body_changed : (a b c : S) (index : Index) (place : Place) (was body out content : List ℕ) → HasBody g a index place was → Keeps g a b → g.tells a → out ≡ g.image a place.page.0

@@ -1,5 +1,5 @@
 -- What a fault of a call on a file says of the page that isn't what names it, and which pages a call has read.
-use Rattle.std.specs.Prelude.{◌≡◌, ◌≢◌, ◌≤◌, ◌+◌, ℕ, zero, suc, List, [], length, Option, Some, None, ⊤}
+use Rattle.std.specs.Prelude.{◌≡◌, ◌≢◌, ◌≤◌, ◌+◌, ℕ, zero, suc, Bool, true, false, List, [], length, Option, Some, None, ⊤}
 use Rattle.ex_base.specs.declared.faults.Seen.{Seen}
 use Rattle.ex_base.specs.declared.faults.PortFault.{PortFault}
 use Rattle.ex_base.specs.declared.faults.PortFault.TheVariants.{Disk, Memory, Damaged}
@@ -12,7 +12,7 @@ use Rattle.slotted_pages.specs.Edits.{slots_of, with_slot, trimmed}
 use Rattle.index_pages.specs.declared.Index.{Index}
 use Rattle.file_index.specs.Index.{IsFilesPage, seen}
 use Rattle.ex_base.specs.Seen.{catalog_seen, file_page_seen, nothing_seen, record_seen}
-use Rattle.file_index.specs.Damage.{HasWay, IsIndexFault, IsAddingFault, IsRemovalFault, found_in}
+use Rattle.file_index.specs.Damage.{every_page, HasWay, IsIndexFault, IsAddingFault, IsRemovalFault, found_in}
 use Rattle.object_files.specs.Edits.{IsCatalogPage, entries_on}
 use Rattle.file_bodies.specs.Files.{index_in, IsPageOf, IsLive}
 
@@ -53,32 +53,34 @@ pub record HasRecords (bytes : List ℕ) : Type 0 where
   pub spelled : IsPage bytes
   pub some : 1 ≤ length (slots_of bytes)
 
--- What is seen of a page with these bytes, where it isn't a page of the file: it lies where no page of a file lies, and isn't read; or it is outside the
--- grammar or without a record; or it is of another file.
-pub data IsPageMisread (g : Geometry) (bytes : List ℕ) (file_no page : ℕ) (got : Seen) : Type 0 where
-  misplaced : (IsFilesPage g page → ⊥) → got ≡ nothing_seen → IsPageMisread g bytes file_no page got
-  misspelled : IsFilesPage g page → (HasRecords bytes → ⊥) → got ≡ nothing_seen → IsPageMisread g bytes file_no page got
-  foreign : IsFilesPage g page → HasRecords bytes → (page_on bytes).file_no ≢ file_no → got ≡ file_page_seen (page_on bytes).file_no → IsPageMisread g bytes file_no page got
+-- What is seen of a page with these bytes, where it isn't a page of the file: it lies where no page of a file lies, or is none of those that are held, and
+-- isn't read; or it is outside the grammar or without a record; or it is of another file.
+pub data IsPageMisread (g : Geometry) (held : ℕ → Bool) (bytes : List ℕ) (file_no page : ℕ) (got : Seen) : Type 0 where
+  misplaced : (IsFilesPage g page → ⊥) → got ≡ nothing_seen → IsPageMisread g held bytes file_no page got
+  not_held : IsFilesPage g page → held page ≡ false → got ≡ nothing_seen → IsPageMisread g held bytes file_no page got
+  misspelled : IsFilesPage g page → (HasRecords bytes → ⊥) → got ≡ nothing_seen → IsPageMisread g held bytes file_no page got
+  foreign : IsFilesPage g page → HasRecords bytes → (page_on bytes).file_no ≢ file_no → got ≡ file_page_seen (page_on bytes).file_no → IsPageMisread g held bytes file_no page got
 
 -- the fault is the port's own, or tells that this page with these bytes isn't one of the file
-abbrev pub IsFilePageFault : Geometry → List ℕ → ℕ → ℕ → PortFault → Type 0
-IsFilePageFault g bytes file_no page Disk = ⊤
-IsFilePageFault g bytes file_no page Memory = ⊤
-IsFilePageFault g bytes file_no page (Damaged at want got) = (at.0 ≡ page) × (want ≡ file_page_seen file_no) × IsPageMisread g bytes file_no page got
+abbrev pub IsFilePageFault : Geometry → (ℕ → Bool) → List ℕ → ℕ → ℕ → PortFault → Type 0
+IsFilePageFault g held bytes file_no page Disk = ⊤
+IsFilePageFault g held bytes file_no page Memory = ⊤
+IsFilePageFault g held bytes file_no page (Damaged at want got) = (at.0 ≡ page) × (want ≡ file_page_seen file_no) × IsPageMisread g held bytes file_no page got
 
 -- ---- a place
 
--- A record stands at the place, on a page with these bytes, which is in the grammar of a file's pages and lies where one may lie.
-pub record HasRecordAt (g : Geometry) (bytes : List ℕ) (place : Place) : Type 0 where
+-- A record stands at the place, on a page with these bytes, which is held, is in the grammar of a file's pages and lies where one may lie.
+pub record HasRecordAt (g : Geometry) (held : ℕ → Bool) (bytes : List ℕ) (place : Place) : Type 0 where
   pub area : IsFilesPage g place.page.0
+  pub is_held : held place.page.0 ≡ true
   pub spelled : IsPage bytes
   pub live : IsLive bytes place.slot
 
 -- the fault is the port's own, or tells that no record stands at the place
-abbrev pub IsPlaceFault : Geometry → List ℕ → Place → PortFault → Type 0
-IsPlaceFault g bytes place Disk = ⊤
-IsPlaceFault g bytes place Memory = ⊤
-IsPlaceFault g bytes place (Damaged at want got) = (at ≡ place.page) × (want ≡ record_seen place.slot) × (got ≡ nothing_seen) × (HasRecordAt g bytes place → ⊥)
+abbrev pub IsPlaceFault : Geometry → (ℕ → Bool) → List ℕ → Place → PortFault → Type 0
+IsPlaceFault g held bytes place Disk = ⊤
+IsPlaceFault g held bytes place Memory = ⊤
+IsPlaceFault g held bytes place (Damaged at want got) = (at ≡ place.page) × (want ≡ record_seen place.slot) × (got ≡ nothing_seen) × (HasRecordAt g held bytes place → ⊥)
 
 -- ---- the root of an index that is to be written
 
@@ -99,31 +101,32 @@ IsRootFault g index (Damaged at want got) = (index.root ≡ Some at) × (want �
 -- the way to the page isn't what names it.
 pub data IsBelongingFault (g : Geometry) (image : ℕ → List ℕ) (page : ℕ) (fault : PortFault) : Type 0 where
   broken_catalog : IsCatalogFault (image catalog_no) fault → IsBelongingFault g image page fault
-  on_the_way : (index : Index) → IsPage (image page) → ListsFile (image catalog_no) (page_on (image page)).file_no index → IsIndexFault g image index page fault → IsBelongingFault g image page fault
+  on_the_way : (index : Index) → IsPage (image page) → ListsFile (image catalog_no) (page_on (image page)).file_no index → IsIndexFault g every_page image index page fault → IsBelongingFault g image page fault
 
 -- What a look at the pages of a file from a number on tells: of an index page on the way to a number from there on, or of the page that such a way finds.
-pub data IsLookFault (g : Geometry) (image : ℕ → List ℕ) (index : Index) (from : ℕ) (fault : PortFault) : Type 0 where
-  lost_way : (key : ℕ) → from ≤ key → IsIndexFault g image index key fault → IsLookFault g image index from fault
-  found_page : (key : ℕ) (page : PageNo) → from ≤ key → HasWay g image index key → found_in image index key ≡ Some page → IsFilePageFault g (image page.0) index.file_no page.0 fault → IsLookFault g image index from fault
+-- The pages of the file that it finds are to be held; those of the index are only read.
+pub data IsLookFault (g : Geometry) (held : ℕ → Bool) (image : ℕ → List ℕ) (index : Index) (from : ℕ) (fault : PortFault) : Type 0 where
+  lost_way : (key : ℕ) → from ≤ key → IsIndexFault g every_page image index key fault → IsLookFault g held image index from fault
+  found_page : (key : ℕ) (page : PageNo) → from ≤ key → HasWay g image index key → found_in image index key ≡ Some page → IsFilePageFault g held (image page.0) index.file_no page.0 fault → IsLookFault g held image index from fault
 
 -- What a call tells that puts a body into the file of an index: the catalog lacks the file; or of a page that the look for room reads; or, where a page
--- was taken, of the index that it is put into.
-pub data IsPlacingFault (g : Geometry) (image : ℕ → List ℕ) (index : Index) (from : ℕ) (fault : PortFault) : Type 0 where
-  unlisted_file : IsFileFault (image catalog_no) index.file_no fault → IsPlacingFault g image index from fault
-  looking : IsLookFault g image index from fault → IsPlacingFault g image index from fault
-  adding : (page : ℕ) (taken : ℕ → List ℕ) → ((p : ℕ) → p ≢ page → taken p ≡ image p) → IsAddingFault g taken index page fault → IsPlacingFault g image index from fault
+-- was taken, of the index that it is put into, with the pages that are held then.
+pub data IsPlacingFault (g : Geometry) (held : ℕ → Bool) (image : ℕ → List ℕ) (index : Index) (from : ℕ) (fault : PortFault) : Type 0 where
+  unlisted_file : IsFileFault (image catalog_no) index.file_no fault → IsPlacingFault g held image index from fault
+  looking : IsLookFault g held image index from fault → IsPlacingFault g held image index from fault
+  adding : (page : ℕ) (taken : ℕ → List ℕ) (with_it : ℕ → Bool) → ((p : ℕ) → p ≢ page → (taken p ≡ image p) × (with_it p ≡ held p)) → IsAddingFault g with_it taken index page fault → IsPlacingFault g held image index from fault
 
--- What a call tells that takes a page out of the file of an index: the catalog lacks the file; or what is told of the index (`now` is what stands when it
--- is told); or the root of the index that is left lies where no page of a file lies.
-pub data IsLeavingFault (g : Geometry) (image now : ℕ → List ℕ) (index : Index) (page : ℕ) (fault : PortFault) : Type 0 where
-  lost_entry : IsFileFault (image catalog_no) index.file_no fault → IsLeavingFault g image now index page fault
-  removing : IsRemovalFault g image now index page fault → IsLeavingFault g image now index page fault
-  bad_root : (left : Index) → left.file_no ≡ index.file_no → left.level ≤ index.level → IsRootFault g left fault → IsLeavingFault g image now index page fault
+-- What a call tells that takes a page out of the file of an index: the catalog lacks the file; or what is told of the index (`now_held` and `now` are
+-- what stands when it is told); or the root of the index that is left lies where no page of a file lies.
+pub data IsLeavingFault (g : Geometry) (held : ℕ → Bool) (image : ℕ → List ℕ) (now_held : ℕ → Bool) (now : ℕ → List ℕ) (index : Index) (page : ℕ) (fault : PortFault) : Type 0 where
+  lost_entry : IsFileFault (image catalog_no) index.file_no fault → IsLeavingFault g held image now_held now index page fault
+  removing : IsRemovalFault g held image now_held now index page fault → IsLeavingFault g held image now_held now index page fault
+  bad_root : (left : Index) → left.file_no ≡ index.file_no → left.level ≤ index.level → IsRootFault g left fault → IsLeavingFault g held image now_held now index page fault
 
 -- What a call tells that takes the body at a place out of its file: no record stands there; or what is told of the file that the page shows.
-pub data IsTakingFault (g : Geometry) (image now : ℕ → List ℕ) (place : Place) (fault : PortFault) : Type 0 where
-  no_record : IsPlaceFault g (image place.page.0) place fault → IsTakingFault g image now place fault
-  leaving : HasRecordAt g (image place.page.0) place → IsListedFault image (page_on (image place.page.0)).file_no (λ index. IsLeavingFault g image now index place.page.0 fault) fault → IsTakingFault g image now place fault
+pub data IsTakingFault (g : Geometry) (held : ℕ → Bool) (image : ℕ → List ℕ) (now_held : ℕ → Bool) (now : ℕ → List ℕ) (place : Place) (fault : PortFault) : Type 0 where
+  no_record : IsPlaceFault g held (image place.page.0) place fault → IsTakingFault g held image now_held now place fault
+  leaving : HasRecordAt g held (image place.page.0) place → IsListedFault image (page_on (image place.page.0)).file_no (λ index. IsLeavingFault g held image now_held now index place.page.0 fault) fault → IsTakingFault g held image now_held now place fault
 
 -- ---- what the calls have read
 

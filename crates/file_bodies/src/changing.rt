@@ -39,9 +39,11 @@ fn change_on_page<P: Pages>(
     ensures sound { IfErr result (λ fault. IsDamage fault → P.tells pages.old → (index : Index)
         → (was : List ℕ) → HasBody P.Ground pages.old index place was → ⊥) }
     ensures fault { IfErr result (λ fault. P.tells pages.old
-        → IsPlaceFault (P.geometry pages.old) (P.image pages.old place.page.0) place fault) }
+        → IsPlaceFault (P.geometry pages.old) (P.held pages.old)
+        (P.image pages.old place.page.0) place fault) }
     ensures has { OnOk result (P.tells pages.old
-        → HasRecordAt (P.geometry pages.old) (P.image pages.old place.page.0) place) }
+        → HasRecordAt (P.geometry pages.old) (P.held pages.old)
+        (P.image pages.old place.page.0) place) }
     ensures leads { P.leads pages.old pages.new }
     ensures cause { HasCause (P.faults pages.old) (P.faults pages.new) result }
 {
@@ -83,9 +85,11 @@ pub fn change_body<P: Pages>(
     ensures sound { IfErr result (λ fault. IsDamage fault → P.tells pages.old → (index : Index)
         → (was : List ℕ) → HasBody P.Ground pages.old index place was → ⊥) }
     ensures fault { IfErr result (λ fault. P.tells pages.old
-        → IsPlaceFault (P.geometry pages.old) (P.image pages.old place.page.0) place fault) }
+        → IsPlaceFault (P.geometry pages.old) (P.held pages.old)
+        (P.image pages.old place.page.0) place fault) }
     ensures has { OnOk result (P.tells pages.old
-        → HasRecordAt (P.geometry pages.old) (P.image pages.old place.page.0) place) }
+        → HasRecordAt (P.geometry pages.old) (P.held pages.old)
+        (P.image pages.old place.page.0) place) }
     ensures leads { P.leads pages.old pages.new }
     ensures cause { HasCause (P.faults pages.old) (P.faults pages.new) result }
 {

@@ -1,8 +1,9 @@
 //! One page of a file.
-ghost use Rattle.std.specs.Prelude.{◌≡◌, ◌≤◌, ◌<◌, ◌+◌, ℕ, [], length, slice_index_or, IfOk, IfErr, IfSome, IfNone, OnOk, IsTrue, IsNone, false, Some, None};
+ghost use Rattle.std.specs.Prelude.{◌≡◌, ◌≤◌, ◌<◌, ◌+◌, ℕ, Bool, [], length, slice_index_or, IfOk, IfErr, IfSome, IfNone, OnOk, IsTrue, IsNone, true, false, Some, None};
 ghost use Rattle.std.specs.Option.{option_map};
 ghost use Rattle.ex_base.specs.Ports.{Keeps, Cause, HasCause, IsDamage};
 ghost use Rattle.file_index.specs.Index.{IsFilesPage};
+ghost use Rattle.file_index.specs.Damage.{every_page};
 ghost use Rattle.slotted_pages.specs.Reads.{page_on, viewed_on, IsPage};
 ghost use Rattle.slotted_pages.specs.Edits.{slots_of};
 ghost use Rattle.file_bodies.specs.Places.{IsFirstLive};
@@ -12,7 +13,8 @@ ghost use Rattle.ex_base.specs.declared.faults.PortFault.TheVariants.{Damaged};
 ghost use Rattle.ex_base.specs.Seen.{file_page_seen, nothing_seen, record_seen};
 ghost use Rattle.file_bodies.specs.Damage.{HasRecordAt, IsFilePageFault, IsPlaceFault};
 
-use ex_base::{PageNo, Place, PortFault, ReadPages, Seen};
+use ex_base::{PageNo, Pages, Place, PortFault, ReadPages, Seen};
+use file_index::may_be_written;
 use slotted_pages::SlottedView;
 use std::alloc::Global;
 
@@ -60,8 +62,8 @@ fn page_checked(bytes: &[u8], page: PageNo, file_no: u32) -> Result<SlottedView<
     ensures ok { OnOk result (IsPageOf file_no bytes.now) }
     ensures view { IfOk result (λ view. view ≡ viewed_on bytes.now) }
     ensures err { IfErr result (λ fault. IsPageOf file_no bytes.now → ⊥) }
-    ensures fault { IfErr result (λ fault. (g : Geometry) → IsFilesPage g page.0
-        → IsFilePageFault g bytes.now file_no page.0 fault) }
+    ensures fault { IfErr result (λ fault. (g : Geometry) → (held : ℕ → Bool)
+        → IsFilesPage g page.0 → IsFilePageFault g held bytes.now file_no page.0 fault) }
     ensures cause { (before now : ℕ) → HasCause before now result }
 {
     let Some(view) = SlottedView::of(bytes) else {
@@ -90,8 +92,8 @@ pub fn may_be_of_file<P: ReadPages>(pages: &P, page: PageNo) -> bool
     pages.in_area(page) && page != PageNo::CATALOG
 }
 
-/// Reads a page of a file.
-pub fn load_page<P: ReadPages>(
+/// Reads a page of a file that is to be written.
+pub fn load_page<P: Pages>(
     pages: &mut P,
     alloc: Global,
     page: PageNo,
@@ -103,16 +105,18 @@ pub fn load_page<P: ReadPages>(
     ensures bytes { OnOk result (P.tells pages.old → out.new ≡ P.image pages.old page.0) }
     ensures of { OnOk result (IsPageOf file_no out.new) }
     ensures area { OnOk result (IsFilesPage (P.geometry pages.old) page.0) }
+    ensures held { OnOk result (P.held pages.old page.0 ≡ true) }
     ensures sound { IfErr result (λ fault. IsDamage fault → P.tells pages.old
-        → IsFilesPage (P.geometry pages.old) page.0 → IsPageOf file_no (P.image pages.old page.0)
-        → ⊥) }
+        → IsFilesPage (P.geometry pages.old) page.0 → P.held pages.old page.0 ≡ true
+        → IsPageOf file_no (P.image pages.old page.0) → ⊥) }
     ensures fault { IfErr result (λ fault. P.tells pages.old
-        → IsFilePageFault (P.geometry pages.old) (P.image pages.old page.0) file_no page.0 fault) }
+        → IsFilePageFault (P.geometry pages.old) (P.held pages.old)
+        (P.image pages.old page.0) file_no page.0 fault) }
     ensures page { OnOk result (P.tells pages.old → IsPageOf file_no (P.image pages.old page.0)) }
     ensures kept { Keeps P.Ground pages.old pages.new }
     ensures cause { HasCause (P.faults pages.old) (P.faults pages.new) result }
 {
-    if !may_be_of_file(pages, page) {
+    if !may_be_written(pages, page) {
         return Err(no_page(page, file_no));
     }
     out.copy_from_slice(pages.get(alloc, page)?);
@@ -128,7 +132,8 @@ fn body_checked(bytes: &[u8], place: Place) -> Result<u32, PortFault>
     ensures file { IfOk result (λ file_no. (page_on bytes.now).file_no ≡ file_no) }
     ensures live { OnOk result (IsLive bytes.now place.slot) }
     ensures err { IfErr result (λ fault. IsPage bytes.now → IsLive bytes.now place.slot → ⊥) }
-    ensures fault { IfErr result (λ fault. (g : Geometry) → IsPlaceFault g bytes.now place fault) }
+    ensures fault { IfErr result (λ fault. (g : Geometry) → (held : ℕ → Bool)
+        → IsPlaceFault g held bytes.now place fault) }
     ensures damage { (before now : ℕ) → HasCause before now result }
 {
     let Some(view) = SlottedView::of(bytes) else {
@@ -140,8 +145,8 @@ fn body_checked(bytes: &[u8], place: Place) -> Result<u32, PortFault>
     }
 }
 
-/// Reads the page that a body stands on, and answers the number of its file.
-pub fn load_body_page<P: ReadPages>(
+/// Reads the page that a body stands on and that is to be written, and answers the number of its file.
+pub fn load_body_page<P: Pages>(
     pages: &mut P,
     alloc: Global,
     place: Place,
@@ -154,17 +159,21 @@ pub fn load_body_page<P: ReadPages>(
     ensures file { IfOk result (λ file_no. (page_on out.new).file_no ≡ file_no) }
     ensures live { OnOk result (IsLive out.new place.slot) }
     ensures area { OnOk result (IsFilesPage (P.geometry pages.old) place.page.0) }
+    ensures held { OnOk result (P.held pages.old place.page.0 ≡ true) }
     ensures sound { IfErr result (λ fault. IsDamage fault → P.tells pages.old
-        → IsFilesPage (P.geometry pages.old) place.page.0 → IsPage (P.image pages.old place.page.0)
+        → IsFilesPage (P.geometry pages.old) place.page.0 → P.held pages.old place.page.0 ≡ true
+        → IsPage (P.image pages.old place.page.0)
         → IsLive (P.image pages.old place.page.0) place.slot → ⊥) }
     ensures fault { IfErr result (λ fault. P.tells pages.old
-        → IsPlaceFault (P.geometry pages.old) (P.image pages.old place.page.0) place fault) }
+        → IsPlaceFault (P.geometry pages.old) (P.held pages.old)
+        (P.image pages.old place.page.0) place fault) }
     ensures has { OnOk result (P.tells pages.old
-        → HasRecordAt (P.geometry pages.old) (P.image pages.old place.page.0) place) }
+        → HasRecordAt (P.geometry pages.old) (P.held pages.old)
+        (P.image pages.old place.page.0) place) }
     ensures kept { Keeps P.Ground pages.old pages.new }
     ensures cause { HasCause (P.faults pages.old) (P.faults pages.new) result }
 {
-    if !may_be_of_file(pages, place.page) {
+    if !may_be_written(pages, place.page) {
         return Err(no_body(place));
     }
     out.copy_from_slice(pages.get(alloc, place.page)?);
@@ -203,7 +212,8 @@ pub fn live_slot<P: ReadPages>(
         → IsFilesPage (P.geometry pages.old) page.0 → IsPageOf file_no (P.image pages.old page.0)
         → ⊥) }
     ensures fault { IfErr result (λ fault. P.tells pages.old
-        → IsFilePageFault (P.geometry pages.old) (P.image pages.old page.0) file_no page.0 fault) }
+        → IsFilePageFault (P.geometry pages.old) every_page
+        (P.image pages.old page.0) file_no page.0 fault) }
     ensures page { OnOk result (P.tells pages.old → IsPageOf file_no (P.image pages.old page.0)) }
     ensures kept { Keeps P.Ground pages.old pages.new }
     ensures cause { HasCause (P.faults pages.old) (P.faults pages.new) result }

@@ -1,5 +1,5 @@
 //! A body that is put into a file.
-ghost use Rattle.std.specs.Prelude.{◌≡◌, ◌≤◌, ◌+◌, ℕ, length, None, IfOk, IfErr, IfSome, IfNone, OnOk};
+ghost use Rattle.std.specs.Prelude.{◌≡◌, ◌≤◌, ◌+◌, ℕ, true, length, None, IfOk, IfErr, IfSome, IfNone, OnOk};
 ghost use Rattle.ex_base.specs.declared.names.Area.TheVariants.{Page};
 ghost use Rattle.ex_base.specs.Ports.{Keeps, HasCause, IsDamage};
 ghost use Rattle.index_pages.specs.declared.Index.{Index};
@@ -71,7 +71,7 @@ pub fn a_lowered_room_stays_true<P: ReadPages>()
 {}
 
 /// Reads the lowest page from a number on that has room for a body, and puts it into the page's image. None exactly where no page has.
-fn put_in_room<P: ReadPages>(
+fn put_in_room<P: Pages>(
     pages: &mut P,
     alloc: Global,
     index: &Index,
@@ -87,13 +87,16 @@ fn put_in_room<P: ReadPages>(
         → IfSome found (λ place. IsPlaced P.Ground pages.old index.now from body.now place image.new)) }
     ensures area { IfOk result
         (λ found. IfSome found (λ place. IsFilesPage (P.geometry pages.old) place.page.0)) }
+    ensures held { IfOk result
+        (λ found. IfSome found (λ place. P.held pages.old place.page.0 ≡ true)) }
     ensures none { IfOk result (λ found. IfNone found (P.tells pages.old
         → HasFile P.Ground pages.old index.now
         → NoneFrom P.Ground pages.old index.now (length body.now) from)) }
     ensures sound { IfErr result (λ fault. IsDamage fault → P.tells pages.old
         → HasFile P.Ground pages.old index.now → ⊥) }
     ensures fault { IfErr result (λ fault. P.tells pages.old
-        → IsLookFault (P.geometry pages.old) (P.image pages.old) index.now from fault) }
+        → IsLookFault (P.geometry pages.old) (P.held pages.old)
+        (P.image pages.old) index.now from fault) }
     ensures way { IfOk result (λ found. P.tells pages.old
         → IsLook (P.geometry pages.old) (P.image pages.old) index.now from (page_in found)) }
     ensures kept { Keeps P.Ground pages.old pages.new }
@@ -141,7 +144,8 @@ fn put_on_new_page<P: Pages>(
     ensures sound { IfErr result (λ fault. IsDamage fault → P.tells pages.old
         → HasFile P.Ground pages.old index.now → ⊥) }
     ensures fault { IfErr result (λ fault. P.tells pages.old → (from : ℕ)
-        → IsPlacingFault (P.geometry pages.old) (P.image pages.old) index.now from fault) }
+        → IsPlacingFault (P.geometry pages.old) (P.held pages.old)
+        (P.image pages.old) index.now from fault) }
     ensures way { IfOk result (λ place. P.tells pages.old → (from : ℕ)
         → IsLook (P.geometry pages.old) (P.image pages.old) index.now from None
         → IsPlacing (P.geometry pages.old) (P.image pages.old) index.now from place.page) }
@@ -188,7 +192,8 @@ fn place_by<P: Pages>(
     ensures sound { IfErr result (λ fault. IsDamage fault → P.tells pages.old
         → HasFile P.Ground pages.old index.now → ⊥) }
     ensures fault { IfErr result (λ fault. P.tells pages.old
-        → IsPlacingFault (P.geometry pages.old) (P.image pages.old) index.now from fault) }
+        → IsPlacingFault (P.geometry pages.old) (P.held pages.old)
+        (P.image pages.old) index.now from fault) }
     ensures way { IfOk result (λ place. P.tells pages.old
         → IsPlacing (P.geometry pages.old) (P.image pages.old) index.now from place.page) }
     ensures leads { P.leads pages.old pages.new }
@@ -227,7 +232,8 @@ fn place_from<P: Pages>(
     ensures sound { IfErr result (λ fault. IsDamage fault → P.tells pages.old
         → HasFile P.Ground pages.old index.now → ⊥) }
     ensures fault { IfErr result (λ fault. P.tells pages.old
-        → IsPlacingFault (P.geometry pages.old) (P.image pages.old) index.now from fault) }
+        → IsPlacingFault (P.geometry pages.old) (P.held pages.old)
+        (P.image pages.old) index.now from fault) }
     ensures way { IfOk result (λ place. P.tells pages.old
         → IsPlacing (P.geometry pages.old) (P.image pages.old) index.now from place.page) }
     ensures leads { P.leads pages.old pages.new }
@@ -266,7 +272,7 @@ pub fn place_body<P: Pages>(
         → HasFile P.Ground pages.old index → index.file_no ≡ room.old.file_no → ⊥) }
     ensures fault { IfErr result (λ fault. P.tells pages.old
         → IsListedFault (P.image pages.old) room.old.file_no
-        (λ index. IsPlacingFault (P.geometry pages.old) (P.image pages.old) index
+        (λ index. IsPlacingFault (P.geometry pages.old) (P.held pages.old) (P.image pages.old) index
         (start_of room.old (length body.now)) fault) fault) }
     ensures way { IfOk result (λ place. P.tells pages.old
         → HasListed (P.image pages.old) room.old.file_no

@@ -8,7 +8,7 @@ ghost use Rattle.index_pages.specs.declared.Index.{Index};
 ghost use Rattle.file_index.specs.Index.{IsFilesPage};
 ghost use Rattle.file_bodies.specs.Bodies.{bodies_of, pages_in, InPlaceOrder};
 ghost use Rattle.file_bodies.specs.Files.{HasFile, HasFileOf, HasBody, IsOfFile, HasSomeBody};
-ghost use Rattle.file_index.specs.Damage.{HasWay, IsIndexFault};
+ghost use Rattle.file_index.specs.Damage.{every_page, HasWay, IsIndexFault};
 ghost use Rattle.file_bodies.specs.Damage.{IsBelonging, IsBelongingFault, IsLook, IsLookFault, IsListedFault, HasListed, page_from, page_in};
 ghost use Rattle.file_bodies.specs.Indexes.{IsUsable};
 ghost use Rattle.file_bodies.specs.Places.{IsNext, FirstFrom};
@@ -68,7 +68,7 @@ fn names<P: ReadPages>(
     ensures sound { IfErr result (λ fault. IsDamage fault → P.tells pages.old
         → HasFile P.Ground pages.old index.now → ⊥) }
     ensures fault { IfErr result (λ fault. P.tells pages.old
-        → IsIndexFault (P.geometry pages.old) (P.image pages.old) index.now page.0 fault) }
+        → IsIndexFault (P.geometry pages.old) every_page (P.image pages.old) index.now page.0 fault) }
     ensures way { OnOk result (P.tells pages.old
         → HasWay (P.geometry pages.old) (P.image pages.old) index.now page.0) }
     ensures kept { Keeps P.Ground pages.old pages.new }
@@ -161,7 +161,7 @@ fn first_from<P: ReadPages>(
     ensures sound { IfErr result (λ fault. IsDamage fault → P.tells pages.old
         → HasFile P.Ground pages.old index.now → ⊥) }
     ensures fault { IfErr result (λ fault. P.tells pages.old
-        → IsLookFault (P.geometry pages.old) (P.image pages.old) index.now key fault) }
+        → IsLookFault (P.geometry pages.old) every_page (P.image pages.old) index.now key fault) }
     ensures way { IfOk result (λ found. P.tells pages.old
         → IsLook (P.geometry pages.old) (P.image pages.old) index.now key (page_in found)) }
     ensures kept { Keeps P.Ground pages.old pages.new }
@@ -209,7 +209,7 @@ pub fn next_place<P: ReadPages>(
         → HasFile P.Ground pages.old index → index.file_no ≡ file_no → ⊥) }
     ensures fault { IfErr result (λ fault. P.tells pages.old
         → IsListedFault (P.image pages.old) file_no
-        (λ index. IsLookFault (P.geometry pages.old) (P.image pages.old) index
+        (λ index. IsLookFault (P.geometry pages.old) every_page (P.image pages.old) index
         (page_from after) fault) fault) }
     ensures way { IfOk result (λ next. P.tells pages.old
         → HasListed (P.image pages.old) file_no

@@ -39,8 +39,8 @@ fn drop_page<P: Pages>(
         → HasFile P.Ground pages.old index → index.file_no ≡ file_no → ⊥) }
     ensures fault { IfErr result (λ fault. P.tells pages.old
         → IsListedFault (P.image pages.old) file_no
-        (λ index. IsLeavingFault (P.geometry pages.old) (P.image pages.old)
-        (P.image pages.new) index page.0 fault) fault) }
+        (λ index. IsLeavingFault (P.geometry pages.old) (P.held pages.old) (P.image pages.old)
+        (P.held pages.new) (P.image pages.new) index page.0 fault) fault) }
     ensures way { OnOk result (P.tells pages.old
         → HasListed (P.image pages.old) file_no
         (λ index. HasWay (P.geometry pages.old) (P.image pages.old) index page.0)) }
@@ -81,10 +81,11 @@ fn remove_by<P: Pages>(
     ensures sound { IfErr result (λ fault. IsDamage fault → P.tells pages.old → (index : Index)
         → (body : List ℕ) → HasBody P.Ground pages.old index place body → ⊥) }
     ensures fault { IfErr result (λ fault. P.tells pages.old
-        → IsTakingFault (P.geometry pages.old) (P.image pages.old)
-        (P.image pages.new) place fault) }
+        → IsTakingFault (P.geometry pages.old) (P.held pages.old) (P.image pages.old)
+        (P.held pages.new) (P.image pages.new) place fault) }
     ensures has { OnOk result (P.tells pages.old
-        → HasRecordAt (P.geometry pages.old) (P.image pages.old place.page.0) place) }
+        → HasRecordAt (P.geometry pages.old) (P.held pages.old)
+        (P.image pages.old place.page.0) place) }
     ensures way { OnOk result (P.tells pages.old
         → IsLastOn (P.image pages.old place.page.0) place.slot
         → HasListed (P.image pages.old) (page_on (P.image pages.old place.page.0)).file_no
@@ -117,10 +118,11 @@ pub fn remove_from_file<P: Pages>(
     ensures sound { IfErr result (λ fault. IsDamage fault → P.tells pages.old → (index : Index)
         → (body : List ℕ) → HasBody P.Ground pages.old index place body → ⊥) }
     ensures fault { IfErr result (λ fault. P.tells pages.old
-        → IsTakingFault (P.geometry pages.old) (P.image pages.old)
-        (P.image pages.new) place fault) }
+        → IsTakingFault (P.geometry pages.old) (P.held pages.old) (P.image pages.old)
+        (P.held pages.new) (P.image pages.new) place fault) }
     ensures has { OnOk result (P.tells pages.old
-        → HasRecordAt (P.geometry pages.old) (P.image pages.old place.page.0) place) }
+        → HasRecordAt (P.geometry pages.old) (P.held pages.old)
+        (P.image pages.old place.page.0) place) }
     ensures way { OnOk result (P.tells pages.old
         → IsLastOn (P.image pages.old place.page.0) place.slot
         → HasListed (P.image pages.old) (page_on (P.image pages.old place.page.0)).file_no

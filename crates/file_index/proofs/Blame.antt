@@ -1,5 +1,5 @@
 -- Which fault tells what is read of an index page, and what such a fault is on the way to a key.
-use Rattle.std.proofs.Common.{◌≡◌, ◌≢◌, ◌-◌, ◌≤◌, inl, inr, ℕ, zero, suc, List, [], ◌∷◌, length, Option, Some, refl, sym, ap, subst, ◌∙◌, sub-one}
+use Rattle.std.proofs.Common.{◌≡◌, ◌≢◌, ◌-◌, ◌≤◌, ◌⊎◌, inl, inr, ℕ, zero, suc, Bool, false, List, [], ◌∷◌, length, Option, Some, refl, sym, ap, subst, ◌∙◌, sub-one}
 use Rattle.std.specs.Prelude.{slice_get}
 use Rattle.ex_base.specs.Ports.{IsDamage}
 use Rattle.ex_base.specs.declared.faults.Seen.{Seen}
@@ -13,24 +13,29 @@ use Rattle.index_pages.proofs.PageLaws.{spelled_reads}
 use Rattle.file_index.specs.Index.{IsFilesPage, least_entries, seen, key_seen}
 use Rattle.file_index.specs.Nodes.{first_key}
 use Rattle.ex_base.specs.Seen.{nothing_seen}
-use Rattle.file_index.specs.Damage.{shown_on, elsewhere, outside, other, IsOfIndex, IsPageFault, IsNamedAt, IsWay, IsWayFault, IsWayUnder, IsFaultUnder}
+use Rattle.file_index.specs.Damage.{shown_on, elsewhere, lacking, outside, other, IsOfIndex, IsPageFault, IsNamedAt, IsWay, IsWayFault, IsWayUnder, IsFaultUnder}
 
 -- ---- one page
 
 pub file_of : (size : ℕ) (bytes : List ℕ) (file_no : ℕ) (least : Option ℕ) → IsOfIndex size bytes file_no least → file_on bytes ≡ file_no
 file_of size bytes file_no least of = (spelled_reads bytes _ file_no (entries_on bytes) of.spelled).same_file
 
-pub blames_elsewhere : (g : Geometry) (bytes : List ℕ) (level file_no : ℕ) (least : Option ℕ) (page : PageNo) (fault : PortFault) → (IsFilesPage g page.0 → ⊥)
-    → fault ≡ Damaged page (seen level least) nothing_seen → IsPageFault g bytes level file_no least page.0 fault
-blames_elsewhere g bytes level file_no least page fault never is = subst (IsPageFault g bytes level file_no least page.0) (sym is) (refl, refl, elsewhere never refl)
+pub blames_elsewhere : (g : Geometry) (held : ℕ → Bool) (bytes : List ℕ) (level file_no : ℕ) (least : Option ℕ) (page : PageNo) (fault : PortFault) → (IsFilesPage g page.0 → ⊥)
+    → fault ≡ Damaged page (seen level least) nothing_seen → IsPageFault g held bytes level file_no least page.0 fault
+blames_elsewhere g held bytes level file_no least page fault never is = subst (IsPageFault g held bytes level file_no least page.0) (sym is) (refl, refl, elsewhere never refl)
 
-pub blames_outside : (g : Geometry) (bytes : List ℕ) (level file_no : ℕ) (least : Option ℕ) (page : PageNo) (fault : PortFault) → IsFilesPage g page.0 → (IsOfIndex g.page_size bytes file_no least → ⊥)
-    → fault ≡ Damaged page (seen level least) nothing_seen → IsPageFault g bytes level file_no least page.0 fault
-blames_outside g bytes level file_no least page fault area never is = subst (IsPageFault g bytes level file_no least page.0) (sym is) (refl, refl, outside area never refl)
+pub blames_lacking : (g : Geometry) (held : ℕ → Bool) (bytes : List ℕ) (level file_no : ℕ) (least : Option ℕ) (page : PageNo) (fault : PortFault)
+    → (IsFilesPage g page.0 → ⊥) ⊎ (IsFilesPage g page.0 × (held page.0 ≡ false)) → fault ≡ Damaged page (seen level least) nothing_seen → IsPageFault g held bytes level file_no least page.0 fault
+blames_lacking g held bytes level file_no least page fault (inl never) is = blames_elsewhere g held bytes level file_no least page fault never is
+blames_lacking g held bytes level file_no least page fault (inr lacks) is = subst (IsPageFault g held bytes level file_no least page.0) (sym is) (refl, refl, lacking lacks.0 lacks.1 refl)
 
-pub blames_other : (g : Geometry) (bytes : List ℕ) (level file_no : ℕ) (least : Option ℕ) (page : PageNo) (want got : Seen) → IsFilesPage g page.0 → IsOfIndex g.page_size bytes file_no least
-    → want ≡ seen level least → got ≡ shown_on bytes least → want ≢ got → IsPageFault g bytes level file_no least page.0 (Damaged page want got)
-blames_other g bytes level file_no least page want got area of want_is got_is differ = (refl, want_is, other area of got_is (λ same. differ (want_is ∙ sym same)))
+pub blames_outside : (g : Geometry) (held : ℕ → Bool) (bytes : List ℕ) (level file_no : ℕ) (least : Option ℕ) (page : PageNo) (fault : PortFault) → IsFilesPage g page.0 → (IsOfIndex g.page_size bytes file_no least → ⊥)
+    → fault ≡ Damaged page (seen level least) nothing_seen → IsPageFault g held bytes level file_no least page.0 fault
+blames_outside g held bytes level file_no least page fault area never is = subst (IsPageFault g held bytes level file_no least page.0) (sym is) (refl, refl, outside area never refl)
+
+pub blames_other : (g : Geometry) (held : ℕ → Bool) (bytes : List ℕ) (level file_no : ℕ) (least : Option ℕ) (page : PageNo) (want got : Seen) → IsFilesPage g page.0 → IsOfIndex g.page_size bytes file_no least
+    → want ≡ seen level least → got ≡ shown_on bytes least → want ≢ got → IsPageFault g held bytes level file_no least page.0 (Damaged page want got)
+blames_other g held bytes level file_no least page want got area of want_is got_is differ = (refl, want_is, other area of got_is (λ same. differ (want_is ∙ sym same)))
 
 -- what a view of a page tells
 pub of_index : (size : ℕ) (bytes : List ℕ) (file_no : ℕ) (least : Option ℕ) (v : Indexed) → EntriesOf bytes v.level v.file_no v.entries → v ≡ indexed_on bytes → v.file_no ≡ file_no → least_entries size least ≤ length v.entries
@@ -54,26 +59,26 @@ shown bytes least v level key entry got on level_is entry_is key_is is =
 -- ---- the way
 
 -- a fault that is no damage
-pub no_way : (g : Geometry) (image : ℕ → List ℕ) (file_no key level : ℕ) (least : Option ℕ) (page : ℕ) (fault : PortFault) → (IsDamage fault → ⊥) → IsWayFault g image file_no key level least page fault
-no_way g image file_no key level least page Disk h = tt
-no_way g image file_no key level least page Memory h = tt
-no_way g image file_no key level least page (Damaged at want got) h = absurd (h tt)
+pub no_way : (g : Geometry) (held : ℕ → Bool) (image : ℕ → List ℕ) (file_no key level : ℕ) (least : Option ℕ) (page : ℕ) (fault : PortFault) → (IsDamage fault → ⊥) → IsWayFault g held image file_no key level least page fault
+no_way g held image file_no key level least page Disk h = tt
+no_way g held image file_no key level least page Memory h = tt
+no_way g held image file_no key level least page (Damaged at want got) h = absurd (h tt)
 
 -- the fault of a page itself
-pub way_here : (g : Geometry) (image : ℕ → List ℕ) (file_no key level : ℕ) (least : Option ℕ) (page : ℕ) (fault : PortFault) → level ≢ 0 → IsPageFault g (image page) level file_no least page fault
-    → IsWayFault g image file_no key level least page fault
-way_here g image file_no key level least page Disk above h = tt
-way_here g image file_no key level least page Memory above h = tt
-way_here g image file_no key zero least page (Damaged at want got) above h = absurd (above refl)
-way_here g image file_no key (suc level) least page (Damaged at want got) above h = inl h
+pub way_here : (g : Geometry) (held : ℕ → Bool) (image : ℕ → List ℕ) (file_no key level : ℕ) (least : Option ℕ) (page : ℕ) (fault : PortFault) → level ≢ 0 → IsPageFault g held (image page) level file_no least page fault
+    → IsWayFault g held image file_no key level least page fault
+way_here g held image file_no key level least page Disk above h = tt
+way_here g held image file_no key level least page Memory above h = tt
+way_here g held image file_no key zero least page (Damaged at want got) above h = absurd (above refl)
+way_here g held image file_no key (suc level) least page (Damaged at want got) above h = inl h
 
 -- a fault below a page
-pub way_below : (g : Geometry) (image : ℕ → List ℕ) (file_no key level : ℕ) (least : Option ℕ) (page : ℕ) (fault : PortFault) → level ≢ 0 → IsNamedAt g image level file_no least page
-    → IsFaultUnder g image file_no key (level - 1) (entries_on (image page)) fault → IsWayFault g image file_no key level least page fault
-way_below g image file_no key level least page Disk above at h = tt
-way_below g image file_no key level least page Memory above at h = tt
-way_below g image file_no key zero least page (Damaged a want got) above at h = absurd (above refl)
-way_below g image file_no key (suc level) least page (Damaged a want got) above at h = inr (at, rw sub-one at h)
+pub way_below : (g : Geometry) (held : ℕ → Bool) (image : ℕ → List ℕ) (file_no key level : ℕ) (least : Option ℕ) (page : ℕ) (fault : PortFault) → level ≢ 0 → IsNamedAt g image level file_no least page
+    → IsFaultUnder g held image file_no key (level - 1) (entries_on (image page)) fault → IsWayFault g held image file_no key level least page fault
+way_below g held image file_no key level least page Disk above at h = tt
+way_below g held image file_no key level least page Memory above at h = tt
+way_below g held image file_no key zero least page (Damaged a want got) above at h = absurd (above refl)
+way_below g held image file_no key (suc level) least page (Damaged a want got) above at h = inr (at, rw sub-one at h)
 
 -- a way below a page
 pub way_on : (g : Geometry) (image : ℕ → List ℕ) (file_no key level : ℕ) (least : Option ℕ) (page : ℕ) → level ≢ 0 → IsNamedAt g image level file_no least page

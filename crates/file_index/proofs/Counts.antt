@@ -1,5 +1,5 @@
 -- How often pages stand in lists, and how a call of the port changes what it has.
-use Rattle.std.proofs.Common.{◌≡◌, ◌≢◌, ◌≤◌, ◌+◌, ℕ, zero, suc, Bool, true, false, List, [], ◌∷◌, ◌++◌, refl, sym, ap, ◌∙◌, arith, ◌⊎◌, inl, inr, true≢false}
+use Rattle.std.proofs.Common.{◌≡◌, ◌≢◌, ◌≤◌, ◌+◌, ℕ, zero, suc, Bool, true, false, List, [], ◌∷◌, refl, sym, ap, ◌∙◌, arith, inl, inr, true≢false}
 use Rattle.ex_base.specs.declared.ground.Ground as ground
 use Rattle.ex_base.specs.declared.names.Area.{Area}
 use Rattle.ex_base.specs.declared.names.Area.TheVariants.{Segment}
@@ -143,3 +143,7 @@ module _ {S : Type 0} (g : ground.Ghosts S) where
     leaves = change.leaves;
     leads = change.leads;
   }
+
+-- what the working state has, it still has where as many pages are left
+pub stays_held : {S : Type 0} (g : ground.Ghosts S) (a b : S) (before after : List ℕ) (page : ℕ) → Changes g a b before after → times page before ≤ times page after → g.held a page ≡ true → g.held b page ≡ true
+stays_held g a b before after page changes le held = is_counted (g.held b page) (omega (arith, changes.counted page, le, count_is (g.held a page) held))

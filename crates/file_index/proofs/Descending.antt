@@ -1,9 +1,10 @@
 -- From the entries of an index page to the entry that a key leads to, its page, and back.
-use Rattle.std.proofs.Common.{◌≡◌, ◌≤◌, ◌+◌, ◌/◌, ℕ, suc, true, List, [], ◌∷◌, ◌++◌, length, take, drop, Option, Some, sym, ap, subst, arith}
+use Rattle.std.proofs.Common.{◌≡◌, ◌≤◌, ◌+◌, ◌/◌, ℕ, suc, true, List, [], ◌∷◌, ◌++◌, length, take, drop, Option, Some, refl, sym, ap, subst, arith}
 use Rattle.std.specs.Prelude.{slice_index_or}
 use Rattle.ex_base.specs.declared.ground.Ground as ground
 use Rattle.ex_base.specs.declared.geometry.Geometry.{Geometry}
 use Rattle.ex_base.specs.Ports.{Keeps}
+use Rattle.ex_base.proofs.Counts.{times_here}
 use Rattle.index_pages.specs.declared.Entry.{Entry}
 use Rattle.index_pages.specs.IndexPage.{entries_on, most_entries}
 use Rattle.file_index.specs.Changes.{Changes}
@@ -25,8 +26,10 @@ module _ {S : Type 0} (g : ground.Ghosts S) (a : S) (file_no l m key : ℕ) (ent
   here row = placed g a file_no l key entries at child place item row
 
   -- a page that isn't what its entry says is no part of a whole index
-  pub never_read : (IsFilesPage (g.geometry a) child.page.0 → IsNamed (g.geometry a).page_size (g.image a child.page.0) l file_no (Some child.key) → ⊥) → IsRow g a file_no l entries → ⊥
-  never_read never row = let named = (open_row g a file_no m l (child ∷ []) step (here row).row).named in never named.0.0 named.0.1
+  pub never_read : (IsFilesPage (g.geometry a) child.page.0 → g.held a child.page.0 ≡ true → IsNamed (g.geometry a).page_size (g.image a child.page.0) l file_no (Some child.key) → ⊥) → IsRow g a file_no l entries → ⊥
+  never_read never row =
+      let o = open_row g a file_no m l (child ∷ []) step (here row).row in
+      never o.named.0.0 (o.held child.page.0 (omega (arith, times_here child.page.0 child.page.0 [] refl))) o.named.0.1
 
   module _ (b : S) (es : List Entry) (kept : Keeps g a b) (read : es ≡ entries_on (g.image a child.page.0)) where
     child_is : IsRow g a file_no l entries → Child g a b file_no l m child es

@@ -212,11 +212,14 @@ module _ {S : Type 0} (g : ground.Ghosts S) (a : S) (file_no m key : ℕ) (pair 
       same_geometry : g.geometry b ≡ g.geometry a
       same_geometry = g.leads_geometry a b was.changes.leads
 
-      -- the page beside is still what its entry says
-      pub still_named : (IsFilesPage (g.geometry b) (beside_of pair).page.0 → IsNamed (g.geometry b).page_size (g.image b (beside_of pair).page.0) l file_no (Some (beside_of pair).key) → ⊥) → ⊥
+      still_held : g.held b (beside_of pair).page.0 ≡ true
+      still_held = is_counted (g.held b (beside_of pair).page.0) (omega (arith, was.changes.counted (beside_of pair).page.0, beside_apart pair.thin_is_left l known, count_is (g.held a (beside_of pair).page.0) (beside_held pair.thin_is_left l known)))
+
+      -- the page beside is still held, and what its entry says
+      pub still_named : (IsFilesPage (g.geometry b) (beside_of pair).page.0 → g.held b (beside_of pair).page.0 ≡ true → IsNamed (g.geometry b).page_size (g.image b (beside_of pair).page.0) l file_no (Some (beside_of pair).key) → ⊥) → ⊥
       still_named never =
           let n = beside_named pair.thin_is_left l known in
-          never (subst (λ (y : Geometry). IsFilesPage y (beside_of pair).page.0) (sym same_geometry) n.0) (subst (λ (y : Geometry). IsNamed y.page_size (g.image b (beside_of pair).page.0) l file_no (Some (beside_of pair).key)) (sym same_geometry)
+          never (subst (λ (y : Geometry). IsFilesPage y (beside_of pair).page.0) (sym same_geometry) n.0) still_held (subst (λ (y : Geometry). IsNamed y.page_size (g.image b (beside_of pair).page.0) l file_no (Some (beside_of pair).key)) (sym same_geometry)
           (subst (λ (t : List ℕ). IsNamed (g.geometry a).page_size t l file_no (Some (beside_of pair).key)) (sym same_image) n.1))
 
       both : Becomes g a b file_no m (take_out key) (EL ++ (ER ++ [])) (joined pair.thin_is_left N (entries_on (g.image b (beside_of pair).page.0)))
@@ -224,12 +227,6 @@ module _ {S : Type 0} (g : ground.Ghosts S) (a : S) (file_no m key : ℕ) (pair 
           let other : Lacks key (keys_among (g.image a) m (entries_on (g.image a (beside_of pair).page.0))) = (subst (λ (k : ℕ). Lacks key (keys_under (g.image a) k (beside_of pair).page.0)) (sym step) lacks.other) in
           subst (λ (t : List ℕ). Becomes g a b file_no m (take_out key) (EL ++ (ER ++ [])) (joined pair.thin_is_left N (entries_on t))) (sym same_image)
           (both_entries pair.thin_is_left b N known.opened.row was other)
-
-      pub left_still : g.held b pair.left.page.0 ≡ true
-      left_still = is_counted (g.held b pair.left.page.0) (omega (arith, both.changes.counted pair.left.page.0, known.left_apart, count_is (g.held a pair.left.page.0) known.left_held))
-
-      pub right_still : g.held b pair.right.page.0 ≡ true
-      right_still = is_counted (g.held b pair.right.page.0) (omega (arith, both.changes.counted pair.right.page.0, known.right_apart, count_is (g.held a pair.right.page.0) known.right_held))
 
       pub pages_differ : pair.left.page.0 ≢ pair.right.page.0
       pages_differ = known.differ

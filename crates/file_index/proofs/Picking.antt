@@ -1,5 +1,5 @@
 -- The least key that is not below a key, through the entry that leads to it.
-use Rattle.std.proofs.Common.{◌≡◌, ◌≤◌, ◌<◌, ◌+◌, ℕ, zero, suc, true, false, List, [], ◌∷◌, ◌++◌, drop, Option, Some, None, nat_lt, refl, ap, subst, ◌∙◌, arith, ltb-true, ltb-false, lt-ltb, le-ltb, ◌⊎◌, inl, inr}
+use Rattle.std.proofs.Common.{◌≡◌, ◌≤◌, ◌<◌, ◌+◌, ℕ, zero, suc, true, false, List, [], ◌∷◌, ◌++◌, drop, Option, Some, None, nat_lt, refl, ap, subst, ◌∙◌, arith, ltb-true, ltb-false, lt-ltb, le-ltb, inl, inr}
 use Rattle.std.specs.Prelude.{slice_get, Contains, if◌then◌else◌}
 use Rattle.std.specs.List.{flat_map, AllByRecursion}
 use Rattle.std.proofs.lemmas.List.{append-nil}

@@ -48,6 +48,10 @@ module _ {S : Type 0} (g : ground.Ghosts S) (a : S) (before : Index) (root : Pag
       let at_root : HasIndex g a (index_of root before.level before.file_no) = subst (λ (r : Option PageNo). HasIndex g a (record { root = r; level = before.level; file_no = before.file_no })) is has in
       open_root g a before.file_no m root (subst (λ (k : ℕ). HasIndex g a (index_of root k before.file_no)) (sym step) at_root)
 
+  -- a root that isn't held, or isn't what the index says of it, is none of a whole index
+  pub root_read : (IsFilesPage (g.geometry a) root.0 → g.held a root.0 ≡ true → IsNamed (g.geometry a).page_size (g.image a root.0) before.level before.file_no None → ⊥) → ⊥
+  root_read never = never top.files top.held (subst (λ (k : ℕ). IsNamed (g.geometry a).page_size (g.image a root.0) k before.file_no None) step top.named)
+
   back : (c : S) (edit : List ℕ → List ℕ) (l : ℕ) (new : PageNo) → Topped g a c before.file_no l edit (keys_under (g.image a) (suc m) root.0) (pages_under (g.image a) (suc m) root.0) new → EditsIndex g a c edit before (index_of new l before.file_no)
   back c edit l new t = edited g a c edit before root new l before.file_no is refl (subst (λ (k : ℕ). Topped g a c before.file_no l edit (keys_under (g.image a) k root.0) (pages_under (g.image a) k root.0) new) step t)
 

@@ -1,5 +1,5 @@
 -- From the entry that a key leads to back to the page that names it, over a call that keeps the pages.
-use Rattle.std.proofs.Common.{◌≡◌, ◌≢◌, ◌⊎◌, inl, inr, ◌+◌, drop, ◌-◌, ◌≤◌, ◌<◌, ℕ, zero, suc, true, false, List, [], ◌∷◌, length, Option, Some, None, nat_lt, refl, sym, ap, subst, ◌∙◌, arith, eqb, lt-ltb, le-ltb, sub-one}
+use Rattle.std.proofs.Common.{◌≡◌, ◌≢◌, ◌⊎◌, inl, inr, ◌+◌, drop, ◌-◌, ◌≤◌, ◌<◌, ℕ, zero, suc, Bool, true, false, List, [], ◌∷◌, length, Option, Some, None, nat_lt, refl, sym, ap, subst, ◌∙◌, arith, eqb, lt-ltb, le-ltb, sub-one}
 use Rattle.std.specs.Prelude.{if◌then◌else◌, slice_index_or, ◌==◌}
 use Rattle.ex_base.specs.Ports.{Keeps}
 use Rattle.ex_base.specs.declared.faults.PortFault.{PortFault}
@@ -11,7 +11,7 @@ use Rattle.index_pages.specs.declared.Entry.{Entry}
 use Rattle.index_pages.specs.IndexPage.{entries_on}
 use Rattle.file_index.specs.declared.step.Step.{Step}
 use Rattle.file_index.specs.Least.{pick_from, pick, page_no}
-use Rattle.file_index.specs.Damage.{IsPageFault, IsNamedAt, place_in, no_entry, entry_in, child_in, place_beside, beside_in, IsWay, IsWayFault, IsWayUnder, IsFaultUnder, IsEntryFault, IsBesideFault, IsBesideUnder, IsBesideFrom, IsWayFrom, IsFaultFrom, found_under}
+use Rattle.file_index.specs.Damage.{every_page, IsGoneFault, IsPageFault, IsNamedAt, place_in, no_entry, entry_in, child_in, place_beside, beside_in, IsWay, IsWayFault, IsWayUnder, IsFaultUnder, IsEntryFault, IsBesideFault, IsBesideUnder, IsBesideFrom, IsWayFrom, IsFaultFrom, found_under}
 use Rattle.file_index.proofs.Blame.{way_below, way_on}
 
 -- ---- the end of a way
@@ -47,14 +47,14 @@ module _ {S : Type 0} (g : ground.Ghosts S) (a b : S) (file_no level : ℕ) (lea
   child_is at is = ap (λ (s : Step). s.child) is ∙ picked_child (entries_on (g.image a page)) key next (omega (arith, at.named.two))
 
   pub fault_down : (fault : PortFault) → level ≢ 0 → Keeps g a b → (g.tells a → step ≡ pick (entries_on (g.image a page)) key next) → (g.tells a → IsNamedAt (g.geometry a) (g.image a) level file_no least page)
-      → (g.tells b → IsWayFault (g.geometry b) (g.image b) file_no key (level - 1) (Some step.child.key) step.child.page.0 fault) → g.tells a → IsWayFault (g.geometry a) (g.image a) file_no key level least page fault
+      → (g.tells b → IsWayFault (g.geometry b) every_page (g.image b) file_no key (level - 1) (Some step.child.key) step.child.page.0 fault) → g.tells a → IsWayFault (g.geometry a) every_page (g.image a) file_no key level least page fault
   fault_down fault above kept is at below told =
       let here = below (g.leads_told a b kept.leads told) in
-      let old : IsWayFault (g.geometry a) (g.image a) file_no key (level - 1) (Some step.child.key) step.child.page.0 fault =
-      subst (λ (u : ℕ → List ℕ). IsWayFault (g.geometry a) u file_no key (level - 1) (Some step.child.key) step.child.page.0 fault) kept.images
-      (subst (λ (y : Geometry). IsWayFault y (g.image b) file_no key (level - 1) (Some step.child.key) step.child.page.0 fault) (g.leads_geometry a b kept.leads) here) in
-      way_below (g.geometry a) (g.image a) file_no key level least page fault above (at told)
-      (subst (λ (e : Entry). IsWayFault (g.geometry a) (g.image a) file_no key (level - 1) (Some e.key) e.page.0 fault) (child_is (at told) (is told)) old)
+      let old : IsWayFault (g.geometry a) every_page (g.image a) file_no key (level - 1) (Some step.child.key) step.child.page.0 fault =
+      subst (λ (u : ℕ → List ℕ). IsWayFault (g.geometry a) every_page u file_no key (level - 1) (Some step.child.key) step.child.page.0 fault) kept.images
+      (subst (λ (y : Geometry). IsWayFault y every_page (g.image b) file_no key (level - 1) (Some step.child.key) step.child.page.0 fault) (g.leads_geometry a b kept.leads) here) in
+      way_below (g.geometry a) every_page (g.image a) file_no key level least page fault above (at told)
+      (subst (λ (e : Entry). IsWayFault (g.geometry a) every_page (g.image a) file_no key (level - 1) (Some e.key) e.page.0 fault) (child_is (at told) (is told)) old)
 
   pub way_down : level ≢ 0 → Keeps g a b → (g.tells a → step ≡ pick (entries_on (g.image a page)) key next) → (g.tells a → IsNamedAt (g.geometry a) (g.image a) level file_no least page)
       → (g.tells b → IsWay (g.geometry b) (g.image b) file_no key (level - 1) (Some step.child.key) step.child.page.0) → g.tells a → IsWay (g.geometry a) (g.image a) file_no key level least page
@@ -124,14 +124,15 @@ beside_at key entries (suc at) first left right place is lt left_is right_is =
 -- ---- below a page whose entries were read
 
 module _ {S : Type 0} (g : ground.Ghosts S) (a b : S) (file_no level : ℕ) (least : Option ℕ) (page key : ℕ) (es : List Entry) (above : level ≢ 0) (kept : Keeps g a b) (read : g.tells a → es ≡ entries_on (g.image a page)) (at : g.tells a → IsNamedAt (g.geometry a) (g.image a) level file_no least page) where
-  fault_old : (fault : PortFault) → (g.tells b → IsFaultUnder (g.geometry b) (g.image b) file_no key (level - 1) es fault) → g.tells a → IsFaultUnder (g.geometry a) (g.image a) file_no key (level - 1) (entries_on (g.image a page)) fault
+  fault_old : (fault : PortFault) → (g.tells b → IsFaultUnder (g.geometry b) (g.held b) (g.image b) file_no key (level - 1) es fault) → g.tells a → IsFaultUnder (g.geometry a) (g.held a) (g.image a) file_no key (level - 1) (entries_on (g.image a page)) fault
   fault_old fault below told =
-      subst (λ (l : List Entry). IsFaultUnder (g.geometry a) (g.image a) file_no key (level - 1) l fault) (read told)
-      (subst (λ (u : ℕ → List ℕ). IsFaultUnder (g.geometry a) u file_no key (level - 1) es fault) kept.images
-      (subst (λ (y : Geometry). IsFaultUnder y (g.image b) file_no key (level - 1) es fault) (g.leads_geometry a b kept.leads) (below (g.leads_told a b kept.leads told))))
+      subst (λ (l : List Entry). IsFaultUnder (g.geometry a) (g.held a) (g.image a) file_no key (level - 1) l fault) (read told)
+      (subst (λ (h : ℕ → Bool). IsFaultUnder (g.geometry a) h (g.image a) file_no key (level - 1) es fault) kept.held
+      (subst (λ (u : ℕ → List ℕ). IsFaultUnder (g.geometry a) (g.held b) u file_no key (level - 1) es fault) kept.images
+      (subst (λ (y : Geometry). IsFaultUnder y (g.held b) (g.image b) file_no key (level - 1) es fault) (g.leads_geometry a b kept.leads) (below (g.leads_told a b kept.leads told)))))
 
-  pub page_fault : (fault : PortFault) → (g.tells b → IsFaultUnder (g.geometry b) (g.image b) file_no key (level - 1) es fault) → g.tells a → IsWayFault (g.geometry a) (g.image a) file_no key level least page fault
-  page_fault fault below told = way_below (g.geometry a) (g.image a) file_no key level least page fault above (at told) (fault_old fault below told)
+  pub page_fault : (fault : PortFault) → (g.tells b → IsFaultUnder (g.geometry b) (g.held b) (g.image b) file_no key (level - 1) es fault) → g.tells a → IsWayFault (g.geometry a) (g.held a) (g.image a) file_no key level least page fault
+  page_fault fault below told = way_below (g.geometry a) (g.held a) (g.image a) file_no key level least page fault above (at told) (fault_old fault below told)
 
   pub page_way : (g.tells b → IsWayUnder (g.geometry b) (g.image b) file_no key (level - 1) es) → g.tells a → IsWay (g.geometry a) (g.image a) file_no key level least page
   page_way below told =
@@ -140,48 +141,57 @@ module _ {S : Type 0} (g : ground.Ghosts S) (a b : S) (file_no level : ℕ) (lea
       (subst (λ (u : ℕ → List ℕ). IsWayUnder (g.geometry a) u file_no key (level - 1) es) kept.images
       (subst (λ (y : Geometry). IsWayUnder y (g.image b) file_no key (level - 1) es) (g.leads_geometry a b kept.leads) (below (g.leads_told a b kept.leads told)))))
 
-  beside_on : (u now : ℕ → List ℕ) (y : Geometry) (fault : PortFault) (l : ℕ) → l ≢ 0 → IsNamedAt y u l file_no least page → IsBesideUnder y u now file_no key (l - 1) (entries_on (u page)) fault → IsBesideFault y u now file_no key l least page fault
-  beside_on u now y fault zero some named h = absurd (some refl)
-  beside_on u now y fault (suc l) some named h = (named, rw sub-one at h)
+  gone_on : (u : ℕ → List ℕ) (held : ℕ → Bool) (now : ℕ → List ℕ) (y : Geometry) (fault : PortFault) (l : ℕ) → l ≢ 0 → IsNamedAt y u l file_no least page → IsGoneFault held l least page fault → IsBesideFault y u held now file_no key l least page fault
+  gone_on u held now y fault zero some named h = absurd (some refl)
+  gone_on u held now y fault (suc l) some named h = (named, inl h)
+
+  beside_on : (u : ℕ → List ℕ) (held : ℕ → Bool) (now : ℕ → List ℕ) (y : Geometry) (fault : PortFault) (l : ℕ) → l ≢ 0 → IsNamedAt y u l file_no least page → IsBesideUnder y u held now file_no key (l - 1) (entries_on (u page)) fault
+      → IsBesideFault y u held now file_no key l least page fault
+  beside_on u held now y fault zero some named h = absurd (some refl)
+  beside_on u held now y fault (suc l) some named h = (named, inr (rw sub-one at h))
+
+  -- a page that was given back below
+  pub page_gone : (held : ℕ → Bool) (now : ℕ → List ℕ) (fault : PortFault) → IsGoneFault held level least page fault → g.tells a → IsBesideFault (g.geometry a) (g.image a) held now file_no key level least page fault
+  page_gone held now fault gone told = gone_on (g.image a) held now (g.geometry a) fault level above (at told) gone
 
   -- a fault below that is told of the way or of a page beside it
-  pub page_removal : (now : ℕ → List ℕ) (fault : PortFault)
-      → (g.tells b → IsFaultUnder (g.geometry b) (g.image b) file_no key (level - 1) es fault ⊎ IsBesideUnder (g.geometry b) (g.image b) now file_no key (level - 1) es fault)
-      → g.tells a → IsWayFault (g.geometry a) (g.image a) file_no key level least page fault ⊎ IsBesideFault (g.geometry a) (g.image a) now file_no key level least page fault
-  page_removal now fault below told = elim (below (g.leads_told a b kept.leads told)) [
+  pub page_removal : (held : ℕ → Bool) (now : ℕ → List ℕ) (fault : PortFault)
+      → (g.tells b → IsFaultUnder (g.geometry b) (g.held b) (g.image b) file_no key (level - 1) es fault ⊎ IsBesideUnder (g.geometry b) (g.image b) held now file_no key (level - 1) es fault)
+      → g.tells a → IsWayFault (g.geometry a) (g.held a) (g.image a) file_no key level least page fault ⊎ IsBesideFault (g.geometry a) (g.image a) held now file_no key level least page fault
+  page_removal held now fault below told = elim (below (g.leads_told a b kept.leads told)) [
     | inl way ↦ inl (page_fault fault (λ told_b. way) told)
-    | inr beside ↦ inr (beside_on (g.image a) now (g.geometry a) fault level above (at told)
-        (subst (λ (l : List Entry). IsBesideUnder (g.geometry a) (g.image a) now file_no key (level - 1) l fault) (read told)
-        (subst (λ (u : ℕ → List ℕ). IsBesideUnder (g.geometry a) u now file_no key (level - 1) es fault) kept.images
-        (subst (λ (y : Geometry). IsBesideUnder y (g.image b) now file_no key (level - 1) es fault) (g.leads_geometry a b kept.leads) beside))))
+    | inr beside ↦ inr (beside_on (g.image a) held now (g.geometry a) fault level above (at told)
+        (subst (λ (l : List Entry). IsBesideUnder (g.geometry a) (g.image a) held now file_no key (level - 1) l fault) (read told)
+        (subst (λ (u : ℕ → List ℕ). IsBesideUnder (g.geometry a) u held now file_no key (level - 1) es fault) kept.images
+        (subst (λ (y : Geometry). IsBesideUnder y (g.image b) held now file_no key (level - 1) es fault) (g.leads_geometry a b kept.leads) beside))))
   ]
 
 -- the page that an entry names
-pub entry_fault : (g : Geometry) (now : ℕ → List ℕ) (file_no level : ℕ) (entry : Entry) (fault : PortFault) → level ≢ 0 → IsPageFault g (now entry.page.0) level file_no (Some entry.key) entry.page.0 fault → IsEntryFault g now file_no level entry fault
-entry_fault g now file_no zero entry fault above h = absurd (above refl)
-entry_fault g now file_no (suc level) entry fault above h = h
+pub entry_fault : (g : Geometry) (held : ℕ → Bool) (now : ℕ → List ℕ) (file_no level : ℕ) (entry : Entry) (fault : PortFault) → level ≢ 0 → IsPageFault g held (now entry.page.0) level file_no (Some entry.key) entry.page.0 fault → IsEntryFault g held now file_no level entry fault
+entry_fault g held now file_no zero entry fault above h = absurd (above refl)
+entry_fault g held now file_no (suc level) entry fault above h = h
 
 -- a fault that is told of the page that a key leads to, or of a page beside the way below it
-pub under_removal : (g : Geometry) (image now : ℕ → List ℕ) (file_no key level : ℕ) (entries : List Entry) (child : Entry) (fault : PortFault) → child ≡ child_in key entries
-    → IsWayFault g image file_no key level (Some child.key) child.page.0 fault ⊎ IsBesideFault g image now file_no key level (Some child.key) child.page.0 fault
-    → IsFaultUnder g image file_no key level entries fault ⊎ IsBesideUnder g image now file_no key level entries fault
-under_removal g image now file_no key level entries child fault is h = elim h [
-  | inl way ↦ inl (subst (λ (e : Entry). IsWayFault g image file_no key level (Some e.key) e.page.0 fault) is way)
-  | inr beside ↦ inr (inr (subst (λ (e : Entry). IsBesideFault g image now file_no key level (Some e.key) e.page.0 fault) is beside))
+pub under_removal : (g : Geometry) (was_held : ℕ → Bool) (image : ℕ → List ℕ) (held : ℕ → Bool) (now : ℕ → List ℕ) (file_no key level : ℕ) (entries : List Entry) (child : Entry) (fault : PortFault) → child ≡ child_in key entries
+    → IsWayFault g was_held image file_no key level (Some child.key) child.page.0 fault ⊎ IsBesideFault g image held now file_no key level (Some child.key) child.page.0 fault
+    → IsFaultUnder g was_held image file_no key level entries fault ⊎ IsBesideUnder g image held now file_no key level entries fault
+under_removal g was_held image held now file_no key level entries child fault is h = elim h [
+  | inl way ↦ inl (subst (λ (e : Entry). IsWayFault g was_held image file_no key level (Some e.key) e.page.0 fault) is way)
+  | inr beside ↦ inr (inr (subst (λ (e : Entry). IsBesideFault g image held now file_no key level (Some e.key) e.page.0 fault) is beside))
 ]
 
 -- ---- a root
 
-module _ (g : Geometry) (image : ℕ → List ℕ) (file_no key level : ℕ) (root : Option PageNo) (page : PageNo) (is : root ≡ Some page) where
-  pub root_way : IsWay g image file_no key level None page.0 → IsWayFrom g image file_no key level root
-  root_way h = subst (λ (r : Option PageNo). IsWayFrom g image file_no key level r) (sym is) h
+pub root_way : (g : Geometry) (image : ℕ → List ℕ) (file_no key level : ℕ) (root : Option PageNo) (page : PageNo) → root ≡ Some page → IsWay g image file_no key level None page.0 → IsWayFrom g image file_no key level root
+root_way g image file_no key level root page is h = subst (λ (r : Option PageNo). IsWayFrom g image file_no key level r) (sym is) h
 
-  pub root_fault : (fault : PortFault) → IsWayFault g image file_no key level None page.0 fault → IsFaultFrom g image file_no key level root fault
-  root_fault fault h = subst (λ (r : Option PageNo). IsFaultFrom g image file_no key level r fault) (sym is) h
+module _ (g : Geometry) (was_held : ℕ → Bool) (image : ℕ → List ℕ) (file_no key level : ℕ) (root : Option PageNo) (page : PageNo) (is : root ≡ Some page) where
+  pub root_fault : (fault : PortFault) → IsWayFault g was_held image file_no key level None page.0 fault → IsFaultFrom g was_held image file_no key level root fault
+  root_fault fault h = subst (λ (r : Option PageNo). IsFaultFrom g was_held image file_no key level r fault) (sym is) h
 
-  pub root_removal : (now : ℕ → List ℕ) (fault : PortFault) → IsWayFault g image file_no key level None page.0 fault ⊎ IsBesideFault g image now file_no key level None page.0 fault
-      → IsFaultFrom g image file_no key level root fault ⊎ IsBesideFrom g image now file_no key level root fault
-  root_removal now fault h = elim h [
+  pub root_removal : (held : ℕ → Bool) (now : ℕ → List ℕ) (fault : PortFault) → IsWayFault g was_held image file_no key level None page.0 fault ⊎ IsBesideFault g image held now file_no key level None page.0 fault
+      → IsFaultFrom g was_held image file_no key level root fault ⊎ IsBesideFrom g image held now file_no key level root fault
+  root_removal held now fault h = elim h [
     | inl way ↦ inl (root_fault fault way)
-    | inr beside ↦ inr (subst (λ (r : Option PageNo). IsBesideFrom g image now file_no key level r fault) (sym is) beside)
+    | inr beside ↦ inr (subst (λ (r : Option PageNo). IsBesideFrom g image held now file_no key level r fault) (sym is) beside)
   ]

@@ -1,5 +1,5 @@
 -- What a fault says of an index page that isn't what names it, and which pages the way to a key leads through.
-use Rattle.std.specs.Prelude.{◌≡◌, ◌≢◌, ◌⊎◌, ◌≤◌, ℕ, zero, suc, List, [], ◌∷◌, length, Option, Some, None, nat_lt, if◌then◌else◌, slice_index_or, ⊤}
+use Rattle.std.specs.Prelude.{◌≡◌, ◌≢◌, ◌⊎◌, ◌≤◌, ℕ, zero, suc, Bool, true, false, List, [], ◌∷◌, length, Option, Some, None, nat_lt, if◌then◌else◌, slice_index_or, ⊤}
 use Rattle.ex_base.specs.declared.faults.Seen.{Seen}
 use Rattle.ex_base.specs.Seen.{nothing_seen}
 use Rattle.ex_base.specs.declared.faults.PortFault.{PortFault}
@@ -23,18 +23,24 @@ pub record IsOfIndex (size : ℕ) (bytes : List ℕ) (file_no : ℕ) (least : Op
   pub spelled : EntriesOf bytes (level_on bytes) file_no (entries_on bytes)
   pub enough : least_entries size least ≤ length (entries_on bytes)
 
--- What is seen of a page with these bytes, where it isn't the index page of this level, file and least key. It lies where no page of a file lies, and
--- isn't read; or it is outside the grammar, of another file, or has a number of entries that isn't allowed; or it is another one of the file.
-pub data IsMisread (g : Geometry) (bytes : List ℕ) (level file_no : ℕ) (least : Option ℕ) (page : ℕ) (got : Seen) : Type 0 where
-  elsewhere : (IsFilesPage g page → ⊥) → got ≡ nothing_seen → IsMisread g bytes level file_no least page got
-  outside : IsFilesPage g page → (IsOfIndex g.page_size bytes file_no least → ⊥) → got ≡ nothing_seen → IsMisread g bytes level file_no least page got
-  other : IsFilesPage g page → IsOfIndex g.page_size bytes file_no least → got ≡ shown_on bytes least → got ≢ seen level least → IsMisread g bytes level file_no least page got
+-- Every page. A call that only reads asks of no page whether the working state has it.
+abbrev pub every_page : ℕ → Bool
+every_page page = true
+
+-- What is seen of a page with these bytes, where it isn't the index page of this level, file and least key. It lies where no page of a file lies, or is none
+-- of those that are held, and isn't read; or it is outside the grammar, of another file, or has a number of entries that isn't allowed; or it is another one
+-- of the file.
+pub data IsMisread (g : Geometry) (held : ℕ → Bool) (bytes : List ℕ) (level file_no : ℕ) (least : Option ℕ) (page : ℕ) (got : Seen) : Type 0 where
+  elsewhere : (IsFilesPage g page → ⊥) → got ≡ nothing_seen → IsMisread g held bytes level file_no least page got
+  lacking : IsFilesPage g page → held page ≡ false → got ≡ nothing_seen → IsMisread g held bytes level file_no least page got
+  outside : IsFilesPage g page → (IsOfIndex g.page_size bytes file_no least → ⊥) → got ≡ nothing_seen → IsMisread g held bytes level file_no least page got
+  other : IsFilesPage g page → IsOfIndex g.page_size bytes file_no least → got ≡ shown_on bytes least → got ≢ seen level least → IsMisread g held bytes level file_no least page got
 
 -- the fault is the port's own, or tells that this page with these bytes isn't the index page that names it
-abbrev pub IsPageFault : Geometry → List ℕ → ℕ → ℕ → Option ℕ → ℕ → PortFault → Type 0
-IsPageFault g bytes level file_no least page Disk = ⊤
-IsPageFault g bytes level file_no least page Memory = ⊤
-IsPageFault g bytes level file_no least page (Damaged at want got) = (at.0 ≡ page) × (want ≡ seen level least) × IsMisread g bytes level file_no least page got
+abbrev pub IsPageFault : Geometry → (ℕ → Bool) → List ℕ → ℕ → ℕ → Option ℕ → ℕ → PortFault → Type 0
+IsPageFault g held bytes level file_no least page Disk = ⊤
+IsPageFault g held bytes level file_no least page Memory = ⊤
+IsPageFault g held bytes level file_no least page (Damaged at want got) = (at.0 ≡ page) × (want ≡ seen level least) × IsMisread g held bytes level file_no least page got
 
 -- The page is the index page that names it: it lies where a page of a file may lie, and is of this level, file and least key.
 pub record IsNamedAt (g : Geometry) (image : ℕ → List ℕ) (level file_no : ℕ) (least : Option ℕ) (page : ℕ) : Type 0 where
@@ -68,44 +74,44 @@ IsWay g image file_no key (suc level) least page =
     × IsWay g image file_no key level (Some (child_in key (entries_on (image page))).key) (child_in key (entries_on (image page))).page.0
 
 -- The fault is the port's own, or tells of an index page on the way to a key, below pages that are what names them.
-abbrev pub IsWayFault : Geometry → (ℕ → List ℕ) → ℕ → ℕ → ℕ → Option ℕ → ℕ → PortFault → Type 0
-IsWayFault g image file_no key level least page Disk = ⊤
-IsWayFault g image file_no key level least page Memory = ⊤
-IsWayFault g image file_no key zero least page (Damaged at want got) = ⊥
-IsWayFault g image file_no key (suc level) least page (Damaged at want got) =
-    IsPageFault g (image page) (suc level) file_no least page (Damaged at want got)
+abbrev pub IsWayFault : Geometry → (ℕ → Bool) → (ℕ → List ℕ) → ℕ → ℕ → ℕ → Option ℕ → ℕ → PortFault → Type 0
+IsWayFault g held image file_no key level least page Disk = ⊤
+IsWayFault g held image file_no key level least page Memory = ⊤
+IsWayFault g held image file_no key zero least page (Damaged at want got) = ⊥
+IsWayFault g held image file_no key (suc level) least page (Damaged at want got) =
+    IsPageFault g held (image page) (suc level) file_no least page (Damaged at want got)
     ⊎ (IsNamedAt g image (suc level) file_no least page
-    × IsWayFault g image file_no key level (Some (child_in key (entries_on (image page))).key) (child_in key (entries_on (image page))).page.0 (Damaged at want got))
+    × IsWayFault g held image file_no key level (Some (child_in key (entries_on (image page))).key) (child_in key (entries_on (image page))).page.0 (Damaged at want got))
 
 -- the same from the entries of an index page on, which name pages of a level
 abbrev pub IsWayUnder : Geometry → (ℕ → List ℕ) → ℕ → ℕ → ℕ → List Entry → Type 0
 IsWayUnder g image file_no key level entries = IsWay g image file_no key level (Some (child_in key entries).key) (child_in key entries).page.0
 
-abbrev pub IsFaultUnder : Geometry → (ℕ → List ℕ) → ℕ → ℕ → ℕ → List Entry → PortFault → Type 0
-IsFaultUnder g image file_no key level entries fault = IsWayFault g image file_no key level (Some (child_in key entries).key) (child_in key entries).page.0 fault
+abbrev pub IsFaultUnder : Geometry → (ℕ → Bool) → (ℕ → List ℕ) → ℕ → ℕ → ℕ → List Entry → PortFault → Type 0
+IsFaultUnder g held image file_no key level entries fault = IsWayFault g held image file_no key level (Some (child_in key entries).key) (child_in key entries).page.0 fault
 
 -- the same from the root of an index on, where it has one
 abbrev pub IsWayFrom : Geometry → (ℕ → List ℕ) → ℕ → ℕ → ℕ → Option PageNo → Type 0
 IsWayFrom g image file_no key level None = Unit {0}
 IsWayFrom g image file_no key level (Some page) = IsWay g image file_no key level None page.0
 
-abbrev pub IsFaultFrom : Geometry → (ℕ → List ℕ) → ℕ → ℕ → ℕ → Option PageNo → PortFault → Type 0
-IsFaultFrom g image file_no key level None fault = ¬ IsDamage fault
-IsFaultFrom g image file_no key level (Some page) fault = IsWayFault g image file_no key level None page.0 fault
+abbrev pub IsFaultFrom : Geometry → (ℕ → Bool) → (ℕ → List ℕ) → ℕ → ℕ → ℕ → Option PageNo → PortFault → Type 0
+IsFaultFrom g held image file_no key level None fault = ¬ IsDamage fault
+IsFaultFrom g held image file_no key level (Some page) fault = IsWayFault g held image file_no key level None page.0 fault
 
 abbrev pub HasWay : Geometry → (ℕ → List ℕ) → Index → ℕ → Type 0
 HasWay g image index key = IsWayFrom g image index.file_no key index.level index.root
 
-abbrev pub IsIndexFault : Geometry → (ℕ → List ℕ) → Index → ℕ → PortFault → Type 0
-IsIndexFault g image index key fault = IsFaultFrom g image index.file_no key index.level index.root fault
+abbrev pub IsIndexFault : Geometry → (ℕ → Bool) → (ℕ → List ℕ) → Index → ℕ → PortFault → Type 0
+IsIndexFault g held image index key fault = IsFaultFrom g held image index.file_no key index.level index.root fault
 
 -- ---- an index that is as high as one may be
 
 -- What a call tells that puts a page into an index: a fault on the way to the page; or that the root, which has the highest level of an index and no room
 -- for an entry more, stands over more pages than a volume has.
-pub data IsAddingFault (g : Geometry) (image : ℕ → List ℕ) (index : Index) (key : ℕ) (fault : PortFault) : Type 0 where
-  on_the_way : IsIndexFault g image index key fault → IsAddingFault g image index key fault
-  too_high : (root : PageNo) → index.root ≡ Some root → index.level ≡ 5 → fault ≡ Damaged root (seen index.level None) nothing_seen → IsAddingFault g image index key fault
+pub data IsAddingFault (g : Geometry) (held : ℕ → Bool) (image : ℕ → List ℕ) (index : Index) (key : ℕ) (fault : PortFault) : Type 0 where
+  on_the_way : IsIndexFault g held image index key fault → IsAddingFault g held image index key fault
+  too_high : (root : PageNo) → index.root ≡ Some root → index.level ≡ 5 → fault ≡ Damaged root (seen index.level None) nothing_seen → IsAddingFault g held image index key fault
 
 -- ---- what the way finds
 
@@ -134,29 +140,36 @@ abbrev pub beside_in : ℕ → List Entry → Entry
 beside_in key entries = entry_in entries (place_beside (place_in key entries))
 
 -- The fault tells that the index page which an entry names isn't what the entry says; at level 0 there is none.
-abbrev pub IsEntryFault : Geometry → (ℕ → List ℕ) → ℕ → ℕ → Entry → PortFault → Type 0
-IsEntryFault g image file_no zero entry fault = ⊥
-IsEntryFault g image file_no (suc level) entry fault = IsPageFault g (image entry.page.0) (suc level) file_no (Some entry.key) entry.page.0 fault
+abbrev pub IsEntryFault : Geometry → (ℕ → Bool) → (ℕ → List ℕ) → ℕ → ℕ → Entry → PortFault → Type 0
+IsEntryFault g held image file_no zero entry fault = ⊥
+IsEntryFault g held image file_no (suc level) entry fault = IsPageFault g held (image entry.page.0) (suc level) file_no (Some entry.key) entry.page.0 fault
 
--- The fault tells of an index page that stands beside one on the way to a key, as it is when it is read (`now`), below pages that are what names them.
-abbrev pub IsBesideFault : Geometry → (ℕ → List ℕ) → (ℕ → List ℕ) → ℕ → ℕ → ℕ → Option ℕ → ℕ → PortFault → Type 0
-IsBesideFault g image now file_no key zero least page fault = ⊥
-IsBesideFault g image now file_no key (suc level) least page fault =
+-- The fault tells of an index page that a call is to write: it has been given back below, as `held` tells.
+abbrev pub IsGoneFault : (ℕ → Bool) → ℕ → Option ℕ → ℕ → PortFault → Type 0
+IsGoneFault held level least page fault = (held page ≡ false) × (fault ≡ Damaged (page_no page) (seen level least) nothing_seen)
+
+-- The fault tells of an index page on the way to a key that has been given back, or of one that stands beside such a page, once the pages below are written:
+-- as `held` and `now` are then. The pages above are what names them.
+abbrev pub IsBesideFault : Geometry → (ℕ → List ℕ) → (ℕ → Bool) → (ℕ → List ℕ) → ℕ → ℕ → ℕ → Option ℕ → ℕ → PortFault → Type 0
+IsBesideFault g image held now file_no key zero least page fault = ⊥
+IsBesideFault g image held now file_no key (suc level) least page fault =
     IsNamedAt g image (suc level) file_no least page
-    × (IsEntryFault g now file_no level (beside_in key (entries_on (image page))) fault
-    ⊎ IsBesideFault g image now file_no key level (Some (child_in key (entries_on (image page))).key) (child_in key (entries_on (image page))).page.0 fault)
+    × (IsGoneFault held (suc level) least page fault
+    ⊎ (IsEntryFault g held now file_no level (beside_in key (entries_on (image page))) fault
+    ⊎ IsBesideFault g image held now file_no key level (Some (child_in key (entries_on (image page))).key) (child_in key (entries_on (image page))).page.0 fault))
 
 -- the same from the entries of an index page on
-abbrev pub IsBesideUnder : Geometry → (ℕ → List ℕ) → (ℕ → List ℕ) → ℕ → ℕ → ℕ → List Entry → PortFault → Type 0
-IsBesideUnder g image now file_no key level entries fault =
-    IsEntryFault g now file_no level (beside_in key entries) fault
-    ⊎ IsBesideFault g image now file_no key level (Some (child_in key entries).key) (child_in key entries).page.0 fault
+abbrev pub IsBesideUnder : Geometry → (ℕ → List ℕ) → (ℕ → Bool) → (ℕ → List ℕ) → ℕ → ℕ → ℕ → List Entry → PortFault → Type 0
+IsBesideUnder g image held now file_no key level entries fault =
+    IsEntryFault g held now file_no level (beside_in key entries) fault
+    ⊎ IsBesideFault g image held now file_no key level (Some (child_in key entries).key) (child_in key entries).page.0 fault
 
 -- the same from the root of an index on
-abbrev pub IsBesideFrom : Geometry → (ℕ → List ℕ) → (ℕ → List ℕ) → ℕ → ℕ → ℕ → Option PageNo → PortFault → Type 0
-IsBesideFrom g image now file_no key level None fault = ⊥
-IsBesideFrom g image now file_no key level (Some page) fault = IsBesideFault g image now file_no key level None page.0 fault
+abbrev pub IsBesideFrom : Geometry → (ℕ → List ℕ) → (ℕ → Bool) → (ℕ → List ℕ) → ℕ → ℕ → ℕ → Option PageNo → PortFault → Type 0
+IsBesideFrom g image held now file_no key level None fault = ⊥
+IsBesideFrom g image held now file_no key level (Some page) fault = IsBesideFault g image held now file_no key level None page.0 fault
 
--- What a removal tells: a fault on the way to the key, or of a page beside it. A page beside the way is read only once the pages below it are written.
-abbrev pub IsRemovalFault : Geometry → (ℕ → List ℕ) → (ℕ → List ℕ) → Index → ℕ → PortFault → Type 0
-IsRemovalFault g image now index key fault = IsIndexFault g image index key fault ⊎ IsBesideFrom g image now index.file_no key index.level index.root fault
+-- What a removal tells: a fault on the way to the key, or of a page on it or beside it once the pages below are written: what stands then is `now_held` and
+-- `now`.
+abbrev pub IsRemovalFault : Geometry → (ℕ → Bool) → (ℕ → List ℕ) → (ℕ → Bool) → (ℕ → List ℕ) → Index → ℕ → PortFault → Type 0
+IsRemovalFault g held image now_held now index key fault = IsIndexFault g held image index key fault ⊎ IsBesideFrom g image now_held now index.file_no key index.level index.root fault

@@ -1,5 +1,5 @@
 //! A page put into the index of a file.
-ghost use Rattle.std.specs.Prelude.{◌≡◌, ◌≤◌, ◌<◌, ◌+◌, ◌-◌, ◌∷◌, [], ℕ, false, length, IfOk, IfErr, OnOk};
+ghost use Rattle.std.specs.Prelude.{◌≡◌, ◌≤◌, ◌<◌, ◌+◌, ◌-◌, ◌∷◌, [], ℕ, true, false, length, IfOk, IfErr, OnOk};
 ghost use Rattle.ex_base.specs.declared.names.Area.TheVariants.{Page};
 ghost use Rattle.ex_base.specs.Area.{catalog_no};
 ghost use Rattle.ex_base.specs.Ports.{HasCause, IsDamage};
@@ -72,8 +72,10 @@ fn add_among<P: Pages>(
     ensures sound { IfErr result (λ fault. IsDamage fault → P.tells pages.old
         → IsRow P.Ground pages.old file_no (level - 1) entries.old.items → ⊥) }
     ensures fault { IfErr result (λ fault. P.tells pages.old
-        → IsFaultUnder (P.geometry pages.old) (P.image pages.old) file_no key
-        (level - 1) entries.old.items fault) }
+        → IsFaultUnder (P.geometry pages.old) (P.held pages.old) (P.image pages.old) file_no
+        key (level - 1) entries.old.items fault) }
+    ensures held { OnOk result ((page : ℕ) → P.held pages.old page ≡ true
+        → P.held pages.new page ≡ true) }
     ensures way { OnOk result (P.tells pages.old
         → IsWayUnder (P.geometry pages.old) (P.image pages.old) file_no key
         (level - 1) entries.old.items) }
@@ -224,7 +226,8 @@ fn add_below<P: Pages>(
     ensures sound { IfErr result (λ fault. IsDamage fault → P.tells pages.old
         → HasIndex P.Ground pages.old index.now → ⊥) }
     ensures fault { IfErr result (λ fault. P.tells pages.old
-        → IsIndexFault (P.geometry pages.old) (P.image pages.old) index.now key.0 fault) }
+        → IsIndexFault (P.geometry pages.old) (P.held pages.old) (P.image pages.old)
+        index.now key.0 fault) }
     ensures way { OnOk result (P.tells pages.old
         → HasWay (P.geometry pages.old) (P.image pages.old) index.now key.0) }
     ensures catalog { OnOk result (P.image pages.new catalog_no ≡ P.image pages.old catalog_no) }
@@ -299,7 +302,8 @@ pub fn add<P: Pages>(
     ensures sound { IfErr result (λ fault. IsDamage fault → P.tells pages.old
         → IsFilesPage (P.geometry pages.old) key.0 → HasIndex P.Ground pages.old index.now → ⊥) }
     ensures fault { IfErr result (λ fault. P.tells pages.old
-        → IsAddingFault (P.geometry pages.old) (P.image pages.old) index.now key.0 fault) }
+        → IsAddingFault (P.geometry pages.old) (P.held pages.old) (P.image pages.old)
+        index.now key.0 fault) }
     ensures way { OnOk result (P.tells pages.old
         → HasWay (P.geometry pages.old) (P.image pages.old) index.now key.0) }
     ensures catalog { OnOk result (P.image pages.new catalog_no ≡ P.image pages.old catalog_no) }

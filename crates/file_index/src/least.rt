@@ -4,7 +4,7 @@ ghost use Rattle.ex_base.specs.Ports.{Keeps, HasCause, IsDamage};
 ghost use Rattle.index_pages.specs.IndexPage.{entries_on};
 ghost use Rattle.file_index.specs.Index.{IsFilesPage, IsNamed, IsUnder, Rises, keys_under, keys_of, IsIndex, HasRoot};
 ghost use Rattle.file_index.specs.Least.{pick, first_from, IsLeastFrom, IsAtLeast};
-ghost use Rattle.file_index.specs.Damage.{IsPageFault, IsNamedAt, IsWay, IsWayFault, HasWay, IsIndexFault, found_under, found_in};
+ghost use Rattle.file_index.specs.Damage.{every_page, IsPageFault, IsNamedAt, IsWay, IsWayFault, HasWay, IsIndexFault, found_under, found_in};
 
 use crate::named::{Named, checked, no_index_page};
 use crate::step::{Step, pick};
@@ -30,7 +30,7 @@ fn step_at<P: ReadPages>(
         (P.image pages.old named.now.page.0) named.now.level named.now.file_no named.now.least
         → ⊥) }
     ensures fault { IfErr result (λ fault. P.tells pages.old
-        → IsPageFault (P.geometry pages.old)
+        → IsPageFault (P.geometry pages.old) every_page
         (P.image pages.old named.now.page.0) named.now.level named.now.file_no named.now.least named.now.page.0 fault) }
     ensures way { OnOk result (P.tells pages.old
         → IsNamedAt (P.geometry pages.old)
@@ -68,7 +68,7 @@ fn least_below<P: ReadPages>(
         → IsUnder (P.geometry pages.old) named.file_no
         (P.image pages.old) named.level named.least named.page.0 → ⊥) }
     ensures fault { IfErr result (λ fault. P.tells pages.old
-        → IsWayFault (P.geometry pages.old)
+        → IsWayFault (P.geometry pages.old) every_page
         (P.image pages.old) named.file_no key named.level named.least named.page.0 fault) }
     ensures way { OnOk result (P.tells pages.old
         → IsWay (P.geometry pages.old)
@@ -117,7 +117,7 @@ pub fn at_least<P: ReadPages>(
         → IsIndex (P.geometry pages.old)
         (P.image pages.old) index.now.file_no index.now.level index.now.root → ⊥) }
     ensures fault { IfErr result (λ fault. P.tells pages.old
-        → IsIndexFault (P.geometry pages.old) (P.image pages.old) index.now key.0 fault) }
+        → IsIndexFault (P.geometry pages.old) every_page (P.image pages.old) index.now key.0 fault) }
     ensures way { OnOk result (P.tells pages.old
         → HasWay (P.geometry pages.old) (P.image pages.old) index.now key.0) }
     ensures found { IfOk result (λ least. P.tells pages.old

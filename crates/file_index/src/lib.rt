@@ -14,4 +14,5 @@ mod storing;
 
 pub use adding::{a_whole_index_has_at_most_five_levels, add};
 pub use least::at_least;
+pub use nodes::may_be_written;
 pub use removing::remove;

@@ -1,5 +1,5 @@
 //! One index page and what names it.
-ghost use Rattle.std.specs.Prelude.{◌≡◌, ◌≢◌, ◌≤◌, ℕ, length, IfOk, IfErr};
+ghost use Rattle.std.specs.Prelude.{◌≡◌, ◌≢◌, ◌≤◌, ℕ, Bool, length, IfOk, IfErr};
 ghost use Rattle.ex_base.specs.Ports.{IsDamage, Cause, HasCause};
 ghost use Rattle.index_pages.specs.IndexPage.{indexed_on, most_entries};
 ghost use Rattle.ex_base.specs.declared.geometry.Geometry.{Geometry};
@@ -85,9 +85,9 @@ pub fn checked<'a>(page: &'a [u8], named: &Named) -> Result<IndexView<'a>, PortF
         (λ view. IsNamed (length page.now) page.now named.now.level named.now.file_no named.now.least) }
     ensures err { IfErr result
         (λ fault. IsNamed (length page.now) page.now named.now.level named.now.file_no named.now.least → ⊥) }
-    ensures fault { IfErr result (λ fault. (g : Geometry) → g.page_size ≡ length page.now
-        → IsFilesPage g named.now.page.0
-        → IsPageFault g page.now named.now.level named.now.file_no named.now.least named.now.page.0 fault) }
+    ensures fault { IfErr result (λ fault. (g : Geometry) → (held : ℕ → Bool)
+        → g.page_size ≡ length page.now → IsFilesPage g named.now.page.0
+        → IsPageFault g held page.now named.now.level named.now.file_no named.now.least named.now.page.0 fault) }
     ensures damage { (before now : ℕ) → HasCause before now result }
 {
     let Some(view) = IndexView::of(page) else {

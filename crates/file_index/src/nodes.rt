@@ -1,5 +1,5 @@
 //! Index pages read and written over any port.
-ghost use Rattle.std.specs.Prelude.{◌≡◌, ◌≤◌, ◌<◌, ◌+◌, ◌-◌, [], ◌∷◌, ℕ, length, IfOk, IfErr, OnOk};
+ghost use Rattle.std.specs.Prelude.{◌≡◌, ◌⊎◌, ◌≤◌, ◌<◌, ◌+◌, ◌-◌, [], ◌∷◌, ℕ, true, false, length, IfOk, IfErr, OnOk, IsTrue};
 ghost use Rattle.ex_base.specs.declared.names.Area.TheVariants.{Page};
 ghost use Rattle.ex_base.specs.Area.{catalog_no};
 ghost use Rattle.ex_base.specs.Ports.{Keeps, HasCause, IsDamage};
@@ -28,8 +28,19 @@ pub fn page_buffer<P: ReadPages>(pages: &P, alloc: Global) -> Result<Vec<u8>, Po
     }
 }
 
-/// The entries of an index page.
-pub fn entries_at<P: ReadPages>(
+/// Whether a page may be written as one of a file: it may be a page of a file, and the working state has it.
+pub fn may_be_written<P: Pages>(pages: &P, page: PageNo) -> bool
+    requires { P.ready pages.now }
+    ensures files { IsTrue result → IsFilesPage (P.geometry pages.now) page.0 }
+    ensures held { IsTrue result → P.held pages.now page.0 ≡ true }
+    ensures never { result ≡ false → (IsFilesPage (P.geometry pages.now) page.0 → ⊥)
+        ⊎ (IsFilesPage (P.geometry pages.now) page.0 × (P.held pages.now page.0 ≡ false)) }
+{
+    pages.in_area(page) && page != PageNo::CATALOG && pages.has(page)
+}
+
+/// The entries of an index page that is to be written.
+pub fn entries_at<P: Pages>(
     pages: &mut P,
     alloc: Global,
     named: &Named,
@@ -46,18 +57,20 @@ pub fn entries_at<P: ReadPages>(
     ensures many { IfOk result (λ entries. length entries.items
         ≤ most_entries (P.geometry pages.old).page_size) }
     ensures area { OnOk result (IsFilesPage (P.geometry pages.old) named.now.page.0) }
+    ensures held { OnOk result (P.held pages.old named.now.page.0 ≡ true) }
     ensures sound { IfErr result (λ fault. IsDamage fault → P.tells pages.old
         → IsFilesPage (P.geometry pages.old) named.now.page.0
+        → P.held pages.old named.now.page.0 ≡ true
         → IsNamed (P.geometry pages.old).page_size
         (P.image pages.old named.now.page.0) named.now.level named.now.file_no named.now.least
         → ⊥) }
     ensures fault { IfErr result (λ fault. P.tells pages.old
-        → IsPageFault (P.geometry pages.old)
+        → IsPageFault (P.geometry pages.old) (P.held pages.old)
         (P.image pages.old named.now.page.0) named.now.level named.now.file_no named.now.least named.now.page.0 fault) }
     ensures kept { Keeps P.Ground pages.old pages.new }
     ensures cause { HasCause (P.faults pages.old) (P.faults pages.new) result }
 {
-    if !pages.in_area(named.page) || named.page == PageNo::CATALOG {
+    if !may_be_written(pages, named.page) {
         return Err(no_index_page(named));
     }
     let page = pages.get(alloc, named.page)?;
@@ -80,6 +93,7 @@ pub fn put_index<P: Pages>(
 ) -> Result<(), PortFault>
     requires ready { P.ready pages.old }
     requires page { IsFilesPage (P.geometry pages.old) named.now.page.0 }
+    requires held { P.held pages.old named.now.page.0 ≡ true }
     requires level { 1 ≤ named.now.level }
     requires some { 1 ≤ length entries.now }
     requires room { length entries.now ≤ most_entries (P.geometry pages.old).page_size }
@@ -88,6 +102,7 @@ pub fn put_index<P: Pages>(
         → IsWritten P.Ground pages.new named.now.page.0 named.now.level named.now.file_no entries.now) }
     ensures changes { OnOk result (Changes P.Ground pages.old pages.new (named.now.page.0
         ∷ []) (named.now.page.0 ∷ [])) }
+    ensures held { OnOk result (P.held pages.new ≡ P.held pages.old) }
     ensures free { OnOk result (P.free pages.new ≡ P.free pages.old) }
     ensures catalog { OnOk result (P.image pages.new catalog_no ≡ P.image pages.old catalog_no) }
     ensures leads { P.leads pages.old pages.new }

@@ -8,9 +8,9 @@ ghost use Rattle.file_index.specs.Changes.{Changes};
 ghost use Rattle.file_index.specs.Index.{IsFilesPage, HasRoot};
 ghost use Rattle.file_index.specs.Nodes.{IsWritten, RemovesLeaf, first_key};
 ghost use Rattle.file_index.specs.Edits.{IsRow, Becomes, HasIndex, EditsIndex, ShrinksTo, take_out};
-ghost use Rattle.file_index.specs.Damage.{IsWayUnder, IsFaultUnder, IsBesideUnder, HasWay, IsRemovalFault};
+ghost use Rattle.file_index.specs.Damage.{IsWayUnder, IsFaultUnder, IsBesideUnder, IsGoneFault, HasWay, IsRemovalFault};
 
-use crate::named::{Named, most_entries};
+use crate::named::{Named, most_entries, no_index_page};
 use crate::nodes::{entries_at, page_buffer, put_index};
 use crate::rows::{place_of, replace_one, replace_two};
 use crate::spreading::{Pair, spread};
@@ -43,6 +43,7 @@ fn write_child<P: Pages>(
     requires ready { P.ready pages.old }
     requires at { at < length entries.old.items }
     requires page { IsFilesPage (P.geometry pages.old) named.now.page.0 }
+    requires held { P.held pages.old named.now.page.0 ≡ true }
     requires level { 1 ≤ named.now.level }
     requires some { 1 ≤ length below.now }
     requires room { length below.now ≤ most_entries (P.geometry pages.old).page_size }
@@ -76,6 +77,21 @@ fn write_child<P: Pages>(
     }
 }
 
+/// Tells an index page as damaged that a removal below it gave back. In a whole index no page stands below itself.
+fn still_held<P: Pages>(pages: &P, named: &Named) -> Result<(), PortFault>
+    requires ready { P.ready pages.now }
+    requires page { IsFilesPage (P.geometry pages.now) named.now.page.0 }
+    ensures held { OnOk result (P.held pages.now named.now.page.0 ≡ true) }
+    ensures gone { IfErr result (λ fault. IsGoneFault (P.held pages.now)
+        named.now.level named.now.least named.now.page.0 fault) }
+    ensures cause { (before now : ℕ) → HasCause before now result }
+{
+    if pages.has(named.page) {
+        return Ok(());
+    }
+    Err(no_index_page(named))
+}
+
 /// Takes a key out from under the entries of an index page of a level, and answers whether they changed.
 fn remove_among<P: Pages>(
     pages: &mut P,
@@ -103,10 +119,10 @@ fn remove_among<P: Pages>(
     ensures sound { IfErr result (λ fault. IsDamage fault → P.tells pages.old
         → IsRow P.Ground pages.old file_no (level - 1) entries.old.items → ⊥) }
     ensures fault { IfErr result (λ fault. P.tells pages.old
-        → IsFaultUnder (P.geometry pages.old) (P.image pages.old) file_no key
-        (level - 1) entries.old.items fault
-        ⊎ IsBesideUnder (P.geometry pages.old) (P.image pages.old) (P.image pages.new) file_no key
-        (level - 1) entries.old.items fault) }
+        → IsFaultUnder (P.geometry pages.old) (P.held pages.old) (P.image pages.old) file_no
+        key (level - 1) entries.old.items fault
+        ⊎ IsBesideUnder (P.geometry pages.old) (P.image pages.old) (P.held pages.new)
+        (P.image pages.new) file_no key (level - 1) entries.old.items fault) }
     ensures way { OnOk result (P.tells pages.old
         → IsWayUnder (P.geometry pages.old) (P.image pages.old) file_no key
         (level - 1) entries.old.items) }
@@ -130,7 +146,7 @@ fn remove_among<P: Pages>(
         Err(fault) => return Err(fault),
     };
     match remove_among(pages, alloc, level - 1, file_no, &mut below, key, buffer) {
-        Ok(true) => {}
+        Ok(true) => still_held(pages, &named)?,
         Ok(false) => return Ok(false),
         Err(fault) => return Err(fault),
     }
@@ -172,8 +188,8 @@ fn remove_below<P: Pages>(
     ensures sound { IfErr result (λ fault. IsDamage fault → P.tells pages.old
         → HasIndex P.Ground pages.old index.now → ⊥) }
     ensures fault { IfErr result (λ fault. P.tells pages.old
-        → IsRemovalFault (P.geometry pages.old) (P.image pages.old)
-        (P.image pages.new) index.now key.0 fault) }
+        → IsRemovalFault (P.geometry pages.old) (P.held pages.old) (P.image pages.old)
+        (P.held pages.new) (P.image pages.new) index.now key.0 fault) }
     ensures way { OnOk result (P.tells pages.old
         → HasWay (P.geometry pages.old) (P.image pages.old) index.now key.0) }
     ensures catalog { OnOk result (P.image pages.new catalog_no ≡ P.image pages.old catalog_no) }
@@ -203,7 +219,7 @@ fn remove_below<P: Pages>(
         key.0,
         &mut buffer,
     ) {
-        Ok(true) => {}
+        Ok(true) => still_held(pages, &named)?,
         Ok(false) => return Ok(*index),
         Err(fault) => return Err(fault),
     }
@@ -238,8 +254,8 @@ pub fn remove<P: Pages>(
     ensures sound { IfErr result (λ fault. IsDamage fault → P.tells pages.old
         → HasIndex P.Ground pages.old index.now → ⊥) }
     ensures fault { IfErr result (λ fault. P.tells pages.old
-        → IsRemovalFault (P.geometry pages.old) (P.image pages.old)
-        (P.image pages.new) index.now key.0 fault) }
+        → IsRemovalFault (P.geometry pages.old) (P.held pages.old) (P.image pages.old)
+        (P.held pages.new) (P.image pages.new) index.now key.0 fault) }
     ensures way { OnOk result (P.tells pages.old
         → HasWay (P.geometry pages.old) (P.image pages.old) index.now key.0) }
     ensures catalog { OnOk result (P.image pages.new catalog_no ≡ P.image pages.old catalog_no) }

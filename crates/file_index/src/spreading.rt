@@ -58,16 +58,16 @@ fn even_out<P: Pages>(
     requires ready { P.ready pages.old }
     requires left { IsFilesPage (P.geometry pages.old) left.now.page.0 }
     requires right { IsFilesPage (P.geometry pages.old) right.now.page.0 }
+    requires held { (P.held pages.old left.now.page.0 ≡ true)
+        × (P.held pages.old right.now.page.0 ≡ true) }
     requires level { 1 ≤ left.now.level }
     requires same { (right.now.level ≡ left.now.level) × (right.now.file_no ≡ left.now.file_no) }
     requires some { 1 ≤ length all.now }
     requires many { length all.now ≤ 2 * most_entries (P.geometry pages.old).page_size }
     requires buffer { length buffer.old ≡ (P.geometry pages.old).page_size }
-    ensures stored { IfOk result (λ second. P.tells pages.old
-        → P.held pages.old left.now.page.0 ≡ true → left.now.page.0 ≢ right.now.page.0
+    ensures stored { IfOk result (λ second. P.tells pages.old → left.now.page.0 ≢ right.now.page.0
         → Stored P.Ground pages.new left.now.page.0 left.now.level left.now.file_no all.now second) }
-    ensures changes { IfOk result (λ second. P.held pages.old right.now.page.0 ≡ true
-        → Changes P.Ground pages.old pages.new (left.now.page.0 ∷ right.now.page.0
+    ensures changes { IfOk result (λ second. Changes P.Ground pages.old pages.new (left.now.page.0 ∷ right.now.page.0
         ∷ []) (left.now.page.0 ∷ heads (entries_of second))) }
     ensures free { OnOk result (P.free pages.old Page ≤ P.free pages.new Page) }
     ensures catalog { OnOk result (P.image pages.new catalog_no ≡ P.image pages.old catalog_no) }
@@ -100,11 +100,11 @@ pub fn spread<P: Pages>(
 ) -> Result<(Entry, Option<Entry>), PortFault>
     requires ready { P.ready pages.old }
     requires page { IsFilesPage (P.geometry pages.old) (thin_of pair.now).page.0 }
+    requires held { P.held pages.old (thin_of pair.now).page.0 ≡ true }
     requires level { 1 ≤ pair.now.level }
     requires many { length thin.items ≤ most_entries (P.geometry pages.old).page_size }
     requires buffer { length buffer.old ≡ (P.geometry pages.old).page_size }
     ensures stored { IfOk result (λ made. P.tells pages.old
-        → P.held pages.old pair.now.left.page.0 ≡ true
         → pair.now.left.page.0 ≢ pair.now.right.page.0
         → Stored P.Ground pages.new pair.now.left.page.0 pair.now.level pair.now.file_no
         (joined pair.now.thin_is_left thin.items
@@ -117,17 +117,17 @@ pub fn spread<P: Pages>(
         → most_entries (P.geometry pages.old).page_size / 2
         ≤ length (joined pair.now.thin_is_left thin.items
         (entries_on (P.image pages.old (beside_of pair.now).page.0)))) }
-    ensures changes { IfOk result (λ made. P.held pages.old pair.now.right.page.0 ≡ true
-        → Changes P.Ground pages.old pages.new (pair.now.left.page.0 ∷ pair.now.right.page.0
+    ensures changes { IfOk result (λ made. Changes P.Ground pages.old pages.new (pair.now.left.page.0 ∷ pair.now.right.page.0
         ∷ []) (pair.now.left.page.0 ∷ heads (entries_of made.1))) }
     ensures free { OnOk result (P.free pages.old Page ≤ P.free pages.new Page) }
     ensures sound { IfErr result (λ fault. IsDamage fault → P.tells pages.old
         → IsFilesPage (P.geometry pages.old) (beside_of pair.now).page.0
+        → P.held pages.old (beside_of pair.now).page.0 ≡ true
         → IsNamed (P.geometry pages.old).page_size
         (P.image pages.old (beside_of pair.now).page.0) pair.now.level pair.now.file_no
         (Some (beside_of pair.now).key) → ⊥) }
     ensures fault { IfErr result (λ fault. P.tells pages.old
-        → IsPageFault (P.geometry pages.old)
+        → IsPageFault (P.geometry pages.old) (P.held pages.new)
         (P.image pages.new (beside_of pair.now).page.0) pair.now.level pair.now.file_no
         (Some (beside_of pair.now).key) (beside_of pair.now).page.0 fault) }
     ensures catalog { OnOk result (P.image pages.new catalog_no ≡ P.image pages.old catalog_no) }

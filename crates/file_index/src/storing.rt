@@ -31,13 +31,13 @@ pub fn store<P: Pages>(
 ) -> Result<Option<Entry>, PortFault>
     requires ready { P.ready pages.old }
     requires page { IsFilesPage (P.geometry pages.old) named.now.page.0 }
+    requires held { P.held pages.old named.now.page.0 ≡ true }
     requires level { 1 ≤ named.now.level }
     requires some { 1 ≤ length entries.now }
     requires room { length entries.now ≤ most_entries (P.geometry pages.old).page_size + 1 }
     requires buffer { length buffer.old ≡ (P.geometry pages.old).page_size }
     requires free { 1 ≤ P.free pages.old Page }
     ensures stored { IfOk result (λ second. P.tells pages.old
-        → P.held pages.old named.now.page.0 ≡ true
         → Stored P.Ground pages.new named.now.page.0 named.now.level named.now.file_no entries.now second) }
     ensures changes { IfOk result (λ second. Changes P.Ground pages.old pages.new (named.now.page.0
         ∷ []) (named.now.page.0 ∷ heads (entries_of second))) }

@@ -2,6 +2,8 @@
 #![tactic(auto)]
 
 mod bytes;
+mod putting;
 mod volume;
 
+pub use putting::put_at;
 pub use volume::MemoryVolume;

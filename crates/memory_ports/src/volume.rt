@@ -196,6 +196,10 @@ impl ReadPages for MemoryVolume {
 }
 
 impl Pages for MemoryVolume {
+    fn has(&self, page: PageNo) -> bool {
+        self.held[page.0 as usize]
+    }
+
     fn put(&mut self, _alloc: Global, page: PageNo, image: &[u8]) -> Result<(), PortFault> {
         let at = page.0 as usize * self.geometry.page_size as usize;
         put_part(&mut self.images, at, image);
@@ -214,6 +218,8 @@ impl Pages for MemoryVolume {
         self.held[page.0 as usize] = false;
         Ok(())
     }
+
+    ghost has_catalog = { λ m is. is.catalog };
 }
 
 impl ReadVolume for MemoryVolume {}

@@ -11,7 +11,7 @@ use Rattle.ex_base.proofs.Keeping.{keeps_refl, keeps_on}
 use Rattle.trees.proofs.Reading.{no_part}
 use Rattle.node_walk.specs.Counts.{AreTracked, CountsMet}
 use Rattle.node_walk.specs.TreesNamed.{ShowsPages}
-use Rattle.node_walk.specs.Walk.{Notes, AreNoted, Walked, CanWalk, level_below, below_least}
+use Rattle.node_walk.specs.Walk.{Notes, AreNoted, Walked, CanWalk, StayUsed, level_below, below_least}
 use Rattle.node_walk.proofs.Counting.{met_more, met_none, row_pages, row_pages-append}
 use Rattle.node_walk.proofs.Levels.{minus_one}
 use Rattle.node_walk.proofs.Steps.{walked_none, walked_more, can_on, can_at}
@@ -24,6 +24,7 @@ module _ {S : Type 0} (p : ground.Ghosts S) where
   pub record WalkSoFar (geo : Geometry) (old now : S) (before units : UnitSet) (known noted : Notes) (level : ℕ) (row : List Part) (i : ℕ) (balanced : Bool) : Type 0 where
     pub kept : Keeps p old now
     pub geometry : units.geometry ≡ before.geometry
+    pub stays : StayUsed before units
     pub tracked : AreTracked geo units noted
     pub walked : p.tells old → (bytes : Units) → ShowsPages geo (p.image old) bytes → AreNoted geo bytes known
         → Walked geo bytes (level_below level) (below_least geo) (take i row) (used_at before) known (used_at units) noted balanced
@@ -34,6 +35,7 @@ module _ {S : Type 0} (p : ground.Ghosts S) where
   walk_start geo old before known level row tracked = record {
     kept = keeps_refl p old;
     geometry = refl;
+    stays = λ unit is. is;
     tracked = tracked;
     walked = λ told bytes shows notes. walked_none geo bytes (level_below level) (below_least geo) (used_at before) known notes;
     counts = λ told bytes shows notes. met_none geo bytes (used_at before) (refs_at before) known tracked.counted.few;
@@ -41,15 +43,16 @@ module _ {S : Type 0} (p : ground.Ghosts S) where
 
   pub walk_more : (geo : Geometry) (old now new : S) (before mid units : UnitSet) (known noted last : Notes) (level : ℕ) (row : List Part) (i : ℕ) (b c r : Bool)
       → i < length row → (r ≡ true → (b ≡ true) × (c ≡ true)) → (r ≡ false → (b ≡ false) ⊎ (c ≡ false))
-      → WalkSoFar geo old now before mid known noted level row i b → Keeps p now new → units.geometry ≡ mid.geometry → AreTracked geo units last
+      → WalkSoFar geo old now before mid known noted level row i b → Keeps p now new → units.geometry ≡ mid.geometry → StayUsed mid units → AreTracked geo units last
       → (p.tells now → (bytes : Units) → ShowsPages geo (p.image now) bytes → AreNoted geo bytes noted
       → Walked geo bytes (level - 1) (below_least geo) (get_or row i no_part ∷ []) (used_at mid) noted (used_at units) last c)
       → (p.tells now → (bytes : Units) → ShowsPages geo (p.image now) bytes → AreNoted geo bytes noted
       → CountsMet geo bytes ((get_or row i no_part).page.0 ∷ []) (used_at mid) (refs_at mid) (used_at units) (refs_at units) last)
       → WalkSoFar geo old new before units known last level row (i + 1) r
-  walk_more geo old now new before mid units known noted last level row i b c r lt holds fails h k same tracked child counted = record {
+  walk_more geo old now new before mid units known noted last level row i b c r lt holds fails h k same stays tracked child counted = record {
     kept = keeps_on p old now new h.kept k;
     geometry = same ∙ h.geometry;
+    stays = λ unit is. stays unit (h.stays unit is);
     tracked = tracked;
     walked = λ told bytes shows notes.
         let front = h.walked told bytes shows notes in

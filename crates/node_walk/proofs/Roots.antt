@@ -23,7 +23,7 @@ use Rattle.ex_base.proofs.Each.{each_as, each_from, each_of}
 use Rattle.volume_model.specs.Parts.{Apart, HasBalance}
 use Rattle.node_walk.specs.TreesNamed.{ShowsPages, AreFree, AreNamed, AreBalanced, UsesTrees}
 use Rattle.node_walk.specs.Counts.{AreCounted, CountsTrees}
-use Rattle.node_walk.specs.Walk.{IsFull}
+use Rattle.node_walk.specs.Walk.{IsFull, StayUsed}
 use Rattle.node_walk.proofs.Counting.{trees_none, trees_more as counts_more}
 use Rattle.node_walk.proofs.Loops.{shows_on}
 use Rattle.node_walk.proofs.Balance.{root_least, full_root, root_full}
@@ -211,6 +211,7 @@ module _ {S : Type 0} (p : ground.Ghosts S) where
   pub record RootsSoFar (geo : Geometry) (old now : S) (before units : UnitSet) (roots : List Root) (i : ℕ) (balanced : Bool) : Type 0 where
     pub kept : Keeps p old now
     pub geometry : units.geometry ≡ before.geometry
+    pub stays : StayUsed before units
     pub counted : AreCounted units
     pub counts : p.tells old → (bytes : Units) → ShowsPages geo (p.image old) bytes
         → CountsTrees geo bytes (root_pages (take i roots)) (used_at before) (refs_at before) (used_at units) (refs_at units)
@@ -220,6 +221,7 @@ module _ {S : Type 0} (p : ground.Ghosts S) where
   roots_start geo old before roots counted = record {
     kept = keeps_refl p old;
     geometry = refl;
+    stays = λ unit is. is;
     counted = counted;
     counts = λ told bytes shows. trees_none geo bytes (used_at before) (refs_at before) counted.few;
     found = λ told bytes shows. trees_start geo bytes roots (used_at before);
@@ -227,13 +229,14 @@ module _ {S : Type 0} (p : ground.Ghosts S) where
 
   pub roots_more : (geo : Geometry) (old now new : S) (before mid units : UnitSet) (roots : List Root) (i : ℕ) (b c r : Bool)
       → i < length roots → (r ≡ true → (b ≡ true) × (c ≡ true)) → (r ≡ false → (b ≡ false) ⊎ (c ≡ false))
-      → RootsSoFar geo old now before mid roots i b → Keeps p now new → units.geometry ≡ mid.geometry → AreCounted units
+      → RootsSoFar geo old now before mid roots i b → Keeps p now new → units.geometry ≡ mid.geometry → StayUsed mid units → AreCounted units
       → (p.tells now → (bytes : Units) → ShowsPages geo (p.image now) bytes → CountsTrees geo bytes (page_here (get_or roots i no_root).page) (used_at mid) (refs_at mid) (used_at units) (refs_at units))
       → (p.tells now → (bytes : Units) → ShowsPages geo (p.image now) bytes → TreeFound geo bytes (get_or roots i no_root) (used_at mid) (used_at units) c)
       → RootsSoFar geo old new before units roots (i + 1) r
-  roots_more geo old now new before mid units roots i b c r lt holds fails h k same counted counts one = record {
+  roots_more geo old now new before mid units roots i b c r lt holds fails h k same stays counted counts one = record {
     kept = keeps_on p old now new h.kept k;
     geometry = same ∙ h.geometry;
+    stays = λ unit is. stays unit (h.stays unit is);
     counted = counted;
     counts = λ told bytes shows.
         let root = get_or roots i no_root in

@@ -4,7 +4,7 @@ use Rattle.std.specs.List.{AllByRecursion}
 use Rattle.ex_base.specs.declared.geometry.Geometry.{Geometry}
 use Rattle.ex_base.specs.Sizes.{leaf_bytes}
 use Rattle.count_nodes.specs.Node.{PairsOf, pairs_on, total_of}
-use Rattle.page_alloc.specs.UnitSet.{UnitSet, refs_at}
+use Rattle.page_alloc.specs.UnitSet.{UnitSet, used_at, refs_at}
 use Rattle.trees.specs.Owners.{StandsAt}
 use Rattle.trees.specs.Trees.{Units, IsNamed}
 use Rattle.trees.specs.declared.rows.Part.{Part}
@@ -122,7 +122,12 @@ abbrev pub Meets : Geometry → Units → ℕ → ℕ → Met → List Part → 
 Meets g units level page met below used known after noted =
     MetAgain level page met below used known after noted ⊎ MetFirst g units level page met below used known after noted
 
--- The references and the geometry of the units stay.
+-- no unit in use is given back
+abbrev pub StayUsed : UnitSet → UnitSet → Type 0
+StayUsed before after = (unit : ℕ) → used_at before unit ≡ true → used_at after unit ≡ true
+
+-- The references and the geometry of the units stay, and no unit in use is given back.
 pub record OnlyUses (before after : UnitSet) : Type 0 where
   pub geometry : after.geometry ≡ before.geometry
+  pub stays : StayUsed before after
   pub refs : refs_at after ≡ refs_at before

@@ -10,6 +10,7 @@ ghost use Rattle.trees.specs.Trees.{Units as Bytes};
 ghost use Rattle.session_views.specs.declared.part.Part.{Part};
 ghost use Rattle.node_walk.specs.Counts.{AreCounted, AreUsed};
 ghost use Rattle.node_walk.specs.TreesNamed.{ShowsPages, AreNamed, AreBalanced, UsesTrees, FailsFirst};
+ghost use Rattle.node_walk.specs.Walk.{StayUsed};
 
 use crate::faults::BAD_BALANCE;
 use crate::tree::walk_tree;
@@ -53,6 +54,7 @@ pub fn walk_trees<P: ReadPages>(
         → IsOwned geometry.now bytes (used_at units.new) (refs_at units.new) logged
         (root_pages roots.now)) }
     ensures counted { OnOk result (AreCounted units.new) }
+    ensures stays { StayUsed units.old units.new }
     ensures geometry { units.new.geometry ≡ units.old.geometry }
 {
     let mut balanced = true;

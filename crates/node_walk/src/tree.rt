@@ -12,6 +12,7 @@ ghost use Rattle.session_views.specs.declared.part.Part.TheVariants.{Node as Nod
 ghost use Rattle.volume_model.specs.Parts.{HasBalance};
 ghost use Rattle.node_walk.specs.Counts.{AreCounted, CountsTrees};
 ghost use Rattle.node_walk.specs.TreesNamed.{ShowsPages, AreFree, UsesTrees};
+ghost use Rattle.node_walk.specs.Walk.{StayUsed};
 
 use crate::least::ROOT_LEAST;
 use crate::notes::TreeNotes;
@@ -58,6 +59,7 @@ pub(crate) fn walk_tree<P: ReadPages>(
         → CountsTrees geometry.now bytes (page_here root.now.page) (used_at units.old)
         (refs_at units.old) (used_at units.new) (refs_at units.new)) }
     ensures counted { OnOk result (AreCounted units.new) }
+    ensures stays { StayUsed units.old units.new }
     ensures geometry { units.new.geometry ≡ units.old.geometry }
 {
     let Some(page) = root.page else {

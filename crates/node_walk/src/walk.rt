@@ -10,7 +10,7 @@ ghost use Rattle.session_views.specs.declared.part.Part.{Part as VolumePart};
 ghost use Rattle.session_views.specs.declared.part.Part.TheVariants.{Node as NodePart};
 ghost use Rattle.node_walk.specs.TreesNamed.{ShowsPages};
 ghost use Rattle.node_walk.specs.Counts.{AreTracked, CountsMet, counted_at};
-ghost use Rattle.node_walk.specs.Walk.{AreNoted, IsKnown, IsFirst, Meets, Walked, CanWalk, OnlyUses};
+ghost use Rattle.node_walk.specs.Walk.{AreNoted, IsKnown, IsFirst, Meets, Walked, CanWalk, OnlyUses, StayUsed};
 
 use crate::faults::{BAD_NODE, open_fault};
 use crate::least::{Least, is_asked, least_below};
@@ -200,6 +200,7 @@ fn meet<P: ReadPages>(
         (refs_at units.new ≡ counted_at (refs_at units.old) page.0) }
     ensures tracked { OnOk result (AreTracked geometry.now units.new (notes_in known.new)) }
     ensures noted { OnOk result (IsKnown (notes_in known.new) page.0) }
+    ensures stays { StayUsed units.old units.new }
     ensures geometry { units.new.geometry ≡ units.old.geometry }
 {
     let node = note(pages, alloc, geometry, units, known, level, page)?;
@@ -242,6 +243,7 @@ pub(crate) fn walk<P: ReadPages>(
         → CountsMet geometry.now bytes (tree.page.0 ∷ []) (used_at units.old) (refs_at units.old)
         (used_at units.new) (refs_at units.new) (notes_in known.new)) }
     ensures tracked { OnOk result (AreTracked geometry.now units.new (notes_in known.new)) }
+    ensures stays { StayUsed units.old units.new }
     ensures geometry { units.new.geometry ≡ units.old.geometry }
 {
     let node = meet(pages, alloc, geometry, units, known, level, tree.page)?;

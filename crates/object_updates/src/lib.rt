@@ -38,7 +38,7 @@ pub enum ObjectUpdate<'a> {
 /// looked a place for from there on, so that the full pages below aren't read again. What is done to the table doesn't depend on it.
 ///
 /// # Errors
-/// `Disk` where the port met a fault of the disk; `Damaged` where a page is not what names it; `Memory` for want of memory, or where a change has no room.
+/// `Disk` where the port met a fault of the disk; `Damaged` where a page is not what names it, or where a change has no room; `Memory` for want of memory.
 pub fn perform<V: Volume>(
     volume: &mut V,
     alloc: Global,

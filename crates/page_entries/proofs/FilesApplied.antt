@@ -6,6 +6,7 @@ use Rattle.std.specs.Ordering.{nat_cmp, is_lt}
 use Rattle.std.specs.Cmp.Lexicographic.{slice_cmp}
 use Rattle.std.proofs.lemmas.List.{append-nil}
 use Rattle.ex_base.specs.Fields.{zeros, number_at}
+use Rattle.ex_base.proofs.Filters.{each_kept}
 use Rattle.object_files.specs.Catalog.{FileEntry, Catalog, IsEntry, IsCatalog, CatalogOf, entry_bytes, headed, catalog_page, number_of}
 use Rattle.object_files.specs.Edits.{IsCatalogPage, numbers_on, entry_inserted}
 use Rattle.object_files.proofs.CatalogLaws.{catalog_read, length-spelled}
@@ -40,14 +41,6 @@ files_here size fields h = here_of size fields h.0 h.1 h.2 h.3
 
 -- ---- each file is in its grammar
 
-each_kept : (p : FileEntry → Bool) (es : List FileEntry) → AllByRecursion IsEntry es → AllByRecursion IsEntry (filter p es)
-each_kept p [] each = tt
-each_kept p (e ∷ es) each = by_test (each_kept p es each.1) (p e)
-  where
-    by_test : AllByRecursion IsEntry (filter p es) → (b : Bool) → AllByRecursion IsEntry (if b then e ∷ filter p es else filter p es)
-    by_test rest true = (each.0, rest)
-    by_test rest false = rest
-
 each_inserted : (e : FileEntry) (es : List FileEntry) → IsEntry e → AllByRecursion IsEntry es → AllByRecursion IsEntry (entry_inserted e es)
 each_inserted e [] one each = (one, tt)
 each_inserted e (f ∷ fs) one each = by_test (each_inserted e fs one each.1) (is_lt (slice_cmp nat_cmp e.name f.name))
@@ -73,7 +66,7 @@ merging old fields c put h page are = record { page = page; are_put = are; same 
 
 pub merged_each : (old fields : List ℕ) (c : Catalog) (put : List FileEntry) → Merging old fields c put → AllByRecursion IsEntry (files_after (removed_read fields) put c.entries)
 merged_each old fields c put m =
-    each_put put (filter (stays (removed_read fields) put) c.entries) m.are_put.fits.entries (each_kept (stays (removed_read fields) put) c.entries m.page.fits.entries)
+    each_put put (filter (stays (removed_read fields) put) c.entries) m.are_put.fits.entries (each_kept IsEntry (stays (removed_read fields) put) c.entries m.page.fits.entries)
 
 pub merged_is : (old fields : List ℕ) (c : Catalog) (put : List FileEntry) → Merging old fields c put → put_catalog (number_at 8 fields 0) (number_at 8 fields 8) (files_after (removed_read fields) put c.entries) ≡ catalog_after_read old fields
 merged_is old fields c put m =

@@ -1,15 +1,16 @@
 -- Loops that compare the files of a catalog with those of another one.
 use Rattle.std.proofs.Common.{◌≡◌, ◌≢◌, ℕ, zero, suc, ◌+◌, ◌<◌, ◌≤◌, Bool, true, false, not, List, [], ◌∷◌, ◌++◌, length, take, map, filter, get_or, Option, Some, None, refl, sym, ap, subst, ◌∙◌, arith, slice_get}
-use Rattle.std.specs.Prelude.{Contains, slice_index_or, bytes_eq, if◌then◌else◌, ◌||◌}
+use Rattle.std.specs.Prelude.{Contains, slice_index_or, bytes_eq, if◌then◌else◌}
 use Rattle.std.specs.Option.{option_map}
-use Rattle.std.specs.List.{flat_map, list_any, AllByRecursion}
+use Rattle.std.specs.List.{flat_map, AllByRecursion}
 use Rattle.std.specs.List.Sorted.{IsPermutation, IsNonDecreasing}
 use Rattle.std.proofs.lemmas.Option.{slice_get_within, slice_get-get_or}
 use Rattle.std.proofs.lemmas.List.{take_more, take_all, append-nil, map-append, length-map}
 use Rattle.std.proofs.lemmas.List.Concat.{flat_map-append}
 use Rattle.std.proofs.lemmas.List.Elements.{filter-append}
 use Rattle.ex_base.specs.Order.{AllDiffer}
-use Rattle.ex_base.proofs.Counts.{contains_times, times_contains, times_permuted, differ_permuted}
+use Rattle.ex_base.proofs.Counts.{contains_permuted, permuted_contains, differ_permuted}
+use Rattle.ex_base.proofs.Filters.{few_kept, in_kept, kept_in, differ_kept, any_more, any_there}
 use Rattle.ex_base.proofs.Members.{in_contains, contains_in, contains_later}
 use Rattle.file_index.specs.Index.{Rises}
 use Rattle.file_index.proofs.Picking.{rising_of}
@@ -17,7 +18,6 @@ use Rattle.object_files.specs.Catalog.{FileEntry, entry_bytes, number_of}
 use Rattle.page_entries.specs.FilesAfter.{has_no}
 use Rattle.page_entries.specs.Rule.{AreGone, has_same, files_changed}
 use Rattle.page_entries.proofs.Listing.{contains_has, has_contains}
-use Rattle.page_entries.proofs.FilesDiffering.{few_kept, in_kept, kept_in}
 
 -- ---- the numbers that are gone
 
@@ -38,14 +38,6 @@ gone_more p es i e xs is passes so_far =
 pub gone_less : (p : ℕ → Bool) (es : List FileEntry) (i : ℕ) (e : FileEntry) (xs : List ℕ) → slice_get es i ≡ Some e → p e.file_no ≡ false → xs ≡ filter p (map number_of (take i es)) → xs ≡ filter p (map number_of (take (i + 1) es))
 gone_less p es i e xs is none so_far =
     so_far ∙ sym (gone_step p es i e is ∙ ap (λ (b : Bool). filter p (map number_of (take i es)) ++ (if b then e.file_no ∷ [] else [])) none ∙ append-nil (filter p (map number_of (take i es))))
-
-differ_kept : (p : ℕ → Bool) (xs : List ℕ) → AllDiffer xs → AllDiffer (filter p xs)
-differ_kept p [] h = tt
-differ_kept p (x ∷ xs) h = by_test (differ_kept p xs h.1) (p x)
-  where
-    by_test : AllDiffer (filter p xs) → (b : Bool) → AllDiffer (if b then x ∷ filter p xs else filter p xs)
-    by_test rest true = (λ here. h.0 (contains_in x xs (in_kept p xs x (in_contains x (filter p xs) here)).0), rest)
-    by_test rest false = rest
 
 -- the numbers don't fall
 abbrev Climbs : List ℕ → Type 0
@@ -70,12 +62,6 @@ all_some : (xs : List ℕ) → AllByRecursion (λ (m : ℕ). 0 ≤ m) xs
 all_some [] = tt
 all_some (x ∷ xs) = (omega arith, all_some xs)
 
-moved : (n : ℕ) (xs ys : List ℕ) → IsPermutation xs ys → Contains xs n → Contains ys n
-moved n xs ys same here = times_contains n ys (omega (arith, times_permuted n xs ys same, contains_times n xs here))
-
-moved_back : (n : ℕ) (xs ys : List ℕ) → IsPermutation xs ys → Contains ys n → Contains xs n
-moved_back n xs ys same here = times_contains n xs (omega (arith, times_permuted n xs ys same, contains_times n ys here))
-
 gone_parts : (new : List FileEntry) (n : ℕ) → is_gone new n ≡ true → Contains (map number_of new) n → ⊥
 gone_parts new n passes here = let clash : not true ≡ true = ap not (sym (contains_has (map number_of new) n here)) ∙ passes in absurd cc
 
@@ -93,9 +79,9 @@ sorted_gone old new i xs ys differ le so_far same climbs =
     record {
       rising = rising_of 0 ys (climbs_rise 0 ys climbs once (all_some ys));
       those = λ n. (
-        λ here. let kept = in_kept (is_gone new) (map number_of old) n (in_contains n (filter (is_gone new) (map number_of old)) (subst (λ (t : List ℕ). Contains t n) all (moved_back n xs ys same here))) in
+        λ here. let kept = in_kept (is_gone new) (map number_of old) n (in_contains n (filter (is_gone new) (map number_of old)) (subst (λ (t : List ℕ). Contains t n) all (permuted_contains n xs ys same here))) in
             (contains_in n (map number_of old) kept.0, gone_parts new n kept.1),
-        λ there. moved n xs ys same (subst (λ (t : List ℕ). Contains t n) (sym all) (contains_in n (filter (is_gone new) (map number_of old)) (kept_in (is_gone new) (map number_of old) n (in_contains n (map number_of old) there.0) (gone_test new n there.1)))),
+        λ there. contains_permuted n xs ys same (subst (λ (t : List ℕ). Contains t n) (sym all) (contains_in n (filter (is_gone new) (map number_of old)) (kept_in (is_gone new) (map number_of old) n (in_contains n (map number_of old) there.0) (gone_test new n there.1)))),
       );
     }
 
@@ -109,27 +95,6 @@ few_gone old new i xs le so_far =
 mapped : (o : Option FileEntry) (b : List ℕ) → option_map entry_bytes o ≡ Some b → (e : FileEntry) × (o ≡ Some e) × (entry_bytes e ≡ b)
 mapped None b is = absurd cc
 mapped (Some e) b is = (e, refl, cc)
-
-any_more : (p : FileEntry → Bool) (es : List FileEntry) (e : FileEntry) → list_any p es ≡ false → list_any p (es ++ e ∷ []) ≡ p e
-any_more p [] e none = by_test (p e)
-  where
-    by_test : (b : Bool) → (b || false) ≡ b
-    by_test true = refl
-    by_test false = refl
-any_more p (x ∷ es) e none = by_test (λ rest. any_more p es e rest) (p x) none
-  where
-    by_test : (list_any p es ≡ false → list_any p (es ++ e ∷ []) ≡ p e) → (b : Bool) → (b || list_any p es) ≡ false → (b || list_any p (es ++ e ∷ [])) ≡ p e
-    by_test go true none = absurd cc
-    by_test go false none = go none
-
-any_there : (p : FileEntry → Bool) (es : List FileEntry) (i : ℕ) (e : FileEntry) → slice_get es i ≡ Some e → p e ≡ true → true ≡ list_any p es
-any_there p [] i e is passes = absurd cc
-any_there p (x ∷ es) zero e is passes = let same : x ≡ e = cc in sym (ap (λ (b : Bool). b || list_any p es) (ap p same ∙ passes))
-any_there p (x ∷ es) (suc i) e is passes = by_test (any_there p es i e is passes) (p x)
-  where
-    by_test : true ≡ list_any p es → (b : Bool) → true ≡ (b || list_any p es)
-    by_test rest true = refl
-    by_test rest false = rest
 
 pub same_here : (es : List FileEntry) (i : ℕ) (b s : List ℕ) (t : Bool) → option_map entry_bytes (slice_get es i) ≡ Some b → t ≡ bytes_eq b s → t ≡ true → true ≡ has_same es s
 same_here es i b s t there test is =

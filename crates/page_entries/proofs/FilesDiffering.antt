@@ -1,5 +1,5 @@
 -- The files that differ: their changes have a spelling, and give the new catalog.
-use Rattle.std.proofs.Common.{◌≡◌, ℕ, suc, ◌+◌, ◌*◌, ◌≤◌, inl, inr, Bool, true, false, not, List, [], ◌∷◌, ◌++◌, length, map, filter, refl, sym, ap, subst, ◌∙◌, arith}
+use Rattle.std.proofs.Common.{◌≡◌, ℕ, ◌+◌, ◌*◌, ◌≤◌, inl, inr, Bool, true, false, not, List, [], ◌∷◌, ◌++◌, length, map, filter, refl, sym, ap, subst, ◌∙◌, arith}
 use Rattle.std.specs.Prelude.{Contains, ◌&&◌, ◌||◌, bytes_eq, if◌then◌else◌}
 use Rattle.std.specs.List.{AllByRecursion}
 use Rattle.std.specs.Ordering.{nat_cmp, is_lt, ordering_reverse}
@@ -10,6 +10,7 @@ use Rattle.ex_base.specs.Order.{RisingTexts, AllDiffer}
 use Rattle.ex_base.proofs.Booleans.{same_bytes, bytes_test}
 use Rattle.ex_base.proofs.Lists.{texts_tail}
 use Rattle.ex_base.proofs.Each.{each_as}
+use Rattle.ex_base.proofs.Filters.{each_kept, few_kept, in_kept, kept_in}
 use Rattle.ex_base.proofs.Members.{In, in_contains, contains_in, of_each, each_in}
 use Rattle.file_index.specs.Index.{Rises}
 use Rattle.file_index.proofs.Picking.{rises_of}
@@ -78,46 +79,12 @@ same_ordered (x ∷ a) (y ∷ b) one two to back =
 
 -- ---- some of the files
 
-pub each_kept : (P : FileEntry → Type 0) (p : FileEntry → Bool) (es : List FileEntry) → AllByRecursion P es → AllByRecursion P (filter p es)
-each_kept P p [] each = tt
-each_kept P p (e ∷ es) each = by_test (each_kept P p es each.1) (p e)
-  where
-    by_test : AllByRecursion P (filter p es) → (b : Bool) → AllByRecursion P (if b then e ∷ filter p es else filter p es)
-    by_test rest true = (each.0, rest)
-    by_test rest false = rest
-
 kept_ordered : (p : FileEntry → Bool) (es : List FileEntry) → Ordered es → Ordered (filter p es)
 kept_ordered p [] h = tt
 kept_ordered p (e ∷ es) h = by_test (kept_ordered p es h.1) (p e)
   where
     by_test : Ordered (filter p es) → (b : Bool) → Ordered (if b then e ∷ filter p es else filter p es)
     by_test rest true = (each_kept (Before e) p es h.0, rest)
-    by_test rest false = rest
-
-pub few_kept : {A : Type 0} (p : A → Bool) (es : List A) → length (filter p es) ≤ length es
-few_kept p [] = omega arith
-few_kept p (e ∷ es) = by_test (few_kept p es) (p e)
-  where
-    by_test : length (filter p es) ≤ length es → (b : Bool) → length (if b then e ∷ filter p es else filter p es) ≤ suc (length es)
-    by_test rest true = omega (arith, rest)
-    by_test rest false = omega (arith, rest)
-
-pub in_kept : {A : Type 0} (p : A → Bool) (es : List A) (x : A) → In x (filter p es) → In x es × (p x ≡ true)
-in_kept p [] x h = absurd h
-in_kept p (e ∷ es) x h = by_test (λ later. in_kept p es x later) (p e) refl h
-  where
-    by_test : (In x (filter p es) → In x es × (p x ≡ true)) → (b : Bool) → p e ≡ b → In x (if b then e ∷ filter p es else filter p es) → In x (e ∷ es) × (p x ≡ true)
-    by_test go true is (inl same) = (inl same, ap p same ∙ is)
-    by_test go true is (inr later) = let rest = go later in (inr rest.0, rest.1)
-    by_test go false is later = let rest = go later in (inr rest.0, rest.1)
-
-pub kept_in : {A : Type 0} (p : A → Bool) (es : List A) (x : A) → In x es → p x ≡ true → In x (filter p es)
-kept_in p [] x h passes = absurd h
-kept_in p (e ∷ es) x (inl same) passes = subst (λ (b : Bool). In x (if b then e ∷ filter p es else filter p es)) (sym passes ∙ ap p same) (inl same)
-kept_in p (e ∷ es) x (inr later) passes = by_test (kept_in p es x later passes) (p e)
-  where
-    by_test : In x (filter p es) → (b : Bool) → In x (if b then e ∷ filter p es else filter p es)
-    by_test rest true = inr rest
     by_test rest false = rest
 
 -- ---- their numbers
@@ -145,9 +112,9 @@ one_number (e ∷ es) a b differ (inl p) (inr q) same = absurd (differ.0 (subst 
 one_number (e ∷ es) a b differ (inr p) (inl q) same = absurd (differ.0 (subst (Contains (map number_of es)) (same ∙ ap number_of q) (number_in a es p)))
 one_number (e ∷ es) a b differ (inr p) (inr q) same = one_number es a b differ.1 p q same
 
-differ_kept : (p : FileEntry → Bool) (es : List FileEntry) → AllDiffer (map number_of es) → AllDiffer (map number_of (filter p es))
-differ_kept p [] h = tt
-differ_kept p (e ∷ es) h = by_test (differ_kept p es h.1) (p e)
+numbers_kept : (p : FileEntry → Bool) (es : List FileEntry) → AllDiffer (map number_of es) → AllDiffer (map number_of (filter p es))
+numbers_kept p [] h = tt
+numbers_kept p (e ∷ es) h = by_test (numbers_kept p es h.1) (p e)
   where
     by_test : AllDiffer (map number_of (filter p es)) → (b : Bool) → AllDiffer (map number_of (if b then e ∷ filter p es else filter p es))
     by_test rest true = (
@@ -283,7 +250,7 @@ put_fits size p c h = record {
   last = h.last;
   entries = each_kept IsEntry p c.entries h.entries;
   sorted = in_order (filter p c.entries) (kept_ordered p c.entries (ordered c.entries h.sorted));
-  numbers = differ_kept p c.entries h.numbers;
+  numbers = numbers_kept p c.entries h.numbers;
   room = omega (arith, h.room, few_kept p c.entries);
   page = h.page;
 }

@@ -11,4 +11,3 @@ pub mod SlotsDiffering
 pub mod FilesDiffering
 pub mod FilesCompared
 pub mod RuleLaws
-pub mod Pushing

@@ -10,18 +10,10 @@ use Rattle.ex_base.specs.Area.{InPageArea}
 use Rattle.ex_base.specs.Ports.{times}
 use Rattle.ex_base.proofs.Counts.{contains_times, times_contains, times_flat}
 use Rattle.ex_base.proofs.Each.{each_as}
-use Rattle.node_walk.specs.Counts.{AreUsed}
 use Rattle.trees.specs.Owners.{IsInner, IsOwned, StandsAt, named_on, page_here, root_pages}
 use Rattle.trees.specs.Trees.{Units}
 use Rattle.trees.proofs.Released.{each_kept, stands_kept}
 use Rattle.volume_model.specs.Volume.{Stored, root_in, roots_in}
-
--- the used units, by how often they stand in a list
-pub used_times : (used : ℕ → Bool) (pages : List ℕ) → ((page : ℕ) → (used page ≡ true) ↔ Contains pages page) → AreUsed used pages
-used_times used pages is page = (
-  λ yes. contains_times page pages ((is page).0 yes),
-  λ some. (is page).1 (times_contains page pages some),
-)
 
 -- ---- roots in another order
 

@@ -76,6 +76,7 @@ read_session s groups left is = record {
   meta = is.meta;
   units = is.units;
   pages = is.pages;
+  in_use = is.in_use;
   room = is.room;
   sizes = left.sizes s.geometry.page_size is.sizes;
   main = omega (arith, is.main, left.count);

@@ -2,7 +2,6 @@
 use Rattle.std.proofs.Common.{◌≡◌, ◌∙◌, ⊎_elim, ℕ, Bool, true, false, List, [], ◌∷◌, ◌++◌, All, Option, Some, None, nat_eq, sym, ap, subst, inl, inr, length, ◌≤◌, arith}
 use Rattle.std.specs.Prelude.{Contains, unwrap_or}
 use Rattle.std.specs.Map.{lookup}
-use Rattle.std.proofs.lemmas.List.Elements.{Contains-append_left}
 use Rattle.std.proofs.lemmas.Bool.{both_ways}
 use Rattle.ex_base.specs.declared.geometry.Geometry.{Geometry}
 use Rattle.ex_base.specs.declared.ground.Ground as ground
@@ -81,15 +80,12 @@ module _ {S : Type 0} (g : ground.Ghosts S) (s : S) {a : Outside} {before : View
     used = λ u has. ap (λ (f : ℕ → Bool). f u) over.used ∙ used_before u (subst (λ (us : List ℕ). Contains ((catalog_no ∷ file_pages working) ++ us) u) trees_before has);
   }
 
-  held_used : (page : ℕ) → is_held before.session.pages page ≡ true → used_at before.session.units page ≡ true
-  held_used page held = used_before page (Contains-append_left (catalog_no ∷ file_pages working) (trees_in O working) page ((now.shows.logged.held page).0 held))
-
   -- ---- after it
 
   module _ (t : S) {b : Outside} (p : PortParts) (moved : Moved a b before.session.geometry (parts_held before.session) p) (later_over : IsPortWith g t before.session.geometry b.disk p) where
     pub in_use_after : AreInUse g t
     in_use_after page held =
-        ap (λ (f : ℕ → Bool). f page) later_over.used ∙ moved.in_use page (held_used page) (sym (ap (λ (f : ℕ → Bool). f page) later_over.held) ∙ held)
+        ap (λ (f : ℕ → Bool). f page) later_over.used ∙ moved.ready.in_use page (sym (ap (λ (f : ℕ → Bool). f page) later_over.held) ∙ held)
 
     nothing_over : (page : ℕ) → is_held p.pages page ≡ false → image_at p.meta page ≡ None
     nothing_over page off = no_image (lookup (nat_eq page) p.meta.working) (lookup (nat_eq page) p.meta.committed)

@@ -17,7 +17,7 @@ use Rattle.commits.specs.Room.{IsLogged}
 use Rattle.volume_port.specs.Logged.{LoggedSet, is_held}
 use Rattle.table_model.specs.Machines.{updates_most, touched_most}
 use Rattle.tree_store.specs.Stored.{InRest, NoUnit}
-use Rattle.session_core.specs.Sessions.{SessionState, IsSession, IsTracked, HasWork, TakenBack}
+use Rattle.session_core.specs.Sessions.{SessionState, ArePagesUsed, IsSession, IsTracked, HasWork, TakenBack}
 use Rattle.std.specs.Prelude.{Result, Ok, Err, IfOk, is_ok}
 use Rattle.ex_base.specs.declared.faults.PortFault.{PortFault}
 use Rattle.ex_base.specs.declared.names.Oid.{Oid}
@@ -34,7 +34,7 @@ use Rattle.object_files.specs.Reads.{catalog_on}
 use Rattle.object_files.proofs.CatalogLaws.{catalog_read}
 use Rattle.volume_model.specs.Shown.{WorkingRow}
 use Rattle.session_core.proofs.Sessions.{number_left}
-use Rattle.session_core.proofs.Tracking.{counted_gives, tracked_back}
+use Rattle.session_core.proofs.Tracking.{counted_gives, tracked_back, used_back}
 
 -- a port may be made over the parts of a session
 pub session_ready : (s : SessionState) (size : ℕ) → IsSession s → volume_bytes s.geometry ≤ size → AreReady s.geometry size (parts_held s)
@@ -45,6 +45,7 @@ session_ready s size is room = record {
   taken_len = is.pages.taken_len;
   room_len = is.room;
   catalog = is.pages.catalog;
+  in_use = is.in_use.working;
   images = is.pages.images;
   gone = is.pages.gone;
   taken = is.pages.taken;
@@ -71,6 +72,9 @@ module _ {a b : Outside} (s : SessionState) (p : PortParts) (is : IsSession s) (
     untouched = λ page held none. let was = moved.untouched page (held, none) in is.pages.untouched page was.0 was.1;
   }
 
+  used_moved : ArePagesUsed (used_at p.units) p.pages s.kept
+  used_moved = record { working = moved.ready.in_use; committed = λ page flag. moved.fixed page (is.in_use.committed page flag) }
+
   logged_moved : IsLogged s.log p.meta
   logged_moved =
       let size = ap (λ (g : Geometry). g.page_size) (is.meta ∙ sym moved.ready.overlay) in
@@ -87,6 +91,7 @@ module _ {a b : Outside} (s : SessionState) (p : PortParts) (is : IsSession s) (
     meta = moved.ready.overlay;
     units = moved.ready.fits.counted;
     pages = tracked_moved;
+    in_use = used_moved;
     room = moved.ready.room_len;
     sizes = moved.ready.fits.frames;
     main = moved.ready.fits.group;
@@ -108,6 +113,7 @@ module _ {a b : Outside} (s : SessionState) (p : PortParts) (is : IsSession s) (
     meta = moved.ready.overlay;
     units = counted_gives s.geometry _ p.units units moved.ready.fits.counted back.units;
     pages = tracked_back s.geometry p.meta.working p.pages s.kept tracked_moved pages p.units units back;
+    in_use = used_back s.geometry p.meta.working p.pages s.kept tracked_moved pages p.units units back used_moved;
     room = moved.ready.room_len;
     sizes = moved.ready.fits.frames;
     main = moved.ready.fits.group;
@@ -150,6 +156,7 @@ with_room s room same is = record {
   meta = is.meta;
   units = is.units;
   pages = is.pages;
+  in_use = is.in_use;
   room = same ∙ is.room;
   sizes = is.sizes;
   main = is.main;

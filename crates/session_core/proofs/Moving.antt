@@ -17,28 +17,32 @@ abbrev pub parts : UnitSet → List Frames → Overlays → LoggedSet → List �
 parts units groups meta pages room = record { units = units; groups = groups; meta = meta; pages = pages; room = room }
 
 module _ {S : Type 0} (g : ground.Ghosts S) where
-  pub ready_of : (store : S) (geometry : Geometry) (size : ℕ) (p : PortParts) → g.geometry store ≡ geometry → g.ready store → AreReady geometry size p → IsReady g store p.meta p.pages p.room
-  ready_of store geometry size p same is are = record {
+  pub ready_of : (store : S) (geometry : Geometry) (size : ℕ) (p : PortParts) → g.geometry store ≡ geometry → g.used store ≡ used_at p.units → g.ready store → AreReady geometry size p
+      → IsReady g store p.meta p.pages p.room
+  ready_of store geometry size p same used is are = record {
     ready = is;
     overlay = are.overlay ∙ sym same;
     held_len = are.held_len ∙ ap area_end (sym same);
     taken_len = are.taken_len ∙ ap area_end (sym same);
     room_len = are.room_len ∙ ap (λ (h : Geometry). h.page_size) (sym same);
     catalog = are.catalog;
+    in_use = λ page. subst (λ (us : ℕ → _). IsUsed us p.pages page) (sym used) (are.in_use page);
     images = are.images;
     gone = are.gone;
     taken = are.taken;
     there = are.there;
   }
 
-  pub are_ready : (store : S) (geometry : Geometry) (size : ℕ) (p : PortParts) → g.geometry store ≡ geometry → Fits geometry size p.groups 0 p.units → IsReady g store p.meta p.pages p.room → AreReady geometry size p
-  are_ready store geometry size p same fits is = record {
+  pub are_ready : (store : S) (geometry : Geometry) (size : ℕ) (p : PortParts) → g.geometry store ≡ geometry → g.used store ≡ used_at p.units → Fits geometry size p.groups 0 p.units
+      → IsReady g store p.meta p.pages p.room → AreReady geometry size p
+  are_ready store geometry size p same used fits is = record {
     fits = fits;
     overlay = is.overlay ∙ same;
     held_len = is.held_len ∙ ap area_end same;
     taken_len = is.taken_len ∙ ap area_end same;
     room_len = is.room_len ∙ ap (λ (h : Geometry). h.page_size) same;
     catalog = is.catalog;
+    in_use = λ page. subst (λ (us : ℕ → _). IsUsed us p.pages page) used (is.in_use page);
     images = is.images;
     gone = is.gone;
     taken = is.taken;
@@ -54,16 +58,15 @@ module _ {S : Type 0} (g : ground.Ghosts S) where
     changes = frees.changes;
     told = frees.told;
     fixed = λ unit fixed. subst (λ (used : ℕ → _). IsFixed NoUnit used l.now unit) is (moves.fixed unit (subst (λ (used : ℕ → _). IsFixed NoUnit used k.now unit) (sym was) fixed));
-    in_use = λ page used. subst (λ (us : ℕ → _). IsUsed us l.now page) is (moves.held page (λ none. none) (subst (λ (us : ℕ → _). IsUsed us k.now page) (sym was) used));
     given_back = moves.given_back;
     untouched = moves.untouched;
     committed = moves.committed;
     ready =
-        are_ready b x (outside e.now).size (parts v.now h.now n.now l.now t.now) (now ∙ frees.geometry)
+        are_ready b x (outside e.now).size (parts v.now h.now n.now l.now t.now) (now ∙ frees.geometry) is
         (subst (λ (z : Geometry). Fits z (outside e.now).size h.now 0 v.now) frees.geometry
         (subst (λ (q : ℕ). Fits y (outside e.now).size h.now q v.now) (frees.index ∙ main)
         (frees.fits (subst (λ (q : ℕ). Fits x (outside d.now).size f.now q u.now) (sym main) are.fits))))
-        (moves.ready (ready_of a x (outside d.now).size (parts u.now f.now m.now k.now r.now) at ready are));
+        (moves.ready (ready_of a x (outside d.now).size (parts u.now f.now m.now k.now r.now) at was ready are));
   }
 
 -- as the parts are before and after the borrow

@@ -43,6 +43,7 @@ other_frames s groups disk keeps behind is = record {
   meta = is.meta;
   units = is.units;
   pages = is.pages;
+  in_use = is.in_use;
   room = is.room;
   sizes = keeps.sizes s.geometry.page_size is.sizes;
   main = omega (arith, is.main, keeps.len);

@@ -16,10 +16,10 @@ use Rattle.object_files.specs.Reads.{catalog_on}
 use Rattle.table_model.specs.Machines.{updates_most, touched_most, no_oid}
 use Rattle.table_model.specs.Steps.{note}
 use Rattle.volume_model.specs.Shown.{WorkingRow}
-use Rattle.session_core.specs.Sessions.{SessionState, IsSession, IsTracked, HasWork, Settled, begun}
+use Rattle.session_core.specs.Sessions.{SessionState, IsSession, IsTracked, HasWork, Settled, TakenBack, begun}
 use Rattle.volume_port.specs.Logged.{LoggedSet}
 use Rattle.page_alloc.specs.UnitSet.{UnitSet}
-use Rattle.session_core.proofs.Tracking.{tracked_put, tracked_settled, counted_gives}
+use Rattle.session_core.proofs.Tracking.{tracked_back, tracked_put, tracked_settled, used_back, used_settled, counted_gives}
 use Rattle.commits.specs.Room.{IsLogged, HasCatalog, AreBehindLog}
 use Rattle.buffer_groups.specs.Frames.{Frames}
 use Rattle.ex_base.specs.declared.geometry.Geometry.{Geometry}
@@ -44,6 +44,7 @@ works_on s rows notes opened meta is same few_rows few each rising work tracked 
   meta = is.meta;
   units = is.units;
   pages = tracked;
+  in_use = is.in_use;
   room = is.room;
   sizes = is.sizes;
   main = is.main;
@@ -177,6 +178,7 @@ after_commit s edited page log meta later kept pages units notes names is same l
       meta = left.meta_is ∙ left.edit ∙ is.meta;
       units = counted_gives s.geometry _ s.units units is.units settled.units;
       pages = subst (λ (none : List WorkingRow). IsTracked s.geometry none pages kept) (sym left.none) tracked;
+      in_use = used_settled s.geometry rows s.pages s.kept (tracked_put s.geometry s.meta.working s.pages s.kept is.pages page) kept pages s.units units settled is.in_use;
       room = is.room;
       sizes = subst (λ (g : Geometry). All (λ (f : Frames). f.page_size ≡ g.page_size) later) (left.edit ∙ is.meta) left.sizes;
       main = omega (arith, is.main, left.len);
@@ -189,3 +191,29 @@ after_commit s edited page log meta later kept pages units notes names is same l
       work = λ opened. absurd (cc);
       idle = λ _. left.none;
     }
+
+-- ---- after an abort
+
+pub after_abort : (s : SessionState) (meta : Overlays) (pages : LoggedSet) (units : UnitSet) (notes : List OpNote) (names : List BoundName) → IsSession s → meta ≡ record s.meta { working = [] }
+    → TakenBack s.meta.working s.kept s.pages pages s.units units → notes ≡ []
+    → IsSession (record s { meta = meta; pages = pages; units = units; notes = notes; names = names; opened = false })
+after_abort s meta pages units notes names is same back none =
+    subst (λ (m : Overlays). IsSession (record s { meta = m; pages = pages; units = units; notes = notes; names = names; opened = false })) (sym same)
+    (subst (λ (l : List OpNote). IsSession (record s { meta = record s.meta { working = [] }; pages = pages; units = units; notes = l; names = names; opened = false })) (sym none) (record {
+      log = is.log;
+      meta = is.meta;
+      units = counted_gives s.geometry _ s.units units is.units back.units;
+      pages = tracked_back s.geometry s.meta.working s.pages s.kept is.pages pages s.units units back;
+      in_use = used_back s.geometry s.meta.working s.pages s.kept is.pages pages s.units units back is.in_use;
+      room = is.room;
+      sizes = is.sizes;
+      main = is.main;
+      logged = record { images = is.logged.images; none = is.logged.none };
+      behind = is.behind;
+      few_notes = omega arith;
+      notes = tt;
+      few_pages = omega arith;
+      in_order = tt;
+      work = λ opened. absurd (cc);
+      idle = λ _. refl;
+    }))

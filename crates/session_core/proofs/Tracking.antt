@@ -6,12 +6,12 @@ use Rattle.ex_base.specs.declared.geometry.Geometry.{Geometry}
 use Rattle.ex_base.specs.Area.{catalog_no}
 use Rattle.ex_base.proofs.Options.{some_apart_inside}
 use Rattle.meta_pages.specs.Rows.{with_row}
-use Rattle.page_alloc.specs.UnitSet.{UnitSet}
+use Rattle.page_alloc.specs.UnitSet.{UnitSet, used_at}
 use Rattle.tree_store.specs.Stored.{IsCounted}
 use Rattle.volume_model.specs.Shown.{WorkingRow}
 use Rattle.volume_port.specs.Logged.{LoggedSet, is_held, is_taken}
 use Rattle.volume_port.proofs.WorkingRows.{put_here, put_other, put_touches}
-use Rattle.session_core.specs.Sessions.{IsTracked, OnlyGives, Settled, TakenBack, is_kept}
+use Rattle.session_core.specs.Sessions.{ArePagesUsed, IsTracked, OnlyGives, Settled, TakenBack, is_kept}
 
 some_none : (x : Option (List ℕ)) → Some x ≡ None → ⊥
 some_none x e = cc
@@ -104,6 +104,15 @@ module _ (g : Geometry) (rows : List WorkingRow) (pages : LoggedSet) (kept : Lis
       untouched = λ p held none. sym (held_back p) ∙ held;
     }
 
+    -- a page that is there again is one of the committed state, which stayed used
+    pub used_back : ArePagesUsed (used_at u) pages kept → ArePagesUsed (used_at v) new kept
+    used_back was =
+        let stays : (p : ℕ) → is_kept kept p ≡ true → used_at v p ≡ true = λ p flag. let fixed = was.committed p flag in back.units.stays p fixed.in_use fixed.not_taken in
+        record {
+          working = λ p held. stays p (sym (held_back p) ∙ held);
+          committed = λ p flag. record { in_use = stays p flag; not_taken = none_taken_back p; stays = λ none. none };
+        }
+
   -- ---- a commit
 
   module _ (now : List Bool) (new : LoggedSet) (u v : UnitSet) (done : Settled rows kept now pages new u v) where
@@ -142,6 +151,15 @@ module _ (g : Geometry) (rows : List WorkingRow) (pages : LoggedSet) (kept : Lis
       known = λ p flag. inl (held_settled p ∙ sym (kept_settled p) ∙ flag);
       untouched = λ p held none. kept_settled p ∙ sym (held_settled p) ∙ held;
     }
+
+    -- a page that is there was not given back
+    pub used_settled : ArePagesUsed (used_at u) pages kept → ArePagesUsed (used_at v) new now
+    used_settled was =
+        let stays : (p : ℕ) → is_held pages p ≡ true → used_at v p ≡ true = λ p held. done.units.stays p (was.working p held) (λ (gone, flag). both_ways _ (is.gone p gone) held) in
+        record {
+          working = λ p held. stays p (sym (held_settled p) ∙ held);
+          committed = λ p flag. record { in_use = stays p (sym (kept_settled p) ∙ flag); not_taken = none_taken_settled p; stays = λ none. none };
+        }
 
 pub counted_gives : (g : Geometry) (stays : ℕ → Type 0) (u v : UnitSet) → IsCounted g u → OnlyGives stays u v → IsCounted g v
 counted_gives g stays u v is gives = record {

@@ -11,7 +11,7 @@ use Rattle.op_log.specs.Records.{IsNote}
 use Rattle.op_log.specs.State.{LogState}
 use Rattle.buffer_groups.specs.Frames.{Frames}
 use Rattle.page_alloc.specs.UnitSet.{UnitSet, used_at, refs_at, free_count}
-use Rattle.tree_store.specs.Stored.{IsCounted}
+use Rattle.tree_store.specs.Stored.{IsCounted, NoUnit}
 use Rattle.meta_pages.specs.Overlays.{Overlays}
 use Rattle.object_files.specs.Edits.{IsCatalogPage}
 use Rattle.object_files.specs.Reads.{catalog_on}
@@ -21,6 +21,7 @@ use Rattle.table_model.specs.Machines.{updates_most, touched_most, kept, no_oid}
 use Rattle.table_model.specs.Steps.{note}
 use Rattle.volume_model.specs.Shown.{Held, WorkingRow}
 use Rattle.volume_port.specs.Logged.{LoggedSet, is_held, is_taken}
+use Rattle.volume_port.specs.Ported.{IsFixed, IsUsed}
 use Rattle.commits.specs.Room.{IsLogged, AreBehindLog}
 
 -- the value of a session: its parts, the logged pages of the working state and of the committed one, a page that the port lends, the notes of the open
@@ -142,13 +143,19 @@ pub record IsTracked (g : Geometry) (rows : List WorkingRow) (pages : LoggedSet)
   pub known : (page : ℕ) → is_kept kept page ≡ true → (is_held pages page ≡ true) ⊎ (lookup (nat_eq page) rows ≡ Some None)
   pub untouched : (page : ℕ) → is_held pages page ≡ true → lookup (nat_eq page) rows ≡ None → is_kept kept page ≡ true
 
--- What holds of every session: its parts are of one geometry, and `main` is among the groups; log, overlay and frames are such that a commit can be
--- made; an open transaction is within its limits, and has a working catalog. Without one no page is touched.
+-- Each page of the working state is used. Each of the committed state is too, and the transaction did not take it: none is given back before a commit.
+pub record ArePagesUsed (used : ℕ → Bool) (pages : LoggedSet) (kept : List Bool) : Type 0 where
+  pub working : (page : ℕ) → IsUsed used pages page
+  pub committed : (page : ℕ) → is_kept kept page ≡ true → IsFixed NoUnit used pages page
+
+-- What holds of every session: its parts are of one geometry, and `main` is among the groups; its logged pages are used; log, overlay and frames are such
+-- that a commit can be made; an open transaction is within its limits, and has a working catalog. Without one no page is touched.
 pub record IsSession (s : SessionState) : Type 0 where
   pub log : s.log.geometry ≡ s.geometry
   pub meta : s.meta.geometry ≡ s.geometry
   pub units : IsCounted s.geometry s.units
   pub pages : IsTracked s.geometry s.meta.working s.pages s.kept
+  pub in_use : ArePagesUsed (used_at s.units) s.pages s.kept
   pub room : length s.room ≡ s.geometry.page_size
   pub sizes : All (λ (f : Frames). f.page_size ≡ s.geometry.page_size) s.groups
   pub main : 0 < length s.groups

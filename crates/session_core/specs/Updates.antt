@@ -41,8 +41,8 @@ pub record PortParts : Type 0 where
   pub pages : LoggedSet
   pub room : List ℕ
 
--- The parts are of one geometry, the disk has room for its volume, and no frame is of the superblock or the log. The working state has the catalog; of
--- the touched pages it has just those with an image, and each page that the transaction took is one of them.
+-- The parts are of one geometry, the disk has room for its volume, and no frame is of the superblock or the log. The working state has the catalog, and
+-- each page that it has is used; of the touched pages it has just those with an image, and each page that the transaction took is one of them.
 pub record AreReady (g : Geometry) (disk_size : ℕ) (p : PortParts) : Type 0 where
   pub fits : Fits g disk_size p.groups 0 p.units
   pub overlay : p.meta.geometry ≡ g
@@ -50,6 +50,7 @@ pub record AreReady (g : Geometry) (disk_size : ℕ) (p : PortParts) : Type 0 wh
   pub taken_len : length p.pages.taken ≡ area_end g
   pub room_len : length p.room ≡ g.page_size
   pub catalog : is_held p.pages catalog_no ≡ true
+  pub in_use : (page : ℕ) → IsUsed (used_at p.units) p.pages page
   pub images : (page : ℕ) (image : List ℕ) → lookup (nat_eq page) p.meta.working ≡ Some (Some image) → is_held p.pages page ≡ true
   pub gone : (page : ℕ) → lookup (nat_eq page) p.meta.working ≡ Some None → is_held p.pages page ≡ false
   pub taken : (page : ℕ) → is_taken p.pages page ≡ true → IsSome (lookup (nat_eq page) p.meta.working)
@@ -61,7 +62,6 @@ pub record Moved (a b : Outside) (g : Geometry) (old new : PortParts) : Type 0 w
   pub changes : ChangesWithin (InRest g (used_at old.units) (IsLoose NoUnit (used_at old.units) old.pages)) a b
   pub told : Tells a old.groups → Tells b new.groups
   pub fixed : (unit : ℕ) → IsFixed NoUnit (used_at old.units) old.pages unit → IsFixed NoUnit (used_at new.units) new.pages unit
-  pub in_use : (page : ℕ) → IsUsed (used_at old.units) old.pages page → IsUsed (used_at new.units) new.pages page
   pub given_back : (page : ℕ) → IsKnown old.meta old.pages page → is_held new.pages page ≡ false → lookup (nat_eq page) new.meta.working ≡ Some None
   pub untouched : (page : ℕ) → IsUntouched new.meta new.pages page → IsUntouched old.meta old.pages page
   pub committed : new.meta.committed ≡ old.meta.committed

@@ -63,7 +63,7 @@ fn swap<V: Volume>(
     ensures { V.leads volume.old volume.new }
 {
     let mut bytes = copy_of(volume, alloc, page)?;
-    if at >= bytes.len() {
+    if at >= bytes.len() || !volume.has(page) {
         return Err("no byte")?;
     }
     let was = bytes[at];
@@ -167,6 +167,37 @@ fn a_damaged_index_page_is_told(rt: HostRuntime) -> Result<(), Fail> {
     Ok(())
 }
 
+/// Gives back a page that is still named.
+fn give_back<V: Volume>(volume: &mut V, alloc: Global, page: PageNo) -> Result<(), Fail>
+    requires { V.ready volume.old }
+    ensures { V.leads volume.old volume.new }
+{
+    if !volume.in_area(page) || page == PageNo::CATALOG {
+        return Err("no page")?;
+    }
+    volume.give_page(alloc, page)?;
+    Ok(())
+}
+
+#[test]
+fn an_index_page_that_is_gone_is_told_where_it_is_to_be_written(
+    rt: HostRuntime,
+) -> Result<(), Fail> {
+    let alloc = rt.alloc();
+    let geometry = Geometry::make(PAGE as u32, 1000, 0, 1, 2).map_err(|_| "geometry")?;
+    let volume = &mut MemoryVolume::make(alloc, &geometry)?;
+    let index = &hundred_pages(volume, alloc)?;
+    let below = first_child(volume, alloc, index.root.ok_or("no root")?)?;
+    give_back(volume, alloc, below)?;
+    assert_eq!(rt; look(volume, alloc, index)?, None);
+    let want = seen(6, 1, u64::from(FIRST_PAGE));
+    assert_eq!(rt;
+        take(volume, alloc, index)?,
+        damaged(below, want, Seen::NOTHING)
+    );
+    Ok(())
+}
+
 /// What a look for the first body of a file tells.
 fn first<V: ReadVolume>(
     volume: &mut V,
@@ -233,6 +264,26 @@ fn a_damaged_page_of_a_file_is_told(rt: HostRuntime) -> Result<(), Fail> {
         told,
         damaged(PageNo::CATALOG, seen(4, 0, 0), Seen::NOTHING)
     );
+    Ok(())
+}
+
+#[test]
+fn a_page_of_a_file_that_is_gone_is_told_where_it_is_to_be_written(
+    rt: HostRuntime,
+) -> Result<(), Fail> {
+    let alloc = rt.alloc();
+    let geometry = Geometry::make(PAGE as u32, 1000, 0, 1, 2).map_err(|_| "geometry")?;
+    let volume = &mut MemoryVolume::make(alloc, &geometry)?;
+    write_catalog(volume, alloc)?;
+    let place_of_body = crate::bodies::put(volume, alloc, &mut Room::of_file(FILE), 10, 1)?.place;
+    let page = place_of_body.page;
+    give_back(volume, alloc, page)?;
+    assert_eq!(rt; first(volume, alloc, FILE)?, None);
+    let told = damaged(page, seen(3, 0, u64::from(FILE)), Seen::NOTHING);
+    assert_eq!(rt; place(volume, alloc)?, told);
+    let told = damaged(page, seen(4, 0, 0), Seen::NOTHING);
+    assert_eq!(rt; change_body(volume, alloc, place_of_body, b"x").err(), told);
+    assert_eq!(rt; remove_from_file(volume, alloc, place_of_body).err(), told);
     Ok(())
 }
 

@@ -6,7 +6,7 @@ ghost use Rattle.page_alloc.specs.UnitSet.{refs_at};
 use count_nodes::Pair;
 use count_nodes::write::write_node;
 use ex_base::{Geometry, OBJECT_MOST, PageNo, ReadVolume, Root, Volume};
-use memory_ports::MemoryVolume;
+use memory_ports::{MemoryVolume, put_at};
 use node_walk::walk_trees;
 use page_alloc::Units;
 use session_views::{OpenFault, Part};
@@ -266,7 +266,9 @@ fn put_node<V: Volume>(
     }
     let mut image = vec![in alloc; 0u8; size]?;
     write_node(level, pairs, &mut image);
-    volume.put(alloc, page, &image)?;
+    if !put_at(volume, alloc, page, &image)? {
+        return Err("no page for the node")?;
+    }
     Ok(())
 }
 

@@ -5,7 +5,7 @@ ghost use Rattle.memory_ports.specs.InMemory.{IsVolume};
 use crate::images::{Image, Root, catalog, file_page, index_page};
 use ex_base::{Geometry, PageNo, ReadVolume, Volume};
 use file_walk::{WalkedFiles, has_good_numbers, walk_files};
-use memory_ports::MemoryVolume;
+use memory_ports::{MemoryVolume, put_at};
 use object_files::CatalogView;
 use page_alloc::Units;
 use session_views::{OpenFault, Part};
@@ -49,10 +49,9 @@ fn put<V: Volume>(volume: &mut V, alloc: Global, page: u32, image: &Image) -> Re
     requires { V.ready volume.old }
     ensures { V.leads volume.old volume.new }
 {
-    if !volume.in_area(PageNo(page)) || volume.page_size() != 512 {
+    if !put_at(volume, alloc, PageNo(page), image)? {
         return Err("no page")?;
     }
-    volume.put(alloc, PageNo(page), image)?;
     Ok(())
 }
 

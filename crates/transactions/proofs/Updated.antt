@@ -45,6 +45,7 @@ renamed s names is = record {
   meta = is.meta;
   units = is.units;
   pages = is.pages;
+  in_use = is.in_use;
   room = is.room;
   sizes = is.sizes;
   main = is.main;

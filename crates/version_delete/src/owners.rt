@@ -7,9 +7,8 @@ ghost use Rattle.trees.specs.Counted.{HasCounts};
 ghost use Rattle.version_delete.specs.Released.{AreApart, Gives, Released, Blames};
 ghost use Rattle.trees.specs.Damage.{IsLeafFault, root_row};
 
-use crate::count_blocks::CountBlocks;
 use crate::steps::Steps;
-use ex_base::{PageNo, PortFault, ROOT_LEAST, Root};
+use ex_base::{CountBlocks, PageNo, PortFault, ROOT_LEAST, Root};
 use std::alloc::Global;
 use std::sync::ledger::Ledger;
 use trees::{Part, names_node, no_leaf, no_node, row_of};

@@ -1,5 +1,5 @@
 -- What a call on versions tells, from what the calls below it tell.
-use Rattle.std.proofs.Common.{◌≡◌, ℕ, List, Some, sym, ap, subst, ◌∙◌}
+use Rattle.std.proofs.Common.{◌≡◌, ℕ, Bool, List, Some, sym, ap, subst, ◌∙◌}
 use Rattle.ex_base.specs.declared.faults.Seen.{Seen}
 use Rattle.ex_base.specs.declared.faults.PortFault.{PortFault}
 use Rattle.ex_base.specs.declared.faults.PortFault.TheVariants.{Disk, Memory, Damaged}
@@ -25,15 +25,15 @@ use Rattle.versions.proofs.Standing.{large_content}
 damage_is : (at : PageNo) (want got : Seen) (place : Place) → at ≡ place.page → want ≡ record_seen place.slot → got ≡ nothing_seen → Damaged at want got ≡ record_fault place
 damage_is at want got place a w g = cc
 
-pub place_bytes : (geo : Geometry) (units : Units) (bytes : List ℕ) (place : Place) (oid : Oid) (root : Root) (fault : PortFault) → place ≡ place_of oid → IsPlaceFault geo bytes place fault → IsBytesFault geo units oid root fault
-place_bytes geo units bytes place oid root Disk at h = ports_own (λ damage. damage)
-place_bytes geo units bytes place oid root Memory at h = ports_own (λ damage. damage)
-place_bytes geo units bytes place oid root (Damaged page want got) at h = unlike (damage_is page want got place h.0 h.1 h.2 ∙ ap record_fault at)
+pub place_bytes : (geo : Geometry) (units : Units) (held : ℕ → Bool) (bytes : List ℕ) (place : Place) (oid : Oid) (root : Root) (fault : PortFault) → place ≡ place_of oid → IsPlaceFault geo held bytes place fault → IsBytesFault geo units oid root fault
+place_bytes geo units held bytes place oid root Disk at h = ports_own (λ damage. damage)
+place_bytes geo units held bytes place oid root Memory at h = ports_own (λ damage. damage)
+place_bytes geo units held bytes place oid root (Damaged page want got) at h = unlike (damage_is page want got place h.0 h.1 h.2 ∙ ap record_fault at)
 
-pub place_put : (geo : Geometry) (bytes : List ℕ) (place : Place) (root : Root) (fault : PortFault) → IsPlaceFault geo bytes place fault → IsPutFault geo place root fault
-place_put geo bytes place root Disk h = ports (λ damage. damage)
-place_put geo bytes place root Memory h = ports (λ damage. damage)
-place_put geo bytes place root (Damaged page want got) h = no_place (damage_is page want got place h.0 h.1 h.2)
+pub place_put : (geo : Geometry) (held : ℕ → Bool) (bytes : List ℕ) (place : Place) (root : Root) (fault : PortFault) → IsPlaceFault geo held bytes place fault → IsPutFault geo place root fault
+place_put geo held bytes place root Disk h = ports (λ damage. damage)
+place_put geo held bytes place root Memory h = ports (λ damage. damage)
+place_put geo held bytes place root (Damaged page want got) h = no_place (damage_is page want got place h.0 h.1 h.2)
 
 pub put_bytes : (geo : Geometry) (units : Units) (place : Place) (oid : Oid) (made root : Root) (fault : PortFault) → place ≡ place_of oid → IsPutFault geo place made fault → IsBytesFault geo units oid root fault
 put_bytes geo units place oid made root fault at (ports never) = ports_own never

@@ -28,15 +28,6 @@ pub err_of : {X E : Type 0} (r : Result X E) (P : E → Type 0) → ((e : E) →
 err_of (Ok x) P p = tt
 err_of (Err e) P p = p e
 
--- what two facts on a value that is there make
-pub if_some_both : {X : Type 0} (o : Option X) (P Q : X → Type 0) → ((x : X) → P x → Q x) → IfSome o P → IfSome o Q
-if_some_both None P Q f p = tt
-if_some_both (Some x) P Q f p = f x p
-
-pub some_both : {X : Type 0} (o : Option X) (P Q R : X → Type 0) → ((x : X) → P x → Q x → R x) → IfSome o P → IfSome o Q → IfSome o R
-some_both None P Q R f p q = tt
-some_both (Some x) P Q R f p q = f x p q
-
 pub at_this : {A : Type 0} (o : Option A) (x : A) (P : A → Type 0) → o ≡ Some x → P x → IfSome o P
 at_this o x P is p = subst (λ (q : Option _). IfSome q P) (sym is) p
 

@@ -40,8 +40,8 @@ pub fn create<V: Volume>(
         → HasFile V.Ground volume.old index → index.file_no ≡ room.old.file_no → ⊥) }
     ensures fault { IfErr result (λ fault. V.tells volume.old
         → IsListedFault (V.image volume.old) room.old.file_no
-        (λ index. IsPlacingFault (V.geometry volume.old) (V.image volume.old) index
-        (start_of room.old 36) fault) fault) }
+        (λ index. IsPlacingFault (V.geometry volume.old) (V.held volume.old)
+        (V.image volume.old) index (start_of room.old 36) fault) fault) }
     ensures leads { V.leads volume.old volume.new }
     ensures cause { HasCause (V.faults volume.old) (V.faults volume.new) result }
 {

@@ -40,8 +40,8 @@ pub fn destroy<V: Volume>(volume: &mut V, alloc: Global, oid: &Oid) -> Result<()
         → (index : Index) (content : Content) (bytes : List ℕ)
         → HasVersion V.Ground volume.old index oid.now content bytes → ⊥) }
     ensures fault { IfErr result (λ fault. V.tells volume.old
-        → IsDestroyingFault (V.geometry volume.old) (V.image volume.old)
-        (V.image volume.new) oid.now fault) }
+        → IsDestroyingFault (V.geometry volume.old) (V.held volume.old) (V.image volume.old)
+        (V.held volume.new) (V.image volume.new) oid.now fault) }
     ensures leads { V.leads volume.old volume.new }
     ensures cause { HasCause (V.faults volume.old) (V.faults volume.new) result }
 {

@@ -131,7 +131,8 @@ fn put_small_by<V: Volume>(
     ensures sound { IfErr result (λ fault. IsDamage fault → V.tells volume.old
         → (index : Index) (was : List ℕ) → HasBody V.Ground volume.old index place was → ⊥) }
     ensures fault { IfErr result (λ fault. V.tells volume.old
-        → IsPlaceFault (V.geometry volume.old) (V.image volume.old place.page.0) place fault) }
+        → IsPlaceFault (V.geometry volume.old) (V.held volume.old)
+        (V.image volume.old place.page.0) place fault) }
     ensures leads { V.leads volume.old volume.new }
     ensures cause { HasCause (V.faults volume.old) (V.faults volume.new) result }
 {
@@ -161,7 +162,8 @@ fn put_small<V: Volume>(
     ensures sound { IfErr result (λ fault. IsDamage fault → V.tells volume.old
         → (index : Index) (was : List ℕ) → HasBody V.Ground volume.old index place was → ⊥) }
     ensures fault { IfErr result (λ fault. V.tells volume.old
-        → IsPlaceFault (V.geometry volume.old) (V.image volume.old place.page.0) place fault) }
+        → IsPlaceFault (V.geometry volume.old) (V.held volume.old)
+        (V.image volume.old place.page.0) place fault) }
     ensures leads { V.leads volume.old volume.new }
     ensures cause { HasCause (V.faults volume.old) (V.faults volume.new) result }
 {

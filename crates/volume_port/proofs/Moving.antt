@@ -15,7 +15,7 @@ use Rattle.page_alloc.specs.UnitSet.{UnitSet, used_at, refs_at, updated}
 use Rattle.tree_store.proofs.Taking.{differ_used, updated_other}
 use Rattle.tree_store.specs.Stored.{IsCounted, NoUnit}
 use Rattle.volume_port.specs.Logged.{LoggedSet, is_held, is_taken}
-use Rattle.volume_port.specs.Ported.{IsReady, IsLoose, Moves, IsUntouched, unchanged}
+use Rattle.volume_port.specs.Ported.{IsReady, IsLoose, IsUsed, Moves, IsUntouched, unchanged}
 use Rattle.volume_port.proofs.WorkingRows.{put_here, put_other, put_touches}
 
 -- ---- the flags of pages
@@ -38,6 +38,10 @@ module _ (k l : LoggedSet) (page : ℕ) (held taken : Bool) (is : l ≡ record {
 
   taken_long : length l.taken ≡ length k.taken
   taken_long = ap (λ (s : LoggedSet). length s.taken) is ∙ length-set k.taken page taken
+
+-- a page that is free is none that the working state has
+pub free_apart : (used : ℕ → Bool) (k : LoggedSet) (page : ℕ) → ((p : ℕ) → IsUsed used k p) → used page ≡ false → is_held k page ≡ false
+free_apart used k page in_use free = ⊎_elim (λ held. absurd (both_ways _ free (in_use page held))) (λ apart. apart) (cases_Bool (is_held k page))
 
 -- ---- the working images
 
@@ -72,8 +76,9 @@ IsTakenPage k page unit = (unit ≡ page) × (is_taken k page ≡ true)
 
 module _ {S : Type 0} (g : ground.Ghosts S) where
   -- the store alone moved on
-  store_ready : (freed : ℕ → Type 0) (a b : S) (m : Overlays) (k : LoggedSet) (r s : List ℕ) → length s ≡ length r → g.frees freed a b → IsReady g a m k r → IsReady g b m k s
-  store_ready freed a b m k r s long x is =
+  store_ready : (freed : ℕ → Type 0) (a b : S) (m : Overlays) (k : LoggedSet) (r s : List ℕ) → length s ≡ length r → g.frees freed a b → ((p : ℕ) → IsUsed (g.used a) k p → IsUsed (g.used b) k p)
+      → IsReady g a m k r → IsReady g b m k s
+  store_ready freed a b m k r s long x uses is =
       let same = g.frees_geometry freed a b x in
       record {
         ready = g.frees_ready freed a b x is.ready;
@@ -82,26 +87,32 @@ module _ {S : Type 0} (g : ground.Ghosts S) where
         taken_len = is.taken_len ∙ sym (ap area_end same);
         room_len = long ∙ is.room_len ∙ sym (ap (λ (h : Geometry). h.page_size) same);
         catalog = is.catalog;
+        in_use = λ page. uses page (is.in_use page);
         images = is.images;
         gone = is.gone;
         taken = is.taken;
         there = is.there;
       }
 
-  pub store_moves : (freed : ℕ → Type 0) (a b : S) (m : MutBor Overlays) (k : MutBor LoggedSet) (r t : MutBor (List ℕ)) → t.ghost_name ≡ r.ghost_name → length t.now ≡ length r.now
-      → g.frees freed a b → ((p : ℕ) → g.used a p ≡ true → (freed p → ⊥) → g.used b p ≡ true) → Moves g freed a b m m k k r t
-  store_moves freed a b m k r t name long x used = record {
+  -- units were given back, none of which is a page that the working state has
+  pub store_frees : (freed : ℕ → Type 0) (a b : S) (m : MutBor Overlays) (k : MutBor LoggedSet) (r t : MutBor (List ℕ)) → t.ghost_name ≡ r.ghost_name → length t.now ≡ length r.now
+      → g.frees freed a b → ((p : ℕ) → g.used a p ≡ true → (freed p → ⊥) → g.used b p ≡ true) → ((p : ℕ) → is_held k.now p ≡ true → freed p → ⊥) → Moves g freed a b m m k k r t
+  store_frees freed a b m k r t name long x used apart = record {
     store = g.frees_more freed (IsLoose freed (g.used a) k.now) (λ unit freed is. is.stays freed) a b x;
     meta = refl;
     pages = refl;
     room = name;
     fixed = λ unit is. record { in_use = used unit is.in_use is.stays; not_taken = is.not_taken; stays = is.stays };
-    held = λ page stays is held. used page (is held) stays;
     given_back = λ page known now. unchanged m.now k.now page known now;
     untouched = λ page is. is;
     committed = refl;
-    ready = store_ready freed a b m.now k.now r.now t.now long x;
+    ready = store_ready freed a b m.now k.now r.now t.now long x (λ page is held. used page (is held) (apart page held));
   }
+
+  -- no unit was given back
+  pub store_moves : (a b : S) (m : MutBor Overlays) (k : MutBor LoggedSet) (r t : MutBor (List ℕ)) → t.ghost_name ≡ r.ghost_name → length t.now ≡ length r.now
+      → g.frees NoUnit a b → ((p : ℕ) → g.used a p ≡ true → (NoUnit p → ⊥) → g.used b p ≡ true) → Moves g NoUnit a b m m k k r t
+  store_moves a b m k r t name long x used = store_frees NoUnit a b m k r t name long x used (λ p held none. none)
 
   -- a working image was changed
   meta_ready : (a : S) (m n : Overlays) (k : LoggedSet) (r : List ℕ) (page : ℕ) (x : List ℕ) → is_held k page ≡ true → n ≡ record m { working = with_row page (Some x) m.working } → IsReady g a m k r → IsReady g a n k r
@@ -112,6 +123,7 @@ module _ {S : Type 0} (g : ground.Ghosts S) where
     taken_len = is.taken_len;
     room_len = is.room_len;
     catalog = is.catalog;
+    in_use = is.in_use;
     images = λ p image row. ⊎_elim
         (λ (here : p ≡ page). ap (is_held k) here ∙ there)
         (λ (differ : p ≢ page). is.images p image (sym (row_other m n page (Some x) changed p differ) ∙ row)) (cases_eq p page);
@@ -130,7 +142,6 @@ module _ {S : Type 0} (g : ground.Ghosts S) where
     pages = refl;
     room = refl;
     fixed = λ unit is. is;
-    held = λ p stays is. is;
     given_back = λ p known now. ⊎_elim
         (λ (here : p ≡ page). absurd (both_ways _ now (ap (is_held k.now) here ∙ there)))
         (λ (differ : p ≢ page). row_other m.now n.now page (Some x) changed p differ ∙ unchanged m.now k.now p known now) (cases_eq p page);
@@ -142,9 +153,9 @@ module _ {S : Type 0} (g : ground.Ghosts S) where
   -- a page was taken, or given back: its flags and its working image were changed
   flags_ready : (freed : ℕ → Type 0) (a b : S) (m n : Overlays) (k l : LoggedSet) (r : List ℕ) (page : ℕ) (v : Option (List ℕ)) (held taken : Bool) → page ≢ catalog_no → page < length k.held
       → ((x : List ℕ) → v ≡ Some x → held ≡ true) → (v ≡ None → held ≡ false) → (taken ≡ true → held ≡ true) → g.frees freed a b
-      → n ≡ record m { working = with_row page v m.working } → l ≡ record { held = slice_set k.held page held; taken = slice_set k.taken page taken }
+      → ((p : ℕ) → IsUsed (g.used a) k p → IsUsed (g.used b) l p) → n ≡ record m { working = with_row page v m.working } → l ≡ record { held = slice_set k.held page held; taken = slice_set k.taken page taken }
       → IsReady g a m k r → IsReady g b n l r
-  flags_ready freed a b m n k l r page v held taken other inside some none both x changed set is =
+  flags_ready freed a b m n k l r page v held taken other inside some none both x uses changed set is =
       let same = g.frees_geometry freed a b x in
       let flag = held_here k l page held taken set inside in
       let in_taken : page < length k.taken = subst (λ n. page < n) (is.held_len ∙ sym is.taken_len) inside in
@@ -156,6 +167,7 @@ module _ {S : Type 0} (g : ground.Ghosts S) where
         taken_len = taken_long k l page held taken set ∙ is.taken_len ∙ sym (ap area_end same);
         room_len = is.room_len ∙ sym (ap (λ (h : Geometry). h.page_size) same);
         catalog = held_other k l page held taken set catalog_no (λ here. other (sym here)) ∙ is.catalog;
+        in_use = λ p. uses p (is.in_use p);
         images = λ p image has. ⊎_elim
             (λ (here : p ≡ page). ap (is_held l) here ∙ flag ∙ some image (inner v (Some image) (sym row ∙ ap (λ q. lookup (nat_eq q) n.working) (sym here) ∙ has)))
             (λ (differ : p ≢ page). held_other k l page held taken set p differ ∙ is.images p image (sym (row_other m n page v changed p differ) ∙ has)) (cases_eq p page);
@@ -174,51 +186,51 @@ module _ {S : Type 0} (g : ground.Ghosts S) where
       → g.leads a b → g.used a page ≡ false → g.used b page ≡ true → ((p : ℕ) → p ≢ page → g.used b p ≡ g.used a p)
       → n.now ≡ record m.now { working = with_row page (Some x) m.now.working } → l.now ≡ record { held = slice_set k.now.held page true; taken = slice_set k.now.taken page true }
       → Moves g NoUnit a b m n k l r r
-  take_moves a b m n k l r page x meta pages other inside leads free used others changed set = record {
-    store = g.frees_leads (IsLoose NoUnit (g.used a) k.now) a b leads;
-    meta = meta;
-    pages = pages;
-    room = refl;
-    fixed = λ unit is.
-        let differ : unit ≢ page = λ same. both_ways _ (ap (g.used a) same ∙ free) is.in_use in
-        record { in_use = others unit differ ∙ is.in_use; not_taken = taken_other k.now l.now page true true set unit differ ∙ is.not_taken; stays = is.stays };
-    held = λ p stays is held. ⊎_elim (λ (here : p ≡ page). ap (g.used b) here ∙ used)
-        (λ (differ : p ≢ page). others p differ ∙ is (sym (held_other k.now l.now page true true set p differ) ∙ held)) (cases_eq p page);
-    given_back = λ p known now. ⊎_elim
-        (λ (here : p ≡ page). absurd (both_ways _ now (ap (is_held l.now) here ∙ held_here k.now l.now page true true set inside)))
-        (λ (differ : p ≢ page). row_other m.now n.now page (Some x) changed p differ ∙ unchanged m.now k.now p known (sym (held_other k.now l.now page true true set p differ) ∙ now)) (cases_eq p page);
-    untouched = untouched_before m.now n.now page (Some x) changed k.now l.now (λ p differ. held_other k.now l.now page true true set p differ);
-    committed = ap (λ (o : Overlays). o.committed) changed;
-    ready = flags_ready NoUnit a b m.now n.now k.now l.now r.now page (Some x) true true other inside (λ y is. refl) (λ is. absurd (some_apart x is)) (λ is. refl) (g.frees_leads NoUnit a b leads) changed set;
-  }
+  take_moves a b m n k l r page x meta pages other inside leads free used others changed set =
+      let uses : (p : ℕ) → IsUsed (g.used a) k.now p → IsUsed (g.used b) l.now p = λ p is held. ⊎_elim (λ (here : p ≡ page). ap (g.used b) here ∙ used)
+      (λ (differ : p ≢ page). others p differ ∙ is (sym (held_other k.now l.now page true true set p differ) ∙ held)) (cases_eq p page) in record {
+        store = g.frees_leads (IsLoose NoUnit (g.used a) k.now) a b leads;
+        meta = meta;
+        pages = pages;
+        room = refl;
+        fixed = λ unit is.
+            let differ : unit ≢ page = λ same. both_ways _ (ap (g.used a) same ∙ free) is.in_use in
+            record { in_use = others unit differ ∙ is.in_use; not_taken = taken_other k.now l.now page true true set unit differ ∙ is.not_taken; stays = is.stays };
+        given_back = λ p known now. ⊎_elim
+            (λ (here : p ≡ page). absurd (both_ways _ now (ap (is_held l.now) here ∙ held_here k.now l.now page true true set inside)))
+            (λ (differ : p ≢ page). row_other m.now n.now page (Some x) changed p differ ∙ unchanged m.now k.now p known (sym (held_other k.now l.now page true true set p differ) ∙ now)) (cases_eq p page);
+        untouched = untouched_before m.now n.now page (Some x) changed k.now l.now (λ p differ. held_other k.now l.now page true true set p differ);
+        committed = ap (λ (o : Overlays). o.committed) changed;
+        ready = flags_ready NoUnit a b m.now n.now k.now l.now r.now page (Some x) true true other inside (λ y is. refl) (λ is. absurd (some_apart x is)) (λ is. refl) (g.frees_leads NoUnit a b leads) uses changed set;
+      }
 
   pub give_moves : (a b : S) (m n : MutBor Overlays) (k l : MutBor LoggedSet) (r : MutBor (List ℕ)) (page : ℕ) → n.ghost_name ≡ m.ghost_name → l.ghost_name ≡ k.ghost_name → page ≢ catalog_no
       → page < length k.now.held → page < length k.now.taken
       → g.frees (IsTakenPage k.now page) a b → (is_taken k.now page ≡ false → g.used b page ≡ g.used a page) → ((p : ℕ) → p ≢ page → g.used b p ≡ g.used a p)
       → n.now ≡ record m.now { working = with_row page None m.now.working } → l.now ≡ record { held = slice_set k.now.held page false; taken = slice_set k.now.taken page false }
       → Moves g NoUnit a b m n k l r r
-  give_moves a b m n k l r page meta pages other in_held in_taken x kept others changed set = record {
-    store = g.frees_more (IsTakenPage k.now page) (IsLoose NoUnit (g.used a) k.now) (λ unit freed is. both_ways _ (sym (ap (is_taken k.now) freed.0) ∙ is.not_taken) freed.1) a b x;
-    meta = meta;
-    pages = pages;
-    room = refl;
-    fixed = λ unit is. ⊎_elim
-        (λ (here : unit ≡ page). record {
-          in_use = ap (g.used b) here ∙ kept (sym (ap (is_taken k.now) here) ∙ is.not_taken) ∙ sym (ap (g.used a) here) ∙ is.in_use;
-          not_taken = ap (is_taken l.now) here ∙ taken_here k.now l.now page false false set in_taken;
-          stays = is.stays;
-        })
-        (λ (differ : unit ≢ page). record { in_use = others unit differ ∙ is.in_use; not_taken = taken_other k.now l.now page false false set unit differ ∙ is.not_taken; stays = is.stays }) (cases_eq unit page);
-    held = λ p stays is held. ⊎_elim
-        (λ (here : p ≡ page). absurd (both_ways _ (ap (is_held l.now) here ∙ held_here k.now l.now page false false set in_held) held))
-        (λ (differ : p ≢ page). others p differ ∙ is (sym (held_other k.now l.now page false false set p differ) ∙ held)) (cases_eq p page);
-    given_back = λ p known now. ⊎_elim
-        (λ (here : p ≡ page). ap (λ q. lookup (nat_eq q) n.now.working) here ∙ row_here m.now n.now page None changed)
-        (λ (differ : p ≢ page). row_other m.now n.now page None changed p differ ∙ unchanged m.now k.now p known (sym (held_other k.now l.now page false false set p differ) ∙ now)) (cases_eq p page);
-    untouched = untouched_before m.now n.now page None changed k.now l.now (λ p differ. held_other k.now l.now page false false set p differ);
-    committed = ap (λ (o : Overlays). o.committed) changed;
-    ready = flags_ready (IsTakenPage k.now page) a b m.now n.now k.now l.now r.now page None false false other in_held (λ y is. absurd (some_apart y (sym is))) (λ is. refl) (λ is. is) x changed set;
-  }
+  give_moves a b m n k l r page meta pages other in_held in_taken x kept others changed set =
+      let uses : (p : ℕ) → IsUsed (g.used a) k.now p → IsUsed (g.used b) l.now p = λ p is held. ⊎_elim
+      (λ (here : p ≡ page). absurd (both_ways _ (ap (is_held l.now) here ∙ held_here k.now l.now page false false set in_held) held))
+      (λ (differ : p ≢ page). others p differ ∙ is (sym (held_other k.now l.now page false false set p differ) ∙ held)) (cases_eq p page) in record {
+        store = g.frees_more (IsTakenPage k.now page) (IsLoose NoUnit (g.used a) k.now) (λ unit freed is. both_ways _ (sym (ap (is_taken k.now) freed.0) ∙ is.not_taken) freed.1) a b x;
+        meta = meta;
+        pages = pages;
+        room = refl;
+        fixed = λ unit is. ⊎_elim
+            (λ (here : unit ≡ page). record {
+              in_use = ap (g.used b) here ∙ kept (sym (ap (is_taken k.now) here) ∙ is.not_taken) ∙ sym (ap (g.used a) here) ∙ is.in_use;
+              not_taken = ap (is_taken l.now) here ∙ taken_here k.now l.now page false false set in_taken;
+              stays = is.stays;
+            })
+            (λ (differ : unit ≢ page). record { in_use = others unit differ ∙ is.in_use; not_taken = taken_other k.now l.now page false false set unit differ ∙ is.not_taken; stays = is.stays }) (cases_eq unit page);
+        given_back = λ p known now. ⊎_elim
+            (λ (here : p ≡ page). ap (λ q. lookup (nat_eq q) n.now.working) here ∙ row_here m.now n.now page None changed)
+            (λ (differ : p ≢ page). row_other m.now n.now page None changed p differ ∙ unchanged m.now k.now p known (sym (held_other k.now l.now page false false set p differ) ∙ now)) (cases_eq p page);
+        untouched = untouched_before m.now n.now page None changed k.now l.now (λ p differ. held_other k.now l.now page false false set p differ);
+        committed = ap (λ (o : Overlays). o.committed) changed;
+        ready = flags_ready (IsTakenPage k.now page) a b m.now n.now k.now l.now r.now page None false false other in_held (λ y is. absurd (some_apart y (sym is))) (λ is. refl) (λ is. is) x uses changed set;
+      }
 
 -- ---- the units
 

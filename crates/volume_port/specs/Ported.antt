@@ -19,8 +19,12 @@ in_pages g page = not (nat_lt page catalog_no) && nat_lt page (area_end g)
 abbrev pub image_over : Geometry → Overlays → (ℕ → List ℕ) → ℕ → List ℕ
 image_over g meta unit page = if in_pages g page then unwrap_or (image_at meta page) (unit page) else []
 
--- The store is ready, and all parts are of its geometry. The working state has the catalog. Of the touched pages it has just those with an image;
--- each page that the transaction took is one of them, and is there.
+-- a page that the working state has is used
+abbrev pub IsUsed : (ℕ → Bool) → LoggedSet → ℕ → Type 0
+IsUsed used pages page = is_held pages page ≡ true → used page ≡ true
+
+-- The store is ready, and all parts are of its geometry. The working state has the catalog, and each page that it has is used. Of the touched pages it
+-- has just those with an image; each page that the transaction took is one of them, and is there.
 pub record IsReady {S : Type 0} (g : ground.Ghosts S) (store : S) (meta : Overlays) (pages : LoggedSet) (room : List ℕ) : Type 0 where
   pub ready : g.ready store
   pub overlay : meta.geometry ≡ g.geometry store
@@ -28,6 +32,7 @@ pub record IsReady {S : Type 0} (g : ground.Ghosts S) (store : S) (meta : Overla
   pub taken_len : length pages.taken ≡ area_end (g.geometry store)
   pub room_len : length room ≡ (g.geometry store).page_size
   pub catalog : is_held pages catalog_no ≡ true
+  pub in_use : (page : ℕ) → IsUsed (g.used store) pages page
   pub images : (page : ℕ) (image : List ℕ) → lookup (nat_eq page) meta.working ≡ Some (Some image) → is_held pages page ≡ true
   pub gone : (page : ℕ) → lookup (nat_eq page) meta.working ≡ Some None → is_held pages page ≡ false
   pub taken : (page : ℕ) → is_taken pages page ≡ true → IsSome (lookup (nat_eq page) meta.working)
@@ -42,10 +47,6 @@ pub record IsFixed (freed : ℕ → Type 0) (used : ℕ → Bool) (pages : Logge
 -- any other
 abbrev pub IsLoose : (ℕ → Type 0) → (ℕ → Bool) → LoggedSet → ℕ → Type 0
 IsLoose freed used pages unit = IsFixed freed used pages unit → ⊥
-
--- a page that the working state has is used
-abbrev pub IsUsed : (ℕ → Bool) → LoggedSet → ℕ → Type 0
-IsUsed used pages page = is_held pages page ≡ true → used page ≡ true
 
 -- the page is there, or it was given back
 abbrev pub IsKnown : Overlays → LoggedSet → ℕ → Type 0
@@ -64,7 +65,6 @@ pub record Moves {S : Type 0} (g : ground.Ghosts S) (freed : ℕ → Type 0) (a 
   pub pages : l.ghost_name ≡ k.ghost_name
   pub room : t.ghost_name ≡ r.ghost_name
   pub fixed : (unit : ℕ) → IsFixed freed (g.used a) k.now unit → IsFixed freed (g.used b) l.now unit
-  pub held : (page : ℕ) → (freed page → ⊥) → IsUsed (g.used a) k.now page → IsUsed (g.used b) l.now page
   pub given_back : (page : ℕ) → IsKnown m.now k.now page → is_held l.now page ≡ false → lookup (nat_eq page) n.now.working ≡ Some None
   pub untouched : (page : ℕ) → IsUntouched n.now l.now page → IsUntouched m.now k.now page
   pub committed : n.now.committed ≡ m.now.committed
@@ -90,7 +90,6 @@ module _ {S : Type 0} (g : ground.Ghosts S) where
     pages = refl;
     room = refl;
     fixed = λ unit is. is;
-    held = λ page stays is. is;
     given_back = λ page known now. unchanged m.now k.now page known now;
     untouched = λ page is. is;
     committed = refl;
@@ -106,7 +105,6 @@ module _ {S : Type 0} (g : ground.Ghosts S) where
     pages = y.pages ∙ x.pages;
     room = y.room ∙ x.room;
     fixed = λ unit is. y.fixed unit (x.fixed unit is);
-    held = λ page stays is. y.held page stays (x.held page stays is);
     given_back = λ page known now. ⊎_elim
         (λ there. y.given_back page (inl there) now)
         (λ away. y.given_back page (inr (x.given_back page known away)) now) (cases_Bool (is_held l.now page));
@@ -123,7 +121,6 @@ module _ {S : Type 0} (g : ground.Ghosts S) where
     pages = x.pages;
     room = x.room;
     fixed = λ unit is. let later = x.fixed unit (fixed_in_more wider unit is) in record { in_use = later.in_use; not_taken = later.not_taken; stays = is.stays };
-    held = λ page stays is. x.held page (λ freed. stays (wider page freed)) is;
     given_back = x.given_back;
     untouched = x.untouched;
     committed = x.committed;

@@ -11,11 +11,11 @@ ghost use Rattle.version_delete.specs.Released.{Blames, Gives, Released};
 
 use buffer_groups::Groups;
 use disk_model::Disk;
-use ex_base::{Geometry, Ground, PageNo, PortFault, ReadBlocks, Root};
+use ex_base::{CountBlocks, Geometry, Ground, PageNo, PortFault, ReadBlocks, Root};
 use page_alloc::Units;
 use std::alloc::Global;
 use std::sync::ledger::Ledger;
-use version_delete::{CountBlocks, Steps, release_tree};
+use version_delete::{Steps, release_tree};
 
 /// The units of a session and their owners, lent to give trees up. It takes no unit, knows no logged page, and writes nothing to the disk.
 #[derive(Drop)]

@@ -74,15 +74,14 @@ impl<'a, D: Disk> ReadPages for VolumePort<'a, D> {
 impl<'a, D: Disk> Pages for VolumePort<'a, D> {
     ghost use Rattle.volume_port.specs.Logged.{is_taken};
 
-    // A page that the working state does not have is not changed.
+    fn has(&self, page: PageNo) -> bool {
+        self.pages.holds(page)
+    }
+
     fn put(&mut self, alloc: Global, page: PageNo, image: &[u8]) -> Result<(), PortFault> {
-        if !self.pages.holds(page) {
-            return Err(PortFault::Memory);
-        }
         Ok(self.meta.edit(alloc, page, image)?)
     }
 
-    // A page that the working state has is free only where it was given back as a unit; none is taken then.
     fn take_page(&mut self, alloc: Global, image: &[u8]) -> Result<PageNo, PortFault>
         requires ready { ⟦<VolumePort<'a, D> as Ground>⟧.ready self.old }
         requires free { 1 ≤ ⟦<VolumePort<'a, D> as Ground>⟧.free self.old Page }
@@ -105,9 +104,6 @@ impl<'a, D: Disk> Pages for VolumePort<'a, D> {
             (⟦<VolumePort<'a, D> as Ground>⟧.faults self.new) result }
     {
         let page = self.store.units.take(Area::Page);
-        if self.pages.holds(page) {
-            return Err(PortFault::Memory);
-        }
         self.meta.edit(alloc, page, image)?;
         self.pages.take(page);
         Ok(page)
@@ -138,6 +134,8 @@ impl<'a, D: Disk> Pages for VolumePort<'a, D> {
         self.pages.give(page);
         Ok(())
     }
+
+    ghost has_catalog = { λ s is. is.catalog };
 }
 
 impl<'a, D: Disk> ReadVolume for VolumePort<'a, D> {}

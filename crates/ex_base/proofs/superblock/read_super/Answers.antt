@@ -4,7 +4,7 @@ use Rattle.ex_base.specs.Bytes.{IsBytes}
 use Rattle.ex_base.specs.Fault.{first_fault}
 use Rattle.ex_base.specs.Fields.{AreZero, number_at}
 use Rattle.ex_base.specs.Sizes.{least_page}
-use Rattle.ex_base.specs.Superblock.{IsFormat, IsSuper}
+use Rattle.ex_base.specs.Superblock.{IsFormat}
 use Rattle.ex_base.proofs.Supers.{SuperReads, super_reads, reads_super, faulty}
 use Rattle.ex_base.proofs.superblock.read_super.Goals as goal
 use Rattle.ex_base.proofs.superblock.read_super.Goals.{then-page-lt-HEAD-via-then-page-lt-HEAD, then-page-lt-HEAD-via-else-page-lt-HEAD+then-not-has_magic, then-page-lt-HEAD-via-else-page-lt-HEAD+else-not-has_magic+then-not-is_format, then-page-page_size-via-then-page-page_size, then-page-page_size-via-else-page-page_size+then-not-is_zero}

@@ -16,4 +16,4 @@ pub returns-in-Some-body-clause-live : goal.returns-in-Some-body-clause-live
 returns-in-Some-body-clause-live c = live_is c.args.bytes.now c.in-Some.view.page c.args.place.slot _ c.in-Some.ensures.found.1 c.in-Some-body.ensures
 
 pub returns-in-None-clause-fault : goal.returns-in-None-clause-fault
-returns-in-None-clause-fault c = λ g. blames_place g c.args.bytes.now c.args.place c.no_body-in-None.result (λ has. not_live c.args.bytes.now c.in-Some.view.page c.args.place.slot c.in-Some.ensures.found.1 c.in-None.ensures has.live) c.no_body-in-None.ensures.is
+returns-in-None-clause-fault c = λ g held. blames_place g held c.args.bytes.now c.args.place c.no_body-in-None.result (λ has. not_live c.args.bytes.now c.in-Some.view.page c.args.place.slot c.in-Some.ensures.found.1 c.in-None.ensures has.live) c.no_body-in-None.ensures.is

@@ -17,13 +17,13 @@ pub returns-clause-view : goal.returns-clause-view
 returns-clause-view c = viewed_is c.args.bytes.now c.in-Some.view c.in-Some.ensures.found.0 c.in-Some.ensures.found.1
 
 pub returns-then-slots-eq0-clause-fault : goal.returns-then-slots-eq0-clause-fault
-returns-then-slots-eq0-clause-fault c = λ g area.
-    blames_page g c.args.bytes.now c.args.file_no c.args.page c.no_page-then-slots-eq0.result area
+returns-then-slots-eq0-clause-fault c = λ g held area.
+    blames_page g held c.args.bytes.now c.args.file_no c.args.page c.no_page-then-slots-eq0.result area
     (λ has. absurd (omega (arith, has.some, ap length (slots_are c.args.bytes.now c.in-Some.view.page c.in-Some.ensures.found.1)))) c.no_page-then-slots-eq0.ensures.is
 
 pub returns-then-found-file_no-clause-fault : goal.returns-then-found-file_no-clause-fault
-returns-then-found-file_no-clause-fault c = λ g area.
+returns-then-found-file_no-clause-fault c = λ g held area.
     let number = number_is c.args.bytes.now c.in-Some.view.page c.in-Some.ensures.found.1 in
-    blames_foreign g c.args.bytes.now c.args.file_no c.args.page c.file_page.result c.file_page-then-found-file_no.result area
+    blames_foreign g held c.args.bytes.now c.args.file_no c.args.page c.file_page.result c.file_page-then-found-file_no.result area
     (record { spelled = is_page c.args.bytes.now c.in-Some.view.page c.in-Some.ensures.found.1; some = omega (arith, ap length (slots_are c.args.bytes.now c.in-Some.view.page c.in-Some.ensures.found.1), c.slots.ensures, c.if-slots-eq0.false) })
     (λ same. c.if-found-file_no.true (c.file_no-found.ensures ∙ sym number ∙ same)) c.file_page.ensures (c.file_page-then-found-file_no.ensures ∙ ap file_page_seen (c.file_no-found.ensures ∙ sym number))

@@ -5,7 +5,7 @@ use Rattle.file_bodies.specs.Placing.{start_of}
 use Rattle.file_bodies.proofs.Belonging.{the_index, found_file}
 use Rattle.file_bodies.proofs.Placed.{kept_places, kept_puts, none_kept, room_serves}
 use Rattle.file_bodies.specs.Damage.{listed, IsPlacing, IsPlacingFault}
-use Rattle.file_bodies.proofs.Blame.{carried}
+use Rattle.file_bodies.proofs.Blame.{carried, carried_held}
 use Rattle.file_bodies.proofs.placing.place_body.Goals as goal
 
 pub returns-in-Ok-place_from-clause-placed : goal.returns-in-Ok-place_from-clause-placed
@@ -41,8 +41,8 @@ returns-in-Err-place_from-clause-sound g c = λ damage told index file number.
 pub returns-in-Err-place_from-clause-fault : goal.returns-in-Err-place_from-clause-fault
 returns-in-Err-place_from-clause-fault g c = λ told.
     listed c.in-Ok.index (c.in-Ok.ensures.lists told)
-    (carried g.P.Ground c.args.pages.now c.index_of.new.pages (λ y u. IsPlacingFault y u c.in-Ok.index (start_of c.args.room.now (length c.args.body.now)) c.in-Err-place_from.fault) c.index_of.ensures.kept
-    (λ told_b. subst (λ (n : ℕ). IsPlacingFault (g.P.Ground.geometry c.index_of.new.pages) (g.P.Ground.image c.index_of.new.pages) c.in-Ok.index n c.in-Err-place_from.fault) c.start-from.ensures (c.in-Err-place_from.ensures.fault told_b)) told)
+    (carried_held g.P.Ground c.args.pages.now c.index_of.new.pages (λ y k u. IsPlacingFault y k u c.in-Ok.index (start_of c.args.room.now (length c.args.body.now)) c.in-Err-place_from.fault) c.index_of.ensures.kept
+    (λ told_b. subst (λ (n : ℕ). IsPlacingFault (g.P.Ground.geometry c.index_of.new.pages) (g.P.Ground.held c.index_of.new.pages) (g.P.Ground.image c.index_of.new.pages) c.in-Ok.index n c.in-Err-place_from.fault) c.start-from.ensures (c.in-Err-place_from.ensures.fault told_b)) told)
 
 pub returns-in-Ok-place_from-clause-way : goal.returns-in-Ok-place_from-clause-way
 returns-in-Ok-place_from-clause-way g c = λ told. record {

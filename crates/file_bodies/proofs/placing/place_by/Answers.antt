@@ -5,7 +5,7 @@ use Rattle.ex_base.proofs.Options.{at_none, at_some}
 use Rattle.file_bodies.proofs.Moving.{kept_file}
 use Rattle.file_bodies.proofs.Placed.{placed_old, puts_old, kept_places, kept_puts, none_below, none_from_kept}
 use Rattle.file_bodies.specs.Damage.{looking, page_in, IsLook, IsPlacing, IsPlacingFault}
-use Rattle.file_bodies.proofs.Blame.{carried, moved_on}
+use Rattle.file_bodies.proofs.Blame.{carried, carried_held, moved_on}
 use Rattle.file_bodies.proofs.placing.place_by.Goals as goal
 
 pub returns-in-Ok-None-clause-placed : goal.returns-in-Ok-None-clause-placed
@@ -43,7 +43,7 @@ returns-in-Ok-clause-placed g c = λ told file below.
 
 pub returns-in-Ok-None-clause-fault : goal.returns-in-Ok-None-clause-fault
 returns-in-Ok-None-clause-fault g c = IfErr-weaker c.put_on_new_page.result _ _ (λ fault h told.
-    carried g.P.Ground c.args.pages.now c.put_in_room.new.pages (λ y u. IsPlacingFault y u c.args.index.now c.args.from fault) c.put_in_room.ensures.kept (λ told_b. h told_b c.args.from) told) c.put_on_new_page.ensures.fault
+    carried_held g.P.Ground c.args.pages.now c.put_in_room.new.pages (λ y k u. IsPlacingFault y k u c.args.index.now c.args.from fault) c.put_in_room.ensures.kept (λ told_b. h told_b c.args.from) told) c.put_on_new_page.ensures.fault
 
 pub returns-in-Err-clause-fault : goal.returns-in-Err-clause-fault
 returns-in-Err-clause-fault g c = λ told. looking (c.in-Err.ensures.fault told)

@@ -1,10 +1,10 @@
-use Rattle.std.proofs.Common.{◌≡◌, ◌≤◌, ◌+◌, refl, ℕ, length, sym, ◌∙◌, subst, List, Some, None, arith}
+use Rattle.std.proofs.Common.{◌≡◌, ◌≤◌, ◌+◌, refl, ℕ, Bool, length, sym, ◌∙◌, subst, List, Some, None, arith}
 use Rattle.slotted_pages.specs.FilePage.{SlotsOf}
 use Rattle.slotted_pages.specs.Reads.{page_on}
 use Rattle.slotted_pages.specs.Edits.{slots_of, with_slot, with_slots}
 use Rattle.file_index.specs.Least.{IsAtLeast}
 use Rattle.file_bodies.proofs.Searching.{file_now, told_now, none_left, passed_to, passed_page, page_named, load_sound, slot_read}
-use Rattle.file_index.specs.Damage.{IsIndexFault}
+use Rattle.file_index.specs.Damage.{every_page, IsIndexFault}
 use Rattle.file_bodies.specs.Damage.{lost_way, IsLook, IsLookFault}
 use Rattle.file_bodies.proofs.Blame.{carried, moved_on, look_from, look_ends, look_here, look_on, look_blames}
 use Rattle.file_bodies.proofs.placing.put_in_room.Goals as goal
@@ -71,14 +71,16 @@ returns-in-Ok-None-clause-way g c = λ told.
 
 pub returns-in-Err-clause-fault : goal.returns-in-Err-clause-fault
 returns-in-Err-clause-fault g c = λ told.
-    lost_way c.searched.key c.searched.invariant.reached (carried g.P.Ground c.args.pages.now c.searched.pages (λ y u. IsIndexFault y u c.args.index.now c.searched.key c.in-Err.fault) c.searched.invariant.kept c.in-Err.ensures.fault told)
+    lost_way c.searched.key c.searched.invariant.reached (carried g.P.Ground c.args.pages.now c.searched.pages (λ y u. IsIndexFault y every_page u c.args.index.now c.searched.key c.in-Err.fault) c.searched.invariant.kept c.in-Err.ensures.fault told)
 
 pub returns-in-Err-load_page-clause-fault : goal.returns-in-Err-load_page-clause-fault
 returns-in-Err-load_page-clause-fault g c = λ told.
-    look_from (g.P.Ground.geometry c.args.pages.now) (g.P.Ground.image c.args.pages.now) c.args.index.now c.args.from c.searched.key c.in-Err-load_page.fault c.searched.invariant.reached
-    (carried g.P.Ground c.args.pages.now c.searched.pages (λ y u. IsLookFault y u c.args.index.now c.searched.key c.in-Err-load_page.fault) c.searched.invariant.kept
+    let kept = keeps_on g.P.Ground c.args.pages.now c.searched.pages c.at_least.new.pages c.searched.invariant.kept c.at_least.ensures.kept in
+    subst (λ (k : ℕ → Bool). IsLookFault (g.P.Ground.geometry c.args.pages.now) k (g.P.Ground.image c.args.pages.now) c.args.index.now c.args.from c.in-Err-load_page.fault) kept.held
+    (look_from (g.P.Ground.geometry c.args.pages.now) (g.P.Ground.held c.at_least.new.pages) (g.P.Ground.image c.args.pages.now) c.args.index.now c.args.from c.searched.key c.in-Err-load_page.fault c.searched.invariant.reached
+    (carried g.P.Ground c.args.pages.now c.searched.pages (λ y u. IsLookFault y (g.P.Ground.held c.at_least.new.pages) u c.args.index.now c.searched.key c.in-Err-load_page.fault) c.searched.invariant.kept
     (look_blames g.P.Ground c.searched.pages c.at_least.new.pages c.args.index.now c.searched.key c.in-Ok-Some.field-0 c.at_least.ensures.kept c.in-Ok-Some.ensures.way c.in-Ok-Some.ensures.found c.in-Ok-Some.page c.in-Ok-Some.field-0-is
-    c.in-Err-load_page.fault c.in-Err-load_page.ensures.fault) told)
+    (g.P.Ground.held c.at_least.new.pages) c.in-Err-load_page.fault c.in-Err-load_page.ensures.fault) told))
 
 pub returns-in-Some-clause-way : goal.returns-in-Some-clause-way
 returns-in-Some-clause-way g c = λ told.

@@ -63,8 +63,8 @@ returns-in-Err-change_index-clause-sound g c = λ damage told file.
 pub returns-in-Err-add-clause-fault : goal.returns-in-Err-add-clause-fault
 returns-in-Err-add-clause-fault g c = λ told from.
     let told_b = g.P.Ground.leads_told c.args.pages.now c.take_page.new.self c.take_page.ensures.leads told in
-    adding c.in-Ok.page.0 (g.P.Ground.image c.take_page.new.self) (λ p other. c.in-Ok.ensures.taken.images p other)
-    (subst (λ (y : Geometry). IsAddingFault y (g.P.Ground.image c.take_page.new.self) c.args.index.now c.in-Ok.page.0 c.in-Err-add.fault) (g.P.Ground.leads_geometry c.args.pages.now c.take_page.new.self c.take_page.ensures.leads) (c.in-Err-add.ensures.fault told_b))
+    adding c.in-Ok.page.0 (g.P.Ground.image c.take_page.new.self) (g.P.Ground.held c.take_page.new.self) (λ p other. (c.in-Ok.ensures.taken.images p other, c.in-Ok.ensures.taken.held p other))
+    (subst (λ (y : Geometry). IsAddingFault y (g.P.Ground.held c.take_page.new.self) (g.P.Ground.image c.take_page.new.self) c.args.index.now c.in-Ok.page.0 c.in-Err-add.fault) (g.P.Ground.leads_geometry c.args.pages.now c.take_page.new.self c.take_page.ensures.leads) (c.in-Err-add.ensures.fault told_b))
 
 pub returns-in-Ok-change_index-clause-way : goal.returns-in-Ok-change_index-clause-way
 returns-in-Ok-change_index-clause-way g c = λ told from look.

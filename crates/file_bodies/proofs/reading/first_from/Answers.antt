@@ -2,7 +2,7 @@ use Rattle.std.proofs.Common.{◌≤◌, ◌+◌, ℕ, List, Some, None, sym, su
 use Rattle.ex_base.proofs.Keeping.{keeps_on}
 use Rattle.ex_base.proofs.Options.{at_none, at_some}
 use Rattle.file_index.specs.Least.{IsAtLeast}
-use Rattle.file_index.specs.Damage.{IsIndexFault}
+use Rattle.file_index.specs.Damage.{every_page, IsIndexFault}
 use Rattle.file_bodies.specs.Bodies.{bodies_of}
 use Rattle.file_bodies.specs.Places.{FirstFrom}
 use Rattle.file_bodies.specs.Damage.{lost_way, IsLook, IsLookFault}
@@ -65,7 +65,7 @@ returns-in-Ok-None-clause-way g c = λ told.
 
 pub returns-in-Err-clause-fault : goal.returns-in-Err-clause-fault
 returns-in-Err-clause-fault g c = λ told.
-    lost_way c.looked.low c.looked.invariant.reached (carried g.P.Ground c.args.pages.now c.looked.pages (λ y u. IsIndexFault y u c.args.index.now c.looked.low c.in-Err.fault) c.looked.invariant.kept
+    lost_way c.looked.low c.looked.invariant.reached (carried g.P.Ground c.args.pages.now c.looked.pages (λ y u. IsIndexFault y every_page u c.args.index.now c.looked.low c.in-Err.fault) c.looked.invariant.kept
     c.in-Err.ensures.fault told)
 
 pub returns-in-Ok-Some-live_slot-clause-way : goal.returns-in-Ok-Some-live_slot-clause-way
@@ -75,6 +75,6 @@ returns-in-Ok-Some-live_slot-clause-way g c = λ told.
 
 pub returns-in-Err-live_slot-clause-fault : goal.returns-in-Err-live_slot-clause-fault
 returns-in-Err-live_slot-clause-fault g c = λ told.
-    look_from (g.P.Ground.geometry c.args.pages.now) (g.P.Ground.image c.args.pages.now) c.args.index.now c.args.key c.looked.low c.in-Err-live_slot.fault c.looked.invariant.reached
-    (carried g.P.Ground c.args.pages.now c.looked.pages (λ y u. IsLookFault y u c.args.index.now c.looked.low c.in-Err-live_slot.fault) c.looked.invariant.kept
-    (look_blames g.P.Ground c.looked.pages c.at_least.new.pages c.args.index.now c.looked.low c.in-Ok-Some.field-0 c.at_least.ensures.kept c.in-Ok-Some.ensures.way c.in-Ok-Some.ensures.found c.in-Ok-Some.page c.in-Ok-Some.field-0-is c.in-Err-live_slot.fault c.in-Err-live_slot.ensures.fault) told)
+    look_from (g.P.Ground.geometry c.args.pages.now) every_page (g.P.Ground.image c.args.pages.now) c.args.index.now c.args.key c.looked.low c.in-Err-live_slot.fault c.looked.invariant.reached
+    (carried g.P.Ground c.args.pages.now c.looked.pages (λ y u. IsLookFault y every_page u c.args.index.now c.looked.low c.in-Err-live_slot.fault) c.looked.invariant.kept
+    (look_blames g.P.Ground c.looked.pages c.at_least.new.pages c.args.index.now c.looked.low c.in-Ok-Some.field-0 c.at_least.ensures.kept c.in-Ok-Some.ensures.way c.in-Ok-Some.ensures.found c.in-Ok-Some.page c.in-Ok-Some.field-0-is every_page c.in-Err-live_slot.fault c.in-Err-live_slot.ensures.fault) told)

@@ -4,6 +4,7 @@ use Rattle.ex_base.specs.declared.names.Place.{Place}
 use Rattle.file_bodies.specs.Bodies.{bodies_of}
 use Rattle.file_bodies.specs.Places.{IsNext}
 use Rattle.file_bodies.proofs.Belonging.{found_file, found_rows}
+use Rattle.file_index.specs.Damage.{every_page}
 use Rattle.file_bodies.specs.Damage.{listed, IsLookFault, page_from}
 use Rattle.file_bodies.proofs.Blame.{carried}
 use Rattle.file_bodies.proofs.reading.next_place.Goals as goal
@@ -35,11 +36,11 @@ returns-in-Some-clause-sound g c = IfErr-weaker c.first_from-in-Some.result _ _ 
 pub returns-in-None-clause-fault : goal.returns-in-None-clause-fault
 returns-in-None-clause-fault g c = IfErr-weaker c.first_from.result _ _ (λ fault h told.
     listed c.in-Ok.index (c.in-Ok.ensures.lists told)
-    (subst (λ (o : Option Place). IsLookFault (g.P.Ground.geometry c.args.pages.now) (g.P.Ground.image c.args.pages.now) c.in-Ok.index (page_from o) fault) (sym c.in-None.is)
-    (carried g.P.Ground c.args.pages.now c.index_of.new.pages (λ y u. IsLookFault y u c.in-Ok.index 0 fault) c.index_of.ensures.kept h told))) c.first_from.ensures.fault
+    (subst (λ (o : Option Place). IsLookFault (g.P.Ground.geometry c.args.pages.now) every_page (g.P.Ground.image c.args.pages.now) c.in-Ok.index (page_from o) fault) (sym c.in-None.is)
+    (carried g.P.Ground c.args.pages.now c.index_of.new.pages (λ y u. IsLookFault y every_page u c.in-Ok.index 0 fault) c.index_of.ensures.kept h told))) c.first_from.ensures.fault
 
 pub returns-in-Some-clause-fault : goal.returns-in-Some-clause-fault
 returns-in-Some-clause-fault g c = IfErr-weaker c.first_from-in-Some.result _ _ (λ fault h told.
     listed c.in-Ok.index (c.in-Ok.ensures.lists told)
-    (subst (λ (o : Option Place). IsLookFault (g.P.Ground.geometry c.args.pages.now) (g.P.Ground.image c.args.pages.now) c.in-Ok.index (page_from o) fault) (sym c.in-Some.is)
-    (carried g.P.Ground c.args.pages.now c.index_of.new.pages (λ y u. IsLookFault y u c.in-Ok.index c.in-Some.place.page.0 fault) c.index_of.ensures.kept h told))) c.first_from-in-Some.ensures.fault
+    (subst (λ (o : Option Place). IsLookFault (g.P.Ground.geometry c.args.pages.now) every_page (g.P.Ground.image c.args.pages.now) c.in-Ok.index (page_from o) fault) (sym c.in-Some.is)
+    (carried g.P.Ground c.args.pages.now c.index_of.new.pages (λ y u. IsLookFault y every_page u c.in-Ok.index c.in-Some.place.page.0 fault) c.index_of.ensures.kept h told))) c.first_from-in-Some.ensures.fault

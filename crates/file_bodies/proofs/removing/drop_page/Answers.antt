@@ -14,7 +14,7 @@ use Rattle.ex_base.proofs.Counts.{contains_times}
 use Rattle.file_index.specs.Index.{HasPlacedRoot}
 use Rattle.file_index.specs.Damage.{IsRemovalFault}
 use Rattle.file_bodies.specs.Damage.{listed, removing, bad_root}
-use Rattle.file_bodies.proofs.Blame.{carried}
+use Rattle.file_bodies.proofs.Blame.{carried_held}
 use Rattle.file_bodies.proofs.removing.drop_page.Goals as goal
 
 pub returns-in-Err-remove-clause-sound : goal.returns-in-Err-remove-clause-sound
@@ -59,7 +59,7 @@ returns-clause-leaves g c = on_ok_weaker c.give_page.result (λ given told index
 pub returns-in-Err-remove-clause-fault : goal.returns-in-Err-remove-clause-fault
 returns-in-Err-remove-clause-fault g c = λ told.
     listed c.in-Ok.index (c.in-Ok.ensures.lists told)
-    (removing (carried g.P.Ground c.args.pages.now c.index_of.new.pages (λ y u. IsRemovalFault y u (g.P.Ground.image c.remove.new.pages) c.in-Ok.index c.args.page.0 c.in-Err-remove.fault) c.index_of.ensures.kept c.in-Err-remove.ensures.fault told))
+    (removing (carried_held g.P.Ground c.args.pages.now c.index_of.new.pages (λ y k u. IsRemovalFault y k u (g.P.Ground.held c.remove.new.pages) (g.P.Ground.image c.remove.new.pages) c.in-Ok.index c.args.page.0 c.in-Err-remove.fault) c.index_of.ensures.kept c.in-Err-remove.ensures.fault told))
 
 pub returns-then-not-has_placed_root-clause-sound : goal.returns-then-not-has_placed_root-clause-sound
 returns-then-not-has_placed_root-clause-sound g c = λ damage told index file number.

@@ -10,7 +10,7 @@ use Rattle.file_bodies.proofs.Slots.{page_of, body_sound, body_removed}
 use Rattle.file_bodies.proofs.Leaving.{left_edits, kept_leaves}
 use Rattle.file_index.specs.Damage.{HasWay}
 use Rattle.file_bodies.specs.Damage.{leaving, IsListedFault, IsLeavingFault, HasListed}
-use Rattle.file_bodies.proofs.Blame.{carried}
+use Rattle.file_bodies.proofs.Blame.{carried, carried_held}
 use Rattle.file_bodies.proofs.removing.remove_by.Goals as goal
 use Rattle.ex_base.proofs.Counts.{contains_times}
 
@@ -55,8 +55,8 @@ returns-clause-fault g c = IfErr-weaker c.drop_page.result _ _ (λ fault h told.
     let read = c.in-Ok.ensures.bytes told in
     let number : c.in-Ok.file_no ≡ (page_on (g.P.Ground.image c.args.pages.now c.args.place.page.0)).file_no = sym c.in-Ok.ensures.file ∙ ap (λ (t : List ℕ). (page_on t).file_no) read in
     leaving (c.in-Ok.ensures.has told)
-    (subst (λ (n : ℕ). IsListedFault (g.P.Ground.image c.args.pages.now) n (λ index. IsLeavingFault (g.P.Ground.geometry c.args.pages.now) (g.P.Ground.image c.args.pages.now) (g.P.Ground.image c.drop_page.new.pages) index c.args.place.page.0 fault) fault) number
-    (carried g.P.Ground c.args.pages.now c.load_body_page.new.pages (λ y u. IsListedFault u c.in-Ok.file_no (λ index. IsLeavingFault y u (g.P.Ground.image c.drop_page.new.pages) index c.args.place.page.0 fault) fault) c.load_body_page.ensures.kept h told))) c.drop_page.ensures.fault
+    (subst (λ (n : ℕ). IsListedFault (g.P.Ground.image c.args.pages.now) n (λ index. IsLeavingFault (g.P.Ground.geometry c.args.pages.now) (g.P.Ground.held c.args.pages.now) (g.P.Ground.image c.args.pages.now) (g.P.Ground.held c.drop_page.new.pages) (g.P.Ground.image c.drop_page.new.pages) index c.args.place.page.0 fault) fault) number
+    (carried_held g.P.Ground c.args.pages.now c.load_body_page.new.pages (λ y k u. IsListedFault u c.in-Ok.file_no (λ index. IsLeavingFault y k u (g.P.Ground.held c.drop_page.new.pages) (g.P.Ground.image c.drop_page.new.pages) index c.args.place.page.0 fault) fault) c.load_body_page.ensures.kept h told))) c.drop_page.ensures.fault
 
 pub returns-then-has_slots-clause-way : goal.returns-then-has_slots-clause-way
 returns-then-has_slots-clause-way g c = on_ok_weaker c.put.result (λ put told last.

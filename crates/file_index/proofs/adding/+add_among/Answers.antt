@@ -1,16 +1,17 @@
-use Rattle.std.proofs.Common.{◌≡◌, ◌≢◌, ◌<◌, ◌-◌, suc, List, Some, length, subst, sym, ap, ◌∙◌, refl, arith}
+use Rattle.std.proofs.Common.{◌≡◌, ◌≢◌, ◌<◌, ◌-◌, ℕ, suc, List, [], ◌∷◌, Some, length, subst, sym, ap, ◌∙◌, refl, arith}
 use Rattle.index_pages.specs.declared.Entry.{Entry}
 use Rattle.ex_base.specs.declared.geometry.Geometry.{Geometry}
 use Rattle.ex_base.specs.Sizes.{least_page}
 use Rattle.ex_base.proofs.Results.{if_ok_on_ok}
 use Rattle.file_index.specs.Index.{IsFilesPage}
 use Rattle.file_index.specs.Edits.{put_in}
-use Rattle.file_index.specs.Nodes.{IsPlace, Stored}
+use Rattle.file_index.specs.Nodes.{IsPlace, Stored, heads, entries_of}
 use Rattle.file_index.specs.Damage.{place_in, IsWay, IsWayFault}
 use Rattle.file_index.proofs.Blame.{way_here}
 use Rattle.file_index.proofs.Ways.{child_at, page_way, page_fault}
+use Rattle.file_index.proofs.Counts.{stays_held}
 use Rattle.file_index.proofs.Lists.{put_local}
-use Rattle.file_index.proofs.Descending.{never_read, row_below, stays_below, held_below, written_below, first_key_is}
+use Rattle.file_index.proofs.Descending.{never_read, row_below, stays_below, written_below, first_key_is}
 use Rattle.file_index.proofs.Leaves.{leaf_added}
 use Rattle.file_index.proofs.adding.+add_among.Goals as goal
 
@@ -61,12 +62,10 @@ returns-in-Ok-replace_one-clause-adds g t c = λ told files row.
     let below_row = row_below g.P.Ground c.args.pages.now c.args.file_no (c.args.level - 1) (c.args.level - 1 - 1) c.args.key c.args.entries.now.items c.place_of-at.result c.index-child.result.now step place c.index-child.ensures
     c.entries_at.new.pages c.in-Ok.below.items c.entries_at.ensures.kept read row in
     let becomes = c.in-Ok-true.ensures.adds told_b files_b below_row in
-    let held = held_below g.P.Ground c.args.pages.now c.args.file_no (c.args.level - 1) (c.args.level - 1 - 1) c.args.key c.args.entries.now.items c.place_of-at.result c.index-child.result.now step place c.index-child.ensures
-    c.entries_at.new.pages c.in-Ok.below.items c.entries_at.ensures.kept read c.add_among.new.pages (put_in c.args.key) c.add_among.new.entries.items row becomes in
     written_below g.P.Ground c.args.pages.now c.args.file_no (c.args.level - 1) (c.args.level - 1 - 1) c.args.key c.args.entries.now.items c.place_of-at.result c.index-child.result.now step place c.index-child.ensures
     c.entries_at.new.pages c.in-Ok.below.items c.entries_at.ensures.kept read c.add_among.new.pages c.store.new.pages (put_in c.args.key) c.add_among.new.entries.items c.replace_one.new.entries.items
     (record { key = c.index.result.now.key; page = c.index-child.result.now.page }) c.in-Ok-store.second (put_local c.args.key) row becomes
-    c.in-Ok-store.ensures.changes (subst (λ (l : List Entry). Stored g.P.Ground c.store.new.pages c.index-child.result.now.page.0 (c.args.level - 1) c.args.file_no l c.in-Ok-store.second) c.deref-2.ensures.value (c.in-Ok-store.ensures.stored told_c held)) (omega (arith, c.in-Ok.ensures.few, c.in-Ok-true.ensures.more)) refl (first_key_is c.add_among.new.entries.items c.index.result.now (omega (arith, c.in-Ok.ensures.few, c.in-Ok-true.ensures.more, least_page (g.P.Ground.geometry c.args.pages.now))) c.index.ensures) c.in-Ok-replace_one.ensures.items
+    c.in-Ok-store.ensures.changes (subst (λ (l : List Entry). Stored g.P.Ground c.store.new.pages c.index-child.result.now.page.0 (c.args.level - 1) c.args.file_no l c.in-Ok-store.second) c.deref-2.ensures.value (c.in-Ok-store.ensures.stored told_c)) (omega (arith, c.in-Ok.ensures.few, c.in-Ok-true.ensures.more)) refl (first_key_is c.add_among.new.entries.items c.index.result.now (omega (arith, c.in-Ok.ensures.few, c.in-Ok-true.ensures.more, least_page (g.P.Ground.geometry c.args.pages.now))) c.index.ensures) c.in-Ok-replace_one.ensures.items
 
 pub returns-clause-cause : goal.returns-clause-cause
 returns-clause-cause g t c = c.in-Err-replace_one.ensures.cause _ _
@@ -94,14 +93,26 @@ returns-in-Err-clause-fault g t c =
     let above : c.args.level - 1 ≢ 0 = λ none. omega (arith, c.requires.level, c.if-level-eq1.false) in
     let child = child_at c.args.key c.args.entries.now.items c.place_of-at.result c.index-child.result.now (c.place_of-at.ensures.is ∙ ap (place_in c.args.key) c.deref.ensures.value)
     (subst (λ (l : List Entry). c.place_of-at.result < length l) c.deref.ensures.value c.place_of-at.ensures.place.inside) c.index-child.ensures in
-    λ told. subst (λ (e : Entry). IsWayFault (g.P.Ground.geometry c.args.pages.now) (g.P.Ground.image c.args.pages.now) c.args.file_no c.args.key (c.args.level - 1) (Some e.key) e.page.0 c.in-Err.fault) child
-    (way_here (g.P.Ground.geometry c.args.pages.now) (g.P.Ground.image c.args.pages.now) c.args.file_no c.args.key (c.args.level - 1) (Some c.index-child.result.now.key) c.index-child.result.now.page.0 c.in-Err.fault above (c.in-Err.ensures.fault told))
+    λ told. subst (λ (e : Entry). IsWayFault (g.P.Ground.geometry c.args.pages.now) (g.P.Ground.held c.args.pages.now) (g.P.Ground.image c.args.pages.now) c.args.file_no c.args.key (c.args.level - 1) (Some e.key) e.page.0 c.in-Err.fault) child
+    (way_here (g.P.Ground.geometry c.args.pages.now) (g.P.Ground.held c.args.pages.now) (g.P.Ground.image c.args.pages.now) c.args.file_no c.args.key (c.args.level - 1) (Some c.index-child.result.now.key) c.index-child.result.now.page.0 c.in-Err.fault above (c.in-Err.ensures.fault told))
 
 pub returns-in-Err-add_among-clause-fault : goal.returns-in-Err-add_among-clause-fault
 returns-in-Err-add_among-clause-fault g t c =
     let above : c.args.level - 1 ≢ 0 = λ none. omega (arith, c.requires.level, c.if-level-eq1.false) in
     let child = child_at c.args.key c.args.entries.now.items c.place_of-at.result c.index-child.result.now (c.place_of-at.ensures.is ∙ ap (place_in c.args.key) c.deref.ensures.value)
     (subst (λ (l : List Entry). c.place_of-at.result < length l) c.deref.ensures.value c.place_of-at.ensures.place.inside) c.index-child.ensures in
-    λ told. subst (λ (e : Entry). IsWayFault (g.P.Ground.geometry c.args.pages.now) (g.P.Ground.image c.args.pages.now) c.args.file_no c.args.key (c.args.level - 1) (Some e.key) e.page.0 c.in-Err-add_among.fault) child
+    λ told. subst (λ (e : Entry). IsWayFault (g.P.Ground.geometry c.args.pages.now) (g.P.Ground.held c.args.pages.now) (g.P.Ground.image c.args.pages.now) c.args.file_no c.args.key (c.args.level - 1) (Some e.key) e.page.0 c.in-Err-add_among.fault) child
     (page_fault g.P.Ground c.args.pages.now c.entries_at.new.pages c.args.file_no (c.args.level - 1) (Some c.index-child.result.now.key) c.index-child.result.now.page.0 c.args.key c.in-Ok.below.items above c.entries_at.ensures.kept c.in-Ok.ensures.entries
     (λ told_a. record { area = c.in-Ok.ensures.area; named = c.in-Ok.ensures.named told_a }) c.in-Err-add_among.fault c.in-Err-add_among.ensures.fault told)
+
+pub store-requires-clause-held : goal.store-requires-clause-held
+store-requires-clause-held g t c = c.in-Ok-true.ensures.held c.index-child.result.now.page.0 (rw c.entries_at.ensures.kept.held c.in-Ok.ensures.held)
+
+pub returns-in-Ok-false-clause-held : goal.returns-in-Ok-false-clause-held
+returns-in-Ok-false-clause-held g t c = λ page held. c.in-Ok-false.ensures.held page (rw c.entries_at.ensures.kept.held held)
+
+pub returns-in-Ok-replace_one-clause-held : goal.returns-in-Ok-replace_one-clause-held
+returns-in-Ok-replace_one-clause-held g t c = λ page held.
+    let p : ℕ = c.index-child.result.now.page.0 in
+    stays_held g.P.Ground c.add_among.new.pages c.store.new.pages (p ∷ []) (p ∷ heads (entries_of c.in-Ok-store.second)) page c.in-Ok-store.ensures.changes (omega arith)
+    (c.in-Ok-true.ensures.held page (rw c.entries_at.ensures.kept.held held))

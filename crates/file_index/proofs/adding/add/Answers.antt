@@ -1,4 +1,4 @@
-use Rattle.std.proofs.Common.{◌≡◌, ◌≤◌, sym, ◌∙◌, arith, ltb-true}
+use Rattle.std.proofs.Common.{◌≡◌, ◌≤◌, arith}
 use Rattle.file_index.specs.Damage.{too_high}
 use Rattle.file_index.proofs.Heights.{five_levels}
 use Rattle.file_index.proofs.adding.add.Goals as goal

@@ -11,7 +11,7 @@ use Rattle.file_index.proofs.Blame.{way_here}
 use Rattle.file_index.proofs.Ways.{page_way, page_fault, root_way, root_fault}
 use Rattle.file_index.specs.Nodes.{Stored, heads, entries_of, first_key}
 use Rattle.file_index.specs.Changes.{Changes}
-use Rattle.file_index.proofs.Tops.{row_top, held_top, same_top, written_top, raised_top}
+use Rattle.file_index.proofs.Tops.{root_read, row_top, same_top, written_top, raised_top}
 use Rattle.file_index.proofs.adding.add_below.Goals as goal
 
 pub returns-in-Err-clause-cause : goal.returns-in-Err-clause-cause
@@ -49,11 +49,10 @@ returns-in-Ok-None-clause-adds g c = λ told files has.
     let row = row_top g.P.Ground c.args.pages.now c.args.index.now c.args.root (c.args.index.now.level - 1) c.requires.root step has c.entries_at.new.pages c.in-Ok-entries_at.entries.items c.entries_at.ensures.kept read in
     let told_c = g.P.Ground.leads_told c.entries_at.new.pages c.add_among.new.pages c.add_among.ensures.leads told_b in
     let becomes = c.in-Ok-true.ensures.adds told_b files_b row in
-    let held = held_top g.P.Ground c.args.pages.now c.args.index.now c.args.root (c.args.index.now.level - 1) c.requires.root step has c.entries_at.new.pages c.in-Ok-entries_at.entries.items c.entries_at.ensures.kept read c.add_among.new.pages (put_in c.args.key.0) c.add_among.new.entries.items becomes in
     written_top g.P.Ground c.args.pages.now c.args.index.now c.args.root (c.args.index.now.level - 1) c.requires.root step has c.entries_at.new.pages c.in-Ok-entries_at.entries.items c.entries_at.ensures.kept read c.add_among.new.pages (put_in c.args.key.0) c.add_among.new.entries.items becomes c.store.new.pages
     (subst (λ (s : Option Entry). Changes g.P.Ground c.add_among.new.pages c.store.new.pages (c.args.root.0 ∷ []) (c.args.root.0 ∷ heads (entries_of s))) c.in-Ok-None.field-0-is c.in-Ok-None.ensures.changes)
     (subst (λ (s : Option Entry). Stored g.P.Ground c.store.new.pages c.args.root.0 c.args.index.now.level c.args.index.now.file_no c.add_among.new.entries.items s) c.in-Ok-None.field-0-is
-    (subst (λ (l : List Entry). Stored g.P.Ground c.store.new.pages c.args.root.0 c.args.index.now.level c.args.index.now.file_no l c.in-Ok-None.field-0) c.deref.ensures.value (c.in-Ok-None.ensures.stored told_c held)))
+    (subst (λ (l : List Entry). Stored g.P.Ground c.store.new.pages c.args.root.0 c.args.index.now.level c.args.index.now.file_no l c.in-Ok-None.field-0) c.deref.ensures.value (c.in-Ok-None.ensures.stored told_c)))
     (omega (arith, c.in-Ok-entries_at.ensures.few, c.in-Ok-true.ensures.more))
 
 pub returns-clause-adds : goal.returns-clause-adds
@@ -67,9 +66,8 @@ returns-clause-adds g c = IfOk-weaker c.take_root.result _ _ (λ added made told
     let told_c = g.P.Ground.leads_told c.entries_at.new.pages c.add_among.new.pages c.add_among.ensures.leads told_b in
     let told_d = g.P.Ground.leads_told c.add_among.new.pages c.store.new.pages c.store.ensures.leads told_c in
     let becomes = c.in-Ok-true.ensures.adds told_b files_b row in
-    let held = held_top g.P.Ground c.args.pages.now c.args.index.now c.args.root (c.args.index.now.level - 1) c.requires.root step has c.entries_at.new.pages c.in-Ok-entries_at.entries.items c.entries_at.ensures.kept read c.add_among.new.pages (put_in c.args.key.0) c.add_among.new.entries.items becomes in
     let some = (subst (λ (s : Option Entry). Stored g.P.Ground c.store.new.pages c.args.root.0 c.args.index.now.level c.args.index.now.file_no c.add_among.new.entries.items s) c.in-Ok-Some.field-0-is
-    (subst (λ (l : List Entry). Stored g.P.Ground c.store.new.pages c.args.root.0 c.args.index.now.level c.args.index.now.file_no l c.in-Ok-Some.field-0) c.deref.ensures.value (c.in-Ok-Some.ensures.stored told_c held))) in
+    (subst (λ (l : List Entry). Stored g.P.Ground c.store.new.pages c.args.root.0 c.args.index.now.level c.args.index.now.file_no l c.in-Ok-Some.field-0) c.deref.ensures.value (c.in-Ok-Some.ensures.stored told_c))) in
     subst (λ (i : Index). EditsIndex g.P.Ground c.args.pages.now c.take_root.new.pages (put_in c.args.key.0) c.args.index.now i) (sym made.is)
     (raised_top g.P.Ground c.args.pages.now c.args.index.now c.args.root (c.args.index.now.level - 1) c.requires.root step has c.entries_at.new.pages c.in-Ok-entries_at.entries.items c.entries_at.ensures.kept read c.add_among.new.pages (put_in c.args.key.0) c.add_among.new.entries.items becomes c.store.new.pages c.take_root.new.pages
     c.entry_over.result c.in-Ok-Some.second made.page
@@ -101,12 +99,20 @@ returns-clause-way g c =
 pub returns-in-Err-entries_at-clause-fault : goal.returns-in-Err-entries_at-clause-fault
 returns-in-Err-entries_at-clause-fault g c =
     let above : c.args.index.now.level ≢ 0 = λ none. omega (arith, c.requires.level) in
-    λ told. root_fault (g.P.Ground.geometry c.args.pages.now) (g.P.Ground.image c.args.pages.now) c.args.index.now.file_no c.args.key.0 c.args.index.now.level c.args.index.now.root c.args.root c.requires.root c.in-Err-entries_at.fault
-    (way_here (g.P.Ground.geometry c.args.pages.now) (g.P.Ground.image c.args.pages.now) c.args.index.now.file_no c.args.key.0 c.args.index.now.level None c.args.root.0 c.in-Err-entries_at.fault above (c.in-Err-entries_at.ensures.fault told))
+    λ told. root_fault (g.P.Ground.geometry c.args.pages.now) (g.P.Ground.held c.args.pages.now) (g.P.Ground.image c.args.pages.now) c.args.index.now.file_no c.args.key.0 c.args.index.now.level c.args.index.now.root c.args.root c.requires.root c.in-Err-entries_at.fault
+    (way_here (g.P.Ground.geometry c.args.pages.now) (g.P.Ground.held c.args.pages.now) (g.P.Ground.image c.args.pages.now) c.args.index.now.file_no c.args.key.0 c.args.index.now.level None c.args.root.0 c.in-Err-entries_at.fault above (c.in-Err-entries_at.ensures.fault told))
 
 pub returns-in-Err-add_among-clause-fault : goal.returns-in-Err-add_among-clause-fault
 returns-in-Err-add_among-clause-fault g c =
     let above : c.args.index.now.level ≢ 0 = λ none. omega (arith, c.requires.level) in
-    λ told. root_fault (g.P.Ground.geometry c.args.pages.now) (g.P.Ground.image c.args.pages.now) c.args.index.now.file_no c.args.key.0 c.args.index.now.level c.args.index.now.root c.args.root c.requires.root c.in-Err-add_among.fault
+    λ told. root_fault (g.P.Ground.geometry c.args.pages.now) (g.P.Ground.held c.args.pages.now) (g.P.Ground.image c.args.pages.now) c.args.index.now.file_no c.args.key.0 c.args.index.now.level c.args.index.now.root c.args.root c.requires.root c.in-Err-add_among.fault
     (page_fault g.P.Ground c.args.pages.now c.entries_at.new.pages c.args.index.now.file_no c.args.index.now.level None c.args.root.0 c.args.key.0 c.in-Ok-entries_at.entries.items above c.entries_at.ensures.kept c.in-Ok-entries_at.ensures.entries
     (λ told_a. record { area = c.in-Ok-entries_at.ensures.area; named = c.in-Ok-entries_at.ensures.named told_a }) c.in-Err-add_among.fault c.in-Err-add_among.ensures.fault told)
+
+pub store-requires-clause-held : goal.store-requires-clause-held
+store-requires-clause-held g c = c.in-Ok-true.ensures.held c.args.root.0 (rw c.entries_at.ensures.kept.held c.in-Ok-entries_at.ensures.held)
+
+pub returns-in-Err-entries_at-clause-sound : goal.returns-in-Err-entries_at-clause-sound
+returns-in-Err-entries_at-clause-sound g c = λ damage told has.
+    let step : suc (c.args.index.now.level - 1) ≡ c.args.index.now.level = omega (arith, c.requires.level) in
+    root_read g.P.Ground c.args.pages.now c.args.index.now c.args.root (c.args.index.now.level - 1) c.requires.root step has (c.in-Err-entries_at.ensures.sound damage told)

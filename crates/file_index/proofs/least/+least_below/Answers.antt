@@ -1,4 +1,5 @@
 use Rattle.file_index.proofs.Descent.{sound_here, sound_below, least_below_is}
+use Rattle.file_index.specs.Damage.{every_page}
 use Rattle.file_index.proofs.Blame.{way_here}
 use Rattle.file_index.proofs.Ways.{fault_down, way_down, found_down}
 use Rattle.file_index.proofs.least.+least_below.Goals as goal
@@ -20,7 +21,7 @@ returns-in-Err-clause-sound g t c = λ damage told.
 
 pub returns-in-Err-clause-fault : goal.returns-in-Err-clause-fault
 returns-in-Err-clause-fault g t c = λ told.
-    way_here (g.P.Ground.geometry c.args.pages.now) (g.P.Ground.image c.args.pages.now) c.args.named.file_no c.args.key c.args.named.level c.args.named.least c.args.named.page.0 c.in-Err.fault c.if-named-eq0.false (c.in-Err.ensures.fault told)
+    way_here (g.P.Ground.geometry c.args.pages.now) every_page (g.P.Ground.image c.args.pages.now) c.args.named.file_no c.args.key c.args.named.level c.args.named.least c.args.named.page.0 c.in-Err.fault c.if-named-eq0.false (c.in-Err.ensures.fault told)
 
 pub returns-clause-fault : goal.returns-clause-fault
 returns-clause-fault g t c =

@@ -21,22 +21,22 @@ returns-then-ne-clause-err c = λ named.
     (c.seen-want.ensures ∙ ap (λ (l : ℕ). seen l c.args.named.now.least) (sym level) ∙ ap (λ (k : Option ℕ). seen c.level.result k) (sym key) ∙ sym c.seen-got.ensures)
 
 pub returns-then-file_no-named-clause-fault : goal.returns-then-file_no-named-clause-fault
-returns-then-file_no-named-clause-fault c = λ g size area.
-    blames_outside g c.args.page.now c.args.named.now.level c.args.named.now.file_no c.args.named.now.least c.args.named.now.page c.no_index_page-then-file_no-named.result area
+returns-then-file_no-named-clause-fault c = λ g held size area.
+    blames_outside g held c.args.page.now c.args.named.now.level c.args.named.now.file_no c.args.named.now.least c.args.named.now.page c.no_index_page-then-file_no-named.result area
     (λ of. c.if-file_no-named.true (c.file_no.ensures ∙ ap (λ (v : Indexed). v.file_no) c.in-Some.ensures.on ∙ file_of g.page_size c.args.page.now c.args.named.now.file_no c.args.named.now.least of)) c.no_index_page-then-file_no-named.ensures.is
 
 pub returns-then-len-least_entries-clause-fault : goal.returns-then-len-least_entries-clause-fault
-returns-then-len-least_entries-clause-fault c = λ g size area.
-    blames_outside g c.args.page.now c.args.named.now.level c.args.named.now.file_no c.args.named.now.least c.args.named.now.page c.no_index_page-then-len-least_entries.result area
+returns-then-len-least_entries-clause-fault c = λ g held size area.
+    blames_outside g held c.args.page.now c.args.named.now.level c.args.named.now.file_no c.args.named.now.least c.args.named.now.page c.no_index_page-then-len-least_entries.result area
     (λ of.
     let enough : least_entries (length c.args.page.now) c.args.named.now.least ≤ length (entries_on c.args.page.now) = subst (λ (n : ℕ). least_entries n c.args.named.now.least ≤ length (entries_on c.args.page.now)) size of.enough in
     absurd (omega (arith, enough, c.len.ensures.len, ap (λ (v : Indexed). length v.entries) c.in-Some.ensures.on, c.least_entries.ensures, c.if-len-least_entries.true)))
     c.no_index_page-then-len-least_entries.ensures.is
 
 pub returns-then-ne-clause-fault : goal.returns-then-ne-clause-fault
-returns-then-ne-clause-fault c = λ g size area.
+returns-then-ne-clause-fault c = λ g held size area.
     let enough : least_entries (length c.args.page.now) c.args.named.now.least ≤ length c.in-Some.view.entries = omega (arith, c.len.ensures.len, c.least_entries.ensures, c.if-len-least_entries.false) in
-    blames_other g c.args.page.now c.args.named.now.level c.args.named.now.file_no c.args.named.now.least c.args.named.now.page c.seen-want.result c.seen-got.result area
+    blames_other g held c.args.page.now c.args.named.now.level c.args.named.now.file_no c.args.named.now.least c.args.named.now.page c.seen-want.result c.seen-got.result area
     (of_index g.page_size c.args.page.now c.args.named.now.file_no c.args.named.now.least c.in-Some.view c.in-Some.ensures.found c.in-Some.ensures.on (sym c.file_no.ensures ∙ c.if-file_no-named.false)
     (subst (λ (n : ℕ). least_entries n c.args.named.now.least ≤ length c.in-Some.view.entries) (sym size) enough))
     c.seen-want.ensures

@@ -1,5 +1,6 @@
-use Rattle.std.proofs.Common.{◌≡◌, ◌≢◌, ◌<◌, Some, length, inl, inr, ◌+◌, ◌-◌, suc, List, take, drop, None, subst, sym, ap, ◌∙◌, refl, arith}
+use Rattle.std.proofs.Common.{◌≡◌, ◌≢◌, ◌<◌, Some, length, inl, inr, ◌+◌, ◌-◌, suc, List, take, drop, None, subst, sym, ap, ◌∙◌, refl, arith, true≢false}
 use Rattle.std.proofs.lemmas.Result.{on_ok_weaker}
+use Rattle.ex_base.proofs.Results.{if_err_handed}
 use Rattle.std.specs.Prelude.{◌==◌, if◌then◌else◌}
 use Rattle.ex_base.specs.declared.geometry.Geometry.{Geometry}
 use Rattle.index_pages.specs.declared.Entry.{Entry}
@@ -8,12 +9,12 @@ use Rattle.file_index.specs.Edits.{take_out}
 use Rattle.file_index.specs.Nodes.{IsPlace, IsWritten, first_key}
 use Rattle.file_index.specs.Damage.{place_in, beside_in, IsWay, IsWayFault, IsEntryFault}
 use Rattle.file_index.proofs.Blame.{way_here}
-use Rattle.file_index.proofs.Ways.{child_at, beside_at, page_way, page_removal, under_removal, entry_fault}
+use Rattle.file_index.proofs.Ways.{child_at, beside_at, page_way, page_gone, page_removal, under_removal, entry_fault}
 use Rattle.file_index.proofs.Descent.{on_three}
 use Rattle.file_index.proofs.Lists.{out_local}
-use Rattle.file_index.proofs.Descending.{never_read, row_below, stays_below, written_below}
+use Rattle.file_index.proofs.Descending.{never_read, row_below, held_below, stays_below, written_below}
 use Rattle.file_index.proofs.Leaves.{leaf_removed}
-use Rattle.file_index.proofs.Mending.{pair_known, mended, still_named, left_still, right_still, pages_differ}
+use Rattle.file_index.proofs.Mending.{pair_known, mended, still_named, pages_differ}
 use Rattle.file_index.proofs.removing.+remove_among.Goals as goal
 
 pub returns-then-level-eq1-clause-removes : goal.returns-then-level-eq1-clause-removes
@@ -78,12 +79,8 @@ returns-in-Ok-spread-clause-removes g t c = λ told row.
     (take c.saturating_sub-first.result c.args.entries.now.items) (drop (c.saturating_sub-first.result + 2) c.args.entries.now.items) c.args.entries.now.items step known.split.is row known.lacks
     c.entries_at.new.pages c.remove_among.new.pages c.in-Ok.below.items c.remove_among.new.entries.items c.entries_at.ensures.kept thin_read becomes
     c.spread.new.pages c.in-Ok-spread.left c.in-Ok-spread.right c.replace_two.new.entries.items
-    (c.in-Ok-spread.ensures.changes (right_still g.P.Ground c.args.pages.now c.args.file_no (c.args.level - 1 - 1) c.args.key (record { left = c.index.result.now; right = c.index-2.result.now; thin_is_left = c.place_of-at.result == 0; level = c.args.level - 1; file_no = c.args.file_no }) (c.args.level - 1)
-    (take c.saturating_sub-first.result c.args.entries.now.items) (drop (c.saturating_sub-first.result + 2) c.args.entries.now.items) c.args.entries.now.items step known.split.is row known.lacks
-    c.entries_at.new.pages c.remove_among.new.pages c.in-Ok.below.items c.remove_among.new.entries.items c.entries_at.ensures.kept thin_read becomes))
-    (c.in-Ok-spread.ensures.stored told_c (left_still g.P.Ground c.args.pages.now c.args.file_no (c.args.level - 1 - 1) c.args.key (record { left = c.index.result.now; right = c.index-2.result.now; thin_is_left = c.place_of-at.result == 0; level = c.args.level - 1; file_no = c.args.file_no }) (c.args.level - 1)
-    (take c.saturating_sub-first.result c.args.entries.now.items) (drop (c.saturating_sub-first.result + 2) c.args.entries.now.items) c.args.entries.now.items step known.split.is row known.lacks
-    c.entries_at.new.pages c.remove_among.new.pages c.in-Ok.below.items c.remove_among.new.entries.items c.entries_at.ensures.kept thin_read becomes) (pages_differ g.P.Ground c.args.pages.now c.args.file_no (c.args.level - 1 - 1) c.args.key (record { left = c.index.result.now; right = c.index-2.result.now; thin_is_left = c.place_of-at.result == 0; level = c.args.level - 1; file_no = c.args.file_no }) (c.args.level - 1)
+    c.in-Ok-spread.ensures.changes
+    (c.in-Ok-spread.ensures.stored told_c (pages_differ g.P.Ground c.args.pages.now c.args.file_no (c.args.level - 1 - 1) c.args.key (record { left = c.index.result.now; right = c.index-2.result.now; thin_is_left = c.place_of-at.result == 0; level = c.args.level - 1; file_no = c.args.file_no }) (c.args.level - 1)
     (take c.saturating_sub-first.result c.args.entries.now.items) (drop (c.saturating_sub-first.result + 2) c.args.entries.now.items) c.args.entries.now.items step known.split.is row known.lacks
     c.entries_at.new.pages c.remove_among.new.pages c.in-Ok.below.items c.remove_among.new.entries.items c.entries_at.ensures.kept thin_read becomes))
     (c.in-Ok-spread.ensures.enough told_c) (ap (λ p. p.0) c.in-Ok-spread.ensures.page) (c.in-Ok-spread.ensures.key told_c) c.replace_two.ensures
@@ -141,17 +138,17 @@ returns-in-Err-clause-fault g t c =
     let above : c.args.level - 1 ≢ 0 = λ none. omega (arith, c.requires.level, c.if-level-eq1.false) in
     let child = child_at c.args.key c.args.entries.now.items c.place_of-at.result c.index-child.result.now (c.place_of-at.ensures.is ∙ ap (place_in c.args.key) c.deref.ensures.value)
     (subst (λ (l : List Entry). c.place_of-at.result < length l) c.deref.ensures.value c.place_of-at.ensures.place.inside) c.index-child.ensures in
-    λ told. inl (subst (λ (e : Entry). IsWayFault (g.P.Ground.geometry c.args.pages.now) (g.P.Ground.image c.args.pages.now) c.args.file_no c.args.key (c.args.level - 1) (Some e.key) e.page.0 c.in-Err.fault) child
-    (way_here (g.P.Ground.geometry c.args.pages.now) (g.P.Ground.image c.args.pages.now) c.args.file_no c.args.key (c.args.level - 1) (Some c.index-child.result.now.key) c.index-child.result.now.page.0 c.in-Err.fault above (c.in-Err.ensures.fault told)))
+    λ told. inl (subst (λ (e : Entry). IsWayFault (g.P.Ground.geometry c.args.pages.now) (g.P.Ground.held c.args.pages.now) (g.P.Ground.image c.args.pages.now) c.args.file_no c.args.key (c.args.level - 1) (Some e.key) e.page.0 c.in-Err.fault) child
+    (way_here (g.P.Ground.geometry c.args.pages.now) (g.P.Ground.held c.args.pages.now) (g.P.Ground.image c.args.pages.now) c.args.file_no c.args.key (c.args.level - 1) (Some c.index-child.result.now.key) c.index-child.result.now.page.0 c.in-Err.fault above (c.in-Err.ensures.fault told)))
 
 pub returns-in-Err-remove_among-clause-fault : goal.returns-in-Err-remove_among-clause-fault
 returns-in-Err-remove_among-clause-fault g t c =
     let above : c.args.level - 1 ≢ 0 = λ none. omega (arith, c.requires.level, c.if-level-eq1.false) in
     let child = child_at c.args.key c.args.entries.now.items c.place_of-at.result c.index-child.result.now (c.place_of-at.ensures.is ∙ ap (place_in c.args.key) c.deref.ensures.value)
     (subst (λ (l : List Entry). c.place_of-at.result < length l) c.deref.ensures.value c.place_of-at.ensures.place.inside) c.index-child.ensures in
-    λ told. under_removal (g.P.Ground.geometry c.args.pages.now) (g.P.Ground.image c.args.pages.now) (g.P.Ground.image c.remove_among.new.pages) c.args.file_no c.args.key (c.args.level - 1) c.args.entries.now.items c.index-child.result.now c.in-Err-remove_among.fault child
+    λ told. under_removal (g.P.Ground.geometry c.args.pages.now) (g.P.Ground.held c.args.pages.now) (g.P.Ground.image c.args.pages.now) (g.P.Ground.held c.remove_among.new.pages) (g.P.Ground.image c.remove_among.new.pages) c.args.file_no c.args.key (c.args.level - 1) c.args.entries.now.items c.index-child.result.now c.in-Err-remove_among.fault child
     (page_removal g.P.Ground c.args.pages.now c.entries_at.new.pages c.args.file_no (c.args.level - 1) (Some c.index-child.result.now.key) c.index-child.result.now.page.0 c.args.key c.in-Ok.below.items above c.entries_at.ensures.kept c.in-Ok.ensures.entries
-    (λ told_a. record { area = c.in-Ok.ensures.area; named = c.in-Ok.ensures.named told_a }) (g.P.Ground.image c.remove_among.new.pages) c.in-Err-remove_among.fault c.in-Err-remove_among.ensures.fault told)
+    (λ told_a. record { area = c.in-Ok.ensures.area; named = c.in-Ok.ensures.named told_a }) (g.P.Ground.held c.remove_among.new.pages) (g.P.Ground.image c.remove_among.new.pages) c.in-Err-remove_among.fault c.in-Err-remove_among.ensures.fault told)
 
 pub returns-in-Err-spread-clause-fault : goal.returns-in-Err-spread-clause-fault
 returns-in-Err-spread-clause-fault g t c =
@@ -163,6 +160,26 @@ returns-in-Err-spread-clause-fault g t c =
     let told_b = g.P.Ground.leads_told c.args.pages.now c.entries_at.new.pages c.entries_at.ensures.kept.leads told in
     let told_c = g.P.Ground.leads_told c.entries_at.new.pages c.remove_among.new.pages c.remove_among.ensures.leads told_b in
     let leads = g.P.Ground.leads_trans c.args.pages.now c.entries_at.new.pages c.remove_among.new.pages c.entries_at.ensures.kept.leads c.remove_among.ensures.leads in
-    inr (inl (subst (λ (y : Geometry). IsEntryFault y (g.P.Ground.image c.spread.new.pages) c.args.file_no (c.args.level - 1) (beside_in c.args.key c.args.entries.now.items) c.in-Err-spread.fault) (g.P.Ground.leads_geometry c.args.pages.now c.remove_among.new.pages leads)
-    (subst (λ (e : Entry). IsEntryFault (g.P.Ground.geometry c.remove_among.new.pages) (g.P.Ground.image c.spread.new.pages) c.args.file_no (c.args.level - 1) e c.in-Err-spread.fault) beside
-    (entry_fault (g.P.Ground.geometry c.remove_among.new.pages) (g.P.Ground.image c.spread.new.pages) c.args.file_no (c.args.level - 1) (if c.place_of-at.result == 0 then c.index-2.result.now else c.index.result.now) c.in-Err-spread.fault above (c.in-Err-spread.ensures.fault told_c)))))
+    inr (inl (subst (λ (y : Geometry). IsEntryFault y (g.P.Ground.held c.spread.new.pages) (g.P.Ground.image c.spread.new.pages) c.args.file_no (c.args.level - 1) (beside_in c.args.key c.args.entries.now.items) c.in-Err-spread.fault) (g.P.Ground.leads_geometry c.args.pages.now c.remove_among.new.pages leads)
+    (subst (λ (e : Entry). IsEntryFault (g.P.Ground.geometry c.remove_among.new.pages) (g.P.Ground.held c.spread.new.pages) (g.P.Ground.image c.spread.new.pages) c.args.file_no (c.args.level - 1) e c.in-Err-spread.fault) beside
+    (entry_fault (g.P.Ground.geometry c.remove_among.new.pages) (g.P.Ground.held c.spread.new.pages) (g.P.Ground.image c.spread.new.pages) c.args.file_no (c.args.level - 1) (if c.place_of-at.result == 0 then c.index-2.result.now else c.index.result.now) c.in-Err-spread.fault above (c.in-Err-spread.ensures.fault told_c)))))
+
+pub returns-in_err-still_held-in-Ok-true-clause-sound : goal.returns-in_err-still_held-in-Ok-true-clause-sound
+returns-in_err-still_held-in-Ok-true-clause-sound g t c = if_err_handed c.from_residual.result _ c.in_err-still_held-in-Ok-true.field-0.0 c.from_residual.ensures.1 (λ damage told row.
+    let step : suc (c.args.level - 1 - 1) ≡ c.args.level - 1 = omega (arith, c.requires.level, c.if-level-eq1.false) in
+    let place = (subst (λ (l : List Entry). IsPlace c.args.key l c.place_of-at.result) c.deref.ensures.value c.place_of-at.ensures.place) in
+    let told_b = g.P.Ground.leads_told c.args.pages.now c.entries_at.new.pages c.entries_at.ensures.kept.leads told in
+    let read = c.in-Ok.ensures.entries told in
+    let below_row = row_below g.P.Ground c.args.pages.now c.args.file_no (c.args.level - 1) (c.args.level - 1 - 1) c.args.key c.args.entries.now.items c.place_of-at.result c.index-child.result.now step place c.index-child.ensures c.entries_at.new.pages c.in-Ok.below.items c.entries_at.ensures.kept read row in
+    let held = held_below g.P.Ground c.args.pages.now c.args.file_no (c.args.level - 1) (c.args.level - 1 - 1) c.args.key c.args.entries.now.items c.place_of-at.result c.index-child.result.now step place c.index-child.ensures c.entries_at.new.pages c.in-Ok.below.items c.entries_at.ensures.kept read
+    c.remove_among.new.pages (take_out c.args.key) c.remove_among.new.entries.items row (c.in-Ok-true.ensures.removes told_b below_row) in
+    true≢false (sym held ∙ c.in_err-still_held-in-Ok-true.ensures.gone.0))
+
+pub returns-in_err-still_held-in-Ok-true-clause-fault : goal.returns-in_err-still_held-in-Ok-true-clause-fault
+returns-in_err-still_held-in-Ok-true-clause-fault g t c = if_err_handed c.from_residual.result _ c.in_err-still_held-in-Ok-true.field-0.0 c.from_residual.ensures.1 (λ told.
+    let above : c.args.level - 1 ≢ 0 = λ none. omega (arith, c.requires.level, c.if-level-eq1.false) in
+    let child = child_at c.args.key c.args.entries.now.items c.place_of-at.result c.index-child.result.now (c.place_of-at.ensures.is ∙ ap (place_in c.args.key) c.deref.ensures.value)
+    (subst (λ (l : List Entry). c.place_of-at.result < length l) c.deref.ensures.value c.place_of-at.ensures.place.inside) c.index-child.ensures in
+    under_removal (g.P.Ground.geometry c.args.pages.now) (g.P.Ground.held c.args.pages.now) (g.P.Ground.image c.args.pages.now) (g.P.Ground.held c.remove_among.new.pages) (g.P.Ground.image c.remove_among.new.pages) c.args.file_no c.args.key (c.args.level - 1) c.args.entries.now.items c.index-child.result.now c.in_err-still_held-in-Ok-true.field-0.0 child
+    (inr (page_gone g.P.Ground c.args.pages.now c.entries_at.new.pages c.args.file_no (c.args.level - 1) (Some c.index-child.result.now.key) c.index-child.result.now.page.0 c.args.key c.in-Ok.below.items above c.entries_at.ensures.kept c.in-Ok.ensures.entries
+    (λ told_a. record { area = c.in-Ok.ensures.area; named = c.in-Ok.ensures.named told_a }) (g.P.Ground.held c.remove_among.new.pages) (g.P.Ground.image c.remove_among.new.pages) c.in_err-still_held-in-Ok-true.field-0.0 c.in_err-still_held-in-Ok-true.ensures.gone told)))

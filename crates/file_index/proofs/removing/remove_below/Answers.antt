@@ -1,10 +1,11 @@
-use Rattle.std.proofs.Common.{◌≡◌, ◌≢◌, None, inl, ◌-◌, suc, List, subst, arith}
+use Rattle.std.proofs.Common.{◌≡◌, ◌≢◌, None, inl, inr, ◌-◌, ◌∙◌, suc, sym, List, subst, arith, true≢false}
+use Rattle.ex_base.proofs.Results.{if_err_handed}
 use Rattle.index_pages.specs.declared.Entry.{Entry}
 use Rattle.file_index.specs.Edits.{take_out}
 use Rattle.file_index.specs.Nodes.{IsWritten}
 use Rattle.file_index.proofs.Blame.{way_here}
-use Rattle.file_index.proofs.Ways.{page_way, page_removal, root_way, root_fault, root_removal}
-use Rattle.file_index.proofs.Tops.{row_top, same_top, written_top, lowered_top, single}
+use Rattle.file_index.proofs.Ways.{page_way, page_gone, page_removal, root_way, root_fault, root_removal}
+use Rattle.file_index.proofs.Tops.{root_read, row_top, held_top, same_top, written_top, lowered_top, single}
 use Rattle.file_index.proofs.removing.remove_below.Goals as goal
 
 pub returns-in-Err-clause-cause : goal.returns-in-Err-clause-cause
@@ -72,12 +73,34 @@ returns-clause-way g c =
 pub returns-in-Err-entries_at-clause-fault : goal.returns-in-Err-entries_at-clause-fault
 returns-in-Err-entries_at-clause-fault g c =
     let above : c.args.index.now.level ≢ 0 = λ none. omega (arith, c.requires.level) in
-    λ told. inl (root_fault (g.P.Ground.geometry c.args.pages.now) (g.P.Ground.image c.args.pages.now) c.args.index.now.file_no c.args.key.0 c.args.index.now.level c.args.index.now.root c.args.root c.requires.root c.in-Err-entries_at.fault
-    (way_here (g.P.Ground.geometry c.args.pages.now) (g.P.Ground.image c.args.pages.now) c.args.index.now.file_no c.args.key.0 c.args.index.now.level None c.args.root.0 c.in-Err-entries_at.fault above (c.in-Err-entries_at.ensures.fault told)))
+    λ told. inl (root_fault (g.P.Ground.geometry c.args.pages.now) (g.P.Ground.held c.args.pages.now) (g.P.Ground.image c.args.pages.now) c.args.index.now.file_no c.args.key.0 c.args.index.now.level c.args.index.now.root c.args.root c.requires.root c.in-Err-entries_at.fault
+    (way_here (g.P.Ground.geometry c.args.pages.now) (g.P.Ground.held c.args.pages.now) (g.P.Ground.image c.args.pages.now) c.args.index.now.file_no c.args.key.0 c.args.index.now.level None c.args.root.0 c.in-Err-entries_at.fault above (c.in-Err-entries_at.ensures.fault told)))
 
 pub returns-in-Err-remove_among-clause-fault : goal.returns-in-Err-remove_among-clause-fault
 returns-in-Err-remove_among-clause-fault g c =
     let above : c.args.index.now.level ≢ 0 = λ none. omega (arith, c.requires.level) in
-    λ told. root_removal (g.P.Ground.geometry c.args.pages.now) (g.P.Ground.image c.args.pages.now) c.args.index.now.file_no c.args.key.0 c.args.index.now.level c.args.index.now.root c.args.root c.requires.root (g.P.Ground.image c.remove_among.new.pages) c.in-Err-remove_among.fault
+    λ told. root_removal (g.P.Ground.geometry c.args.pages.now) (g.P.Ground.held c.args.pages.now) (g.P.Ground.image c.args.pages.now) c.args.index.now.file_no c.args.key.0 c.args.index.now.level c.args.index.now.root c.args.root c.requires.root (g.P.Ground.held c.remove_among.new.pages) (g.P.Ground.image c.remove_among.new.pages) c.in-Err-remove_among.fault
     (page_removal g.P.Ground c.args.pages.now c.entries_at.new.pages c.args.index.now.file_no c.args.index.now.level None c.args.root.0 c.args.key.0 c.in-Ok-entries_at.entries.items above c.entries_at.ensures.kept c.in-Ok-entries_at.ensures.entries
-    (λ told_a. record { area = c.in-Ok-entries_at.ensures.area; named = c.in-Ok-entries_at.ensures.named told_a }) (g.P.Ground.image c.remove_among.new.pages) c.in-Err-remove_among.fault c.in-Err-remove_among.ensures.fault told)
+    (λ told_a. record { area = c.in-Ok-entries_at.ensures.area; named = c.in-Ok-entries_at.ensures.named told_a }) (g.P.Ground.held c.remove_among.new.pages) (g.P.Ground.image c.remove_among.new.pages) c.in-Err-remove_among.fault c.in-Err-remove_among.ensures.fault told)
+
+pub returns-in_err-still_held-in-Ok-true-clause-sound : goal.returns-in_err-still_held-in-Ok-true-clause-sound
+returns-in_err-still_held-in-Ok-true-clause-sound g c = if_err_handed c.from_residual.result _ c.in_err-still_held-in-Ok-true.field-0.0 c.from_residual.ensures.1 (λ damage told has.
+    let step : suc (c.args.index.now.level - 1) ≡ c.args.index.now.level = omega (arith, c.requires.level) in
+    let told_b = g.P.Ground.leads_told c.args.pages.now c.entries_at.new.pages c.entries_at.ensures.kept.leads told in
+    let read = c.in-Ok-entries_at.ensures.entries told in
+    let row = row_top g.P.Ground c.args.pages.now c.args.index.now c.args.root (c.args.index.now.level - 1) c.requires.root step has c.entries_at.new.pages c.in-Ok-entries_at.entries.items c.entries_at.ensures.kept read in
+    let held = held_top g.P.Ground c.args.pages.now c.args.index.now c.args.root (c.args.index.now.level - 1) c.requires.root step has c.entries_at.new.pages c.in-Ok-entries_at.entries.items c.entries_at.ensures.kept read
+    c.remove_among.new.pages (take_out c.args.key.0) c.remove_among.new.entries.items (c.in-Ok-true.ensures.removes told_b row) in
+    true≢false (sym held ∙ c.in_err-still_held-in-Ok-true.ensures.gone.0))
+
+pub returns-in_err-still_held-in-Ok-true-clause-fault : goal.returns-in_err-still_held-in-Ok-true-clause-fault
+returns-in_err-still_held-in-Ok-true-clause-fault g c = if_err_handed c.from_residual.result _ c.in_err-still_held-in-Ok-true.field-0.0 c.from_residual.ensures.1 (λ told.
+    let above : c.args.index.now.level ≢ 0 = λ none. omega (arith, c.requires.level) in
+    root_removal (g.P.Ground.geometry c.args.pages.now) (g.P.Ground.held c.args.pages.now) (g.P.Ground.image c.args.pages.now) c.args.index.now.file_no c.args.key.0 c.args.index.now.level c.args.index.now.root c.args.root c.requires.root (g.P.Ground.held c.remove_among.new.pages) (g.P.Ground.image c.remove_among.new.pages) c.in_err-still_held-in-Ok-true.field-0.0
+    (inr (page_gone g.P.Ground c.args.pages.now c.entries_at.new.pages c.args.index.now.file_no c.args.index.now.level None c.args.root.0 c.args.key.0 c.in-Ok-entries_at.entries.items above c.entries_at.ensures.kept c.in-Ok-entries_at.ensures.entries
+    (λ told_a. record { area = c.in-Ok-entries_at.ensures.area; named = c.in-Ok-entries_at.ensures.named told_a }) (g.P.Ground.held c.remove_among.new.pages) (g.P.Ground.image c.remove_among.new.pages) c.in_err-still_held-in-Ok-true.field-0.0 c.in_err-still_held-in-Ok-true.ensures.gone told)))
+
+pub returns-in-Err-entries_at-clause-sound : goal.returns-in-Err-entries_at-clause-sound
+returns-in-Err-entries_at-clause-sound g c = λ damage told has.
+    let step : suc (c.args.index.now.level - 1) ≡ c.args.index.now.level = omega (arith, c.requires.level) in
+    root_read g.P.Ground c.args.pages.now c.args.index.now c.args.root (c.args.index.now.level - 1) c.requires.root step has (c.in-Err-entries_at.ensures.sound damage told)

@@ -28,7 +28,7 @@ loop-root-preserved g c =
       | else-balanced w ↦ both_swapped _ _ _ (both_else c.in_ok-same.same _ _ w.if-balanced.false (w.balanced-is ∙ w.if-balanced.false))
     ] in
     roots_more g.P.Ground c.args.geometry.now c.args.pages.now c.loop-root.pages c.walk_tree.new.pages c.args.units.now c.loop-root.units c.walk_tree.new.units c.args.roots.now c.loop-root.root-index c.loop-root.balanced c.in_ok-same.same c.if-balanced.balanced
-    c.loop-root-test.true found.holds found.fails c.loop-root.invariant c.in_ok-same.ensures.kept c.in_ok-same.ensures.geometry c.in_ok-same.ensures.counted
+    c.loop-root-test.true found.holds found.fails c.loop-root.invariant c.in_ok-same.ensures.kept c.in_ok-same.ensures.geometry c.in_ok-same.ensures.stays c.in_ok-same.ensures.counted
     c.in_ok-same.ensures.counts
     (λ told bytes shows. record {
       named = c.in_ok-same.ensures.named told bytes shows;
@@ -71,3 +71,6 @@ returns-clause-owned g c = λ told bytes shows logged is_used.
     let now = c.loop-root.units in
     let counts = counts_end g.P.Ground c.args.geometry.now c.args.pages.now c.loop-root.pages c.args.units.now now c.args.roots.now c.loop-root.root-index c.loop-root.balanced (omega arith) c.loop-root.invariant told bytes shows in
     all_owned c.args.geometry.now bytes (root_pages c.args.roots.now) logged (used_at c.args.units.now) (used_at now) (refs_at c.args.units.now) (refs_at now) c.requires.fresh is_used c.loop-root.invariant.counted.owned counts
+
+pub returns-in_err-same-clause-stays : goal.returns-in_err-same-clause-stays
+returns-in_err-same-clause-stays g c = λ unit is. c.in_err-same.ensures.stays unit (c.loop-root.invariant.stays unit is)

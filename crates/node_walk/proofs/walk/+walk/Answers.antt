@@ -48,7 +48,7 @@ loop-child-preserved g t c =
       | else-balanced w ↦ both_swapped _ _ _ (both_else c.in_ok-same.same _ _ w.if-balanced.false (w.balanced-is ∙ w.if-balanced.false))
     ] in
     walk_more g.P.Ground c.args.geometry.now c.meet.new.pages c.loop-child.pages c.walk.new.pages c.meet.new.units c.loop-child.units c.walk.new.units (notes_in c.meet.new.known) (notes_in c.loop-child.known) (notes_in c.walk.new.known)
-    c.args.level c.deref-child-items.result.now c.loop-child.child-index c.loop-child.balanced c.in_ok-same.same c.if-balanced.balanced c.loop-child-test.true found.holds found.fails c.loop-child.invariant c.in_ok-same.ensures.kept c.in_ok-same.ensures.geometry c.in_ok-same.ensures.tracked
+    c.args.level c.deref-child-items.result.now c.loop-child.child-index c.loop-child.balanced c.in_ok-same.same c.if-balanced.balanced c.loop-child-test.true found.holds found.fails c.loop-child.invariant c.in_ok-same.ensures.kept c.in_ok-same.ensures.geometry c.in_ok-same.ensures.stays c.in_ok-same.ensures.tracked
     (λ told bytes shows notes. subst (λ (least : Least). Walked c.args.geometry.now bytes (c.args.level - 1) least (get_or c.deref-child-items.result.now c.loop-child.child-index no_part ∷ []) (used_at c.loop-child.units) (notes_in c.loop-child.known) (used_at c.walk.new.units) (notes_in c.walk.new.known) c.in_ok-same.same)
     c.least_below-below.ensures (c.in_ok-same.ensures.walked told bytes shows notes))
     (λ told bytes shows notes. c.in_ok-same.ensures.counts told bytes shows notes)
@@ -90,3 +90,9 @@ returns-clause-counts g t c = λ told bytes shows notes.
     (refs_at c.args.units.now) (refs_at c.meet.new.units) (refs_at c.loop-child.units) c.requires.tracked.counted.few note c.in_ok-node.ensures.counted meets
     (subst (λ (xs : List Part). CountsMet geo bytes (row_pages xs) (used_at c.meet.new.units) (refs_at c.meet.new.units) (used_at c.loop-child.units) (refs_at c.loop-child.units) noted)
     (take_all c.loop-child.child-index row (omega arith)) (c.loop-child.invariant.counts told1 bytes shows1 notes1))
+
+pub returns-in_err-same-clause-stays : goal.returns-in_err-same-clause-stays
+returns-in_err-same-clause-stays g t c = λ unit is. c.in_err-same.ensures.stays unit (c.loop-child.invariant.stays unit (c.in_ok-node.ensures.stays unit is))
+
+pub returns-clause-stays : goal.returns-clause-stays
+returns-clause-stays g t c = λ unit is. c.loop-child.invariant.stays unit (c.in_ok-node.ensures.stays unit is)

@@ -1,4 +1,5 @@
-use Rattle.std.proofs.Common.{◌≡◌, Option, None, Some, IfNone, rules, refl}
+use Rattle.std.proofs.Common.{rules}
+use Rattle.ex_base.proofs.Options.{none_is}
 use Rattle.node_walk.specs.Walk.{IsNodeOn}
 use Rattle.node_walk.proofs.Facts.{same_part}
 use Rattle.node_walk.proofs.Levels.{not_named, not_read}
@@ -8,10 +9,6 @@ pub returns-then-node-level-clause-bad : goal.returns-then-node-level-clause-bad
 returns-then-node-level-clause-bad g c = λ part is told bytes shows.
     let on : IsNodeOn c.args.geometry.now.fan (g.P.Ground.image c.args.pages.now c.args.page.0) c.in-Some.node.met c.in-Some.node.below.items = search rules in
     (same_part _ _ is, λ named. absurd (not_named c.args.geometry.now bytes (g.P.Ground.image c.args.pages.now) c.args.level c.args.page.0 c.in-Some.node.met c.in-Some.node.below.items c.requires.level shows on c.if-node-level.true named))
-
-none_is : {A : Type 0} {X : Type 0} (found : Option A) → ((x : A) → found ≡ Some x → ⊥) → IfNone found X → X
-none_is None never is = is
-none_is (Some x) never is = absurd (never x refl)
 
 pub returns-in_default-clause-bad : goal.returns-in_default-clause-bad
 returns-in_default-clause-bad g c = λ part is told bytes shows. (

@@ -1,4 +1,4 @@
-use Rattle.std.proofs.Common.{◌≡◌, ℕ, Bool, sym, subst}
+use Rattle.std.proofs.Common.{◌≡◌, ◌∙◌, ℕ, Bool, sym, ap, subst}
 use Rattle.node_walk.specs.Notes.{notes_in}
 use Rattle.page_alloc.specs.UnitSet.{used_at, refs_at}
 use Rattle.node_walk.specs.Counts.{counted_at}
@@ -26,3 +26,6 @@ returns-clause-tracked g c =
     let is = (c.in_ok-node.ensures.tracked.noted c.args.page.0 c.in_ok-node.ensures.noted).1 in
     tracked_counted c.args.geometry.now c.note.new.units c.add_ref.new.self (notes_in c.note.new.known) c.args.page.0 c.in_ok-node.ensures.tracked is c.add_ref.ensures.used
     (one_more c.note.new.units c.add_ref.new.self c.args.page.0 c.in_ok-node.ensures.tracked.counted is c.add_ref.ensures.refs)
+
+pub returns-clause-stays : goal.returns-clause-stays
+returns-clause-stays g c = λ unit is. ap (λ (f : ℕ → Bool). f unit) c.add_ref.ensures.used ∙ c.in_ok-node.ensures.uses.stays unit is

@@ -3,7 +3,7 @@ use Rattle.node_walk.specs.Notes.{notes_in}
 use Rattle.page_alloc.specs.UnitSet.{used_at}
 use Rattle.node_walk.proofs.Facts.{same_part, handed_err, updated_here, updated_else}
 use Rattle.node_walk.proofs.Levels.{same_level}
-use Rattle.node_walk.proofs.Tracking.{tracked_first}
+use Rattle.node_walk.proofs.Tracking.{still_updated, tracked_first}
 use Rattle.node_walk.proofs.walk.note.Goals as goal
 
 pub returns-then-met-level-clause-bad : goal.returns-then-met-level-clause-bad
@@ -46,3 +46,17 @@ returns-in-Ok-clause-tracked g c =
 
 pub returns-in-Ok-clause-noted : goal.returns-in-Ok-clause-noted
 returns-in-Ok-clause-noted g c = (c.in_ok-node.node.met, c.in-Ok.ensures.here)
+
+pub returns-in-Ok-clause-uses : goal.returns-in-Ok-clause-uses
+returns-in-Ok-clause-uses g c = record {
+  geometry = c.adopt.ensures.geometry;
+  stays = λ unit is. ap (λ (f : ℕ → Bool). f unit) c.adopt.ensures.used ∙ still_updated (used_at c.args.units.now) c.args.page.0 unit is;
+  refs = c.adopt.ensures.refs;
+}
+
+pub returns-in-Err-clause-uses : goal.returns-in-Err-clause-uses
+returns-in-Err-clause-uses g c = record {
+  geometry = c.adopt.ensures.geometry;
+  stays = λ unit is. ap (λ (f : ℕ → Bool). f unit) c.adopt.ensures.used ∙ still_updated (used_at c.args.units.now) c.args.page.0 unit is;
+  refs = c.adopt.ensures.refs;
+}

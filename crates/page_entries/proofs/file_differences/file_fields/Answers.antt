@@ -6,7 +6,8 @@ use Rattle.object_files.specs.Catalog.{FileEntry, IsEntry, entry_bytes}
 use Rattle.object_files.proofs.CatalogLaws.{length-spelled}
 use Rattle.page_entries.specs.Rule.{has_same, files_changed}
 use Rattle.page_entries.specs.Said.{Files, said_bytes}
-use Rattle.page_entries.proofs.FilesDiffering.{each_kept, few_kept, files_found}
+use Rattle.ex_base.proofs.Filters.{each_kept, few_kept}
+use Rattle.page_entries.proofs.FilesDiffering.{files_found}
 use Rattle.page_entries.proofs.file_differences.file_fields.Goals as goal
 
 pub files_spelled-requires-clause-put : goal.files_spelled-requires-clause-put

@@ -1,6 +1,6 @@
 use Rattle.ex_base.specs.Fields.{eight_bytes}
 use Rattle.ex_base.proofs.FieldLaws.{eight_is}
-use Rattle.page_entries.proofs.Pushing.{pushed}
+use Rattle.ex_base.proofs.Writing.{pushed}
 use Rattle.page_entries.proofs.spelling.push_eight.Goals as goal
 
 pub returns : goal.returns

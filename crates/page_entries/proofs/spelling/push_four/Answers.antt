@@ -1,6 +1,6 @@
 use Rattle.ex_base.specs.Fields.{four_bytes}
 use Rattle.ex_base.proofs.FieldLaws.{four_is}
-use Rattle.page_entries.proofs.Pushing.{pushed}
+use Rattle.ex_base.proofs.Writing.{pushed}
 use Rattle.page_entries.proofs.spelling.push_four.Goals as goal
 
 pub returns : goal.returns

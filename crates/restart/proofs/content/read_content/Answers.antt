@@ -16,7 +16,7 @@ use Rattle.trees.specs.Trees.{Units as Bytes}
 use Rattle.restart.specs.declared.content.Reached.{Reached}
 use Rattle.restart.specs.Content.{AreHeld, IsFirstBad, roots_found}
 use Rattle.restart.proofs.FilesTested.{UsedAre, files_bad, files_reached, trees_bad, unique_bad, used_are}
-use Rattle.restart.proofs.Owners.{used_times}
+use Rattle.ex_base.proofs.Counts.{used_times}
 use Rattle.restart.proofs.Superblocks.{fault_of, same_fault}
 use Rattle.restart.proofs.UnitsNamed.{counted}
 use Rattle.ex_base.proofs.Keeping.{keeps_on}
@@ -101,12 +101,15 @@ logged_pages-requires g c =
 
 pub returns-in-Ok-logged_pages-clause-reached : goal.returns-in-Ok-logged_pages-clause-reached
 returns-in-Ok-logged_pages-clause-reached g c =
+    let after = (goal.at.returns-in-Ok-logged_pages-clause-reached g c).After-walk_trees in
+    let held = subst (λ (pages : List PageNo). AreHeld c.in-Ok-logged_pages.pages (page_numbers pages)) c.deref-3.ensures.value c.in-Ok-logged_pages.ensures.held in
     let geometry = c.walk_trees.ensures.geometry ∙ (c.walk_files.ensures.units.geometry ∙ c.in-Ok.ensures.geometry) in
     record {
       counted = counted c.args.geometry.now c.walk_trees.new.units (subst IsFitting c.units-2.view_is c.units-2.invariant) geometry c.in-Ok-walk_trees.ensures.counted;
       held_len = c.in-Ok-logged_pages.ensures.lengths.0;
       taken_len = c.in-Ok-logged_pages.ensures.lengths.1;
       home = (c.in-Ok-logged_pages.ensures.held catalog_no).1 (0, omega arith, refl);
+      in_use = λ page is. c.in-Ok-walk_trees.ensures.stays page ((used_files g after page).1 ((held page).0 is));
       taken = c.in-Ok-logged_pages.ensures.taken;
     }
 

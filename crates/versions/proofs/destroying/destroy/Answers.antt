@@ -8,7 +8,7 @@ use Rattle.file_bodies.proofs.Moving.{kept_body}
 use Rattle.version_model.specs.Versions.{place_of}
 use Rattle.versions.specs.Damage.{record_fault, finding, unasked, taking}
 use Rattle.file_bodies.specs.Damage.{IsTakingFault}
-use Rattle.file_bodies.proofs.Blame.{carried}
+use Rattle.file_bodies.proofs.Blame.{carried_held}
 use Rattle.versions.proofs.Results.{none_some, same_some, ok_of}
 use Rattle.versions.specs.declared.finding.Found.{Found}
 use Rattle.file_bodies.proofs.Belonging.{file_of_body}
@@ -62,5 +62,5 @@ returns-in_err-check-clause-fault g c = if_err_handed c.from_residual-in_err-che
 
 pub returns-clause-fault : goal.returns-clause-fault
 returns-clause-fault g c = IfErr-weaker c.remove_from_file.result _ _ (λ fault h told.
-    taking (subst (λ (p : Place). IsTakingFault (g.V.Ground.geometry c.args.volume.now) (g.V.Ground.image c.args.volume.now) (g.V.Ground.image c.remove_from_file.new.pages) p fault) c.place_of-place.ensures
-    (carried g.V.Ground c.args.volume.now c.find.new.volume (λ y u. IsTakingFault y u (g.V.Ground.image c.remove_from_file.new.pages) c.place_of-place.result fault) c.find.ensures.kept h told))) c.remove_from_file.ensures.fault
+    taking (subst (λ (p : Place). IsTakingFault (g.V.Ground.geometry c.args.volume.now) (g.V.Ground.held c.args.volume.now) (g.V.Ground.image c.args.volume.now) (g.V.Ground.held c.remove_from_file.new.pages) (g.V.Ground.image c.remove_from_file.new.pages) p fault) c.place_of-place.ensures
+    (carried_held g.V.Ground c.args.volume.now c.find.new.volume (λ y k u. IsTakingFault y k u (g.V.Ground.held c.remove_from_file.new.pages) (g.V.Ground.image c.remove_from_file.new.pages) c.place_of-place.result fault) c.find.ensures.kept h told))) c.remove_from_file.ensures.fault

@@ -57,7 +57,7 @@ returns-clause-sound g c = IfErr-weaker c.convert.result _ _ (λ fault sound dam
 
 pub returns-in-Err-clause-fault : goal.returns-in-Err-clause-fault
 returns-in-Err-clause-fault g c = λ told.
-    place_bytes (g.V.Ground.geometry c.args.volume.now) (g.V.Ground.unit c.args.volume.now) (g.V.Ground.image c.args.volume.now c.place_of.result.page.0) c.place_of.result c.args.oid.now no_tree c.in-Err.fault c.place_of.ensures (c.in-Err.ensures.fault told)
+    place_bytes (g.V.Ground.geometry c.args.volume.now) (g.V.Ground.unit c.args.volume.now) (g.V.Ground.held c.args.volume.now) (g.V.Ground.image c.args.volume.now c.place_of.result.page.0) c.place_of.result c.args.oid.now no_tree c.in-Err.fault c.place_of.ensures (c.in-Err.ensures.fault told)
 
 pub returns-in_err-check-clause-fault : goal.returns-in_err-check-clause-fault
 returns-in_err-check-clause-fault g c = if_err_handed c.from_residual.result _ _ c.from_residual.ensures.1 (λ told. unlike (c.in_err-check.ensures.fault.1 ∙ ap record_fault c.place_of-2.ensures))

@@ -8,7 +8,8 @@ use Rattle.std.proofs.lemmas.Result.{IfOk-weaker, IfErr-weaker}
 use Rattle.ex_base.proofs.Options.{at_some}
 use Rattle.versions.specs.Found.{IsTold, IsRecordBody}
 use Rattle.versions.specs.Damage.{StandsOn, IsBodyFault, in_file, at_place}
-use Rattle.versions.proofs.Results.{if_some_both, some_both, same_some, match_some, match_none}
+use Rattle.ex_base.proofs.Options.{if_some_both, some_both}
+use Rattle.versions.proofs.Results.{same_some, match_some, match_none}
 use Rattle.object_records.specs.Record.{BodyOf}
 use Rattle.object_records.specs.Reads.{small_record}
 use Rattle.version_model.specs.Versions.{lone_head}

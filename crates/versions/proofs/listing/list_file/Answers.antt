@@ -1,6 +1,7 @@
 use Rattle.std.proofs.Common.{◌+◌, None, subst, sym}
 use Rattle.file_bodies.specs.Bodies.{bodies_of}
 use Rattle.file_bodies.specs.Places.{IsNext}
+use Rattle.file_index.specs.Damage.{every_page}
 use Rattle.file_bodies.specs.Damage.{IsListedFault, IsLookFault, page_from}
 use Rattle.file_bodies.proofs.Blame.{carried}
 use Rattle.file_bodies.proofs.Moving.{kept_body}
@@ -51,7 +52,7 @@ places-preserved g c = record {
 
 pub returns-in-Err-clause-fault : goal.returns-in-Err-clause-fault
 returns-in-Err-clause-fault g c = λ told. walking c.places.after
-    (carried g.V.Ground c.args.volume.now c.places.volume (λ y u. IsListedFault u c.args.file_no (λ index. IsLookFault y u index (page_from c.places.after) c.in-Err.fault) c.in-Err.fault) c.places.invariant.kept c.in-Err.ensures.fault told)
+    (carried g.V.Ground c.args.volume.now c.places.volume (λ y u. IsListedFault u c.args.file_no (λ index. IsLookFault y every_page u index (page_from c.places.after) c.in-Err.fault) c.in-Err.fault) c.places.invariant.kept c.in-Err.ensures.fault told)
 
 pub returns-in-Err-list_place-clause-fault : goal.returns-in-Err-list_place-clause-fault
 returns-in-Err-list_place-clause-fault g c = λ told. stepping c.in-Ok-Some.place

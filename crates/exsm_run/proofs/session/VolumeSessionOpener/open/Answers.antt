@@ -29,3 +29,6 @@ returns-in-Ok-make-clause-any_moment g c image honest holds = leaves_opening ima
 
 pub returns-in-Err-make-clause-any_moment : goal.returns-in-Err-make-clause-any_moment
 returns-in-Err-make-clause-any_moment g c image honest holds = leaves_opening image (c.open_volume.ensures.any_moment image honest holds)
+
+pub make-requires-clause-in_use : goal.make-requires-clause-in_use
+make-requires-clause-in_use g c = c.in-Ok.ensures.parts.fresh.reached.in_use

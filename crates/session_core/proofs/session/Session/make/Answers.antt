@@ -1,4 +1,5 @@
-use Rattle.std.proofs.Common.{rules}
+use Rattle.std.proofs.Common.{rules, Bool, List, sym, ap, ◌∙◌}
+use Rattle.session_core.specs.Sessions.{is_kept}
 use Rattle.session_core.proofs.session.Session.make.Goals as goal
 
 pub invariant_of-result : goal.invariant_of-result
@@ -7,6 +8,7 @@ invariant_of-result c = record {
   meta = c.requires.meta;
   units = c.requires.units;
   pages = search rules;
+  in_use = record { working = c.requires.in_use; committed = λ page flag. record { in_use = c.requires.in_use page (sym (ap (λ (flags : List Bool). is_kept flags page) (c.in_ok-kept.ensures ∙ c.held.ensures)) ∙ flag); not_taken = c.requires.none_taken page; stays = λ none. none } };
   room = search rules;
   sizes = c.requires.groups;
   main = c.requires.main;

@@ -18,7 +18,7 @@ perform-requires-clause-ready g c =
     let old = parts_same c.args.units.now a.store.units.now c.args.groups.now a.store.groups.now c.args.meta.now a.meta.now c.args.pages.now a.pages.now c.args.room.now a.room.now (search rules) (search rules) (search rules) (search rules) (search rules) in
     let ready = ready_at outside _ _ _ _ _ _ disk geometry old c.requires.ready in
     let fits = subst (λ (q : ℕ). Fits a.store.geometry (outside a.store.disk.now).size a.store.groups.now q a.store.units.now) (sym main) ready.fits in
-    ready_of _ a.store a.store.geometry (outside a.store.disk.now).size (parts a.store.units.now a.store.groups.now a.meta.now a.pages.now a.room.now) refl fits ready
+    ready_of _ a.store a.store.geometry (outside a.store.disk.now).size (parts a.store.units.now a.store.groups.now a.meta.now a.pages.now a.room.now) refl refl fits ready
 
 pub perform-requires-clause-can : goal.perform-requires-clause-can
 perform-requires-clause-can g c =
@@ -60,7 +60,7 @@ returns-clause-updated g c =
     let ready = ready_at outside _ _ _ _ _ _ disk geometry old c.requires.ready in
     let fits = subst (λ (q : ℕ). Fits a.store.geometry (outside a.store.disk.now).size a.store.groups.now q a.store.units.now) (sym main) ready.fits in
     performed_shown _ a b c.args.update.now c.perform.result c.perform.ensures.updates
-    (ready_of _ a.store a.store.geometry (outside a.store.disk.now).size (parts a.store.units.now a.store.groups.now a.meta.now a.pages.now a.room.now) refl fits ready)
+    (ready_of _ a.store a.store.geometry (outside a.store.disk.now).size (parts a.store.units.now a.store.groups.now a.meta.now a.pages.now a.room.now) refl refl fits ready)
     (outside c.args.disk.now) c.args.geometry.now _
     (with_parts _ a outside a.store.disk.now c.args.disk.now a.store.geometry c.args.geometry.now _ _ (sym disk) (sym geometry) (sym old) (record { geometry_is = refl; unit = refl; image = refl; held = refl; used = refl; free = refl }))
     (λ told. tells_at outside _ _ _ _ disk groups told) c.perform.ensures.leads _ (returns-clause-moved g c)
@@ -78,7 +78,7 @@ returns-clause-sound g c =
     let ready = ready_at outside _ _ _ _ _ _ disk geometry old c.requires.ready in
     let fits = subst (λ (q : ℕ). Fits a.store.geometry (outside a.store.disk.now).size a.store.groups.now q a.store.units.now) (sym main) ready.fits in
     performed_sound _ a c.perform.new.volume c.args.update.now c.perform.result c.perform.ensures.updates
-    (ready_of _ a.store a.store.geometry (outside a.store.disk.now).size (parts a.store.units.now a.store.groups.now a.meta.now a.pages.now a.room.now) refl fits ready)
+    (ready_of _ a.store a.store.geometry (outside a.store.disk.now).size (parts a.store.units.now a.store.groups.now a.meta.now a.pages.now a.room.now) refl refl fits ready)
     (outside c.args.disk.now) c.args.geometry.now _
     (with_parts _ a outside a.store.disk.now c.args.disk.now a.store.geometry c.args.geometry.now _ _ (sym disk) (sym geometry) (sym old) (record { geometry_is = refl; unit = refl; image = refl; held = refl; used = refl; free = refl }))
     (λ told. tells_at outside _ _ _ _ disk groups told)

@@ -1,5 +1,4 @@
 use Rattle.std.proofs.Common.{refl}
-use Rattle.tree_store.specs.Stored.{NoUnit}
 use Rattle.volume_port.proofs.Moving.{store_moves}
 use Rattle.volume_port.proofs.WorkingRows.{image_same}
 use Rattle.volume_port.proofs.blocks.VolumePortBlocks.drop_ref.Goals as goal
@@ -18,5 +17,5 @@ returns-clause-counts g c =
       free = done.free;
       touched = refl;
       faults = done.faults;
-      leads = store_moves _ NoUnit s.store c.drop_ref.new.self s.meta s.pages s.room s.room refl refl done.leads (λ p is stays. done.leads.used p is stays);
+      leads = store_moves _ s.store c.drop_ref.new.self s.meta s.pages s.room s.room refl refl done.leads (λ p is stays. done.leads.used p is stays);
     }

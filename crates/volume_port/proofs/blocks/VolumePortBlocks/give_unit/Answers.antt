@@ -1,5 +1,7 @@
-use Rattle.std.proofs.Common.{◌≡◌, refl, ap}
-use Rattle.volume_port.proofs.Moving.{store_moves}
+use Rattle.std.proofs.Common.{◌≡◌, refl, sym, ap, ◌∙◌}
+use Rattle.std.proofs.lemmas.Bool.{both_ways}
+use Rattle.volume_port.specs.Logged.{is_held}
+use Rattle.volume_port.proofs.Moving.{store_frees}
 use Rattle.volume_port.proofs.WorkingRows.{image_same, same_units}
 use Rattle.volume_port.proofs.blocks.VolumePortBlocks.give_unit.Goals as goal
 
@@ -19,5 +21,6 @@ returns g c =
       kept = done.kept;
       touched = refl;
       faults = done.faults;
-      frees = store_moves _ (λ p. p ≡ c.args.page.0) s.store c.give_unit.new.self s.meta s.pages s.room s.room refl refl done.frees (λ p is stays. done.frees.used p is stays);
+      frees = store_frees _ (λ p. p ≡ c.args.page.0) s.store c.give_unit.new.self s.meta s.pages s.room s.room refl refl done.frees (λ p is stays. done.frees.used p is stays)
+          (λ p held same. both_ways _ c.requires.apart (ap (is_held s.pages.now) (sym same) ∙ held));
     }

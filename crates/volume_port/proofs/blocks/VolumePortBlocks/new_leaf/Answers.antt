@@ -1,5 +1,5 @@
 use Rattle.std.proofs.Common.{refl}
-use Rattle.tree_store.specs.Stored.{NoUnit, unit_bytes}
+use Rattle.tree_store.specs.Stored.{unit_bytes}
 use Rattle.volume_port.proofs.Moving.{store_moves}
 use Rattle.volume_port.proofs.WorkingRows.{image_stays}
 use Rattle.volume_port.proofs.blocks.VolumePortBlocks.new_leaf.Goals as goal
@@ -25,4 +25,4 @@ pub returns-clause-leads : goal.returns-clause-leads
 returns-clause-leads g c =
     let s = c.args.self.now in
     let leads = c.new_leaf.ensures.leads in
-    store_moves _ NoUnit s.store c.new_leaf.new.self s.meta s.pages s.room s.room refl refl leads (λ p is stays. leads.used p is stays)
+    store_moves _ s.store c.new_leaf.new.self s.meta s.pages s.room s.room refl refl leads (λ p is stays. leads.used p is stays)

@@ -1,5 +1,4 @@
 use Rattle.std.proofs.Common.{refl}
-use Rattle.tree_store.specs.Stored.{NoUnit}
 use Rattle.volume_port.proofs.Moving.{store_moves}
 use Rattle.volume_port.proofs.WorkingRows.{image_same}
 use Rattle.volume_port.proofs.blocks.VolumePortReadBlocks.leaf_into.Goals as goal
@@ -16,5 +15,5 @@ returns-clause-kept g c =
       held = refl;
       free = done.free;
       touched = refl;
-      leads = store_moves _ NoUnit s.store c.leaf_into.new.self s.meta s.pages s.room s.room refl refl done.leads (λ p is stays. done.leads.used p is stays);
+      leads = store_moves _ s.store c.leaf_into.new.self s.meta s.pages s.room s.room refl refl done.leads (λ p is stays. done.leads.used p is stays);
     }

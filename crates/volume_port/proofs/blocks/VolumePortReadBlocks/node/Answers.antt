@@ -1,6 +1,5 @@
 use Rattle.std.proofs.Common.{rules, ℕ, List, refl, ap, ◌∙◌}
 use Rattle.ex_base.specs.declared.geometry.Geometry.{Geometry}
-use Rattle.tree_store.specs.Stored.{NoUnit}
 use Rattle.volume_port.proofs.Moving.{store_moves}
 use Rattle.volume_port.proofs.WorkingRows.{image_same}
 use Rattle.volume_port.proofs.blocks.VolumePortReadBlocks.node.Goals as goal
@@ -21,7 +20,7 @@ returns-in_err-bring g c =
             held = refl;
             free = kept.free;
             touched = refl;
-            leads = store_moves _ NoUnit s.store c.bring.new.self s.meta s.pages s.room s.room refl refl kept.leads (λ p is stays. kept.leads.used p is stays);
+            leads = store_moves _ s.store c.bring.new.self s.meta s.pages s.room s.room refl refl kept.leads (λ p is stays. kept.leads.used p is stays);
           },
           search rules,
         ),
@@ -45,7 +44,7 @@ returns g c =
             held = refl;
             free = kept.free;
             touched = refl;
-            leads = store_moves _ NoUnit s.store c.bring.new.self s.meta s.pages s.room s.room refl refl kept.leads (λ p is stays. kept.leads.used p is stays);
+            leads = store_moves _ s.store c.bring.new.self s.meta s.pages s.room s.room refl refl kept.leads (λ p is stays. kept.leads.used p is stays);
           },
           tt,
         ),

@@ -1,4 +1,4 @@
-use Rattle.std.proofs.Common.{refl, sym, ◌∙◌}
+use Rattle.std.proofs.Common.{refl}
 use Rattle.tree_store.specs.Stored.{unit_bytes}
 use Rattle.volume_port.proofs.Moving.{meta_moves}
 use Rattle.volume_port.proofs.WorkingRows.{image_put, images_put}
@@ -21,4 +21,4 @@ returns-clause-put g c =
 pub returns-clause-leads : goal.returns-clause-leads
 returns-clause-leads g c =
     let s = c.args.self.now in
-    meta_moves _ s.store s.meta _ s.pages s.room c.args.page.0 c.args.image.now refl (sym c.holds.ensures ∙ c.if-not-holds.false) c.in_ok-edit.ensures.ok
+    meta_moves _ s.store s.meta _ s.pages s.room c.args.page.0 c.args.image.now refl c.requires.held c.in_ok-edit.ensures.ok

@@ -1,5 +1,4 @@
 use Rattle.std.proofs.Common.{refl}
-use Rattle.tree_store.specs.Stored.{NoUnit}
 use Rattle.volume_port.proofs.Moving.{store_moves}
 use Rattle.volume_port.proofs.WorkingRows.{image_same}
 use Rattle.volume_port.proofs.port.VolumePort.fill.Goals as goal
@@ -16,5 +15,5 @@ returns-clause-kept g c =
       held = refl;
       free = kept.free;
       touched = refl;
-      leads = store_moves _ NoUnit s.store c.read_page.new.store s.meta s.pages s.room _ refl c.read_page.ensures.len kept.leads (λ p is stays. kept.leads.used p is stays);
+      leads = store_moves _ s.store c.read_page.new.store s.meta s.pages s.room _ refl c.read_page.ensures.len kept.leads (λ p is stays. kept.leads.used p is stays);
     }

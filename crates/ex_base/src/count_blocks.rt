@@ -3,7 +3,8 @@ ghost use Rattle.std.specs.Prelude.{◌≡◌, ◌↔◌, IsTrue, true, false};
 ghost use Rattle.ex_base.specs.Area.{IsUnit};
 ghost use Rattle.ex_base.specs.Ports.{CountsRefs, without_ref, GivesUnit};
 
-use ex_base::{PageNo, ReadBlocks};
+use crate::blocks::ReadBlocks;
+use crate::names::PageNo;
 
 /// Tree pages whose owners are counted: what giving a tree up asks of a port. No call takes a unit, and none calls the disk.
 pub trait CountBlocks: ReadBlocks {
