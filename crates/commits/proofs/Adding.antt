@@ -20,7 +20,8 @@ use Rattle.disk_model.specs.Runs.{leaves_wider}
 use Rattle.meta_pages.specs.Overlays.{over}
 use Rattle.meta_pages.specs.Rows.{IsRising}
 use Rattle.op_log.specs.declared.record.LogRecord.{LogRecord}
-use Rattle.op_log.specs.AfterLog.{logged, after_log}
+use Rattle.op_log.specs.AfterLog.{logged, after_log, AllApply}
+use Rattle.op_log.proofs.Applied.{records_apply-push}
 use Rattle.op_log.specs.Gates.{log_end-append}
 use Rattle.op_log.specs.Log.{Follow, SaysLog, DiskSays, KeepsLog, AddsHere, log_end}
 use Rattle.op_log.specs.Records.{record_len}
@@ -33,7 +34,7 @@ use Rattle.volume_model.specs.Shown.{PageRow, WorkingRow, IsWorkingPage, laid_ov
 use Rattle.volume_model.specs.Volume.{Volume, Decoded, file_pages, reach_of, table_of, units_of, units_after}
 use Rattle.volume_model.proofs.FoundRows.{found_is}
 use Rattle.commits.proofs.Closing.{settled_agrees}
-use Rattle.commits.proofs.LoggedPages.{logged_more}
+use Rattle.commits.proofs.LoggedPages.{logged_more, images_apply}
 use Rattle.commits.proofs.Places.{behind_log, page_stays, leaf_stays, same_unit}
 use Rattle.commits.specs.Room.{BeforeCatalog}
 use Rattle.commits.proofs.Reached.{reach_behind, without_last, decodes_as, table_as, stands_as}
@@ -53,13 +54,13 @@ last_pushed (x ∷ y ∷ rs) r last is = last_pushed (y ∷ rs) r last is
 pub prolongs : (d : Decoded) (disk : List ℕ) (log : LogState) (rows : List PageRow) (images : List ℕ → Type 0) (r : LogRecord) → Committed images d disk log rows → r.txn ≡ d.volume.catalog.last + 1 → Prolongs log d.records r
 prolongs d disk log rows images r committed next = record {
   at_end = ap (λ (s : LogState). s.end) committed.shown.log_is;
-  follow = follows_last d.records r d.volume.catalog.last committed.parts.1.0.follow committed.parts.1.1.0.1 next;
+  follow = follows_last d.records r d.volume.catalog.last committed.parts.1.0.says.follow committed.parts.1.1.0.1 next;
 }
 
 pub keeps_log : (d : Decoded) (disk : List ℕ) (log : LogState) (rows : List PageRow) (w : Outside) → IsTrue w.honest → w.disk ≡ Some disk → Committed w.images d disk log rows → KeepsLog d.geometry w d.records
 keeps_log d disk log rows w honest holds committed = record {
   honest = honest;
-  on_disk = record { disk = disk; holds = holds; says = committed.parts.1.0 };
+  on_disk = record { disk = disk; holds = holds; says = committed.parts.1.0.says };
   agrees = record { each = λ x e is here i inside. (committed.durable e here).each i (inl inside.1) ∙ ap (λ (l : List ℕ). slice_index l i) (same_Some disk x (sym holds ∙ is)) };
 }
 
@@ -106,7 +107,7 @@ module _ (d : Decoded) (disk : List ℕ) (r : LogRecord) (x e : List ℕ) (parts
   }
 
   pub old_stands : SaysLog d.geometry d.records e → StandsForVolume d disk e
-  old_stands says = stands_as d.geometry d.records (units_of d disk) d.volume e old_units (super_kept d r x e fits same old_super) says parts.1.1.0.1 old_content
+  old_stands says = stands_as d.geometry d.records (units_of d disk) d.volume e old_units (super_kept d r x e fits same old_super) says parts.1.0.apply parts.1.1.0.1 old_content
 
 -- ---- an image that has the list with the record
 
@@ -119,6 +120,9 @@ module _ (d : Decoded) (disk : List ℕ) (rows : List WorkingRow) (txn : ℕ) (n
     (fits : log_end d.records + record_len (record_of txn notes rows) < 256 * d.geometry.page_size) (same : SameBut (Place d (record_of txn notes rows)) disk e) where
   abbrev pub new_records : List LogRecord
   new_records = d.records ++ record_of txn notes rows ∷ []
+
+  new_apply : AllApply new_records
+  new_apply = records_apply-push (λ page. None) d.records (record_of txn notes rows) parts.1.0.apply (images_apply (λ page. logged d.records page) rows)
 
   pub new_units : (page : ℕ) → catalog_no ≤ page → units_after d.geometry new_records e page ≡ working_units d disk rows page
   new_units page le =
@@ -138,7 +142,7 @@ module _ (d : Decoded) (disk : List ℕ) (rows : List WorkingRow) (txn : ℕ) (n
 
   pub new_decodes : SaysLog d.geometry new_records e → Decodes e (with_records d new_records working)
   new_decodes says =
-      decodes_as d.geometry new_records (working_units d disk rows) working e new_reach (super_kept d (record_of txn notes rows) disk e fits same parts.0) says
+      decodes_as d.geometry new_records (working_units d disk rows) working e new_reach (super_kept d (record_of txn notes rows) disk e fits same parts.0) says new_apply
       (last_pushed d.records (record_of txn notes rows) working.catalog.last may.last) may.parts
 
   pub new_table : table_of (units_of (with_records d new_records working) e) working ≡ table_of (working_units d disk rows) working
@@ -146,7 +150,7 @@ module _ (d : Decoded) (disk : List ℕ) (rows : List WorkingRow) (txn : ℕ) (n
 
   pub new_stands : SaysLog d.geometry new_records e → StandsFor e (table_of (working_units d disk rows) working)
   new_stands says =
-      stands_as d.geometry new_records (working_units d disk rows) working e new_reach (super_kept d (record_of txn notes rows) disk e fits same parts.0) says
+      stands_as d.geometry new_records (working_units d disk rows) working e new_reach (super_kept d (record_of txn notes rows) disk e fits same parts.0) says new_apply
       (last_pushed d.records (record_of txn notes rows) working.catalog.last may.last) may.parts
 
 -- While the record is added, a crash leaves the old volume or the working one.

@@ -70,7 +70,7 @@ apart_from_homes g rows page i none inside home =
 
 -- what a disk has of its log
 pub log_room : (d : Decoded) (disk : List ℕ) → Decodes disk d → log_end d.records < 256 * d.geometry.page_size
-log_room d disk parts = (front_of d.geometry d.records disk (omega (arith, parts.0.large, least_volume d.geometry)) parts.1.0).room
+log_room d disk parts = (front_of d.geometry d.records disk (omega (arith, parts.0.large, least_volume d.geometry)) parts.1.0.says).room
 
 -- An image that agrees on what matters does so while homes of logged pages are written.
 pub agrees_homes : (d : Decoded) (disk x e : List ℕ) (rows : List PageRow) → Decodes disk d → ((page : ℕ) → lookup (nat_eq page) rows ≡ logged d.records page) → All (IsPageRow d.geometry) rows
@@ -153,11 +153,11 @@ module _ (d : Decoded) (disk mid e : List ℕ) (parts : Decodes disk d) (home : 
 
   pub closes_stands : SaysEither d.geometry d.records [] e → StandsForVolume d disk e
   closes_stands says = ⊎_elim
-      (λ with_them. stands_as d.geometry d.records (units_of d disk) d.volume e (λ page at. units_with page (reached page at)) super_is with_them parts.1.1.0.1 content)
-      (λ with_none. stands_as d.geometry [] (units_of d disk) d.volume e (λ page at. units_without page (reached page at)) super_is with_none tt content) says
+      (λ with_them. stands_as d.geometry d.records (units_of d disk) d.volume e (λ page at. units_with page (reached page at)) super_is with_them parts.1.0.apply parts.1.1.0.1 content)
+      (λ with_none. stands_as d.geometry [] (units_of d disk) d.volume e (λ page at. units_without page (reached page at)) super_is with_none tt tt content) says
 
   pub closed_decodes : SaysLog d.geometry [] e → Decodes e (with_records d [] d.volume)
-  closed_decodes says = decodes_as d.geometry [] (units_of d disk) d.volume e (λ page at. units_without page (reached page at)) super_is says tt content
+  closed_decodes says = decodes_as d.geometry [] (units_of d disk) d.volume e (λ page at. units_without page (reached page at)) super_is says tt tt content
 
   pub closed_table : table_of (units_of (with_records d [] d.volume) e) d.volume ≡ table_of (units_of d disk) d.volume
   closed_table = table_as d.geometry [] (units_of d disk) d.volume e (λ page at. units_without page (reached page at))
@@ -214,8 +214,8 @@ went_home g d disk log rows a b same world honest holds committed all changes ho
 
 mid_says : (d : Decoded) (disk mid : List ℕ) → Decodes disk d → AtHome d disk mid → SaysLog d.geometry d.records mid
 mid_says d disk mid parts home =
-    let front = front_of d.geometry d.records disk (omega (arith, parts.0.large, least_volume d.geometry)) parts.1.0 in
-    says_of d.geometry d.records mid parts.1.0.each parts.1.0.follow (front_kept d.geometry d.records disk mid home.size (λ i from to. home.front i (omega (arith, to, front.room))) front)
+    let front = front_of d.geometry d.records disk (omega (arith, parts.0.large, least_volume d.geometry)) parts.1.0.says in
+    says_of d.geometry d.records mid parts.1.0.says.each parts.1.0.says.follow (front_kept d.geometry d.records disk mid home.size (λ i from to. home.front i (omega (arith, to, front.room))) front)
 
 pub mid_keeps : (d : Decoded) (disk : List ℕ) (rows : List PageRow) (a b : Outside) → Decodes disk d → WentHome d disk rows a b → KeepsLog d.geometry b d.records
 mid_keeps d disk rows a b parts went =

@@ -9,8 +9,11 @@ use Rattle.ex_base.specs.declared.names.OpNote.{OpNote}
 use Rattle.meta_pages.specs.Overlays.{over}
 use Rattle.meta_pages.specs.Rows.{IsRising}
 use Rattle.meta_pages.proofs.RowLists.{none_above}
-use Rattle.op_log.specs.AfterLog.{image_in, page_after, logged_from, logged}
-use Rattle.op_log.specs.Records.{page_of, number_of}
+use Rattle.op_log.specs.AfterLog.{after_entry, after_entries, page_after, logged_from, logged, EntriesApply}
+use Rattle.op_log.specs.Records.{number_of}
+use Rattle.page_entries.specs.declared.entry.PageEntry.{PageEntry}
+use Rattle.page_entries.specs.declared.form.EntryForm.TheVariants.{Image}
+use Rattle.page_entries.specs.Said.{said_on}
 use Rattle.op_log.specs.declared.record.LogRecord.{LogRecord}
 use Rattle.volume_model.specs.Committed.{images_of, given_back, record_of}
 use Rattle.volume_model.specs.Shown.{WorkingRow}
@@ -24,55 +27,43 @@ logged_from-push so_far (x ∷ rs) r page = logged_from-push (page_after x page 
 abbrev is_given : ℕ → List WorkingRow → Bool
 is_given page rows = list_any (λ freed. number_of freed == page) (given_back rows)
 
-abbrev is_imaged : ℕ → List WorkingRow → Bool
-is_imaged page rows = list_any (λ entry. page_of entry == page) (images_of rows)
-
 abbrev gives : Option (Option (List ℕ)) → Bool
 gives None = false
 gives (Some None) = true
 gives (Some (Some image)) = false
 
-abbrev images : Option (Option (List ℕ)) → Bool
-images None = false
-images (Some None) = false
-images (Some (Some image)) = true
-
-abbrev inner : Option (Option (List ℕ)) → Option (List ℕ)
-inner None = None
-inner (Some image) = image
+-- what a row makes of the page so far
+abbrev imaged : Option (Option (List ℕ)) → Option (List ℕ) → Option (List ℕ)
+imaged None so_far = so_far
+imaged (Some None) so_far = so_far
+imaged (Some (Some image)) so_far = Some image
 
 -- what the record says of the page is its row
 record IsTold (page : ℕ) (rows : List WorkingRow) (row : Option (Option (List ℕ))) : Type 0 where
   given : is_given page rows ≡ gives row
-  imaged : is_imaged page rows ≡ images row
-  image : image_in (images_of rows) page ≡ inner row
+  after : (so_far : Option (List ℕ)) → after_entries (images_of rows) page so_far ≡ imaged row so_far
+
+abbrev image_entry : ℕ → List ℕ → PageEntry
+image_entry page image = record { page = record { 0 = page }; form = Image; fields = image }
+
+image_here : (page : ℕ) (image : List ℕ) (so_far : Option (List ℕ)) → after_entry (image_entry page image) page so_far ≡ Some image
+unfolding said_on
+image_here page image so_far = ap (λ (t : Bool). cond t (Some image) so_far) (eq-eqb page page refl)
+
+image_other : (page other : ℕ) (image : List ℕ) (so_far : Option (List ℕ)) → (other ≡ page → ⊥) → after_entry (image_entry other image) page so_far ≡ so_far
+unfolding said_on
+image_other page other image so_far differ = ap (λ (t : Bool). cond t (Some image) so_far) (ne_eqb other page differ)
 
 told_here : (page : ℕ) (value : Option (List ℕ)) (rows : List WorkingRow) → IsTold page rows None → IsTold page ((page, value) ∷ rows) (Some value)
-told_here page None rows none = record {
-  given = ap (λ (t : Bool). t || is_given page rows) (eq-eqb page page refl);
-  imaged = none.imaged;
-  image = none.image;
-}
-told_here page (Some image) rows none = record {
-  given = none.given;
-  imaged = ap (λ (t : Bool). t || is_imaged page rows) (eq-eqb page page refl);
-  image = ap (λ (t : Bool). cond t (Some image) (image_in (images_of rows) page)) (eq-eqb page page refl);
-}
+told_here page None rows none = record { given = ap (λ (t : Bool). t || is_given page rows) (eq-eqb page page refl); after = none.after }
+told_here page (Some image) rows none = record { given = none.given; after = λ so_far. none.after (after_entry (image_entry page image) page so_far) ∙ image_here page image so_far }
 
 told_later : (page other : ℕ) (value : Option (List ℕ)) (rows : List WorkingRow) (row : Option (Option (List ℕ))) → (other ≡ page → ⊥) → IsTold page rows row → IsTold page ((other, value) ∷ rows) row
-told_later page other None rows row differ told = record {
-  given = ap (λ (t : Bool). t || is_given page rows) (ne_eqb other page differ) ∙ told.given;
-  imaged = told.imaged;
-  image = told.image;
-}
-told_later page other (Some image) rows row differ told = record {
-  given = told.given;
-  imaged = ap (λ (t : Bool). t || is_imaged page rows) (ne_eqb other page differ) ∙ told.imaged;
-  image = ap (λ (t : Bool). cond t (Some image) (image_in (images_of rows) page)) (ne_eqb other page differ) ∙ told.image;
-}
+told_later page other None rows row differ told = record { given = ap (λ (t : Bool). t || is_given page rows) (ne_eqb other page differ) ∙ told.given; after = told.after }
+told_later page other (Some image) rows row differ told = record { given = told.given; after = λ so_far. told.after (after_entry (image_entry other image) page so_far) ∙ ap (imaged row) (image_other page other image so_far differ) }
 
 told : (page : ℕ) (rows : List WorkingRow) → IsRising rows → IsTold page rows (lookup (nat_eq page) rows)
-told page [] rising = record { given = refl; imaged = refl; image = refl }
+told page [] rising = record { given = refl; after = λ so_far. refl }
 told page ((other, value) ∷ rows) rising = ⊎_elim
     (λ (same : (nat_eq page other ≡ true) × (page ≡ other)).
     subst (λ (o : Option (Option (List ℕ))). IsTold page ((other, value) ∷ rows) o) (sym (ap (λ (t : Bool). cond t (Some value) (lookup (nat_eq page) rows)) same.0))
@@ -83,12 +74,17 @@ told page ((other, value) ∷ rows) rising = ⊎_elim
     (told_later page other value rows (lookup (nat_eq page) rows) (λ is. differ.1 (sym is)) (told page rows rising.1)))
     (eqb_tells page other)
 
-told_after : (page : ℕ) (rows : List WorkingRow) (row : Option (Option (List ℕ))) (so_far : Option (List ℕ)) → IsTold page rows row
-    → cond (is_given page rows) None (cond (is_imaged page rows) (image_in (images_of rows) page) so_far) ≡ over row so_far
-told_after page rows None so_far is = ap (λ (t : Bool). cond t None (cond (is_imaged page rows) (image_in (images_of rows) page) so_far)) is.given ∙ ap (λ (t : Bool). cond t (image_in (images_of rows) page) so_far) is.imaged
-told_after page rows (Some None) so_far is = ap (λ (t : Bool). cond t None (cond (is_imaged page rows) (image_in (images_of rows) page) so_far)) is.given
-told_after page rows (Some (Some image)) so_far is =
-    ap (λ (t : Bool). cond t None (cond (is_imaged page rows) (image_in (images_of rows) page) so_far)) is.given ∙ ap (λ (t : Bool). cond t (image_in (images_of rows) page) so_far) is.imaged ∙ is.image
+told_after : (page : ℕ) (rows : List WorkingRow) (row : Option (Option (List ℕ))) (so_far : Option (List ℕ)) → IsTold page rows row → cond (is_given page rows) None (after_entries (images_of rows) page so_far) ≡ over row so_far
+told_after page rows None so_far is = ap (λ (t : Bool). cond t None (after_entries (images_of rows) page so_far)) is.given ∙ is.after so_far
+told_after page rows (Some None) so_far is = ap (λ (t : Bool). cond t None (after_entries (images_of rows) page so_far)) is.given
+told_after page rows (Some (Some image)) so_far is = ap (λ (t : Bool). cond t None (after_entries (images_of rows) page so_far)) is.given ∙ is.after so_far
+
+-- images apply to whatever the pages are
+pub images_apply : (f : ℕ → Option (List ℕ)) (rows : List WorkingRow) → EntriesApply f (images_of rows)
+unfolding said_on
+images_apply f [] = tt
+images_apply f ((page, None) ∷ rows) = images_apply f rows
+images_apply f ((page, Some image) ∷ rows) = (tt, images_apply (λ p. after_entry (image_entry page image) p (f p)) rows)
 
 -- After the transaction's record the log has a page as the transaction left it, and any other as before.
 pub logged_more : (records : List LogRecord) (txn : ℕ) (notes : List OpNote) (rows : List WorkingRow) (page : ℕ) → IsRising rows

@@ -8,6 +8,7 @@ use Rattle.ex_base.specs.declared.names.Root.{Root}
 use Rattle.ex_base.specs.Area.{InPageArea, catalog_no}
 use Rattle.ex_base.proofs.Each.{each_as, each_from, each_of}
 use Rattle.op_log.specs.declared.record.LogRecord.{LogRecord}
+use Rattle.op_log.specs.AfterLog.{AllApply}
 use Rattle.op_log.specs.Log.{SaysLog}
 use Rattle.count_nodes.specs.declared.Pair.{Pair}
 use Rattle.count_nodes.specs.Node.{pairs_on}
@@ -67,15 +68,15 @@ same_reach old new v same = each_from (λ u. new u ≡ old u) (reach_of old v) s
 
 module _ (g : Geometry) (records : List LogRecord) (old : Units) (v : Volume) (image : List ℕ) (same : (page : ℕ) → Contains (reach_of old v) page → units_after g records image page ≡ old page) where
   -- An image with these records, where what the volume reaches is as it was, decodes as the volume,
-  pub decodes_as : SuperOf image g → SaysLog g records image → IsLastOf records v.catalog.last → AllByRecursion (HoldsOf g [] old v) content_parts
+  pub decodes_as : SuperOf image g → SaysLog g records image → AllApply records → IsLastOf records v.catalog.last → AllByRecursion (HoldsOf g [] old v) content_parts
       → Decodes image (record { geometry = g; records = records; volume = v })
-  decodes_as super log last parts =
+  decodes_as super log apply last parts =
       let kept = kept_from_reach old (units_after g records image) v (same_reach old (units_after g records image) v same) in
-      (super, (log, with_last g records (units_after g records image) v last (parts_kept g [] old (units_after g records image) v kept parts)))
+      (super, (record { says = log; apply = apply }, with_last g records (units_after g records image) v last (parts_kept g [] old (units_after g records image) v kept parts)))
 
   -- with the same table.
   pub table_as : table_of (units_after g records image) v ≡ table_of old v
   table_as = table_kept old (units_after g records image) v (kept_from_reach old (units_after g records image) v (same_reach old (units_after g records image) v same))
 
-  pub stands_as : SuperOf image g → SaysLog g records image → IsLastOf records v.catalog.last → AllByRecursion (HoldsOf g [] old v) content_parts → StandsFor image (table_of old v)
-  stands_as super log last parts = record { decoded = record { geometry = g; records = records; volume = v }; parts = decodes_as super log last parts; same = sym table_as }
+  pub stands_as : SuperOf image g → SaysLog g records image → AllApply records → IsLastOf records v.catalog.last → AllByRecursion (HoldsOf g [] old v) content_parts → StandsFor image (table_of old v)
+  stands_as super log apply last parts = record { decoded = record { geometry = g; records = records; volume = v }; parts = decodes_as super log apply last parts; same = sym table_as }

@@ -1,5 +1,5 @@
 -- How much of the log the committed images take.
-use Rattle.std.proofs.Common.{◌≡◌, ◌≤◌, ◌<◌, ◌+◌, ◌*◌, ℕ, Bool, true, false, cond, ⊎_elim, List, [], ◌∷◌, length, Some, None, nat_eq, nat_lt, ap, subst, arith}
+use Rattle.std.proofs.Common.{◌∙◌, ◌≡◌, ◌≤◌, ◌<◌, ◌+◌, ◌*◌, ℕ, Bool, true, false, cond, ⊎_elim, List, [], ◌∷◌, length, Some, None, nat_eq, nat_lt, ap, subst, arith}
 use Rattle.std.specs.List.{AllByRecursion}
 use Rattle.std.proofs.lemmas.Bool.{cases_lt}
 use Rattle.std.proofs.Math.Nat.{suc-mul, add-mul, mul-le-mul_right}
@@ -9,8 +9,10 @@ use Rattle.ex_base.specs.Sizes.{least_page}
 use Rattle.meta_pages.specs.Overlays.{Overlays, images_most}
 use Rattle.meta_pages.specs.Rows.{with_row, without_row, kept_rows, fresh, is_fresh, ones, named}
 use Rattle.op_log.specs.declared.record.LogRecord.{LogRecord}
-use Rattle.op_log.specs.declared.record.PageImage.{PageImage}
-use Rattle.op_log.specs.Records.{IsLogRecord, IsImage, images_len, record_len}
+use Rattle.op_log.specs.declared.kind.RecordKind.TheVariants.{Forms}
+use Rattle.op_log.specs.Records.{IsLogRecord, IsEntry, entries_len, record_len}
+use Rattle.page_entries.specs.declared.form.EntryForm.TheVariants.{Image}
+use Rattle.page_entries.specs.Said.{Said, Whole, Slots, Files, AreFields, IsSaid, form_of, said_bytes}
 use Rattle.op_log.specs.State.{LogState}
 use Rattle.volume_model.specs.Committed.{images_of, record_of}
 use Rattle.volume_model.specs.Shown.{PageRow, WorkingRow}
@@ -18,18 +20,41 @@ use Rattle.commits.specs.Room.{IsLogged}
 
 -- ---- what a record takes
 
-images_size : (g : Geometry) (entries : List PageImage) → AllByRecursion (IsImage g) entries → length entries * (g.page_size + 4) ≡ images_len entries
+said_long : (size : ℕ) (fields : List ℕ) (said : Said) → IsSaid size said → form_of said ≡ Image → fields ≡ said_bytes said → length fields ≡ size
+said_long size fields (Whole image) fits form is = ap length is ∙ fits
+said_long size fields (Slots changes) fits form is = absurd cc
+said_long size fields (Files next_unique last removed put) fits form is = absurd cc
+
+image_long : (size : ℕ) (fields : List ℕ) → AreFields size Image fields → length fields ≡ size
+image_long size fields says = said_long size fields says.0 says.1 says.2 says.3
+
+-- an image takes a page, its number and its form
+pub images_size : (g : Geometry) (rows : List WorkingRow) → AllByRecursion (IsEntry g Forms) (images_of rows) → length (images_of rows) * (g.page_size + 5) ≡ entries_len Forms (images_of rows)
 images_size g [] each = omega arith
-images_size g (entry ∷ entries) each = omega (arith, suc-mul (length entries) (g.page_size + 4), images_size g entries each.1, each.0.1)
+images_size g ((page, None) ∷ rows) each = images_size g rows each
+images_size g ((page, Some image) ∷ rows) each = omega (arith, suc-mul (length (images_of rows)) (g.page_size + 5), images_size g rows each.1, image_long g.page_size image each.0.fields)
 
-images_room : (g : Geometry) (r : LogRecord) → IsLogRecord g r → length r.pages * (g.page_size + 4) ≤ record_len r
-images_room g r is = omega (arith, images_size g r.pages is.images)
+images_least : (g : Geometry) (rows : List WorkingRow) → AllByRecursion (IsEntry g Forms) (images_of rows) → length (images_of rows) * (g.page_size + 4) ≤ entries_len Forms (images_of rows)
+images_least g [] each = omega arith
+images_least g ((page, None) ∷ rows) each = images_least g rows each
+images_least g ((page, Some image) ∷ rows) each = omega (arith, suc-mul (length (images_of rows)) (g.page_size + 4), images_least g rows each.1, image_long g.page_size image each.0.fields)
 
--- a record always lies inside an empty log
-pub record_room : (g : Geometry) (r : LogRecord) → IsLogRecord g r → record_len r < 256 * g.page_size
-record_room g r is =
-    let most = mul-le (length r.pages) (g.page_size + 4) 128 (g.page_size + 4) (omega (arith, is.few_pages)) (omega arith) in
-    omega (arith, images_size g r.pages is.images, most, is.few_notes, is.few_pages, least_page g)
+module _ (g : Geometry) (r : LogRecord) (rows : List WorkingRow) (same : r ≡ record_of r.txn r.notes rows) (is : IsLogRecord g r) where
+  are_images : AllByRecursion (IsEntry g Forms) (images_of rows)
+  are_images = subst (λ (q : LogRecord). AllByRecursion (IsEntry g q.kind) q.pages) same is.entries
+
+  len_is : entries_len r.kind r.pages ≡ entries_len Forms (images_of rows)
+  len_is = ap (λ (q : LogRecord). entries_len q.kind q.pages) same
+
+  images_room : length (images_of rows) * (g.page_size + 4) ≤ record_len r
+  images_room = omega (arith, images_least g rows are_images, len_is)
+
+  -- such a record always lies inside an empty log
+  pub record_room : record_len r < 256 * g.page_size
+  record_room =
+      let few : length r.pages ≡ length (images_of rows) = ap (λ (q : LogRecord). length q.pages) same in
+      let most = mul-le (length (images_of rows)) (g.page_size + 5) 128 (g.page_size + 5) (omega (arith, is.few_pages, few)) (omega arith) in
+      omega (arith, len_is, images_size g rows are_images, most, is.few_notes, is.few_pages, least_page g)
 
 -- ---- what the overlay takes
 
@@ -66,10 +91,8 @@ fresh_few committed ((page, Some image) ∷ rows) = omega (arith, one_at_most (i
 module _ (log : LogState) (o : Overlays) (r : LogRecord) (geometry : log.geometry ≡ o.geometry) (logged : IsLogged log o) (is : IsLogRecord log.geometry r) (same : r ≡ record_of r.txn r.notes o.working) where
   both : (length o.committed + length (images_of o.working)) * (o.geometry.page_size + 4) ≤ log.end + record_len r
   both =
-      let pages : length r.pages ≡ length (images_of o.working) = ap (λ (q : LogRecord). length q.pages) same in
-      let mine = images_room o.geometry r (subst (λ (g : Geometry). IsLogRecord g r) geometry is) in
-      let mine_here = subst (λ (n : ℕ). n * (o.geometry.page_size + 4) ≤ record_len r) pages mine in
-      omega (arith, add-mul (length o.committed) (length (images_of o.working)) (o.geometry.page_size + 4), logged.images, mine_here)
+      let mine = images_room o.geometry r o.working same (subst (λ (g : Geometry). IsLogRecord g r) geometry is) in
+      omega (arith, add-mul (length o.committed) (length (images_of o.working)) (o.geometry.page_size + 4), logged.images, mine)
 
   -- there is room for the images that the transaction adds
   pub few_named : log.end + record_len r < 256 * log.geometry.page_size → named o.committed o.working ≤ images_most

@@ -11,12 +11,18 @@ use Rattle.lru.proofs.Splits.{Contains-head, Contains-tail, Contains-cons, Conta
 use Rattle.ex_base.specs.declared.geometry.Geometry.{Geometry}
 use Rattle.ex_base.specs.declared.names.PageNo.{PageNo}
 use Rattle.ex_base.specs.declared.names.OpNote.{OpNote}
-use Rattle.ex_base.specs.Area.{catalog_no}
+use Rattle.ex_base.specs.Area.{catalog_no, InPageArea}
 use Rattle.ex_base.specs.Order.{Rising}
 use Rattle.meta_pages.specs.Overlays.{AreRows, IsWorkingRow, Overlays}
 use Rattle.meta_pages.specs.Rows.{IsAbove, IsRising}
-use Rattle.op_log.specs.Records.{IsLogRecord, IsImage, IsFreed, IsNote, page_of, number_of}
-use Rattle.op_log.specs.declared.record.PageImage.{PageImage}
+use Rattle.op_log.specs.Records.{IsLogRecord, IsEntry, IsFreed, IsNote, page_of, number_of, record_len}
+use Rattle.op_log.specs.declared.kind.RecordKind.TheVariants.{Forms}
+use Rattle.page_entries.specs.declared.entry.PageEntry.{PageEntry}
+use Rattle.page_entries.specs.declared.form.EntryForm.TheVariants.{Image}
+use Rattle.page_entries.specs.Said.{Whole}
+use Rattle.std.proofs.lemmas.Nat.{mul-le}
+use Rattle.ex_base.specs.Limits.{page_size_most}
+use Rattle.commits.proofs.RoomInLog.{images_size}
 use Rattle.volume_model.specs.Committed.{images_of, given_back, record_of}
 use Rattle.volume_model.specs.Shown.{WorkingRow}
 use Rattle.commits.specs.Room.{HasCatalog}
@@ -29,7 +35,7 @@ take_row rows i row is = take_more rows i row (slice_get_within rows i row is) �
 images_append : (xs ys : List WorkingRow) → images_of (xs ++ ys) ≡ images_of xs ++ images_of ys
 images_append [] ys = refl
 images_append ((page, None) ∷ xs) ys = images_append xs ys
-images_append ((page, Some image) ∷ xs) ys = ap (λ (l : List PageImage). record { page = record { 0 = page }; image = image } ∷ l) (images_append xs ys)
+images_append ((page, Some image) ∷ xs) ys = ap (λ (l : List PageEntry). record { page = record { 0 = page }; form = Image; fields = image } ∷ l) (images_append xs ys)
 
 given_append : (xs ys : List WorkingRow) → given_back (xs ++ ys) ≡ given_back xs ++ given_back ys
 given_append [] ys = refl
@@ -37,21 +43,21 @@ given_append ((page, None) ∷ xs) ys = ap (λ (l : List PageNo). record { 0 = p
 given_append ((page, Some image) ∷ xs) ys = given_append xs ys
 
 -- what was put so far, of the first rows
-abbrev pub AreBuilt : List WorkingRow → ℕ → List PageImage → List PageNo → Type 0
+abbrev pub AreBuilt : List WorkingRow → ℕ → List PageEntry → List PageNo → Type 0
 AreBuilt rows i pages freed = (pages ≡ images_of (take i rows)) × (freed ≡ given_back (take i rows))
 
-pub next_image : (rows : List WorkingRow) (i : ℕ) (page : PageNo) (image bytes : List ℕ) (pages pages' : List PageImage) (freed freed' : List PageNo) → slice_get rows i ≡ Some (page.0, Some bytes) → AreBuilt rows i pages freed
-    → image ≡ bytes → pages' ≡ pages ++ record { page = page; image = image } ∷ [] → freed' ≡ freed → AreBuilt rows (i + 1) pages' freed'
+pub next_image : (rows : List WorkingRow) (i : ℕ) (page : PageNo) (image bytes : List ℕ) (pages pages' : List PageEntry) (freed freed' : List PageNo) → slice_get rows i ≡ Some (page.0, Some bytes) → AreBuilt rows i pages freed
+    → image ≡ bytes → pages' ≡ pages ++ record { page = page; form = Image; fields = image } ∷ [] → freed' ≡ freed → AreBuilt rows (i + 1) pages' freed'
 next_image rows i page image bytes pages pages' freed freed' is built copied put same =
     let row : List WorkingRow = (page.0, Some bytes) ∷ [] in
-    let entry : record { page = page; image = image } ≡ record { page = record { 0 = page.0 }; image = bytes } = ap (λ (b : List ℕ). record { page = page; image = b }) copied in
+    let entry : record { page = page; form = Image; fields = image } ≡ record { page = record { 0 = page.0 }; form = Image; fields = bytes } = ap (λ (b : List ℕ). record { page = page; form = Image; fields = b }) copied in
     let more = take_row rows i (page.0, Some bytes) is in (
-      put ∙ ap (λ (l : List PageImage). l ++ record { page = page; image = image } ∷ []) built.0 ∙ ap (λ (e : PageImage). images_of (take i rows) ++ e ∷ []) entry
+      put ∙ ap (λ (l : List PageEntry). l ++ record { page = page; form = Image; fields = image } ∷ []) built.0 ∙ ap (λ (e : PageEntry). images_of (take i rows) ++ e ∷ []) entry
           ∙ sym (images_append (take i rows) row) ∙ sym (ap images_of more),
       same ∙ built.1 ∙ sym (append-nil (given_back (take i rows))) ∙ sym (given_append (take i rows) row) ∙ sym (ap given_back more),
     )
 
-pub next_given : (rows : List WorkingRow) (i : ℕ) (page : PageNo) (pages pages' : List PageImage) (freed freed' : List PageNo) → slice_get rows i ≡ Some (page.0, None) → AreBuilt rows i pages freed
+pub next_given : (rows : List WorkingRow) (i : ℕ) (page : PageNo) (pages pages' : List PageEntry) (freed freed' : List PageNo) → slice_get rows i ≡ Some (page.0, None) → AreBuilt rows i pages freed
     → pages' ≡ pages → freed' ≡ freed ++ page ∷ [] → AreBuilt rows (i + 1) pages' freed'
 next_given rows i page pages pages' freed freed' is built same put =
     let row : List WorkingRow = (page.0, None) ∷ [] in
@@ -60,15 +66,15 @@ next_given rows i page pages pages' freed freed' is built same put =
       put ∙ ap (λ (l : List PageNo). l ++ page ∷ []) built.1 ∙ sym (given_append (take i rows) row) ∙ sym (ap given_back more),
     )
 
-pub all_built : (rows : List WorkingRow) (i : ℕ) (pages : List PageImage) (freed : List PageNo) → length rows ≤ i → AreBuilt rows i pages freed → (pages ≡ images_of rows) × (freed ≡ given_back rows)
+pub all_built : (rows : List WorkingRow) (i : ℕ) (pages : List PageEntry) (freed : List PageNo) → length rows ≤ i → AreBuilt rows i pages freed → (pages ≡ images_of rows) × (freed ≡ given_back rows)
 all_built rows i pages freed all built = (built.0 ∙ ap images_of (take_all i rows all), built.1 ∙ ap given_back (take_all i rows all))
 
-pub as_record : (txn : ℕ) (notes notes' : List OpNote) (rows : List WorkingRow) (pages : List PageImage) (freed : List PageNo) → notes' ≡ notes → (pages ≡ images_of rows) × (freed ≡ given_back rows)
-    → record_of txn notes rows ≡ record { txn = txn; notes = notes'; pages = pages; freed = freed }
+pub as_record : (txn : ℕ) (notes notes' : List OpNote) (rows : List WorkingRow) (pages : List PageEntry) (freed : List PageNo) → notes' ≡ notes → (pages ≡ images_of rows) × (freed ≡ given_back rows)
+    → record_of txn notes rows ≡ record { kind = Forms; txn = txn; notes = notes'; pages = pages; freed = freed }
 as_record txn notes notes' rows pages freed same both =
-    ap (λ (ns : List OpNote). record { txn = txn; notes = ns; pages = images_of rows; freed = given_back rows }) (sym same)
-    ∙ ap (λ (ps : List PageImage). record { txn = txn; notes = notes'; pages = ps; freed = given_back rows }) (sym both.0)
-    ∙ ap (λ (fs : List PageNo). record { txn = txn; notes = notes'; pages = pages; freed = fs }) (sym both.1)
+    ap (λ (ns : List OpNote). record { kind = Forms; txn = txn; notes = ns; pages = images_of rows; freed = given_back rows }) (sym same)
+    ∙ ap (λ (ps : List PageEntry). record { kind = Forms; txn = txn; notes = notes'; pages = ps; freed = given_back rows }) (sym both.0)
+    ∙ ap (λ (fs : List PageNo). record { kind = Forms; txn = txn; notes = notes'; pages = pages; freed = fs }) (sym both.1)
 
 -- ---- rising numbers
 
@@ -120,10 +126,13 @@ count_rows [] = refl
 count_rows ((page, None) ∷ rows) = omega (arith, count_rows rows)
 count_rows ((page, Some image) ∷ rows) = omega (arith, count_rows rows)
 
-each_image : (g : Geometry) (rows : List WorkingRow) → All (IsWorkingRow g) rows → AllByRecursion (IsImage g) (images_of rows)
+is_image : (g : Geometry) (page : ℕ) (image : List ℕ) → InPageArea g page × (length image ≡ g.page_size) → IsEntry g Forms (record { page = record { 0 = page }; form = Image; fields = image })
+is_image g page image row = record { area = row.0; form = tt; fields = (Whole image, row.1, refl, refl) }
+
+each_image : (g : Geometry) (rows : List WorkingRow) → All (IsWorkingRow g) rows → AllByRecursion (IsEntry g Forms) (images_of rows)
 each_image g [] all = tt
 each_image g ((page, None) ∷ rows) all = each_image g rows (All-tail (IsWorkingRow g) (page, None) rows all)
-each_image g ((page, Some image) ∷ rows) all = (All-head (IsWorkingRow g) (page, Some image) rows all, each_image g rows (All-tail (IsWorkingRow g) (page, Some image) rows all))
+each_image g ((page, Some image) ∷ rows) all = (is_image g page image (All-head (IsWorkingRow g) (page, Some image) rows all), each_image g rows (All-tail (IsWorkingRow g) (page, Some image) rows all))
 
 each_given : (g : Geometry) (rows : List WorkingRow) → All (IsWorkingRow g) rows → AllByRecursion (IsFreed g) (given_back rows)
 each_given g [] all = tt
@@ -139,16 +148,23 @@ has_image page ((p, Some bytes) ∷ rows) image found = ⊎_elim
     (λ (same : (nat_eq page p ≡ true) × (page ≡ p)). subst (λ (n : ℕ). Contains (p ∷ map page_of (images_of rows)) n) (sym same.1) (Contains-head p (map page_of (images_of rows))))
     (λ (other : (nat_eq page p ≡ false) × (page ≢ p)). Contains-tail p (map page_of (images_of rows)) page (has_image page rows image (sym (ap (λ (b : Bool). cond b (Some (Some bytes)) (lookup (nat_eq page) rows)) other.0) ∙ found))) (eqb_tells page p)
 
+is_short : (o : Overlays) (txn : ℕ) (notes : List OpNote) → AreRows o → length notes ≤ 512 → length o.working ≤ 128 → record_len (record_of txn notes o.working) < 2 ^ 32
+is_short o txn notes are few_notes few_pages =
+    let g = o.geometry in
+    let most = mul-le (length (images_of o.working)) (g.page_size + 5) 128 8197 (omega (arith, count_rows o.working, few_pages)) (omega (arith, page_size_most g.page_size g.a_page_size)) in
+    omega (arith, images_size g o.working (each_image g o.working are.working_pages), most, few_notes, count_rows o.working, few_pages)
+
 pub is_record : (o : Overlays) (txn : ℕ) (notes : List OpNote) → AreRows o → txn < 2 ^ 64 → length notes ≤ 512 → AllByRecursion IsNote notes → length o.working ≤ 128 → HasCatalog o.working → IsLogRecord o.geometry (record_of txn notes o.working)
 is_record o txn notes are small few_notes is_notes few_pages catalog = record {
   txn = small;
   few_notes = few_notes;
   few_pages = omega (arith, count_rows o.working, few_pages);
   notes = is_notes;
-  images = each_image o.geometry o.working are.working_pages;
+  entries = each_image o.geometry o.working are.working_pages;
   freed = each_given o.geometry o.working are.working_pages;
   rising = images_rising o.working are.working_rising;
   freed_rising = given_rising o.working are.working_rising;
   apart = apart o.working are.working_rising;
   catalog = has_image catalog_no o.working catalog.0 catalog.1;
+  short = is_short o txn notes are few_notes few_pages;
 }

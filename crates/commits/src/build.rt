@@ -6,9 +6,10 @@ ghost use Rattle.op_log.specs.Records.{IsLogRecord, IsNote};
 ghost use Rattle.volume_model.specs.Committed.{record_of};
 ghost use Rattle.commits.specs.Room.{HasCatalog};
 
-use ex_base::{Image, Items, OpNote};
+use ex_base::{Items, OpNote};
 use meta_pages::Meta;
-use op_log::{LogRecord, Notes, PageImage, PageImages, PageList};
+use op_log::{LogRecord, Notes, PageList, RecordKind};
+use page_entries::{Entries, EntryForm, Fields, PageEntry};
 use std::alloc::{AllocError, Global};
 
 /// The record of the transaction: its number, its notes, the images of the pages that it changed and the pages that it gave back.
@@ -26,13 +27,14 @@ pub fn record_of(
     ensures rising { IsRising meta.now.working }
     ensures valid { IfOk result (IsLogRecord meta.now.geometry) }
 {
-    let mut pages: PageImages = Items::make(alloc);
+    let mut pages: Entries = Items::make(alloc);
     let mut freed: PageList = Items::make(alloc);
     for index in 0..meta.touched() {
         match meta.touched_at(index) {
             Some((page, Some(bytes))) => {
-                let image = Image::of(alloc, bytes)?;
-                pages.push(PageImage { page, image })?;
+                let fields = Fields::of(alloc, bytes)?;
+                let form = EntryForm::Image;
+                pages.push(PageEntry { page, form, fields })?;
             }
             Some((page, None)) => freed.push(page)?,
             None => {}
@@ -40,6 +42,7 @@ pub fn record_of(
     }
     let notes = notes_of(alloc, notes)?;
     Ok(LogRecord {
+        kind: RecordKind::Forms,
         txn,
         notes,
         pages,

@@ -118,6 +118,7 @@ fn make_room<D: Disk>(
     requires sizes { All (λ (f : Frames). f.page_size ≡ meta.old.geometry.page_size) groups.old }
     requires logged { IsLogged log.old meta.old }
     requires valid { IsLogRecord log.old.geometry item.now }
+    requires same { item.now ≡ record_of item.now.txn item.now.notes meta.old.working }
     ensures only { DiskOnly (D.outside disk.old) (D.outside disk.new) }
     ensures cause { OnErr result (Rose (D.outside disk.old).disk_faults
         (D.outside disk.new).disk_faults) }

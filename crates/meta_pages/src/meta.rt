@@ -1,5 +1,5 @@
 //! The logged pages of a session.
-ghost use Rattle.std.specs.Prelude.{◌≡◌, ◌≤◌, ◌<◌, ◌+◌, ◌*◌, ◌^◌, [], ◌∷◌, ℕ, List, length, All, IfOk, OnOk, OnErr, Some, None, IsOk, IsSome, IsTrue, MatchResult, nat_eq, option_copied, slice_get, MatchOption, IfSome, if◌then◌else◌, unwrap_or};
+ghost use Rattle.std.specs.Prelude.{◌≡◌, ◌≤◌, ◌<◌, ◌+◌, ◌*◌, ◌^◌, [], ◌∷◌, ℕ, List, length, All, IfOk, OnOk, OnErr, Ok, true, false, Some, None, IsOk, IsSome, IsTrue, MatchResult, nat_eq, option_copied, slice_get, MatchOption, IfSome, if◌then◌else◌, unwrap_or};
 ghost use Rattle.std.specs.Borrow.{sem};
 ghost use Rattle.std.specs.Map.{lookup};
 ghost use Rattle.ex_base.specs.Area.{InPageArea, catalog_no};
@@ -10,12 +10,15 @@ ghost use Rattle.disk_model.specs.Changes.{ChangesWithin};
 ghost use Rattle.buffer_groups.specs.Frames.{Frames, Brought, NotBrought, KeepsLending, Lends, page_of};
 ghost use Rattle.buffer_groups.specs.Lending.{GroupRests};
 ghost use Rattle.buffer_groups.specs.Cause.{HasFetchCause};
+ghost use Rattle.page_entries.specs.After.{Applies, said_after};
+ghost use Rattle.page_entries.specs.Said.{AreFields, said_on};
 
 use crate::home::write_rows;
 use crate::rows::{find_row, keep_rows, put_row, take_row};
 use buffer_groups::{FetchFault, Group, Groups};
 use disk_model::{Disk, Failed};
 use ex_base::{Geometry, Image, LOG_PAGES, PageNo, TOUCHED_MOST};
+use page_entries::{PageEntry, apply_entry};
 use std::alloc::{AllocError, Global};
 use std::marker::Model;
 
@@ -59,8 +62,35 @@ impl Meta {
         })
     }
 
-    /// Gives a page a committed image, in place of the one that it has. The opening builds the overlay so.
-    pub fn adopt_page(&mut self, page: PageNo, image: Image) -> Result<(), AllocError>
+    /// Takes over what an entry of the log says of a page, over the committed image that the page has. False exactly where it doesn't apply; then, and
+    /// where there is no memory, nothing changes. The opening builds the overlay so.
+    pub fn adopt_entry(&mut self, alloc: Global, entry: &PageEntry) -> Result<bool, AllocError>
+        requires area { InPageArea self.old.geometry entry.now.page.0 }
+        requires fields { AreFields self.old.geometry.page_size entry.now.form entry.now.fields }
+        ensures applies { result ≡ Ok true
+            → Applies entry.now.page.0 (said_on entry.now.form entry.now.fields)
+            (committed_image self.old entry.now.page.0) }
+        ensures image { result ≡ Ok true → (p : ℕ) → committed_image self.new p
+            ≡ (if nat_eq entry.now.page.0 p then said_after
+            (said_on entry.now.form entry.now.fields)
+            (committed_image self.old p) else committed_image self.old p) }
+        ensures refused { result ≡ Ok false
+            → Applies entry.now.page.0 (said_on entry.now.form entry.now.fields)
+            (committed_image self.old entry.now.page.0) → ⊥ }
+        ensures stays { (result ≡ Ok true → ⊥) → self.new ≡ self.old }
+        ensures working { self.new.working ≡ self.old.working }
+        ensures geometry { self.new.geometry ≡ self.old.geometry }
+    {
+        let size = self.geometry.page_size;
+        let Some(image) = apply_entry(alloc, entry, self.committed_at(entry.page), size)? else {
+            return Ok(false);
+        };
+        self.adopt_page(entry.page, image)?;
+        Ok(true)
+    }
+
+    // Gives a page a committed image, in place of the one that it has.
+    fn adopt_page(&mut self, page: PageNo, image: Image) -> Result<(), AllocError>
         requires area { InPageArea self.old.geometry page.0 }
         requires whole { length image ≡ self.old.geometry.page_size }
         ensures ok { OnOk result (self.new

@@ -8,10 +8,10 @@ use Rattle.ex_base.proofs.Each.{each_as, each_mapped, each_unmapped, each_with}
 use Rattle.ex_base.proofs.Members.{contains_cases, contains_later}
 use Rattle.ex_base.proofs.Lists.{drop_item}
 use Rattle.op_log.specs.declared.record.LogRecord.{LogRecord}
-use Rattle.op_log.specs.declared.record.PageImage.{PageImage}
-use Rattle.op_log.specs.Records.{IsImage, IsFreed, IsLogRecord, page_of, number_of}
+use Rattle.page_entries.specs.declared.entry.PageEntry.{PageEntry}
+use Rattle.op_log.specs.Records.{IsEntry, IsFreed, IsLogRecord, page_of, number_of}
 use Rattle.op_log.specs.Log.{Follow}
-use Rattle.op_log.specs.Decoding.{RisesIn, IsApart, Shaped, FitsImage, FitsNumber, NumberFollows, last_number}
+use Rattle.op_log.specs.Decoding.{RisesIn, IsApart, Shaped, FitsEntry, FitsNumber, NumberFollows, last_number}
 
 -- ---- numbers in order
 
@@ -37,8 +37,8 @@ rises-from end (x ∷ xs) rising all = rises-on 256 end x xs (omega (arith, all.
 
 -- ---- all of a record
 
-pub images_rise_of : (g : Geometry) (r : LogRecord) → IsLogRecord g r → RisesIn 256 (area_end g) (map page_of r.pages)
-images_rise_of g r is = rises-from (area_end g) (map page_of r.pages) is.rising (each_mapped (Within (area_end g)) page_of r.pages (each_as (IsImage g) (λ e. Within (area_end g) (page_of e)) r.pages (λ e p. p.0) is.images))
+pub entries_rise_of : (g : Geometry) (r : LogRecord) → IsLogRecord g r → RisesIn 256 (area_end g) (map page_of r.pages)
+entries_rise_of g r is = rises-from (area_end g) (map page_of r.pages) is.rising (each_mapped (Within (area_end g)) page_of r.pages (each_as (IsEntry g r.kind) (λ e. Within (area_end g) (page_of e)) r.pages (λ e p. p.area) is.entries))
 
 pub numbers_rise_of : (g : Geometry) (r : LogRecord) → IsLogRecord g r → RisesIn 256 (area_end g) (map number_of r.freed)
 numbers_rise_of g r is = rises-from (area_end g) (map number_of r.freed) is.freed_rising (each_mapped (Within (area_end g)) number_of r.freed is.freed)
@@ -50,12 +50,13 @@ valid_of g r shaped pages freed apart catalog = record {
   few_notes = shaped.few_notes;
   few_pages = shaped.few_pages;
   notes = shaped.notes;
-  images = each_with (λ e. Within (area_end g) (page_of e)) (FitsImage g) (IsImage g) r.pages (λ e w f. (w, f.long)) (each_unmapped (Within (area_end g)) page_of r.pages (rises-within 256 (area_end g) (map page_of r.pages) (omega arith) pages)) shaped.images;
+  entries = each_with (λ e. Within (area_end g) (page_of e)) (FitsEntry g.page_size r.kind) (IsEntry g r.kind) r.pages (λ e w f. record { area = w; form = f.form; fields = f.fields }) (each_unmapped (Within (area_end g)) page_of r.pages (rises-within 256 (area_end g) (map page_of r.pages) (omega arith) pages)) shaped.entries;
   freed = each_unmapped (Within (area_end g)) number_of r.freed (rises-within 256 (area_end g) (map number_of r.freed) (omega arith) freed);
   rising = rises-rising 256 (area_end g) (map page_of r.pages) pages;
   freed_rising = rises-rising 256 (area_end g) (map number_of r.freed) freed;
   apart = apart;
   catalog = catalog;
+  short = shaped.short;
 }
 
 pub shaped_of : (g : Geometry) (r : LogRecord) → IsLogRecord g r → Shaped g r
@@ -64,8 +65,9 @@ shaped_of g r is = record {
   few_notes = is.few_notes;
   few_pages = is.few_pages;
   notes = is.notes;
-  images = each_as (IsImage g) (FitsImage g) r.pages (λ e p. record { page = omega (arith, p.0.1, g.few_pages); long = p.1 }) is.images;
+  entries = each_as (IsEntry g r.kind) (FitsEntry g.page_size r.kind) r.pages (λ e p. record { page = omega (arith, p.area.1, g.few_pages); form = p.form; fields = p.fields }) is.entries;
   freed = each_as (IsFreed g) FitsNumber r.freed (λ e p. omega (arith, p.1, g.few_pages)) is.freed;
+  short = is.short;
 }
 
 -- ---- a page among others
@@ -74,7 +76,7 @@ contains_at : (y x : ℕ) (ys : List ℕ) (k : ℕ) → k < length (y ∷ ys) �
 contains_at y x ys zero lt is = inl is
 contains_at y x ys (suc k) lt is = inr (k, omega (arith, lt), is)
 
-pub contains_next : (xs : List PageImage) (i : ℕ) (x : PageImage) (n : ℕ) → i < length xs → x ≡ get_or xs i x → (x.page.0 ≡ n → ⊥)
+pub contains_next : (xs : List PageEntry) (i : ℕ) (x : PageEntry) (n : ℕ) → i < length xs → x ≡ get_or xs i x → (x.page.0 ≡ n → ⊥)
     → (Contains (map page_of xs) n ↔ Contains (map page_of (drop i xs)) n) → (Contains (map page_of xs) n ↔ Contains (map page_of (drop (i + 1) xs)) n)
 contains_next xs i x n within is other so_far =
     let e = ap (map page_of) (drop_item xs i x within is) in (

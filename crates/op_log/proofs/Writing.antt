@@ -5,8 +5,9 @@ use Rattle.std.proofs.lemmas.Grind.{flat_map-append}
 use Rattle.std.specs.List.{flat_map}
 use Rattle.ex_base.specs.Bytes.{written}
 use Rattle.ex_base.specs.Fields.{field_bytes, length-field_bytes}
-use Rattle.op_log.specs.declared.record.PageImage.{PageImage}
-use Rattle.op_log.specs.Records.{images_len}
+use Rattle.op_log.specs.declared.kind.RecordKind.{RecordKind}
+use Rattle.op_log.specs.Records.{entry_len, entries_len}
+use Rattle.page_entries.specs.declared.entry.PageEntry.{PageEntry}
 use Rattle.op_log.specs.Writing.{Puts}
 
 pub puts_nothing : (b : List ℕ) (at : ℕ) → Puts [] b b at at
@@ -46,15 +47,15 @@ puts_next f xs i x {a} {b} {c} {p} {q} {r} within is one two =
     let both = puts_then (flat_map f (take i xs)) (f x) one two in
     subst (λ (l : List ℕ). Puts l a c p r) (sym (flat_map-next f xs i x within is)) both
 
-pub images_len-append : (xs ys : List PageImage) → images_len (xs ++ ys) ≡ images_len xs + images_len ys
-images_len-append [] ys = omega arith
-images_len-append (x ∷ xs) ys = omega (arith, images_len-append xs ys)
+pub entries_len-append : (kind : RecordKind) (xs ys : List PageEntry) → entries_len kind (xs ++ ys) ≡ entries_len kind xs + entries_len kind ys
+entries_len-append kind [] ys = omega arith
+entries_len-append kind (x ∷ xs) ys = omega (arith, entries_len-append kind xs ys)
 
-pub images_len-next : (xs : List PageImage) (i : ℕ) (x : PageImage) → i < length xs → x ≡ get_or xs i x → images_len (take (i + 1) xs) ≡ images_len (take i xs) + 4 + length x.image
-images_len-next xs i x within is = omega (arith, ap images_len (take-next xs i x within is), images_len-append (take i xs) (x ∷ []))
+pub entries_len-next : (kind : RecordKind) (xs : List PageEntry) (i : ℕ) (x : PageEntry) → i < length xs → x ≡ get_or xs i x → entries_len kind (take (i + 1) xs) ≡ entries_len kind (take i xs) + entry_len kind x
+entries_len-next kind xs i x within is = omega (arith, ap (entries_len kind) (take-next xs i x within is), entries_len-append kind (take i xs) (x ∷ []))
 
-pub images_len-front : (i : ℕ) (xs : List PageImage) → images_len (take i xs) ≤ images_len xs
-images_len-front i xs = omega (arith, ap images_len (take-append-drop i xs), images_len-append (take i xs) (drop i xs))
+pub entries_len-front : (kind : RecordKind) (i : ℕ) (xs : List PageEntry) → entries_len kind (take i xs) ≤ entries_len kind xs
+entries_len-front kind i xs = omega (arith, ap (entries_len kind) (take-append-drop i xs), entries_len-append kind (take i xs) (drop i xs))
 
 pub puts_for : {x y a b : List ℕ} {p q : ℕ} → Puts x a b p q → x ≡ y → Puts y a b p q
 puts_for {x} {y} {a} {b} {p} {q} puts is = subst (λ (l : List ℕ). Puts l a b p q) is puts

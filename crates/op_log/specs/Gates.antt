@@ -14,9 +14,13 @@ use Rattle.disk_model.specs.Outside.{Outside, IsWorld}
 use Rattle.disk_model.specs.Runs.{honest_on}
 use Rattle.disk_model.specs.Changes.{InRange, ChangesWithin, agrees_on}
 use Rattle.op_log.specs.declared.record.LogRecord.{LogRecord}
-use Rattle.op_log.specs.declared.record.PageImage.{PageImage}
+use Rattle.op_log.specs.declared.kind.RecordKind.{RecordKind}
+use Rattle.op_log.specs.declared.kind.RecordKind.TheVariants.{Images, Forms}
+use Rattle.page_entries.specs.declared.entry.PageEntry.{PageEntry}
+use Rattle.page_entries.specs.declared.form.EntryForm.{EntryForm}
+use Rattle.op_log.specs.Kinds.{form_bytes, form_len}
 use Rattle.op_log.specs.Layout.{open_gate}
-use Rattle.op_log.specs.Records.{note_bytes, image_bytes, number_bytes, images_len, record_len, record_body, IsLogRecord}
+use Rattle.op_log.specs.Records.{note_bytes, entry_bytes, number_bytes, entry_len, entries_len, record_len, record_body, IsLogRecord}
 use Rattle.op_log.specs.Log.{Follow, LogSpells, open_records, log_end, SaysLog, HasLog, DiskSays, KeepsLog}
 
 -- ---- lengths
@@ -25,9 +29,16 @@ pub length-notes : (xs : List OpNote) → length (flat_map note_bytes xs) ≡ 31
 length-notes [] = refl
 length-notes (x ∷ xs) = simp (length-append, length-field_bytes) (omega (arith, length-notes xs))
 
-length-images : (xs : List PageImage) → length (flat_map image_bytes xs) ≡ images_len xs
-length-images [] = refl
-length-images (x ∷ xs) = simp (length-append, length-field_bytes) (omega (arith, length-images xs))
+pub length-form : (kind : RecordKind) (form : EntryForm) → length (form_bytes kind form) ≡ form_len kind
+length-form Images form = refl
+length-form Forms form = refl
+
+pub length-entry : (kind : RecordKind) (x : PageEntry) → length (entry_bytes kind x) ≡ entry_len kind x
+length-entry kind x = simp (length-append, length-field_bytes) (omega (arith, length-form kind x.form))
+
+pub length-entries : (kind : RecordKind) (xs : List PageEntry) → length (flat_map (entry_bytes kind) xs) ≡ entries_len kind xs
+length-entries kind [] = refl
+length-entries kind (x ∷ xs) = omega (arith, length-append (entry_bytes kind x) (flat_map (entry_bytes kind) xs), length-entry kind x, length-entries kind xs)
 
 length-numbers : (xs : List PageNo) → length (flat_map number_bytes xs) ≡ 4 * length xs
 length-numbers [] = refl
@@ -35,7 +46,7 @@ length-numbers (x ∷ xs) = simp (length-append, length-field_bytes) (omega (ari
 
 pub length-record_body : (r : LogRecord) → length (record_body r) + 1 ≡ record_len r
 unfolding record_body
-length-record_body r = simp (length-append, length-field_bytes) (omega (arith, length-notes r.notes, length-images r.pages, length-numbers r.freed))
+length-record_body r = simp (length-append, length-field_bytes) (omega (arith, length-notes r.notes, length-entries r.kind r.pages, length-numbers r.freed))
 
 pub length-open_records : (rs : List LogRecord) → length (open_records rs) ≡ log_end rs
 length-open_records [] = refl

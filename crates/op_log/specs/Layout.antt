@@ -9,10 +9,6 @@ open_gate = 1
 abbrev pub closed_gate : ℕ
 closed_gate = 0
 
--- the kind of a record that holds whole images
-abbrev pub with_images : ℕ
-with_images = 1
-
 -- the bytes of a record's head, its gate not included
 abbrev pub head_len : ℕ
 head_len = 19

@@ -1,6 +1,7 @@
 pub mod AfterLog
 pub mod Decoding
 pub mod Gates
+pub mod Kinds
 pub mod Layout
 pub mod Log
 pub mod Records

@@ -3,21 +3,27 @@ ghost use Rattle.std.specs.Prelude.{◌≡◌, ◌≢◌, ◌+◌, ◌*◌, ◌�
 ghost use Rattle.ex_base.specs.declared.names.OpNote.{OpNote};
 ghost use Rattle.ex_base.specs.Bytes.{part};
 ghost use Rattle.op_log.specs.Layout.{note_len, number_len};
-ghost use Rattle.op_log.specs.Records.{note_bytes, image_bytes, number_bytes, IsNote};
-ghost use Rattle.op_log.specs.Decoding.{FitsImage, FitsNumber, Reads, NoneRead, Begins, NoRecord, HasHead};
+ghost use Rattle.op_log.specs.Records.{note_bytes, number_bytes, IsNote};
+ghost use Rattle.op_log.specs.Decoding.{FitsNumber, Reads, NoneRead, Begins, NoRecord, HasHead};
 
-use crate::layout::{HEAD_LEN, NOTE_LEN, NUMBER_LEN, WITH_IMAGES};
-use crate::record::{LogRecord, Notes, PageImage, PageImages, PageList};
+use crate::entries::read_entries;
+use crate::kind::RecordKind;
+use crate::layout::{HEAD_LEN, NOTE_LEN, NUMBER_LEN};
+use crate::length::entries_len;
+use crate::record::{LogRecord, Notes, PageList};
 use crate::valid::is_valid;
 use ex_base::{
-    Geometry, Image, Items, NoteKind, Oid, OpNote, PageNo, TOUCHED_MOST, UPDATES_MOST, get_u16,
-    get_u32, get_u64,
+    Geometry, Items, NoteKind, Oid, OpNote, PageNo, TOUCHED_MOST, UPDATES_MOST, get_u16, get_u32,
+    get_u64,
 };
 use std::alloc::{AllocError, Global};
 
 /// The numbers at the head of a record.
 #[derive(Clone, Copy)]
 pub struct Head {
+    pub kind: RecordKind,
+    /// The length of the whole record, its gate included.
+    pub len: usize,
     pub txn: u64,
     pub notes: usize,
     pub pages: usize,
@@ -68,41 +74,6 @@ fn read_notes(
     Ok(Some(notes))
 }
 
-fn image_at(
-    alloc: Global,
-    geometry: &Geometry,
-    bytes: &[u8],
-    at: usize,
-) -> Result<PageImage, AllocError>
-    requires { at + (geometry.now.page_size + number_len) ≤ length bytes.now }
-    ensures { IfOk result (λ entry. (image_bytes entry ≡ part bytes.now at (geometry.now.page_size
-        + number_len)) × FitsImage geometry.now entry) }
-{
-    let page = PageNo(get_u32(bytes, at));
-    let from = at + NUMBER_LEN;
-    let image = Image::of(alloc, &bytes[from..from + geometry.page_size as usize])?;
-    Ok(PageImage { page, image })
-}
-
-fn read_images(
-    alloc: Global,
-    geometry: &Geometry,
-    bytes: &[u8],
-    start: usize,
-    count: usize,
-) -> Result<PageImages, AllocError>
-    requires { start + (geometry.now.page_size + number_len) * count ≤ length bytes.now }
-    ensures { IfOk result (λ entries. Reads (FitsImage geometry.now) image_bytes bytes.now start
-        (geometry.now.page_size + number_len) count entries) }
-{
-    let width = geometry.page_size as usize + NUMBER_LEN;
-    let mut entries = Items::make(alloc);
-    for i in 0..count {
-        entries.push(image_at(alloc, geometry, bytes, start + width * i)?)?;
-    }
-    Ok(entries)
-}
-
 fn read_numbers(
     alloc: Global,
     bytes: &[u8],
@@ -122,35 +93,34 @@ fn read_numbers(
 
 /// The head that the bytes behind a gate begin with, where a record of these counts can stand there.
 fn read_head(geometry: &Geometry, bytes: &[u8]) -> Option<Head>
-    ensures { MatchOption result (NoRecord geometry.now bytes.now)
-        (λ head. HasHead geometry.now bytes.now head) }
+    ensures { MatchOption result (NoRecord geometry.now bytes.now) (λ head. HasHead bytes.now head) }
 {
     if bytes.len() < HEAD_LEN + 1 {
         return None;
     }
-    let kind = bytes[0];
+    let Some(kind) = RecordKind::of_number(bytes[0]) else {
+        return None;
+    };
     let len = get_u32(bytes, 1) as usize;
     let txn = get_u64(bytes, 5);
     let notes = get_u16(bytes, 13) as usize;
     let pages = get_u16(bytes, 15) as usize;
     let freed = get_u16(bytes, 17) as usize;
-    if kind != WITH_IMAGES {
-        return None;
-    }
     if notes > UPDATES_MOST {
         return None;
     }
     if pages + freed > TOUCHED_MOST as usize {
         return None;
     }
-    let images = (geometry.page_size as usize + NUMBER_LEN) * pages;
-    if len != HEAD_LEN + NOTE_LEN * notes + images + NUMBER_LEN * freed + 1 {
+    if len < HEAD_LEN + NOTE_LEN * notes {
         return None;
     }
     if len > bytes.len() {
         return None;
     }
     Some(Head {
+        kind,
+        len,
         txn,
         notes,
         pages,
@@ -174,11 +144,18 @@ pub fn decode(
         return Ok(None);
     };
     let pages_at = HEAD_LEN + NOTE_LEN * head.notes;
-    let freed_at = pages_at + (geometry.page_size as usize + NUMBER_LEN) * head.pages;
+    let Some(pages) = read_entries(alloc, geometry, head.kind, bytes, pages_at, head.pages)? else {
+        return Ok(None);
+    };
+    let freed_at = pages_at + entries_len(head.kind, pages.as_slice());
+    if freed_at + NUMBER_LEN * head.freed + 1 != head.len {
+        return Ok(None);
+    }
     let item = LogRecord {
+        kind: head.kind,
         txn: head.txn,
         notes,
-        pages: read_images(alloc, geometry, bytes, pages_at, head.pages)?,
+        pages,
         freed: read_numbers(alloc, bytes, freed_at, head.freed)?,
     };
     if is_valid(geometry, &item) {

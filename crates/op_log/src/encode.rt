@@ -4,12 +4,15 @@ ghost use Rattle.std.specs.List.{flat_map};
 ghost use Rattle.ex_base.specs.Fields.{two_bytes, four_bytes, eight_bytes};
 ghost use Rattle.ex_base.specs.Limits.{updates_most, touched_most};
 ghost use Rattle.op_log.specs.Layout.{closed_gate, note_len, number_len};
-ghost use Rattle.op_log.specs.Records.{note_bytes, image_bytes, number_bytes, images_len, record_len, record_body};
+ghost use Rattle.op_log.specs.Kinds.{form_bytes, form_len};
+ghost use Rattle.op_log.specs.Records.{note_bytes, entry_bytes, number_bytes, entry_len, entries_len, record_len, record_body};
 ghost use Rattle.op_log.specs.Writing.{Puts};
 
-use crate::layout::{CLOSED, WITH_IMAGES};
-use crate::record::{LogRecord, PageImage};
+use crate::kind::RecordKind;
+use crate::layout::CLOSED;
+use crate::record::LogRecord;
 use ex_base::{OpNote, PageNo, put_bytes, put_u16, put_u32, put_u64};
+use page_entries::{EntryForm, PageEntry};
 
 fn put_run(out: &mut [u8], at: usize, bytes: &[u8]) -> usize
     requires { at + length bytes.now ≤ length out.old }
@@ -60,13 +63,26 @@ fn put_note(out: &mut [u8], at: usize, note: &OpNote) -> usize
     put_eight(out, at, note.second)
 }
 
-fn put_image(out: &mut [u8], at: usize, entry: &PageImage) -> usize
-    requires { at + number_len + length entry.now.image ≤ length out.old }
-    ensures end { result ≡ at + number_len + length entry.now.image }
-    ensures puts { Puts (image_bytes entry.now) out.old out.new at result }
+// An entry's form, where the kind of its record has it.
+fn put_form(out: &mut [u8], at: usize, kind: RecordKind, form: EntryForm) -> usize
+    requires { at + form_len kind ≤ length out.old }
+    ensures end { result ≡ at + form_len kind }
+    ensures puts { Puts (form_bytes kind form) out.old out.new at result }
+{
+    match kind {
+        RecordKind::Images => at,
+        RecordKind::Forms => put_run(out, at, &[form.number()]),
+    }
+}
+
+fn put_entry(out: &mut [u8], at: usize, kind: RecordKind, entry: &PageEntry) -> usize
+    requires { at + entry_len kind entry.now ≤ length out.old }
+    ensures end { result ≡ at + entry_len kind entry.now }
+    ensures puts { Puts (entry_bytes kind entry.now) out.old out.new at result }
 {
     let at = put_four(out, at, entry.page.0);
-    put_run(out, at, entry.image.as_slice())
+    let at = put_form(out, at, kind, entry.form);
+    put_run(out, at, entry.fields.as_slice())
 }
 
 fn put_notes(out: &mut [u8], start: usize, notes: &[OpNote]) -> usize
@@ -81,14 +97,14 @@ fn put_notes(out: &mut [u8], start: usize, notes: &[OpNote]) -> usize
     at
 }
 
-fn put_images(out: &mut [u8], start: usize, entries: &[PageImage]) -> usize
-    requires { start + images_len entries.now ≤ length out.old }
-    ensures end { result ≡ start + images_len entries.now }
-    ensures puts { Puts (flat_map image_bytes entries.now) out.old out.new start result }
+fn put_entries(out: &mut [u8], start: usize, kind: RecordKind, entries: &[PageEntry]) -> usize
+    requires { start + entries_len kind entries.now ≤ length out.old }
+    ensures end { result ≡ start + entries_len kind entries.now }
+    ensures puts { Puts (flat_map (entry_bytes kind) entries.now) out.old out.new start result }
 {
     let mut at = start;
     for entry in entries {
-        at = put_image(out, at, entry);
+        at = put_entry(out, at, kind, entry);
     }
     at
 }
@@ -115,14 +131,14 @@ pub fn encode(out: &mut [u8], item: &LogRecord, len: usize) -> usize
     ensures end { result ≡ record_len item.now }
     ensures puts { Puts (record_body item.now ++ closed_gate ∷ []) out.old out.new 0 result }
 {
-    let at = put_run(out, 0, &[WITH_IMAGES]);
+    let at = put_run(out, 0, &[item.kind.number()]);
     let at = put_four(out, at, len as u32);
     let at = put_eight(out, at, item.txn);
     let at = put_two(out, at, item.notes.len() as u16);
     let at = put_two(out, at, item.pages.len() as u16);
     let at = put_two(out, at, item.freed.len() as u16);
     let at = put_notes(out, at, item.notes.as_slice());
-    let at = put_images(out, at, item.pages.as_slice());
+    let at = put_entries(out, at, item.kind, item.pages.as_slice());
     let at = put_numbers(out, at, item.freed.as_slice());
     put_run(out, at, &[CLOSED])
 }

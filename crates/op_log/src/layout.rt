@@ -6,10 +6,7 @@ pub const OPEN: u8 = 1;
 /// The gate that is written where no record counts.
 pub const CLOSED: u8 = 0;
 
-/// The kind of a record that holds whole images.
-pub const WITH_IMAGES: u8 = 1;
-
-/// The bytes of a record's head, its gate not included: the kind, the length, the transaction's number, and how many notes, images and freed pages
+/// The bytes of a record's head, its gate not included: the kind, the length, the transaction's number, and how many notes, entries and freed pages
 /// follow.
 pub const HEAD_LEN: usize = 19;
 
@@ -18,3 +15,6 @@ pub const NOTE_LEN: usize = 31;
 
 /// The bytes of a page number.
 pub const NUMBER_LEN: usize = 4;
+
+/// The bytes of an entry's form.
+pub const FORM_LEN: usize = 1;

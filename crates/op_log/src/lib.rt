@@ -4,7 +4,9 @@
 
 mod decoding;
 mod encode;
+mod entries;
 mod found;
+mod kind;
 mod laws;
 mod layout;
 mod length;
@@ -15,7 +17,8 @@ mod valid;
 
 pub use decoding::decode;
 pub use found::LogRecords;
+pub use kind::RecordKind;
 pub use laws::{bad_log_has_no_list, one_bad_offset, one_list_of_records};
 pub use log::OpLog;
-pub use record::{LogRecord, Notes, PageImage, PageImages, PageList};
+pub use record::{LogRecord, Notes, PageList};
 pub use scan::{LogFault, scan_log};

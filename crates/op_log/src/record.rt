@@ -1,28 +1,22 @@
 //! What one commit did, as the log tells it.
-use ex_base::{Image, Items, OpNote, PageNo};
+use crate::kind::RecordKind;
+use ex_base::{Items, OpNote, PageNo};
+use page_entries::Entries;
 
 /// A note for each update, in the order in which they were accepted.
 pub type Notes = Items<OpNote>;
 
-/// The pages that a commit changed, in rising order.
-pub type PageImages = Items<PageImage>;
-
 /// The pages that a commit gave back, in rising order.
 pub type PageList = Items<PageNo>;
-
-/// A page and what it is to hold.
-#[derive(Drop)]
-pub struct PageImage {
-    pub page: PageNo,
-    pub image: Image,
-}
 
 /// What one commit did.
 #[derive(Drop)]
 pub struct LogRecord {
+    pub kind: RecordKind,
     /// The number of the transaction, one more than that of the record before.
     pub txn: u64,
     pub notes: Notes,
-    pub pages: PageImages,
+    /// What it says of the pages that the commit changed, in rising order of these.
+    pub pages: Entries,
     pub freed: PageList,
 }

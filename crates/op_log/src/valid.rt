@@ -5,8 +5,9 @@ ghost use Rattle.ex_base.specs.Area.{area_end, catalog_no};
 ghost use Rattle.op_log.specs.Records.{IsLogRecord, page_of, number_of};
 ghost use Rattle.op_log.specs.Decoding.{RisesIn, IsApart, Shaped, NumberFollows};
 
-use crate::record::{LogRecord, PageImage};
+use crate::record::LogRecord;
 use ex_base::{Geometry, PageNo};
+use page_entries::PageEntry;
 
 fn goes_on(before: u32, end: u32, page: u32) -> bool
     ensures { IsTrue result ↔ ((before < page) × (page < end)) }
@@ -14,7 +15,7 @@ fn goes_on(before: u32, end: u32, page: u32) -> bool
     before < page && page < end
 }
 
-fn images_rise(end: u32, entries: &[PageImage]) -> bool
+fn entries_rise(end: u32, entries: &[PageEntry]) -> bool
     ensures { IsTrue result ↔ RisesIn (catalog_no - 1) end (map page_of entries.now) }
 {
     let mut before = PageNo::CATALOG.0 - 1;
@@ -40,7 +41,7 @@ fn numbers_rise(end: u32, pages: &[PageNo]) -> bool
     true
 }
 
-fn has_page(entries: &[PageImage], page: u32) -> bool
+fn has_page(entries: &[PageEntry], page: u32) -> bool
     ensures { IsTrue result ↔ Contains (map page_of entries.now) page }
 {
     for entry in entries {
@@ -51,7 +52,7 @@ fn has_page(entries: &[PageImage], page: u32) -> bool
     false
 }
 
-fn lie_apart(entries: &[PageImage], pages: &[PageNo]) -> bool
+fn lie_apart(entries: &[PageEntry], pages: &[PageNo]) -> bool
     ensures { IsTrue result ↔ AllByRecursion (IsApart entries.now) pages.now }
 {
     for page in pages {
@@ -68,7 +69,7 @@ pub fn is_valid(geometry: &Geometry, item: &LogRecord) -> bool
     ensures { IsTrue result ↔ IsLogRecord geometry.now item.now }
 {
     let end = PageNo::CATALOG.0 + geometry.pages;
-    if !images_rise(end, item.pages.as_slice()) {
+    if !entries_rise(end, item.pages.as_slice()) {
         return false;
     }
     if !numbers_rise(end, item.freed.as_slice()) {

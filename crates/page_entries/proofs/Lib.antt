@@ -11,3 +11,4 @@ pub mod SlotsDiffering
 pub mod FilesDiffering
 pub mod FilesCompared
 pub mod RuleLaws
+pub mod AfterLen

@@ -4,7 +4,7 @@ use Rattle.ex_base.specs.declared.geometry.Geometry.{Geometry}
 use Rattle.ex_base.specs.Area.{catalog_no, log_at}
 use Rattle.object_files.specs.Catalog.{Catalog, CatalogOf, fresh_catalog}
 use Rattle.op_log.specs.declared.record.LogRecord.{LogRecord}
-use Rattle.op_log.specs.AfterLog.{after_log}
+use Rattle.op_log.specs.AfterLog.{after_log, AllApply}
 use Rattle.op_log.specs.Decoding.{last_number}
 use Rattle.op_log.specs.Log.{SaysLog}
 use Rattle.op_log.proofs.OneList.{one_list}
@@ -13,7 +13,7 @@ use Rattle.session_views.specs.declared.Part.TheVariants.{Super, Log, Catalog as
 use Rattle.commits.proofs.Places.{unit_page}
 use Rattle.volume_model.proofs.OneReading.{one_catalog}
 use Rattle.volume_model.proofs.OneVolume.{one_geometry}
-use Rattle.volume_model.specs.Parts.{Decodes, FirstBad, HoldsOf, IsLastOf, SuperOf}
+use Rattle.volume_model.specs.Parts.{Decodes, FirstBad, HasRecords, HoldsOf, IsLastOf, SuperOf}
 use Rattle.volume_model.specs.Volume.{Decoded, FileContent, units_after, units_of}
 use Rattle.restart.specs.Content.{FilesHold, IsFirstBad, volume_of}
 use Rattle.restart.specs.Opening.{HasCatalog, LastIs}
@@ -62,24 +62,34 @@ super_bad image none = record { earlier = (decoded_as some_geometry [] fresh_cat
 pub log_bad : (image : List ℕ) (g : Geometry) → SuperOf image g → ((records : List LogRecord) → SaysLog g records image → ⊥) → FirstBad image Log
 log_bad image g super none = record {
   earlier = (decoded_as g [] fresh_catalog [], (super, tt));
-  fails = λ h. none h.0.records (subst (λ (k : Geometry). SaysLog k h.0.records image) (one_geometry image h.0.geometry g h.1.0 super) h.1.1.0);
+  fails = λ h. none h.0.records (subst (λ (k : Geometry). SaysLog k h.0.records image) (one_geometry image h.0.geometry g h.1.0 super) h.1.1.0.says);
+}
+
+-- the one list of records doesn't apply
+pub log_refused : (image : List ℕ) (g : Geometry) (records : List LogRecord) → SuperOf image g → SaysLog g records image → (AllApply records → ⊥) → FirstBad image Log
+log_refused image g records super says refused = record {
+  earlier = (decoded_as g [] fresh_catalog [], (super, tt));
+  fails = λ h.
+      let geometry = one_geometry image h.0.geometry g h.1.0 super in
+      let list = one_list g (log_at g image) h.0.records records (subst (λ (k : Geometry). SaysLog k h.0.records image) geometry h.1.1.0.says) says in
+      refused (subst AllApply list h.1.1.0.apply);
 }
 
 -- ---- behind the log
 
-module _ (image : List ℕ) (g : Geometry) (records : List LogRecord) (super : SuperOf image g) (says : SaysLog g records image) where
+module _ (image : List ℕ) (g : Geometry) (records : List LogRecord) (super : SuperOf image g) (says : HasRecords g image records) where
   abbrev page : List ℕ
   page = after_log g records image catalog_no
 
   -- whatever decodes so far has this geometry, these records and this catalog page
-  same_page : (d : Decoded) → SuperOf image d.geometry → SaysLog d.geometry d.records image → (d.geometry ≡ g) × (d.records ≡ records) × (after_log d.geometry d.records image catalog_no ≡ page)
+  same_page : (d : Decoded) → SuperOf image d.geometry → HasRecords d.geometry image d.records → (d.geometry ≡ g) × (d.records ≡ records) × (after_log d.geometry d.records image catalog_no ≡ page)
   same_page d super' says' =
       let geometry = one_geometry image d.geometry g super' super in
-      let list = one_list g (log_at g image) d.records records (subst (λ (k : Geometry). SaysLog k d.records image) geometry says') says in
+      let list = one_list g (log_at g image) d.records records (subst (λ (k : Geometry). SaysLog k d.records image) geometry says'.says) says.says in
       (geometry, list, ap (λ (k : Geometry). after_log k d.records image catalog_no) geometry ∙ ap (λ (rs : List LogRecord). after_log g rs image catalog_no) list)
 
   -- and its catalog is one of that page, with the last number
-  its_catalog : (d : Decoded) → SuperOf image d.geometry → SaysLog d.geometry d.records image → HoldsOf d.geometry d.records (units_of d image) d.volume CatalogPart → HasCatalog page (last_number records) d.volume.catalog
+  its_catalog : (d : Decoded) → SuperOf image d.geometry → HasRecords d.geometry image d.records → HoldsOf d.geometry d.records (units_of d image) d.volume CatalogPart → HasCatalog page (last_number records) d.volume.catalog
   its_catalog d super' says' catalog =
       let same = same_page d super' says' in
       record {
@@ -101,7 +111,7 @@ module _ (image : List ℕ) (g : Geometry) (records : List LogRecord) (super : S
     catalog files = (subst (λ (bytes : List ℕ). CatalogOf bytes c) (sym (catalog_page (decoded_as g records c files) image)) here.spelled, last_of records c.last here.number)
 
     -- whatever decodes up to the catalog has these units and this catalog
-    same_content : (n : ℕ) (d : Decoded) → SuperOf image d.geometry → SaysLog d.geometry d.records image → HoldsOf d.geometry d.records (units_of d image) d.volume CatalogPart
+    same_content : (n : ℕ) (d : Decoded) → SuperOf image d.geometry → HasRecords d.geometry image d.records → HoldsOf d.geometry d.records (units_of d image) d.volume CatalogPart
         → FilesHold d.geometry (units_of d image) d.volume.catalog n d.volume.files → FilesHold g units c n d.volume.files
     same_content n d super' says' catalog' hold =
         let same = same_page d super' says' in

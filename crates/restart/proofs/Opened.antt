@@ -17,14 +17,14 @@ use Rattle.object_files.specs.Catalog.{Catalog}
 use Rattle.op_log.specs.declared.record.LogRecord.{LogRecord}
 use Rattle.op_log.specs.AfterLog.{after_log, logged}
 use Rattle.op_log.specs.Decoding.{last_number}
-use Rattle.op_log.specs.Log.{SaysLog, log_end}
+use Rattle.op_log.specs.Log.{log_end}
 use Rattle.op_log.specs.State.{LogState}
 use Rattle.page_alloc.specs.UnitSet.{refs_at, used_at}
 use Rattle.commits.proofs.Closing.{settled_agrees}
 use Rattle.commits.proofs.Reached.{reach_behind, without_last}
 use Rattle.volume_model.specs.Committed.{Checkpointed, Committed, SameAfterLog, StandsForVolume, with_records}
 use Rattle.volume_model.specs.FreshView.{KnowsUnits}
-use Rattle.volume_model.specs.Parts.{Decodes, HoldsOf, StandsFor, SuperOf, content_parts}
+use Rattle.volume_model.specs.Parts.{Decodes, HasRecords, HoldsOf, StandsFor, SuperOf, content_parts}
 use Rattle.volume_model.specs.SameVolume.{reach_kept}
 use Rattle.trees.specs.Owners.{root_pages}
 use Rattle.volume_model.specs.Volume.{Decoded, file_pages, reach_of, roots_in, stored_in, table_of, units_after, units_of}
@@ -61,7 +61,7 @@ catalog_before_log g image records page last c is number here = subst (λ (n : O
 pub no_working : (m : Overlays) (page : ℕ) → m.working ≡ [] → image_at m page ≡ committed_image m page
 no_working m page none = ap (λ (rows : List (ℕ × Option (List ℕ))). over (lookup (nat_eq page) rows) (committed_image m page)) none
 
-pub reads_as : (image : List ℕ) (g g' : Geometry) (records : List LogRecord) (c : Catalog) (m m' : Overlays) (log : LogState) (r : Reached) (used : ℕ → Bool) (refs : ℕ → ℕ) (held : ℕ → Bool) → SuperOf image g → SaysLog g records image
+pub reads_as : (image : List ℕ) (g g' : Geometry) (records : List LogRecord) (c : Catalog) (m m' : Overlays) (log : LogState) (r : Reached) (used : ℕ → Bool) (refs : ℕ → ℕ) (held : ℕ → Bool) → SuperOf image g → HasRecords g image records
     → HasCatalog (after_log g records image catalog_no) (last_number records) c → FilesReached g (units_after g records image) c r → ((p : ℕ) → committed_image m p ≡ logged records p) → m' ≡ m → g' ≡ g
     → log ≡ log_of g (log_end records) (length records) → used ≡ used_at r.units → refs ≡ refs_at r.units → held ≡ is_held r.pages
     → ReadsAs image g' log m'.committed used refs held

@@ -7,6 +7,8 @@ ghost use Rattle.disk_model.specs.Outside.{DiskOnly, ReadsOnly, Leaves, Only, Ro
 ghost use Rattle.table_model.specs.declared.table.Table.{Table};
 ghost use Rattle.op_log.specs.Decoding.{last_number};
 ghost use Rattle.op_log.specs.Log.{SaysLog, log_end};
+ghost use Rattle.op_log.specs.AfterLog.{logged, AllApply};
+ghost use Rattle.meta_pages.specs.Overlays.{committed_image};
 ghost use Rattle.op_log.specs.Records.{IsLogRecord};
 ghost use Rattle.page_alloc.specs.UnitSet.{used_at, refs_at};
 ghost use Rattle.volume_model.specs.Parts.{SuperOf, FirstBad, StandsFor};
@@ -114,8 +116,9 @@ fn read_volume<D: Disk>(alloc: Global, disk: &mut D) -> Result<OpenedParts, Open
         Ok(records) => records,
         Err(fault) => return Err(fault),
     };
-    let Ok(meta) = overlay_of(alloc, &geometry, records.as_slice()) else {
-        return Err(OpenFault::Memory);
+    let meta = match read_overlay(alloc, &geometry, records.as_slice()) {
+        Ok(meta) => meta,
+        Err(fault) => return Err(fault),
     };
     let page = match read_catalog(alloc, disk, &geometry, &meta) {
         Ok(page) => page,
@@ -160,6 +163,30 @@ fn read_log<D: Disk>(
         Err(LogFault::Memory) => Err(OpenFault::Memory),
         Err(LogFault::Disk) => Err(OpenFault::Disk),
         Err(LogFault::Bad { .. }) => Err(OpenFault::BadVolume { part: Part::Log }),
+    }
+}
+
+// The overlay of the records, where each of their entries applies.
+fn read_overlay(
+    alloc: Global,
+    geometry: &Geometry,
+    records: &[LogRecord],
+) -> Result<Meta, OpenFault>
+    requires { AllByRecursion (IsLogRecord geometry.now) records.now }
+    ensures geometry { IfOk result (λ m. m.geometry ≡ geometry.now) }
+    ensures working { IfOk result (λ m. m.working ≡ []) }
+    ensures apply { IfOk result (λ m. AllApply records.now) }
+    ensures just { IfOk result (λ m. (page : ℕ)
+        → committed_image m page ≡ logged records.now page) }
+    ensures no_disk { result ≡ Err OpenFault.Disk → ⊥ }
+    ensures bad { (part : Part) → result ≡ Err (OpenFault.BadVolume part) → (image : List ℕ)
+        → SuperOf image geometry.now → SaysLog geometry.now records.now image
+        → FirstBad image part }
+{
+    match overlay_of(alloc, geometry, records) {
+        Ok(Some(meta)) => Ok(meta),
+        Ok(None) => Err(OpenFault::BadVolume { part: Part::Log }),
+        Err(_) => Err(OpenFault::Memory),
     }
 }
 

@@ -328,7 +328,7 @@ commit_notes {a} {m} {b} {before} now page log meta session reads opened catalog
       last = last;
       disk = done.0;
       holds = done.1;
-      says = subst (λ (g : Geometry). SaysLog g (result.earlier ++ last ∷ []) done.0) (sym (session_geometry now.shows)) result.committed.parts.1.0;
+      says = subst (λ (g : Geometry). SaysLog g (result.earlier ++ last ∷ []) done.0) (sym (session_geometry now.shows)) result.committed.parts.1.0.says;
       notes_are = refl;
     }
 

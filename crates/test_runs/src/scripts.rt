@@ -179,10 +179,10 @@ fn what_was_committed_is_found_again(rt: HostRuntime) -> Result<(), Fail> {
     assert_eq!(rt; host.sent_bytes(), b"ok files 0\n".as_slice());
 
     let one = left_by(&rt, alloc, &volume, b"begin\nfile a\ncommit\n")?;
-    assert!(rt; has_at(&one, PAGE, &[1, 1, 0, 0, 2, 0x37]));
-    assert!(rt; !has_at(&one, PAGE + 567, &[1]));
+    assert!(rt; has_at(&one, PAGE, &[1, 2, 0, 0, 2, 0x38]));
+    assert!(rt; !has_at(&one, PAGE + 568, &[1]));
     let two = left_by(&rt, alloc, &volume, b"begin\ncommit\nbegin\ncommit\n")?;
-    assert!(rt; has_at(&two, PAGE + 536, &[1, 1, 0, 0, 2, 0x18]));
+    assert!(rt; has_at(&two, PAGE + 537, &[1, 2, 0, 0, 2, 0x19]));
 
     let again = left_by(
         &rt,

@@ -56,7 +56,7 @@ one_decoding disk g h rs qs v w geometry records p q =
 decoded_once : (disk : List ℕ) (d e : Decoded) → Decodes disk d → Decodes disk e → table_of (units_of d disk) d.volume ≡ table_of (units_of e disk) e.volume
 decoded_once disk d e (super, (log, content)) (super', (log', content')) =
     let geometry : d.geometry ≡ e.geometry = one_geometry disk d.geometry e.geometry super super' in
-    let records : d.records ≡ e.records = one_list d.geometry (log_at d.geometry disk) d.records e.records log (subst (λ (x : Geometry). LogSpells x (log_at x disk) e.records) (sym geometry) log') in
+    let records : d.records ≡ e.records = one_list d.geometry (log_at d.geometry disk) d.records e.records log.says (subst (λ (x : Geometry). LogSpells x (log_at x disk) e.records) (sym geometry) log'.says) in
     one_decoding disk d.geometry e.geometry d.records e.records d.volume e.volume geometry records content content'
 
 pub one_table : (disk : List ℕ) (a b : Table) → StandsFor disk a → StandsFor disk b → a ≡ b

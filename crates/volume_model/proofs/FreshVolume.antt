@@ -33,6 +33,6 @@ fresh_stands g disk super closed catalog =
     let page = subst (λ (bytes : List ℕ). CatalogOf bytes fresh_catalog) (sym (catalog_unit g disk)) catalog in
     record {
       decoded = fresh g;
-      parts = (super, (no_records g disk super.large closed, ((page, tt), ((tt, tt), (tt, (tt, (record { named = tt; no_file_page = tt; one_object = tt }, (tt, (record { differ = tt; some = tt; below = tt; listed = tt }, tt)))))))));
+      parts = (super, (record { says = no_records g disk super.large closed; apply = tt }, ((page, tt), ((tt, tt), (tt, (tt, (record { named = tt; no_file_page = tt; one_object = tt }, (tt, (record { differ = tt; some = tt; below = tt; listed = tt }, tt)))))))));
       same = refl;
     }

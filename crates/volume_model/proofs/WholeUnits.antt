@@ -1,6 +1,6 @@
 -- The units of a disk that decodes are whole.
-use Rattle.std.proofs.Common.{◌≡◌, ℕ, ◌+◌, ◌*◌, ◌<◌, ◌≤◌, suc, suc-mul, List, [], ◌∷◌, length, Option, Some, None, arith}
-use Rattle.std.specs.Prelude.{unwrap_or, ◌==◌, if◌then◌else◌}
+use Rattle.std.proofs.Common.{◌≡◌, ℕ, ◌+◌, ◌*◌, ◌<◌, ◌≤◌, suc, suc-mul, List, [], ◌∷◌, length, Option, Some, None, refl, subst, eqb-true, arith}
+use Rattle.std.specs.Prelude.{IfSome, unwrap_or, ◌==◌, if◌then◌else◌}
 use Rattle.std.specs.List.{AllByRecursion, list_any}
 use Rattle.std.proofs.lemmas.Bool.{lt-ltb, le-ltb, cond_both}
 use Rattle.std.proofs.Math.Nat.{mul-le-mul_right, add-mul}
@@ -9,9 +9,14 @@ use Rattle.ex_base.specs.Area.{catalog_no, area_end, page_at}
 use Rattle.ex_base.specs.Bytes.{length-part}
 use Rattle.ex_base.specs.Sizes.{leaf_bytes, volume_bytes}
 use Rattle.op_log.specs.declared.record.LogRecord.{LogRecord}
-use Rattle.op_log.specs.declared.record.PageImage.{PageImage}
-use Rattle.op_log.specs.AfterLog.{image_in, logged, logged_from, page_after}
-use Rattle.op_log.specs.Records.{IsImage, IsLogRecord, number_of, page_of}
+use Rattle.op_log.specs.declared.kind.RecordKind.{RecordKind}
+use Rattle.op_log.specs.AfterLog.{after_entry, after_entries, logged, logged_from, page_after, EntriesApply, RecordsApply}
+use Rattle.op_log.proofs.Applied.{Pages}
+use Rattle.op_log.specs.Records.{IsEntry, IsLogRecord, number_of, page_of}
+use Rattle.page_entries.specs.declared.entry.PageEntry.{PageEntry}
+use Rattle.page_entries.specs.Said.{AreFields, said_on}
+use Rattle.page_entries.specs.After.{Applies, said_after}
+use Rattle.page_entries.proofs.AfterLen.{fields_len}
 use Rattle.trees.proofs.TreeLaws.{AreWhole}
 use Rattle.volume_model.specs.Parts.{Decodes}
 use Rattle.volume_model.specs.Volume.{Decoded, units_of}
@@ -22,17 +27,35 @@ abbrev IsSized : Geometry → Option (List ℕ) → Type 0
 IsSized g None = Unit {0}
 IsSized g (Some image) = length image ≡ g.page_size
 
-image_sized : (g : Geometry) (entries : List PageImage) (page : ℕ) → AllByRecursion (IsImage g) entries → IsSized g (image_in entries page)
-image_sized g [] page h = tt
-image_sized g (entry ∷ entries) page h = cond_both (page_of entry == page) (Some entry.image) (image_in entries page) (IsSized g) (λ _. h.0.1) (λ _. image_sized g entries page h.1)
+said_sized : (g : Geometry) (entry : PageEntry) (page : ℕ) (so_far after : Option (List ℕ)) → AreFields g.page_size entry.form entry.fields → Applies page (said_on entry.form entry.fields) so_far → IsSized g so_far
+    → said_after (said_on entry.form entry.fields) so_far ≡ after → IsSized g after
+said_sized g entry page so_far None fields applies sized is = tt
+said_sized g entry page so_far (Some after) fields applies sized is = fields_len g.page_size page entry.form entry.fields so_far after fields (as_some g so_far sized) applies is
+  where
+    as_some : (g : Geometry) (o : Option (List ℕ)) → IsSized g o → IfSome o (λ old. length old ≡ g.page_size)
+    as_some g None sized = tt
+    as_some g (Some old) sized = sized
 
-after_sized : (g : Geometry) (r : LogRecord) (page : ℕ) (so_far : Option (List ℕ)) → IsLogRecord g r → IsSized g so_far → IsSized g (page_after r page so_far)
-after_sized g r page so_far h sized =
-    cond_both (list_any (λ freed. number_of freed == page) r.freed) None (if list_any (λ entry. page_of entry == page) r.pages then image_in r.pages page else so_far) (IsSized g) (λ _. tt) (λ _. cond_both (list_any (λ entry. page_of entry == page) r.pages) (image_in r.pages page) so_far (IsSized g) (λ _. image_sized g r.pages page h.images) (λ _. sized))
+entry_sized : (g : Geometry) (kind : RecordKind) (entry : PageEntry) (page : ℕ) (so_far : Pages) → IsEntry g kind entry → Applies entry.page.0 (said_on entry.form entry.fields) (so_far entry.page.0) → IsSized g (so_far page)
+    → IsSized g (after_entry entry page (so_far page))
+entry_sized g kind entry page so_far is applies sized =
+    cond_both (page_of entry == page) (said_after (said_on entry.form entry.fields) (so_far page)) (so_far page) (IsSized g)
+    (λ t. let same : entry.page.0 ≡ page = eqb-true entry.page.0 page t in
+    said_sized g entry entry.page.0 (so_far page) (said_after (said_on entry.form entry.fields) (so_far page)) is.fields (subst (λ (p : ℕ). Applies entry.page.0 (said_on entry.form entry.fields) (so_far p)) same applies) sized refl)
+    (λ _. sized)
 
-logged_sized : (g : Geometry) (so_far : Option (List ℕ)) (records : List LogRecord) (page : ℕ) → AllByRecursion (IsLogRecord g) records → IsSized g so_far → IsSized g (logged_from so_far records page)
-logged_sized g so_far [] page h sized = sized
-logged_sized g so_far (r ∷ records) page h sized = logged_sized g (page_after r page so_far) records page h.1 (after_sized g r page so_far h.0 sized)
+entries_sized : (g : Geometry) (kind : RecordKind) (entries : List PageEntry) (page : ℕ) (so_far : Pages) → AllByRecursion (IsEntry g kind) entries → EntriesApply so_far entries → IsSized g (so_far page)
+    → IsSized g (after_entries entries page (so_far page))
+entries_sized g kind [] page so_far is apply sized = sized
+entries_sized g kind (entry ∷ entries) page so_far is apply sized = entries_sized g kind entries page (λ p. after_entry entry p (so_far p)) is.1 apply.1 (entry_sized g kind entry page so_far is.0 apply.0 sized)
+
+after_sized : (g : Geometry) (r : LogRecord) (page : ℕ) (so_far : Pages) → IsLogRecord g r → EntriesApply so_far r.pages → IsSized g (so_far page) → IsSized g (page_after r page (so_far page))
+after_sized g r page so_far is apply sized =
+    cond_both (list_any (λ freed. number_of freed == page) r.freed) None (after_entries r.pages page (so_far page)) (IsSized g) (λ _. tt) (λ _. entries_sized g r.kind r.pages page so_far is.entries apply sized)
+
+logged_sized : (g : Geometry) (so_far : Pages) (records : List LogRecord) (page : ℕ) → AllByRecursion (IsLogRecord g) records → RecordsApply so_far records → IsSized g (so_far page) → IsSized g (logged_from (so_far page) records page)
+logged_sized g so_far [] page is apply sized = sized
+logged_sized g so_far (r ∷ records) page is apply sized = logged_sized g (λ p. page_after r p (so_far p)) records page is.1 apply.1 (after_sized g r page so_far is.0 apply.0 sized)
 
 or_home : (g : Geometry) (image : Option (List ℕ)) (home : List ℕ) → IsSized g image → length home ≡ g.page_size → length (unwrap_or image home) ≡ g.page_size
 or_home g None home sized is = is
@@ -44,7 +67,7 @@ catalog_len d disk (super, (log, rest)) =
     let some = g.some_pages in
     let is_page = lt-ltb catalog_no (area_end g) (omega (arith, some)) in
     let inside : 257 * g.page_size + g.page_size ≤ length disk = omega (arith, super.large, mul-le-mul_right {m = 258} {n = 257 + g.pages + g.segs * g.seg_len} g.page_size (omega (arith, some))) in
-    rw is_page (or_home g (logged d.records catalog_no) (page_at g disk catalog_no) (logged_sized g None d.records catalog_no log.each tt) (length-part disk (257 * g.page_size) g.page_size inside))
+    rw is_page (or_home g (logged d.records catalog_no) (page_at g disk catalog_no) (logged_sized g (λ p. None) d.records catalog_no log.says.each log.apply tt) (length-part disk (257 * g.page_size) g.page_size inside))
 
 -- ---- leaves
 

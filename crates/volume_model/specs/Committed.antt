@@ -10,7 +10,9 @@ use Rattle.op_log.specs.AfterLog.{logged}
 use Rattle.op_log.specs.Log.{log_end}
 use Rattle.op_log.specs.State.{LogState}
 use Rattle.op_log.specs.declared.record.LogRecord.{LogRecord}
-use Rattle.op_log.specs.declared.record.PageImage.{PageImage}
+use Rattle.op_log.specs.declared.kind.RecordKind.TheVariants.{Forms}
+use Rattle.page_entries.specs.declared.entry.PageEntry.{PageEntry}
+use Rattle.page_entries.specs.declared.form.EntryForm.TheVariants.{Image}
 use Rattle.trees.specs.Trees.{root_units}
 use Rattle.volume_model.specs.Durable.{Agrees}
 use Rattle.volume_model.specs.Homes.{home}
@@ -63,10 +65,10 @@ pub record Checkpointed (d : Decoded) (disk : List ℕ) (may_leave : List ℕ �
 -- ---- a commit
 
 -- the images of the working pages, and the pages that were given back
-abbrev pub images_of : List WorkingRow → List PageImage
+abbrev pub images_of : List WorkingRow → List PageEntry
 images_of [] = []
 images_of ((page, None) ∷ rows) = images_of rows
-images_of ((page, Some image) ∷ rows) = record { page = record { 0 = page }; image = image } ∷ images_of rows
+images_of ((page, Some image) ∷ rows) = record { page = record { 0 = page }; form = Image; fields = image } ∷ images_of rows
 
 abbrev pub given_back : List WorkingRow → List PageNo
 given_back [] = []
@@ -75,7 +77,7 @@ given_back ((page, Some image) ∷ rows) = given_back rows
 
 -- the record of a transaction
 abbrev pub record_of : ℕ → List OpNote → List WorkingRow → LogRecord
-record_of txn notes rows = record { txn = txn; notes = notes; pages = images_of rows; freed = given_back rows }
+record_of txn notes rows = record { kind = Forms; txn = txn; notes = notes; pages = images_of rows; freed = given_back rows }
 
 -- The working pages, laid over, decode as a volume that can be committed under this number. Each image is of its catalog or of a page of its
 -- files, and none of these was given back; a page of the committed files that isn't one of them was, and lies in none of its trees.

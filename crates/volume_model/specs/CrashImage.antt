@@ -67,7 +67,7 @@ super_kept d disk image agrees super = record {
 pub agrees_decodes : (d : Decoded) (disk image : List ℕ) → Decodes disk d → Agrees d disk image → Decodes image d
 agrees_decodes d disk image (super, (log, content)) agrees =
     let kept = kept_from_reach (units_of d disk) (units_of d image) d.volume (reach_kept d disk image agrees) in
-    (super_kept d disk image agrees super, (log_kept d disk image agrees super.large log, parts_kept d.geometry d.records (units_of d disk) (units_of d image) d.volume kept content))
+    (super_kept d disk image agrees super, (record { says = log_kept d disk image agrees super.large log.says; apply = log.apply }, parts_kept d.geometry d.records (units_of d disk) (units_of d image) d.volume kept content))
 
 pub agrees_table : (d : Decoded) (disk image : List ℕ) → Agrees d disk image → table_of (units_of d image) d.volume ≡ table_of (units_of d disk) d.volume
 agrees_table d disk image agrees = table_kept (units_of d disk) (units_of d image) d.volume (kept_from_reach (units_of d disk) (units_of d image) d.volume (reach_kept d disk image agrees))

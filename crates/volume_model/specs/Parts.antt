@@ -11,7 +11,8 @@ use Rattle.ex_base.specs.Order.{Rising, AllDiffer}
 use Rattle.ex_base.specs.Sizes.{leaf_bytes, object_most, volume_bytes}
 use Rattle.ex_base.specs.Superblock.{IsSuper}
 use Rattle.op_log.specs.declared.record.LogRecord.{LogRecord}
-use Rattle.op_log.specs.Log.{LogSpells}
+use Rattle.op_log.specs.AfterLog.{AllApply}
+use Rattle.op_log.specs.Log.{SaysLog}
 use Rattle.slotted_pages.specs.FilePage.{FilePage, Slot, SlotsOf}
 use Rattle.object_records.specs.declared.State.TheVariants.{Current, Frozen}
 use Rattle.object_records.specs.Record.{BodyOf}
@@ -125,6 +126,13 @@ pub record HasUniques (v : Volume) : Type 0 where
   pub below : AllByRecursion (λ (s : Stored). unique_of s < v.catalog.next_unique) (stored_in v)
   pub listed : AllByRecursion (λ (file : FileContent). Rising (map line_number file.lines)) v.files
 
+-- ---- Log
+
+-- The log says these records, and each of their entries applies.
+pub record HasRecords (g : Geometry) (disk : List ℕ) (records : List LogRecord) : Type 0 where
+  pub says : SaysLog g records disk
+  pub apply : AllApply records
+
 -- ---- all parts
 
 -- a part from the catalog on, of pages that decode as a volume
@@ -142,7 +150,7 @@ HoldsOf g records units v Unique = HasUniques v
 -- a part of a disk that decodes so
 abbrev pub Holds : List ℕ → Decoded → Part → Type 0
 Holds disk d Super = SuperOf disk d.geometry
-Holds disk d Log = LogSpells d.geometry (log_at d.geometry disk) d.records
+Holds disk d Log = HasRecords d.geometry disk d.records
 Holds disk d part = HoldsOf d.geometry d.records (units_of d disk) d.volume part
 
 abbrev pub content_parts : List Part

@@ -55,7 +55,7 @@ module _ (d : Decoded) (disk : List ℕ) (freed : ℕ → Type 0) (units : UnitS
   front_apart i front written =
       let unit = written.unit in
       let low : 257 * d.geometry.page_size ≤ unit.0 * d.geometry.page_size = begins d.geometry.page_size unit.0 (from_catalog d.geometry unit.0 unit.1.0) in
-      let log = front_of d.geometry d.records disk (omega (arith, decodes.0.large, least_volume d.geometry)) decodes.1.0 in
+      let log = front_of d.geometry d.records disk (omega (arith, decodes.0.large, least_volume d.geometry)) decodes.1.0.says in
       absurd (omega (arith, front, low, log.room, unit.1.1.0))
 
   pub durable_apart : (i : ℕ) → IsDurable d disk i → Written i → ⊥

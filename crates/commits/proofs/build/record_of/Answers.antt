@@ -3,13 +3,13 @@ use Rattle.std.specs.Option.{option_copied}
 use Rattle.op_log.specs.Records.{IsLogRecord}
 use Rattle.commits.proofs.WorkingRows.{is_record, next_image, next_given, all_built, as_record}
 use Rattle.commits.proofs.build.record_of.Goals as goal
-use Rattle.commits.proofs.build.record_of.Goals.{in-Some-default-Some+in_ok-image-in-Some-default-Some+in_ok-push-in-Some-default-Some, in-Some-default-None+in_ok-push-in-Some-default-None, in-None}
+use Rattle.commits.proofs.build.record_of.Goals.{in-Some-default-Some+in_ok-fields-in-Some-default-Some+in_ok-push-in-Some-default-Some, in-Some-default-None+in_ok-push-in-Some-default-None, in-None}
 
 pub loop-index-preserved : goal.loop-index-preserved
 loop-index-preserved c = elim c.match-touched_at.branch [
-  | in-Some-default-Some+in_ok-image-in-Some-default-Some+in_ok-push-in-Some-default-Some w ↦
-      next_image c.args.meta.now.working c.loop-index.index w.in-Some-default-Some.page w.in_ok-image-in-Some-default-Some.image w.in-Some-default-Some.bytes.now c.loop-index.pages c.match-touched_at.pages c.loop-index.freed c.match-touched_at.freed (w.in-Some-default-Some.ensures ∙ ap (λ o. Some (w.in-Some-default-Some.page.0, option_copied o)) w.in-Some-default-Some.field-0-1-is) c.loop-index.invariant
-      w.in_ok-image-in-Some-default-Some.ensures (w.pages-is ∙ w.in_ok-push-in-Some-default-Some.ensures.ok) w.freed-is
+  | in-Some-default-Some+in_ok-fields-in-Some-default-Some+in_ok-push-in-Some-default-Some w ↦
+      next_image c.args.meta.now.working c.loop-index.index w.in-Some-default-Some.page w.in_ok-fields-in-Some-default-Some.fields w.in-Some-default-Some.bytes.now c.loop-index.pages c.match-touched_at.pages c.loop-index.freed c.match-touched_at.freed (w.in-Some-default-Some.ensures ∙ ap (λ o. Some (w.in-Some-default-Some.page.0, option_copied o)) w.in-Some-default-Some.field-0-1-is) c.loop-index.invariant
+      w.in_ok-fields-in-Some-default-Some.ensures (w.pages-is ∙ w.in_ok-push-in-Some-default-Some.ensures.ok) w.freed-is
   | in-Some-default-None+in_ok-push-in-Some-default-None w ↦
       next_given c.args.meta.now.working c.loop-index.index w.in-Some-default-None.page c.loop-index.pages c.match-touched_at.pages c.loop-index.freed c.match-touched_at.freed (w.in-Some-default-None.ensures ∙ ap (λ o. Some (w.in-Some-default-None.page.0, option_copied o)) w.in-Some-default-None.field-0-1-is) c.loop-index.invariant
       w.pages-is (w.freed-is ∙ w.in_ok-push-in-Some-default-None.ensures.ok)

@@ -14,5 +14,5 @@ returns-then-fits-clause-any_moment g c d held honest holds committed =
 pub returns-clause-fits : goal.returns-clause-fits
 returns-clause-fits g c =
     on_ok_weaker c.checkpoint.result
-    (λ none. omega (arith, (c.checkpoint.ensures.logged c.requires.logged).none none, record_room c.args.log.now.geometry c.args.item.now c.requires.valid, ap (λ (h : Geometry). h.page_size) c.checkpoint.ensures.log_geometry))
+    (λ none. omega (arith, (c.checkpoint.ensures.logged c.requires.logged).none none, record_room c.args.log.now.geometry c.args.item.now c.args.meta.now.working c.requires.same c.requires.valid, ap (λ (h : Geometry). h.page_size) c.checkpoint.ensures.log_geometry))
     c.checkpoint.ensures.none_counts

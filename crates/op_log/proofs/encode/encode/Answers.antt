@@ -11,6 +11,6 @@ returns-clause-puts c =
     let four = puts_then _ _ three c.put_two-at-2.ensures.puts in
     let five = puts_then _ _ four c.put_two-at-3.ensures.puts in
     let six = puts_then _ _ five c.put_notes-at.ensures.puts in
-    let seven = puts_then _ _ six c.put_images-at.ensures.puts in
+    let seven = puts_then _ _ six c.put_entries-at.ensures.puts in
     let eight = puts_then _ _ seven c.put_numbers-at.ensures.puts in
     puts_for (puts_then _ _ eight c.put_run.ensures.puts) (cc (c.requires.len, c.len.ensures, c.len-2.ensures, c.len-3.ensures, c.as_slice.ensures, c.as_slice-2.ensures, c.as_slice-3.ensures))

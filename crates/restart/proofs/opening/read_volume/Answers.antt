@@ -1,4 +1,4 @@
-use Rattle.std.proofs.Common.{◌≡◌, ℕ, List, length, Some, ◌∙◌, ap, arith}
+use Rattle.std.proofs.Common.{◌≡◌, ℕ, List, length, Some, ◌∙◌, sym, subst, ap, arith}
 use Rattle.ex_base.specs.Area.{catalog_no}
 use Rattle.ex_base.specs.Sizes.{most_page}
 use Rattle.ex_base.specs.declared.geometry.Geometry.{Geometry}
@@ -8,7 +8,9 @@ use Rattle.object_files.specs.Catalog.{Catalog}
 use Rattle.page_alloc.specs.UnitSet.{refs_at, used_at}
 use Rattle.session_views.specs.declared.Part.TheVariants.{Catalog as CatalogPart}
 use Rattle.volume_port.specs.Logged.{is_held}
-use Rattle.op_log.specs.AfterLog.{after_log, logged}
+use Rattle.op_log.specs.AfterLog.{after_log, logged, AllApply}
+use Rattle.op_log.specs.Log.{SaysLog}
+use Rattle.volume_model.specs.Parts.{HasRecords}
 use Rattle.op_log.specs.declared.record.LogRecord.{LogRecord}
 use Rattle.op_log.specs.Decoding.{last_number}
 use Rattle.meta_pages.specs.Overlays.{committed_image, image_at}
@@ -29,14 +31,26 @@ pub returns-in-Err-read_log-clause-bad : goal.returns-in-Err-read_log-clause-bad
 returns-in-Err-read_log-clause-bad g c part is image holds =
     c.read_log.ensures.bad part (c.in-Err-read_log.is ∙ ap (fault_of _) (same_fault OpenedParts c.in-Err-read_log.fault _ is)) image (c.read_geometry.ensures.only.nothing.disk ∙ holds) (c.in-Ok.ensures.found image holds)
 
+pub returns-in-Err-read_overlay-clause-bad : goal.returns-in-Err-read_overlay-clause-bad
+returns-in-Err-read_overlay-clause-bad g c part is image holds =
+    c.read_overlay.ensures.bad part (c.in-Err-read_overlay.is ∙ ap (fault_of _) (same_fault OpenedParts c.in-Err-read_overlay.fault _ is)) image (c.in-Ok.ensures.found image holds)
+    (subst (λ (rs : List LogRecord). SaysLog c.in-Ok.geometry rs image) (sym c.as_slice.ensures) (c.in-Ok-read_log.ensures.records image (c.read_geometry.ensures.only.nothing.disk ∙ holds)))
+
+-- the log's records, each of whose entries applies
+says : (g : given.Over) (c : After-test_catalog g) (image : List ℕ) → (g.D.World.outside c.args.disk.now).disk ≡ Some image → HasRecords c.in-Ok.geometry image c.in-Ok-read_log.records
+says g c image holds = record {
+  says = c.in-Ok-read_log.ensures.records image (c.read_geometry.ensures.only.nothing.disk ∙ holds);
+  apply = subst AllApply c.as_slice.ensures c.in-Ok-read_overlay.ensures.apply;
+}
+
 -- each page's image is what the log has of it
-just : (g : given.Over) (c : After-test_catalog g) (page : ℕ) → committed_image c.in-Ok-overlay_of.meta page ≡ logged c.in-Ok-read_log.records page
-just g c page = c.in-Ok-overlay_of.ensures.just page ∙ ap (λ (rs : List LogRecord). logged rs page) c.as_slice.ensures
+just : (g : given.Over) (c : After-test_catalog g) (page : ℕ) → committed_image c.in-Ok-read_overlay.meta page ≡ logged c.in-Ok-read_log.records page
+just g c page = c.in-Ok-read_overlay.ensures.just page ∙ ap (λ (rs : List LogRecord). logged rs page) c.as_slice.ensures
 
 -- the page that was tested
 tested : (g : given.Over) (c : After-test_catalog g) (image : List ℕ) → (g.D.World.outside c.args.disk.now).disk ≡ Some image → c.deref.result.now ≡ after_log c.in-Ok.geometry c.in-Ok-read_log.records image catalog_no
 tested g c image holds =
-    page_after_log c.in-Ok.geometry image c.in-Ok-read_log.records c.in-Ok-overlay_of.meta c.deref.result.now (just g c)
+    page_after_log c.in-Ok.geometry image c.in-Ok-read_log.records c.in-Ok-read_overlay.meta c.deref.result.now (just g c)
     (c.deref.ensures.value ∙ c.in-Ok-read_catalog.ensures.page image (c.read_log.ensures.only.nothing.disk ∙ (c.read_geometry.ensures.only.nothing.disk ∙ holds)))
 
 number : (g : given.Over) (c : After-test_catalog g) → c.last_txn.result ≡ last_number c.in-Ok-read_log.records
@@ -51,12 +65,12 @@ pub returns-in_default-test_catalog-clause-bad : goal.returns-in_default-test_ca
 returns-in_default-test_catalog-clause-bad g c part is image holds =
     let after = (goal.at.returns-in_default-test_catalog-clause-bad g c).After-test_catalog in
     part_is_bad OpenedParts CatalogPart part image is
-    (catalog_bad image c.in-Ok.geometry c.in-Ok-read_log.records (c.in-Ok.ensures.found image holds) (c.in-Ok-read_log.ensures.records image (c.read_geometry.ensures.only.nothing.disk ∙ holds))
+    (catalog_bad image c.in-Ok.geometry c.in-Ok-read_log.records (c.in-Ok.ensures.found image holds) (says g after image holds)
     (λ k here. c.in_default-test_catalog.ensures.none k (catalog_before_log c.in-Ok.geometry image c.in-Ok-read_log.records c.deref.result.now c.last_txn.result k (tested g after image holds) (number g after) here)))
 
 -- what the walks find the pages to be
-shown : (g : given.Over) (c : After-test_catalog g) (page : ℕ) → image_at c.in-Ok-overlay_of.meta page ≡ logged c.in-Ok-read_log.records page
-shown g c page = no_working c.in-Ok-overlay_of.meta page c.in-Ok-overlay_of.ensures.working ∙ just g c page
+shown : (g : given.Over) (c : After-test_catalog g) (page : ℕ) → image_at c.in-Ok-read_overlay.meta page ≡ logged c.in-Ok-read_log.records page
+shown g c page = no_working c.in-Ok-read_overlay.meta page c.in-Ok-read_overlay.ensures.working ∙ just g c page
 
 held : (g : given.Over) (c : After-test_catalog g) (image : List ℕ) → (g.D.World.outside c.args.disk.now).disk ≡ Some image → (g.D.World.outside c.read_catalog.new.disk).disk ≡ Some image
 held g c image holds = c.read_catalog.ensures.only.nothing.disk ∙ (c.read_log.ensures.only.nothing.disk ∙ (c.read_geometry.ensures.only.nothing.disk ∙ holds))
@@ -64,7 +78,7 @@ held g c image holds = c.read_catalog.ensures.only.nothing.disk ∙ (c.read_log.
 pub returns-in-Err-walk_volume-clause-bad : goal.returns-in-Err-walk_volume-clause-bad
 returns-in-Err-walk_volume-clause-bad g c part is image holds =
     let after = (goal.at.returns-in-Err-walk_volume-clause-bad g c).After-test_catalog in
-    content_bad image c.in-Ok.geometry c.in-Ok-read_log.records (c.in-Ok.ensures.found image holds) (c.in-Ok-read_log.ensures.records image (c.read_geometry.ensures.only.nothing.disk ∙ holds))
+    content_bad image c.in-Ok.geometry c.in-Ok-read_log.records (c.in-Ok.ensures.found image holds) (says g after image holds)
     c.in-Some.catalog (tested_is g after image c.in-Some.catalog holds c.in-Some.ensures.found) part
     (c.walk_volume.ensures.bad part image c.in-Ok-read_log.records (c.in-Err-walk_volume.is ∙ ap (fault_of _) (same_fault OpenedParts c.in-Err-walk_volume.fault _ is)) (held g after image holds) (shown g after))
 
@@ -86,7 +100,7 @@ make_parts-requires-clause-count g c = omega (arith, ap length c.as_slice-3.ensu
 pub returns-in-Ok-make_parts-clause-logged : goal.returns-in-Ok-make_parts-clause-logged
 returns-in-Ok-make_parts-clause-logged g c =
     let after = (goal.at.returns-in-Ok-make_parts-clause-logged g c).After-test_catalog in
-    none_logged c.in-Ok.geometry c.in-Ok-read_log.records c.in-Ok-overlay_of.meta c.in-Ok-make_parts.parts.meta c.in-Ok-make_parts.parts.log (just g after) c.in-Ok-make_parts.ensures.meta
+    none_logged c.in-Ok.geometry c.in-Ok-read_log.records c.in-Ok-read_overlay.meta c.in-Ok-make_parts.parts.meta c.in-Ok-make_parts.parts.log (just g after) c.in-Ok-make_parts.ensures.meta
     (c.in-Ok-make_parts.ensures.log ∙ same_log c.in-Ok.geometry c.end.ensures (ap length c.as_slice-3.ensures))
 
 pub returns-in-Ok-make_parts-clause-reads : goal.returns-in-Ok-make_parts-clause-reads
@@ -94,7 +108,7 @@ returns-in-Ok-make_parts-clause-reads g c image holds =
     let after = (goal.at.returns-in-Ok-make_parts-clause-reads g c).After-test_catalog in
     let made = c.in-Ok-make_parts.ensures in
     let p = c.in-Ok-make_parts.parts in
-    reads_as image c.in-Ok.geometry p.geometry c.in-Ok-read_log.records c.in-Some.catalog c.in-Ok-overlay_of.meta p.meta p.log c.in-Ok-walk_volume.reached (used_at p.units) (refs_at p.units) (is_held p.pages)
-    (c.in-Ok.ensures.found image holds) (c.in-Ok-read_log.ensures.records image (c.read_geometry.ensures.only.nothing.disk ∙ holds)) (tested_is g after image c.in-Some.catalog holds c.in-Some.ensures.found)
+    reads_as image c.in-Ok.geometry p.geometry c.in-Ok-read_log.records c.in-Some.catalog c.in-Ok-read_overlay.meta p.meta p.log c.in-Ok-walk_volume.reached (used_at p.units) (refs_at p.units) (is_held p.pages)
+    (c.in-Ok.ensures.found image holds) (says g after image holds) (tested_is g after image c.in-Some.catalog holds c.in-Some.ensures.found)
     (c.in-Ok-walk_volume.ensures.holds image c.in-Ok-read_log.records (held g after image holds) (shown g after)) (just g after) made.meta made.geometry
     (made.log ∙ same_log c.in-Ok.geometry c.end.ensures (ap length c.as_slice-3.ensures)) (ap used_at made.units) (ap refs_at made.units) (ap is_held made.pages)
