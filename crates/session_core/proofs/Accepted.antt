@@ -133,10 +133,11 @@ begin_steps {a} {b} {before} now new groups page same frames closed reads lends 
 pub later_of : {a b : Outside} (old mid : SessionState) → IsSession old → OnlyFrames a b old mid → LaterFrames a b old mid.groups
 later_of {a} {b} old mid is only = record { reads = only.reads; sizes = is.sizes; later = only.sizes old.geometry.page_size is.sizes; lends = only.lends }
 
-pub accepted_quietly : {a b : Outside} (old mid new : SessionState) (r : Request) (told : Reply) → OnlyFrames a b old mid → new.log ≡ mid.log → new.down ≡ mid.down → ((why : Refusal) → told ≡ reply.No why → ⊥)
-    → ((before : View SessionState) → before.session ≡ old → ShowsNow meant a before → Stepped meant before r told new b) → StepsQuietly a b old new r (Ok told)
-accepted_quietly old mid new r told only log down accepts steps = record {
+pub accepted_quietly : {a b : Outside} (old mid new : SessionState) (r : Request) (told : Reply) → OnlyFrames a b old mid → new.geometry ≡ mid.geometry → new.log ≡ mid.log → new.down ≡ mid.down
+    → ((why : Refusal) → told ≡ reply.No why → ⊥) → ((before : View SessionState) → before.session ≡ old → ShowsNow meant a before → Stepped meant before r told new b) → StepsQuietly a b old new r (Ok told)
+accepted_quietly old mid new r told only geometry log down accepts steps = record {
   reads = only.reads;
+  geometry = geometry ∙ ap (λ (s : SessionState). s.geometry) only.same;
   log = log ∙ ap (λ (s : SessionState). s.log) only.same;
   down = down ∙ ap (λ (s : SessionState). s.down) only.same;
   stops = tt;
@@ -147,7 +148,7 @@ accepted_quietly old mid new r told only log down accepts steps = record {
 pub begin_quietly : {a b : Outside} (old mid new : SessionState) (page : List ℕ) (last : ℕ) → IsSession old → OnlyFrames a b old mid → old.opened ≡ false → ReadsCatalog a old page → last ≡ (catalog_on page).last → (last ≢ 2 ^ 64 - 1)
     → begun mid page ≡ new → StepsQuietly a b old new request.Begin (Ok (reply.Begin (last + 1)))
 begin_quietly {a} {b} old mid new page last is only closed reads number room same =
-    accepted_quietly old mid new request.Begin (reply.Begin (last + 1)) only (ap (λ (s : SessionState). s.log) (sym same)) (ap (λ (s : SessionState). s.down) (sym same)) (λ why told. absurd (cc))
+    accepted_quietly old mid new request.Begin (reply.Begin (last + 1)) only (ap (λ (s : SessionState). s.geometry) (sym same)) (ap (λ (s : SessionState). s.log) (sym same)) (ap (λ (s : SessionState). s.down) (sym same)) (λ why told. absurd (cc))
     (λ before from now.
     let session = subst IsSession (sym from) is in
     let at = ap (λ (s : SessionState). begun s page) (ap (λ (s : SessionState). record s { groups = mid.groups }) from ∙ sym only.same) ∙ same in

@@ -27,6 +27,7 @@ mod Shaping
 pub mod Showing
 mod Summing
 mod Tracking
+pub mod Undisturbed
 mod Updating
 pub mod Volumes
 pub mod Working

@@ -18,15 +18,16 @@ use Rattle.volume_port.specs.Logged.{LoggedSet, is_held}
 use Rattle.table_model.specs.Machines.{updates_most, touched_most}
 use Rattle.tree_store.specs.Stored.{InRest, NoUnit}
 use Rattle.session_core.specs.Sessions.{SessionState, ArePagesUsed, IsSession, IsTracked, HasWork, TakenBack}
-use Rattle.std.specs.Prelude.{Result, Ok, Err, IfOk, is_ok}
+use Rattle.std.specs.Prelude.{Result, Ok, Err, IfOk, OnErr, is_ok}
 use Rattle.ex_base.specs.declared.faults.PortFault.{PortFault}
 use Rattle.ex_base.specs.declared.names.Oid.{Oid}
 use Rattle.disk_model.specs.Outside.{IsWorld, Leaves}
 use Rattle.table_model.specs.Requests.{Request}
+use Rattle.session_views.specs.declared.engine.Stop.{Stop}
 use Rattle.session_views.specs.View.{View, ShowsNow, StandsDuring}
 use Rattle.session_core.specs.Meant.{meant}
 use Rattle.session_core.proofs.Updating.{update_moments}
-use Rattle.session_core.specs.Updates.{AreReady, HasPortParts, Moved, PortParts, note_done, note_with, parts_held}
+use Rattle.session_core.specs.Updates.{AreReady, HasPortParts, Moved, PortParts, WritesLoose, note_done, note_with, parts_held}
 use Rattle.ex_base.specs.Area.{catalog_no}
 use Rattle.object_files.specs.Catalog.{Catalog, CatalogOf}
 use Rattle.object_files.specs.Edits.{IsCatalogPage}
@@ -180,6 +181,11 @@ pub note_with_oid : (note noted : OpNote) → noted ≡ note_with note noted.oid
 note_with_oid note noted same is page slot unique =
     subst IsNote (sym same) (record { page = page; slot = slot; unique = unique; first = is.first; second = is.second })
 
+-- what holds anyway holds of an error
+pub on_err : {P : Type 0} (result : Result Oid Stop) → P → OnErr result P
+on_err (Ok oid) p = tt
+on_err (Err stop) p = p
+
 -- what holds of the OID that it answered holds of the noted one
 pub at_oid : (P : Oid → Type 0) (note noted : OpNote) (done : Result Oid PortFault) → is_ok done ≡ true → noted ≡ note_done note done → IfOk done P → P noted.oid
 at_oid P note noted (Ok oid) ok is p = subst P (ap (λ (n : OpNote). n.oid) (sym is)) p
@@ -203,8 +209,8 @@ given_up_as {a} {b} s p is moved room long inside same meta pages units none bac
     (with_room (record (moved_to s p) { meta = record p.meta { working = [] }; pages = pages; units = units; opened = false }) room long (given_up s p is moved pages units back_there)))
 
 -- at every moment of it a crash leaves the committed table
-pub moments_of : {a b : Outside} (s now : SessionState) → s ≡ now → IsSession s → IsWorld a → ChangesWithin (InRest s.geometry (used_at s.units) (IsLoose NoUnit (used_at s.units) s.pages)) a b
+pub moments_of : {a b : Outside} (s now : SessionState) → s ≡ now → IsSession s → IsWorld a → WritesLoose a b s
     → (before : View SessionState) → before.session ≡ now → ShowsNow meant a before → (r : Request) → Leaves a b (StandsDuring meant before.machine r)
 moments_of {a} {b} s now seen is world changes before same shows r =
     let here : s ≡ before.session = seen ∙ sym same in
-    update_moments shows (subst IsSession here is) r before.session world (subst (λ (t : SessionState). ChangesWithin (InRest t.geometry (used_at t.units) (IsLoose NoUnit (used_at t.units) t.pages)) a b) here changes)
+    update_moments shows (subst IsSession here is) r before.session world (subst (λ (t : SessionState). WritesLoose a b t) here changes)

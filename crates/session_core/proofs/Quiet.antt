@@ -94,6 +94,7 @@ quiet_moments {a} {b} r world reads before now =
 pub quietly : {a b : Outside} {old new : SessionState} (r : Request) (result : Result Reply Stop) → IsWorld a → StepsQuietly a b old new r result → Steps a b old new r result
 quietly {a} {b} r result world quiet = record {
   only = quiet.reads.nothing.only;
+  geometry = quiet.geometry;
   down = quiet.down;
   stops = quiet.stops;
   refused = quiet.refused;
@@ -122,6 +123,7 @@ pub quiet_refusal : {a b : Outside} {old new : SessionState} (r : Request) (why 
     → ((before : View SessionState) → before.session ≡ old → ShowsNow meant a before → (q : Pick) → refusal_of before.machine r q ≡ Some why) → StepsQuietly a b old new r (Ok (reply.No why))
 quiet_refusal {a} {b} {old} {new} r why only sizes refuses = record {
   reads = only.reads;
+  geometry = ap (λ (s : SessionState). s.geometry) only.same;
   log = ap (λ (s : SessionState). s.log) only.same;
   down = ap (λ (s : SessionState). s.down) only.same;
   stops = tt;
@@ -137,8 +139,9 @@ quiet_refusal {a} {b} {old} {new} r why only sizes refuses = record {
       };
 }
 
-pub quiet_stop : {a b : Outside} {old new : SessionState} (r : Request) (why : Stop) → ReadsOnly a b → new.log ≡ old.log → new.down ≡ old.down → Stops a b old why → StepsQuietly a b old new r (Err why)
-quiet_stop r why reads log down stops = record { reads = reads; log = log; down = down; stops = stops; refused = tt; stepped = λ before is now. tt }
+pub quiet_stop : {a b : Outside} {old new : SessionState} (r : Request) (why : Stop) → ReadsOnly a b → new.geometry ≡ old.geometry → new.log ≡ old.log → new.down ≡ old.down → Stops a b old why
+    → StepsQuietly a b old new r (Err why)
+quiet_stop r why reads geometry log down stops = record { reads = reads; geometry = geometry; log = log; down = down; stops = stops; refused = tt; stepped = λ before is now. tt }
 
 pub nothing_changed : (a : Outside) (s : SessionState) → OnlyFrames a a s s
 nothing_changed a s = record { reads = reads_refl a; same = refl; lends = λ lends. lends; sizes = λ n sizes. sizes }

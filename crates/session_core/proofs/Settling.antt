@@ -4,11 +4,11 @@ use Rattle.std.specs.List.{AllByRecursion}
 use Rattle.std.specs.Map.{lookup}
 use Rattle.std.specs.Option.{option_copied}
 use Rattle.std.specs.Borrow.{Bor}
-use Rattle.std.proofs.lemmas.Bool.{cases_eq, both_ways}
+use Rattle.std.proofs.lemmas.Bool.{cases_eq, both_ways, false_from_ne_true}
 use Rattle.std.proofs.lemmas.List.{get_or-set_same, get_or-set_other, length-set}
 use Rattle.ex_base.proofs.Counts.{not_equal}
 use Rattle.meta_pages.specs.Rows.{IsAbove, IsRising}
-use Rattle.page_alloc.specs.UnitSet.{UnitSet}
+use Rattle.page_alloc.specs.UnitSet.{UnitSet, refs_at, used_at}
 use Rattle.volume_model.specs.Shown.{WorkingRow}
 use Rattle.volume_port.specs.Logged.{LoggedSet, is_held, is_taken}
 use Rattle.session_core.proofs.Frames.{each_of_all}
@@ -32,6 +32,10 @@ gives_on P Q R u v w p q one two = record {
 
 pub gives_fewer : (P Q : ℕ → Type 0) (u v : UnitSet) → ((unit : ℕ) → Q unit → P unit) → OnlyGives P u v → OnlyGives Q u v
 gives_fewer P Q u v weaker one = record { geometry = one.geometry; used = one.used; stays = λ unit is q. one.stays unit is (weaker unit q); owned = one.owned; refs = one.refs; free = one.free }
+
+-- a unit that is free is free after
+pub free_still : (stays : ℕ → Type 0) (u v : UnitSet) → OnlyGives stays u v → (unit : ℕ) → used_at u unit ≡ false → used_at v unit ≡ false
+free_still stays u v gives unit free = false_from_ne_true (used_at v unit) (λ is. both_ways _ free (gives.used unit is))
 
 -- ---- the first rows
 
@@ -96,6 +100,7 @@ taken_back_start kept old u = record {
   touched = λ page row has. absurd (cc);
   others = λ page none. (refl, refl);
   units = gives_none (λ unit. is_taken old unit ≡ false) u;
+  freed = λ page row has. absurd (cc);
 }
 
 pub taken_back_next : (rows : List WorkingRow) (i : ℕ) (row : WorkingRow) (kept : List Bool) (old mid new : LoggedSet) (u v w : UnitSet) (flag : Bool) → IsRising rows → slice_get rows i ≡ Some row
@@ -103,8 +108,9 @@ pub taken_back_next : (rows : List WorkingRow) (i : ℕ) (row : WorkingRow) (kep
     → TakenBack (take i rows) kept old mid u v
     → new ≡ record { held = slice_set mid.held row.0 flag; taken = slice_set mid.taken row.0 false }
     → OnlyGives (λ unit. (unit ≡ row.0) × (is_taken mid unit ≡ true) → ⊥) v w
+    → (flag ≡ false → is_taken mid row.0 ≡ true → refs_at v row.0 ≡ 0 → used_at w row.0 ≡ false)
     → TakenBack (take (i + 1) rows) kept old new u w
-taken_back_next rows i row kept old mid new u v w flag rising is in_held in_taken flagged back set gives = record {
+taken_back_next rows i row kept old mid new u v w flag rising is in_held in_taken flagged back set gives frees = record {
   held_len = ap (λ (s : LoggedSet). length s.held) set ∙ length-set mid.held row.0 flag ∙ back.held_len;
   taken_len = ap (λ (s : LoggedSet). length s.taken) set ∙ length-set mid.taken row.0 false ∙ back.taken_len;
   touched = λ page x has. ⊎_elim
@@ -115,6 +121,10 @@ taken_back_next rows i row kept old mid new u v w flag rising is in_held in_take
       (λ (differ : page ≢ row.0). let was = back.others page (sym (next_other rows i row rising is page differ) ∙ none) in (held_other page differ ∙ was.0, taken_other page differ ∙ was.1)) (cases_eq page row.0);
   units = gives_on (λ unit. is_taken old unit ≡ false) (λ unit. (unit ≡ row.0) × (is_taken mid unit ≡ true) → ⊥) (λ unit. is_taken old unit ≡ false) u v w (λ unit free. free)
       (λ unit free (same, taken). both_ways (is_taken mid unit) (ap (is_taken mid) same ∙ (back.others row.0 (none_below rows i row rising is)).1 ∙ ap (is_taken old) (sym same) ∙ free) taken) back.units gives;
+  freed = λ page x has took left unnamed. ⊎_elim
+      (λ (same : page ≡ row.0). ap (used_at w) same ∙ frees (flagged ∙ ap (is_kept kept) (sym same) ∙ left) ((back.others row.0 (none_below rows i row rising is)).1 ∙ ap (is_taken old) (sym same) ∙ took)
+      (omega (arith, back.units.refs row.0, ap (refs_at u) same, unnamed)))
+      (λ (differ : page ≢ row.0). free_still _ v w gives page (back.freed page x (sym (next_other rows i row rising is page differ) ∙ has) took left unnamed)) (cases_eq page row.0);
 }
   where
     some_none : Some row.1 ≡ None → ⊥
@@ -146,6 +156,7 @@ settled_start kept old u = record {
   gone = λ page has. absurd (cc);
   others = λ page none. (refl, refl, refl);
   units = gives_none (StaysSettled [] kept) u;
+  freed = λ page has. absurd (cc);
 }
 
 -- the pages after a row of a commit
@@ -181,8 +192,9 @@ pub settled_next : (rows : List WorkingRow) (i : ℕ) (row : WorkingRow) (kept m
     → Settled (take i rows) kept mid_kept old mid u v
     → now ≡ slice_set mid_kept row.0 flag → new ≡ adopted flag mid row.0
     → OnlyGives (λ unit. (unit ≡ row.0) × (flag ≡ false) × (is_kept mid_kept unit ≡ true) → ⊥) v w
+    → (flag ≡ false → is_kept mid_kept row.0 ≡ true → refs_at v row.0 ≡ 0 → used_at w row.0 ≡ false)
     → Settled (take (i + 1) rows) kept now old new u w
-settled_next rows i row kept mid_kept now old mid new u v w flag rising is in_kept in_held in_taken flagged done set_kept set gives =
+settled_next rows i row kept mid_kept now old mid new u v w flag rising is in_kept in_held in_taken flagged done set_kept set gives frees =
     let none = none_below rows i row rising is in
     let was = done.others row.0 none in
     let here : RowSettled row.1 row.0 now old new =
@@ -208,6 +220,10 @@ settled_next rows i row kept mid_kept now old mid new u v w flag rising is in_ke
             ap (λ (q : ℕ). lookup (nat_eq q) (take (i + 1) rows)) same ∙ next_here rows i row rising is ∙ ap (λ (o : Option (List ℕ)). Some o) (none_from_test row.1 (sym flagged ∙ no_image)),
             ap (is_kept kept) same ∙ sym was.0 ∙ ap (is_kept mid_kept) (sym same) ∙ flag_is,
           )) done.units gives;
+      freed = λ page has left unnamed. ⊎_elim
+          (λ (same : page ≡ row.0). ap (used_at w) same ∙ frees (flagged ∙ ap is_some (row_is page None same has)) (was.0 ∙ ap (is_kept kept) (sym same) ∙ left)
+          (omega (arith, done.units.refs row.0, ap (refs_at u) same, unnamed)))
+          (λ (differ : page ≢ row.0). free_still _ v w gives page (done.freed page (sym (next_other rows i row rising is page differ) ∙ has) left unnamed)) (cases_eq page row.0);
     }
   where
     some_none : Some row.1 ≡ None → ⊥

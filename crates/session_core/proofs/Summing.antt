@@ -1,5 +1,5 @@
 -- What a session sums up of what it shows.
-use Rattle.std.proofs.Common.{◌≡◌, ◌∙◌, ◌⊎◌, ℕ, zero, suc, ◌+◌, ◌≤◌, false, Bool, cond, List, [], ◌∷◌, ◌++◌, length, map, take, Option, Some, Result, Ok, Err, refl, sym, ap, subst, arith, add-one, length-append, inl, inr}
+use Rattle.std.proofs.Common.{◌≡◌, ◌∙◌, ◌⊎◌, ℕ, zero, suc, ◌+◌, ◌≤◌, ◌<◌, ◌*◌, ◌^◌, false, Bool, cond, List, [], ◌∷◌, ◌++◌, length, map, take, Option, Some, Result, Ok, Err, refl, sym, ap, subst, arith, add-one, length-append, inl, inr}
 use Rattle.std.specs.Prelude.{Contains, IfErr, OnOk, bytes_eq, find, slice_get}
 use Rattle.std.specs.List.{AllByRecursion, AllZip, flat_map, zip}
 use Rattle.std.proofs.lemmas.List.{length-map, map-append}
@@ -158,6 +158,7 @@ catalog_stays {a} {b} {old} {mid} before same now only later =
 pub record Counted (a b : Outside) (old now : SessionState) (page : List ℕ) (files count : ℕ) : Type 0 where
   pub only : OnlyFrames a b old now
   pub room : volume_bytes now.geometry ≤ b.size
+  pub few : count ≤ files * 2 ^ 64
   pub shows : IfShown a old (λ before. ShowsNow meant b (with_groups before now))
   pub counts : IfCatalog a old page (λ before. count ≡ length (oids_in before.machine (take files (catalog_on page).entries)))
 
@@ -165,6 +166,7 @@ pub none_counted : (a : Outside) (s : SessionState) (page : List ℕ) → volume
 none_counted a s page room = record {
   only = nothing_changed a s;
   room = room;
+  few = omega arith;
   shows = λ before same now. subst (λ (t : SessionState). ShowsNow meant a (with_groups before t)) same now;
   counts = λ before same now on. refl;
 }
@@ -184,10 +186,11 @@ module _ {a b c : Outside} {old mid new : SessionState} (page : List ℕ) (files
       each (with_groups before mid) refl later e (subst (λ (k : Catalog). Contains k.entries e) (on ∙ catalog_stays before same now so_far.only later) there) number
 
   pub one_more : (e : FileEntry) (file_no more : ℕ) (oids : List Oid) → slice_get (catalog_on page).entries files ≡ Some e → e.file_no ≡ file_no → more ≡ count + length oids
-      → IfFile b mid file_no (λ before name. oids ≡ oids_listed before.machine name) → Counted a c old new page (files + 1) more
-  one_more e file_no more oids at number sum each = record {
+      → length oids < 2 ^ 64 → IfFile b mid file_no (λ before name. oids ≡ oids_listed before.machine name) → Counted a c old new page (files + 1) more
+  one_more e file_no more oids at number sum fit each = record {
     only = frames_twice so_far.only two;
     room = room_left;
+    few = omega (arith, so_far.few, sum, fit);
     shows = shows_on;
     counts = λ before same now on.
         let here : oids ≡ oids_listed before.machine e.name = next_file e file_no (λ before name. oids ≡ oids_listed before.machine name) at number each before same now on in
@@ -208,15 +211,6 @@ pub record Counts (s : SessionState) (c : Catalog) (last files pages segs : ℕ)
 -- no version is frozen: there are as many as objects
 abbrev pub summary_of : ℕ → ℕ → ℕ → ℕ → ℕ → Summary
 summary_of last files objects pages segs = record { last = last; files = files; objects = objects; versions = objects; pages = pages; segs = segs }
-
-pub sums_at_once : (a : Outside) (s : SessionState) → SumsUp a a s s (Err stop.Memory)
-sums_at_once a s = record {
-  frames = nothing_changed a s;
-  stops = tt;
-  sound = λ before same now. tt;
-  sums = λ before same now. tt;
-  shows = λ before same now. subst (λ (t : SessionState). ShowsNow meant a (with_groups before t)) same now;
-}
 
 pub sums_unread : {a b : Outside} {old mid : SessionState} (why : Stop) → OnlyFrames a b old mid → IsSession old → Stops a b old why → SumsUp a b old mid (Err why)
 sums_unread {a} {b} {old} why only is stops = record {

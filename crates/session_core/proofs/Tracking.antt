@@ -6,7 +6,7 @@ use Rattle.ex_base.specs.declared.geometry.Geometry.{Geometry}
 use Rattle.ex_base.specs.Area.{catalog_no}
 use Rattle.ex_base.proofs.Options.{some_apart_inside}
 use Rattle.meta_pages.specs.Rows.{with_row}
-use Rattle.page_alloc.specs.UnitSet.{UnitSet, used_at}
+use Rattle.page_alloc.specs.UnitSet.{UnitSet, refs_at, used_at}
 use Rattle.tree_store.specs.Stored.{IsCounted}
 use Rattle.volume_model.specs.Shown.{WorkingRow}
 use Rattle.volume_port.specs.Logged.{LoggedSet, is_held, is_taken}
@@ -60,6 +60,12 @@ module _ (g : Geometry) (rows : List WorkingRow) (pages : LoggedSet) (kept : Lis
         (λ (differ : p ≢ catalog_no). is.untouched p held (sym (put_other catalog_no (Some page) rows p (λ e. differ (sym e))) ∙ none)) (cases_eq p catalog_no);
   }
 
+  -- what was given back is still so, after it
+  pub gone_put : (page : List ℕ) (p : ℕ) → lookup (nat_eq p) rows ≡ Some None → lookup (nat_eq p) (with_row catalog_no (Some page) rows) ≡ Some None
+  gone_put page p gone = ⊎_elim
+      (λ (same : p ≡ catalog_no). absurd (both_ways _ (is.gone p gone) (ap (is_held pages) same ∙ is.catalog)))
+      (λ (differ : p ≢ catalog_no). put_other catalog_no (Some page) rows p (λ e. differ (sym e)) ∙ gone) (cases_eq p catalog_no)
+
   -- where a page has no row it is there exactly where the committed state has it
   pub same_flags : (p : ℕ) → lookup (nat_eq p) rows ≡ None → is_held pages p ≡ is_kept kept p
   same_flags p none = bits_same (is_held pages p) (is_kept kept p) (λ held. is.untouched p held none)
@@ -87,6 +93,14 @@ module _ (g : Geometry) (rows : List WorkingRow) (pages : LoggedSet) (kept : Lis
       | has_image image is_row ↦ (back.touched p (Some image) is_row).1
       | is_gone is_row ↦ (back.touched p None is_row).1
       | has_none none ↦ (back.others p none).1 ∙ not_taken p none
+    ]
+
+    -- each page that was taken is free
+    pub freed_back : (p : ℕ) → is_taken pages p ≡ true → is_kept kept p ≡ false → refs_at u p ≡ 0 → used_at v p ≡ false
+    freed_back p took left unnamed = elim (row_of (lookup (nat_eq p) rows)) [
+      | has_image image is_row ↦ back.freed p (Some image) is_row took left unnamed
+      | is_gone is_row ↦ back.freed p None is_row took left unnamed
+      | has_none none ↦ absurd (none_some (lookup (nat_eq p) rows) none (is.taken p took))
     ]
 
     pub tracked_back : IsTracked g [] new kept

@@ -42,7 +42,7 @@ use Rattle.volume_port.specs.Stays.{ReachIsOf, StillCommitted}
 use Rattle.volume_port.proofs.Staying.{stays_on, stands_meanwhile}
 use Rattle.session_core.specs.Sessions.{SessionState, IsSession, held, is_kept}
 use Rattle.session_core.specs.Finding.{IsPortOf}
-use Rattle.session_core.specs.Updates.{MachineWith}
+use Rattle.session_core.specs.Updates.{MachineWith, WritesLoose}
 use Rattle.session_core.specs.Meant.{meant}
 use Rattle.session_core.proofs.Bridge.{same_unit, units_over}
 use Rattle.session_core.proofs.Ending.{in_first, in_second, no_scans}
@@ -315,24 +315,20 @@ module _ {a : Outside} {before : View SessionState} (now : ShowsNow meant a befo
   pub committed_now : Committed a.images now.shows.decoded before.disk before.session.log before.session.meta.committed
   committed_now = record { parts = now.shows.parts; durable = now.shows.durable; shown = record { just = now.shows.overlay.just; log_is = now.shows.overlay.log } }
 
-  counted_now : IsCounted now.shows.decoded.geometry before.session.units
+  pub counted_now : IsCounted now.shows.decoded.geometry before.session.units
   counted_now = subst (λ (h : Geometry). IsCounted h before.session.units) (session_geometry now.shows) session.units
 
-  -- what a port changes on the disk while it gives back no unit that it did not take
-  abbrev pub ChangesLoose : Outside → Outside → Type 0
-  ChangesLoose x y = ChangesWithin (InRest before.session.geometry (used_at before.session.units) (IsLoose NoUnit (used_at before.session.units) before.session.pages)) x y
-
-  changes_now : {b : Outside} → ChangesLoose a b → ChangesWithin (InRest now.shows.decoded.geometry (used_at before.session.units) (IsLoose NoUnit (used_at before.session.units) before.session.pages)) a b
+  pub changes_now : {b : Outside} → WritesLoose a b before.session → ChangesWithin (InRest now.shows.decoded.geometry (used_at before.session.units) (IsLoose NoUnit (used_at before.session.units) before.session.pages)) a b
   changes_now {b} changes = subst (λ (h : Geometry). ChangesWithin (InRest h (used_at before.session.units) (IsLoose NoUnit (used_at before.session.units) before.session.pages)) a b) (session_geometry now.shows) changes
 
-  pub update_stays : {b : Outside} (new : SessionState) → ChangesLoose a b → ((unit : ℕ) → IsSettled before.session unit → IsSettled new unit) → new.meta.committed ≡ before.session.meta.committed
+  pub update_stays : {b : Outside} (new : SessionState) → WritesLoose a b before.session → ((unit : ℕ) → IsSettled before.session unit → IsSettled new unit) → new.meta.committed ≡ before.session.meta.committed
       → (later : List ℕ) × ((b.disk ≡ Some later) × StillCommitted (IsSettled before.session) (IsSettled new) now.shows.decoded before.disk b.images later before.session.log new.meta.committed)
   update_stays {b} new changes goes_on same =
       subst (λ (overlay : List PageRow). (later : List ℕ) × ((b.disk ≡ Some later) × StillCommitted (IsSettled before.session) (IsSettled new) now.shows.decoded before.disk b.images later before.session.log overlay)) (sym same)
       (stays_on now.shows.decoded before.disk NoUnit before.session.units new.units before.session.pages new.pages counted_now reach_settled a b (changes_now changes) now.honest before.session.log before.session.meta.committed committed_now now.holds goes_on)
 
   -- A crash at any moment of the update leaves what stands for the committed table.
-  pub update_moments : {b : Outside} (r : Request) (new : SessionState) → IsWorld a → ChangesLoose a b → Leaves a b (StandsDuring meant before.machine r)
+  pub update_moments : {b : Outside} (r : Request) (new : SessionState) → IsWorld a → WritesLoose a b before.session → Leaves a b (StandsDuring meant before.machine r)
   update_moments {b} r new world changes =
       leaves_wider (StandsForVolume now.shows.decoded before.disk) (StandsDuring meant before.machine r)
       (stands_meanwhile now.shows.decoded before.disk NoUnit before.session.units new.units before.session.pages new.pages counted_now reach_settled a b (changes_now changes) now.honest before.session.log before.session.meta.committed committed_now world)

@@ -47,6 +47,7 @@ pub checkpoint_failed : {a b : Outside} (s old new : SessionState) (log : LogSta
     → Steps a b old new request.Checkpoint (Err stop.Disk)
 checkpoint_failed {a} {b} s old new log meta groups is went rose same = record {
   only = went.only;
+  geometry = ap (λ (t : SessionState). t.geometry) (sym same) ∙ ap (λ (t : SessionState). t.geometry) is;
   down = ap (λ (t : SessionState). t.down) (sym same) ∙ ap (λ (t : SessionState). t.down) is;
   stops = rose;
   refused = tt;
@@ -59,6 +60,7 @@ pub checkpoint_done : {a b : Outside} (s old new : SessionState) (log : LogState
     → Steps a b old new request.Checkpoint (Ok reply.Checkpoint)
 checkpoint_done {a} {b} s old new log meta groups is went home same = record {
   only = went.only;
+  geometry = ap (λ (t : SessionState). t.geometry) (sym same) ∙ ap (λ (t : SessionState). t.geometry) is;
   down = ap (λ (t : SessionState). t.down) (sym same) ∙ ap (λ (t : SessionState). t.down) is;
   stops = tt;
   refused = λ (why, told). absurd (cc);
@@ -96,10 +98,11 @@ kept_moments {a} {m} {b} {before} page image number now world kept =
 later_rise : (a m b : Outside) → ReadsOnly a m → Rose m.disk_faults b.disk_faults → Rose a.disk_faults b.disk_faults
 later_rise a m b reads rose = let before = reads.nothing.only.goes.disk_faults in omega (arith, before, rose)
 
-pub commit_failed : {a m b : Outside} (s old new : SessionState) (page image : List ℕ) (number : ℕ) (why : CommitFault) → s ≡ old → IsWorld a → WasKept a m b s page image number → (why ≡ fault.Disk → Rose m.disk_faults b.disk_faults) → new.down ≡ old.down
-    → Steps a b old new request.Commit (Err (stop_of why))
-commit_failed {a} {m} {b} s old new page image number why is world kept cause down = record {
+pub commit_failed : {a m b : Outside} (s old new : SessionState) (page image : List ℕ) (number : ℕ) (why : CommitFault) → s ≡ old → IsWorld a → WasKept a m b s page image number → (why ≡ fault.Disk → Rose m.disk_faults b.disk_faults)
+    → new.geometry ≡ old.geometry → new.down ≡ old.down → Steps a b old new request.Commit (Err (stop_of why))
+commit_failed {a} {m} {b} s old new page image number why is world kept cause geometry down = record {
   only = disk_trans kept.reads.nothing.only kept.only;
+  geometry = geometry;
   down = down;
   stops = caused why cause;
   refused = tt;
@@ -113,9 +116,13 @@ commit_failed {a} {m} {b} s old new page image number why is world kept cause do
     caused fault.Disk cause = later_rise a m b kept.reads (cause refl)
 
 pub commit_stopped : {a m b : Outside} (s old new : SessionState) (page image : List ℕ) (number : ℕ) (why : CommitFault) (stopped : Stop) → stopped ≡ stop_of why → s ≡ old → IsWorld a → WasKept a m b s page image number
-    → (why ≡ fault.Disk → Rose m.disk_faults b.disk_faults) → new.down ≡ old.down → Steps a b old new request.Commit (Err stopped)
-commit_stopped {a} {m} {b} s old new page image number why stopped told is world kept cause down =
-    subst (λ (t : Stop). Steps a b old new request.Commit (Err t)) (sym told) (commit_failed s old new page image number why is world kept cause down)
+    → (why ≡ fault.Disk → Rose m.disk_faults b.disk_faults) → new.geometry ≡ old.geometry → new.down ≡ old.down → Steps a b old new request.Commit (Err stopped)
+commit_stopped {a} {m} {b} s old new page image number why stopped told is world kept cause geometry down =
+    subst (λ (t : Stop). Steps a b old new request.Commit (Err t)) (sym told) (commit_failed s old new page image number why is world kept cause geometry down)
+
+pub memory_fault : (why : CommitFault) → stop_of why ≡ stop.Memory → why ≡ fault.Memory
+memory_fault fault.Memory is = refl
+memory_fault fault.Disk is = absurd (cc)
 
 -- the frames of the session after it
 pub record FramesKept (m b : Outside) (s : SessionState) (groups later : List Frames) : Type 0 where
@@ -126,6 +133,7 @@ pub commit_done : {a m b : Outside} (s old mid new : SessionState) (page image :
     → Commits m b s.log (numbered_pages s.meta image) number s.notes log meta → meta.working ≡ [] → FramesKept m b s mid.groups later → Settled (numbered_rows image s.meta.working) s.kept flags s.pages pages s.units units → committed_session s log meta later flags pages units ≡ new → Steps a b old new request.Commit (Ok (reply.Commit number))
 commit_done {a} {m} {b} s old mid new page image number log meta later flags pages units is world kept only behind commits none frames settled same = record {
   only = disk_trans kept.reads.nothing.only kept.only;
+  geometry = ap (λ (t : SessionState). t.geometry) (sym same) ∙ ap (λ (t : SessionState). t.geometry) is;
   down = ap (λ (t : SessionState). t.down) (sym same) ∙ ap (λ (t : SessionState). t.down) is;
   stops = tt;
   refused = λ (why, told). absurd (cc);

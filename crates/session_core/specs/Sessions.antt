@@ -98,16 +98,18 @@ pub record OnlyGives (safe : ℕ → Type 0) (old new : UnitSet) : Type 0 where
   pub refs : (unit : ℕ) → refs_at new unit ≤ refs_at old unit
   pub free : (area : Area) → free_count old.geometry (used_at old) area ≤ free_count new.geometry (used_at new) area
 
--- The working state has again the pages that the committed one has, and of the units none is given back but those that the transaction took.
+-- The working state has again the pages that the committed one has, and of the units none is given back but those that the transaction took. A touched
+-- page that it took is free, where no node names it.
 pub record TakenBack (rows : List WorkingRow) (kept : List Bool) (old new : LoggedSet) (before after : UnitSet) : Type 0 where
   pub held_len : length new.held ≡ length old.held
   pub taken_len : length new.taken ≡ length old.taken
   pub touched : (page : ℕ) (row : Option (List ℕ)) → lookup (nat_eq page) rows ≡ Some row → (is_held new page ≡ is_kept kept page) × (is_taken new page ≡ false)
   pub others : (page : ℕ) → lookup (nat_eq page) rows ≡ None → (is_held new page ≡ is_held old page) × (is_taken new page ≡ is_taken old page)
   pub units : OnlyGives (λ unit. is_taken old unit ≡ false) before after
+  pub freed : (page : ℕ) (row : Option (List ℕ)) → lookup (nat_eq page) rows ≡ Some row → is_taken old page ≡ true → is_kept kept page ≡ false → refs_at before page ≡ 0 → used_at after page ≡ false
 
 -- What a commit leaves of the logged pages: those with an image are the committed state's, those that were given back are not, and of the units none is
--- given back but pages of the committed state that the transaction gave back.
+-- given back but pages of the committed state that the transaction gave back. Each of them is free, where no node names it.
 pub record Settled (rows : List WorkingRow) (kept now : List Bool) (old new : LoggedSet) (before after : UnitSet) : Type 0 where
   pub kept_len : length now ≡ length kept
   pub held_len : length new.held ≡ length old.held
@@ -116,6 +118,15 @@ pub record Settled (rows : List WorkingRow) (kept now : List Bool) (old new : Lo
   pub gone : (page : ℕ) → lookup (nat_eq page) rows ≡ Some None → (is_kept now page ≡ false) × (is_held new page ≡ is_held old page) × (is_taken new page ≡ is_taken old page)
   pub others : (page : ℕ) → lookup (nat_eq page) rows ≡ None → (is_kept now page ≡ is_kept kept page) × (is_held new page ≡ is_held old page) × (is_taken new page ≡ is_taken old page)
   pub units : OnlyGives (λ unit. (lookup (nat_eq unit) rows ≡ Some None) × (is_kept kept unit ≡ true) → ⊥) before after
+  pub freed : (page : ℕ) → lookup (nat_eq page) rows ≡ Some None → is_kept kept page ≡ true → refs_at before page ≡ 0 → used_at after page ≡ false
+
+-- Each page that the open transaction took is free, where the committed state hasn't it and no node names it.
+abbrev pub FreesTaken : SessionState → SessionState → Type 0
+FreesTaken old new = (page : ℕ) → is_taken old.pages page ≡ true → is_kept old.kept page ≡ false → refs_at old.units page ≡ 0 → used_at new.units page ≡ false
+
+-- Each page of the committed state that the open transaction gave back is free, where no node names it.
+abbrev pub FreesGivenBack : SessionState → SessionState → Type 0
+FreesGivenBack old new = (page : ℕ) → lookup (nat_eq page) old.meta.working ≡ Some None → is_kept old.kept page ≡ true → refs_at old.units page ≡ 0 → used_at new.units page ≡ false
 
 -- after an update of a kind, of no version, that left this catalog
 abbrev pub updated : SessionState → List ℕ → NoteKind → SessionState

@@ -41,6 +41,7 @@ IsQuiet r = IsTrue (is_quiet r)
 -- A step that writes nothing, and leaves the log.
 pub record StepsQuietly (a b : Outside) (old new : SessionState) (r : Request) (result : Result Reply Stop) : Type 0 where
   pub reads : ReadsOnly a b
+  pub geometry : new.geometry ≡ old.geometry
   pub log : new.log ≡ old.log
   pub down : new.down ≡ old.down
   pub stops : IfErr result (Stops a b old)
@@ -50,6 +51,7 @@ pub record StepsQuietly (a b : Outside) (old new : SessionState) (r : Request) (
 -- A step, from what stands outside before it to what stands there after it.
 pub record Steps (a b : Outside) (old new : SessionState) (r : Request) (result : Result Reply Stop) : Type 0 where
   pub only : DiskOnly a b
+  pub geometry : new.geometry ≡ old.geometry
   pub down : new.down ≡ old.down
   pub stops : IfErr result (Stops a b old)
   pub refused : IfOk result (λ told. IsRefused told → OnlyFrames a b old new)

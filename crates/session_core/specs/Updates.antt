@@ -67,6 +67,10 @@ pub record Moved (a b : Outside) (g : Geometry) (old new : PortParts) : Type 0 w
   pub committed : new.meta.committed ≡ old.meta.committed
   pub ready : AreReady g b.size new
 
+-- On the disk nothing changed but bytes of units that are not in use, or that the open transaction took.
+abbrev pub WritesLoose : Outside → Outside → SessionState → Type 0
+WritesLoose a b s = ChangesWithin (InRest s.geometry (used_at s.units) (IsLoose NoUnit (used_at s.units) s.pages)) a b
+
 -- the note of an update, of the version with this OID
 abbrev pub note_with : OpNote → Oid → OpNote
 note_with note oid = record note { oid = oid }

@@ -1,8 +1,9 @@
 //! What a run needs of a session.
-ghost use Rattle.std.specs.Prelude.{◌≡◌, ◌≢◌, ◌⊎◌, Err, IsTrue, IfOk, OnOk};
-ghost use Rattle.disk_model.specs.Outside.{DiskOnly, Leaves, Rose};
+ghost use Rattle.std.specs.Prelude.{◌≡◌, ◌≢◌, ◌⊎◌, ℕ, Err, IsTrue, IfOk, OnOk};
+ghost use Rattle.disk_model.specs.Outside.{DiskOnly, Leaves, ReadsOnly, Rose};
 ghost use Rattle.table_model.specs.Built.{is_built};
 ghost use Rattle.table_model.specs.Requests.{request_of, is_request};
+ghost use Rattle.table_model.specs.Requests as request;
 ghost use Rattle.session_views.specs.View.{View, Meaning, ShowsNow, Stepped, StandsDuring};
 
 use disk_model::Host;
@@ -31,6 +32,9 @@ pub trait Engine {
     /// No step of it met a fault.
     ghost up: { Self → Type 0 };
 
+    /// A disk of so many bytes is as large as the volume that it was opened on.
+    ghost fits: { Self → ℕ → Type 0 };
+
     /// Steps on a command that is built, to its reply. Refusals are replies.
     fn step<H: Host>(
         &mut self,
@@ -40,6 +44,8 @@ pub trait Engine {
     ) -> Result<Reply, Stop>
         requires form { IsTrue (is_request (request_of command.now)) }
         requires built { IsTrue (is_built (request_of command.now)) }
+        requires room { fits self.old (H.outside host.old).size }
+        ensures room { fits self.new (H.outside host.new).size }
         ensures only { DiskOnly (H.outside host.old) (H.outside host.new) }
         ensures disk { result ≡ Err Stop.Disk
             → Rose (H.outside host.old).disk_faults (H.outside host.new).disk_faults }
@@ -62,6 +68,12 @@ pub trait Engine {
             → ShowsNow meaning (H.outside host.old) before
             → Leaves (H.outside host.old) (H.outside host.new) (StandsDuring meaning before.machine
             (request_of command.now)) }
+
+        // A checkpoint takes no memory. A commit that wants some did nothing but read.
+        ensures takes_none { request_of command.now ≡ request.Checkpoint
+            → result ≡ Err Stop.Memory → ⊥ }
+        ensures unwritten { request_of command.now ≡ request.Commit → result ≡ Err Stop.Memory
+            → ReadsOnly (H.outside host.old) (H.outside host.new) }
 
         // Only a session that isn't up says that it is down, and one that replied is up.
         ensures was_down { result ≡ Err Stop.Down → up self.old → ⊥ }

@@ -18,6 +18,7 @@ pub(crate) fn abort_open<E: Engine, H: Host>(
     host: &mut H,
 ) -> Result<(), Stopped>
     requires up { E.up session.old }
+    requires room { E.fits session.old (H.outside host.old).size }
     ensures only { DiskOnly (H.outside host.old) (H.outside host.new) }
     ensures caused { IfErr result (λ why. CausedBy why (H.outside host.old) (H.outside host.new)) }
     ensures stops { IfErr result IsSessionStop }

@@ -21,8 +21,10 @@ pub(crate) fn step_lines<E: Engine, T: Talk, H: Host>(
     host: &mut H,
 ) -> Result<(), Stopped>
     requires up { E.up session.old }
+    requires room { E.fits session.old (H.outside host.old).size }
     ensures goes { Goes (H.outside host.old) (H.outside host.new) }
     ensures up { OnOk result (E.up session.new) }
+    ensures room { OnOk result (E.fits session.new (H.outside host.new).size) }
     ensures whole { OnOk result (Ran E.meaning T.talking (H.outside host.old)
         (H.outside host.new) session.old session.new talk.old talk.new) }
     ensures cut { IfErr result (λ why. WasCut E.meaning T.talking (H.outside host.old)

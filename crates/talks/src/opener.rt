@@ -22,10 +22,11 @@ pub trait Opener: Engine {
         ensures disk { result ≡ Err OpenFault.Disk
             → Rose (H.outside host.old).disk_faults (H.outside host.new).disk_faults }
 
-        // Ok exactly where the volume, as it reads, stands for a table, and then the session is up and shows it, as it was just opened.
+        // Ok exactly where the volume, as it reads, stands for a table, and then the session is up, fits the disk and shows it, as it was just opened.
         ensures opened { OnOk result ((image : List ℕ) → (H.outside host.old).disk ≡ Some image
             → (table : Table) × Self.meaning.StandsFor image table) }
         ensures up { IfOk result (λ session. Self.up session) }
+        ensures room { IfOk result (λ session. Self.fits session (H.outside host.new).size) }
         ensures shows { (image : List ℕ) (table : Table) → IsTrue (H.outside host.old).honest
             → (H.outside host.old).disk ≡ Some image → Self.meaning.StandsFor image table
             → IfOk result (λ session. Opened Self.meaning fresh table session

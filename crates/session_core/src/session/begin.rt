@@ -12,7 +12,7 @@ use table_model::{Refusal, Reply};
 
 impl Session {
     ghost use Rattle.table_model.specs.Requests as request;
-    ghost use Rattle.session_core.specs.Sessions.{IsSession, TakenBack, aborted};
+    ghost use Rattle.session_core.specs.Sessions.{FreesTaken, IsSession, TakenBack, aborted};
     ghost use Rattle.session_core.specs.Steps.{StepsQuietly};
 
     /// Opens a transaction: the working catalog is the committed one, and no update is noted. Refused where one is open, and where no number of a commit is
@@ -38,7 +38,8 @@ impl Session {
         Ok(Reply::Begin { number: last + 1 })
     }
 
-    /// Gives the open transaction up: its working pages are dropped, and the names that it bound are unbound. Refused where none is open.
+    /// Gives the open transaction up: its working pages are dropped, the pages that it took are free, and the names that it bound are unbound. Refused where
+    /// none is open.
     pub fn abort(&mut self) -> Reply
         ensures refused { self.old.opened ≡ false → (result ≡ Reply.No Refusal.NoTxn)
             × (self.new ≡ self.old) }
@@ -46,6 +47,7 @@ impl Session {
             × (self.new ≡ aborted self.old self.new.pages self.new.units) }
         ensures taken_back { self.old.opened ≡ true
             → TakenBack self.old.meta.working self.old.kept self.old.pages self.new.pages self.old.units self.new.units }
+        ensures freed { self.old.opened ≡ true → FreesTaken self.old self.new }
         ensures session { IsSession self.old }
     {
         if !self.opened {

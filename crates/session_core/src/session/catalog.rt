@@ -112,7 +112,7 @@ fn read_catalog<D: Disk>(
 }
 
 impl Session {
-    ghost use Rattle.std.specs.Prelude.{◌^◌, ◌-◌, OnOk};
+    ghost use Rattle.std.specs.Prelude.{◌^◌, ◌-◌, OnOk, OnErr};
     ghost use Rattle.table_model.specs.Machines.{updates_most, touched_most};
     ghost use Rattle.session_core.specs.Sessions.{IsSession, updated};
     ghost use Rattle.session_core.specs.Catalogs.{catalog_bytes, FramesLend};
@@ -135,7 +135,8 @@ impl Session {
         read_catalog(alloc, &mut self.groups, &self.meta, disk)
     }
 
-    /// The page becomes the working catalog, and an update of this kind, of no version, is noted. Where memory is wanted, the transaction can't go on.
+    /// The page becomes the working catalog, and an update of this kind, of no version, is noted. Where memory is wanted, the transaction can't go on: the
+    /// page may be the working catalog, and no update is noted.
     pub fn update_catalog(
         &mut self,
         alloc: Global,
@@ -149,6 +150,8 @@ impl Session {
         requires updates { length self.old.notes < updates_most }
         requires touched { length self.old.meta.working < touched_most }
         ensures done { OnOk result (self.new ≡ updated self.old catalog.now kind) }
+        ensures kept { OnErr result (self.new ≡ record self.old { meta = self.new.meta }) }
+        ensures geometry { self.new.geometry ≡ self.old.geometry }
         ensures log { self.new.log ≡ self.old.log }
         ensures down { self.new.down ≡ self.old.down }
     {

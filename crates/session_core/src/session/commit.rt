@@ -1,5 +1,5 @@
 //! A transaction is committed, and a checkpoint is made.
-ghost use Rattle.std.specs.Prelude.{◌≡◌, ◌≤◌, ◌<◌, ◌+◌, ◌-◌, ◌^◌, length, Ok, OnOk, true};
+ghost use Rattle.std.specs.Prelude.{◌≡◌, ◌≤◌, ◌<◌, ◌+◌, ◌-◌, ◌^◌, length, Ok, Err, OnOk, true};
 ghost use Rattle.ex_base.specs.Sizes.{volume_bytes};
 ghost use Rattle.object_files.specs.Catalog.{CatalogOf};
 ghost use Rattle.object_files.specs.Edits.{IsCatalogPage};
@@ -44,10 +44,12 @@ fn uncommitted(fault: CommitFault) -> Stop
 }
 
 impl Session {
+    ghost use Rattle.disk_model.specs.Outside.{ReadsOnly};
     ghost use Rattle.table_model.specs.Requests as request;
+    ghost use Rattle.session_views.specs.declared.engine.Stop.{Stop};
     ghost use Rattle.session_views.specs.View.{View, ShowsNow};
     ghost use Rattle.session_core.specs.Commits.{HasNotes};
-    ghost use Rattle.session_core.specs.Sessions.{SessionState};
+    ghost use Rattle.session_core.specs.Sessions.{FreesGivenBack, SessionState};
     ghost use Rattle.session_core.specs.Meant.{meant};
     ghost use Rattle.session_core.specs.Steps.{Steps};
 
@@ -60,6 +62,14 @@ impl Session {
         ensures noted { (before : View SessionState) → before.session ≡ self.old
             → ShowsNow meant (H.outside host.old) before → self.old.opened ≡ true
             → OnOk result (HasNotes (H.outside host.new) self.old.geometry self.old.notes) }
+
+        // The pages that the transaction gave back are free.
+        ensures freed { self.old.opened ≡ true
+            → OnOk result (FreesGivenBack self.old self.new) }
+
+        // Where memory is wanted, the disk was read at most, and the log is what it was.
+        ensures unwritten { result ≡ Err Stop.Memory
+            → ReadsOnly (H.outside host.old) (H.outside host.new) × (self.new.log ≡ self.old.log) }
     {
         if !self.opened {
             return Ok(Reply::No(Refusal::NoTxn));
@@ -99,6 +109,7 @@ impl Session {
         ensures steps { Steps (H.outside host.old)
             (H.outside host.new) self.old self.new request.Checkpoint result }
         ensures none_counts { result ≡ Ok Reply.Checkpoint → self.new.log.count ≡ 0 }
+        ensures takes_none { result ≡ Err Stop.Memory → ⊥ }
     {
         if self.opened {
             return Ok(Reply::No(Refusal::TxnOpen));

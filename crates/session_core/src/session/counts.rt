@@ -28,7 +28,8 @@ impl Session {
 
     /// Whether a step met a fault.
     pub fn is_down(&self) -> bool
-        ensures { result ≡ self.now.down }
+        ensures value { result ≡ self.now.down }
+        ensures session { IsSession self.now }
     {
         self.down
     }

@@ -1,5 +1,5 @@
 //! Updates of objects, through a port over the parts of a session.
-ghost use Rattle.std.specs.Prelude.{◌≡◌, ◌≤◌, ◌<◌, [], length, true, IfOk, IfErr, OnOk};
+ghost use Rattle.std.specs.Prelude.{◌≡◌, ◌≤◌, ◌<◌, [], length, true, false, IfOk, IfErr, OnOk, OnErr};
 ghost use Rattle.ex_base.specs.Ports.{HasCause, IsDamage};
 ghost use Rattle.disk_model.specs.Outside.{DiskOnly, Leaves};
 ghost use Rattle.table_model.specs.Requests.{Request};
@@ -150,7 +150,7 @@ fn update_on<D: Disk>(
 }
 
 impl Session {
-    ghost use Rattle.session_core.specs.Updates.{IfUpdated, Noted, note_with, parts_held};
+    ghost use Rattle.session_core.specs.Updates.{IfUpdated, Noted, WritesLoose, note_with, parts_held};
 
     /// Performs an update of objects, and notes it: the note has the OID of the version that was made, changed or removed, which is answered. Where the update
     /// does not keep to its limit, memory is wanted or the disk fails, the transaction is given up and the call stops.
@@ -178,12 +178,16 @@ impl Session {
             (λ before u. HoldsTable before (H.outside host.new) (parts_held self.new)
             (updated u oid (shown before.machine)))) }
         ensures only { DiskOnly (H.outside host.old) (H.outside host.new) }
+        ensures writes { WritesLoose (H.outside host.old) (H.outside host.new) self.old }
         ensures any_moment { (before : View SessionState) → before.session ≡ self.old
             → ShowsNow meant (H.outside host.old) before → (r : Request)
             → Leaves (H.outside host.old) (H.outside host.new)
             (StandsDuring meant before.machine r) }
+        ensures geometry { self.new.geometry ≡ self.old.geometry }
         ensures log { self.new.log ≡ self.old.log }
         ensures down { self.new.down ≡ self.old.down }
+        ensures given_up { OnErr result ((self.new.opened ≡ false)
+            × (self.new.meta.working ≡ [])) }
         ensures stops { IfErr result (LineStops (H.outside host.old) (H.outside host.new)) }
         ensures sound { IfErr result (λ why. IfUpdated (H.outside host.old) self.old update.now
             (λ before u. HasRoomFor before u → IsOutside why)) }

@@ -2,6 +2,7 @@
 ghost use Rattle.std.specs.Prelude.{◌≡◌, ◌<◌, length, slice_set, true, false, if◌then◌else◌};
 ghost use Rattle.ex_base.specs.Area.{InPageArea, area_end};
 ghost use Rattle.meta_pages.specs.Rows.{IsRising};
+ghost use Rattle.page_alloc.specs.UnitSet.{refs_at, used_at};
 ghost use Rattle.volume_port.specs.Logged.{is_held, is_taken};
 ghost use Rattle.session_core.specs.Sessions.{OnlyGives, Settled, TakenBack, is_kept};
 
@@ -13,7 +14,8 @@ use volume_port::LoggedPages;
 /// A page that is used and that no node names is free from now on.
 fn free_page(units: &mut Units, page: PageNo)
     requires { InPageArea units.old.geometry page.0 }
-    ensures { OnlyGives (λ unit. unit ≡ page.0 → ⊥) units.old units.new }
+    ensures units { OnlyGives (λ unit. unit ≡ page.0 → ⊥) units.old units.new }
+    ensures freed { refs_at units.old page.0 ≡ 0 → used_at units.new page.0 ≡ false }
 {
     if units.is_used(page) && units.refs(page) == 0 {
         units.give(page);
@@ -37,6 +39,8 @@ fn settle_page(
         ≡ (if image then record { held = slice_set pages.old.held page.0 true; taken = slice_set pages.old.taken page.0 false } else pages.old) }
     ensures units { OnlyGives (λ unit. (unit ≡ page.0) × (image ≡ false)
         × (is_kept kept.old unit ≡ true) → ⊥) units.old units.new }
+    ensures freed { image ≡ false → is_kept kept.old page.0 ≡ true
+        → refs_at units.old page.0 ≡ 0 → used_at units.new page.0 ≡ false }
 {
     let at = page.0 as usize;
     if image {
@@ -76,6 +80,8 @@ fn take_back_page(units: &mut Units, pages: &mut LoggedPages, page: PageNo, kept
         ≡ record { held = slice_set pages.old.held page.0 kept; taken = slice_set pages.old.taken page.0 false } }
     ensures units { OnlyGives (λ unit. (unit ≡ page.0) × (is_taken pages.old unit ≡ true)
         → ⊥) units.old units.new }
+    ensures freed { kept ≡ false → is_taken pages.old page.0 ≡ true
+        → refs_at units.old page.0 ≡ 0 → used_at units.new page.0 ≡ false }
 {
     if kept {
         pages.adopt(page);

@@ -15,10 +15,10 @@ pub struct Summary {
     pub last: u64,
     /// The files of the table.
     pub files: u32,
-    /// The objects of its files.
-    pub objects: u64,
+    /// The objects of its files. Each file has fewer than 2^64.
+    pub objects: u128,
     /// The versions of its objects.
-    pub versions: u64,
+    pub versions: u128,
     /// The units of the page area in use.
     pub pages: u32,
     /// Those of the segment area.
@@ -43,12 +43,9 @@ impl Session {
 
     // Sums up, in a session that met no fault.
     fn sum_up<H: Host>(&mut self, alloc: Global, host: &mut H) -> Result<Summary, Stop>
+        requires { volume_bytes self.old.geometry ≤ (H.outside host.old).size }
         ensures { SumsUp (H.outside host.old) (H.outside host.new) self.old self.new result }
     {
-        // A disk that is smaller than the volume isn't the one that the session was opened on.
-        if host.size() < self.geometry.volume_bytes() {
-            return Err(Stop::Memory);
-        }
         let page = match self.catalog(alloc, host) {
             Ok(page) => page,
             Err(stop) => return Err(stop),
@@ -70,7 +67,12 @@ impl Session {
     }
 
     // How many objects the files of a catalog have.
-    fn objects_in<H: Host>(&mut self, alloc: Global, host: &mut H, page: &[u8]) -> Result<u64, Stop>
+    fn objects_in<H: Host>(
+        &mut self,
+        alloc: Global,
+        host: &mut H,
+        page: &[u8],
+    ) -> Result<u128, Stop>
         requires room { volume_bytes self.old.geometry ≤ (H.outside host.old).size }
         requires catalog { IsCatalogPage page.now }
         ensures only { OnlyFrames (H.outside host.old) (H.outside host.new) self.old self.new }
@@ -82,23 +84,21 @@ impl Session {
         ensures sound { IfErr result (λ why. IfCatalog (H.outside host.old) self.old page.now
             (λ before. IsOutside why)) }
     {
-        let mut count: u64 = 0;
+        let mut count: u128 = 0;
         for index in 0..view_of(page).len() {
             let file_no = view_of(page).entry(index).file_no;
             let oids = match self.objects_of(alloc, host, file_no) {
                 Ok(oids) => oids,
                 Err(stop) => return Err(stop),
             };
-            count = match count.checked_add(oids.len() as u64) {
-                Some(more) => more,
-                None => return Err(Stop::Memory),
-            };
+            count += oids.len() as u128;
         }
         Ok(count)
     }
 
     /// Sums up what the session shows. The disk is read at most.
     pub fn summary<H: Host>(&mut self, alloc: Global, host: &mut H) -> Result<Summary, Stop>
+        requires room { volume_bytes self.old.geometry ≤ (H.outside host.old).size }
         ensures only { ReadsOnly (H.outside host.old) (H.outside host.new) }
         ensures disk { result ≡ Err Stop.Disk
             → Rose (H.outside host.old).disk_faults (H.outside host.new).disk_faults }

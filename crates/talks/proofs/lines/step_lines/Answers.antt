@@ -15,6 +15,7 @@ use Rattle.talks.proofs.lines.step_lines.Goals as goal
 pub lines-init : goal.lines-init
 lines-init g c = record {
   up = c.requires.up;
+  room = c.requires.room;
   goes = goes_refl (g.H.World.outside c.args.host.now);
   so_far = record {
     had = [];
@@ -61,6 +62,7 @@ lines-preserved-in-Nothing g c =
     let old = c.lines.invariant.so_far in
     let waits = c.in_ok-advance.ensures.taken (search rules) c.args.talk.now (g.H.World.outside c.args.host.now).left old.had old.talked in record {
       up = c.lines.invariant.up;
+      room = subst (g.E.Engine.fits c.lines.session) (sym c.advance.ensures.only.goes.size) c.lines.invariant.room;
       goes = goes_trans c.lines.invariant.goes c.advance.ensures.only.goes;
       so_far = record {
         had = old.had;
@@ -68,6 +70,9 @@ lines-preserved-in-Nothing g c =
         reached = λ opening was same opens. reached_taken (g.H.World.is_world c.lines.host) c.advance.ensures.only (old.reached opening was same opens);
       };
     }
+
+pub step-requires-clause-room : goal.step-requires-clause-room
+step-requires-clause-room g c = subst (g.E.Engine.fits c.lines.session) (sym c.advance.ensures.only.goes.size) c.lines.invariant.room
 
 pub returns-in-Err-clause-cut : goal.returns-in-Err-clause-cut
 returns-in-Err-clause-cut g c =
@@ -116,6 +121,7 @@ lines-preserved g c =
     let world = g.H.World.is_world c.tell.new.host in
     let waits = c.in_ok-advance.ensures.taken (search rules) first entry.left old.had old.talked in
     let goes_b = goes_trans c.lines.invariant.goes c.advance.ensures.only.goes in
+    let room_b = subst (g.E.Engine.fits c.lines.session) (sym c.advance.ensures.only.goes.size) c.lines.invariant.room in
     elim c.match-asked.branch [
       | in-Refused w ↦
           let why = w.in-Refused.why in
@@ -124,6 +130,7 @@ lines-preserved g c =
           let had = rw (w.host-is, told) at c.in_ok-tell.ensures.had in
           rw w.session-is (record {
             up = c.lines.invariant.up;
+            room = subst (g.E.Engine.fits c.lines.session) (sym sent.only.goes.size) room_b;
             goes = goes_trans goes_b sent.only.goes;
             so_far = record {
               had = old.had ++ record { reading = Fails why; told = reply.No why; text = K.text at (reply.No why) } ∷ [];
@@ -140,6 +147,7 @@ lines-preserved g c =
           let had = rw (w.host-is, told_is, w.step.ensures.only.left) at c.in_ok-tell.ensures.had in
           rw w.session-is (record {
             up = w.in-Ok.ensures.stays_up;
+            room = subst (g.E.Engine.fits w.step.new.self) (sym sent.only.goes.size) w.step.ensures.room;
             goes = goes_trans (goes_trans goes_b w.step.ensures.only.goes) sent.only.goes;
             so_far = record {
               had = old.had ++ record { reading = Asks r; told = told; text = K.text at told } ∷ [];
@@ -220,3 +228,6 @@ returns-clause-whole g c =
       over = c.in_ok-advance.ensures.over (search rules) c.args.talk.now (g.H.World.outside c.args.host.now).left old.had old.talked;
       reached = λ opening was same opens. reached_taken (g.H.World.is_world c.lines.host) c.advance.ensures.only (old.reached opening was same opens);
     }
+
+pub returns-clause-room : goal.returns-clause-room
+returns-clause-room g c = subst (g.E.Engine.fits c.lines.session) (sym c.advance.ensures.only.goes.size) c.lines.invariant.room

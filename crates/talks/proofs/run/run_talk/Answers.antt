@@ -1,4 +1,4 @@
-use Rattle.std.proofs.Common.{Err, ◌⊎◌, ⊎_elim, inl, inr, sym, ap, subst}
+use Rattle.std.proofs.Common.{Err, inl, inr, sym, ap, subst}
 use Rattle.std.proofs.lemmas.Result.{err_from_is_err_and, IfOk-at_ok, IfErr-at_err}
 use Rattle.ex_base.proofs.Results.{on_ok_from}
 use Rattle.talks.specs.Stops.{IsOpeningStop, IsSessionStop, IsSoundStop}

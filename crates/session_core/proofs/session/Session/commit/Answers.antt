@@ -1,7 +1,8 @@
-use Rattle.std.proofs.Common.{◌∙◌, ap, sym, subst, refl, ℕ, List, ◌≤◌, length, Err, arith}
+use Rattle.std.proofs.Common.{◌≡◌, ◌∙◌, ap, sym, subst, refl, ℕ, List, ◌≤◌, length, Err, arith}
 use Rattle.std.specs.List.{AllByRecursion}
 use Rattle.ex_base.specs.declared.names.OpNote.{OpNote}
 use Rattle.ex_base.proofs.Results.{if_no_error}
+use Rattle.disk_model.specs.Outside.{Outside, ReadsOnly}
 use Rattle.op_log.specs.Records.{IsNote}
 use Rattle.table_model.specs.Machines.{updates_most}
 use Rattle.table_model.specs.Requests as request
@@ -12,8 +13,9 @@ use Rattle.session_core.proofs.Accepted.{no_open_txn}
 use Rattle.session_core.proofs.Quiet.{quietly, quiet_stop}
 use Rattle.session_core.proofs.Refusing.{closed_refused}
 use Rattle.session_core.proofs.Sessions.{seen, ready, after_commit}
+use Rattle.session_core.proofs.Tracking.{gone_put}
 use Rattle.commits.specs.Room.{IsLogged, AreBehindLog}
-use Rattle.session_core.proofs.Writing.{WasKept, commit_stopped, commit_done, commit_noted, moments_at, commits_at, frames_at, closed_as, settled_at}
+use Rattle.session_core.proofs.Writing.{WasKept, commit_stopped, commit_done, commit_noted, moments_at, commits_at, frames_at, closed_as, memory_fault, settled_at}
 use Rattle.session_core.proofs.Committing.{Commits, numbered_pages}
 use Rattle.meta_pages.specs.Overlays.{Overlays}
 use Rattle.commits.specs.declared.keep.CommitFault.{CommitFault}
@@ -29,13 +31,13 @@ pub returns-in-Err-clause-steps : goal.returns-in-Err-clause-steps
 returns-in-Err-clause-steps g c =
     let only = c.catalog.ensures.frames in
     quietly request.Commit _ (g.H.World.is_world c.args.host.now)
-    (quiet_stop request.Commit c.in-Err.stop only.reads (ap (λ (s : SessionState). s.log) only.same) (ap (λ (s : SessionState). s.down) only.same) c.in-Err.ensures.stops)
+    (quiet_stop request.Commit c.in-Err.stop only.reads (ap (λ (s : SessionState). s.geometry) only.same) (ap (λ (s : SessionState). s.log) only.same) (ap (λ (s : SessionState). s.down) only.same) c.in-Err.ensures.stops)
 
 pub returns-then-is_err-clause-steps : goal.returns-then-is_err-clause-steps
 returns-then-is_err-clause-steps g c =
     let only = c.catalog.ensures.frames in
     quietly request.Commit _ (g.H.World.is_world c.args.host.now)
-    (quiet_stop request.Commit stop.Memory only.reads (ap (λ (s : SessionState). s.log) (c.self-2.view_is ∙ only.same)) (ap (λ (s : SessionState). s.down) (c.self-2.view_is ∙ only.same)) tt)
+    (quiet_stop request.Commit stop.Memory only.reads (ap (λ (s : SessionState). s.geometry) (c.self-2.view_is ∙ only.same)) (ap (λ (s : SessionState). s.log) (c.self-2.view_is ∙ only.same)) (ap (λ (s : SessionState). s.down) (c.self-2.view_is ∙ only.same)) tt)
 
 pub commit-requires-clause-few_pages : goal.commit-requires-clause-few_pages
 commit-requires-clause-few_pages g c =
@@ -86,7 +88,7 @@ returns-in-Err-commit-clause-steps g c =
       moments = moments_at (g.H.World.outside c.catalog.new.disk) (g.H.World.outside c.commit.new.disk) c.args.self.now c.catalog.new.self (session.the_view c.self-2.inside) c.edit.new.self c.number_next-number.new.page.items c.number_next-number.result c.catalog.ensures.frames.same c.self-2.view_is edited c.commit.ensures.any_moment;
     } in
     commit_stopped c.args.self.now c.args.self.now _ c.in-Ok.page.items c.number_next-number.new.page.items c.number_next-number.result c.in-Err-commit.fault c.uncommitted.result c.uncommitted.ensures refl (g.H.World.is_world c.args.host.now) kept
-    (λ is. c.commit.ensures.disk (c.in-Err-commit.is ∙ ap (λ (f : CommitFault). Err f) is)) (ap (λ (s : SessionState). s.down) (c.self-2.view_is ∙ c.catalog.ensures.frames.same))
+    (λ is. c.commit.ensures.disk (c.in-Err-commit.is ∙ ap (λ (f : CommitFault). Err f) is)) (ap (λ (s : SessionState). s.geometry) (c.self-2.view_is ∙ c.catalog.ensures.frames.same)) (ap (λ (s : SessionState). s.down) (c.self-2.view_is ∙ c.catalog.ensures.frames.same))
 
 pub invariant_of-self-2 : goal.invariant_of-self-2
 invariant_of-self-2 g c =
@@ -134,6 +136,29 @@ returns-clause-steps g c =
     (frames_at (g.H.World.outside c.catalog.new.disk) (g.H.World.outside c.commit.new.disk) c.args.self.now c.catalog.new.self (session.the_view c.self-2.inside) c.edit.new.self c.commit.new.groups c.catalog.ensures.frames.same c.self-2.view_is (ap (λ (o : Overlays). o.geometry) edited) c.self-2.invariant.meta c.commit.ensures.lends c.commit.ensures.sizes)
     (settled_at c.args.self.now c.catalog.new.self two c.edit.new.self c.number_next-number.new.page.items flags c.settle.new.pages c.settle.new.units c.catalog.ensures.frames.same c.self-2.view_is edited settled)
     (closed_as c.args.self.now c.catalog.new.self (session.the_view c.self-2.inside) c.commit.new.log c.commit.new.meta c.commit.new.groups flags c.settle.new.pages c.settle.new.units c.clear.new.self.items c.unmark.new.self c.catalog.ensures.frames.same c.self-2.view_is c.clear.ensures.items c.unmark.ensures)
+
+pub returns-clause-freed : goal.returns-clause-freed
+returns-clause-freed g c = λ _ page gone left unnamed.
+    let edited = (if_no_error c.edit.result (sym c.if-is_err.ensures.value) c.edit.ensures.ok ∙ ap (λ (l : List ℕ). numbered_pages (session.the_view c.self-2.inside).meta l) c.deref.ensures.value) in
+    let image = c.number_next-number.new.page.items in
+    let is = seen c.self.view_is c.self.invariant in
+    let settled = settled_at c.args.self.now c.catalog.new.self (session.the_view c.self-2.inside) c.edit.new.self image c.settle.new.kept c.settle.new.pages c.settle.new.units c.catalog.ensures.frames.same c.self-2.view_is edited c.settle.ensures in
+    settled.freed page (gone_put _ _ _ _ is.pages image page gone) left unnamed
+
+pub returns-in-Err-clause-unwritten : goal.returns-in-Err-clause-unwritten
+returns-in-Err-clause-unwritten g c _ = let only = c.catalog.ensures.frames in (only.reads, ap (λ (s : SessionState). s.log) only.same)
+
+pub returns-then-is_err-clause-unwritten : goal.returns-then-is_err-clause-unwritten
+returns-then-is_err-clause-unwritten g c _ = let only = c.catalog.ensures.frames in (only.reads, ap (λ (s : SessionState). s.log) (c.self-2.view_is ∙ only.same))
+
+pub returns-in-Err-commit-clause-unwritten : goal.returns-in-Err-commit-clause-unwritten
+returns-in-Err-commit-clause-unwritten g c is =
+    let only = c.catalog.ensures.frames in
+    let told : c.uncommitted.result ≡ stop.Memory = cc (is) in
+    let none = c.in-Err-commit.is ∙ ap (λ (f : CommitFault). Err f) (memory_fault c.in-Err-commit.fault (sym c.uncommitted.ensures ∙ told)) in (
+      subst (λ (w : Outside). ReadsOnly (g.H.World.outside c.args.host.now) w) (sym (ap (λ h. g.H.World.outside h) (c.commit.ensures.memory none))) only.reads,
+      c.commit.ensures.memory_log none ∙ ap (λ (s : SessionState). s.log) (c.self-2.view_is ∙ only.same),
+    )
 
 pub returns-then-not-self-clause-noted : goal.returns-then-not-self-clause-noted
 returns-then-not-self-clause-noted g c = λ before from now opened. let closed = ap (λ (s : SessionState). s.opened) (sym c.self.view_is) ∙ c.if-not-self.true in absurd (both_ways _ closed opened)

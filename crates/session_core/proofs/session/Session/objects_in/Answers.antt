@@ -1,4 +1,4 @@
-use Rattle.std.proofs.Common.{◌≡◌, ◌∙◌, ◌≤◌, ◌+◌, List, length, refl, sym, ap, arith}
+use Rattle.std.proofs.Common.{◌≡◌, ◌∙◌, ◌≤◌, ◌<◌, ◌+◌, ◌^◌, List, length, refl, sym, ap, arith, rules}
 use Rattle.std.specs.Prelude.{slice_get}
 use Rattle.std.proofs.lemmas.List.{take_all}
 use Rattle.object_files.specs.Catalog.{Catalog, FileEntry}
@@ -20,17 +20,11 @@ returns-in-Err-clause-sound g c =
     next_file c.args.page.now c.loop-index.index c.loop-index.count c.loop-index.invariant c.objects_of.ensures.session c.objects_of.ensures.only (entry_of c.entry-file_no.result) c.entry-file_no.result.file_no (λ before name. IsOutside c.in-Err.stop)
     (ap (λ (k : Catalog). slice_get k.entries c.loop-index.index) (sym c.view_of-in-loop-index.ensures) ∙ c.entry-file_no.ensures) refl c.in-Err.ensures.sound
 
-pub returns-in-None-clause-only : goal.returns-in-None-clause-only
-returns-in-None-clause-only g c = frames_twice c.loop-index.invariant.only c.objects_of.ensures.only
-
-pub returns-in-None-clause-shows : goal.returns-in-None-clause-shows
-returns-in-None-clause-shows g c = shows_on c.args.page.now c.loop-index.index c.loop-index.count c.loop-index.invariant c.objects_of.ensures.session c.objects_of.ensures.only
-
 pub loop-index-preserved : goal.loop-index-preserved
 loop-index-preserved g c =
-    let sum : c.in-Some.more ≡ c.loop-index.count + length c.in-Ok.oids.items = omega (arith, c.in-Some.ensures, c.len.ensures) in
-    one_more c.args.page.now c.loop-index.index c.loop-index.count c.loop-index.invariant c.objects_of.ensures.session c.objects_of.ensures.only (entry_of c.entry-file_no.result) c.entry-file_no.result.file_no c.in-Some.more c.in-Ok.oids.items
-    (ap (λ (k : Catalog). slice_get k.entries c.loop-index.index) (sym c.view_of-in-loop-index.ensures) ∙ c.entry-file_no.ensures) refl sum c.in-Ok.ensures.oids
+    let fit : length c.in-Ok.oids.items < 2 ^ 64 = search rules in
+    one_more c.args.page.now c.loop-index.index c.loop-index.count c.loop-index.invariant c.objects_of.ensures.session c.objects_of.ensures.only (entry_of c.entry-file_no.result) c.entry-file_no.result.file_no _ c.in-Ok.oids.items
+    (ap (λ (k : Catalog). slice_get k.entries c.loop-index.index) (sym c.view_of-in-loop-index.ensures) ∙ c.entry-file_no.ensures) refl (omega (arith, c.len.ensures)) fit c.in-Ok.ensures.oids
 
 pub returns-clause-counts : goal.returns-clause-counts
 returns-clause-counts g c = λ before same now on.

@@ -1,11 +1,11 @@
-use Rattle.std.proofs.Common.{◌≡◌, ◌∙◌, ◌++◌, ◌∷◌, ◌<◌, ◌^◌, List, [], ℕ, length, sym, ap, subst, arith, rules}
+use Rattle.std.proofs.Common.{◌≡◌, ◌∙◌, ◌++◌, ◌∷◌, ◌<◌, ◌^◌, List, [], ℕ, length, refl, sym, ap, subst, arith, rules}
 use Rattle.std.proofs.lemmas.List.{with_items_is}
 use Rattle.std.specs.List.{length_refill}
 use Rattle.std.specs.Vec.{with_items}
 use Rattle.ex_base.specs.declared.names.Oid.{Oid}
 use Rattle.ex_base.specs.declared.names.Area.TheVariants.{Page}
 use Rattle.ex_base.specs.declared.names.OpNote.{OpNote}
-use Rattle.meta_pages.specs.Overlays.{AreRows}
+use Rattle.meta_pages.specs.Overlays.{AreRows, Overlays}
 use Rattle.object_updates.specs.Performed.{CanPerform, NamesOid}
 use Rattle.object_updates.specs.Updates.{updated}
 use Rattle.table_model.specs.Machines.{shown, updates_most}
@@ -17,9 +17,9 @@ use Rattle.std.specs.Prelude.{Result, IfErr}
 use Rattle.session_views.specs.declared.engine.Stop.{Stop}
 use Rattle.ex_base.specs.declared.faults.PortFault.{PortFault}
 use Rattle.ex_base.specs.Ports.{IsDamage}
-use Rattle.session_core.specs.Updates.{HasPortParts, HasRoomFor, HoldsTable, IfAsked, IfUpdated, Moved, note_with}
+use Rattle.session_core.specs.Updates.{HasPortParts, HasRoomFor, HoldsTable, IfAsked, IfUpdated, Moved, WritesLoose, note_with}
 use Rattle.session_core.proofs.Finding.{no_damage}
-use Rattle.session_core.proofs.Moved.{at_oid, moved_session, note_with_oid, given_up_as, moments_of, noted_so, with_room, has_seen}
+use Rattle.session_core.proofs.Moved.{at_oid, moved_session, note_with_oid, given_up_as, moments_of, noted_so, on_err, with_room, has_seen}
 use Rattle.session_core.proofs.Moving.{parts}
 use Rattle.session_core.proofs.session.Session.update_objects.Goals.{else-is_ok-via-then-is_ok+then-keeps_to+then-has_work+else-is_ok-2, else-is_ok-via-then-is_ok+then-keeps_to+else-has_work, else-is_ok-via-then-is_ok+else-keeps_to, else-is_ok-via-else-is_ok, in-Err, in-Ok}
 use Rattle.session_core.proofs.session.Session.update_objects.Goals as goal
@@ -101,11 +101,20 @@ invariant_of-self-2 g c =
     let back = c.give_up.ensures.back in
     given_up_as s p c.self.invariant moved room size (session.the_view c.else-is_ok.self-inside) same c.give_up.new.meta c.give_up.new.pages c.give_up.new.units c.give_up.ensures.none back
 
+pub returns-then-is_ok-2-clause-writes : goal.returns-then-is_ok-2-clause-writes
+returns-then-is_ok-2-clause-writes g c = subst (λ (t : SessionState). WritesLoose (g.H.World.outside c.args.host.now) (g.H.World.outside c.update_on-done.new.disk) t) c.self.view_is c.update_on-done.ensures.moved.changes
+
+pub returns-clause-writes : goal.returns-clause-writes
+returns-clause-writes g c = subst (λ (t : SessionState). WritesLoose (g.H.World.outside c.args.host.now) (g.H.World.outside c.update_on-done.new.disk) t) c.self.view_is c.update_on-done.ensures.moved.changes
+
 pub returns-then-is_ok-2-clause-any_moment : goal.returns-then-is_ok-2-clause-any_moment
 returns-then-is_ok-2-clause-any_moment g c = moments_of (session.the_view c.self.inside) c.args.self.now c.self.view_is c.self.invariant (g.H.World.is_world c.args.host.now) c.update_on-done.ensures.moved.changes
 
 pub returns-clause-any_moment : goal.returns-clause-any_moment
 returns-clause-any_moment g c = moments_of (session.the_view c.self.inside) c.args.self.now c.self.view_is c.self.invariant (g.H.World.is_world c.args.host.now) c.update_on-done.ensures.moved.changes
+
+pub returns-clause-given_up : goal.returns-clause-given_up
+returns-clause-given_up g c = on_err c.match-done.result (refl, ap (λ (o : Overlays). o.working) c.give_up.ensures.none)
 
 pub returns-clause-sound : goal.returns-clause-sound
 returns-clause-sound g c =

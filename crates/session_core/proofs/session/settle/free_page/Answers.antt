@@ -7,8 +7,8 @@ use Rattle.page_alloc.specs.UnitSet.{used_at, refs_at, free_count, updated}
 use Rattle.tree_store.proofs.Taking.{updated_here, updated_other, updated_same}
 use Rattle.session_core.proofs.session.settle.free_page.Goals as goal
 
-pub returns-then-refs-eq0 : goal.returns-then-refs-eq0
-returns-then-refs-eq0 c =
+pub returns-then-refs-eq0-clause-units : goal.returns-then-refs-eq0-clause-units
+returns-then-refs-eq0-clause-units c =
     let page = c.args.page.0 in
     let old = c.args.units.now in
     let used = used_at old in
@@ -28,3 +28,6 @@ returns-then-refs-eq0 c =
           (let more = done.free Page c.requires in omega (arith, more))
           (let same = done.other_free Segment (λ leaf. absurd (omega (arith, leaf.2, c.requires.1))) in omega (arith, same));
     }
+
+pub returns-then-refs-eq0-clause-freed : goal.returns-then-refs-eq0-clause-freed
+returns-then-refs-eq0-clause-freed c unnamed = ap (λ (f : ℕ → Bool). f c.args.page.0) c.give.ensures.used ∙ updated_here (used_at c.args.units.now) c.args.page.0 false

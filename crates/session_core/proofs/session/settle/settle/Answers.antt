@@ -1,7 +1,7 @@
-use Rattle.std.proofs.Common.{◌≡◌, ◌∙◌, true, false, sym, subst, arith}
+use Rattle.std.proofs.Common.{◌≡◌, ◌∙◌, true, false, sym, ap, subst, arith}
 use Rattle.std.specs.Option.{option_copied}
 use Rattle.meta_pages.specs.Overlays.{IsWorkingRow}
-use Rattle.page_alloc.specs.UnitSet.{UnitSet}
+use Rattle.page_alloc.specs.UnitSet.{UnitSet, used_at}
 use Rattle.volume_model.specs.Shown.{WorkingRow}
 use Rattle.session_core.specs.Sessions.{OnlyGives, is_kept}
 use Rattle.session_core.proofs.Settling.{settled_next, copied_some, at_row}
@@ -22,5 +22,6 @@ loop-index-preserved c =
           (omega (arith, inside.0.1, done.kept_len, c.requires.flags)) (omega (arith, inside.0.1, done.held_len, c.requires.held)) (omega (arith, inside.0.1, done.taken_len, c.requires.taken))
           (w.is_some.ensures ∙ copied_some w.in-Some.image) done (w.kept-is ∙ w.settle_page.ensures.kept) (w.pages-is ∙ w.settle_page.ensures.pages)
           (subst (λ (u : UnitSet). OnlyGives (λ unit. (unit ≡ row.0) × (w.is_some.result ≡ false) × (is_kept c.loop-index.kept unit ≡ true) → ⊥) c.loop-index.units u) (sym w.units-is) w.settle_page.ensures.units)
+          (λ none left unnamed. ap (λ (u : UnitSet). used_at u row.0) w.units-is ∙ w.settle_page.ensures.freed none left unnamed)
       | in_default w ↦ absurd (omega (arith, w.in_default.ensures, c.loop-index-test.true, c.touched-index-end.ensures.value))
     ]

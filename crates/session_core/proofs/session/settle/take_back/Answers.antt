@@ -1,7 +1,7 @@
-use Rattle.std.proofs.Common.{◌≡◌, ◌∙◌, true, false, sym, subst, arith}
+use Rattle.std.proofs.Common.{◌≡◌, ◌∙◌, true, false, sym, ap, subst, arith}
 use Rattle.std.specs.Option.{option_copied}
 use Rattle.meta_pages.specs.Overlays.{IsWorkingRow}
-use Rattle.page_alloc.specs.UnitSet.{UnitSet}
+use Rattle.page_alloc.specs.UnitSet.{UnitSet, used_at}
 use Rattle.volume_model.specs.Shown.{WorkingRow}
 use Rattle.volume_port.specs.Logged.{is_taken}
 use Rattle.session_core.specs.Sessions.{OnlyGives}
@@ -23,5 +23,6 @@ loop-index-preserved c =
           (omega (arith, inside.0.1, done.held_len, c.requires.held)) (omega (arith, inside.0.1, done.taken_len, c.requires.taken)) (w.get.ensures false)
           done (w.pages-is ∙ w.take_back_page.ensures.pages)
           (subst (λ (u : UnitSet). OnlyGives (λ unit. (unit ≡ row.0) × (is_taken c.loop-index.pages unit ≡ true) → ⊥) c.loop-index.units u) (sym w.units-is) w.take_back_page.ensures.units)
+          (λ none took unnamed. ap (λ (u : UnitSet). used_at u row.0) w.units-is ∙ w.take_back_page.ensures.freed none took unnamed)
       | in_default w ↦ absurd (omega (arith, w.in_default.ensures, c.loop-index-test.true, c.touched-index-end.ensures.value))
     ]
