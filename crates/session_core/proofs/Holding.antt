@@ -16,7 +16,7 @@ use Rattle.table_model.specs.declared.table.Table.{Table}
 use Rattle.table_model.specs.Machines.{shown}
 use Rattle.table_model.specs.Tables.{IsTable}
 use Rattle.ex_base.specs.declared.names.Area.{Area}
-use Rattle.object_updates.specs.Updates.{BecomesVolume}
+use Rattle.session_core.specs.TableUpdates.{BecomesVolume}
 use Rattle.op_log.specs.declared.record.LogRecord.{LogRecord}
 use Rattle.session_views.specs.View.{View, ShowsNow}
 use Rattle.version_model.specs.Versions.{AreInUse}

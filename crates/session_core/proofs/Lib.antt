@@ -32,3 +32,9 @@ mod Updating
 pub mod Volumes
 pub mod Working
 mod Writing
+mod Tables
+mod MovedVolumes
+mod Changed
+mod Removed
+mod Making
+mod Remembered

@@ -7,9 +7,9 @@ use Rattle.ex_base.specs.declared.names.Oid.{Oid}
 use Rattle.ex_base.specs.Ports.{IsDamage}
 use Rattle.disk_model.specs.Outside.{Outside}
 use Rattle.meta_pages.specs.Overlays.{AreRows}
-use Rattle.object_updates.specs.declared.ObjectUpdate.{ObjectUpdate}
-use Rattle.object_updates.specs.Performed.{IsUpdate}
-use Rattle.object_updates.specs.Updates.{Asks, HasRoom, TableUpdate, Updates, updated}
+use Rattle.session_core.specs.declared.updates.ObjectUpdate.{ObjectUpdate}
+use Rattle.session_core.specs.Performed.{IsUpdate}
+use Rattle.session_core.specs.TableUpdates.{Asks, HasRoom, TableUpdate, Updates, updated}
 use Rattle.table_model.specs.declared.table.Table.{Table}
 use Rattle.table_model.specs.Machines.{shown}
 use Rattle.tree_store.specs.Stored.{Tells}

@@ -9,7 +9,7 @@ use Rattle.ex_base.specs.declared.names.Area.{Area}
 use Rattle.ex_base.specs.declared.names.Oid.{Oid}
 use Rattle.index_pages.specs.declared.Index.{Index}
 use Rattle.object_records.specs.Record.{Content, Small, Large, Record}
-use Rattle.object_updates.specs.Updates.{Asks, Changes, HasRoom, Makes, Removes, TableUpdate}
+use Rattle.session_core.specs.TableUpdates.{Asks, Changes, HasRoom, Makes, Removes, TableUpdate}
 use Rattle.session_views.specs.View.{View}
 use Rattle.slotted_pages.specs.Edits.{slots_of}
 use Rattle.slotted_pages.specs.FilePage.{room_of}

@@ -5,6 +5,9 @@ pub mod Steps
 pub mod Finding
 pub mod Counts
 pub mod Needs
+pub mod TableUpdates
+pub mod Performed
+pub mod Rooms
 pub mod Updates
 pub mod Commits
 pub mod Summaries

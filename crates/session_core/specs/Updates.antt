@@ -20,9 +20,9 @@ use Rattle.table_model.specs.declared.table.Table.{Table}
 use Rattle.table_model.specs.Machines.{IsMachine}
 use Rattle.table_model.specs.Machines.{shown}
 use Rattle.session_views.specs.View.{View, ShowsNow}
-use Rattle.object_updates.specs.declared.ObjectUpdate.{ObjectUpdate}
-use Rattle.object_updates.specs.Performed.{IsUpdate}
-use Rattle.object_updates.specs.Updates.{TableUpdate, Makes, Changes, Removes, Asks}
+use Rattle.session_core.specs.declared.updates.ObjectUpdate.{ObjectUpdate}
+use Rattle.session_core.specs.Performed.{IsUpdate}
+use Rattle.session_core.specs.TableUpdates.{TableUpdate, Makes, Changes, Removes, Asks}
 use Rattle.versions.specs.declared.finding.Found.{Found}
 use Rattle.volume_model.specs.Shown.{Shared, Shows, used_in}
 use Rattle.session_core.specs.Needs.{fits_beside, size_after, units_need}

@@ -2,5 +2,7 @@
 #![tactic(auto)]
 
 mod session;
+mod updates;
 
 pub use session::{Limit, Named, Parts, Session, Summary, view_of};
+pub use updates::ObjectUpdate;

@@ -11,13 +11,13 @@ mod settle;
 mod shapes;
 mod summary;
 
+use crate::updates::Rooms;
 use bound_names::NameMap;
 use buffer_groups::Groups;
 pub use catalog::view_of;
 use ex_base::{Geometry, OpNote};
 use meta_pages::Meta;
 pub use moving::Limit;
-use object_updates::Rooms;
 pub use objects::Named;
 use op_log::OpLog;
 use page_alloc::{Filled, Units};

@@ -15,8 +15,8 @@ use Rattle.disk_model.specs.Outside.{Outside, IsWorld}
 use Rattle.object_files.specs.Catalog.{Catalog, FileEntry}
 use Rattle.object_files.specs.Edits.{has_name}
 use Rattle.object_files.specs.Reads.{catalog_on}
-use Rattle.object_updates.specs.declared.ObjectUpdate.TheVariants as update
-use Rattle.object_updates.specs.Updates.{AsksFile, Makes, updated}
+use Rattle.session_core.specs.declared.updates.ObjectUpdate.TheVariants as update
+use Rattle.session_core.specs.TableUpdates.{AsksFile, Makes, updated}
 use Rattle.bound_names.specs.Bindings.{is_bound}
 use Rattle.table_model.specs.declared.machine.BoundName.{BoundName}
 use Rattle.table_model.specs.declared.machine.GroupRow.{GroupRow}

@@ -26,8 +26,8 @@ use Rattle.table_model.specs.Tables.{has_oid, object_at, version_at, without_obj
 use Rattle.session_views.specs.declared.engine.Stop.{Stop}
 use Rattle.session_views.specs.View.{View, ShowsNow, Stepped}
 use Rattle.versions.specs.declared.finding.Found.{Found}
-use Rattle.object_updates.specs.declared.ObjectUpdate.TheVariants as update
-use Rattle.object_updates.specs.Updates.{AsksVersion, Removes, updated}
+use Rattle.session_core.specs.declared.updates.ObjectUpdate.TheVariants as update
+use Rattle.session_core.specs.TableUpdates.{AsksVersion, Removes, updated}
 use Rattle.volume_edits.proofs.Emptied.{find_alone}
 use Rattle.volume_edits.proofs.Finding.{objects_are, versions_are}
 use Rattle.volume_edits.proofs.Lists.{Paired}

@@ -14,7 +14,7 @@ use session_core::{Session, view_of};
 use session_views::Stop;
 use std::alloc::Global;
 use table_model::{Refusal, Reply, Subject};
-use version_digests::room_for;
+use versions::room_for;
 
 /// The leaves whose lengths are told.
 const LEAVES_TOLD: usize = 16;

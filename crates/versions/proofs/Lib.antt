@@ -9,3 +9,4 @@ pub mod Becoming
 pub mod RowsListed
 pub mod Listed
 pub mod Faults
+pub mod Fed

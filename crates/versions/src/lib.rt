@@ -7,6 +7,7 @@
 
 mod creating;
 mod destroying;
+mod digesting;
 mod editing;
 mod finding;
 mod growing;
@@ -15,6 +16,7 @@ mod recorded;
 
 pub use creating::create;
 pub use destroying::destroy;
+pub use digesting::{digest_at, room_for};
 pub use editing::{Edit, apply};
 pub use finding::{Found, find, read_at};
 pub use growing::large_need;

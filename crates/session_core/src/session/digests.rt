@@ -16,7 +16,7 @@ use ex_base::{Geometry, Oid, PortFault, ReadVolume};
 use meta_pages::Meta;
 use session_views::Stop;
 use std::alloc::Global;
-use version_digests::digest_at;
+use versions::digest_at;
 use volume_port::{LoggedPages, ReadingPort};
 
 // The digest of a version of a volume.

@@ -6,8 +6,8 @@ use Rattle.ex_base.specs.declared.names.Oid.{Oid}
 use Rattle.ex_base.specs.declared.names.Area.TheVariants.{Page}
 use Rattle.ex_base.specs.declared.names.OpNote.{OpNote}
 use Rattle.meta_pages.specs.Overlays.{AreRows, Overlays}
-use Rattle.object_updates.specs.Performed.{CanPerform, NamesOid}
-use Rattle.object_updates.specs.Updates.{updated}
+use Rattle.session_core.specs.Performed.{CanPerform, NamesOid}
+use Rattle.session_core.specs.TableUpdates.{updated}
 use Rattle.table_model.specs.Machines.{shown, updates_most}
 use Rattle.session_core.specs.contracts.session.Session as session
 use Rattle.session_core.specs.Sessions.{SessionState, IsSession}

@@ -1,6 +1,6 @@
 use Rattle.std.proofs.Common.{◌≡◌, ◌∙◌, ℕ, refl, rules, subst, sym}
 use Rattle.ex_base.specs.declared.names.Area.TheVariants.{Page}
-use Rattle.object_updates.specs.Performed.{CanPerform}
+use Rattle.session_core.specs.Performed.{CanPerform}
 use Rattle.page_alloc.specs.UnitSet.{UnitSet, free_count, used_at}
 use Rattle.tree_store.specs.Stored.{Fits}
 use Rattle.session_core.proofs.Moving.{moved_at, parts, parts_moved, parts_same, ready_at, ready_of}

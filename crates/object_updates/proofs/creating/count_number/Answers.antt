@@ -1,4 +1,0 @@
-use Rattle.object_updates.proofs.creating.count_number.Goals as goal
-
-pub returns-in_default-clause-cause : goal.returns-in_default-clause-cause
-returns-in_default-clause-cause g c = c.no_catalog.ensures.cause _ _

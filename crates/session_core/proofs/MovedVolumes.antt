@@ -1,0 +1,135 @@
+-- A volume that a call on versions keeps, edits or moves is one that the port's working state becomes.
+use Rattle.std.proofs.Common.{◌≡◌, ℕ, Bool, true, List, [], ◌∷◌, Some, sym, ap, subst, ◌∙◌, inl, inr}
+use Rattle.std.specs.Prelude.{Contains, if◌then◌else◌, map, nat_lt, Result, Ok, Err, IfOk, IfErr}
+use Rattle.ex_base.specs.declared.ground.Ground as ground
+use Rattle.ex_base.specs.declared.geometry.Geometry.{Geometry}
+use Rattle.ex_base.specs.declared.faults.PortFault.{PortFault}
+use Rattle.ex_base.specs.declared.names.Oid.{Oid}
+use Rattle.ex_base.specs.Area.{InPageArea, area_end, catalog_no}
+use Rattle.ex_base.specs.Order.{AllDiffer}
+use Rattle.ex_base.specs.Ports.{IsDamage, Keeps}
+use Rattle.ex_base.proofs.Members.{In, contains_in, in_contains, in_left}
+use Rattle.op_log.specs.declared.record.LogRecord.{LogRecord}
+use Rattle.trees.specs.Trees.{Units}
+use Rattle.table_model.specs.declared.table.Table.{Table}
+use Rattle.table_model.specs.declared.table.Version.{Version}
+use Rattle.table_model.specs.Tables.{has_oid, version_at, versions_of, with_bytes}
+use Rattle.version_model.specs.Versions.{AreInUse}
+use Rattle.volume_edits.specs.Edits.{ChangesVolume, MovesVolume, trees_of}
+use Rattle.volume_edits.specs.Ported.{IsApart, IsVolume, units_in}
+use Rattle.volume_edits.proofs.Contents.{pairs}
+use Rattle.volume_edits.proofs.Finding.{find_in, from_map, into_map, oid_same, versions_are}
+use Rattle.volume_edits.proofs.Staying.{kept_reach, stays_whole}
+use Rattle.volume_model.specs.Volume.{Stored, Volume, file_pages, reach_of, stored_in, table_of, unique_of, version_of}
+use Rattle.session_core.specs.TableUpdates.{BecomesVolume, TableUpdate, Updates, updated}
+use Rattle.session_core.proofs.Tables.{bytes_agree}
+
+-- ---- versions under one OID
+
+-- of items whose numbers differ, two with the same number are one
+only_one : {A : Type 0} (key : A → ℕ) (x y : A) (xs : List A) → AllDiffer (map key xs) → In x xs → In y xs → key x ≡ key y → x ≡ y
+only_one key x y [] differ a b same = absurd a
+only_one key x y (z ∷ xs) differ (inl a) (inl b) same = a ∙ sym b
+only_one key x y (z ∷ xs) differ (inl a) (inr b) same = absurd (differ.0 (contains_in (key z) (map key xs) (subst (λ (n : ℕ). In n (map key xs)) (sym same ∙ ap key a) (into_map key y xs b))))
+only_one key x y (z ∷ xs) differ (inr a) (inl b) same = absurd (differ.0 (contains_in (key z) (map key xs) (subst (λ (n : ℕ). In n (map key xs)) (same ∙ ap key b) (into_map key x xs a))))
+only_one key x y (z ∷ xs) differ (inr a) (inr b) same = only_one key x y xs differ.1 a b same
+
+module _ {S : Type 0} (g : ground.Ghosts S) (old : S) (records : List LogRecord) (v : Volume) (vol : IsVolume g old records v) where
+  abbrev U : Units
+  U = units_in g old
+
+  -- each logged page is one of the volume's
+  pub in_use : AreInUse g old
+  in_use page held = vol.used page (contains_in page (reach_of U v) (in_left page (catalog_no ∷ file_pages v) (trees_of U v) (in_contains page (catalog_no ∷ file_pages v) ((vol.shows.held page).0 held))))
+
+  -- the record of a version of the table under an OID
+  record_of : (oid : Oid) (w : Version) → In w (versions_of (table_of U v)) → has_oid oid w ≡ true → (x : Stored) × In x (stored_in v) × (unique_of x ≡ oid.unique) × (w ≡ version_of U x)
+  record_of oid w inside has =
+      let own = from_map (version_of U) w (stored_in v) (subst (λ (t : List Version). In w t) (versions_are U v (pairs g old records v vol.shows)) inside) in
+      (own.0, own.1, ap (λ (o : Version). o.oid.unique) (sym own.2) ∙ ap (λ (o : Oid). o.unique) (oid_same w.oid oid has), own.2)
+
+  -- no other version of the table has its OID
+  pub one_version : (oid : Oid) (version w : Version) → version_at (table_of U v) oid ≡ Some version → In w (versions_of (table_of U v)) → has_oid oid w ≡ true → w ≡ version
+  one_version oid version w is inside has =
+      let found = find_in (has_oid oid) (versions_of (table_of U v)) version is in
+      let mine = record_of oid version found.0 found.1 in
+      let its = record_of oid w inside has in
+      let same = only_one unique_of its.0 mine.0 (stored_in v) vol.shows.parts.1.1.1.1.1.1.0.differ its.1 mine.1 (its.2 ∙ sym mine.2) in
+      its.3 ∙ ap (version_of U) same ∙ sym mine.3
+
+  -- ---- what the working state becomes
+
+  module _ (new : S) where
+    abbrev units_at : Geometry → (ℕ → List ℕ) → (ℕ → List ℕ) → Units
+    units_at geometry image unit u = if nat_lt u (area_end geometry) then image u else unit u
+
+    kept_units : Keeps g old new → units_in g new ≡ U
+    kept_units keeps =
+        ap (λ (y : Geometry). units_at y (g.image new) (g.unit new)) (g.leads_geometry old new keeps.leads)
+        ∙ ap (λ (image : ℕ → List ℕ). units_at (g.geometry old) image (g.unit new)) keeps.images
+        ∙ ap (λ (unit : ℕ → List ℕ). units_at (g.geometry old) (g.image old) unit) keeps.units
+
+    kept_here : Keeps g old new → IsVolume g new records v
+    kept_here keeps = stays_whole g old new records v vol.shows (kept_reach g old new v keeps vol.shows.apart) (λ u c. ap (λ (f : ℕ → Bool). f u) keeps.used ∙ vol.used u c)
+
+    pub kept_volume : Keeps g old new → BecomesVolume g old new records v (table_of U v)
+    kept_volume keeps = record {
+      now = v;
+      volume = kept_here keeps;
+      shows = ap (λ (units : Units). table_of units v) (kept_units keeps);
+      pages = λ page c. inl c;
+      units = λ u c. inl (subst (λ (units : Units). Contains (trees_of units v) u) (kept_units keeps) c);
+    }
+
+    -- the version's bytes are changed, whatever they were before
+    pub changed_volume : (oid : Oid) (version : Version) (change : List ℕ → List ℕ) (before after : List ℕ) → version_at (table_of U v) oid ≡ Some version → ChangesVolume g old new records v oid (change version.bytes) before after
+        → BecomesVolume g old new records v (with_bytes oid change (table_of U v))
+    changed_volume oid version change before after is changes = record {
+      now = changes.now;
+      volume = changes.volume;
+      shows = changes.table ∙ bytes_agree oid (λ (was : List ℕ). change version.bytes) change (table_of U v) (λ w inside has. ap (λ (x : Version). change x.bytes) (sym (one_version oid version w is inside has)));
+      pages = λ page c. inl (subst (λ (pages : List ℕ). Contains pages page) changes.pages c);
+      units = changes.units;
+    }
+
+    pub moved_volume : (given_up : List ℕ) (table : Table) → MovesVolume g old new records v given_up table → BecomesVolume g old new records v table
+    moved_volume given_up table moves = record {
+      now = moves.now;
+      volume = moves.volume;
+      shows = moves.shows;
+      pages = moves.pages;
+      units = λ u there. inl (moves.units u there);
+    }
+
+-- ---- what is read after an update
+
+module _ {S : Type 0} (g : ground.Ghosts S) (old mid new : S) (keeps : Keeps g mid new) where
+  still_becomes : (records : List LogRecord) (v : Volume) (table : Table) → BecomesVolume g old mid records v table → BecomesVolume g old new records v table
+  still_becomes records v table becomes =
+      let units = kept_units g mid records becomes.now becomes.volume new keeps in
+      record {
+        now = becomes.now;
+        volume = kept_here g mid records becomes.now becomes.volume new keeps;
+        shows = ap (λ (us : Units). table_of us becomes.now) units ∙ becomes.shows;
+        pages = becomes.pages;
+        units = λ u c. becomes.units u (subst (λ (us : Units). Contains (trees_of us becomes.now) u) units c);
+      }
+
+  apart_before : IsApart g new → IsApart g mid
+  apart_before apart = λ page area held.
+      let later = subst (λ (geometry : Geometry). InPageArea geometry page) (sym (g.leads_geometry mid new keeps.leads)) area in
+      ap (λ (f : ℕ → List ℕ). f page) (sym keeps.images) ∙ apart page later (ap (λ (f : ℕ → Bool). f page) keeps.held ∙ held) ∙ ap (λ (f : ℕ → List ℕ). f page) keeps.units
+
+  used_before : AreInUse g new → AreInUse g mid
+  used_before used = λ page held. ap (λ (f : ℕ → Bool). f page) (sym keeps.used) ∙ used page (ap (λ (f : ℕ → Bool). f page) keeps.held ∙ held)
+
+  -- a call that only reads, and answers the OID of the update before it, leaves what the update did
+  pub still_updated : (u : TableUpdate) (oid : Oid) (result : Result Oid PortFault) → Updates g old mid u (Ok oid) → IfOk result (λ read. read ≡ oid) → IfErr result (λ fault. IsDamage fault → ⊥)
+      → Updates g old new u result
+  still_updated u oid (Ok read) does same never = record {
+    done = λ records v tells vol asks apart used.
+        subst (λ (o : Oid). BecomesVolume g old new records v (updated u o (table_of (units_in g old) v))) (sym same)
+        (still_becomes records v _ (does.done records v tells vol asks (apart_before apart) (used_before used)));
+    sound = tt;
+  }
+  still_updated u oid (Err fault) does same never = record { done = tt; sound = λ damage records v tells vol asks room. never damage }

@@ -1,0 +1,18 @@
+use Rattle.versions.specs.Edited.{change_of}
+use Rattle.session_core.specs.TableUpdates.{Changes}
+use Rattle.session_core.proofs.Changed.{change_failed, version_changed}
+use Rattle.session_core.proofs.MovedVolumes.{still_updated}
+use Rattle.session_core.proofs.Remembered.{one_lowered}
+use Rattle.session_core.proofs.updates.changing.change.Goals as goal
+
+pub returns-in-Ok-clause-updates : goal.returns-in-Ok-clause-updates
+returns-in-Ok-clause-updates g c =
+    let change = change_of c.args.edit.now in
+    still_updated g.V.Ground c.args.volume.now c.apply.new.volume c.look_at.new.volume c.look_at.ensures.kept (Changes c.args.oid.now change) c.args.oid.now c.look_at.result
+    (version_changed g.V.Ground c.args.volume.now c.apply.new.volume c.args.oid.now change c.apply.ensures.leads c.in-Ok.ensures.nothing c.in-Ok.ensures.edited) c.look_at.ensures.same c.look_at.ensures.no_damage
+
+pub returns-in-Err-clause-updates : goal.returns-in-Err-clause-updates
+returns-in-Err-clause-updates g c = change_failed g.V.Ground c.args.volume.now c.apply.new.volume c.args.oid.now (change_of c.args.edit.now) c.in-Err.fault c.in-Err.ensures.sound
+
+pub returns-in-Ok-clause-rooms : goal.returns-in-Ok-clause-rooms
+returns-in-Ok-clause-rooms g c = one_lowered c.args.rooms.now c.look_at.new.self c.args.oid.now.page.0 c.look_at.ensures.rooms

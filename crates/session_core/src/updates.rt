@@ -1,0 +1,60 @@
+//! Objects are made, changed and removed in a volume, over any port: what is done to the volume's pages is the same as what is done to its table.
+ghost use Rattle.std.specs.Prelude.{◌≡◌, ℕ, List, IfOk};
+ghost use Rattle.ex_base.specs.Ports.{HasCause};
+ghost use Rattle.ex_base.specs.declared.names.Area.TheVariants.{Page};
+ghost use Rattle.session_core.specs.TableUpdates.{TableUpdate, Updates};
+ghost use Rattle.session_core.specs.Performed.{CanPerform, IsUpdate, NamesOid};
+ghost use Rattle.session_core.specs.Rooms.{ChangesOne};
+
+mod changing;
+mod creating;
+mod removing;
+mod rooms;
+
+use changing::change;
+use creating::create;
+use ex_base::{Oid, PortFault, Volume};
+use removing::remove;
+pub use rooms::Rooms;
+use std::alloc::Global;
+use versions::Edit;
+
+/// An update of objects.
+#[derive(Clone, Copy, Debug)]
+pub enum ObjectUpdate<'a> {
+    /// Makes an object without bytes in the file of this number, under this unique number, which is the next of the catalog.
+    Create { file_no: u32, unique: u64 },
+    /// Changes the bytes of a version.
+    Change { oid: Oid, edit: Edit<'a> },
+    /// Removes the object of a version that is its only one.
+    Remove { oid: Oid },
+}
+
+/// Performs an update, and answers the OID of the version that it made, changed or removed. After a fault the working state is not to be used again.
+///
+/// `rooms` is what the caller remembers of the working state's files, and afterwards what it may remember of the state after the update. A new object is
+/// looked a place for from there on, so that the full pages below aren't read again. What is done to the table doesn't depend on it.
+///
+/// # Errors
+/// `Disk` where the port met a fault of the disk; `Damaged` where a page is not what names it, or where a change has no room; `Memory` for want of memory.
+pub fn perform<V: Volume>(
+    volume: &mut V,
+    alloc: Global,
+    rooms: &mut Rooms,
+    update: &ObjectUpdate<'_>,
+) -> Result<Oid, PortFault>
+    requires ready { V.ready volume.old }
+    requires can { CanPerform update.now (V.free volume.old Page) }
+    ensures named { IfOk result (NamesOid update.now) }
+    ensures updates { (u : TableUpdate) → IsUpdate update.now u
+        → Updates V.Ground volume.old volume.new u result }
+    ensures rooms { ChangesOne rooms.old rooms.new }
+    ensures leads { V.leads volume.old volume.new }
+    ensures cause { HasCause (V.faults volume.old) (V.faults volume.new) result }
+{
+    match update {
+        ObjectUpdate::Create { file_no, unique } => create(volume, alloc, rooms, *file_no, *unique),
+        ObjectUpdate::Change { oid, edit } => change(volume, alloc, rooms, oid, edit),
+        ObjectUpdate::Remove { oid } => remove(volume, alloc, rooms, oid),
+    }
+}

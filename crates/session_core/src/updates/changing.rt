@@ -1,0 +1,33 @@
+//! A version is changed.
+ghost use Rattle.std.specs.Prelude.{◌≡◌, IfOk};
+ghost use Rattle.ex_base.specs.Ports.{HasCause};
+ghost use Rattle.versions.specs.Edited.{change_of};
+ghost use Rattle.session_core.specs.Rooms.{ChangesOne};
+ghost use Rattle.session_core.specs.TableUpdates.{Changes, Updates};
+
+use super::rooms::Rooms;
+use ex_base::{Oid, PortFault, Volume};
+use std::alloc::Global;
+use versions::{Edit, apply};
+
+/// Changes the bytes of a version. Where its page has room again, the room of its file is lowered to it.
+pub fn change<V: Volume>(
+    volume: &mut V,
+    alloc: Global,
+    rooms: &mut Rooms,
+    oid: &Oid,
+    edit: &Edit<'_>,
+) -> Result<Oid, PortFault>
+    requires { V.ready volume.old }
+    ensures named { IfOk result (λ changed. changed ≡ oid.now) }
+    ensures updates { Updates V.Ground volume.old volume.new
+        (Changes oid.now (change_of edit.now)) result }
+    ensures rooms { ChangesOne rooms.old rooms.new }
+    ensures leads { V.leads volume.old volume.new }
+    ensures cause { HasCause (V.faults volume.old) (V.faults volume.new) result }
+{
+    match apply(volume, alloc, oid, edit) {
+        Ok(_) => rooms.look_at(volume, alloc, oid),
+        Err(fault) => Err(fault),
+    }
+}

@@ -1,0 +1,30 @@
+//! An object is removed.
+ghost use Rattle.std.specs.Prelude.{◌≡◌, IfOk};
+ghost use Rattle.ex_base.specs.Ports.{HasCause};
+ghost use Rattle.session_core.specs.Rooms.{ChangesOne};
+ghost use Rattle.session_core.specs.TableUpdates.{Removes, Updates};
+
+use super::rooms::Rooms;
+use ex_base::{Oid, PortFault, Volume};
+use std::alloc::Global;
+use versions::destroy;
+
+/// Removes the object of a version that is its only one, and lowers the room of its file to its page.
+pub fn remove<V: Volume>(
+    volume: &mut V,
+    alloc: Global,
+    rooms: &mut Rooms,
+    oid: &Oid,
+) -> Result<Oid, PortFault>
+    requires { V.ready volume.old }
+    ensures named { IfOk result (λ removed. removed ≡ oid.now) }
+    ensures updates { Updates V.Ground volume.old volume.new (Removes oid.now) result }
+    ensures rooms { ChangesOne rooms.old rooms.new }
+    ensures leads { V.leads volume.old volume.new }
+    ensures cause { HasCause (V.faults volume.old) (V.faults volume.new) result }
+{
+    match destroy(volume, alloc, oid) {
+        Ok(()) => rooms.look_at(volume, alloc, oid),
+        Err(fault) => Err(fault),
+    }
+}

@@ -1,9 +1,0 @@
-use Rattle.std.proofs.Common.{◌-◌}
-use Rattle.version_digests.proofs.Fed.{FedTo}
-use Rattle.version_digests.proofs.digesting.digest_at.Given as goal
-
-abbrev pub invariant-pieces : goal.invariant-pieces
-invariant-pieces g l = FedTo g.V.Ground l.initial.volume l.volume l.oid l.size l.at l.hasher
-
-abbrev pub decreases-pieces : goal.decreases-pieces
-decreases-pieces g l = l.size - l.at

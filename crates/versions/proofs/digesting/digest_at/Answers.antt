@@ -1,0 +1,30 @@
+use Rattle.std.proofs.Common.{◌≡◌, ◌≤◌, ◌+◌, ℕ, List, length, take, subst, arith}
+use Rattle.std.proofs.lemmas.List.{length-take}
+use Rattle.sha2.specs.Hashers.{Holds256}
+use Rattle.versions.proofs.Faults.{version_kept}
+use Rattle.versions.proofs.Standing.{kept_holds}
+use Rattle.versions.proofs.Fed.{FedTo, fed_more}
+use Rattle.versions.proofs.digesting.digest_at.Goals as goal
+
+pub returns-in-Err-clause-sound : goal.returns-in-Err-clause-sound
+returns-in-Err-clause-sound g c = λ damage told index content bytes has enough.
+    let kept = c.pieces.invariant.kept in
+    c.in-Err.ensures.sound damage (g.V.Ground.leads_told c.args.volume.now c.pieces.volume kept.leads told) index content bytes (kept_holds g.V.Ground c.args.volume.now c.pieces.volume index c.args.oid.now content bytes kept has)
+    (omega (arith, enough, c.pieces.invariant.inside, c.pieces-test.true, c.piece_len-len.ensures, length-take {A = ℕ}))
+
+pub returns-in-Err-clause-fault : goal.returns-in-Err-clause-fault
+returns-in-Err-clause-fault g c = λ told. version_kept g.V.Ground c.args.volume.now c.pieces.volume c.pieces.invariant.kept c.args.oid.now c.in-Err.fault c.in-Err.ensures.fault told
+
+pub pieces-preserved : goal.pieces-preserved
+pieces-preserved g c =
+    let long : length (take c.piece_len-len.result c.pieces.buffer) ≡ c.piece_len-len.result = omega (arith, c.piece_len-len.ensures, length-take {A = ℕ}) in
+    subst (λ (n : ℕ). FedTo g.V.Ground c.args.volume.now c.feed.new.volume c.args.oid.now c.args.size (c.pieces.at + n) c.feed.new.hasher) long
+    (fed_more g.V.Ground c.args.volume.now c.pieces.volume c.feed.new.volume c.args.oid.now c.args.size c.pieces.at (length (take c.piece_len-len.result c.pieces.buffer)) c.pieces.hasher c.feed.new.hasher c.pieces.invariant
+    (record { kept = c.feed.ensures.kept; fed = c.in-Ok.ensures.fed })
+    (omega (arith, c.pieces.invariant.inside, c.pieces-test.true, c.piece_len-len.ensures, length-take {A = ℕ})))
+
+pub returns-clause-hash : goal.returns-clause-hash
+returns-clause-hash g c = λ told index content bytes has.
+    let so_far = c.pieces.invariant.fed told index content bytes has in
+    let same : c.pieces.at ≡ c.args.size = omega (arith, c.pieces.invariant.inside, c.pieces-test.false) in
+    (subst (λ (n : ℕ). n ≤ length bytes) same so_far.0, c.finalize.ensures (take c.args.size bytes) (subst (λ (n : ℕ). Holds256 c.pieces.hasher (take n bytes)) same so_far.1))
