@@ -3,7 +3,7 @@
 
     tools/crates.py            prints all of it
     tools/crates.py --check    says what breaks a rule, and ends with status 1 where something does: the longest chain to exsm has at most
-                               twelve crates, a crate at most 100 functions and four must-fail edits, each crate stands in a band of
+                               eleven crates, a crate at most 100 functions and four must-fail edits, each crate stands in a band of
                                crates.txt behind all that it stands on, no crate is named that no file uses, the documents name each
                                ported crate among what is trusted, and they have the picture that --write would write
     tools/crates.py --write    writes the picture into docs/ARCHITECTURE.md and README.md, each between two lines of marks

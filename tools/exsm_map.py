@@ -245,7 +245,7 @@ def draw_log(drawing: Drawing, volume: Volume) -> None:
     drawing.rectangle(0, drawing.y, WIDTH, BAR, FREE)
     for record in volume.records:
         width = max(1.0, WIDTH * record.length / room - 1)
-        pages = ", ".join(map(str, record.images))
+        pages = ", ".join(str(entry.page) for entry in record.entries)
         title = f"commit {record.transaction}: {counted(record.notes, 'update')}, pages {pages}"
         drawing.rectangle(WIDTH * record.offset / room, drawing.y, width, BAR, LOG, title)
     drawing.y += BAR + GAP

@@ -21,15 +21,13 @@ from dataclasses import dataclass
 from typing import Callable, Iterator, NamedTuple, Optional
 
 from exsm_geometry import CATALOG, LOG_PAGES, Geometry
+from exsm_log import (CATALOG_ENTRY, CATALOG_HEAD, FILE_PAGE_HEAD, KIND_CATALOG, KIND_FILE_PAGE,
+                      SLOT, BadLog, LogRecord, leave, records_of)
 
 MAGIC = b"EXSMVOL1"
 FORMATS = (1, 2)
 PAGE_SIZES = (512, 1024, 2048, 4096, 8192)
 SUPERBLOCK = struct.Struct(">8s6I")
-CATALOG_HEAD = struct.Struct(">BxH4xQQ8x")
-ENTRY = struct.Struct(">B32sBxxII4x")
-FILE_PAGE_HEAD = struct.Struct(">BxH4xI4x")
-SLOT = struct.Struct(">HH")
 INDEX_HEAD = struct.Struct(">BBH4xI4x")
 INDEX_ENTRY = struct.Struct(">II")
 RECORD_HEAD = struct.Struct(">BBQIHIHH")
@@ -37,11 +35,8 @@ LARGE_BODY = struct.Struct(">QI")
 NODE_HEAD = struct.Struct(">BBH4x")
 # The pairs of a node, by the node's kind: a count of four bytes or of eight, and a page.
 PAIRS = {2: struct.Struct(">II"), 5: struct.Struct(">QI")}
-LOG_HEAD = struct.Struct(">BBIQHHH")
-NOTE_BYTES = 31
-PAGE_NUMBER = struct.Struct(">I")
 NAME = re.compile(rb"[a-z0-9_]{1,32}")
-KIND_CATALOG, KIND_FILE_PAGE, KIND_INDEX = 1, 3, 4
+KIND_INDEX = 4
 FORM_SMALL, FORM_LARGE = 1, 2
 BODY_LEAST = LARGE_BODY.size
 HEIGHT_MOST = 255
@@ -55,17 +50,6 @@ class BadVolume(Exception):
 
 class NoObject(Exception):
     """No object that can be read has the identifier."""
-
-
-class LogRecord(NamedTuple):
-    """A record of the log that counts: where it stands, and what it says."""
-
-    offset: int
-    length: int
-    transaction: int
-    notes: int
-    images: dict[int, bytes]
-    freed: list[int]
 
 
 class Entry(NamedTuple):
@@ -181,49 +165,25 @@ class Volume:
         log = self._read(self.geometry.page_size, LOG_PAGES * self.geometry.page_size)
         records: list[LogRecord] = []
         images: dict[int, bytes] = {}
-        offset = 0
-        while log[offset] == 1:
-            try:
-                record = self._log_record(log, offset)
-            except BadVolume as fault:
-                self.faults.append(str(fault))
-                break
-            records.append(record)
-            images.update(record.images)
-            for page in record.freed:
-                images.pop(page, None)
-            offset += record.length
+        try:
+            for record in records_of(log, self.geometry.page_size):
+                leave(record, images)
+                records.append(record)
+        except BadLog as fault:
+            self.faults.append(str(fault))
         return records, images
-
-    def _log_record(self, log: bytes, offset: int) -> LogRecord:
-        page_size = self.geometry.page_size
-        head = log[offset:offset + LOG_HEAD.size]
-        if len(head) < LOG_HEAD.size:
-            raise BadVolume(f"log: no room for a record at {offset}")
-        _, kind, length, transaction, notes, pages, freed = LOG_HEAD.unpack(head)
-        first = offset + LOG_HEAD.size + NOTE_BYTES * notes
-        behind = first + (PAGE_NUMBER.size + page_size) * pages
-        end = behind + PAGE_NUMBER.size * freed
-        if kind != 1 or length != end - offset or end >= len(log):
-            raise BadVolume(f"log: no record at {offset}")
-        images: dict[int, bytes] = {}
-        for at in range(first, behind, PAGE_NUMBER.size + page_size):
-            image = at + PAGE_NUMBER.size
-            images[PAGE_NUMBER.unpack_from(log, at)[0]] = log[image:image + page_size]
-        numbers = [number for number, in PAGE_NUMBER.iter_unpack(log[behind:end])]
-        return LogRecord(offset, length, transaction, notes, images, numbers)
 
     def _catalog(self) -> tuple[int, int, list[Entry]]:
         page = self.page(CATALOG)
         kind, count, next_unique, last_commit = CATALOG_HEAD.unpack_from(page)
-        if kind != KIND_CATALOG or CATALOG_HEAD.size + count * ENTRY.size > len(page):
+        if kind != KIND_CATALOG or CATALOG_HEAD.size + count * CATALOG_ENTRY.size > len(page):
             raise BadVolume(f"catalog: page {CATALOG} is of kind {kind} and has {count} files")
         files = []
         for place in range(count):
-            at = CATALOG_HEAD.size + place * ENTRY.size
-            length, name, level, root, number = ENTRY.unpack_from(page, at)
+            at = CATALOG_HEAD.size + place * CATALOG_ENTRY.size
+            length, name, level, root, number = CATALOG_ENTRY.unpack_from(page, at)
             files.append(Entry(self._name(place, name[:length], files), level, root, number))
-        self.uses[CATALOG] = Use("catalog", "", CATALOG_HEAD.size + count * ENTRY.size)
+        self.uses[CATALOG] = Use("catalog", "", CATALOG_HEAD.size + count * CATALOG_ENTRY.size)
         return next_unique, last_commit, files
 
     def _name(self, place: int, name: bytes, before: list[Entry]) -> str:

@@ -19,7 +19,7 @@ RULES, FORMATS, TUTORIAL, MANUAL = (
     TOP / "docs" / name for name in ("RULES.md", "FORMATS.md", "TUTORIAL.md", "exsm.1"))
 PROMPT = re.compile(r"^exsm\*?> ")
 EXAMPLE_PAGE = 512
-IMAGES_IN_LOG = {257 * EXAMPLE_PAGE: 660, 258 * EXAMPLE_PAGE: 1176}
+IMAGES_IN_LOG = {257 * EXAMPLE_PAGE: 661, 258 * EXAMPLE_PAGE: 1178}
 LINE_FORMS = {"X": "1.1.1", "POS": "0", "LEN": "0", "DATA": "hex:", "F": "f", "S": "s", "G": "g",
               "N": "1"}
 

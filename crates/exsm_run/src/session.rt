@@ -1,5 +1,5 @@
 //! The session of a run: one that is opened on the volume of a disk.
-ghost use Rattle.std.specs.Prelude.{◌≡◌, false};
+ghost use Rattle.std.specs.Prelude.{◌≡◌, ◌≤◌, false};
 
 use disk_model::Host;
 use restart::{OpenedParts, open_volume};
@@ -27,6 +27,7 @@ impl Model for VolumeSession {
 
 impl VolumeSession {
     ghost use Rattle.std.specs.Prelude.{◌≢◌, ◌⊎◌, Err, IfOk, OnOk, true};
+    ghost use Rattle.ex_base.specs.Sizes.{volume_bytes};
     ghost use Rattle.disk_model.specs.Outside.{ReadsOnly, Rose};
     ghost use Rattle.ex_base.specs.declared.faults.Seen.{Seen};
     ghost use Rattle.ex_base.specs.declared.names.PageNo.{PageNo};
@@ -38,6 +39,7 @@ impl VolumeSession {
 
     /// Sums up what the session shows. The disk is read at most.
     pub fn summary<H: Host>(&mut self, alloc: Global, host: &mut H) -> Result<Summary, Stop>
+        requires room { volume_bytes self.old.geometry ≤ (H.outside host.old).size }
         ensures only { ReadsOnly (H.outside host.old) (H.outside host.new) }
         ensures disk { result ≡ Err Stop.Disk
             → Rose (H.outside host.old).disk_faults (H.outside host.new).disk_faults }
@@ -66,11 +68,14 @@ impl VolumeSession {
 }
 
 impl Engine for VolumeSession {
+    ghost use Rattle.ex_base.specs.Sizes.{volume_bytes};
     ghost use Rattle.session_core.specs.Meant.{meant};
 
     ghost meaning = { meant };
 
     ghost up = { λ s. s.down ≡ false };
+
+    ghost fits = { λ s size. volume_bytes s.geometry ≤ size };
 
     fn step<H: Host>(
         &mut self,

@@ -21,8 +21,15 @@ length-file size p fits = simp (length-append, length-field_bytes, length-replic
 
 length-catalog : (old : List ℕ) (c : Catalog) → IsCatalog (length old) c → length (catalog_page (length old) c) ≡ length old
 length-catalog old c fits =
-    omega (arith, ap length (page_headed old c fits.entries), length-headed (length c.entries) c.next_unique c.last (flat_map entry_bytes c.entries ++ zeros (length old - (32 + 48 * length c.entries))),
-    length-append (flat_map entry_bytes c.entries) (zeros (length old - (32 + 48 * length c.entries))), length-spelled c.entries fits.entries, length-replicate {A = ℕ} (length old - (32 + 48 * length c.entries)) 0, fits.room)
+    omega (
+      arith,
+      ap length (page_headed old c fits.entries),
+      length-headed (length c.entries) c.next_unique c.last (flat_map entry_bytes c.entries ++ zeros (length old - (32 + 48 * length c.entries))),
+      length-append (flat_map entry_bytes c.entries) (zeros (length old - (32 + 48 * length c.entries))),
+      length-spelled c.entries fits.entries,
+      length-replicate {A = ℕ} (length old - (32 + 48 * length c.entries)) 0,
+      fits.room,
+    )
 
 -- what an entry that applies makes of a page of a size is one of it
 pub said_len : (size page : ℕ) (said : Said) (so_far : Option (List ℕ)) (after : List ℕ) → IsSaid size said → IfSome so_far (λ old. length old ≡ size) → Applies page said so_far → said_after said so_far ≡ Some after → length after ≡ size

@@ -11,12 +11,9 @@ use Rattle.op_log.proofs.Reading.{each-push}
 use Rattle.meta_pages.specs.Overlays.{Overlays}
 use Rattle.meta_pages.specs.Rows.{IsRising}
 use Rattle.page_alloc.specs.UnitSet.{UnitSet, used_at}
-use Rattle.disk_model.specs.Changes.{ChangesWithin}
-use Rattle.volume_port.specs.Ported.{IsLoose}
 use Rattle.commits.specs.Room.{IsLogged}
 use Rattle.volume_port.specs.Logged.{LoggedSet, is_held}
 use Rattle.table_model.specs.Machines.{updates_most, touched_most}
-use Rattle.tree_store.specs.Stored.{InRest, NoUnit}
 use Rattle.session_core.specs.Sessions.{SessionState, ArePagesUsed, IsSession, IsTracked, HasWork, TakenBack}
 use Rattle.std.specs.Prelude.{Result, Ok, Err, IfOk, OnErr, is_ok}
 use Rattle.ex_base.specs.declared.faults.PortFault.{PortFault}

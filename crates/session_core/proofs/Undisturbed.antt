@@ -1,5 +1,5 @@
 -- What no crash may change, and the records of the log, are left alone where only loose units are written.
-use Rattle.std.proofs.Common.{◌≡◌, ◌∙◌, ℕ, List, Some, refl, sym, ap, subst}
+use Rattle.std.proofs.Common.{◌≡◌, ℕ, List, Some, refl, sym, subst}
 use Rattle.ex_base.specs.declared.geometry.Geometry.{Geometry}
 use Rattle.disk_model.specs.Outside.{Outside, ReadsOnly}
 use Rattle.disk_model.specs.Changes.{ChangesWithin, changes_nothing, changes_wider}
@@ -38,5 +38,5 @@ module _ {a b : Outside} {before : View SessionState} (now : ShowsNow meant a be
       let d = now.shows.decoded in
       let left = update_stays now session before.session writes (λ unit is. is) refl in
       let geometry = session_geometry now.shows in
-      let same : records ≡ d.records = one_list d.geometry (log_at d.geometry before.disk) records d.records (subst (λ (g : Geometry). SaysLog g records before.disk) geometry says) now.shows.parts.1.0 in
-      (left.0, (left.1.0, subst (λ (g : Geometry). SaysLog g records left.0) (sym geometry) (subst (λ (rs : List LogRecord). SaysLog d.geometry rs left.0) (sym same) left.1.1.committed.parts.1.0)))
+      let same : records ≡ d.records = one_list d.geometry (log_at d.geometry before.disk) records d.records (subst (λ (g : Geometry). SaysLog g records before.disk) geometry says) now.shows.parts.1.0.says in
+      (left.0, (left.1.0, subst (λ (g : Geometry). SaysLog g records left.0) (sym geometry) (subst (λ (rs : List LogRecord). SaysLog d.geometry rs left.0) (sym same) left.1.1.committed.parts.1.0.says)))

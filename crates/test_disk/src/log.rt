@@ -14,6 +14,9 @@ const ONE_FILE: [u8; 19] = [1, 0, 0, 2, 55, 0, 0, 0, 0, 0, 0, 0, 1, 0, 1, 0, 1, 
 // The same of a transaction that did nothing, the next one: 536 bytes, number 2, no note, one page and no freed page.
 const NOTHING: [u8; 19] = [1, 0, 0, 2, 24, 0, 0, 0, 0, 0, 0, 0, 2, 0, 0, 0, 1, 0, 0];
 
+// The same of the first transaction in a record of kind 2, whose entry has its form: 537 bytes.
+const WITH_FORMS: [u8; 19] = [2, 0, 0, 2, 25, 0, 0, 0, 0, 0, 0, 0, 1, 0, 0, 0, 1, 0, 0];
+
 /// The bytes of a note.
 const NOTE_LEN: usize = 31;
 
@@ -44,6 +47,15 @@ fn spelling(alloc: Global, head: &[u8], notes: &[u8]) -> Result<Vec<u8>, AllocEr
     let mut bytes = head.to_vec(alloc)?;
     bytes.extend_from_slice(notes)?;
     bytes.extend_from_slice(&[0, 0, 1, 1])?;
+    bytes.extend_from_slice(&[7; 512])?;
+    bytes.push(0)?;
+    Ok(bytes)
+}
+
+// A record of kind 2 with one entry, of a form, of page 257 full of sevens, and a closed gate.
+fn with_form(alloc: Global, form: u8) -> Result<Vec<u8>, AllocError> {
+    let mut bytes = WITH_FORMS.to_vec(alloc)?;
+    bytes.extend_from_slice(&[0, 0, 1, 1, form])?;
     bytes.extend_from_slice(&[7; 512])?;
     bytes.push(0)?;
     Ok(bytes)
@@ -111,6 +123,22 @@ fn a_transaction_that_does_nothing_has_a_record_of_536_bytes(rt: HostRuntime) ->
     add(alloc, &mut logged, &one_file(alloc)?)?;
     add(alloc, &mut logged, &spelling(alloc, &NOTHING, &[])?)?;
     assert_eq!(rt; found(alloc, &mut logged), Ok((2, 567 + 536)));
+    Ok(())
+}
+
+#[test]
+fn a_record_of_the_second_kind_has_a_form_before_its_image(rt: HostRuntime) -> Result<(), Fail> {
+    let alloc = rt.alloc();
+    let mut logged = empty_log(alloc)?;
+    let bytes = with_form(alloc, 1)?;
+    add(alloc, &mut logged, &bytes)?;
+    let read = front(&mut logged)?;
+    assert_eq!(rt; &read[1..538], bytes.as_slice());
+    assert_eq!(rt; found(alloc, &mut logged), Ok((1, 537)));
+    for form in [0, 2, 3, 4] {
+        let other = decode(alloc, &logged.geometry, &with_form(alloc, form)?)?;
+        assert!(rt; other.is_none());
+    }
     Ok(())
 }
 

@@ -2,11 +2,11 @@
 #![tactic(auto)]
 
 #[cfg(test)]
+mod by_hand;
+#[cfg(test)]
 mod checks;
 #[cfg(test)]
 mod reference;
-#[cfg(test)]
-mod runs;
 #[cfg(test)]
 mod scripts;
 #[cfg(test)]

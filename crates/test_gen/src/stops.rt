@@ -5,13 +5,7 @@ use std::alloc::{AllocError, Global};
 use std::process::Abort;
 use std::test::Fail;
 
-const CHOICES: [Choice; 5] = [
-    Choice::Before,
-    Choice::After,
-    Choice::Fill(0),
-    Choice::Fill(1),
-    Choice::Fill(7),
-];
+const CHOICES: [Choice; 3] = [Choice::Before, Choice::After, Choice::Fill(1)];
 
 /// Commits an object of two leaves, and then one byte more.
 const SCRIPT: &[u8] =

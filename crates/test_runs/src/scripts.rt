@@ -119,6 +119,21 @@ fn with_byte(alloc: Global, disk: &[u8], at: usize, byte: u8) -> Result<Vec<u8>,
     Ok(changed)
 }
 
+// A disk with bytes written over those from a place on.
+fn with_bytes(alloc: Global, disk: &[u8], at: usize, bytes: &[u8]) -> Result<Vec<u8>, AllocError> {
+    let mut changed = disk.to_vec(alloc)?;
+    for (place, byte) in changed.iter_mut().skip(at).zip(bytes) {
+        *place = *byte;
+    }
+    Ok(changed)
+}
+
+// An open gate and a record of kind 2: transaction 1, with one entry, of the catalog in form 3, that sets its numbers and changes no file.
+const CHANGES_ALONE: [u8; 45] = [
+    1, 2, 0, 0, 0, 45, 0, 0, 0, 0, 0, 0, 0, 1, 0, 0, 0, 1, 0, 0, 0, 0, 1, 1, 3, 0, 0, 0, 0, 0, 0,
+    0, 1, 0, 0, 0, 0, 0, 0, 0, 1, 0, 0, 0, 0,
+];
+
 #[test]
 fn scripts_are_answered_line_by_line(rt: HostRuntime) -> Result<(), Fail> {
     let alloc = rt.alloc();
@@ -212,6 +227,7 @@ fn a_run_ends_as_its_cause_says(rt: HostRuntime) -> Result<(), Fail> {
     let magic = with_byte(alloc, &volume, 0, b'e')?;
     let gate = with_byte(alloc, &volume, PAGE, 7)?;
     let record = with_byte(alloc, &volume, PAGE, 1)?;
+    let change = with_bytes(alloc, &volume, PAGE, &CHANGES_ALONE)?;
     let kind = with_byte(alloc, &volume, CATALOG, 9)?;
     let rows = [
         (&volume, Status::Done),
@@ -219,6 +235,7 @@ fn a_run_ends_as_its_cause_says(rt: HostRuntime) -> Result<(), Fail> {
         (&zeros, Status::BadVolume { part: Part::Super }),
         (&magic, Status::BadVolume { part: Part::Super }),
         (&record, Status::BadVolume { part: Part::Log }),
+        (&change, Status::BadVolume { part: Part::Log }),
         (
             &kind,
             Status::BadVolume {

@@ -1,5 +1,5 @@
 -- Accepted commands on files and counts, and an accepted abort. None writes.
-use Rattle.std.proofs.Common.{◌≡◌, ◌≢◌, ◌∙◌, ℕ, ◌+◌, ◌-◌, true, List, [], ◌∷◌, ◌++◌, length, map, Option, Some, None, nat_eq, Ok, ⊎_elim, refl, sym, ap, subst, inl, arith}
+use Rattle.std.proofs.Common.{◌≡◌, ◌≢◌, ◌∙◌, ℕ, true, List, [], ◌∷◌, ◌++◌, length, map, Option, Some, None, nat_eq, Ok, ⊎_elim, refl, sym, ap, subst, inl, arith}
 use Rattle.std.specs.Prelude.{IsTrue, Contains, find}
 use Rattle.std.specs.Map.{lookup}
 use Rattle.std.proofs.lemmas.List.{length-map}
@@ -210,7 +210,7 @@ unfile_steps {a} {b} {before} now new groups page image name same frames opened 
 pub abort_quietly : {a : Outside} (old new : SessionState) (pages : LoggedSet) (units : UnitSet) → IsSession old → old.opened ≡ true → TakenBack old.meta.working old.kept old.pages pages old.units units → aborted old pages units ≡ new
     → StepsQuietly a a old new request.Abort (Ok reply.Abort)
 abort_quietly {a} old new pages units is opened back same =
-    accepted_quietly old old new request.Abort reply.Abort (nothing_changed a old) (ap (λ (s : SessionState). s.log) (sym same)) (ap (λ (s : SessionState). s.down) (sym same)) (λ why told. absurd (cc))
+    accepted_quietly old old new request.Abort reply.Abort (nothing_changed a old) (ap (λ (s : SessionState). s.geometry) (sym same)) (ap (λ (s : SessionState). s.log) (sym same)) (ap (λ (s : SessionState). s.down) (sym same)) (λ why told. absurd (cc))
     (λ before from now.
     abort_steps now new pages units (ap (λ (s : SessionState). aborted s pages units) from ∙ same) (subst (λ (s : SessionState). LaterFrames a a s s.groups) (sym from) (later_of old old is (nothing_changed a old)))
     (subst IsSession (sym from) is) (ap (λ (s : SessionState). s.opened) from ∙ opened) (subst (λ (s : SessionState). TakenBack s.meta.working s.kept s.pages pages s.units units) (sym from) back))
@@ -222,7 +222,7 @@ pub file_quietly : {a b : Outside} (old mid new : SessionState) (page image name
     → file_refusal mid (catalog_on page) name ≡ None → CatalogOf image (edits.with_entries (catalog_on page) (edits.entry_inserted (edits.new_file name file_no) (catalog_on page).entries))
     → updated mid image note_kind.FileMade ≡ new → StepsQuietly a b old new (request.File name) (Ok (reply.File name))
 file_quietly {a} {b} old mid new page image name file_no is only opened reads form none catalog same =
-    accepted_quietly old mid new (request.File name) (reply.File name) only (ap (λ (s : SessionState). s.log) (sym same)) (ap (λ (s : SessionState). s.down) (sym same)) (λ why told. absurd (cc))
+    accepted_quietly old mid new (request.File name) (reply.File name) only (ap (λ (s : SessionState). s.geometry) (sym same)) (ap (λ (s : SessionState). s.log) (sym same)) (ap (λ (s : SessionState). s.down) (sym same)) (λ why told. absurd (cc))
     (λ before from now.
     let session = subst IsSession (sym from) is in
     let at = ap (λ (s : SessionState). updated s image note_kind.FileMade) (ap (λ (s : SessionState). record s { groups = mid.groups }) from ∙ sym only.same) ∙ same in
@@ -274,7 +274,7 @@ pub unfile_quietly : {a b : Outside} (old mid new : SessionState) (page image na
     → unfile_refusal mid (catalog_on page) name ≡ None → CatalogOf image (edits.with_entries (catalog_on page) (edits.without_name name (catalog_on page).entries))
     → updated mid image note_kind.FileRemoved ≡ new → StepsQuietly a b old new (request.Unfile name) (Ok (reply.Unfile name))
 unfile_quietly {a} {b} old mid new page image name is only opened reads form none catalog same =
-    accepted_quietly old mid new (request.Unfile name) (reply.Unfile name) only (ap (λ (s : SessionState). s.log) (sym same)) (ap (λ (s : SessionState). s.down) (sym same)) (λ why told. absurd (cc))
+    accepted_quietly old mid new (request.Unfile name) (reply.Unfile name) only (ap (λ (s : SessionState). s.geometry) (sym same)) (ap (λ (s : SessionState). s.log) (sym same)) (ap (λ (s : SessionState). s.down) (sym same)) (λ why told. absurd (cc))
     (λ before from now.
     let session = subst IsSession (sym from) is in
     let at = ap (λ (s : SessionState). updated s image note_kind.FileRemoved) (ap (λ (s : SessionState). record s { groups = mid.groups }) from ∙ sym only.same) ∙ same in
@@ -308,7 +308,7 @@ used_told {a} {before} now is =
 tells : {a b : Outside} (old new : SessionState) (r : Request) (told : Reply) → IsSession old → OnlyFrames a b old new → ((why : Refusal) → told ≡ reply.No why → ⊥)
     → ((before : View SessionState) → before.session ≡ old → ShowsNow meant a before → Step before.machine r (pick_of (held_view before) r (held_view (with_groups before new))) told before.machine) → StepsQuietly a b old new r (Ok told)
 tells {a} {b} old new r told is only accepts steps =
-    accepted_quietly old new new r told only refl refl accepts
+    accepted_quietly old new new r told only refl refl refl accepts
     (λ before from now. record { after = with_groups before new; is = refl; shows = same_view before from now only is.sizes; step = steps before from now })
 
 pub log_quietly : {a : Outside} (s : SessionState) → IsSession s → StepsQuietly a a s s request.Log (Ok (reply.Log s.log.count))

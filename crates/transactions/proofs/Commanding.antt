@@ -1,8 +1,7 @@
 -- One step on any command.
-use Rattle.std.proofs.Common.{◌≡◌, ◌≢◌, ◌⊎◌, true, true≢false, Result, Ok, Err, refl, sym, ap, subst, inl, inr, ◌∙◌}
+use Rattle.std.proofs.Common.{◌≡◌, ◌≢◌, ◌⊎◌, ℕ, List, Some, true, true≢false, Result, Ok, Err, refl, sym, ap, subst, inl, inr, ◌∙◌}
 use Rattle.std.specs.Prelude.{IfOk, IfErr}
 use Rattle.disk_model.specs.Outside.{Outside, IsWorld, Rose}
-use Rattle.disk_model.specs.Runs.{reads_refl}
 use Rattle.ex_base.specs.declared.faults.Seen.{Seen}
 use Rattle.ex_base.specs.declared.names.PageNo.{PageNo}
 use Rattle.session_views.specs.declared.engine.Stop.{Stop}
@@ -16,9 +15,15 @@ use Rattle.transactions.specs.Commands.{Answers, IsOfCatalog, asks_objects, chan
 use Rattle.session_core.specs.Finding.{IfShown, IsOutside, LineStops}
 use Rattle.transactions.specs.Lines.{ReadsLine, UpdatesLine}
 use Rattle.session_core.specs.Meant.{meant}
-use Rattle.session_core.specs.Steps.{IsRefused, OnlyFrames, Steps, Stops, StepsQuietly}
+use Rattle.session_core.specs.Steps.{IsQuiet, IsRefused, OnlyFrames, Steps, Stops, StepsQuietly}
+use Rattle.session_core.specs.Updates.{WritesLoose}
+use Rattle.disk_model.specs.Changes.{ChangesWithin}
+use Rattle.op_log.specs.Log.{SaysLog}
+use Rattle.op_log.specs.declared.record.LogRecord.{LogRecord}
+use Rattle.volume_model.specs.Durable.{IsDurable}
 use Rattle.session_core.proofs.Listing.{unread_outside, unread_stops}
-use Rattle.session_core.proofs.Quiet.{quietly, quiet_moments, quiet_stop}
+use Rattle.session_core.proofs.Quiet.{quietly, quiet_moments}
+use Rattle.session_core.proofs.Undisturbed.{durable_unwritten, records_unwritten, writes_nowhere}
 
 -- ---- any command
 
@@ -30,12 +35,14 @@ if_err P Q (Err why) f has = f why has
 answered : {a b : Outside} {old new : SessionState} (r : Request) (result : Result Reply Stop) → IsSession old → Steps a b old new r result → Answers a b old new r result
 answered {a} {b} {old} r result session steps = record {
   only = steps.only;
+  geometry = steps.geometry;
   down = steps.down;
   stops = if_err (Stops a b old) (LineStops a b) result (unread_stops a b old) steps.stops;
   sound = if_err (Stops a b old) (λ why. IfShown a old (λ before. IsOutside why)) result (λ why stops. unread_outside b why session stops) steps.stops;
   catalog = λ _. steps.stops;
   refused = steps.refused;
   quiet = λ quiet. (steps.quiet quiet).1;
+  writes = λ quiet. writes_nowhere old (steps.quiet quiet).0;
   reads = λ alone. (steps.quiet alone.0).0;
   stepped = steps.stepped;
   any_moment = steps.any_moment;
@@ -47,10 +54,6 @@ of_step {a} {b} {old} {new} r s result is session steps = subst (λ (t : Request
 pub of_quiet : {a b : Outside} {old new : SessionState} (r s : Request) (result : Result Reply Stop) → r ≡ s → IsWorld a → IsSession old → StepsQuietly a b old new s result → Answers a b old new r result
 of_quiet r s result is world session quiet = of_step r s result is session (quietly s result world quiet)
 
--- where nothing was called
-pub no_step : {a : Outside} (s : SessionState) (r : Request) → IsWorld a → IsSession s → Answers a a s s r (Err stop.Memory)
-no_step {a} s r world session = answered r (Err stop.Memory) session (quietly r (Err stop.Memory) world (quiet_stop r stop.Memory (reads_refl a) refl refl tt))
-
 -- of each view by itself
 each_view : (a b : Outside) (old new : SessionState) (r : Request) (result : Result Reply Stop) → IfOk result (λ told. IfShown a old (λ before. Stepped meant before r told new b)) → (before : View SessionState) → before.session ≡ old → ShowsNow meant a before
     → IfOk result (λ told. Stepped meant before r told new b)
@@ -61,12 +64,14 @@ each_view a b old new r (Err why) steps = λ before same now. tt
 pub of_read : {a b : Outside} {old new : SessionState} (r s : Request) (result : Result Reply Stop) → r ≡ s → asks_objects s ≡ true → IsWorld a → ReadsLine a b old new s result → Answers a b old new r result
 of_read {a} {b} {old} {new} r s result is asks world line = subst (λ (t : Request). Answers a b old new t result) (sym is) (record {
   only = line.only.reads.nothing.only;
+  geometry = ap (λ (t : SessionState). t.geometry) line.only.same;
   down = ap (λ (t : SessionState). t.down) line.only.same;
   stops = line.stops;
   sound = line.sound;
   catalog = λ none. absurd (true≢false (sym asks ∙ none));
   refused = any_of result line.only;
   quiet = λ _. ap (λ (t : SessionState). t.log) line.only.same;
+  writes = λ _. writes_nowhere old line.only.reads;
   reads = λ _. line.only.reads;
   stepped = each_view a b old new s result line.stepped;
   any_moment = λ before same now. quiet_moments s world line.only.reads before now;
@@ -80,12 +85,14 @@ of_read {a} {b} {old} {new} r s result is asks world line = subst (λ (t : Reque
 pub of_update : {a b : Outside} {old new : SessionState} (r s : Request) (result : Result Reply Stop) → r ≡ s → changes_objects s ≡ true → asks_objects s ≡ true → UpdatesLine a b old new s result → Answers a b old new r result
 of_update {a} {b} {old} {new} r s result is changes asks line = subst (λ (t : Request). Answers a b old new t result) (sym is) (record {
   only = line.only;
+  geometry = line.geometry;
   down = line.down;
   stops = line.stops;
   sound = line.sound;
   catalog = λ none. absurd (true≢false (sym asks ∙ none));
   refused = line.refused;
   quiet = λ _. line.log;
+  writes = λ _. line.writes;
   reads = λ alone. absurd (true≢false (sym changes ∙ alone.1));
   stepped = each_view a b old new s result line.stepped;
   any_moment = line.any_moment;
@@ -114,3 +121,15 @@ disk_or_memory (stop.Damaged page want got) is = absurd is
 pub is_sound : {a b : Outside} {old new : SessionState} (r : Request) (result : Result Reply Stop) → Answers a b old new r result → (before : View SessionState) (why : Stop) → before.session ≡ old → ShowsNow meant a before → result ≡ Err why
     → (why ≡ stop.Disk) ⊎ (why ≡ stop.Memory)
 is_sound {a} {b} {old} r result answers before why from now is = disk_or_memory why (subst (λ (o : Result Reply Stop). IfErr o (λ w. IfShown a old (λ before. IsOutside w))) is answers.sound before from now)
+
+-- of the disk no byte is written that a crash image rests on, and the log says the records that it said
+pub leaves_durable : {a b : Outside} {old new : SessionState} (r : Request) (result : Result Reply Stop) → IsSession old → Answers a b old new r result → IsQuiet r → (before : View SessionState) → before.session ≡ old
+    → (now : ShowsNow meant a before) → ChangesWithin (λ i. IsDurable now.shows.decoded before.disk i → ⊥) a b
+leaves_durable {a} {b} r result is answers quiet before from now =
+    durable_unwritten now (subst IsSession (sym from) is) (subst (λ (s : SessionState). WritesLoose a b s) (sym from) (answers.writes quiet))
+
+pub leaves_records : {a b : Outside} {old new : SessionState} (r : Request) (result : Result Reply Stop) → IsSession old → Answers a b old new r result → IsQuiet r → (before : View SessionState) → before.session ≡ old
+    → ShowsNow meant a before → (records : List LogRecord) → SaysLog old.geometry records before.disk → (later : List ℕ) × (b.disk ≡ Some later) × SaysLog old.geometry records later
+leaves_records {a} {b} {old} r result is answers quiet before from now records says =
+    let left = records_unwritten now (subst IsSession (sym from) is) (subst (λ (s : SessionState). WritesLoose a b s) (sym from) (answers.writes quiet)) records (subst (λ (s : SessionState). SaysLog s.geometry records before.disk) (sym from) says) in
+    (left.0, left.1.0, subst (λ (s : SessionState). SaysLog s.geometry records left.0) from left.1.1)

@@ -246,6 +246,8 @@ unbound_still {s = s} name read did untaken =
 pub bound_went : {b c : Outside} {mid s new : SessionState} (names : List BoundName) → new ≡ record s { names = names } → WentOn b c mid s → WentOn b c mid new
 bound_went names is went = record {
   only = went.only;
+  writes = went.writes;
+  geometry = ap (λ (t : SessionState). t.geometry) is ∙ went.geometry;
   log = ap (λ (t : SessionState). t.log) is ∙ went.log;
   down = ap (λ (t : SessionState). t.down) is ∙ went.down;
   moments = went.moments;

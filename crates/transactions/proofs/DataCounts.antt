@@ -1,5 +1,5 @@
 -- How many bytes a data word gives, from its parts.
-use Rattle.std.proofs.Common.{◌≡◌, ◌∙◌, ℕ, ◌*◌, ◌/◌, ◌%◌, List, [], ◌∷◌, length, Bool, true, false, ◌&&◌, refl, sym, ap, arith, true≢false}
+use Rattle.std.proofs.Common.{◌≡◌, ◌∙◌, ℕ, ◌*◌, ◌/◌, ◌%◌, List, [], ◌∷◌, length, true, false, refl, sym, ap, arith, true≢false}
 use Rattle.std.specs.Prelude.{◌==◌, codes, bytes_eq}
 use Rattle.std.specs.List.{slice_split, list_all, join_with_byte}
 use Rattle.std.proofs.lemmas.Bool.{eqb-true}

@@ -22,7 +22,6 @@ use Rattle.transactions.specs.Lines.{ReadsLine}
 use Rattle.session_core.specs.Sessions.{IsSession, SessionState}
 use Rattle.session_core.specs.Steps.{OnlyFrames, Stops}
 use Rattle.session_core.proofs.Accepted.{ReadsCatalog, shown_on}
-use Rattle.session_core.proofs.Finding.{files}
 use Rattle.transactions.proofs.Naming.{answers_so, line_stops, refuses_so}
 use Rattle.session_core.proofs.Naming.{frames_twice, later_stops}
 use Rattle.session_core.proofs.Quiet.{same_view, shown_lends, with_groups}

@@ -4,7 +4,6 @@ use Rattle.std.specs.Prelude.{is_none, find, nat_lt, nat_le, ◌/◌, ◌||◌, 
 use Rattle.std.specs.Option.{option_or}
 use Rattle.ex_base.specs.declared.geometry.Geometry.{Geometry}
 use Rattle.ex_base.specs.declared.names.Area.TheVariants.{Page, Segment}
-use Rattle.ex_base.specs.Sizes.{units}
 use Rattle.page_alloc.specs.UnitSet.{free_count, used_at}
 use Rattle.object_files.specs.Catalog.{Catalog, FileEntry}
 use Rattle.object_files.specs.Edits as entries

@@ -1,5 +1,5 @@
 -- How a line is answered that asks how a version lies.
-use Rattle.std.proofs.Common.{◌≡◌, ◌∙◌, ℕ, ◌+◌, ◌-◌, Bool, true, false, cond, List, [], ◌++◌, length, take, drop, min, Option, Some, None, Ok, Err, refl, sym, ap, subst, arith}
+use Rattle.std.proofs.Common.{◌≡◌, ◌∙◌, ℕ, ◌+◌, Bool, true, false, cond, List, [], ◌++◌, length, take, drop, min, Option, Some, None, Ok, Err, refl, sym, ap, subst, arith}
 use Rattle.std.specs.Prelude.{is_none, nat_le, ◌&&◌}
 use Rattle.std.proofs.lemmas.List.{length-take, take_at}
 use Rattle.ex_base.specs.declared.names.Oid.{Oid}

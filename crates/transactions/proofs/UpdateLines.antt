@@ -13,7 +13,6 @@ use Rattle.table_model.specs.Requests.{Request}
 use Rattle.table_model.specs.Steps.{IsAllowed, IfAccepted}
 use Rattle.table_model.proofs.Stepping.{refused}
 use Rattle.session_views.specs.declared.engine.Stop.{Stop}
-use Rattle.session_views.specs.declared.engine.Stop.TheVariants as stop
 use Rattle.session_views.specs.View.{View, ShowsNow, StandsDuring, Stepped}
 use Rattle.std.specs.Prelude.{is_some, true, false}
 use Rattle.volume_model.specs.Shown.{Held}
@@ -22,6 +21,9 @@ use Rattle.transactions.specs.Lines.{UpdatesLine}
 use Rattle.session_core.specs.Meant.{meant, pick_of, held_view}
 use Rattle.session_core.specs.Sessions.{SessionState, IsSession}
 use Rattle.session_core.specs.Steps.{OnlyFrames}
+use Rattle.session_core.specs.Updates.{WritesLoose}
+use Rattle.session_core.proofs.Undisturbed.{writes_nowhere}
+use Rattle.disk_model.specs.Changes.{changes_trans}
 use Rattle.session_core.proofs.Naming.{later_stops}
 use Rattle.session_core.proofs.Quiet.{nothing_changed, quiet_moments, same_view, with_groups}
 
@@ -31,6 +33,8 @@ module _ {a b : Outside} {old new : SessionState} (r : Request) (world : IsWorld
   pub line_refused : (why : Refusal) → IsSession old → IfShown a old (λ before. (after : View Held) → refusal_of before.machine r (pick_of (held_view before) r after) ≡ Some why) → UpdatesLine a b old new r (Ok (reply.No why))
   line_refused why is refuses = record {
     only = only.reads.nothing.only;
+    writes = writes_nowhere old only.reads;
+    geometry = ap (λ (s : SessionState). s.geometry) only.same;
     log = ap (λ (s : SessionState). s.log) only.same;
     down = ap (λ (s : SessionState). s.down) only.same;
     stops = tt;
@@ -51,6 +55,8 @@ module _ {a b : Outside} {old new : SessionState} (r : Request) (world : IsWorld
   pub line_stopped : (why : Stop) → LineStops a b why → IfShown a old (λ before. IsOutside why) → UpdatesLine a b old new r (Err why)
   line_stopped why stops sound = record {
     only = only.reads.nothing.only;
+    writes = writes_nowhere old only.reads;
+    geometry = ap (λ (s : SessionState). s.geometry) only.same;
     log = ap (λ (s : SessionState). s.log) only.same;
     down = ap (λ (s : SessionState). s.down) only.same;
     stops = stops;
@@ -67,15 +73,13 @@ line_closed {a} s r world is closed refuses =
     line_refused r world (nothing_changed a s) refusal.NoTxn is
     (λ before same now after. refuses before.machine (pick_of (held_view before) r after) (now.shows.shared.open_txn ∙ ap (λ (t : SessionState). t.opened) same ∙ closed))
 
--- there is no memory to begin with
-pub line_unbegun : {a : Outside} (s : SessionState) (r : Request) → IsWorld a → UpdatesLine a a s s r (Err stop.Memory)
-line_unbegun {a} s r world = line_stopped r world (nothing_changed a s) stop.Memory tt (λ before same now. tt)
-
 -- ---- a line that goes on to an update
 
 -- what an update leaves, however it ended
 pub record WentOn (b c : Outside) (mid new : SessionState) : Type 0 where
   pub only : DiskOnly b c
+  pub writes : WritesLoose b c mid
+  pub geometry : new.geometry ≡ mid.geometry
   pub log : new.log ≡ mid.log
   pub down : new.down ≡ mid.down
   pub moments : (before : View SessionState) → before.session ≡ mid → ShowsNow meant b before → (r : Request) → Leaves b c (StandsDuring meant before.machine r)
@@ -101,9 +105,14 @@ module _ {a b c : Outside} {old mid new : SessionState} (r : Request) (world : I
   moments : (before : View SessionState) → before.session ≡ old → ShowsNow meant a before → Leaves a c (StandsDuring meant before.machine r)
   moments before same now = leaves_trans (StandsDuring meant before.machine r) (quiet_moments r world read.reads before now) (went.moments (with_groups before mid) refl (same_view before same now read is.sizes) r)
 
+  writes : WritesLoose a c old
+  writes = changes_trans (writes_nowhere old read.reads) (subst (λ (s : SessionState). WritesLoose b c s) read.same went.writes)
+
   pub update_stopped : (why : Stop) → LineStops b c why → IfShown a old (λ before. ShowsNow meant b (with_groups before mid) → IsOutside why) → UpdatesLine a c old new r (Err why)
   update_stopped why stops sound = record {
     only = disk_trans read.reads.nothing.only went.only;
+    writes = writes;
+    geometry = went.geometry ∙ ap (λ (s : SessionState). s.geometry) read.same;
     log = went.log ∙ ap (λ (s : SessionState). s.log) read.same;
     down = went.down ∙ ap (λ (s : SessionState). s.down) read.same;
     stops = later_stops a b c why read.reads stops;
@@ -116,6 +125,8 @@ module _ {a b c : Outside} {old mid new : SessionState} (r : Request) (world : I
   pub update_done : (told : Reply) → ((why : Refusal) → told ≡ reply.No why → ⊥) → IfShown a old (λ before. ShowsNow meant b (with_groups before mid) → Stepped meant (with_groups before mid) r told new c) → UpdatesLine a c old new r (Ok told)
   update_done told accepts steps = record {
     only = disk_trans read.reads.nothing.only went.only;
+    writes = writes;
+    geometry = went.geometry ∙ ap (λ (s : SessionState). s.geometry) read.same;
     log = went.log ∙ ap (λ (s : SessionState). s.log) read.same;
     down = went.down ∙ ap (λ (s : SessionState). s.down) read.same;
     stops = tt;

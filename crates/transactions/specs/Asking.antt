@@ -1,7 +1,7 @@
 -- What a line asks of a version's bytes, before its data is decoded.
-use Rattle.std.specs.Prelude.{ℕ, List, []}
-use Rattle.table_model.specs.Words.{data_bytes}
-use Rattle.version_model.specs.Versions.{Change, Inserts, Appends, Replaces, Deletes}
+use Rattle.std.specs.Prelude.{◌≡◌, ◌≤◌, ℕ, List, []}
+use Rattle.table_model.specs.Words.{data_bytes, data_count, data_most}
+use Rattle.version_model.specs.Versions.{Change, Inserts, Appends, Replaces, Deletes, count_of}
 use Rattle.transactions.specs.declared.asked.Asked.{Asked}
 use Rattle.transactions.specs.declared.asked.Asked.TheVariants.{Insert, Append, Replace, Delete}
 
@@ -25,3 +25,8 @@ asked_word (Insert pos given count) = given.now
 asked_word (Append given count) = given.now
 asked_word (Replace pos given count) = given.now
 asked_word (Delete pos len) = []
+
+-- The count is that of the bytes that the change names, and its data word gives no more than a data word may.
+pub record CountsItsBytes (asked : Asked) : Type 0 where
+  pub counted : asked_count asked ≡ count_of (asked_change asked)
+  pub few : data_count (asked_word asked) ≤ data_most

@@ -10,6 +10,7 @@ use Rattle.session_core.specs.Finding.{IfShown, IsOutside, LineStops}
 use Rattle.session_core.specs.Meant.{meant}
 use Rattle.session_core.specs.Sessions.{SessionState}
 use Rattle.session_core.specs.Steps.{IsQuiet, IsRefused, OnlyFrames, Stops}
+use Rattle.session_core.specs.Updates.{WritesLoose}
 
 -- The command makes, changes or removes a version. What it writes of a tree goes to units that are not in use, at once.
 abbrev pub changes_objects : Request → Bool
@@ -45,12 +46,14 @@ ReadsAlone r = IsQuiet r × (changes_objects r ≡ false)
 -- A step on any command, from what stands outside before it to what stands there after it.
 pub record Answers (a b : Outside) (old new : SessionState) (r : Request) (result : Result Reply Stop) : Type 0 where
   pub only : DiskOnly a b
+  pub geometry : new.geometry ≡ old.geometry
   pub down : new.down ≡ old.down
   pub stops : IfErr result (LineStops a b)
   pub sound : IfErr result (λ why. IfShown a old (λ before. IsOutside why))
   pub catalog : IsOfCatalog r → IfErr result (Stops a b old)
   pub refused : IfOk result (λ told. IsRefused told → OnlyFrames a b old new)
   pub quiet : IsQuiet r → new.log ≡ old.log
+  pub writes : IsQuiet r → WritesLoose a b old
   pub reads : ReadsAlone r → ReadsOnly a b
   pub stepped : (before : View SessionState) → before.session ≡ old → ShowsNow meant a before → IfOk result (λ told. Stepped meant before r told new b)
   pub any_moment : (before : View SessionState) → before.session ≡ old → ShowsNow meant a before → Leaves a b (StandsDuring meant before.machine r)

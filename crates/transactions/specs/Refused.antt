@@ -1,5 +1,5 @@
 -- Why a command is refused, as a session tells it from its catalog and its counts.
-use Rattle.std.specs.Prelude.{ℕ, ◌+◌, ◌-◌, List, [], ◌∷◌, length, Bool, false, ◌||◌, nat_le, nat_lt, Option, Some, None, is_some, is_none, find}
+use Rattle.std.specs.Prelude.{ℕ, ◌+◌, List, [], ◌∷◌, length, Bool, false, ◌||◌, nat_le, nat_lt, Option, Some, None, is_some, is_none, find}
 use Rattle.ex_base.specs.declared.names.Area.TheVariants.{Page}
 use Rattle.ex_base.specs.Sizes.{files_most}
 use Rattle.object_files.specs.Catalog.{Catalog, FileEntry}

@@ -2,9 +2,7 @@
 ghost use Rattle.std.specs.Prelude.{◌≡◌, ◌≤◌, IsTrue, true};
 ghost use Rattle.ex_base.specs.Sizes.{volume_bytes};
 ghost use Rattle.table_model.specs.Requests.{Request, is_given, reference_of};
-ghost use Rattle.table_model.specs.Words.{data_count, data_most};
-ghost use Rattle.version_model.specs.Versions.{count_of};
-ghost use Rattle.transactions.specs.Asking.{asked_change, asked_count, asked_word};
+ghost use Rattle.transactions.specs.Asking.{CountsItsBytes, asked_change};
 ghost use Rattle.table_model.specs.Requests as request;
 ghost use Rattle.transactions.specs.Editing.{AsksFor};
 ghost use Rattle.transactions.specs.Lines.{UpdatesLine};
@@ -29,8 +27,7 @@ fn change<H: Host>(
 ) -> Result<Reply, Stop>
     requires room { volume_bytes session.old.geometry ≤ (H.outside host.old).size }
     requires is_open { session.old.opened ≡ true }
-    requires counted { asked_count asked.now ≡ count_of (asked_change asked.now) }
-    requires few { data_count (asked_word asked.now) ≤ data_most }
+    requires asked { CountsItsBytes asked.now }
     ensures { (r : Request) → AsksFor r (reference_of x.now) (asked_change asked.now)
         → UpdatesLine (H.outside host.old) (H.outside host.new) session.old session.new r result }
 {

@@ -1,15 +1,19 @@
 //! The step of a session on a command.
-ghost use Rattle.std.specs.Prelude.{◌≡◌, ◌≢◌, ◌≤◌, ◌⊎◌, Ok, Err, IsTrue, IfOk, OnOk, OnErr, true, false};
+ghost use Rattle.std.specs.Prelude.{◌≡◌, ◌≢◌, ◌≤◌, ◌⊎◌, ℕ, List, Some, Ok, Err, IsTrue, IfOk, OnOk, OnErr, true, false};
 ghost use Rattle.ex_base.specs.declared.faults.Seen.{Seen};
 ghost use Rattle.ex_base.specs.declared.names.PageNo.{PageNo};
 ghost use Rattle.ex_base.specs.Sizes.{volume_bytes};
+ghost use Rattle.disk_model.specs.Changes.{ChangesWithin};
 ghost use Rattle.disk_model.specs.Outside.{DiskOnly, Leaves, ReadsOnly, Rose};
+ghost use Rattle.op_log.specs.Log.{SaysLog};
+ghost use Rattle.op_log.specs.declared.record.LogRecord.{LogRecord};
+ghost use Rattle.volume_model.specs.Durable.{IsDurable};
 ghost use Rattle.table_model.specs.Built.{is_built};
 ghost use Rattle.table_model.specs.Requests.{request_of, is_request};
 ghost use Rattle.table_model.specs.Requests as request;
 ghost use Rattle.session_views.specs.declared.engine.Stop.{Stop};
 ghost use Rattle.session_views.specs.View.{View, ShowsNow, Stepped, StandsDuring};
-ghost use Rattle.session_core.specs.Sessions.{SessionState};
+ghost use Rattle.session_core.specs.Sessions.{FreesGivenBack, FreesTaken, IsSession, SessionState};
 ghost use Rattle.session_core.specs.Catalogs.{IsDamaged, catalog_bytes};
 ghost use Rattle.session_core.specs.Commits.{HasNotes};
 ghost use Rattle.session_core.specs.Meant.{meant};
@@ -35,6 +39,8 @@ fn answer<H: Host>(
     host: &mut H,
     command: &Command<'_>,
 ) -> Result<Reply, Stop>
+    requires session { IsSession session.old }
+    requires room { volume_bytes session.old.geometry ≤ (H.outside host.old).size }
     requires form { IsTrue (is_request (request_of command.now)) }
     requires built { IsTrue (is_built (request_of command.now)) }
     ensures answers { Answers (H.outside host.old) (H.outside host.new) session.old session.new
@@ -45,11 +51,16 @@ fn answer<H: Host>(
         → before.session ≡ session.old → ShowsNow meant (H.outside host.old) before
         → session.old.opened ≡ true
         → OnOk result (HasNotes (H.outside host.new) session.old.geometry session.old.notes) }
+    ensures takes_none { request_of command.now ≡ request.Checkpoint
+        → result ≡ Err Stop.Memory → ⊥ }
+    ensures unwritten { request_of command.now ≡ request.Commit → result ≡ Err Stop.Memory
+        → ReadsOnly (H.outside host.old) (H.outside host.new)
+        × (session.new.log ≡ session.old.log) }
+    ensures given_back { request_of command.now ≡ request.Commit → session.old.opened ≡ true
+        → OnOk result (FreesGivenBack session.old session.new) }
+    ensures taken_back { request_of command.now ≡ request.Abort → session.old.opened ≡ true
+        → OnOk result (FreesTaken session.old session.new) }
 {
-    // A disk that is smaller than the volume isn't the one that the session was opened on.
-    if host.size() < session.geometry().volume_bytes() {
-        return Err(Stop::Memory);
-    }
     match command {
         Command::Begin => session.begin(alloc, host),
         Command::Commit => session.commit(alloc, host),
@@ -94,7 +105,7 @@ fn answer_objects<H: Host>(
     }
 }
 
-/// Steps on a command, as the machine does that the session shows. A step that met a fault puts the session down, and then every step says so.
+/// Steps on a command, as the machine does that the session shows. The disk is as large as the session's volume. A step that met a fault puts the session down, and then every step says so.
 pub fn step<H: Host>(
     session: &mut Session,
     alloc: Global,
@@ -103,6 +114,8 @@ pub fn step<H: Host>(
 ) -> Result<Reply, Stop>
     requires form { IsTrue (is_request (request_of command.now)) }
     requires built { IsTrue (is_built (request_of command.now)) }
+    requires room { volume_bytes session.old.geometry ≤ (H.outside host.old).size }
+    ensures geometry { session.new.geometry ≡ session.old.geometry }
     ensures only { DiskOnly (H.outside host.old) (H.outside host.new) }
     ensures disk { result ≡ Err Stop.Disk
         → Rose (H.outside host.old).disk_faults (H.outside host.new).disk_faults }
@@ -134,6 +147,17 @@ pub fn step<H: Host>(
     ensures reads { ReadsAlone (request_of command.now)
         → ReadsOnly (H.outside host.old) (H.outside host.new) }
 
+    // Between two commits no byte is written that a crash image rests on, and the log says the records that it said.
+    ensures writes { IsQuiet (request_of command.now) → (before : View SessionState)
+        → before.session ≡ session.old → (now : ShowsNow meant (H.outside host.old) before)
+        → ChangesWithin (λ i. IsDurable now.shows.decoded before.disk i → ⊥)
+        (H.outside host.old) (H.outside host.new) }
+    ensures records { IsQuiet (request_of command.now) → (before : View SessionState)
+        → before.session ≡ session.old → ShowsNow meant (H.outside host.old) before
+        → (records : List LogRecord) → SaysLog session.old.geometry records before.disk
+        → (later : List ℕ) × ((H.outside host.new).disk ≡ Some later)
+        × SaysLog session.old.geometry records later }
+
     // After an accepted checkpoint no record counts.
     ensures none_counts { request_of command.now ≡ request.Checkpoint
         → result ≡ Ok Reply.Checkpoint → session.new.log.count ≡ 0 }
@@ -143,6 +167,19 @@ pub fn step<H: Host>(
         → before.session ≡ session.old → ShowsNow meant (H.outside host.old) before
         → session.old.opened ≡ true
         → OnOk result (HasNotes (H.outside host.new) session.old.geometry session.old.notes) }
+
+    // A checkpoint takes no memory. A commit that wants some did nothing but read, and the log is what it was.
+    ensures takes_none { request_of command.now ≡ request.Checkpoint
+        → result ≡ Err Stop.Memory → ⊥ }
+    ensures unwritten { request_of command.now ≡ request.Commit → result ≡ Err Stop.Memory
+        → ReadsOnly (H.outside host.old) (H.outside host.new)
+        × (session.new.log ≡ session.old.log) }
+
+    // The pages of files that a transaction gave back are free after its commit, and those that it took after its abort.
+    ensures given_back { request_of command.now ≡ request.Commit → session.old.opened ≡ true
+        → OnOk result (FreesGivenBack session.old session.new) }
+    ensures taken_back { request_of command.now ≡ request.Abort → session.old.opened ≡ true
+        → OnOk result (FreesTaken session.old session.new) }
 
     // To a command that asks of no objects, only a catalog that is outside of its grammar is damaged.
     ensures catalog { IsOfCatalog (request_of command.now) → (page : PageNo) (want got : Seen)

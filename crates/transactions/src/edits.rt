@@ -2,8 +2,7 @@
 ghost use Rattle.std.specs.Prelude.{◌≡◌, ◌≤◌, ◌+◌, true, false, Some, None, IfOk, IfErr, nat_le};
 ghost use Rattle.ex_base.specs.Sizes.{object_most, volume_bytes};
 ghost use Rattle.session_core.specs.Finding.{IfLive, IfShown, IsOutside, LineStops};
-ghost use Rattle.transactions.specs.Asking.{asked_change, asked_count, asked_word};
-ghost use Rattle.table_model.specs.Words.{data_count, data_most};
+ghost use Rattle.transactions.specs.Asking.{CountsItsBytes, asked_change, asked_count};
 ghost use Rattle.version_model.specs.Versions.{count_of, record_len};
 ghost use Rattle.transactions.specs.Editing.{bytes_refusal, is_outside};
 ghost use Rattle.session_core.specs.Needs.{root_height, fits_beside, size_after};
@@ -57,8 +56,7 @@ fn fits_small(room: u32, now: u64, after: u64) -> bool
 
 /// Why an edit of a version is refused for its bytes.
 fn refuses_bytes(found: &Found, asked: &Asked<'_>) -> Option<Refusal>
-    requires counted { asked_count asked.now ≡ count_of (asked_change asked.now) }
-    requires few { data_count (asked_word asked.now) ≤ data_most }
+    requires asked { CountsItsBytes asked.now }
     requires size { found.now.size ≤ object_most }
     ensures is { result ≡ bytes_refusal found.now (asked_change asked.now) }
     ensures inside { result ≡ None → is_outside (asked_change asked.now) found.now.size ≡ false }
@@ -122,8 +120,7 @@ fn stays_small<D: Disk>(
     asked: &Asked<'_>,
 ) -> Result<bool, Stop>
     requires room { volume_bytes session.old.geometry ≤ (D.outside disk.old).size }
-    requires counted { asked_count asked.now ≡ count_of (asked_change asked.now) }
-    requires few { data_count (asked_word asked.now) ≤ data_most }
+    requires asked { CountsItsBytes asked.now }
     requires size { version.now.found.size ≤ object_most }
     requires inside { is_outside (asked_change asked.now) version.now.found.size ≡ false }
     requires after { size_after (asked_change asked.now) version.now.found.size ≤ object_most }
@@ -174,8 +171,7 @@ pub(crate) fn admit<H: Host>(
 ) -> Result<Result<Admitted, Refusal>, Stop>
     requires room { volume_bytes session.old.geometry ≤ (H.outside host.old).size }
     requires is_open { session.old.opened ≡ true }
-    requires counted { asked_count asked.now ≡ count_of (asked_change asked.now) }
-    requires few { data_count (asked_word asked.now) ≤ data_most }
+    requires asked { CountsItsBytes asked.now }
     ensures session { IsSession session.old }
     ensures only { OnlyFrames (H.outside host.old) (H.outside host.new) session.old session.new }
     ensures refused { IfOk result

@@ -3,8 +3,7 @@ ghost use Rattle.std.specs.Prelude.{◌≡◌, ◌≤◌, ◌^◌, not, false};
 ghost use Rattle.ex_base.specs.Sizes.{object_most};
 ghost use Rattle.version_model.specs.Versions.{count_of};
 ghost use Rattle.versions.specs.Needs.{most_need};
-ghost use Rattle.transactions.specs.Asking.{asked_change, asked_count, asked_word};
-ghost use Rattle.table_model.specs.Words.{data_count, data_most};
+ghost use Rattle.transactions.specs.Asking.{CountsItsBytes, asked_change, asked_count};
 ghost use Rattle.transactions.specs.Editing.{is_outside, edit_note, edit_reply};
 ghost use Rattle.session_core.specs.Needs.{size_after};
 
@@ -27,8 +26,7 @@ pub(crate) fn is_inside(asked: &Asked<'_>, size: u64) -> bool
 
 /// The size after an edit whose bytes lie inside.
 pub(crate) fn size_after(asked: &Asked<'_>, size: u64) -> u64
-    requires counted { asked_count asked.now ≡ count_of (asked_change asked.now) }
-    requires few { data_count (asked_word asked.now) ≤ data_most }
+    requires asked { CountsItsBytes asked.now }
     requires size { size ≤ object_most }
     requires inside { is_outside (asked_change asked.now) size ≡ false }
     ensures { result ≡ size_after (asked_change asked.now) size }

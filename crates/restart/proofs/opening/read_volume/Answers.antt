@@ -61,12 +61,12 @@ tested_is : (g : given.Over) (c : After-test_catalog g) (image : List ℕ) (k : 
     → HasCatalog (after_log c.in-Ok.geometry c.in-Ok-read_log.records image catalog_no) (last_number c.in-Ok-read_log.records) k
 tested_is g c image k holds here = catalog_after_log c.in-Ok.geometry image c.in-Ok-read_log.records c.deref.result.now c.last_txn.result k (tested g c image holds) (number g c) here
 
-pub returns-in_default-test_catalog-clause-bad : goal.returns-in_default-test_catalog-clause-bad
-returns-in_default-test_catalog-clause-bad g c part is image holds =
-    let after = (goal.at.returns-in_default-test_catalog-clause-bad g c).After-test_catalog in
+pub returns-in_default-clause-bad : goal.returns-in_default-clause-bad
+returns-in_default-clause-bad g c part is image holds =
+    let after = (goal.at.returns-in_default-clause-bad g c).After-test_catalog in
     part_is_bad OpenedParts CatalogPart part image is
     (catalog_bad image c.in-Ok.geometry c.in-Ok-read_log.records (c.in-Ok.ensures.found image holds) (says g after image holds)
-    (λ k here. c.in_default-test_catalog.ensures.none k (catalog_before_log c.in-Ok.geometry image c.in-Ok-read_log.records c.deref.result.now c.last_txn.result k (tested g after image holds) (number g after) here)))
+    (λ k here. c.in_default.ensures.none k (catalog_before_log c.in-Ok.geometry image c.in-Ok-read_log.records c.deref.result.now c.last_txn.result k (tested g after image holds) (number g after) here)))
 
 -- what the walks find the pages to be
 shown : (g : given.Over) (c : After-test_catalog g) (page : ℕ) → image_at c.in-Ok-read_overlay.meta page ≡ logged c.in-Ok-read_log.records page

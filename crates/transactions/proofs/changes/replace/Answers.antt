@@ -1,7 +1,6 @@
 use Rattle.std.proofs.Common.{◌∙◌, refl, sym}
 use Rattle.table_model.specs.Requests.{reference_of}
 use Rattle.table_model.specs.Requests as request
-use Rattle.session_core.specs.Sessions.{SessionState}
 use Rattle.session_core.proofs.Refusing.{closed_refused}
 use Rattle.transactions.proofs.UpdateLines.{line_closed}
 use Rattle.transactions.proofs.changes.replace.Goals as goal

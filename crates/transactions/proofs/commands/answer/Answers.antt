@@ -1,5 +1,4 @@
-use Rattle.std.proofs.Common.{ap, subst, sym}
-use Rattle.std.proofs.Common.{Ok}
+use Rattle.std.proofs.Common.{Ok, ap, subst, sym}
 use Rattle.table_model.specs.Requests.{request_of}
 use Rattle.table_model.specs.Requests as request
 use Rattle.table_model.specs.declared.reply.Reply.{Reply}
@@ -10,34 +9,37 @@ use Rattle.transactions.proofs.Aborted.{any_abort}
 use Rattle.transactions.proofs.commands.answer.Goals as goal
 
 pub returns-in-Begin-clause-answers : goal.returns-in-Begin-clause-answers
-returns-in-Begin-clause-answers g c = of_quiet (request_of c.args.command.now) request.Begin c.begin.result (ap request_of c.in-Begin.is) (g.H.World.is_world c.args.host.now) c.geometry.ensures.session c.begin.ensures
+returns-in-Begin-clause-answers g c = of_quiet (request_of c.args.command.now) request.Begin c.begin.result (ap request_of c.in-Begin.is) (g.H.World.is_world c.args.host.now) c.requires.session c.begin.ensures
 
 pub returns-in-Files-clause-answers : goal.returns-in-Files-clause-answers
-returns-in-Files-clause-answers g c = of_quiet (request_of c.args.command.now) request.Files c.files.result (ap request_of c.in-Files.is) (g.H.World.is_world c.args.host.now) c.geometry.ensures.session c.files.ensures
+returns-in-Files-clause-answers g c = of_quiet (request_of c.args.command.now) request.Files c.files.result (ap request_of c.in-Files.is) (g.H.World.is_world c.args.host.now) c.requires.session c.files.ensures
 
 pub returns-in-File-clause-answers : goal.returns-in-File-clause-answers
-returns-in-File-clause-answers g c = of_quiet (request_of c.args.command.now) (request.File c.in-File.name.now) c.file.result (ap request_of c.in-File.is) (g.H.World.is_world c.args.host.now) c.geometry.ensures.session c.file.ensures
+returns-in-File-clause-answers g c = of_quiet (request_of c.args.command.now) (request.File c.in-File.name.now) c.file.result (ap request_of c.in-File.is) (g.H.World.is_world c.args.host.now) c.requires.session c.file.ensures
 
 pub returns-in-Unfile-clause-answers : goal.returns-in-Unfile-clause-answers
-returns-in-Unfile-clause-answers g c = of_quiet (request_of c.args.command.now) (request.Unfile c.in-Unfile.name.now) c.unfile.result (ap request_of c.in-Unfile.is) (g.H.World.is_world c.args.host.now) c.geometry.ensures.session c.unfile.ensures
+returns-in-Unfile-clause-answers g c = of_quiet (request_of c.args.command.now) (request.Unfile c.in-Unfile.name.now) c.unfile.result (ap request_of c.in-Unfile.is) (g.H.World.is_world c.args.host.now) c.requires.session c.unfile.ensures
 
 pub returns-in-Commit-clause-answers : goal.returns-in-Commit-clause-answers
-returns-in-Commit-clause-answers g c = of_step (request_of c.args.command.now) request.Commit c.commit.result (ap request_of c.in-Commit.is) c.geometry.ensures.session c.commit.ensures.steps
+returns-in-Commit-clause-answers g c = of_step (request_of c.args.command.now) request.Commit c.commit.result (ap request_of c.in-Commit.is) c.requires.session c.commit.ensures.steps
 
 pub returns-in-Checkpoint-clause-answers : goal.returns-in-Checkpoint-clause-answers
-returns-in-Checkpoint-clause-answers g c = of_step (request_of c.args.command.now) request.Checkpoint c.checkpoint.result (ap request_of c.in-Checkpoint.is) c.geometry.ensures.session c.checkpoint.ensures.steps
+returns-in-Checkpoint-clause-answers g c = of_step (request_of c.args.command.now) request.Checkpoint c.checkpoint.result (ap request_of c.in-Checkpoint.is) c.requires.session c.checkpoint.ensures.steps
 
 pub returns-in-Abort-clause-answers : goal.returns-in-Abort-clause-answers
 returns-in-Abort-clause-answers g c =
-    of_quiet (request_of c.args.command.now) request.Abort (Ok c.abort.result) (ap request_of c.in-Abort.is) (g.H.World.is_world c.args.host.now) c.geometry.ensures.session
-    (any_abort c.args.session.now c.abort.new.self c.abort.result c.geometry.ensures.session c.abort.ensures.refused c.abort.ensures.aborted c.abort.ensures.taken_back)
+    of_quiet (request_of c.args.command.now) request.Abort (Ok c.abort.result) (ap request_of c.in-Abort.is) (g.H.World.is_world c.args.host.now) c.requires.session
+    (any_abort c.args.session.now c.abort.new.self c.abort.result c.requires.session c.abort.ensures.refused c.abort.ensures.aborted c.abort.ensures.taken_back)
 
 pub returns-in-Log-clause-answers : goal.returns-in-Log-clause-answers
 returns-in-Log-clause-answers g c =
-    of_quiet (request_of c.args.command.now) request.Log (Ok c.log.result) (ap request_of c.in-Log.is) (g.H.World.is_world c.args.host.now) c.geometry.ensures.session
-    (subst (λ (told : Reply). StepsQuietly (g.H.World.outside c.args.host.now) (g.H.World.outside c.args.host.now) c.args.session.now c.args.session.now request.Log (Ok told)) (sym c.log.ensures) (log_quietly c.args.session.now c.geometry.ensures.session))
+    of_quiet (request_of c.args.command.now) request.Log (Ok c.log.result) (ap request_of c.in-Log.is) (g.H.World.is_world c.args.host.now) c.requires.session
+    (subst (λ (told : Reply). StepsQuietly (g.H.World.outside c.args.host.now) (g.H.World.outside c.args.host.now) c.args.session.now c.args.session.now request.Log (Ok told)) (sym c.log.ensures) (log_quietly c.args.session.now c.requires.session))
 
 pub returns-in-Space-clause-answers : goal.returns-in-Space-clause-answers
 returns-in-Space-clause-answers g c =
-    of_quiet (request_of c.args.command.now) request.Space (Ok c.space.result) (ap request_of c.in-Space.is) (g.H.World.is_world c.args.host.now) c.geometry.ensures.session
-    (subst (λ (told : Reply). StepsQuietly (g.H.World.outside c.args.host.now) (g.H.World.outside c.args.host.now) c.args.session.now c.args.session.now request.Space (Ok told)) (sym c.space.ensures) (space_quietly c.args.session.now c.geometry.ensures.session))
+    of_quiet (request_of c.args.command.now) request.Space (Ok c.space.result) (ap request_of c.in-Space.is) (g.H.World.is_world c.args.host.now) c.requires.session
+    (subst (λ (told : Reply). StepsQuietly (g.H.World.outside c.args.host.now) (g.H.World.outside c.args.host.now) c.args.session.now c.args.session.now request.Space (Ok told)) (sym c.space.ensures) (space_quietly c.args.session.now c.requires.session))
+
+pub returns-in_default-clause-answers : goal.returns-in_default-clause-answers
+returns-in_default-clause-answers g c = c.answer_objects.ensures

@@ -1,6 +1,33 @@
+use Rattle.std.proofs.Common.{◌∙◌, ap}
+use Rattle.session_core.specs.Sessions.{SessionState}
+use Rattle.disk_model.specs.Changes.{changes_refl}
+use Rattle.volume_model.specs.Durable.{IsDurable}
 use Rattle.table_model.specs.Requests.{request_of}
-use Rattle.transactions.proofs.Commanding.{is_sound}
+use Rattle.transactions.proofs.Commanding.{is_sound, leaves_durable, leaves_records}
 use Rattle.transactions.proofs.commands.step.Goals as goal
 
 pub returns-then-is_err-clause-sound : goal.returns-then-is_err-clause-sound
 returns-then-is_err-clause-sound g c = λ before why from now is. is_sound (request_of c.args.command.now) c.answer-told.result c.answer-told.ensures.answers before why from now is
+
+pub returns-then-is_err-clause-unwritten : goal.returns-then-is_err-clause-unwritten
+returns-then-is_err-clause-unwritten g c = λ commit memory.
+    let left = c.answer-told.ensures.unwritten commit memory in
+    (left.0, ap (λ (s : SessionState). s.log) c.put_down.ensures ∙ left.1)
+
+pub returns-then-is_down-clause-writes : goal.returns-then-is_down-clause-writes
+returns-then-is_down-clause-writes g c = λ quiet before from now. changes_refl (λ i. IsDurable now.shows.decoded before.disk i → ⊥) (g.H.World.outside c.args.host.now)
+
+pub returns-then-is_down-clause-records : goal.returns-then-is_down-clause-records
+returns-then-is_down-clause-records g c = λ quiet before from now records says. (before.disk, now.holds, says)
+
+pub returns-then-is_err-clause-writes : goal.returns-then-is_err-clause-writes
+returns-then-is_err-clause-writes g c = λ quiet before from now. leaves_durable (request_of c.args.command.now) c.answer-told.result c.is_down.ensures.session c.answer-told.ensures.answers quiet before from now
+
+pub returns-then-is_err-clause-records : goal.returns-then-is_err-clause-records
+returns-then-is_err-clause-records g c = λ quiet before from now records says. leaves_records (request_of c.args.command.now) c.answer-told.result c.is_down.ensures.session c.answer-told.ensures.answers quiet before from now records says
+
+pub returns-else-is_err-clause-writes : goal.returns-else-is_err-clause-writes
+returns-else-is_err-clause-writes g c = λ quiet before from now. leaves_durable (request_of c.args.command.now) c.answer-told.result c.is_down.ensures.session c.answer-told.ensures.answers quiet before from now
+
+pub returns-else-is_err-clause-records : goal.returns-else-is_err-clause-records
+returns-else-is_err-clause-records g c = λ quiet before from now records says. leaves_records (request_of c.args.command.now) c.answer-told.result c.is_down.ensures.session c.answer-told.ensures.answers quiet before from now records says

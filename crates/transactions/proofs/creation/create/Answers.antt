@@ -1,11 +1,10 @@
-use Rattle.std.proofs.Common.{◌≡◌, ◌<◌, ◌∙◌, ◌^◌, None, refl, sym, ap, subst, rules}
+use Rattle.std.proofs.Common.{◌≡◌, ◌<◌, ◌∙◌, ◌^◌, None, sym, ap, subst, rules}
 use Rattle.ex_base.specs.declared.names.OpNote.{OpNote}
 use Rattle.object_files.specs.Catalog.{Catalog}
 use Rattle.object_files.specs.Reads.{catalog_on}
 use Rattle.table_model.specs.Requests as request
 use Rattle.session_core.specs.declared.session.moving.Limit.{Limit}
 use Rattle.transactions.specs.Editing.{new_object_in, room_refusal}
-use Rattle.session_core.specs.Sessions.{SessionState}
 use Rattle.session_core.specs.Updates.{Noted, note_with}
 use Rattle.transactions.proofs.Creating.{bound_session, bound_to, bound_went, can_make, create_done, create_roomless, create_stopped, create_taken, create_unbound, create_unplaced, creation_need, unbound_still, unbound_went}
 use Rattle.session_core.proofs.Listing.{unread_outside, unread_stops}
@@ -51,7 +50,7 @@ returns-in-Err-update_objects g c =
     (sym c.is_open.ensures.value ∙ c.if-not-is_open.false) (record { catalog = c.in-Ok.ensures.catalog; read = c.in-Ok.ensures.read }) c.requires.name
     (sym c.is_taken.ensures ∙ c.if-is_taken.false)
     (c.in-Ok-new_object.ensures ∙ ap (λ (k : Catalog). new_object_in k c.args.file.now) (viewed c.view_of.result c.deref.result.now c.in-Ok.page.items c.view_of.ensures c.deref.ensures.value)) room
-    (record { only = c.update_objects.ensures.only; log = c.update_objects.ensures.log; down = c.update_objects.ensures.down; moments = c.update_objects.ensures.any_moment })
+    (record { only = c.update_objects.ensures.only; writes = c.update_objects.ensures.writes; geometry = c.update_objects.ensures.geometry; log = c.update_objects.ensures.log; down = c.update_objects.ensures.down; moments = c.update_objects.ensures.any_moment })
     c.in-Err-update_objects.stop c.in-Err-update_objects.ensures.stops c.in-Err-update_objects.ensures.sound
 
 pub update_objects-requires-clause-can : goal.update_objects-requires-clause-can
@@ -74,7 +73,7 @@ returns-in-Ok-bind g c =
     (sym c.is_open.ensures.value ∙ c.if-not-is_open.false) (record { catalog = c.in-Ok.ensures.catalog; read = c.in-Ok.ensures.read }) c.requires.name
     (sym c.is_taken.ensures ∙ c.if-is_taken.false)
     (c.in-Ok-new_object.ensures ∙ ap (λ (k : Catalog). new_object_in k c.args.file.now) (viewed c.view_of.result c.deref.result.now c.in-Ok.page.items c.view_of.ensures c.deref.ensures.value)) room
-    (bound_went {s = c.update_objects.new.self} _ c.in-Ok-bind.ensures.ok (record { only = c.update_objects.ensures.only; log = c.update_objects.ensures.log; down = c.update_objects.ensures.down; moments = c.update_objects.ensures.any_moment }))
+    (bound_went {s = c.update_objects.new.self} _ c.in-Ok-bind.ensures.ok (record { only = c.update_objects.ensures.only; writes = c.update_objects.ensures.writes; geometry = c.update_objects.ensures.geometry; log = c.update_objects.ensures.log; down = c.update_objects.ensures.down; moments = c.update_objects.ensures.any_moment }))
     oid c.update_objects.new.self c.in-Ok-update_objects.ensures.named did (subst (λ (l : Limit). KeptTo l c.update_objects.new.self) c.limit-limit.ensures c.in-Ok-update_objects.ensures.kept) c.in-Ok-update_objects.ensures.holds
     (bound_session _ (bound_to c.args.name.now oid) did c.in-Ok-bind.ensures.ok)
 
@@ -85,4 +84,4 @@ returns g c =
     (sym c.is_open.ensures.value ∙ c.if-not-is_open.false) (record { catalog = c.in-Ok.ensures.catalog; read = c.in-Ok.ensures.read }) c.requires.name
     (sym c.is_taken.ensures ∙ c.if-is_taken.false)
     (c.in-Ok-new_object.ensures ∙ ap (λ (k : Catalog). new_object_in k c.args.file.now) (viewed c.view_of.result c.deref.result.now c.in-Ok.page.items c.view_of.ensures c.deref.ensures.value)) room
-    (unbound_went c.in-Err-bind.ensures.err (record { only = c.update_objects.ensures.only; log = c.update_objects.ensures.log; down = c.update_objects.ensures.down; moments = c.update_objects.ensures.any_moment }))
+    (unbound_went c.in-Err-bind.ensures.err (record { only = c.update_objects.ensures.only; writes = c.update_objects.ensures.writes; geometry = c.update_objects.ensures.geometry; log = c.update_objects.ensures.log; down = c.update_objects.ensures.down; moments = c.update_objects.ensures.any_moment }))

@@ -1,7 +1,6 @@
-use Rattle.std.proofs.Common.{◌∙◌, ap, sym}
+use Rattle.std.proofs.Common.{◌∙◌, sym}
 use Rattle.table_model.specs.Requests.{reference_of}
 use Rattle.table_model.specs.Requests as request
-use Rattle.session_core.specs.Sessions.{SessionState}
 use Rattle.transactions.proofs.Destroyed.{destroy_full, destroy_kept, destroy_missed, destroy_stopped, destroyed}
 use Rattle.transactions.proofs.Naming.{misses_so, names_so}
 use Rattle.session_core.proofs.Refusing.{closed_refused}
@@ -40,7 +39,7 @@ pub returns-in-Ok : goal.returns-in-Ok
 returns-in-Ok g c =
     let x = reference_of c.args.x.now in
     let version = c.in-Ok-Ok.version in
-    let went : WentOn (g.H.World.outside c.named.new.host) (g.H.World.outside c.update_objects.new.host) c.named.new.self c.update_objects.new.self = record { only = c.update_objects.ensures.only; log = c.update_objects.ensures.log; down = c.update_objects.ensures.down; moments = c.update_objects.ensures.any_moment } in
+    let went : WentOn (g.H.World.outside c.named.new.host) (g.H.World.outside c.update_objects.new.host) c.named.new.self c.update_objects.new.self = record { only = c.update_objects.ensures.only; writes = c.update_objects.ensures.writes; geometry = c.update_objects.ensures.geometry; log = c.update_objects.ensures.log; down = c.update_objects.ensures.down; moments = c.update_objects.ensures.any_moment } in
     destroyed x (g.H.World.is_world c.args.host.now) c.named.ensures.session (sym c.is_open.ensures.value ∙ c.if-not-is_open.false) c.named.ensures.only version
     (names_so x version c.in-Ok-Ok.field-0 c.in-Ok-Ok.field-0-is c.in-Ok-Ok.ensures.named) went c.in-Ok.oid c.object_note-note.result c.limit-limit.result c.in-Ok.ensures.named c.object_note-note.ensures c.limit-limit.ensures c.in-Ok.ensures.noted c.in-Ok.ensures.kept c.in_default-refuses_room.ensures c.in-Ok.ensures.holds
 
@@ -48,6 +47,6 @@ pub returns-in-Err-update_objects : goal.returns-in-Err-update_objects
 returns-in-Err-update_objects g c =
     let x = reference_of c.args.x.now in
     let version = c.in-Ok-Ok.version in
-    let went : WentOn (g.H.World.outside c.named.new.host) (g.H.World.outside c.update_objects.new.host) c.named.new.self c.update_objects.new.self = record { only = c.update_objects.ensures.only; log = c.update_objects.ensures.log; down = c.update_objects.ensures.down; moments = c.update_objects.ensures.any_moment } in
+    let went : WentOn (g.H.World.outside c.named.new.host) (g.H.World.outside c.update_objects.new.host) c.named.new.self c.update_objects.new.self = record { only = c.update_objects.ensures.only; writes = c.update_objects.ensures.writes; geometry = c.update_objects.ensures.geometry; log = c.update_objects.ensures.log; down = c.update_objects.ensures.down; moments = c.update_objects.ensures.any_moment } in
     destroy_stopped x (g.H.World.is_world c.args.host.now) c.named.ensures.session (sym c.is_open.ensures.value ∙ c.if-not-is_open.false) c.named.ensures.only version
     (names_so x version c.in-Ok-Ok.field-0 c.in-Ok-Ok.field-0-is c.in-Ok-Ok.ensures.named) went c.in-Err-update_objects.stop c.in-Err-update_objects.ensures.stops c.in-Err-update_objects.ensures.sound

@@ -1,4 +1,5 @@
-use Rattle.std.proofs.Common.{◌∙◌, ap, sym, subst, Err, refl}
+use Rattle.std.proofs.Common.{◌≤◌, ◌∙◌, ap, sym, subst, Err, refl}
+use Rattle.ex_base.specs.Sizes.{volume_bytes}
 use Rattle.disk_model.specs.Runs.{honest_on}
 use Rattle.talks.specs.Opening.{Opened}
 use Rattle.exsm_run.specs.Fresh.{IsFresh}
@@ -32,3 +33,6 @@ returns-in-Err-make-clause-any_moment g c image honest holds = leaves_opening im
 
 pub make-requires-clause-in_use : goal.make-requires-clause-in_use
 make-requires-clause-in_use g c = c.in-Ok.ensures.parts.fresh.reached.in_use
+
+pub returns-in-Ok-make-clause-room : goal.returns-in-Ok-make-clause-room
+returns-in-Ok-make-clause-room g c = subst (λ (s : SessionState). volume_bytes s.geometry ≤ (g.H.World.outside c.open_volume.new.disk).size) (sym c.in-Ok-make.ensures) c.in-Ok.ensures.room
