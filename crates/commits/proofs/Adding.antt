@@ -9,7 +9,6 @@ use Rattle.std.proofs.lemmas.Bool.Decides.{eqb_tells}
 use Rattle.std.proofs.lemmas.Option.{same_Some}
 use Rattle.lru.proofs.Splits.{Contains-head, Contains-tail, Contains-cons, Contains-nil}
 use Rattle.ex_base.specs.declared.geometry.Geometry.{Geometry}
-use Rattle.ex_base.specs.declared.names.OpNote.{OpNote}
 use Rattle.ex_base.specs.Area.{catalog_no, area_end, page_at, leaf_at}
 use Rattle.ex_base.specs.Order.{Rising}
 use Rattle.ex_base.specs.Sizes.{leaf_bytes}
@@ -17,7 +16,7 @@ use Rattle.ex_base.specs.Superblock.{IsSuper}
 use Rattle.disk_model.specs.Outside.{Outside, Only, Leaves}
 use Rattle.disk_model.specs.Changes.{SameBut, InRange, ChangesWithin, changes_wider}
 use Rattle.disk_model.specs.Runs.{leaves_wider}
-use Rattle.meta_pages.specs.Overlays.{over}
+use Rattle.meta_pages.specs.Overlays.{Overlays, AreRows, committed_image, over}
 use Rattle.meta_pages.specs.Rows.{IsRising}
 use Rattle.op_log.specs.declared.record.LogRecord.{LogRecord}
 use Rattle.op_log.specs.AfterLog.{logged, after_log, AllApply}
@@ -26,7 +25,7 @@ use Rattle.op_log.specs.Gates.{log_end-append}
 use Rattle.op_log.specs.Log.{Follow, SaysLog, DiskSays, KeepsLog, AddsHere, log_end}
 use Rattle.op_log.specs.Records.{record_len}
 use Rattle.op_log.specs.State.{LogState, Prolongs}
-use Rattle.volume_model.specs.Committed.{Committed, CommittedAs, HomesStay, MayCommit, IsOverlayOf, StandsForVolume, StandsForEither, record_of, with_records}
+use Rattle.volume_model.specs.Committed.{Committed, CommittedAs, HomesStay, MayCommit, IsOverlayOf, IsRecordOf, StandsForVolume, StandsForEither, with_records}
 use Rattle.volume_model.specs.CrashImage.{same_part, from_home}
 use Rattle.volume_model.specs.Durable.{Agrees}
 use Rattle.volume_model.specs.Parts.{SuperOf, IsLastOf, Decodes, HoldsOf, StandsFor, content_parts}
@@ -34,7 +33,7 @@ use Rattle.volume_model.specs.Shown.{PageRow, WorkingRow, IsWorkingPage, laid_ov
 use Rattle.volume_model.specs.Volume.{Volume, Decoded, file_pages, reach_of, table_of, units_of, units_after}
 use Rattle.volume_model.proofs.FoundRows.{found_is}
 use Rattle.commits.proofs.Closing.{settled_agrees}
-use Rattle.commits.proofs.LoggedPages.{logged_more, images_apply}
+use Rattle.commits.proofs.LoggedPages.{AreSized, sized, record_as, logged_more, record_applies}
 use Rattle.commits.proofs.Places.{behind_log, page_stays, leaf_stays, same_unit}
 use Rattle.commits.specs.Room.{BeforeCatalog}
 use Rattle.commits.proofs.Reached.{reach_behind, without_last, decodes_as, table_as, stands_as}
@@ -111,55 +110,61 @@ module _ (d : Decoded) (disk : List ℕ) (r : LogRecord) (x e : List ℕ) (parts
 
 -- ---- an image that has the list with the record
 
+-- The record is by the rule that of these working pages over the log. They rise, and their images are as long as those of the log.
+pub record IsNext (d : Decoded) (rows : List WorkingRow) (r : LogRecord) : Type 0 where
+  pub rising : IsRising rows
+  pub sized : AreSized (λ page. logged d.records page) rows
+  pub rule : IsRecordOf (λ page. logged d.records page) r.txn r.notes rows r
+
 over_home : (row : Option (Option (List ℕ))) (o : Option (List ℕ)) (home : List ℕ) → unwrap_or (over row o) home ≡ laid_over_page (unwrap_or o home) home row
 over_home None o home = refl
 over_home (Some None) o home = refl
 over_home (Some (Some image)) o home = refl
 
-module _ (d : Decoded) (disk : List ℕ) (rows : List WorkingRow) (txn : ℕ) (notes : List OpNote) (working : Volume) (e : List ℕ) (parts : Decodes disk d) (rising : IsRising rows) (may : MayCommit d disk rows txn working)
-    (fits : log_end d.records + record_len (record_of txn notes rows) < 256 * d.geometry.page_size) (same : SameBut (Place d (record_of txn notes rows)) disk e) where
+module _ (d : Decoded) (disk : List ℕ) (rows : List WorkingRow) (r : LogRecord) (working : Volume) (e : List ℕ) (parts : Decodes disk d) (adds : IsNext d rows r) (may : MayCommit d disk rows r.txn working)
+    (fits : log_end d.records + record_len r < 256 * d.geometry.page_size) (same : SameBut (Place d r) disk e) where
   abbrev pub new_records : List LogRecord
-  new_records = d.records ++ record_of txn notes rows ∷ []
+  new_records = d.records ++ r ∷ []
 
   new_apply : AllApply new_records
-  new_apply = records_apply-push (λ page. None) d.records (record_of txn notes rows) parts.1.0.apply (images_apply (λ page. logged d.records page) rows)
+  new_apply = records_apply-push (λ page. None) d.records r parts.1.0.apply (record_applies (λ page. logged d.records page) r.txn r.notes rows r adds.rising adds.sized adds.rule)
 
   pub new_units : (page : ℕ) → catalog_no ≤ page → units_after d.geometry new_records e page ≡ working_units d disk rows page
   new_units page le =
       same_unit d.geometry (laid_over d.geometry disk (after_log d.geometry d.records disk) rows) (after_log d.geometry new_records e) disk e page
-      (λ lt. ap (λ (o : Option (List ℕ)). unwrap_or o (page_at d.geometry e page)) (logged_more d.records txn notes rows page rising)
-      ∙ ap (λ (h : List ℕ). unwrap_or (over (lookup (nat_eq page) rows) (logged d.records page)) h) (page_kept d (record_of txn notes rows) disk e fits same page le)
+      (λ lt. ap (λ (o : Option (List ℕ)). unwrap_or o (page_at d.geometry e page)) (logged_more d.records r.txn r.notes rows r page adds.rising adds.sized adds.rule)
+      ∙ ap (λ (h : List ℕ). unwrap_or (over (lookup (nat_eq page) rows) (logged d.records page)) h) (page_kept d r disk e fits same page le)
       ∙ over_home (lookup (nat_eq page) rows) (logged d.records page) (page_at d.geometry disk page))
-      (λ is_leaf. leaf_kept d (record_of txn notes rows) disk e fits same page is_leaf)
+      (λ is_leaf. leaf_kept d r disk e fits same page is_leaf)
 
   pub new_homes : HomesStay d disk e
   new_homes unit le none =
       same_unit d.geometry (page_at d.geometry disk) (page_at d.geometry e) disk e unit
-      (λ lt. page_kept d (record_of txn notes rows) disk e fits same unit le) (λ is_leaf. leaf_kept d (record_of txn notes rows) disk e fits same unit is_leaf)
+      (λ lt. page_kept d r disk e fits same unit le) (λ is_leaf. leaf_kept d r disk e fits same unit is_leaf)
 
   new_reach : (page : ℕ) → Contains (reach_of (working_units d disk rows) working) page → units_after d.geometry new_records e page ≡ working_units d disk rows page
   new_reach page at = new_units page (reach_behind d.geometry (working_units d disk rows) working page may.parts at)
 
   pub new_decodes : SaysLog d.geometry new_records e → Decodes e (with_records d new_records working)
   new_decodes says =
-      decodes_as d.geometry new_records (working_units d disk rows) working e new_reach (super_kept d (record_of txn notes rows) disk e fits same parts.0) says new_apply
-      (last_pushed d.records (record_of txn notes rows) working.catalog.last may.last) may.parts
+      decodes_as d.geometry new_records (working_units d disk rows) working e new_reach (super_kept d r disk e fits same parts.0) says new_apply
+      (last_pushed d.records r working.catalog.last may.last) may.parts
 
   pub new_table : table_of (units_of (with_records d new_records working) e) working ≡ table_of (working_units d disk rows) working
   new_table = table_as d.geometry new_records (working_units d disk rows) working e new_reach
 
   pub new_stands : SaysLog d.geometry new_records e → StandsFor e (table_of (working_units d disk rows) working)
   new_stands says =
-      stands_as d.geometry new_records (working_units d disk rows) working e new_reach (super_kept d (record_of txn notes rows) disk e fits same parts.0) says new_apply
-      (last_pushed d.records (record_of txn notes rows) working.catalog.last may.last) may.parts
+      stands_as d.geometry new_records (working_units d disk rows) working e new_reach (super_kept d r disk e fits same parts.0) says new_apply
+      (last_pushed d.records r working.catalog.last may.last) may.parts
 
 -- While the record is added, a crash leaves the old volume or the working one.
-pub adds_stands : (d : Decoded) (disk : List ℕ) (log : LogState) (overlay : List PageRow) (rows : List WorkingRow) (txn : ℕ) (notes : List OpNote) (working : Volume) (images : List ℕ → Type 0) (e : List ℕ)
-    → Committed images d disk log overlay → IsRising rows → MayCommit d disk rows txn working → log_end d.records + record_len (record_of txn notes rows) < 256 * d.geometry.page_size
-    → AddsHere d.geometry d.records (record_of txn notes rows) (Place d (record_of txn notes rows)) images disk e → StandsForEither d disk rows working e
-adds_stands d disk log overlay rows txn notes working images e committed rising may fits adds = ⊎_elim
-    (λ old. inl (old_stands d disk (record_of txn notes rows) old.0 e committed.parts (committed.durable old.0 old.1) fits old.2 old.3))
-    (λ new. inr (new_stands d disk rows txn notes working e committed.parts rising may fits new.0 new.1)) adds
+pub adds_stands : (d : Decoded) (disk : List ℕ) (log : LogState) (overlay : List PageRow) (rows : List WorkingRow) (r : LogRecord) (working : Volume) (images : List ℕ → Type 0) (e : List ℕ)
+    → Committed images d disk log overlay → IsNext d rows r → MayCommit d disk rows r.txn working → log_end d.records + record_len r < 256 * d.geometry.page_size
+    → AddsHere d.geometry d.records r (Place d r) images disk e → StandsForEither d disk rows working e
+adds_stands d disk log overlay rows r working images e committed next may fits adds = ⊎_elim
+    (λ old. inl (old_stands d disk r old.0 e committed.parts (committed.durable old.0 old.1) fits old.2 old.3))
+    (λ new. inr (new_stands d disk rows r working e committed.parts next may fits new.0 new.1)) adds
 
 -- ---- the overlay after it
 
@@ -209,15 +214,13 @@ state_of g end count = record { geometry = g; end = end; count = count }
 same_state : (g : Geometry) {x y m n : ℕ} → x ≡ y → m ≡ n → state_of g x m ≡ state_of g y n
 same_state g ends count = cc (ends, count)
 
-pub committed_as : (d : Decoded) (disk : List ℕ) (log log' : LogState) (overlay overlay' : List PageRow) (rows : List WorkingRow) (txn : ℕ) (notes : List OpNote) (working : Volume) (a b : Outside)
-    → IsTrue a.honest → a.disk ≡ Some disk → Committed a.images d disk log overlay → IsOverlayOf d.volume overlay → IsRising rows → MayCommit d disk rows txn working
-    → log_end d.records + record_len (record_of txn notes rows) < 256 * d.geometry.page_size
-    → ChangesWithin (Place d (record_of txn notes rows)) a b → DiskSays d.geometry b (d.records ++ record_of txn notes rows ∷ [])
-    → (IsTrue a.honest → (x : List ℕ) → b.disk ≡ Some x → Only x b.images) → log' ≡ record log { end = log.end + record_len (record_of txn notes rows); count = log.count + 1 }
+pub committed_as : (d : Decoded) (disk : List ℕ) (log log' : LogState) (overlay overlay' : List PageRow) (rows : List WorkingRow) (r : LogRecord) (working : Volume) (a b : Outside)
+    → IsTrue a.honest → a.disk ≡ Some disk → Committed a.images d disk log overlay → IsOverlayOf d.volume overlay → IsNext d rows r → MayCommit d disk rows r.txn working
+    → log_end d.records + record_len r < 256 * d.geometry.page_size → ChangesWithin (Place d r) a b → DiskSays d.geometry b (d.records ++ r ∷ [])
+    → (IsTrue a.honest → (x : List ℕ) → b.disk ≡ Some x → Only x b.images) → log' ≡ record log { end = log.end + record_len r; count = log.count + 1 }
     → ((page : ℕ) → lookup (nat_eq page) overlay' ≡ over (lookup (nat_eq page) rows) (lookup (nat_eq page) overlay)) → IsRising overlay'
-    → (later : List ℕ) × (b.disk ≡ Some later) × CommittedAs d disk rows txn notes working b.images later log' overlay'
-committed_as d disk log log' overlay overlay' rows txn notes working a b honest holds committed of_files rising may fits changes says settled counts kept in_order =
-    let r = record_of txn notes rows in
+    → (later : List ℕ) × (b.disk ≡ Some later) × CommittedAs d disk rows r.txn r.notes working b.images later log' overlay'
+committed_as d disk log log' overlay overlay' rows r working a b honest holds committed of_files next may fits changes says settled counts kept in_order =
     let records = d.records ++ r ∷ [] in
     let now = changes.disk honest disk holds in
     let here : SaysLog d.geometry records now.0 = subst (SaysLog d.geometry records) (same_Some says.disk now.0 (sym says.holds ∙ now.1)) says.says in (
@@ -226,51 +229,57 @@ committed_as d disk log log' overlay overlay' rows txn notes working a b honest 
       record {
         earlier = d.records;
         those = inl refl;
+        made = r;
+        rule = next.rule;
+        anew = λ other. absurd (other refl);
         committed = record {
-          parts = new_decodes d disk rows txn notes working now.0 committed.parts rising may fits now.2 here;
+          parts = new_decodes d disk rows r working now.0 committed.parts next may fits now.2 here;
           durable = settled_agrees (with_records d records working) now.0 b.images (settled honest now.0 now.1);
           shown = record {
-            just = λ page. kept page ∙ ap (λ (o : Option (List ℕ)). over (lookup (nat_eq page) rows) o) (committed.shown.just page) ∙ sym (logged_more d.records txn notes rows page rising);
+            just = λ page. kept page ∙ ap (λ (o : Option (List ℕ)). over (lookup (nat_eq page) rows) o) (committed.shown.just page) ∙ sym (logged_more d.records r.txn r.notes rows r page next.rising next.sized next.rule);
             log_is = counts ∙ ap (λ (s : LogState). record { geometry = s.geometry; end = s.end + record_len r; count = s.count + 1 }) committed.shown.log_is
                 ∙ same_state d.geometry (sym (log_end-append d.records r)) (sym (length-append d.records (r ∷ [])));
           };
         };
-        of_files = later_of_files d disk overlay overlay' rows txn working of_files may kept;
+        of_files = later_of_files d disk overlay overlay' rows r.txn working of_files may kept;
         in_order = rising_numbers overlay' in_order;
-        pages = λ page le stale. new_units d disk rows txn notes working now.0 committed.parts rising may fits now.2 page le;
-        table = new_table d disk rows txn notes working now.0 committed.parts rising may fits now.2;
-        homes = new_homes d disk rows txn notes working now.0 committed.parts rising may fits now.2;
+        pages = λ page le stale. new_units d disk rows r working now.0 committed.parts next may fits now.2 page le;
+        table = new_table d disk rows r working now.0 committed.parts next may fits now.2;
+        homes = new_homes d disk rows r working now.0 committed.parts next may fits now.2;
       },
     )
 
 -- the same, as the log and its record say it
-pub add_leaves : (d : Decoded) (disk : List ℕ) (log : LogState) (overlay : List PageRow) (rows : List WorkingRow) (r : LogRecord) (working : Volume) (a b : Outside) → r ≡ record_of r.txn r.notes rows
-    → Committed a.images d disk log overlay → IsRising rows → MayCommit d disk rows r.txn working → log.end + record_len r < 256 * log.geometry.page_size
+pub add_leaves : (d : Decoded) (disk : List ℕ) (log : LogState) (overlay : List PageRow) (rows : List WorkingRow) (r : LogRecord) (working : Volume) (a b : Outside)
+    → Committed a.images d disk log overlay → IsNext d rows r → MayCommit d disk rows r.txn working → log.end + record_len r < 256 * log.geometry.page_size
     → Leaves a b (AddsHere log.geometry d.records r (InRange (log.geometry.page_size + log.end) (record_len r + 1)) a.images disk) → Leaves a b (StandsForEither d disk rows working)
-add_leaves d disk log overlay rows r working a b same committed rising may fits leaves =
+add_leaves d disk log overlay rows r working a b committed next may fits leaves =
     let state = committed.shown.log_is in
     let room = subst (λ (s : LogState). s.end + record_len r < 256 * s.geometry.page_size) state fits in
     leaves_wider (AddsHere d.geometry d.records r (Place d r) a.images disk) (StandsForEither d disk rows working)
     (subst (λ (s : LogState). Leaves a b (AddsHere s.geometry d.records r (InRange (s.geometry.page_size + s.end) (record_len r + 1)) a.images disk)) state leaves)
-    (λ e adds. adds_stands d disk log overlay rows r.txn r.notes working a.images e committed rising may (subst (λ (q : LogRecord). log_end d.records + record_len q < 256 * d.geometry.page_size) same room)
-    (subst (λ (q : LogRecord). AddsHere d.geometry d.records q (Place d q) a.images disk e) same adds))
+    (λ e adds. adds_stands d disk log overlay rows r working a.images e committed next may room adds)
 
-pub add_done : (d : Decoded) (disk : List ℕ) (log log' : LogState) (overlay overlay' : List PageRow) (rows : List WorkingRow) (r : LogRecord) (working : Volume) (a b : Outside) → r ≡ record_of r.txn r.notes rows
-    → IsTrue a.honest → a.disk ≡ Some disk → Committed a.images d disk log overlay → IsOverlayOf d.volume overlay → IsRising rows → MayCommit d disk rows r.txn working
+pub add_done : (d : Decoded) (disk : List ℕ) (log log' : LogState) (overlay overlay' : List PageRow) (rows : List WorkingRow) (r : LogRecord) (working : Volume) (a b : Outside)
+    → IsTrue a.honest → a.disk ≡ Some disk → Committed a.images d disk log overlay → IsOverlayOf d.volume overlay → IsNext d rows r → MayCommit d disk rows r.txn working
     → log.end + record_len r < 256 * log.geometry.page_size → ChangesWithin (InRange (log.geometry.page_size + log.end) (record_len r + 1)) a b → DiskSays log.geometry b (d.records ++ r ∷ [])
     → (IsTrue a.honest → (x : List ℕ) → b.disk ≡ Some x → Only x b.images) → log' ≡ record log { end = log.end + record_len r; count = log.count + 1 }
     → ((page : ℕ) → lookup (nat_eq page) overlay' ≡ over (lookup (nat_eq page) rows) (lookup (nat_eq page) overlay)) → IsRising overlay'
     → (later : List ℕ) × (b.disk ≡ Some later) × CommittedAs d disk rows r.txn r.notes working b.images later log' overlay'
-add_done d disk log log' overlay overlay' rows r working a b same honest holds committed of_files rising may fits changes says settled counts kept in_order =
+add_done d disk log log' overlay overlay' rows r working a b honest holds committed of_files next may fits changes says settled counts kept in_order =
     let state = committed.shown.log_is in
-    let room = subst (λ (s : LogState). s.end + record_len r < 256 * s.geometry.page_size) state fits in
-    let written = subst (λ (s : LogState). ChangesWithin (InRange (s.geometry.page_size + s.end) (record_len r + 1)) a b) state changes in
-    let spelled = subst (λ (s : LogState). DiskSays s.geometry b (d.records ++ r ∷ [])) state says in
-    committed_as d disk log log' overlay overlay' rows r.txn r.notes working a b honest holds committed of_files rising may
-    (subst (λ (q : LogRecord). log_end d.records + record_len q < 256 * d.geometry.page_size) same room)
-    (subst (λ (q : LogRecord). ChangesWithin (Place d q) a b) same written)
-    (subst (λ (q : LogRecord). DiskSays d.geometry b (d.records ++ q ∷ [])) same spelled) settled
-    (subst (λ (q : LogRecord). log' ≡ record log { end = log.end + record_len q; count = log.count + 1 }) same counts) kept in_order
+    committed_as d disk log log' overlay overlay' rows r working a b honest holds committed of_files next may
+    (subst (λ (s : LogState). s.end + record_len r < 256 * s.geometry.page_size) state fits)
+    (subst (λ (s : LogState). ChangesWithin (InRange (s.geometry.page_size + s.end) (record_len r + 1)) a b) state changes)
+    (subst (λ (s : LogState). DiskSays s.geometry b (d.records ++ r ∷ [])) state says) settled counts kept in_order
+
+-- the record is the next over the log, where the overlay is what the log has
+pub is_next : (d : Decoded) (disk : List ℕ) (log : LogState) (images : List ℕ → Type 0) (o : Overlays) (r : LogRecord) → Committed images d disk log o.committed → AreRows o → IsRecordOf (committed_image o) r.txn r.notes o.working r → IsNext d o.working r
+is_next d disk log images o r committed are of = record {
+  rising = are.working_rising;
+  sized = sized o (λ page. logged d.records page) are committed.shown.just;
+  rule = record_as (committed_image o) (λ page. logged d.records page) r.txn r.notes o.working r committed.shown.just of;
+}
 
 -- the record lies before the catalog's page
 pub before_catalog : (log : LogState) (r : LogRecord) (a b : Outside) → log.end + record_len r < 256 * log.geometry.page_size → ChangesWithin (InRange (log.geometry.page_size + log.end) (record_len r + 1)) a b

@@ -14,7 +14,7 @@ use Rattle.op_log.specs.AfterLog.{logged, after_log}
 use Rattle.op_log.specs.State.{LogState}
 use Rattle.trees.specs.Trees.{root_units}
 use Rattle.trees.proofs.SameUnits.{Kept}
-use Rattle.volume_model.specs.Committed.{CommittedAs, MayCommit, IsOverlayOf, IsStale, SameAfterLog, StandsForEither, with_records}
+use Rattle.volume_model.specs.Committed.{CommittedAs, HasNoRoom, MayCommit, IsOverlayOf, IsStale, SameAfterLog, StandsForEither, with_records}
 use Rattle.volume_model.specs.Parts.{StandsFor}
 use Rattle.volume_model.specs.SameVolume.{RootKept, units_of_root, kept_from_reach, parts_kept, table_kept}
 use Rattle.volume_model.specs.Shown.{PageRow, WorkingRow, laid_over, laid_over_page, working_units}
@@ -102,12 +102,21 @@ module _ (d : Decoded) (disk : List ℕ) (records : List LogRecord) (later : Lis
     pub either_still : (e : List ℕ) → StandsForEither now later rows working e → StandsForEither d disk rows working e
     either_still e stands = ⊎_elim (λ old. inl (subst (StandsFor e) same.table old)) (λ new. inr (subst (StandsFor e) working_table new)) stands
 
+    -- where the record has no room over these records, it has none over those of before
+    no_room : (notes : List OpNote) (earlier : List LogRecord) → ((records ≡ d.records → ⊥) → HasNoRoom d rows txn notes) → (earlier ≡ records) ⊎ (earlier ≡ []) → ((earlier ≡ records → ⊥) → HasNoRoom now rows txn notes) → (earlier ≡ d.records → ⊥) → HasNoRoom d rows txn notes
+    no_room notes earlier anew then later_anew other = ⊎_elim
+        (λ (old : records ≡ d.records). subst (λ (rs : List LogRecord). HasNoRoom (with_records d rs d.volume) rows txn notes) old (later_anew (λ is. other (is ∙ old))))
+        (λ (none : records ≡ []). anew (λ old. other (⊎_elim (λ is. is ∙ old) (λ empty. empty ∙ sym none ∙ old) then))) those
+
     -- and what is then committed is the working volume.
-    pub committed_still : (notes : List OpNote) (images : List ℕ → Type 0) (last : List ℕ) (log : LogState) (overlay' : List PageRow) → CommittedAs now later rows txn notes working images last log overlay'
-        → CommittedAs d disk rows txn notes working images last log overlay'
-    committed_still notes images last log overlay' done = record {
+    pub committed_still : (notes : List OpNote) → ((records ≡ d.records → ⊥) → HasNoRoom d rows txn notes) → (images : List ℕ → Type 0) (last : List ℕ) (log : LogState) (overlay' : List PageRow)
+        → CommittedAs now later rows txn notes working images last log overlay' → CommittedAs d disk rows txn notes working images last log overlay'
+    committed_still notes anew images last log overlay' done = record {
       earlier = done.earlier;
       those = ⊎_elim (λ is. ⊎_elim (λ old. inl (is ∙ old)) (λ none. inr (is ∙ none)) those) (λ none. inr none) done.those;
+      made = done.made;
+      rule = done.rule;
+      anew = no_room notes done.earlier anew done.those done.anew;
       committed = done.committed;
       of_files = done.of_files;
       in_order = done.in_order;

@@ -5,6 +5,7 @@ pub mod Lending
 pub mod HomesKept
 pub mod Closing
 pub mod LoggedPages
+pub mod OneRecord
 pub mod Adding
 pub mod RoomInLog
 pub mod Composed

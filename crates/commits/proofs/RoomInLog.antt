@@ -1,98 +1,110 @@
--- How much of the log the committed images take.
-use Rattle.std.proofs.Common.{◌∙◌, ◌≡◌, ◌≤◌, ◌<◌, ◌+◌, ◌*◌, ℕ, Bool, true, false, cond, ⊎_elim, List, [], ◌∷◌, length, Some, None, nat_eq, nat_lt, ap, subst, arith}
+-- How much of the log a record and the committed images take.
+use Rattle.std.proofs.Common.{◌∙◌, ◌≡◌, ◌≤◌, ◌<◌, ◌+◌, ◌*◌, ◌&&◌, ℕ, true, not, is_some, ⊎_elim, List, [], ◌∷◌, length, All, Option, Some, None, nat_eq, refl, sym, ap, subst, arith}
 use Rattle.std.specs.List.{AllByRecursion}
+use Rattle.std.specs.Map.{lookup}
 use Rattle.std.proofs.lemmas.Bool.{cases_lt}
 use Rattle.std.proofs.Math.Nat.{suc-mul, add-mul, mul-le-mul_right}
 use Rattle.std.proofs.lemmas.Nat.{mul-le}
+use Rattle.std.proofs.lemmas.List.Elements.{All-head, All-tail}
 use Rattle.ex_base.specs.declared.geometry.Geometry.{Geometry}
+use Rattle.ex_base.specs.declared.names.OpNote.{OpNote}
+use Rattle.ex_base.specs.declared.names.PageNo.{PageNo}
 use Rattle.ex_base.specs.Sizes.{least_page}
-use Rattle.meta_pages.specs.Overlays.{Overlays, images_most}
-use Rattle.meta_pages.specs.Rows.{with_row, without_row, kept_rows, fresh, is_fresh, ones, named}
+use Rattle.ex_base.proofs.Options.{some_apart}
+use Rattle.meta_pages.specs.Overlays.{Overlays, AreRows, IsWorkingRow, images_most, committed_image}
+use Rattle.meta_pages.specs.Rows.{kept_rows, fresh, named, ones}
+use Rattle.meta_pages.proofs.Keeping.{kept_few}
 use Rattle.op_log.specs.declared.record.LogRecord.{LogRecord}
+use Rattle.op_log.specs.declared.kind.RecordKind.{RecordKind}
 use Rattle.op_log.specs.declared.kind.RecordKind.TheVariants.{Forms}
 use Rattle.op_log.specs.Records.{IsLogRecord, IsEntry, entries_len, record_len}
-use Rattle.page_entries.specs.declared.form.EntryForm.TheVariants.{Image}
-use Rattle.page_entries.specs.Said.{Said, Whole, Slots, Files, AreFields, IsSaid, form_of, said_bytes}
+use Rattle.page_entries.specs.declared.entry.PageEntry.{PageEntry}
+use Rattle.page_entries.specs.declared.form.EntryForm.{EntryForm}
+use Rattle.page_entries.specs.declared.form.EntryForm.TheVariants.{Image, SlotChanges, FileChanges}
+use Rattle.page_entries.specs.EntryOf.{IsEntryOf}
+use Rattle.page_entries.specs.Rule.{ByRule, changed, whole}
+use Rattle.page_entries.specs.Said.{Said, Whole, Slots, Files, AreFields, IsSaid, form_of, said_bytes, said_on}
+use Rattle.page_entries.proofs.ReadAgain.{spelled_again}
+use Rattle.page_entries.proofs.RuleLaws.{short_rule}
 use Rattle.op_log.specs.State.{LogState}
-use Rattle.volume_model.specs.Committed.{images_of, record_of}
+use Rattle.op_log.proofs.Applied.{Pages}
+use Rattle.volume_model.specs.Committed.{AreEntries, IsRecordOf}
 use Rattle.volume_model.specs.Shown.{PageRow, WorkingRow}
 use Rattle.commits.specs.Room.{IsLogged}
 
--- ---- what a record takes
+-- ---- at most
+
+-- an entry takes no more than a page
+entry_short : (page : PageNo) (old : Option (List ℕ)) (image : List ℕ) (e : PageEntry) → IsEntryOf page old image e → length e.fields ≤ length image
+entry_short page old image e is = omega (arith, short_rule page.0 old image (said_on e.form e.fields) is.rule, ap length (spelled_again (length image) e.form e.fields is.fields))
+
+pub entries_most : (g : Geometry) (f : Pages) (rows : List WorkingRow) (entries : List PageEntry) → All (IsWorkingRow g) rows → AreEntries f rows entries → entries_len Forms entries ≤ length entries * (g.page_size + 5)
+entries_most g f [] entries all are = subst (λ (l : List PageEntry). entries_len Forms l ≤ length l * (g.page_size + 5)) (sym are) (omega arith)
+entries_most g f ((page, None) ∷ rows) entries all are = entries_most g f rows entries (All-tail (IsWorkingRow g) (page, None) rows all) are
+entries_most g f ((page, Some image) ∷ rows) [] all are = absurd are
+entries_most g f ((page, Some image) ∷ rows) (e ∷ entries) all are = omega (
+  arith,
+  suc-mul (length entries) (g.page_size + 5),
+  entries_most g f rows entries (All-tail (IsWorkingRow g) (page, Some image) rows all) are.1,
+  entry_short (record { 0 = page }) (f page) image e are.0,
+  (All-head (IsWorkingRow g) (page, Some image) rows all).1,
+)
+
+-- so a record always lies inside an empty log
+pub record_room : (o : Overlays) (f : Pages) (txn : ℕ) (notes : List OpNote) (r : LogRecord) → AreRows o → IsRecordOf f txn notes o.working r → IsLogRecord o.geometry r → record_len r < 256 * o.geometry.page_size
+record_room o f txn notes r are of is =
+    let g = o.geometry in
+    let most = mul-le (length r.pages) (g.page_size + 5) 128 (g.page_size + 5) (omega (arith, is.few_pages)) (omega arith) in
+    let len : entries_len r.kind r.pages ≡ entries_len Forms r.pages = ap (λ (k : RecordKind). entries_len k r.pages) of.kind in
+    omega (arith, len, entries_most g f o.working r.pages are.working_pages of.entries, most, is.few_notes, is.few_pages, least_page g)
+
+-- ---- at least
+
+rule_whole : (page : ℕ) (old : Option (List ℕ)) (new : List ℕ) (said : Said) → old ≡ None → ByRule page old new said → said ≡ Whole new
+rule_whole page old new said none (changed before is differs short) = absurd (some_apart before (sym is ∙ none))
+rule_whole page old new said none (whole says longer) = says
+
+whole_form : (form : EntryForm) (fields new : List ℕ) → said_on form fields ≡ Whole new → form ≡ Image
+unfolding said_on
+whole_form Image fields new is = refl
+whole_form SlotChanges fields new is = absurd (cc)
+whole_form FileChanges fields new is = absurd (cc)
 
 said_long : (size : ℕ) (fields : List ℕ) (said : Said) → IsSaid size said → form_of said ≡ Image → fields ≡ said_bytes said → length fields ≡ size
 said_long size fields (Whole image) fits form is = ap length is ∙ fits
 said_long size fields (Slots changes) fits form is = absurd cc
 said_long size fields (Files next_unique last removed put) fits form is = absurd cc
 
-image_long : (size : ℕ) (fields : List ℕ) → AreFields size Image fields → length fields ≡ size
-image_long size fields says = said_long size fields says.0 says.1 says.2 says.3
+image_long : (size : ℕ) (form : EntryForm) (fields : List ℕ) → form ≡ Image → AreFields size form fields → length fields ≡ size
+image_long size form fields is says = said_long size fields says.0 says.1 (says.2 ∙ is) says.3
 
--- an image takes a page, its number and its form
-pub images_size : (g : Geometry) (rows : List WorkingRow) → AllByRecursion (IsEntry g Forms) (images_of rows) → length (images_of rows) * (g.page_size + 5) ≡ entries_len Forms (images_of rows)
-images_size g [] each = omega arith
-images_size g ((page, None) ∷ rows) each = images_size g rows each
-images_size g ((page, Some image) ∷ rows) each = omega (arith, suc-mul (length (images_of rows)) (g.page_size + 5), images_size g rows each.1, image_long g.page_size image each.0.fields)
+-- the entry of a page of which nothing is known has all of its bytes
+first_long : (g : Geometry) (page : PageNo) (old : Option (List ℕ)) (image : List ℕ) (e : PageEntry) → old ≡ None → IsEntryOf page old image e → IsEntry g Forms e → length e.fields ≡ g.page_size
+first_long g page old image e none of is = image_long g.page_size e.form e.fields (whole_form e.form e.fields image (rule_whole page.0 old image (said_on e.form e.fields) none of.rule)) is.fields
 
-images_least : (g : Geometry) (rows : List WorkingRow) → AllByRecursion (IsEntry g Forms) (images_of rows) → length (images_of rows) * (g.page_size + 4) ≤ entries_len Forms (images_of rows)
-images_least g [] each = omega arith
-images_least g ((page, None) ∷ rows) each = images_least g rows each
-images_least g ((page, Some image) ∷ rows) each = omega (arith, suc-mul (length (images_of rows)) (g.page_size + 4), images_least g rows each.1, image_long g.page_size image each.0.fields)
+one_least : (g : Geometry) (page : ℕ) (o : Option (List ℕ)) (image : List ℕ) (e : PageEntry) (n len : ℕ) → IsEntryOf (record { 0 = page }) o image e → IsEntry g Forms e → n * (g.page_size + 4) ≤ len
+    → (ones (true && not (is_some o)) + n) * (g.page_size + 4) ≤ length e.fields + 5 + len
+one_least g page None image e n len of is rest = omega (arith, add-mul 1 n (g.page_size + 4), rest, first_long g (record { 0 = page }) None image e refl of is)
+one_least g page (Some b) image e n len of is rest = omega (arith, add-mul 0 n (g.page_size + 4), rest)
 
-module _ (g : Geometry) (r : LogRecord) (rows : List WorkingRow) (same : r ≡ record_of r.txn r.notes rows) (is : IsLogRecord g r) where
-  are_images : AllByRecursion (IsEntry g Forms) (images_of rows)
-  are_images = subst (λ (q : LogRecord). AllByRecursion (IsEntry g q.kind) q.pages) same is.entries
-
-  len_is : entries_len r.kind r.pages ≡ entries_len Forms (images_of rows)
-  len_is = ap (λ (q : LogRecord). entries_len q.kind q.pages) same
-
-  images_room : length (images_of rows) * (g.page_size + 4) ≤ record_len r
-  images_room = omega (arith, images_least g rows are_images, len_is)
-
-  -- such a record always lies inside an empty log
-  pub record_room : record_len r < 256 * g.page_size
-  record_room =
-      let few : length r.pages ≡ length (images_of rows) = ap (λ (q : LogRecord). length q.pages) same in
-      let most = mul-le (length (images_of rows)) (g.page_size + 5) 128 (g.page_size + 5) (omega (arith, is.few_pages, few)) (omega arith) in
-      omega (arith, len_is, images_size g rows are_images, most, is.few_notes, is.few_pages, least_page g)
+pub fresh_least : (g : Geometry) (c : List PageRow) (rows : List WorkingRow) (entries : List PageEntry) → AreEntries (λ page. lookup (nat_eq page) c) rows entries → AllByRecursion (IsEntry g Forms) entries
+    → fresh c rows * (g.page_size + 4) ≤ entries_len Forms entries
+fresh_least g c [] entries are each = omega arith
+fresh_least g c ((page, None) ∷ rows) entries are each = subst (λ (n : ℕ). n * (g.page_size + 4) ≤ entries_len Forms entries) (omega arith) (fresh_least g c rows entries are each)
+fresh_least g c ((page, Some image) ∷ rows) [] are each = absurd are
+fresh_least g c ((page, Some image) ∷ rows) (e ∷ entries) are each =
+    let rest = fresh_least g c rows entries are.1 each.1 in
+    subst (λ (n : ℕ). fresh c ((page, Some image) ∷ rows) * (g.page_size + 4) ≤ n) (omega arith) (one_least g page (lookup (nat_eq page) c) image e (fresh c rows) (entries_len Forms entries) are.0 each.0 rest)
 
 -- ---- what the overlay takes
 
-length-with_row : (page : ℕ) (image : List ℕ) (rows : List PageRow) → length (with_row page image rows) ≤ length rows + 1
-length-with_row page image [] = omega arith
-length-with_row page image (row ∷ rows) =
-    elim (nat_lt row.0 page) as (λ t. length (cond t (row ∷ with_row page image rows) (cond (nat_eq page row.0) ((page, image) ∷ rows) ((page, image) ∷ row ∷ rows))) ≤ length (row ∷ rows) + 1) [
-      | true ↦ omega (arith, length-with_row page image rows)
-      | false ↦ elim (nat_eq page row.0) as (λ t. length (cond t ((page, image) ∷ rows) ((page, image) ∷ row ∷ rows)) ≤ length (row ∷ rows) + 1) [ true ↦ omega arith | false ↦ omega arith ]
-    ]
-
-length-without_row : (page : ℕ) (rows : List PageRow) → length (without_row page rows) ≤ length rows
-length-without_row page [] = omega arith
-length-without_row page (row ∷ rows) =
-    elim (nat_lt row.0 page) as (λ t. length (cond t (row ∷ without_row page rows) (cond (nat_eq page row.0) rows (row ∷ rows))) ≤ length (row ∷ rows)) [
-      | true ↦ omega (arith, length-without_row page rows)
-      | false ↦ elim (nat_eq page row.0) as (λ t. length (cond t rows (row ∷ rows)) ≤ length (row ∷ rows)) [ true ↦ omega arith | false ↦ omega arith ]
-    ]
-
-kept_few : (committed : List PageRow) (rows : List WorkingRow) → length (kept_rows committed rows) ≤ length committed + length (images_of rows)
-kept_few committed [] = omega arith
-kept_few committed ((page, None) ∷ rows) = omega (arith, length-without_row page (kept_rows committed rows), kept_few committed rows)
-kept_few committed ((page, Some image) ∷ rows) = omega (arith, length-with_row page image (kept_rows committed rows), kept_few committed rows)
-
-one_at_most : (t : Bool) → ones t ≤ 1
-one_at_most true = omega arith
-one_at_most false = omega arith
-
-fresh_few : (committed : List PageRow) (rows : List WorkingRow) → fresh committed rows ≤ length (images_of rows)
-fresh_few committed [] = omega arith
-fresh_few committed ((page, None) ∷ rows) = omega (arith, fresh_few committed rows)
-fresh_few committed ((page, Some image) ∷ rows) = omega (arith, one_at_most (is_fresh committed (page, Some image)), fresh_few committed rows)
-
-module _ (log : LogState) (o : Overlays) (r : LogRecord) (geometry : log.geometry ≡ o.geometry) (logged : IsLogged log o) (is : IsLogRecord log.geometry r) (same : r ≡ record_of r.txn r.notes o.working) where
-  both : (length o.committed + length (images_of o.working)) * (o.geometry.page_size + 4) ≤ log.end + record_len r
+module _ (log : LogState) (o : Overlays) (txn : ℕ) (notes : List OpNote) (r : LogRecord) (geometry : log.geometry ≡ o.geometry) (logged : IsLogged log o) (is : IsLogRecord log.geometry r) (of : IsRecordOf (committed_image o) txn notes o.working r) where
+  both : named o.committed o.working * (o.geometry.page_size + 4) ≤ log.end + record_len r
   both =
-      let mine = images_room o.geometry r o.working same (subst (λ (g : Geometry). IsLogRecord g r) geometry is) in
-      omega (arith, add-mul (length o.committed) (length (images_of o.working)) (o.geometry.page_size + 4), logged.images, mine)
+      let valid : IsLogRecord o.geometry r = subst (λ (g : Geometry). IsLogRecord g r) geometry is in
+      let each : AllByRecursion (IsEntry o.geometry Forms) r.pages = subst (λ (k : RecordKind). AllByRecursion (IsEntry o.geometry k) r.pages) of.kind valid.entries in
+      let len : entries_len r.kind r.pages ≡ entries_len Forms r.pages = ap (λ (k : RecordKind). entries_len k r.pages) of.kind in
+      omega (arith, add-mul (length o.committed) (fresh o.committed o.working) (o.geometry.page_size + 4), logged.images, fresh_least o.geometry o.committed o.working r.pages of.entries each, len)
 
   -- there is room for the images that the transaction adds
   pub few_named : log.end + record_len r < 256 * log.geometry.page_size → named o.committed o.working ≤ images_most
@@ -102,16 +114,15 @@ module _ (log : LogState) (o : Overlays) (r : LogRecord) (geometry : log.geometr
         both,
         fits,
         ap (λ (g : Geometry). g.page_size) geometry,
-        fresh_few o.committed o.working,
-        mul-le-mul_right {m = 257} {n = length o.committed + length (images_of o.working)} (o.geometry.page_size + 4) (omega (arith, over, fresh_few o.committed o.working)),
+        mul-le-mul_right {m = 257} {n = named o.committed o.working} (o.geometry.page_size + 4) (omega (arith, over)),
       )))
       (λ within. within) (cases_lt images_most (named o.committed o.working))
 
-  pub logged_then : (log' : LogState) (o' : Overlays) → log' ≡ record log { end = log.end + record_len r; count = log.count + 1 } → o' ≡ record o { committed = kept_rows o.committed o.working; working = [] } → IsLogged log' o'
-  logged_then log' o' counts kept = record {
+  pub logged_then : AreRows o → (log' : LogState) (o' : Overlays) → log' ≡ record log { end = log.end + record_len r; count = log.count + 1 } → o' ≡ record o { committed = kept_rows o.committed o.working; working = [] } → IsLogged log' o'
+  logged_then are log' o' counts kept = record {
     images =
         let rows = ap (λ (x : Overlays). length x.committed * (x.geometry.page_size + 4)) kept in
-        let few = mul-le-mul_right {m = length (kept_rows o.committed o.working)} {n = length o.committed + length (images_of o.working)} (o.geometry.page_size + 4) (kept_few o.committed o.working) in
+        let few = mul-le-mul_right {m = length (kept_rows o.committed o.working)} {n = named o.committed o.working} (o.geometry.page_size + 4) (kept_few o.committed o.working are.rising are.working_rising) in
         omega (arith, rows, few, both, ap (λ (s : LogState). s.end) counts);
     none = λ no. absurd (omega (arith, no, ap (λ (s : LogState). s.count) counts));
   }

@@ -227,3 +227,14 @@ lookup_put (Ok v) page image rows now put = λ p. ap (lookup (nat_eq p)) put ∙
     put_at : (p : ℕ) (b : Bool) → nat_eq page p ≡ b → lookup (nat_eq p) (with_row page image rows) ≡ cond b (Some image) (lookup (nat_eq p) rows)
     put_at p true is = ap (λ (q : ℕ). lookup (nat_eq q) (with_row page image rows)) (sym (eqb-true page p is)) ∙ lookup_put_here page image rows
     put_at p false is = lookup_put_other page image rows p (λ same. let h = eq-eqb page p same in cc)
+
+-- ---- how many they are afterwards
+
+-- no more than had a committed or a working image
+pub kept_few : (c : List (ℕ × List ℕ)) (ws : List Row) → IsRising c → IsRising ws → length (kept_rows c ws) ≤ named c ws
+kept_few c [] rising working = omega arith
+kept_few c ((page, None) ∷ ws) rising working = omega (arith, length_without page (kept_rows c ws), kept_few c ws rising working.1)
+kept_few c ((page, Some b) ∷ ws) rising working =
+    let unlike : lookup (nat_eq page) ws ≡ None = none_above page page ws (omega arith) working.0 in
+    let same : lookup (nat_eq page) (kept_rows c ws) ≡ lookup (nat_eq page) c = kept_image c ws page rising ∙ ap (λ (row : Option (Option (List ℕ))). over row (lookup (nat_eq page) c)) unlike in
+    omega (arith, length_with page b (kept_rows c ws) (rising_kept c ws rising), ap (λ (o : Option (List ℕ)). ones (not (is_some o))) same, kept_few c ws rising working.1)

@@ -14,11 +14,11 @@ ghost use Rattle.page_entries.specs.After.{Applies, said_after};
 ghost use Rattle.page_entries.specs.Said.{AreFields, said_on};
 
 use crate::home::write_rows;
-use crate::rows::{find_row, keep_rows, put_row, take_row};
+use crate::rows::{find_row, image_row, keep_rows, put_row, take_row};
 use buffer_groups::{FetchFault, Group, Groups};
 use disk_model::{Disk, Failed};
 use ex_base::{Geometry, Image, LOG_PAGES, PageNo, TOUCHED_MOST};
-use page_entries::{PageEntry, apply_entry};
+use page_entries::{PageEntry, apply_entry, entry_for};
 use std::alloc::{AllocError, Global};
 use std::marker::Model;
 
@@ -48,6 +48,7 @@ impl Model for Meta {
 impl Meta {
     ghost use Rattle.meta_pages.specs.Overlays.{Overlays, AreRows, image_at, committed_image, images_most, touched};
     ghost use Rattle.meta_pages.specs.Rows.{with_row, kept_rows, named, IsRising};
+    ghost use Rattle.meta_pages.specs.Entries.{imaged, IsEntryAt};
     ghost use Rattle.meta_pages.specs.Homes.{AreFrom, InHomes, homes_written, homes_forgotten};
 
     /// No images, and the room for those that the log and a transaction can have.
@@ -178,6 +179,20 @@ impl Meta {
             Some((page, None)) => Some((PageNo(*page), None)),
             None => None,
         }
+    }
+
+    /// The entry that a commit writes for a touched page, by the rule over the committed images. The index counts those that weren't given back, in
+    /// rising order from 0 on. None past the end.
+    pub fn entry_at(&self, alloc: Global, index: u32) -> Result<Option<PageEntry>, AllocError>
+        ensures { IfOk result (λ found. MatchOption found (length (imaged self.now.working)
+            ≤ index) (IsEntryAt self.now index)) }
+    {
+        let Some((page, image)) = image_row(&self.working, index as usize) else {
+            return Ok(None);
+        };
+        let page = PageNo(page);
+        let entry = entry_for(alloc, page, self.committed_at(page), image)?;
+        Ok(Some(entry))
     }
 
     /// The working images become committed, and a page that was given back has no image any more. The images are moved, into the room that `make` took.

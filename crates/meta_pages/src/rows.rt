@@ -1,7 +1,8 @@
 //! Rows in rising order of their page numbers.
-ghost use Rattle.std.specs.Prelude.{◌≡◌, ◌≢◌, ◌≤◌, ◌<◌, ◌+◌, ℕ, [], length, slice_index_or, IsOk, IsSome, OnOk, OnErr, nat_eq, option_copied, vec_capacity, is_some, if◌then◌else◌};
+ghost use Rattle.std.specs.Prelude.{◌≡◌, ◌≢◌, ◌≤◌, ◌<◌, ◌+◌, ℕ, [], length, slice_get, slice_index_or, IsOk, IsSome, MatchOption, OnOk, OnErr, Some, nat_eq, option_copied, vec_capacity, is_some, if◌then◌else◌};
 ghost use Rattle.std.specs.Map.{lookup};
 ghost use Rattle.std.specs.Bool.{OnTrue, OnFalse};
+ghost use Rattle.meta_pages.specs.Entries.{imaged};
 ghost use Rattle.meta_pages.specs.Overlays.{images_most};
 ghost use Rattle.meta_pages.specs.Rows.{place, with_row, without_row, kept_rows, named, IsRising};
 
@@ -48,6 +49,23 @@ pub fn find_row<T>(rows: &[(u32, T)], page: u32) -> Option<&T>
     } else {
         None
     }
+}
+
+// The page at an index among those that have an image, with that image. None past the end.
+pub fn image_row(rows: &[(u32, Option<Image>)], index: usize) -> Option<(u32, &[u8])>
+    ensures { MatchOption result (length (imaged rows.now)
+        ≤ index) (λ row. slice_get (imaged rows.now) index ≡ Some (row.0, row.1.now)) }
+{
+    let mut ahead = index;
+    for row in rows {
+        if let Some(image) = &row.1 {
+            if ahead == 0 {
+                return Some((row.0, image.as_slice()));
+            }
+            ahead -= 1;
+        }
+    }
+    None
 }
 
 // Puts a row in its place. Where there is no memory, nothing changes.

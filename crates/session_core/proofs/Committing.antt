@@ -26,7 +26,7 @@ use Rattle.table_model.specs.Steps.{table_committed, Step}
 use Rattle.table_model.proofs.Keeping.{is_working}
 use Rattle.session_views.specs.View.{View, ShowsNow, StandsDuring, Stepped}
 use Rattle.table_model.specs.Requests as request
-use Rattle.volume_model.specs.Committed.{Committed, IsOverlayOf, MayCommit, CommittedAs, Checkpointed, StandsForEither, StandsForVolume, with_records, record_of}
+use Rattle.volume_model.specs.Committed.{Committed, IsOverlayOf, MayCommit, CommittedAs, Checkpointed, StandsForEither, StandsForVolume, with_records}
 use Rattle.volume_model.specs.Parts.{StandsFor}
 use Rattle.volume_model.specs.Shown.{Held, Shows, WorkingRow, PageRow, IsWorkingPage, working_units, used_in}
 use Rattle.volume_model.specs.Volume.{Volume, Decoded, table_of, units_of, file_pages, reach_of, roots_in, stored_in}
@@ -35,7 +35,7 @@ use Rattle.buffer_groups.specs.Frames as lent
 use Rattle.meta_pages.specs.Overlays.{Overlays}
 use Rattle.table_model.specs.declared.reply.Reply.TheVariants as reply
 use Rattle.table_model.proofs.StepsKeep.{steps_keep}
-use Rattle.session_core.specs.Commits.{HasNotes}
+use Rattle.session_core.specs.Commits.{LogsCommit}
 use Rattle.session_core.specs.Sessions.{SessionState, IsSession, IsTracked, Settled, held, is_kept}
 use Rattle.session_core.specs.Meant.{meant, pick_of, held_view}
 use Rattle.session_core.proofs.Accepted.{took_place}
@@ -177,7 +177,7 @@ module _ {may_leave : List ℕ → Type 0} {v : View SessionState} (shows : Show
   module _ (catalog : CatalogOf page (numbered shows.working.catalog)) (txn : ℕ) (notes : List OpNote) (leave : List ℕ → Type 0) (disk : List ℕ) (log : LogState) (overlay : List PageRow)
       (done : CommittedAs d v.disk later txn notes w leave disk log overlay) where
     abbrev e : Decoded
-    e = with_records d (done.earlier ++ record_of txn notes later ∷ []) w
+    e = with_records d (done.earlier ++ done.made ∷ []) w
 
     abbrev new_units : Units
     new_units = units_of e disk
@@ -209,7 +209,7 @@ module _ {may_leave : List ℕ → Type 0} {v : View SessionState} (shows : Show
 
       pub commit_leaves : (m : Machine) (s : Held) → m.scans ≡ v.machine.scans → s.scans ≡ [] → m.geometry ≡ v.machine.geometry → m.working ≡ None → m.touched ≡ 0 → s.working_pages ≡ []
           → s.used ≡ used_at used → s.held ≡ is_held pages → s.kept ≡ is_kept now → s.taken ≡ is_taken pages → m.pages_used ≡ used_in d.geometry s.used Page → m.segs_used ≡ used_in d.geometry s.used Segment
-          → LeavesUnits d (done.earlier ++ record_of txn notes later ∷ []) w (held_view v) m s disk
+          → LeavesUnits d (done.earlier ++ done.made ∷ []) w (held_view v) m s disk
       commit_leaves m s machine_scans scans geometry closed untouched no_pages used_is held_is kept_is taken_is pages_used segs_used = record {
         machine_scans = machine_scans;
         no_scan = refl;
@@ -307,7 +307,7 @@ commit_steps {a} {m} {b} {before} now page log meta groups kept pages units new 
       shows = record {
         honest = honest_on only.goes (honest_on reads.nothing.only.goes now.honest);
         holds = done.1;
-        shows = rests_shown now.shows after (held s) (result.earlier ++ record_of txn before.session.notes (numbered_rows page before.session.meta.working) ∷ []) w done.0
+        shows = rests_shown now.shows after (held s) (result.earlier ++ result.made ∷ []) w done.0
             (record { committed = result.committed; in_order = result.in_order; of_files = result.of_files })
             (commit_leaves now.shows page session opened catalog txn before.session.notes b.images done.0 log meta.committed result kept pages units settled after (held s) refl refl refl refl refl none refl refl refl refl refl refl)
             (record { geometry = now.shows.shared.geometry; notes = refl; names = ap unmarked now.shows.shared.names; group_rows = now.shows.shared.group_rows; open_txn = refl; up = now.shows.shared.up })
@@ -316,20 +316,21 @@ commit_steps {a} {m} {b} {before} now page log meta groups kept pages units new 
       step = step;
     }
 
-pub commit_notes : {a m b : Outside} {before : View SessionState} (now : ShowsNow meant a before) (page : List ℕ) (log : LogState) (meta : Overlays) → IsSession before.session → ReadsOnly a m → before.session.opened ≡ true → CatalogOf page (numbered now.shows.working.catalog)
-    → Commits m b before.session.log (numbered_pages before.session.meta page) (now.shows.working.catalog.last + 1) before.session.notes log meta → HasNotes b before.session.geometry before.session.notes
-commit_notes {a} {m} {b} {before} now page log meta session reads opened catalog commits =
+pub commit_logs : {a m b : Outside} {before : View SessionState} (now : ShowsNow meant a before) (page : List ℕ) (log : LogState) (meta : Overlays) → IsSession before.session → ReadsOnly a m → before.session.opened ≡ true → CatalogOf page (numbered now.shows.working.catalog)
+    → Commits m b before.session.log (numbered_pages before.session.meta page) (now.shows.working.catalog.last + 1) before.session.notes log meta → LogsCommit now.shows.decoded now.shows.working before.session b
+commit_logs {a} {m} {b} {before} now page log meta session reads opened catalog commits =
     let done = commits now.shows.decoded before.disk (committed_as now.shows.working) (honest_on reads.nothing.only.goes now.honest) (reads.nothing.disk ∙ now.holds) (committed_side now.shows (left_before reads now)) now.shows.overlay.pages
     (may_commit now.shows page session opened catalog) in
     let result = done.2 in
-    let last = record_of (now.shows.working.catalog.last + 1) before.session.notes (with_row catalog_no (Some page) before.session.meta.working) in
     record {
+      catalog = page;
+      numbered = catalog;
       earlier = result.earlier;
-      last = last;
-      disk = done.0;
-      holds = done.1;
-      says = subst (λ (g : Geometry). SaysLog g (result.earlier ++ last ∷ []) done.0) (sym (session_geometry now.shows)) result.committed.parts.1.0.says;
-      notes_are = refl;
+      those = result.those;
+      made = result.made;
+      rule = result.rule;
+      anew = result.anew;
+      says = record { disk = done.0; holds = done.1; says = subst (λ (g : Geometry). SaysLog g (result.earlier ++ result.made ∷ []) done.0) (sym (session_geometry now.shows)) result.committed.parts.1.0.says };
     }
 
 -- ---- a checkpoint

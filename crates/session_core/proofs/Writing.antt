@@ -24,12 +24,12 @@ use Rattle.session_core.specs.Sessions.{SessionState, IsSession, Settled}
 use Rattle.volume_port.specs.Logged.{LoggedSet}
 use Rattle.page_alloc.specs.UnitSet.{UnitSet}
 use Rattle.session_core.specs.Catalogs.{FramesLend}
-use Rattle.session_core.specs.Commits.{HasNotes, stop_of}
+use Rattle.session_core.specs.Commits.{LogsCommit, stop_of}
 use Rattle.session_core.specs.Meant.{meant}
 use Rattle.session_core.specs.Steps.{Steps, OnlyFrames, Stops}
 use Rattle.session_core.proofs.Accepted.{ReadsCatalog, shown_on}
 use Rattle.session_core.proofs.Quiet.{shown_lends}
-use Rattle.session_core.proofs.Committing.{Moments, Commits, HomeMoments, GoesHome, numbered, numbered_pages, numbered_rows, committed_session, home_session, commit_moments, commit_steps, commit_notes, checkpoint_moments, checkpoint_steps}
+use Rattle.session_core.proofs.Committing.{Moments, Commits, HomeMoments, GoesHome, numbered, numbered_pages, numbered_rows, committed_session, home_session, commit_moments, commit_steps, commit_logs, checkpoint_moments, checkpoint_steps}
 
 -- ---- checkpoints
 
@@ -155,15 +155,15 @@ commit_done {a} {m} {b} s old mid new page image number log meta later flags pag
   any_moment = λ before from now. kept_moments page image number now world (subst (λ (t : SessionState). WasKept a m b t page image number) (is ∙ sym from) kept);
 }
 
-pub commit_noted : {a m b : Outside} (s : SessionState) (page image : List ℕ) (number : ℕ) (log : LogState) (meta : Overlays) → WasKept a m b s page image number → Commits m b s.log (numbered_pages s.meta image) number s.notes log meta
-    → (before : View SessionState) → before.session ≡ s → ShowsNow meant a before → HasNotes b s.geometry s.notes
-commit_noted {a} {m} {b} s page image number log meta kept commits before from now =
+pub commit_logged : {a m b : Outside} (s : SessionState) (page image : List ℕ) (number : ℕ) (log : LogState) (meta : Overlays) → WasKept a m b s page image number → Commits m b s.log (numbered_pages s.meta image) number s.notes log meta
+    → (before : View SessionState) → before.session ≡ s → (now : ShowsNow meant a before) → LogsCommit now.shows.decoded now.shows.working s b
+commit_logged {a} {m} {b} s page image number log meta kept commits before from now =
     let e = sym from in
     let here = subst (λ (t : SessionState). WasKept a m b t page image number) e kept in
     let on = shown_on now page here.read (shown_lends now here.session.sizes) in
     let number_is = here.number_is ∙ ap (λ (c : Catalog). c.last + 1) on in
-    subst (λ (t : SessionState). HasNotes b t.geometry t.notes) from
-    (commit_notes now image log meta here.session here.reads here.opened (subst (λ (c : Catalog). CatalogOf image (numbered c)) on here.image_is)
+    subst (λ (t : SessionState). LogsCommit now.shows.decoded now.shows.working t b) from
+    (commit_logs now image log meta here.session here.reads here.opened (subst (λ (c : Catalog). CatalogOf image (numbered c)) on here.image_is)
     (subst (λ (n : ℕ). Commits m b before.session.log (numbered_pages before.session.meta image) n before.session.notes log meta) number_is
     (subst (λ (t : SessionState). Commits m b t.log (numbered_pages t.meta image) number t.notes log meta) e commits)))
 

@@ -1,10 +1,16 @@
 -- What a commit leaves in the log, and what a session stops at where a transaction could not be committed.
-use Rattle.std.specs.Prelude.{◌≡◌, ℕ, List, [], ◌∷◌, ◌++◌, Some}
-use Rattle.ex_base.specs.declared.geometry.Geometry.{Geometry}
-use Rattle.ex_base.specs.declared.names.OpNote.{OpNote}
+use Rattle.std.specs.Prelude.{◌≡◌, ◌⊎◌, ℕ, ◌+◌, List, [], ◌∷◌, ◌++◌, Some}
+use Rattle.ex_base.specs.Area.{catalog_no}
 use Rattle.disk_model.specs.Outside.{Outside}
-use Rattle.op_log.specs.Log.{SaysLog}
+use Rattle.object_files.specs.Catalog.{CatalogOf}
+use Rattle.object_files.specs.Reads.{with_numbers}
+use Rattle.meta_pages.specs.Rows.{with_row}
+use Rattle.op_log.specs.AfterLog.{logged}
+use Rattle.op_log.specs.Log.{DiskSays}
 use Rattle.op_log.specs.declared.record.LogRecord.{LogRecord}
+use Rattle.volume_model.specs.Committed.{HasNoRoom, IsRecordOf}
+use Rattle.volume_model.specs.Volume.{Decoded, Volume}
+use Rattle.session_core.specs.Sessions.{SessionState}
 use Rattle.commits.specs.declared.keep.CommitFault.{CommitFault}
 use Rattle.commits.specs.declared.keep.CommitFault.TheVariants as fault
 use Rattle.session_views.specs.declared.engine.Stop.{Stop}
@@ -14,11 +20,14 @@ abbrev pub stop_of : CommitFault → Stop
 stop_of fault.Memory = stop.Memory
 stop_of fault.Disk = stop.Disk
 
--- The last record of the log that counts has these notes.
-pub record HasNotes (w : Outside) (g : Geometry) (notes : List OpNote) : Type 0 where
+-- The log ends with the record of the session's transaction, by the rule over the records before it: these are the old ones, or none, which comes
+-- only where the record over the old ones has no room behind them. The page of the catalog has the number of the commit.
+pub record LogsCommit (d : Decoded) (working : Volume) (s : SessionState) (w : Outside) : Type 0 where
+  pub catalog : List ℕ
+  pub numbered : CatalogOf catalog (with_numbers working.catalog working.catalog.next_unique (working.catalog.last + 1))
   pub earlier : List LogRecord
-  pub last : LogRecord
-  pub disk : List ℕ
-  pub holds : w.disk ≡ Some disk
-  pub says : SaysLog g (earlier ++ last ∷ []) disk
-  pub notes_are : last.notes ≡ notes
+  pub those : (earlier ≡ d.records) ⊎ (earlier ≡ [])
+  pub made : LogRecord
+  pub rule : IsRecordOf (λ page. logged earlier page) (working.catalog.last + 1) s.notes (with_row catalog_no (Some catalog) s.meta.working) made
+  pub anew : (earlier ≡ d.records → ⊥) → HasNoRoom d (with_row catalog_no (Some catalog) s.meta.working) (working.catalog.last + 1) s.notes
+  pub says : DiskSays s.geometry w (earlier ++ made ∷ [])

@@ -197,7 +197,7 @@ fn what_was_committed_is_found_again(rt: HostRuntime) -> Result<(), Fail> {
     assert!(rt; has_at(&one, PAGE, &[1, 2, 0, 0, 2, 0x38]));
     assert!(rt; !has_at(&one, PAGE + 568, &[1]));
     let two = left_by(&rt, alloc, &volume, b"begin\ncommit\nbegin\ncommit\n")?;
-    assert!(rt; has_at(&two, PAGE + 537, &[1, 2, 0, 0, 2, 0x19]));
+    assert!(rt; has_at(&two, PAGE + 537, &[1, 2, 0, 0, 0, 45]));
 
     let again = left_by(
         &rt,
@@ -205,6 +205,8 @@ fn what_was_committed_is_found_again(rt: HostRuntime) -> Result<(), Fail> {
         &volume,
         b"begin\ncommit\nbegin\ncommit\ncheckpoint\nbegin\ncommit\n",
     )?;
+    // The last record is as long as the first one, so a closed gate stands where the second one had its open gate.
+    assert!(rt; has_at(&again, PAGE + 537, &[0, 2, 0, 0, 0, 45]));
     let (status, host) = run_on(alloc, &again, b"log\nbegin\n", &[], None)?;
     assert_eq!(rt; status, Status::Done);
     assert_eq!(rt; host.sent_bytes(), b"ok log 0\nok begin 4\n".as_slice());

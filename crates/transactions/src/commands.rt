@@ -15,7 +15,7 @@ ghost use Rattle.session_views.specs.declared.engine.Stop.{Stop};
 ghost use Rattle.session_views.specs.View.{View, ShowsNow, Stepped, StandsDuring};
 ghost use Rattle.session_core.specs.Sessions.{FreesGivenBack, FreesTaken, IsSession, SessionState};
 ghost use Rattle.session_core.specs.Catalogs.{IsDamaged, catalog_bytes};
-ghost use Rattle.session_core.specs.Commits.{HasNotes};
+ghost use Rattle.session_core.specs.Commits.{LogsCommit};
 ghost use Rattle.session_core.specs.Meant.{meant};
 ghost use Rattle.session_core.specs.Steps.{IsRefused, OnlyFrames, IsQuiet};
 ghost use Rattle.transactions.specs.Commands.{Answers, IsOfCatalog, ReadsAlone, asks_objects};
@@ -47,10 +47,11 @@ fn answer<H: Host>(
         (request_of command.now) result }
     ensures none_counts { request_of command.now ≡ request.Checkpoint
         → result ≡ Ok Reply.Checkpoint → session.new.log.count ≡ 0 }
-    ensures noted { request_of command.now ≡ request.Commit → (before : View SessionState)
-        → before.session ≡ session.old → ShowsNow meant (H.outside host.old) before
+    ensures logs { request_of command.now ≡ request.Commit → (before : View SessionState)
+        → before.session ≡ session.old → (shown : ShowsNow meant (H.outside host.old) before)
         → session.old.opened ≡ true
-        → OnOk result (HasNotes (H.outside host.new) session.old.geometry session.old.notes) }
+        → OnOk result (LogsCommit shown.shows.decoded shown.shows.working session.old
+        (H.outside host.new)) }
     ensures takes_none { request_of command.now ≡ request.Checkpoint
         → result ≡ Err Stop.Memory → ⊥ }
     ensures unwritten { request_of command.now ≡ request.Commit → result ≡ Err Stop.Memory
@@ -162,11 +163,12 @@ pub fn step<H: Host>(
     ensures none_counts { request_of command.now ≡ request.Checkpoint
         → result ≡ Ok Reply.Checkpoint → session.new.log.count ≡ 0 }
 
-    // After an accepted commit the last record that counts has the notes of the transaction's updates.
-    ensures noted { request_of command.now ≡ request.Commit → (before : View SessionState)
-        → before.session ≡ session.old → ShowsNow meant (H.outside host.old) before
+    // After an accepted commit the log ends with the transaction's record, by the rule over the records before it.
+    ensures logs { request_of command.now ≡ request.Commit → (before : View SessionState)
+        → before.session ≡ session.old → (shown : ShowsNow meant (H.outside host.old) before)
         → session.old.opened ≡ true
-        → OnOk result (HasNotes (H.outside host.new) session.old.geometry session.old.notes) }
+        → OnOk result (LogsCommit shown.shows.decoded shown.shows.working session.old
+        (H.outside host.new)) }
 
     // A checkpoint takes no memory. A commit that wants some did nothing but read, and the log is what it was.
     ensures takes_none { request_of command.now ≡ request.Checkpoint

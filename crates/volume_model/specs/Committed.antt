@@ -1,18 +1,19 @@
 -- The committed side of a volume: what its log and the overlay over its pages hold, and how a checkpoint and a commit change it.
-use Rattle.std.specs.Prelude.{◌≡◌, ◌≢◌, ◌⊎◌, ℕ, ◌+◌, ◌≤◌, List, [], ◌∷◌, ◌++◌, length, map, Some, None, Contains, nat_eq}
+use Rattle.std.specs.Prelude.{◌≡◌, ◌≢◌, ◌⊎◌, ℕ, ◌+◌, ◌≤◌, List, [], ◌∷◌, ◌++◌, length, map, Option, Some, None, Contains, nat_eq}
 use Rattle.std.specs.List.{flat_map, AllByRecursion}
 use Rattle.std.specs.Map.{lookup}
 use Rattle.ex_base.specs.declared.names.OpNote.{OpNote}
 use Rattle.ex_base.specs.declared.names.PageNo.{PageNo}
-use Rattle.ex_base.specs.Area.{catalog_no}
+use Rattle.ex_base.specs.Area.{catalog_no, log_size}
 use Rattle.ex_base.specs.Order.{Rising}
 use Rattle.op_log.specs.AfterLog.{logged}
 use Rattle.op_log.specs.Log.{log_end}
+use Rattle.op_log.specs.Records.{record_len}
 use Rattle.op_log.specs.State.{LogState}
 use Rattle.op_log.specs.declared.record.LogRecord.{LogRecord}
 use Rattle.op_log.specs.declared.kind.RecordKind.TheVariants.{Forms}
 use Rattle.page_entries.specs.declared.entry.PageEntry.{PageEntry}
-use Rattle.page_entries.specs.declared.form.EntryForm.TheVariants.{Image}
+use Rattle.page_entries.specs.EntryOf.{IsEntryOf}
 use Rattle.trees.specs.Trees.{root_units}
 use Rattle.volume_model.specs.Durable.{Agrees}
 use Rattle.volume_model.specs.Homes.{home}
@@ -64,20 +65,26 @@ pub record Checkpointed (d : Decoded) (disk : List ℕ) (may_leave : List ℕ �
 
 -- ---- a commit
 
--- the images of the working pages, and the pages that were given back
-abbrev pub images_of : List WorkingRow → List PageEntry
-images_of [] = []
-images_of ((page, None) ∷ rows) = images_of rows
-images_of ((page, Some image) ∷ rows) = record { page = record { 0 = page }; form = Image; fields = image } ∷ images_of rows
+-- By the rule these are, in order, the entries of the working pages that have an image, where the pages so far are these.
+abbrev pub AreEntries : (ℕ → Option (List ℕ)) → List WorkingRow → List PageEntry → Type 0
+AreEntries so_far [] entries = entries ≡ []
+AreEntries so_far ((page, None) ∷ rows) entries = AreEntries so_far rows entries
+AreEntries so_far ((page, Some image) ∷ rows) [] = ⊥
+AreEntries so_far ((page, Some image) ∷ rows) (entry ∷ entries) = IsEntryOf (record { 0 = page }) (so_far page) image entry × AreEntries so_far rows entries
 
+-- the working pages that were given back
 abbrev pub given_back : List WorkingRow → List PageNo
 given_back [] = []
 given_back ((page, None) ∷ rows) = record { 0 = page } ∷ given_back rows
 given_back ((page, Some image) ∷ rows) = given_back rows
 
--- the record of a transaction
-abbrev pub record_of : ℕ → List OpNote → List WorkingRow → LogRecord
-record_of txn notes rows = record { kind = Forms; txn = txn; notes = notes; pages = images_of rows; freed = given_back rows }
+-- the record of a transaction, where the pages so far are these
+pub record IsRecordOf (so_far : ℕ → Option (List ℕ)) (txn : ℕ) (notes : List OpNote) (rows : List WorkingRow) (r : LogRecord) : Type 0 where
+  pub kind : r.kind ≡ Forms
+  pub txn_is : r.txn ≡ txn
+  pub notes_are : r.notes ≡ notes
+  pub entries : AreEntries so_far rows r.pages
+  pub freed : r.freed ≡ given_back rows
 
 -- The working pages, laid over, decode as a volume that can be committed under this number. Each image is of its catalog or of a page of its
 -- files, and none of these was given back; a page of the committed files that isn't one of them was, and lies in none of its trees.
@@ -94,18 +101,24 @@ pub record MayCommit (d : Decoded) (disk : List ℕ) (rows : List WorkingRow) (t
 abbrev pub IsStale : Decoded → List WorkingRow → ℕ → Type 0
 IsStale d rows page = (lookup (nat_eq page) rows ≡ Some None) × (logged d.records page ≢ None)
 
--- The working volume is committed: the log ends with the transaction's record, behind the records of before or none. Units that the log
--- didn't have are at home as before.
+-- The log has no room for the transaction's record behind these records.
+abbrev pub HasNoRoom : Decoded → List WorkingRow → ℕ → List OpNote → Type 0
+HasNoRoom d rows txn notes = (r : LogRecord) → IsRecordOf (λ page. logged d.records page) txn notes rows r → log_size d.geometry ≤ log_end d.records + record_len r
+
+-- The working volume is committed: the log ends with the transaction's record, by the rule over the records before it. Those are the old ones, or
+-- none, which comes only where the record over the old ones has no room behind them. Units that the log didn't have are at home as before.
 pub record CommittedAs (d : Decoded) (disk : List ℕ) (rows : List WorkingRow) (txn : ℕ) (notes : List OpNote) (working : Volume)
     (may_leave : List ℕ → Type 0) (later : List ℕ) (log : LogState) (overlay : List PageRow) : Type 0 where
   pub earlier : List LogRecord
   pub those : (earlier ≡ d.records) ⊎ (earlier ≡ [])
-  pub committed : Committed may_leave (with_records d (earlier ++ record_of txn notes rows ∷ []) working) later log overlay
+  pub made : LogRecord
+  pub rule : IsRecordOf (λ page. logged earlier page) txn notes rows made
+  pub anew : (earlier ≡ d.records → ⊥) → HasNoRoom d rows txn notes
+  pub committed : Committed may_leave (with_records d (earlier ++ made ∷ []) working) later log overlay
   pub of_files : IsOverlayOf working overlay
   pub in_order : Rising (map (λ (row : PageRow). row.0) overlay)
-  pub pages : (page : ℕ) → catalog_no ≤ page → ¬ IsStale d rows page
-      → units_of (with_records d (earlier ++ record_of txn notes rows ∷ []) working) later page ≡ working_units d disk rows page
-  pub table : table_of (units_of (with_records d (earlier ++ record_of txn notes rows ∷ []) working) later) working ≡ table_of (working_units d disk rows) working
+  pub pages : (page : ℕ) → catalog_no ≤ page → ¬ IsStale d rows page → units_of (with_records d (earlier ++ made ∷ []) working) later page ≡ working_units d disk rows page
+  pub table : table_of (units_of (with_records d (earlier ++ made ∷ []) working) later) working ≡ table_of (working_units d disk rows) working
   pub homes : HomesStay d disk later
 
 -- During a commit an image stands for the committed table or for the working one.

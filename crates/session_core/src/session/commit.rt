@@ -48,7 +48,7 @@ impl Session {
     ghost use Rattle.table_model.specs.Requests as request;
     ghost use Rattle.session_views.specs.declared.engine.Stop.{Stop};
     ghost use Rattle.session_views.specs.View.{View, ShowsNow};
-    ghost use Rattle.session_core.specs.Commits.{HasNotes};
+    ghost use Rattle.session_core.specs.Commits.{LogsCommit};
     ghost use Rattle.session_core.specs.Sessions.{FreesGivenBack, SessionState};
     ghost use Rattle.session_core.specs.Meant.{meant};
     ghost use Rattle.session_core.specs.Steps.{Steps};
@@ -59,9 +59,10 @@ impl Session {
         requires room { volume_bytes self.old.geometry ≤ (H.outside host.old).size }
         ensures steps { Steps (H.outside host.old)
             (H.outside host.new) self.old self.new request.Commit result }
-        ensures noted { (before : View SessionState) → before.session ≡ self.old
-            → ShowsNow meant (H.outside host.old) before → self.old.opened ≡ true
-            → OnOk result (HasNotes (H.outside host.new) self.old.geometry self.old.notes) }
+        ensures logs { (before : View SessionState) → before.session ≡ self.old
+            → (shown : ShowsNow meant (H.outside host.old) before) → self.old.opened ≡ true
+            → OnOk result (LogsCommit shown.shows.decoded shown.shows.working self.old
+            (H.outside host.new)) }
 
         // The pages that the transaction gave back are free.
         ensures freed { self.old.opened ≡ true

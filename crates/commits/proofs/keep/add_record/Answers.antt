@@ -7,7 +7,7 @@ use Rattle.op_log.specs.State.{LogState}
 use Rattle.volume_model.specs.Committed.{Committed, MayCommit, StandsForEither}
 use Rattle.volume_model.specs.Volume.{Volume, Decoded}
 use Rattle.commits.specs.Room.{BeforeCatalog}
-use Rattle.commits.proofs.Adding.{prolongs, keeps_log, add_leaves, add_done, before_catalog}
+use Rattle.commits.proofs.Adding.{prolongs, keeps_log, is_next, add_leaves, add_done, before_catalog}
 use Rattle.commits.proofs.RoomInLog.{few_named, logged_then}
 use Rattle.commits.proofs.keep.add_record.Given as given
 use Rattle.commits.proofs.keep.add_record.Goals as goal
@@ -27,7 +27,7 @@ leaves g c d held working honest holds committed may =
     let log = c.args.log.now in
     let o = c.args.meta.now in
     let r = c.args.item.now in
-    add_leaves d held log o.committed o.working r working a (g.D.World.outside c.append.new.disk) c.requires.same committed c.requires.rising may c.requires.fits
+    add_leaves d held log o.committed o.working r working a (g.D.World.outside c.append.new.disk) committed (is_next d held log a.images o r committed c.requires.rows c.requires.rule) may c.requires.fits
     (c.append.ensures.leaves d.records held (prolongs d held log o.committed a.images r committed may.follows) (keeps g c d held honest holds committed) holds)
 
 pub returns-in_err-append-clause-any_moment : goal.returns-in_err-append-clause-any_moment
@@ -49,11 +49,12 @@ pub returns-clause-changes : goal.returns-clause-changes
 returns-clause-changes g c = changes g (goal.at.returns-clause-changes g c).After-append
 
 pub keep-requires : goal.keep-requires
-keep-requires g c = few_named c.args.log.now c.args.meta.now c.args.item.now c.requires.geometry c.requires.logged c.requires.valid c.requires.same c.requires.fits
+keep-requires g c =
+    few_named c.args.log.now c.args.meta.now c.args.item.now.txn c.args.item.now.notes c.args.item.now c.requires.geometry c.requires.logged c.requires.valid c.requires.rule c.requires.fits
 
 pub returns-clause-logged : goal.returns-clause-logged
 returns-clause-logged g c =
-    logged_then c.args.log.now c.args.meta.now c.args.item.now c.requires.geometry c.requires.logged c.requires.valid c.requires.same c.append.new.self c.keep.new.self c.in_ok-append.ensures.counts c.keep.ensures.rows
+    logged_then c.args.log.now c.args.meta.now c.args.item.now.txn c.args.item.now.notes c.args.item.now c.requires.geometry c.requires.logged c.requires.valid c.requires.rule c.requires.rows c.append.new.self c.keep.new.self c.in_ok-append.ensures.counts c.keep.ensures.rows
 
 pub returns-clause-done : goal.returns-clause-done
 returns-clause-done g c d held working honest holds committed of_files may =
@@ -63,5 +64,5 @@ returns-clause-done g c d held working honest holds committed of_files may =
     let o = c.args.meta.now in
     let r = c.args.item.now in
     let keep = keeps g (goal.at.returns-clause-done g c).After-append d held honest holds committed in
-    add_done d held log c.append.new.self o.committed c.keep.new.self.committed o.working r working a b c.requires.same honest holds committed of_files c.requires.rising may c.requires.fits c.append.ensures.changes
+    add_done d held log c.append.new.self o.committed c.keep.new.self.committed o.working r working a b honest holds committed of_files (is_next d held log a.images o r committed c.requires.rows c.requires.rule) may c.requires.fits c.append.ensures.changes
     (c.in_ok-append.ensures.says d.records (prolongs d held log o.committed a.images r committed may.follows) keep.on_disk) c.in_ok-append.ensures.settled c.in_ok-append.ensures.counts c.keep.ensures.image c.keep.ensures.kept.rising

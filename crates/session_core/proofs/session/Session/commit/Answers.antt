@@ -15,7 +15,7 @@ use Rattle.session_core.proofs.Refusing.{closed_refused}
 use Rattle.session_core.proofs.Sessions.{seen, ready, after_commit}
 use Rattle.session_core.proofs.Tracking.{gone_put}
 use Rattle.commits.specs.Room.{IsLogged, AreBehindLog}
-use Rattle.session_core.proofs.Writing.{WasKept, commit_stopped, commit_done, commit_noted, moments_at, commits_at, frames_at, closed_as, memory_fault, settled_at}
+use Rattle.session_core.proofs.Writing.{WasKept, commit_stopped, commit_done, commit_logged, moments_at, commits_at, frames_at, closed_as, memory_fault, settled_at}
 use Rattle.session_core.proofs.Committing.{Commits, numbered_pages}
 use Rattle.meta_pages.specs.Overlays.{Overlays}
 use Rattle.commits.specs.declared.keep.CommitFault.{CommitFault}
@@ -160,11 +160,11 @@ returns-in-Err-commit-clause-unwritten g c is =
       c.commit.ensures.memory_log none ∙ ap (λ (s : SessionState). s.log) (c.self-2.view_is ∙ only.same),
     )
 
-pub returns-then-not-self-clause-noted : goal.returns-then-not-self-clause-noted
-returns-then-not-self-clause-noted g c = λ before from now opened. let closed = ap (λ (s : SessionState). s.opened) (sym c.self.view_is) ∙ c.if-not-self.true in absurd (both_ways _ closed opened)
+pub returns-then-not-self-clause-logs : goal.returns-then-not-self-clause-logs
+returns-then-not-self-clause-logs g c = λ before from now opened. let closed = ap (λ (s : SessionState). s.opened) (sym c.self.view_is) ∙ c.if-not-self.true in absurd (both_ways _ closed opened)
 
-pub returns-clause-noted : goal.returns-clause-noted
-returns-clause-noted g c = λ before from now opened_there.
+pub returns-clause-logs : goal.returns-clause-logs
+returns-clause-logs g c = λ before from now opened_there.
     let edited = (if_no_error c.edit.result (sym c.if-is_err.ensures.value) c.edit.ensures.ok ∙ ap (λ (l : List ℕ). numbered_pages (session.the_view c.self-2.inside).meta l) c.deref.ensures.value) in
     let opened = (ap (λ (s : SessionState). s.opened) (sym c.self.view_is) ∙ c.if-not-self.false) in
     let is_ready = ready (session.the_view c.self-2.inside) c.edit.new.self c.number_next-number.new.page.items c.self-2.invariant (ap (λ (s : SessionState). s.opened) (c.self-2.view_is ∙ c.catalog.ensures.frames.same) ∙ opened) edited in
@@ -179,7 +179,7 @@ returns-clause-noted g c = λ before from now opened_there.
       number_is = c.number_next-number.ensures.number;
       moments = moments_at (g.H.World.outside c.catalog.new.disk) (g.H.World.outside c.commit.new.disk) c.args.self.now c.catalog.new.self (session.the_view c.self-2.inside) c.edit.new.self c.number_next-number.new.page.items c.number_next-number.result c.catalog.ensures.frames.same c.self-2.view_is edited c.commit.ensures.any_moment;
     } in
-    commit_noted c.args.self.now c.in-Ok.page.items c.number_next-number.new.page.items c.number_next-number.result c.commit.new.log c.commit.new.meta kept
+    commit_logged c.args.self.now c.in-Ok.page.items c.number_next-number.new.page.items c.number_next-number.result c.commit.new.log c.commit.new.meta kept
     (commits_at (g.H.World.outside c.catalog.new.disk) (g.H.World.outside c.commit.new.disk) c.args.self.now c.catalog.new.self (session.the_view c.self-2.inside) c.edit.new.self c.number_next-number.new.page.items c.number_next-number.result c.commit.new.log c.commit.new.meta c.catalog.ensures.frames.same c.self-2.view_is edited
     (subst (λ (l : List OpNote). Commits (g.H.World.outside c.catalog.new.disk) (g.H.World.outside c.commit.new.disk) (session.the_view c.self-2.inside).log c.edit.new.self c.number_next-number.result l c.commit.new.log c.commit.new.meta) c.deref-2.ensures.value c.in_default.ensures.done))
     before from now
