@@ -143,13 +143,16 @@ class DocumentsTest(InFolder):
                     self.assertTrue(transcripts.fits(step.wanted, came), "\n".join(came))
 
     def test_examples(self) -> None:
-        """the examples, each on its own volume, write what is stored"""
-        for script in sorted((TOP / "examples").iterdir()):
-            crate = TOP / "crates" / f"example_{script.name}"
-            shutil.copy(crate / "data" / "v", script.name)
-            os.chmod(script.name, 0o600)
-            ran = self.exsm("run", script.name, given=script.read_bytes())
-            self.assertEqual((ran.status, ran.out), (0, (crate / "stdout").read_bytes()), script.name)
+        """the examples, each on a volume of its own, write what is stored and end with its status"""
+        for example in sorted((TOP / "examples").iterdir()):
+            with self.subTest(example.name):
+                stored = {it.name: it.read_bytes() for it in example.iterdir()}
+                if "v" in stored:
+                    Path("v").write_bytes(stored["v"])
+                ran = self.exsm(*stored["args"].decode().split(), given=stored.get("script", b""))
+                wanted = int(stored.get("status", b"0")), stored.get("replies", b"")
+                self.assertEqual((ran.status, ran.out), wanted)
+                Path("v").unlink(missing_ok=True)
 
     def test_formats(self) -> None:
         """the example of FORMATS is what the session of README leaves on a small volume, byte for byte"""

@@ -1,5 +1,6 @@
 ghost use Rattle.std.specs.Prelude.{◌≤◌, length};
 
+use crate::index::pages_held;
 use ex_base::{Area, Geometry, PageNo, Place, ReadVolume, Volume};
 use file_bodies::{Room, body_at, change_body, next_place, place_body, remove_from_file};
 use memory_ports::MemoryVolume;
@@ -114,16 +115,6 @@ fn lists<V: ReadVolume>(volume: &mut V, alloc: Global, rows: &[Row]) -> Result<b
     Ok(next_place(volume, alloc, FILE, at)?.is_none())
 }
 
-/// How many pages the working state has beside the catalog.
-fn pages_of_files(volume: &MemoryVolume) -> usize {
-    volume
-        .held
-        .iter()
-        .filter(|held| **held)
-        .count()
-        .saturating_sub(1)
-}
-
 /// Puts bodies of a length, each of a byte of its own.
 fn fill<V: Volume>(volume: &mut V, alloc: Global, len: usize, count: u8) -> Result<Vec<Row>, Fail>
     requires { V.ready volume.old }
@@ -148,19 +139,26 @@ fn clear<V: Volume>(volume: &mut V, alloc: Global, rows: &[Row]) -> Result<(), F
     Ok(())
 }
 
+/// A hundred bodies that fill a page each take four pages of an index besides, and leave none.
+fn fill_and_clear<V: Volume>(rt: &impl Abort, alloc: Global, volume: &mut V) -> Result<(), Fail>
+    requires { V.ready volume.old }
+{
+    write_catalog(volume, alloc)?;
+    let rows = fill(volume, alloc, 460, 100)?;
+    assert!(rt; pages_held(volume) == 104);
+    assert!(rt; lists(volume, alloc, &rows)?);
+    clear(volume, alloc, &rows)?;
+    assert!(rt; pages_held(volume) == 0);
+    assert!(rt; lists(volume, alloc, &[])?);
+    Ok(())
+}
+
 #[test]
 fn a_hundred_bodies_fill_a_hundred_pages(rt: HostRuntime) -> Result<(), Fail> {
     let alloc = rt.alloc();
     let geometry = Geometry::make(PAGE as u32, 1000, 0, 1, 2).map_err(|_| "geometry")?;
     let volume = &mut MemoryVolume::make(alloc, &geometry)?;
-    write_catalog(volume, alloc)?;
-    let rows = fill(volume, alloc, 460, 100)?;
-    assert_eq!(rt; pages_of_files(volume), 104);
-    assert!(rt; lists(volume, alloc, &rows)?);
-    clear(volume, alloc, &rows)?;
-    assert_eq!(rt; pages_of_files(volume), 0);
-    assert!(rt; lists(volume, alloc, &[])?);
-    Ok(())
+    fill_and_clear(&rt, alloc, volume)
 }
 
 /// How many rows stand before a place.
@@ -213,6 +211,7 @@ fn walk<V: Volume>(rt: &impl Abort, alloc: Global, volume: &mut V, steps: u32) -
     requires { V.ready volume.old }
     ensures { V.leads volume.old volume.new }
 {
+    write_catalog(volume, alloc)?;
     let room = &mut Room::of_file(FILE);
     let rows = &mut Vec::new(alloc);
     let mut state = 1u64;
@@ -235,6 +234,5 @@ fn a_random_walk_acts_as_on_a_sorted_list(rt: HostRuntime) -> Result<(), Fail> {
     let alloc = rt.alloc();
     let geometry = Geometry::make(PAGE as u32, 4000, 0, 1, 2).map_err(|_| "geometry")?;
     let volume = &mut MemoryVolume::make(alloc, &geometry)?;
-    write_catalog(volume, alloc)?;
     walk(&rt, alloc, volume, 800)
 }

@@ -10,6 +10,7 @@ use file_index::{at_least, remove};
 use index_pages::Index;
 use memory_ports::MemoryVolume;
 use std::alloc::Global;
+use std::process::Abort;
 use std::test::Fail;
 
 /// Where the kind of a page stands.
@@ -140,31 +141,75 @@ fn first_child<V: ReadVolume>(volume: &mut V, alloc: Global, page: PageNo) -> Re
     Ok(PageNo(get_u32(&bytes, CHILD_AT)))
 }
 
-#[test]
-fn a_damaged_index_page_is_told(rt: HostRuntime) -> Result<(), Fail> {
-    let alloc = rt.alloc();
-    let geometry = Geometry::make(PAGE as u32, 1000, 0, 1, 2).map_err(|_| "geometry")?;
-    let volume = &mut MemoryVolume::make(alloc, &geometry)?;
+/// A byte of a page that is another one, and what is told of it.
+#[derive(Clone, Copy)]
+struct Spoiled {
+    page: PageNo,
+    at: usize,
+    byte: u8,
+    told: Option<PortFault>,
+}
+
+/// Looks for the first page of an index while one byte after the other is another one.
+fn look_at_each<V: Volume>(
+    rt: &impl Abort,
+    alloc: Global,
+    volume: &mut V,
+    index: &Index,
+    cases: &[Spoiled],
+) -> Result<(), Fail>
+    requires { V.ready volume.old }
+    ensures { V.leads volume.old volume.new }
+{
+    for case in cases {
+        let told = look_with(volume, alloc, index, case.page, case.at, case.byte)?;
+        assert!(rt; told == case.told);
+    }
+    Ok(())
+}
+
+/// What is told of the bytes of an index of two levels, the page of whose first entry is given.
+fn spoiled_index(root: PageNo, below: PageNo) -> [Spoiled; 4] {
+    let least = u64::from(FIRST_PAGE);
+    let case = |page, at, byte, want, got| Spoiled {
+        page,
+        at,
+        byte,
+        told: damaged(page, want, got),
+    };
+    [
+        case(root, LEVEL_AT, 1, seen(6, 2, 0), seen(6, 1, 0)),
+        case(root, FILE_AT, 8, seen(6, 2, 0), Seen::NOTHING),
+        case(below, KIND_AT, 3, seen(6, 1, least), Seen::NOTHING),
+        case(below, KEY_AT, 1, seen(6, 1, least), seen(6, 1, least - 1)),
+    ]
+}
+
+/// An index of a hundred pages tells of each of its bytes, in a look and in a removal.
+fn tell_of_an_index<V: Volume>(rt: &impl Abort, alloc: Global, volume: &mut V) -> Result<(), Fail>
+    requires { V.ready volume.old }
+{
     let index = &hundred_pages(volume, alloc)?;
     let root = index.root.ok_or("no root")?;
     let below = first_child(volume, alloc, root)?;
-    let least = u64::from(FIRST_PAGE);
-    assert_eq!(rt; look(volume, alloc, index)?, None);
-    let told = look_with(volume, alloc, index, root, LEVEL_AT, 1)?;
-    assert_eq!(rt; told, damaged(root, seen(6, 2, 0), seen(6, 1, 0)));
-    let told = look_with(volume, alloc, index, root, FILE_AT, 8)?;
-    assert_eq!(rt; told, damaged(root, seen(6, 2, 0), Seen::NOTHING));
-    let told = look_with(volume, alloc, index, below, KIND_AT, 3)?;
-    assert_eq!(rt; told, damaged(below, seen(6, 1, least), Seen::NOTHING));
-    let told = look_with(volume, alloc, index, below, KEY_AT, 1)?;
-    assert_eq!(rt;
-        told,
-        damaged(below, seen(6, 1, least), seen(6, 1, least - 1))
-    );
+    assert!(rt; look(volume, alloc, index)?.is_none());
+    look_at_each(rt, alloc, volume, index, &spoiled_index(root, below))?;
     swap(volume, alloc, below, FILE_AT, 8)?;
-    let told = take(volume, alloc, index)?;
-    assert_eq!(rt; told, damaged(below, seen(6, 1, least), Seen::NOTHING));
+    let want = seen(6, 1, u64::from(FIRST_PAGE));
+    assert!(rt; take(volume, alloc, index)? == damaged(below, want, Seen::NOTHING));
     Ok(())
+}
+
+/// Pages of 512 bytes, none of which is a segment's.
+fn sizes() -> Result<Geometry, Fail> {
+    Ok(Geometry::make(PAGE as u32, 1000, 0, 1, 2).map_err(|_| "geometry")?)
+}
+
+#[test]
+fn a_damaged_index_page_is_told(rt: HostRuntime) -> Result<(), Fail> {
+    let alloc = rt.alloc();
+    let volume = &mut MemoryVolume::make(alloc, &sizes()?)?;
+    tell_of_an_index(&rt, alloc, volume)
 }
 
 /// Gives back a page that is still named.
@@ -179,23 +224,30 @@ fn give_back<V: Volume>(volume: &mut V, alloc: Global, page: PageNo) -> Result<(
     Ok(())
 }
 
+/// An index of which a page is gone tells so where it is to be written, and not where it is read.
+fn tell_of_a_gone_index_page<V: Volume>(
+    rt: &impl Abort,
+    alloc: Global,
+    volume: &mut V,
+) -> Result<(), Fail>
+    requires { V.ready volume.old }
+{
+    let index = &hundred_pages(volume, alloc)?;
+    let below = first_child(volume, alloc, index.root.ok_or("no root")?)?;
+    give_back(volume, alloc, below)?;
+    assert!(rt; look(volume, alloc, index)?.is_none());
+    let want = seen(6, 1, u64::from(FIRST_PAGE));
+    assert!(rt; take(volume, alloc, index)? == damaged(below, want, Seen::NOTHING));
+    Ok(())
+}
+
 #[test]
 fn an_index_page_that_is_gone_is_told_where_it_is_to_be_written(
     rt: HostRuntime,
 ) -> Result<(), Fail> {
     let alloc = rt.alloc();
-    let geometry = Geometry::make(PAGE as u32, 1000, 0, 1, 2).map_err(|_| "geometry")?;
-    let volume = &mut MemoryVolume::make(alloc, &geometry)?;
-    let index = &hundred_pages(volume, alloc)?;
-    let below = first_child(volume, alloc, index.root.ok_or("no root")?)?;
-    give_back(volume, alloc, below)?;
-    assert_eq!(rt; look(volume, alloc, index)?, None);
-    let want = seen(6, 1, u64::from(FIRST_PAGE));
-    assert_eq!(rt;
-        take(volume, alloc, index)?,
-        damaged(below, want, Seen::NOTHING)
-    );
-    Ok(())
+    let volume = &mut MemoryVolume::make(alloc, &sizes()?)?;
+    tell_of_a_gone_index_page(&rt, alloc, volume)
 }
 
 /// What a look for the first body of a file tells.
@@ -238,32 +290,69 @@ fn place<V: Volume>(volume: &mut V, alloc: Global) -> Result<Option<PortFault>, 
     Ok(place_body(volume, alloc, &mut Room::of_file(FILE), b"x").err())
 }
 
+/// What a change of a body to one of one byte tells.
+fn change<V: Volume>(volume: &mut V, alloc: Global, place: Place) -> Option<PortFault>
+    requires { V.ready volume.old }
+    ensures { V.leads volume.old volume.new }
+{
+    change_body(volume, alloc, place, b"x").err()
+}
+
+/// What the removal of a body tells.
+fn take_out<V: Volume>(volume: &mut V, alloc: Global, place: Place) -> Option<PortFault>
+    requires { V.ready volume.old }
+    ensures { V.leads volume.old volume.new }
+{
+    remove_from_file(volume, alloc, place).err()
+}
+
+/// A file with one body tells of its page, of a slot that is vacant, and of a place outside of it.
+fn tell_of_a_page<V: Volume>(rt: &impl Abort, alloc: Global, volume: &mut V) -> Result<(), Fail>
+    requires { V.ready volume.old }
+{
+    write_catalog(volume, alloc)?;
+    let page = crate::bodies::put(volume, alloc, &mut Room::of_file(FILE), 10, 1)?
+        .place
+        .page;
+    let file = seen(3, 0, u64::from(FILE));
+    assert!(rt; first(volume, alloc, FILE)?.is_none());
+    let told = first_with(volume, alloc, page, FILE_AT, 2)?;
+    assert!(rt; told == damaged(page, file, seen(3, 0, 2)));
+    let told = first_with(volume, alloc, page, KIND_AT, 0)?;
+    assert!(rt; told == damaged(page, file, Seen::NOTHING));
+    let vacant = Place { page, slot: 5 };
+    let told = damaged(page, seen(4, 0, 5), Seen::NOTHING);
+    assert!(rt; change(volume, alloc, vacant) == told);
+    let page = PageNo::CATALOG;
+    let told = damaged(page, seen(4, 0, 0), Seen::NOTHING);
+    assert!(rt; take_out(volume, alloc, Place { page, slot: 0 }) == told);
+    Ok(())
+}
+
 #[test]
 fn a_damaged_page_of_a_file_is_told(rt: HostRuntime) -> Result<(), Fail> {
     let alloc = rt.alloc();
-    let geometry = Geometry::make(PAGE as u32, 1000, 0, 1, 2).map_err(|_| "geometry")?;
-    let volume = &mut MemoryVolume::make(alloc, &geometry)?;
+    let volume = &mut MemoryVolume::make(alloc, &sizes()?)?;
+    tell_of_a_page(&rt, alloc, volume)
+}
+
+/// A file of which a page is gone tells so where it is to be written, and not where it is read.
+fn tell_of_a_gone_page<V: Volume>(
+    rt: &impl Abort,
+    alloc: Global,
+    volume: &mut V,
+) -> Result<(), Fail>
+    requires { V.ready volume.old }
+{
     write_catalog(volume, alloc)?;
-    let row = crate::bodies::put(volume, alloc, &mut Room::of_file(FILE), 10, 1)?;
-    let page = row.place.page;
-    let file = seen(3, 0, u64::from(FILE));
-    assert_eq!(rt; first(volume, alloc, FILE)?, None);
-    let told = first_with(volume, alloc, page, FILE_AT, 2)?;
-    assert_eq!(rt; told, damaged(page, file, seen(3, 0, 2)));
-    let told = first_with(volume, alloc, page, KIND_AT, 0)?;
-    assert_eq!(rt; told, damaged(page, file, Seen::NOTHING));
-    let vacant = Place { page, slot: 5 };
-    let told = change_body(volume, alloc, vacant, b"x").err();
-    assert_eq!(rt; told, damaged(page, seen(4, 0, 5), Seen::NOTHING));
-    let outside = Place {
-        page: PageNo::CATALOG,
-        slot: 0,
-    };
-    let told = remove_from_file(volume, alloc, outside).err();
-    assert_eq!(rt;
-        told,
-        damaged(PageNo::CATALOG, seen(4, 0, 0), Seen::NOTHING)
-    );
+    let body = crate::bodies::put(volume, alloc, &mut Room::of_file(FILE), 10, 1)?.place;
+    give_back(volume, alloc, body.page)?;
+    assert!(rt; first(volume, alloc, FILE)?.is_none());
+    let told = damaged(body.page, seen(3, 0, u64::from(FILE)), Seen::NOTHING);
+    assert!(rt; place(volume, alloc)? == told);
+    let told = damaged(body.page, seen(4, 0, 0), Seen::NOTHING);
+    assert!(rt; change(volume, alloc, body) == told);
+    assert!(rt; take_out(volume, alloc, body) == told);
     Ok(())
 }
 
@@ -272,35 +361,27 @@ fn a_page_of_a_file_that_is_gone_is_told_where_it_is_to_be_written(
     rt: HostRuntime,
 ) -> Result<(), Fail> {
     let alloc = rt.alloc();
-    let geometry = Geometry::make(PAGE as u32, 1000, 0, 1, 2).map_err(|_| "geometry")?;
-    let volume = &mut MemoryVolume::make(alloc, &geometry)?;
+    let volume = &mut MemoryVolume::make(alloc, &sizes()?)?;
+    tell_of_a_gone_page(&rt, alloc, volume)
+}
+
+/// A catalog that is none tells so in a look and where a body is put.
+fn tell_of_a_catalog<V: Volume>(rt: &impl Abort, alloc: Global, volume: &mut V) -> Result<(), Fail>
+    requires { V.ready volume.old }
+{
     write_catalog(volume, alloc)?;
-    let place_of_body = crate::bodies::put(volume, alloc, &mut Room::of_file(FILE), 10, 1)?.place;
-    let page = place_of_body.page;
-    give_back(volume, alloc, page)?;
-    assert_eq!(rt; first(volume, alloc, FILE)?, None);
-    let told = damaged(page, seen(3, 0, u64::from(FILE)), Seen::NOTHING);
-    assert_eq!(rt; place(volume, alloc)?, told);
-    let told = damaged(page, seen(4, 0, 0), Seen::NOTHING);
-    assert_eq!(rt; change_body(volume, alloc, place_of_body, b"x").err(), told);
-    assert_eq!(rt; remove_from_file(volume, alloc, place_of_body).err(), told);
+    let told = damaged(PageNo::CATALOG, seen(1, 0, 0), Seen::NOTHING);
+    assert!(rt; first(volume, alloc, FILE)?.is_none());
+    assert!(rt; first(volume, alloc, FILE + 1)? == told);
+    assert!(rt; first_with(volume, alloc, PageNo::CATALOG, KIND_AT, 3)? == told);
+    swap(volume, alloc, PageNo::CATALOG, KIND_AT, 3)?;
+    assert!(rt; place(volume, alloc)? == told);
     Ok(())
 }
 
 #[test]
 fn a_damaged_catalog_is_told(rt: HostRuntime) -> Result<(), Fail> {
     let alloc = rt.alloc();
-    let geometry = Geometry::make(PAGE as u32, 1000, 0, 1, 2).map_err(|_| "geometry")?;
-    let volume = &mut MemoryVolume::make(alloc, &geometry)?;
-    write_catalog(volume, alloc)?;
-    let told = damaged(PageNo::CATALOG, seen(1, 0, 0), Seen::NOTHING);
-    assert_eq!(rt; first(volume, alloc, FILE)?, None);
-    assert_eq!(rt; first(volume, alloc, FILE + 1)?, told);
-    assert_eq!(rt;
-        first_with(volume, alloc, PageNo::CATALOG, KIND_AT, 3)?,
-        told
-    );
-    swap(volume, alloc, PageNo::CATALOG, KIND_AT, 3)?;
-    assert_eq!(rt; place(volume, alloc)?, told);
-    Ok(())
+    let volume = &mut MemoryVolume::make(alloc, &sizes()?)?;
+    tell_of_a_catalog(&rt, alloc, volume)
 }

@@ -94,16 +94,6 @@ fn lists<V: ReadVolume>(
     Ok(next(volume, alloc, index, from)?.is_none())
 }
 
-/// How many pages the working state has beside the catalog.
-fn index_pages(volume: &MemoryVolume) -> usize {
-    volume
-        .held
-        .iter()
-        .filter(|held| **held)
-        .count()
-        .saturating_sub(1)
-}
-
 /// Adds pages in rising order, or removes them.
 fn each<V: Volume>(
     volume: &mut V,
@@ -125,26 +115,50 @@ fn each<V: Volume>(
     Ok(())
 }
 
+/// How many pages of the area the working state has beside the catalog, of the first thousand.
+pub(crate) fn pages_held<V: Volume>(volume: &V) -> u32
+    requires { V.ready volume.now }
+{
+    let mut count = 0u32;
+    for page in FIRST_PAGE..FIRST_PAGE + 1000 {
+        if volume.in_area(PageNo(page)) && volume.has(PageNo(page)) {
+            count = count.saturating_add(1);
+        }
+    }
+    count
+}
+
+/// A hundred pages in rising order.
+fn hundred(alloc: Global) -> Result<Vec<u32>, Fail> {
+    let mut pages = Vec::new(alloc);
+    for page in FIRST_PAGE..FIRST_PAGE + 100 {
+        pages.push(page)?;
+    }
+    Ok(pages)
+}
+
+/// An index has no page of its own for one page, four in two levels for a hundred, and then none again.
+fn grow_and_shrink<V: Volume>(rt: &impl Abort, alloc: Global, volume: &mut V) -> Result<(), Fail>
+    requires { V.ready volume.old }
+{
+    let index = &mut NO_PAGES;
+    let pages = hundred(alloc)?;
+    put(volume, alloc, index, FIRST_PAGE)?;
+    assert!(rt; pages_held(volume) == 0);
+    each(volume, alloc, index, &pages, true)?;
+    assert!(rt; pages_held(volume) == 4 && index.level == 2);
+    assert!(rt; lists(volume, alloc, index, &pages)?);
+    each(volume, alloc, index, &pages, false)?;
+    assert!(rt; pages_held(volume) == 0 && index.root.is_none());
+    Ok(())
+}
+
 #[test]
 fn a_hundred_rising_pages_have_four_index_pages(rt: HostRuntime) -> Result<(), Fail> {
     let alloc = rt.alloc();
     let geometry = Geometry::make(512, 1000, 0, 1, 2).map_err(|_| "geometry")?;
     let volume = &mut MemoryVolume::make(alloc, &geometry)?;
-    let index = &mut NO_PAGES;
-    let mut pages = Vec::new(alloc);
-    for page in FIRST_PAGE..FIRST_PAGE + 100 {
-        pages.push(page)?;
-    }
-    put(volume, alloc, index, FIRST_PAGE)?;
-    assert_eq!(rt; index_pages(volume), 0);
-    each(volume, alloc, index, &pages, true)?;
-    assert_eq!(rt; index_pages(volume), 4);
-    assert_eq!(rt; index.level, 2);
-    assert!(rt; lists(volume, alloc, index, &pages)?);
-    each(volume, alloc, index, &pages, false)?;
-    assert_eq!(rt; index_pages(volume), 0);
-    assert!(rt; index.root.is_none());
-    Ok(())
+    grow_and_shrink(&rt, alloc, volume)
 }
 
 /// Adds a page or removes one, in the index and in a sorted list.

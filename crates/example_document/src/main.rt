@@ -1,9 +1,0 @@
-//! A document that is edited in its middle. It is the program exsm, with a script of its own.
-#![tactic(auto)]
-
-use exsm_run::run_program;
-use std::process::ExitCode;
-
-fn main(rt: HostRuntime) -> ExitCode {
-    run_program(rt)
-}
