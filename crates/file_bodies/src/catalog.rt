@@ -164,6 +164,8 @@ fn write_index<P: Pages>(
     ensures sets { OnOk result (P.tells pages.old
         → SetsIndex P.Ground pages.old pages.new index.now) }
     ensures free { OnOk result (P.free pages.new ≡ P.free pages.old) }
+    ensures held { OnOk result ((P.used pages.new ≡ P.used pages.old)
+        × (P.held pages.new ≡ P.held pages.old)) }
     ensures sound { IfErr result (λ fault. IsDamage fault → P.tells pages.old
         → HasPlacedRoot (P.geometry pages.old) index.now.root
         → IsCatalogPage (P.image pages.old catalog_no)
@@ -197,6 +199,8 @@ pub fn change_index<P: Pages>(
         → index_at (P.image pages.old) old.now.file_no ≡ Some old.now
         → SetsIndex P.Ground pages.old pages.new new.now) }
     ensures free { OnOk result (P.free pages.new ≡ P.free pages.old) }
+    ensures held { OnOk result ((P.used pages.new ≡ P.used pages.old)
+        × (P.held pages.new ≡ P.held pages.old)) }
     ensures sound { IfErr result (λ fault. IsDamage fault → P.tells pages.old
         → HasPlacedRoot (P.geometry pages.old) new.now.root
         → IsCatalogPage (P.image pages.old catalog_no)

@@ -4,6 +4,7 @@ ghost use Rattle.ex_base.specs.declared.names.Area.TheVariants.{Page};
 ghost use Rattle.ex_base.specs.Ports.{Keeps, HasCause, IsDamage};
 ghost use Rattle.index_pages.specs.declared.Index.{Index};
 ghost use Rattle.file_index.specs.Index.{IsFilesPage};
+ghost use Rattle.file_index.specs.Taking.{OnlyTakes};
 ghost use Rattle.file_bodies.specs.Files.{HasFile, EditsFile};
 ghost use Rattle.file_bodies.specs.declared.placing.Room.{Room};
 ghost use Rattle.ex_base.specs.declared.names.Place.{Place};
@@ -141,6 +142,7 @@ fn put_on_new_page<P: Pages>(
     ensures puts { IfOk result (λ place. P.tells pages.old → HasFile P.Ground pages.old index.now
         → PutsBody P.Ground pages.old pages.new index.now place body.now) }
     ensures free { OnOk result (P.free pages.old Page ≤ P.free pages.new Page + 7) }
+    ensures takes { OnOk result (OnlyTakes P.Ground pages.old pages.new) }
     ensures sound { IfErr result (λ fault. IsDamage fault → P.tells pages.old
         → HasFile P.Ground pages.old index.now → ⊥) }
     ensures fault { IfErr result (λ fault. P.tells pages.old → (from : ℕ)
@@ -189,6 +191,7 @@ fn place_by<P: Pages>(
     ensures puts { IfOk result (λ place. P.tells pages.old → HasFile P.Ground pages.old index.now
         → PutsBody P.Ground pages.old pages.new index.now place body.now) }
     ensures free { OnOk result (P.free pages.old Page ≤ P.free pages.new Page + 7) }
+    ensures takes { OnOk result (OnlyTakes P.Ground pages.old pages.new) }
     ensures sound { IfErr result (λ fault. IsDamage fault → P.tells pages.old
         → HasFile P.Ground pages.old index.now → ⊥) }
     ensures fault { IfErr result (λ fault. P.tells pages.old
@@ -229,6 +232,7 @@ fn place_from<P: Pages>(
     ensures puts { IfOk result (λ place. P.tells pages.old → HasFile P.Ground pages.old index.now
         → PutsBody P.Ground pages.old pages.new index.now place body.now) }
     ensures free { OnOk result (P.free pages.old Page ≤ P.free pages.new Page + 7) }
+    ensures takes { OnOk result (OnlyTakes P.Ground pages.old pages.new) }
     ensures sound { IfErr result (λ fault. IsDamage fault → P.tells pages.old
         → HasFile P.Ground pages.old index.now → ⊥) }
     ensures fault { IfErr result (λ fault. P.tells pages.old
@@ -268,6 +272,7 @@ pub fn place_body<P: Pages>(
     ensures room { IfOk result (λ place. room.new
         ≡ record { file_no = room.old.file_no; from = place.page; len = length body.now }) }
     ensures free { OnOk result (P.free pages.old Page ≤ P.free pages.new Page + 7) }
+    ensures takes { OnOk result (OnlyTakes P.Ground pages.old pages.new) }
     ensures sound { IfErr result (λ fault. IsDamage fault → P.tells pages.old → (index : Index)
         → HasFile P.Ground pages.old index → index.file_no ≡ room.old.file_no → ⊥) }
     ensures fault { IfErr result (λ fault. P.tells pages.old

@@ -1,9 +1,10 @@
 //! A body that is taken out of a file.
-ghost use Rattle.std.specs.Prelude.{◌≡◌, ◌≤◌, ℕ, List, length, Contains, IfErr, OnOk};
+ghost use Rattle.std.specs.Prelude.{◌≡◌, ◌≤◌, ℕ, List, length, Contains, true, IfErr, OnOk};
 ghost use Rattle.ex_base.specs.declared.names.Area.TheVariants.{Page};
 ghost use Rattle.ex_base.specs.Ports.{HasCause, IsDamage};
 ghost use Rattle.index_pages.specs.declared.Index.{Index};
 ghost use Rattle.file_index.specs.Index.{IsFilesPage};
+ghost use Rattle.file_index.specs.Taking.{OnlyGives};
 ghost use Rattle.file_bodies.specs.Bodies.{pages_in};
 ghost use Rattle.file_bodies.specs.Files.{HasFile, HasBody};
 ghost use Rattle.file_bodies.specs.Places.{RemovesBody};
@@ -29,12 +30,14 @@ fn drop_page<P: Pages>(
 ) -> Result<(), PortFault>
     requires ready { P.ready pages.old }
     requires page { IsFilesPage (P.geometry pages.old) page.0 }
+    requires held { P.held pages.old page.0 ≡ true }
     requires buffer { length buffer.old ≡ (P.geometry pages.old).page_size }
     ensures leaves { OnOk result (P.tells pages.old → (index : Index)
         → HasFile P.Ground pages.old index → index.file_no ≡ file_no
         → Contains (pages_in (P.image pages.old) index) page.0
         → LeavesFile P.Ground pages.old pages.new index page.0) }
     ensures free { OnOk result (P.free pages.old Page ≤ P.free pages.new Page) }
+    ensures gives { OnOk result (OnlyGives P.Ground pages.old pages.new) }
     ensures sound { IfErr result (λ fault. IsDamage fault → P.tells pages.old → (index : Index)
         → HasFile P.Ground pages.old index → index.file_no ≡ file_no → ⊥) }
     ensures fault { IfErr result (λ fault. P.tells pages.old
@@ -78,6 +81,7 @@ fn remove_by<P: Pages>(
         → HasBody P.Ground pages.old index place body
         → RemovesBody P.Ground pages.old pages.new index place body) }
     ensures free { OnOk result (P.free pages.old Page ≤ P.free pages.new Page) }
+    ensures gives { OnOk result (OnlyGives P.Ground pages.old pages.new) }
     ensures sound { IfErr result (λ fault. IsDamage fault → P.tells pages.old → (index : Index)
         → (body : List ℕ) → HasBody P.Ground pages.old index place body → ⊥) }
     ensures fault { IfErr result (λ fault. P.tells pages.old
@@ -115,6 +119,7 @@ pub fn remove_from_file<P: Pages>(
         → HasBody P.Ground pages.old index place body
         → RemovesBody P.Ground pages.old pages.new index place body) }
     ensures free { OnOk result (P.free pages.old Page ≤ P.free pages.new Page) }
+    ensures gives { OnOk result (OnlyGives P.Ground pages.old pages.new) }
     ensures sound { IfErr result (λ fault. IsDamage fault → P.tells pages.old → (index : Index)
         → (body : List ℕ) → HasBody P.Ground pages.old index place body → ⊥) }
     ensures fault { IfErr result (λ fault. P.tells pages.old

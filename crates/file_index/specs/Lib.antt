@@ -1,3 +1,4 @@
+pub mod Taking
 pub mod Changes
 pub mod Damage
 pub mod Edits

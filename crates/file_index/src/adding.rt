@@ -9,6 +9,7 @@ ghost use Rattle.file_index.specs.Index.{IsFilesPage, HasRoot, HasPlacedRoot};
 ghost use Rattle.file_index.specs.Nodes.{PutsLeaf, leaves_of, IsRootOver};
 ghost use Rattle.file_index.specs.Edits.{IsRow, Becomes, HasIndex, EditsIndex, GrowsTo, put_in};
 ghost use Rattle.file_index.specs.Damage.{IsWayUnder, IsFaultUnder, HasWay, IsIndexFault, IsAddingFault};
+ghost use Rattle.file_index.specs.Taking.{OnlyTakes};
 
 use crate::named::{Named, no_index_page};
 use crate::nodes::{entries_at, page_buffer, take_index};
@@ -74,8 +75,7 @@ fn add_among<P: Pages>(
     ensures fault { IfErr result (λ fault. P.tells pages.old
         → IsFaultUnder (P.geometry pages.old) (P.held pages.old) (P.image pages.old) file_no
         key (level - 1) entries.old.items fault) }
-    ensures held { OnOk result ((page : ℕ) → P.held pages.old page ≡ true
-        → P.held pages.new page ≡ true) }
+    ensures takes { OnOk result (OnlyTakes P.Ground pages.old pages.new) }
     ensures way { OnOk result (P.tells pages.old
         → IsWayUnder (P.geometry pages.old) (P.image pages.old) file_no key
         (level - 1) entries.old.items) }
@@ -137,6 +137,7 @@ fn add_second<P: Pages>(
     ensures placed { IfOk result (λ added. IsFilesPage (P.geometry pages.old) key.0
         → HasPlacedRoot (P.geometry pages.old) added.root) }
     ensures free { OnOk result (P.free pages.old Page ≤ P.free pages.new Page + 1) }
+    ensures takes { OnOk result (OnlyTakes P.Ground pages.old pages.new) }
     ensures no_damage { IfErr result (λ fault. IsDamage fault → ⊥) }
     ensures catalog { OnOk result (P.image pages.new catalog_no ≡ P.image pages.old catalog_no) }
     ensures leads { P.leads pages.old pages.new }
@@ -172,6 +173,7 @@ fn take_root<P: Pages>(
         × HasRoot made.level made.root) }
     ensures placed { IfOk result (λ made. HasPlacedRoot (P.geometry pages.old) made.root) }
     ensures free { OnOk result (P.free pages.new Page + 1 ≡ P.free pages.old Page) }
+    ensures takes { OnOk result (OnlyTakes P.Ground pages.old pages.new) }
     ensures catalog { OnOk result (P.image pages.new catalog_no ≡ P.image pages.old catalog_no) }
     ensures leads { P.leads pages.old pages.new }
     ensures no_damage { IfErr result (λ fault. IsDamage fault → ⊥) }
@@ -223,6 +225,7 @@ fn add_below<P: Pages>(
         → HasPlacedRoot (P.geometry pages.old) added.root) }
     ensures free { OnOk result (P.free pages.old Page ≤ P.free pages.new Page
         + (index.now.level + 1)) }
+    ensures takes { OnOk result (OnlyTakes P.Ground pages.old pages.new) }
     ensures sound { IfErr result (λ fault. IsDamage fault → P.tells pages.old
         → HasIndex P.Ground pages.old index.now → ⊥) }
     ensures fault { IfErr result (λ fault. P.tells pages.old
@@ -299,6 +302,7 @@ pub fn add<P: Pages>(
     ensures level { IfOk result (λ added. added.level ≤ 5) }
     ensures free { OnOk result (P.free pages.old Page ≤ P.free pages.new Page
         + (index.now.level + 1)) }
+    ensures takes { OnOk result (OnlyTakes P.Ground pages.old pages.new) }
     ensures sound { IfErr result (λ fault. IsDamage fault → P.tells pages.old
         → IsFilesPage (P.geometry pages.old) key.0 → HasIndex P.Ground pages.old index.now → ⊥) }
     ensures fault { IfErr result (λ fault. P.tells pages.old

@@ -8,6 +8,7 @@ ghost use Rattle.file_index.specs.Index.{IsFilesPage, IsNamed, least_entries};
 ghost use Rattle.file_index.specs.Changes.{Changes};
 ghost use Rattle.file_index.specs.Nodes.{IsWritten};
 ghost use Rattle.file_index.specs.Damage.{IsPageFault};
+ghost use Rattle.file_index.specs.Taking.{OnlyTakes};
 
 use crate::named::{Named, checked, no_index_page};
 use ex_base::{PageNo, Pages, PortFault, ReadPages};
@@ -103,6 +104,7 @@ pub fn put_index<P: Pages>(
     ensures changes { OnOk result (Changes P.Ground pages.old pages.new (named.now.page.0
         ∷ []) (named.now.page.0 ∷ [])) }
     ensures held { OnOk result (P.held pages.new ≡ P.held pages.old) }
+    ensures used { OnOk result (P.used pages.new ≡ P.used pages.old) }
     ensures free { OnOk result (P.free pages.new ≡ P.free pages.old) }
     ensures catalog { OnOk result (P.image pages.new catalog_no ≡ P.image pages.old catalog_no) }
     ensures leads { P.leads pages.old pages.new }
@@ -135,6 +137,7 @@ pub fn take_index<P: Pages>(
     ensures changes { IfOk result (λ page. Changes P.Ground pages.old pages.new [] (page.0 ∷ [])) }
     ensures area { IfOk result (λ page. IsFilesPage (P.geometry pages.old) page.0) }
     ensures free { OnOk result (P.free pages.new Page + 1 ≡ P.free pages.old Page) }
+    ensures takes { OnOk result (OnlyTakes P.Ground pages.old pages.new) }
     ensures catalog { OnOk result (P.image pages.new catalog_no ≡ P.image pages.old catalog_no) }
     ensures leads { P.leads pages.old pages.new }
     ensures no_damage { IfErr result (λ fault. IsDamage fault → ⊥) }

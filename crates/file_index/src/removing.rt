@@ -9,6 +9,7 @@ ghost use Rattle.file_index.specs.Index.{IsFilesPage, HasRoot};
 ghost use Rattle.file_index.specs.Nodes.{IsWritten, RemovesLeaf, first_key};
 ghost use Rattle.file_index.specs.Edits.{IsRow, Becomes, HasIndex, EditsIndex, ShrinksTo, take_out};
 ghost use Rattle.file_index.specs.Damage.{IsWayUnder, IsFaultUnder, IsBesideUnder, IsGoneFault, HasWay, IsRemovalFault};
+ghost use Rattle.file_index.specs.Taking.{OnlyGives};
 
 use crate::named::{Named, most_entries, no_index_page};
 use crate::nodes::{entries_at, page_buffer, put_index};
@@ -58,6 +59,7 @@ fn write_child<P: Pages>(
     ensures same { IfOk result (λ changed. changed ≡ false
         → named.now.least ≡ Some (first_key below.now)) }
     ensures free { OnOk result (P.free pages.new ≡ P.free pages.old) }
+    ensures gives { OnOk result (OnlyGives P.Ground pages.old pages.new) }
     ensures catalog { OnOk result (P.image pages.new catalog_no ≡ P.image pages.old catalog_no) }
     ensures leads { P.leads pages.old pages.new }
     ensures no_damage { IfErr result (λ fault. IsDamage fault → ⊥) }
@@ -116,6 +118,7 @@ fn remove_among<P: Pages>(
     ensures fewer { OnOk result ((length entries.new.items ≤ length entries.old.items)
         × (length entries.old.items ≤ length entries.new.items + 1)) }
     ensures free { OnOk result (P.free pages.old Page ≤ P.free pages.new Page) }
+    ensures gives { OnOk result (OnlyGives P.Ground pages.old pages.new) }
     ensures sound { IfErr result (λ fault. IsDamage fault → P.tells pages.old
         → IsRow P.Ground pages.old file_no (level - 1) entries.old.items → ⊥) }
     ensures fault { IfErr result (λ fault. P.tells pages.old
@@ -185,6 +188,7 @@ fn remove_below<P: Pages>(
         → EditsIndex P.Ground pages.old pages.new (take_out key.0) index.now left) }
     ensures shrinks { IfOk result (λ left. ShrinksTo index.now left) }
     ensures free { OnOk result (P.free pages.old Page ≤ P.free pages.new Page) }
+    ensures gives { OnOk result (OnlyGives P.Ground pages.old pages.new) }
     ensures sound { IfErr result (λ fault. IsDamage fault → P.tells pages.old
         → HasIndex P.Ground pages.old index.now → ⊥) }
     ensures fault { IfErr result (λ fault. P.tells pages.old
@@ -251,6 +255,7 @@ pub fn remove<P: Pages>(
         → EditsIndex P.Ground pages.old pages.new (take_out key.0) index.now left) }
     ensures shrinks { IfOk result (λ left. ShrinksTo index.now left) }
     ensures free { OnOk result (P.free pages.old Page ≤ P.free pages.new Page) }
+    ensures gives { OnOk result (OnlyGives P.Ground pages.old pages.new) }
     ensures sound { IfErr result (λ fault. IsDamage fault → P.tells pages.old
         → HasIndex P.Ground pages.old index.now → ⊥) }
     ensures fault { IfErr result (λ fault. P.tells pages.old

@@ -8,6 +8,7 @@ ghost use Rattle.file_index.specs.Changes.{Changes};
 ghost use Rattle.file_index.specs.Index.{IsFilesPage, IsNamed};
 ghost use Rattle.file_index.specs.Damage.{IsPageFault};
 ghost use Rattle.file_index.specs.Nodes.{Stored, heads, entries_of, first_key, joined, beside_of, thin_of};
+ghost use Rattle.file_index.specs.Taking.{OnlyGives};
 
 use crate::named::{Named, most_entries};
 use crate::nodes::{entries_at, put_index};
@@ -70,6 +71,7 @@ fn even_out<P: Pages>(
     ensures changes { IfOk result (λ second. Changes P.Ground pages.old pages.new (left.now.page.0 ∷ right.now.page.0
         ∷ []) (left.now.page.0 ∷ heads (entries_of second))) }
     ensures free { OnOk result (P.free pages.old Page ≤ P.free pages.new Page) }
+    ensures gives { OnOk result (OnlyGives P.Ground pages.old pages.new) }
     ensures catalog { OnOk result (P.image pages.new catalog_no ≡ P.image pages.old catalog_no) }
     ensures leads { P.leads pages.old pages.new }
     ensures no_damage { IfErr result (λ fault. IsDamage fault → ⊥) }
@@ -120,6 +122,7 @@ pub fn spread<P: Pages>(
     ensures changes { IfOk result (λ made. Changes P.Ground pages.old pages.new (pair.now.left.page.0 ∷ pair.now.right.page.0
         ∷ []) (pair.now.left.page.0 ∷ heads (entries_of made.1))) }
     ensures free { OnOk result (P.free pages.old Page ≤ P.free pages.new Page) }
+    ensures gives { OnOk result (OnlyGives P.Ground pages.old pages.new) }
     ensures sound { IfErr result (λ fault. IsDamage fault → P.tells pages.old
         → IsFilesPage (P.geometry pages.old) (beside_of pair.now).page.0
         → P.held pages.old (beside_of pair.now).page.0 ≡ true

@@ -5,6 +5,7 @@ use Rattle.std.specs.Map.{lookup}
 use Rattle.std.proofs.lemmas.Bool.{both_ways}
 use Rattle.ex_base.specs.declared.geometry.Geometry.{Geometry}
 use Rattle.ex_base.specs.declared.ground.Ground as ground
+use Rattle.ex_base.specs.declared.names.Root.{Root}
 use Rattle.ex_base.specs.Area.{InPageArea, catalog_no}
 use Rattle.disk_model.specs.Outside.{Outside}
 use Rattle.buffer_groups.specs.Frames.{Frames, Lends}
@@ -101,7 +102,7 @@ module _ {S : Type 0} (g : ground.Ghosts S) (s : S) {a : Outside} {before : View
         ∙ ap (λ (o : Option (List ℕ)). unwrap_or o (home page)) (nothing_over page (sym (ap (λ (f : ℕ → Bool). f page) later_over.held) ∙ off))
         ∙ sym (ap (λ (f : ℕ → List ℕ). f page) later_over.unit)
 
-    module _ (ready : g.ready t) (told_later : g.tells t) (rows : AreRows p.meta) (table : Table) (becomes : BecomesVolume g s t d.records working table) where
+    module _ (ready : g.ready t) (told_later : g.tells t) (rows : AreRows p.meta) (table : Table) (gone come : Option Root) (becomes : BecomesVolume g s t d.records working table gone come) where
       tells : Tells a before.session.groups
       tells = let bytes = shown_tells now session.sizes in (now.honest, bytes.0, bytes.1)
 
@@ -211,16 +212,16 @@ module _ {S : Type 0} (g : ground.Ghosts S) (s : S) {a : Outside} (geometry : Ge
     never_shown never before has now asked =
         never now.shows.decoded.records now.shows.working (own_tells has now) (is_volume g s now has.is (own_over has now)) (subst (asks now.shows.working) (same_table has now) asked)
 
-    module _ (t : S) (ready : g.ready s) (leads : g.leads s t) {b : Outside} (new : PortParts) (moved : Moved a b geometry old new) (later_over : IsPortWith g t geometry b.disk new) (rows : AreRows new.meta) (after : Table → Table) where
+    module _ (t : S) (ready : g.ready s) (leads : g.leads s t) {b : Outside} (new : PortParts) (moved : Moved a b geometry old new) (later_over : IsPortWith g t geometry b.disk new) (rows : AreRows new.meta) (after : Table → Table) (gone come : Option Root) where
       -- where it becomes a volume with another table, the parts hold that table
-      pub update_holds : ((records : List LogRecord) (v : Volume) → g.tells s → IsVolume g s records v → asks v (table_of (units_in g s) v) → IsApart g t → AreInUse g t → BecomesVolume g s t records v (after (table_of (units_in g s) v)))
+      pub update_holds : ((records : List LogRecord) (v : Volume) → g.tells s → IsVolume g s records v → asks v (table_of (units_in g s) v) → IsApart g t → AreInUse g t → BecomesVolume g s t records v (after (table_of (units_in g s) v)) gone come)
           → (before : View SessionState) → HasPortParts before.session geometry old → (now : ShowsNow meant a before) → asks now.shows.working (shown before.machine) → HoldsTable before b new (after (shown before.machine))
       update_holds becomes before has now asked =
           let own = own_over has now in
           let moves = subst (λ (h : Geometry). Moved a b h (parts_held before.session) new) (sym has.geometry) (subst (λ (p : PortParts). Moved a b geometry p new) (sym has.parts) moved) in
           let later = subst (λ (h : Geometry). IsPortWith g t h b.disk new) (sym has.geometry) later_over in
           let same = same_table has now in
-          holds_table g s now has.is own t new moves later (g.leads_ready s t leads ready) (g.leads_told s t leads (own_tells has now)) rows (after (shown before.machine))
-          (subst (λ (table : Table). BecomesVolume g s t now.shows.decoded.records now.shows.working (after table)) (sym same)
+          holds_table g s now has.is own t new moves later (g.leads_ready s t leads ready) (g.leads_told s t leads (own_tells has now)) rows (after (shown before.machine)) gone come
+          (subst (λ (table : Table). BecomesVolume g s t now.shows.decoded.records now.shows.working (after table) gone come) (sym same)
           (becomes now.shows.decoded.records now.shows.working (own_tells has now) (is_volume g s now has.is own) (subst (asks now.shows.working) same asked)
           (apart_after g s now has.is own t new moves later) (in_use_after g s now has.is own t new moves later)))

@@ -1,5 +1,5 @@
 -- An object that is made: the catalog counts its number, and then its file gets its record.
-use Rattle.std.proofs.Common.{◌≡◌, ℕ, ◌+◌, ◌<◌, ◌≤◌, Bool, List, [], Some, refl, sym, ap, subst, ◌∙◌, arith, inl, inr}
+use Rattle.std.proofs.Common.{◌≡◌, ℕ, ◌+◌, ◌<◌, ◌≤◌, Bool, List, Some, None, refl, sym, ap, subst, ◌∙◌, arith, inl, inr}
 use Rattle.std.specs.Prelude.{map, Contains}
 use Rattle.std.specs.List.{flat_map, AllByRecursion}
 use Rattle.ex_base.specs.declared.ground.Ground as ground
@@ -11,10 +11,11 @@ use Rattle.op_log.specs.declared.record.LogRecord.{LogRecord}
 use Rattle.object_files.specs.Catalog.{Catalog, CatalogOf, FileEntry, number_of}
 use Rattle.object_files.specs.Reads.{catalog_on}
 use Rattle.object_files.proofs.CatalogLaws.{catalog_read}
+use Rattle.file_index.specs.Taking.{OnlyTakes}
 use Rattle.file_bodies.specs.Files.{HasFile, index_at, index_in}
 use Rattle.table_model.specs.Tables.{numbered, with_object}
 use Rattle.version_model.specs.Versions.{AreInUse, PutsVersion}
-use Rattle.volume_model.specs.Volume.{Line, Stored, Volume, line_records, stored_in, table_of, unique_of}
+use Rattle.volume_model.specs.Volume.{Line, Stored, Volume, line_records, stored_in, table_of, unique_of, roots_in}
 use Rattle.volume_edits.specs.Edits.{MovesVolume, RecatalogsVolume, WritesCatalog, catalog_numbered, table_numbered}
 use Rattle.volume_edits.specs.Ported.{IsApart, IsVolume, ShowsVolume, index_named, units_in}
 use Rattle.volume_edits.proofs.Contents.{entries_here, has_files, in_beside}
@@ -22,6 +23,7 @@ use Rattle.volume_edits.proofs.Counted.{in_area}
 use Rattle.volume_edits.proofs.Creating.{creates_object}
 use Rattle.volume_edits.proofs.Listing.{numbers_volume}
 use Rattle.volume_edits.proofs.Lists.{cut_at}
+use Rattle.volume_edits.proofs.Turned.{turned_before}
 use Rattle.session_core.specs.TableUpdates.{AsksFile, BecomesVolume}
 
 module _ {S : Type 0} (g : ground.Ghosts S) (s : S) (records : List LogRecord) (v : Volume) (vol : ShowsVolume g s records v) where
@@ -50,7 +52,7 @@ module _ {S : Type 0} (g : ground.Ghosts S) (old mid : S) (records : List LogRec
   pub its_file : HasFile g mid (index_named asks.entry)
   its_file = entry_file g mid records counted.now counted.volume.shows asks.entry there
 
-  module _ (new : S) (oid : Oid) (number : oid.unique ≡ unique) (geometry : g.geometry new ≡ g.geometry mid) (apart : IsApart g new) (in_use : AreInUse g new) (creates : PutsVersion g mid new (index_named asks.entry) oid) where
+  module _ (new : S) (oid : Oid) (number : oid.unique ≡ unique) (geometry : g.geometry new ≡ g.geometry mid) (apart : IsApart g new) (in_use : AreInUse g new) (takes : OnlyTakes g mid new) (creates : PutsVersion g mid new (index_named asks.entry) oid) where
     low : oid.unique < counted.now.catalog.next_unique
     low = omega (arith, number, ap (λ (c : Catalog). c.next_unique) counted.has)
 
@@ -62,8 +64,8 @@ module _ {S : Type 0} (g : ground.Ghosts S) (old mid : S) (records : List LogRec
         subst (λ (n : ℕ). AllByRecursion (λ (s : Stored). unique_of s < n) (stored_in counted.now)) (asks.next ∙ sym number)
         (subst (λ (ls : List Line). AllByRecursion (λ (s : Stored). unique_of s < v.catalog.next_unique) (flat_map line_records ls)) (sym counted.objects) vol.shows.parts.1.1.1.1.1.1.0.below)
 
-    created : MovesVolume g mid new records counted.now [] (with_object oid asks.entry.name (table_of (units_in g mid) counted.now))
-    created = creates_object g mid new records counted.now counted.volume (index_named asks.entry) oid asks.entry geometry apart in_use its_file there refl some low above creates
+    created : MovesVolume g mid new records counted.now None (with_object oid asks.entry.name (table_of (units_in g mid) counted.now))
+    created = creates_object g mid new records counted.now counted.volume (index_named asks.entry) oid asks.entry geometry apart in_use takes its_file there refl some low above creates
 
     table_is : with_object oid asks.entry.name (table_of (units_in g mid) counted.now) ≡ numbered (with_object oid name (table_of (units_in g old) v))
     table_is =
@@ -71,8 +73,11 @@ module _ {S : Type 0} (g : ground.Ghosts S) (old mid : S) (records : List LogRec
         ∙ ap (λ (n : List ℕ). with_object oid n (table_numbered (unique + 1) (table_of (units_in g old) v))) asks.name_is
         ∙ ap (λ (n : ℕ). table_numbered (n + 1) (with_object oid name (table_of (units_in g old) v))) (sym asks.next)
 
+    same_roots : roots_in (stored_in counted.now) ≡ roots_in (stored_in v)
+    same_roots = ap (λ (ls : List Line). roots_in (flat_map line_records ls)) counted.objects
+
     -- the volume has the new object, and its number is used up
-    pub becomes : BecomesVolume g old new records v (numbered (with_object oid name (table_of (units_in g old) v)))
+    pub becomes : BecomesVolume g old new records v (numbered (with_object oid name (table_of (units_in g old) v))) None None
     becomes = record {
       now = created.now;
       volume = created.volume;
@@ -82,4 +87,5 @@ module _ {S : Type 0} (g : ground.Ghosts S) (old mid : S) (records : List LogRec
         | inr free ↦ inr (ap (λ (f : ℕ → Bool). f page) (sym writes.puts.used) ∙ free)
       ];
       units = λ u c. inl (subst (λ (us : List ℕ). Contains us u) counted.units (created.units u c));
+      turned = turned_before g old mid new v counted.now created.now None None same_roots writes.geometry writes.puts.used writes.puts.refs writes.puts.units created.turned;
     }

@@ -24,6 +24,7 @@ use Rattle.session_views.specs.declared.engine.Stop.{Stop}
 use Rattle.session_views.specs.View.{View, ShowsNow, StandsDuring}
 use Rattle.session_core.specs.Meant.{meant}
 use Rattle.session_core.proofs.Updating.{update_moments}
+use Rattle.session_core.specs.declared.updates.Done.{Done}
 use Rattle.session_core.specs.Updates.{AreReady, HasPortParts, Moved, PortParts, WritesLoose, note_done, note_with, parts_held}
 use Rattle.ex_base.specs.Area.{catalog_no}
 use Rattle.object_files.specs.Catalog.{Catalog, CatalogOf}
@@ -169,8 +170,8 @@ with_room s room same is = record {
 }
 
 -- the note of an update that was performed is that of the OID that it answered
-pub noted_so : (note noted : OpNote) (done : Result Oid PortFault) → is_ok done ≡ true → noted ≡ note_done note done → noted ≡ note_with note noted.oid
-noted_so note noted (Ok oid) ok is = is ∙ ap (λ (n : OpNote). note_with note n.oid) (sym is)
+pub noted_so : (note noted : OpNote) (done : Result Done PortFault) → is_ok done ≡ true → noted ≡ note_done note done → noted ≡ note_with note noted.oid
+noted_so note noted (Ok done) ok is = is ∙ ap (λ (n : OpNote). note_with note n.oid) (sym is)
 noted_so note noted (Err fault) ok is = absurd (cc)
 
 -- the note is one of the log with any OID whose numbers fit their fields
@@ -184,8 +185,8 @@ on_err (Ok oid) p = tt
 on_err (Err stop) p = p
 
 -- what holds of the OID that it answered holds of the noted one
-pub at_oid : (P : Oid → Type 0) (note noted : OpNote) (done : Result Oid PortFault) → is_ok done ≡ true → noted ≡ note_done note done → IfOk done P → P noted.oid
-at_oid P note noted (Ok oid) ok is p = subst P (ap (λ (n : OpNote). n.oid) (sym is)) p
+pub at_oid : (P : Oid → Type 0) (note noted : OpNote) (done : Result Done PortFault) → is_ok done ≡ true → noted ≡ note_done note done → IfOk done (λ d. P d.oid) → P noted.oid
+at_oid P note noted (Ok done) ok is p = subst P (ap (λ (n : OpNote). n.oid) (sym is)) p
 at_oid P note noted (Err fault) ok is p = absurd (cc)
 
 -- the session that was seen is the one that holds these fields

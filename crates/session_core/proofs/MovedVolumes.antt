@@ -1,10 +1,11 @@
 -- A volume that a call on versions keeps, edits or moves is one that the port's working state becomes.
-use Rattle.std.proofs.Common.{◌≡◌, ℕ, Bool, true, List, [], ◌∷◌, Some, sym, ap, subst, ◌∙◌, inl, inr}
+use Rattle.std.proofs.Common.{◌≡◌, ℕ, Bool, true, List, [], ◌∷◌, Option, Some, None, sym, ap, subst, ◌∙◌, inl, inr}
 use Rattle.std.specs.Prelude.{Contains, if◌then◌else◌, map, nat_lt, Result, Ok, Err, IfOk, IfErr}
 use Rattle.ex_base.specs.declared.ground.Ground as ground
 use Rattle.ex_base.specs.declared.geometry.Geometry.{Geometry}
 use Rattle.ex_base.specs.declared.faults.PortFault.{PortFault}
 use Rattle.ex_base.specs.declared.names.Oid.{Oid}
+use Rattle.ex_base.specs.declared.names.Root.{Root}
 use Rattle.ex_base.specs.Area.{InPageArea, area_end, catalog_no}
 use Rattle.ex_base.specs.Order.{AllDiffer}
 use Rattle.ex_base.specs.Ports.{IsDamage, Keeps}
@@ -20,7 +21,9 @@ use Rattle.volume_edits.specs.Ported.{IsApart, IsVolume, units_in}
 use Rattle.volume_edits.proofs.Contents.{pairs}
 use Rattle.volume_edits.proofs.Finding.{find_in, from_map, into_map, oid_same, versions_are}
 use Rattle.volume_edits.proofs.Staying.{kept_reach, stays_whole}
+use Rattle.volume_edits.proofs.Turned.{turned_kept, turned_later}
 use Rattle.volume_model.specs.Volume.{Stored, Volume, file_pages, reach_of, stored_in, table_of, unique_of, version_of}
+use Rattle.session_core.specs.declared.updates.Done.{Done}
 use Rattle.session_core.specs.TableUpdates.{BecomesVolume, TableUpdate, Updates, updated}
 use Rattle.session_core.proofs.Tables.{bytes_agree}
 
@@ -72,40 +75,43 @@ module _ {S : Type 0} (g : ground.Ghosts S) (old : S) (records : List LogRecord)
     kept_here : Keeps g old new → IsVolume g new records v
     kept_here keeps = stays_whole g old new records v vol.shows (kept_reach g old new v keeps vol.shows.apart) (λ u c. ap (λ (f : ℕ → Bool). f u) keeps.used ∙ vol.used u c)
 
-    pub kept_volume : Keeps g old new → BecomesVolume g old new records v (table_of U v)
+    pub kept_volume : Keeps g old new → BecomesVolume g old new records v (table_of U v) None None
     kept_volume keeps = record {
       now = v;
       volume = kept_here keeps;
       shows = ap (λ (units : Units). table_of units v) (kept_units keeps);
       pages = λ page c. inl c;
       units = λ u c. inl (subst (λ (units : Units). Contains (trees_of units v) u) (kept_units keeps) c);
+      turned = turned_kept g old new v keeps;
     }
 
     -- the version's bytes are changed, whatever they were before
-    pub changed_volume : (oid : Oid) (version : Version) (change : List ℕ → List ℕ) (before after : List ℕ) → version_at (table_of U v) oid ≡ Some version → ChangesVolume g old new records v oid (change version.bytes) before after
-        → BecomesVolume g old new records v (with_bytes oid change (table_of U v))
-    changed_volume oid version change before after is changes = record {
+    pub changed_volume : (oid : Oid) (version : Version) (change : List ℕ → List ℕ) (gone come : Option Root) → version_at (table_of U v) oid ≡ Some version → ChangesVolume g old new records v oid (change version.bytes) gone come
+        → BecomesVolume g old new records v (with_bytes oid change (table_of U v)) gone come
+    changed_volume oid version change gone come is changes = record {
       now = changes.now;
       volume = changes.volume;
       shows = changes.table ∙ bytes_agree oid (λ (was : List ℕ). change version.bytes) change (table_of U v) (λ w inside has. ap (λ (x : Version). change x.bytes) (sym (one_version oid version w is inside has)));
       pages = λ page c. inl (subst (λ (pages : List ℕ). Contains pages page) changes.pages c);
       units = changes.units;
+      turned = changes.turned;
     }
 
-    pub moved_volume : (given_up : List ℕ) (table : Table) → MovesVolume g old new records v given_up table → BecomesVolume g old new records v table
-    moved_volume given_up table moves = record {
+    pub moved_volume : (gone : Option Root) (table : Table) → MovesVolume g old new records v gone table → BecomesVolume g old new records v table gone None
+    moved_volume gone table moves = record {
       now = moves.now;
       volume = moves.volume;
       shows = moves.shows;
       pages = moves.pages;
       units = λ u there. inl (moves.units u there);
+      turned = moves.turned;
     }
 
 -- ---- what is read after an update
 
 module _ {S : Type 0} (g : ground.Ghosts S) (old mid new : S) (keeps : Keeps g mid new) where
-  still_becomes : (records : List LogRecord) (v : Volume) (table : Table) → BecomesVolume g old mid records v table → BecomesVolume g old new records v table
-  still_becomes records v table becomes =
+  still_becomes : (records : List LogRecord) (v : Volume) (table : Table) (gone come : Option Root) → BecomesVolume g old mid records v table gone come → BecomesVolume g old new records v table gone come
+  still_becomes records v table gone come becomes =
       let units = kept_units g mid records becomes.now becomes.volume new keeps in
       record {
         now = becomes.now;
@@ -113,6 +119,7 @@ module _ {S : Type 0} (g : ground.Ghosts S) (old mid new : S) (keeps : Keeps g m
         shows = ap (λ (us : Units). table_of us becomes.now) units ∙ becomes.shows;
         pages = becomes.pages;
         units = λ u c. becomes.units u (subst (λ (us : Units). Contains (trees_of us becomes.now) u) units c);
+        turned = turned_later g old mid new v becomes.now gone come keeps becomes.turned;
       }
 
   apart_before : IsApart g new → IsApart g mid
@@ -123,13 +130,13 @@ module _ {S : Type 0} (g : ground.Ghosts S) (old mid new : S) (keeps : Keeps g m
   used_before : AreInUse g new → AreInUse g mid
   used_before used = λ page held. ap (λ (f : ℕ → Bool). f page) (sym keeps.used) ∙ used page (ap (λ (f : ℕ → Bool). f page) keeps.held ∙ held)
 
-  -- a call that only reads, and answers the OID of the update before it, leaves what the update did
-  pub still_updated : (u : TableUpdate) (oid : Oid) (result : Result Oid PortFault) → Updates g old mid u (Ok oid) → IfOk result (λ read. read ≡ oid) → IfErr result (λ fault. IsDamage fault → ⊥)
+  -- a call that only reads, and answers what the update before it did, leaves that
+  pub still_updated : (u : TableUpdate) (done : Done) (result : Result Done PortFault) → Updates g old mid u (Ok done) → IfOk result (λ read. read ≡ done) → IfErr result (λ fault. IsDamage fault → ⊥)
       → Updates g old new u result
-  still_updated u oid (Ok read) does same never = record {
+  still_updated u done (Ok read) does same never = record {
     done = λ records v tells vol asks apart used.
-        subst (λ (o : Oid). BecomesVolume g old new records v (updated u o (table_of (units_in g old) v))) (sym same)
-        (still_becomes records v _ (does.done records v tells vol asks (apart_before apart) (used_before used)));
+        subst (λ (d : Done). BecomesVolume g old new records v (updated u d.oid (table_of (units_in g old) v)) d.gone d.come) (sym same)
+        (still_becomes records v _ done.gone done.come (does.done records v tells vol asks (apart_before apart) (used_before used)));
     sound = tt;
   }
-  still_updated u oid (Err fault) does same never = record { done = tt; sound = λ damage records v tells vol asks room. never damage }
+  still_updated u done (Err fault) does same never = record { done = tt; sound = λ damage records v tells vol asks room. never damage }

@@ -3,10 +3,10 @@ use Rattle.std.specs.Prelude.{Result, Ok, Err, IfOk, IfErr}
 use Rattle.ex_base.specs.declared.ground.Ground as ground
 use Rattle.ex_base.specs.declared.geometry.Geometry.{Geometry}
 use Rattle.ex_base.specs.declared.faults.PortFault.{PortFault}
-use Rattle.ex_base.specs.declared.names.Oid.{Oid}
 use Rattle.ex_base.specs.Ports.{IsDamage}
 use Rattle.disk_model.specs.Outside.{Outside}
 use Rattle.meta_pages.specs.Overlays.{AreRows}
+use Rattle.session_core.specs.declared.updates.Done.{Done}
 use Rattle.session_core.specs.declared.updates.ObjectUpdate.{ObjectUpdate}
 use Rattle.session_core.specs.Performed.{IsUpdate}
 use Rattle.session_core.specs.TableUpdates.{Asks, HasRoom, TableUpdate, Updates, updated}
@@ -18,24 +18,24 @@ use Rattle.session_core.specs.Updates.{HasRoomFor, HoldsTable, IfAsked, Moved, P
 use Rattle.session_core.proofs.Holding.{IsPortWith, never_shown, own_free, own_shows, update_holds}
 use Rattle.session_core.proofs.Roomed.{has_room}
 
-module _ {S : Type 0} (g : ground.Ghosts S) (s t : S) (update : ObjectUpdate) (result : Result Oid PortFault) (does : (u : TableUpdate) → IsUpdate update u → Updates g s t u result) (ready : g.ready s)
+module _ {S : Type 0} (g : ground.Ghosts S) (s t : S) (update : ObjectUpdate) (result : Result Done PortFault) (does : (u : TableUpdate) → IsUpdate update u → Updates g s t u result) (ready : g.ready s)
     (a : Outside) (geometry : Geometry) (old : PortParts) (over : IsPortWith g s geometry a.disk old) (told : Tells a old.groups → g.tells s) where
   -- the parts that it leaves hold the table that it makes
   pub performed_shown : g.leads s t → {b : Outside} (new : PortParts) → Moved a b geometry old new → IsPortWith g t geometry b.disk new
-      → IfOk result (λ oid. IfAsked a geometry old update (λ before u. AreRows new.meta → HoldsTable before b new (updated u oid (shown before.machine))))
+      → IfOk result (λ done. IfAsked a geometry old update (λ before u. AreRows new.meta → HoldsTable before b new (updated u done.oid (shown before.machine))))
   performed_shown leads {b} new moved later = by result does
     where
-      by : (r : Result Oid PortFault) → ((u : TableUpdate) → IsUpdate update u → Updates g s t u r)
-          → IfOk r (λ oid. IfAsked a geometry old update (λ before u. AreRows new.meta → HoldsTable before b new (updated u oid (shown before.machine))))
+      by : (r : Result Done PortFault) → ((u : TableUpdate) → IsUpdate update u → Updates g s t u r)
+          → IfOk r (λ done. IfAsked a geometry old update (λ before u. AreRows new.meta → HoldsTable before b new (updated u done.oid (shown before.machine))))
       by (Err fault) does = tt
-      by (Ok oid) does = λ before has now u is asked rows. update_holds g s geometry old over told (Asks u) t ready leads new moved later rows (updated u oid) (does u is).done before has now asked
+      by (Ok done) does = λ before has now u is asked rows. update_holds g s geometry old over told (Asks u) t ready leads new moved later rows (updated u done.oid) done.gone done.come (does u is).done before has now asked
 
   -- where it has its room, it tells of no damage
   pub performed_sound : IfErr result (λ fault. IfAsked a geometry old update (λ before u. HasRoomFor before u → IsDamage fault → ⊥))
   performed_sound = by result does
     where
-      by : (r : Result Oid PortFault) → ((u : TableUpdate) → IsUpdate update u → Updates g s t u r) → IfErr r (λ fault. IfAsked a geometry old update (λ before u. HasRoomFor before u → IsDamage fault → ⊥))
-      by (Ok oid) does = tt
+      by : (r : Result Done PortFault) → ((u : TableUpdate) → IsUpdate update u → Updates g s t u r) → IfErr r (λ fault. IfAsked a geometry old update (λ before u. HasRoomFor before u → IsDamage fault → ⊥))
+      by (Ok done) does = tt
       by (Err fault) does = λ before has now u is asked room damage.
           never_shown g s geometry old over told (λ (v : Volume) (table : Table). Asks u v table × HasRoom g s u)
           (λ records v tells vol asks. (does u is).sound damage records v tells vol asks.0 asks.1) before has now

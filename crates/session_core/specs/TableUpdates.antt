@@ -1,8 +1,9 @@
 -- What an update of objects asks of a volume's table, and the table that it leaves.
-use Rattle.std.specs.Prelude.{◌≡◌, ◌⊎◌, ℕ, false, List, length, Some, Contains, Result, IfOk, IfErr, ⊤}
+use Rattle.std.specs.Prelude.{◌≡◌, ◌⊎◌, ℕ, false, List, length, Option, Some, Contains, Result, IfOk, IfErr, ⊤}
 use Rattle.ex_base.specs.declared.ground.Ground as ground
 use Rattle.ex_base.specs.declared.faults.PortFault.{PortFault}
 use Rattle.ex_base.specs.declared.names.Oid.{Oid}
+use Rattle.ex_base.specs.declared.names.Root.{Root}
 use Rattle.ex_base.specs.Ports.{IsDamage}
 use Rattle.op_log.specs.declared.record.LogRecord.{LogRecord}
 use Rattle.index_pages.specs.declared.Index.{Index}
@@ -11,9 +12,10 @@ use Rattle.object_records.specs.Record.{Content}
 use Rattle.table_model.specs.declared.table.Table.{Table}
 use Rattle.table_model.specs.declared.table.Version.{Version}
 use Rattle.table_model.specs.Tables.{version_at, numbered, with_object, with_bytes, without_object}
+use Rattle.session_core.specs.declared.updates.Done.{Done}
 use Rattle.versions.specs.Edited.{HasNeed}
 use Rattle.version_model.specs.Versions.{AreInUse, Change, HasVersion, InRange, changed, place_of}
-use Rattle.volume_edits.specs.Edits.{trees_of}
+use Rattle.volume_edits.specs.Edits.{TurnsRoots, trees_of}
 use Rattle.volume_edits.specs.Ported.{IsApart, IsVolume, units_in}
 use Rattle.volume_model.specs.Volume.{Volume, file_pages, table_of}
 
@@ -62,17 +64,19 @@ HasRoom g s (Changes oid change) = (index : Index) (content : Content) (bytes : 
     → HasNeed g s (place_of oid) content change (length (changed change bytes))
 HasRoom g s (Removes oid) = ⊤
 
--- The port's working state becomes a volume with this table. Each of its pages and each unit of its trees is one of before or was free.
-pub record BecomesVolume {S : Type 0} (g : ground.Ghosts S) (old new : S) (records : List LogRecord) (v : Volume) (table : Table) : Type 0 where
+-- The port's working state becomes a volume with this table. Each of its pages and each unit of its trees is one of before or was free, and of its roots
+-- one went and one came.
+pub record BecomesVolume {S : Type 0} (g : ground.Ghosts S) (old new : S) (records : List LogRecord) (v : Volume) (table : Table) (gone come : Option Root) : Type 0 where
   pub now : Volume
   pub volume : IsVolume g new records now
   pub shows : table_of (units_in g new) now ≡ table
   pub pages : (page : ℕ) → Contains (file_pages now) page → Contains (file_pages v) page ⊎ (g.used old page ≡ false)
   pub units : (u : ℕ) → Contains (trees_of (units_in g new) now) u → Contains (trees_of (units_in g old) v) u ⊎ (g.used old u ≡ false)
+  pub turned : TurnsRoots g old new v now gone come
 
--- What an update does with a volume that has what it asks: the volume becomes one with the updated table, and where the update has its room, no page
--- of the volume is told to be damaged.
-pub record Updates {S : Type 0} (g : ground.Ghosts S) (old new : S) (u : TableUpdate) (result : Result Oid PortFault) : Type 0 where
-  pub done : IfOk result (λ oid. (records : List LogRecord) (v : Volume) → g.tells old → IsVolume g old records v → Asks u v (table_of (units_in g old) v) → IsApart g new → AreInUse g new
-      → BecomesVolume g old new records v (updated u oid (table_of (units_in g old) v)))
+-- What an update does with a volume that has what it asks: the volume becomes one with the updated table, and its roots turn as is told; and where the
+-- update has its room, no page of the volume is told to be damaged.
+pub record Updates {S : Type 0} (g : ground.Ghosts S) (old new : S) (u : TableUpdate) (result : Result Done PortFault) : Type 0 where
+  pub done : IfOk result (λ done. (records : List LogRecord) (v : Volume) → g.tells old → IsVolume g old records v → Asks u v (table_of (units_in g old) v) → IsApart g new → AreInUse g new
+      → BecomesVolume g old new records v (updated u done.oid (table_of (units_in g old) v)) done.gone done.come)
   pub sound : IfErr result (λ fault. IsDamage fault → (records : List LogRecord) (v : Volume) → g.tells old → IsVolume g old records v → Asks u v (table_of (units_in g old) v) → HasRoom g old u → ⊥)

@@ -20,6 +20,7 @@ use Rattle.table_model.specs.declared.table.Table.{Table}
 use Rattle.table_model.specs.Machines.{IsMachine}
 use Rattle.table_model.specs.Machines.{shown}
 use Rattle.session_views.specs.View.{View, ShowsNow}
+use Rattle.session_core.specs.declared.updates.Done.{Done}
 use Rattle.session_core.specs.declared.updates.ObjectUpdate.{ObjectUpdate}
 use Rattle.session_core.specs.Performed.{IsUpdate}
 use Rattle.session_core.specs.TableUpdates.{TableUpdate, Makes, Changes, Removes, Asks}
@@ -76,8 +77,8 @@ abbrev pub note_with : OpNote → Oid → OpNote
 note_with note oid = record note { oid = oid }
 
 -- the note of an update that was performed so: with the OID that it answered
-abbrev pub note_done : OpNote → Result Oid PortFault → OpNote
-note_done note (Ok oid) = note_with note oid
+abbrev pub note_done : OpNote → Result Done PortFault → OpNote
+note_done note (Ok done) = note_with note done.oid
 note_done note (Err fault) = note
 
 -- ---- the session after it

@@ -13,7 +13,7 @@ mod rooms;
 
 use changing::change;
 use creating::create;
-use ex_base::{Oid, PortFault, Volume};
+use ex_base::{Oid, PortFault, Root, Volume};
 use removing::remove;
 pub use rooms::Rooms;
 use std::alloc::Global;
@@ -30,7 +30,18 @@ pub enum ObjectUpdate<'a> {
     Remove { oid: Oid },
 }
 
-/// Performs an update, and answers the OID of the version that it made, changed or removed. After a fault the working state is not to be used again.
+/// What an update did.
+#[derive(Clone, Copy, Debug)]
+pub struct Done {
+    /// The version that it made, changed or removed.
+    pub oid: Oid,
+    /// The root that the version had and has no more, if it had one.
+    pub gone: Option<Root>,
+    /// The root that the version got, if it got one.
+    pub come: Option<Root>,
+}
+
+/// Performs an update, and answers the version that it made, changed or removed, with the root that went and the one that came. After a fault the working state is not to be used again.
 ///
 /// `rooms` is what the caller remembers of the working state's files, and afterwards what it may remember of the state after the update. A new object is
 /// looked a place for from there on, so that the full pages below aren't read again. What is done to the table doesn't depend on it.
@@ -42,10 +53,10 @@ pub fn perform<V: Volume>(
     alloc: Global,
     rooms: &mut Rooms,
     update: &ObjectUpdate<'_>,
-) -> Result<Oid, PortFault>
+) -> Result<Done, PortFault>
     requires ready { V.ready volume.old }
     requires can { CanPerform update.now (V.free volume.old Page) }
-    ensures named { IfOk result (NamesOid update.now) }
+    ensures named { IfOk result (λ done. NamesOid update.now done.oid) }
     ensures updates { (u : TableUpdate) → IsUpdate update.now u
         → Updates V.Ground volume.old volume.new u result }
     ensures rooms { ChangesOne rooms.old rooms.new }

@@ -39,6 +39,7 @@ module _ {S : Type 0} (g : ground.Ghosts S) where
   counted_nothing a b none same = record {
     nodes = [];
     taken = tt;
+    pages = tt;
     once = λ p. omega arith;
     all = λ p is area away. absurd (none p is area);
     refs = λ p fits. omega (arith, ap (λ (f : ℕ → ℕ). f p) same);
@@ -65,6 +66,7 @@ module _ {S : Type 0} (g : ground.Ghosts S) where
   counted_back a b d k x = record {
     nodes = x.nodes;
     taken = each_as (IsTaken g b d) (IsTaken g a d) x.nodes (λ p is. (sym (ap (λ (f : ℕ → Bool). f p) k.used) ∙ is.0, is.1)) x.taken;
+    pages = subst (λ (h : Geometry). AllByRecursion (InPageArea h) x.nodes) (g.leads_geometry a b k.leads) x.pages;
     once = x.once;
     all = λ p is area away. x.all p (ap (λ (f : ℕ → Bool). f p) k.used ∙ is.0, is.1) (subst (λ (h : Geometry). InPageArea h p) (sym (g.leads_geometry a b k.leads)) area) away;
     refs = λ p fits.
@@ -77,6 +79,7 @@ module _ {S : Type 0} (g : ground.Ghosts S) where
   counted_after a m c used refs units held x = record {
     nodes = x.nodes;
     taken = each_as (IsTaken g a m) (IsTaken g a c) x.nodes (λ p is. (is.0, ap (λ (f : ℕ → Bool). f p) used ∙ is.1)) x.taken;
+    pages = x.pages;
     once = x.once;
     all = λ p is area away. x.all p (is.0, ap (λ (f : ℕ → Bool). f p) (sym used) ∙ is.1) area (ap (λ (f : ℕ → Bool). f p) (sym held) ∙ away);
     refs = λ p fits.
@@ -102,6 +105,7 @@ module _ {S : Type 0} (g : ground.Ghosts S) where
   counted_node a b page level pairs content t is used counts names = record {
     nodes = page ∷ [];
     taken = ((t.was_free, t.now_used), tt);
+    pages = (t.named, tt);
     once = λ p. elim (cases_eq p page) [
       | inl same ↦ omega (arith, times_here p page [] same)
       | inr differ ↦ omega (arith, times_apart p page [] differ)
@@ -123,6 +127,7 @@ module _ {S : Type 0} (g : ground.Ghosts S) where
     nodes = y.nodes ++ x.nodes;
     taken = each-append (IsTaken g a c) y.nodes x.nodes (each_as (IsTaken g b c) (IsTaken g a c) y.nodes (λ p is. (free_before p is.0, is.1)) y.taken)
         (each_as (IsTaken g a b) (IsTaken g a c) x.nodes (λ p is. (is.0, two.used p is.1)) x.taken);
+    pages = each-append (InPageArea (g.geometry a)) y.nodes x.nodes (subst (λ (h : Geometry). AllByRecursion (InPageArea h) y.nodes) (g.leads_geometry a b one.leads) y.pages) x.pages;
     once = λ p. once_both p (cases_Bool (g.used b p));
     all = λ p is area away. found p is area away (cases_Bool (g.used b p));
     refs = λ p fits.

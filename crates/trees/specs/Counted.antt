@@ -16,12 +16,13 @@ abbrev pub NamesPairs : {S : Type 0} → ground.Ghosts S → Type 0
 NamesPairs g = (geo : Geometry) (page : List ℕ) (level : ℕ) (pairs : List Pair) → PairsOf geo.fan page level pairs
     → g.names geo page ≡ map page_of_pair pairs
 
--- Each of these nodes was taken, none is listed twice, and they are all pages that were taken and are
--- no logged page. Each unit has a reference more for each time that one of them names it, and no other
--- one, as long as its count holds so many.
+-- Each of these nodes is a page that was taken, none is listed twice, and they are all pages that were
+-- taken and are no logged page. Each unit has a reference more for each time that one of them names it,
+-- and no other one, as long as its count holds so many.
 pub record Counted {S : Type 0} (g : ground.Ghosts S) (old new : S) : Type 0 where
   pub nodes : List ℕ
   pub taken : AllByRecursion (IsTaken g old new) nodes
+  pub pages : AllByRecursion (InPageArea (g.geometry old)) nodes
   pub once : (p : ℕ) → times p nodes ≤ 1
   pub all : (p : ℕ) → IsTaken g old new p → InPageArea (g.geometry old) p → g.held new p ≡ false
       → 1 ≤ times p nodes

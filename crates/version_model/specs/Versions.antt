@@ -1,10 +1,11 @@
 -- A version of an object as a record in a file, with the bytes that it spells; and what an edit makes of it.
-use Rattle.std.specs.Prelude.{◌≡◌, ◌≢◌, ◌≤◌, ◌+◌, ◌↔◌, ℕ, max, true, false, List, [], length, Some, None}
+use Rattle.std.specs.Prelude.{◌≡◌, ◌≢◌, ◌≤◌, ◌+◌, ◌↔◌, ℕ, max, true, false, List, [], length, Option, Some, None}
 use Rattle.std.specs.List.{AllByRecursion}
 use Rattle.ex_base.specs.declared.ground.Ground as ground
 use Rattle.ex_base.specs.declared.geometry.Geometry.{Geometry}
 use Rattle.ex_base.specs.declared.names.Oid.{Oid}
 use Rattle.ex_base.specs.declared.names.Place.{Place}
+use Rattle.ex_base.specs.declared.names.Root.{Root}
 use Rattle.ex_base.specs.Sizes.{object_most, leaf_bytes}
 use Rattle.ex_base.specs.Edits.{inserted, deleted, replaced, appended}
 use Rattle.object_records.specs.Record.{Content, Small, Large, Record, BodyOf}
@@ -42,6 +43,11 @@ Spells g units (Large root) bytes = RootSpells g units root bytes × (root.size 
 abbrev pub content_units : Units → Content → List ℕ
 content_units units (Small bytes) = []
 content_units units (Large root) = root_units units root
+
+-- the root of its tree, none for a small version
+abbrev pub root_of : Content → Option Root
+root_of (Small bytes) = None
+root_of (Large root) = Some root
 
 -- the unit is in use, and is no logged page
 abbrev pub IsTreeUnit : {S : Type 0} → ground.Ghosts S → S → ℕ → Type 0

@@ -1,5 +1,5 @@
 -- A version that becomes one of other bytes: new units are taken, and then its record is written.
-use Rattle.std.proofs.Common.{◌≡◌, ◌≤◌, ◌+◌, ℕ, Bool, true, false, true≢false, List, [], ◌∷◌, ◌++◌, length, Some, None, refl, sym, ap, subst, ◌∙◌, arith, inl, inr, ◌⊎◌}
+use Rattle.std.proofs.Common.{◌≡◌, ◌≤◌, ◌+◌, ℕ, Bool, true, false, true≢false, List, [], ◌∷◌, ◌++◌, length, Option, Some, None, refl, sym, ap, subst, ◌∙◌, arith, inl, inr, ◌⊎◌}
 use Rattle.std.proofs.lemmas.Bool.{cases_Bool}
 use Rattle.std.specs.Prelude.{Contains, slice_index_or, ◌↔◌}
 use Rattle.std.specs.List.{AllByRecursion, flat_map}
@@ -36,7 +36,8 @@ use Rattle.trees.specs.Made.{Extends, Has, IsTaken, AreUsed}
 use Rattle.trees.specs.Grown.{Turned}
 use Rattle.trees.proofs.Counts.{counted_after, counted_back}
 use Rattle.trees.proofs.Laid.{extends_refl}
-use Rattle.version_model.specs.Versions.{HasVersion, Change, HasShape, EditsVersion, Spells, IsTreeUnit, AreInUse, IsSmall, StaysSmall, FitsIn, record_len, lone_head, place_of, content_units}
+use Rattle.version_model.specs.Versions.{HasVersion, Change, HasShape, EditsVersion, Spells, IsTreeUnit, AreInUse, IsSmall, StaysSmall, FitsIn, record_len, lone_head, place_of, content_units, root_of}
+use Rattle.versions.specs.Edited.{TurnsVersion}
 use Rattle.versions.specs.Put.{PutsRecord, IsPlaced}
 use Rattle.versions.proofs.FileRows.{edit_stands}
 
@@ -135,7 +136,7 @@ module _ {S : Type 0} (g : ground.Ghosts S) where
       counts = λ names. counted_after g a m c r.put.used r.put.refs r.put.units r.put.held (turned.counts names);
     }
 
-    pub edits_version : IsSmall now ↔ StaysSmall g a (place_of oid) content (length bytes) → HasShape (g.geometry a) change (g.unit a) (g.unit m) content (length bytes) now → EditsVersion g a c index oid content change bytes
+    edits_version : IsSmall now ↔ StaysSmall g a (place_of oid) content (length bytes) → HasShape (g.geometry a) change (g.unit a) (g.unit m) content (length bytes) now → EditsVersion g a c index oid content change bytes
     edits_version small shape = record {
       now = now;
       version = record {
@@ -158,6 +159,11 @@ module _ {S : Type 0} (g : ground.Ghosts S) where
       shape = subst (λ (u : Units). HasShape (g.geometry a) change (g.unit a) u content (length bytes) now) (sym r.put.units) shape;
     }
 
+    pub turns_version : IsSmall now ↔ StaysSmall g a (place_of oid) content (length bytes) → HasShape (g.geometry a) change (g.unit a) (g.unit m) content (length bytes) now
+        → TurnsVersion g a c index oid content change bytes (root_of content) (root_of now)
+    unfolding edits_version
+    turns_version small shape = record { edit = edits_version small shape; went = refl; came = refl }
+
   -- ---- a record of a large version
 
   pub record_least : (body : List ℕ) (r : Record) → BodyOf body r → 36 ≤ length body
@@ -167,13 +173,13 @@ module _ {S : Type 0} (g : ground.Ghosts S) where
   pub becomes_large : (a m c : S) (index : Index) (oid : Oid) (content : Content) (change : Change) (old bytes : List ℕ) (made : Root) (place : Place) (head : Head) → Extends g a m → AreInUse g a → g.tells a → HasVersion g a index oid content old
       → Turned g a m (content_units (g.unit a) content) (content_units (g.unit m) (Large made)) → Spells (g.geometry m) (g.unit m) (Large made) bytes → place ≡ place_of oid → head ≡ lone_head oid.unique
       → (g.tells m → (index : Index) (was : List ℕ) → HasBody g m index place was → PutsRecord g m c index place was (large_record head made)) → (StaysSmall g a (place_of oid) content (length bytes) → ⊥)
-      → HasShape (g.geometry a) change (g.unit a) (g.unit m) content (length bytes) (Large made) → EditsVersion g a c index oid content change bytes
+      → HasShape (g.geometry a) change (g.unit a) (g.unit m) content (length bytes) (Large made) → TurnsVersion g a c index oid content change bytes (root_of content) (Some made)
   becomes_large a m c index oid content change old bytes made place head ext in_use told has turned spells at lone puts never shape =
       let stands = body_on a m index (place_of oid) has.stored.body ext in_use has.stored.stands in
       let r0 = puts (g.leads_told a m ext.leads told) index has.stored.body (subst (λ (p : Place). HasBody g m index p has.stored.body) (sym at) stands) in
       let r1 = subst (λ (p : Place). PutsRecord g m c index p has.stored.body (large_record head made)) at r0 in
       let r = subst (λ (h : Head). PutsRecord g m c index (place_of oid) has.stored.body (large_record h made)) lone r1 in
-      edits_version a m c index oid content (Large made) change old bytes ext in_use has turned spells r ((λ x. absurd x), never) shape
+      turns_version a m c index oid content (Large made) change old bytes ext in_use has turned spells r ((λ x. absurd x), never) shape
 
   -- so that no damage is told
   pub never_put : (a m : S) (index : Index) (oid : Oid) (content : Content) (old bytes : List ℕ) (made : Root) (place : Place) → Extends g a m → AreInUse g a → HasVersion g a index oid content old
@@ -196,12 +202,12 @@ module _ {S : Type 0} (g : ground.Ghosts S) where
   fits_stays s place was held head n spelled stays = subst (λ (k : ℕ). FitsIn g s place.page.0 k n) (sym (body_long was head held spelled)) stays
 
   pub becomes_small : (a c : S) (index : Index) (oid : Oid) (change : Change) (held bytes : List ℕ) (place : Place) (head : Head) → AreInUse g a → HasVersion g a index oid (Small held) held → place ≡ place_of oid → head ≡ lone_head oid.unique
-      → ((index : Index) (was : List ℕ) → HasBody g a index place was → PutsRecord g a c index place was (small_record head bytes)) → StaysSmall g a (place_of oid) (Small held) (length bytes) → EditsVersion g a c index oid (Small held) change bytes
+      → ((index : Index) (was : List ℕ) → HasBody g a index place was → PutsRecord g a c index place was (small_record head bytes)) → StaysSmall g a (place_of oid) (Small held) (length bytes) → TurnsVersion g a c index oid (Small held) change bytes None None
   becomes_small a c index oid change held bytes place head in_use has at lone puts stays =
       let r0 = puts index has.stored.body (subst (λ (p : Place). HasBody g a index p has.stored.body) (sym at) has.stored.stands) in
       let r1 = subst (λ (p : Place). PutsRecord g a c index p has.stored.body (small_record head bytes)) at r0 in
       let r = subst (λ (h : Head). PutsRecord g a c index (place_of oid) has.stored.body (small_record h bytes)) lone r1 in
-      edits_version a a c index oid (Small held) (Small bytes) change held bytes (extends_same a) in_use has (nothing_turned g a []) refl r ((λ x. stays), (λ x. tt)) tt
+      turns_version a a c index oid (Small held) (Small bytes) change held bytes (extends_same a) in_use has (nothing_turned g a []) refl r ((λ x. stays), (λ x. tt)) tt
 
   -- ---- after a state with the same meanings
 
@@ -220,7 +226,7 @@ module _ {S : Type 0} (g : ground.Ghosts S) where
   pub kept_in_use : (a b : S) → Keeps g a b → AreInUse g a → AreInUse g b
   kept_in_use a b kept in_use = λ p held. ap (λ (f : ℕ → Bool). f p) kept.used ∙ in_use p (ap (λ (f : ℕ → Bool). f p) (sym kept.held) ∙ held)
 
-  pub kept_edited : (a b c : S) (index : Index) (oid : Oid) (content : Content) (change : Change) (bytes : List ℕ) → Keeps g a b → EditsVersion g b c index oid content change bytes → EditsVersion g a c index oid content change bytes
+  kept_edited : (a b c : S) (index : Index) (oid : Oid) (content : Content) (change : Change) (bytes : List ℕ) → Keeps g a b → EditsVersion g b c index oid content change bytes → EditsVersion g a c index oid content change bytes
   kept_edited a b c index oid content change bytes kept e = record {
     now = e.now;
     version = e.version;
@@ -245,6 +251,11 @@ module _ {S : Type 0} (g : ground.Ghosts S) where
     shape = subst (λ (u : Units). HasShape (g.geometry a) change u (g.unit c) content (length bytes) e.now) kept.units
         (subst (λ (y : Geometry). HasShape y change (g.unit b) (g.unit c) content (length bytes) e.now) (g.leads_geometry a b kept.leads) e.shape);
   }
+
+  pub kept_turned : (a b c : S) (index : Index) (oid : Oid) (content : Content) (change : Change) (bytes : List ℕ) (gone come : Option Root) → Keeps g a b → TurnsVersion g b c index oid content change bytes gone come
+      → TurnsVersion g a c index oid content change bytes gone come
+  unfolding kept_edited
+  kept_turned a b c index oid content change bytes went came kept t = record { edit = kept_edited a b c index oid content change bytes kept t.edit; went = t.went; came = t.came }
 
   -- the units of a large version are used
   pub used_units : (s : S) (index : Index) (oid : Oid) (root : Root) (bytes : List ℕ) → HasVersion g s index oid (Large root) bytes → AreUsed (g.used s) (root_units (g.unit s) root)

@@ -7,17 +7,13 @@ use Rattle.ex_base.specs.declared.names.Root.{Root}
 use Rattle.object_records.specs.Record.{Content, Small, Large, Record, BodyOf}
 use Rattle.file_bodies.specs.Files.{HasSomeBody}
 use Rattle.trees.specs.Roots.{IsRootFor}
+pub use Rattle.version_model.specs.Versions.{root_of}
 use Rattle.versions.specs.declared.finding.Found.{Found}
 
 -- the bytes of the version
 abbrev pub size_of : Content → ℕ
 size_of (Small bytes) = length bytes
 size_of (Large root) = root.size
-
--- the root of its tree, none for a small version
-abbrev pub root_of : Content → Option Root
-root_of (Small bytes) = None
-root_of (Large root) = Some root
 
 abbrev pub found_of : Record → Found
 found_of r = record { head = r.head; size = size_of r.content; root = root_of r.content }

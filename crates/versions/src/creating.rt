@@ -4,6 +4,7 @@ ghost use Rattle.ex_base.specs.Ports.{HasCause, IsDamage};
 ghost use Rattle.ex_base.specs.declared.names.Area.TheVariants.{Page};
 ghost use Rattle.object_records.specs.Record.{BodyOf};
 ghost use Rattle.index_pages.specs.declared.Index.{Index};
+ghost use Rattle.file_index.specs.Taking.{OnlyTakes};
 ghost use Rattle.file_bodies.specs.Files.{HasFile};
 ghost use Rattle.file_bodies.specs.Places.{IsRoom};
 ghost use Rattle.file_bodies.specs.Placing.{start_of};
@@ -36,6 +37,7 @@ pub fn create<V: Volume>(
     ensures room { IfOk result (λ oid. room.new
         ≡ record { file_no = room.old.file_no; from = oid.page; len = 36 }) }
     ensures pages { OnOk result (V.free volume.old Page ≤ V.free volume.new Page + 7) }
+    ensures takes { OnOk result (OnlyTakes V.Ground volume.old volume.new) }
     ensures sound { IfErr result (λ fault. IsDamage fault → V.tells volume.old → (index : Index)
         → HasFile V.Ground volume.old index → index.file_no ≡ room.old.file_no → ⊥) }
     ensures fault { IfErr result (λ fault. V.tells volume.old

@@ -1,5 +1,5 @@
 //! Edits of versions.
-ghost use Rattle.std.specs.Prelude.{◌≡◌, ◌≤◌, ◌<◌, ◌+◌, ◌++◌, ◌↔◌, ℕ, max, List, length, IfOk, IfErr, OnOk, IsTrue, IsFalse, []};
+ghost use Rattle.std.specs.Prelude.{◌≡◌, ◌≤◌, ◌<◌, ◌+◌, ◌++◌, ◌↔◌, ℕ, max, List, length, IfOk, IfErr, OnOk, IsTrue, IsFalse, [], None};
 ghost use Rattle.ex_base.specs.Ports.{Keeps, HasCause, IsDamage};
 ghost use Rattle.ex_base.specs.Sizes.{object_most};
 ghost use Rattle.ex_base.specs.declared.names.Area.{Area};
@@ -9,10 +9,10 @@ ghost use Rattle.object_records.specs.declared.Head.{Head};
 ghost use Rattle.object_records.specs.declared.State.TheVariants.{Current};
 ghost use Rattle.index_pages.specs.declared.Index.{Index};
 ghost use Rattle.file_bodies.specs.Files.{HasFileOf, HasBody};
-ghost use Rattle.version_model.specs.Versions.{HasRecord, HasVersion, Stands, Change, AreInUse, EditsVersion, StaysSmall, FitsIn, InRange, changed, count_of, lone_head, place_of};
+ghost use Rattle.version_model.specs.Versions.{HasRecord, HasVersion, Stands, Change, AreInUse, StaysSmall, FitsIn, InRange, changed, count_of, lone_head, place_of};
 ghost use Rattle.ex_base.specs.Needs.{growth_need};
 ghost use Rattle.versions.specs.Needs.{edit_need};
-ghost use Rattle.versions.specs.Edited.{change_of, HasNeed};
+ghost use Rattle.versions.specs.Edited.{change_of, HasNeed, TurnsVersion};
 ghost use Rattle.versions.specs.Put.{PutsRecord};
 ghost use Rattle.versions.specs.Damage.{no_tree, IsStepFault, IsBytesFault, IsVersionFault};
 ghost use Rattle.file_bodies.specs.Damage.{IsPlaceFault};
@@ -20,7 +20,7 @@ ghost use Rattle.file_bodies.specs.Damage.{IsPlaceFault};
 use crate::finding::{Found, find, read_small, stood};
 use crate::growing::{convert, edit_large};
 use crate::recorded::{check, place_of};
-use ex_base::{OBJECT_MOST, Oid, Place, PortFault, ReadVolume, Volume};
+use ex_base::{OBJECT_MOST, Oid, Place, PortFault, ReadVolume, Root, Volume};
 use file_bodies::change_body;
 use object_records::{Head, State, body_len, write_small};
 use std::alloc::Global;
@@ -36,6 +36,16 @@ pub enum Edit<'a> {
     Replace { pos: u64, bytes: &'a [u8] },
     /// Takes bytes away, from a position on.
     Delete { pos: u64, len: u64 },
+}
+
+/// What an edit left of a version: its size, the root that it gave up, and the one that came in its place.
+#[derive(Clone, Copy, Debug, PartialEq, Eq)]
+pub struct Edited {
+    pub size: u64,
+    /// The root that the version had, if the edit changed it and it was large.
+    pub gone: Option<Root>,
+    /// The root that the version has now, if the edit changed it and it is large.
+    pub come: Option<Root>,
 }
 
 impl<'a> Edit<'a> {
@@ -80,7 +90,7 @@ fn joined(alloc: Global, front: &[u8], mid: &[u8], back: &[u8]) -> Result<Vec<u8
 }
 
 /// The bytes after an edit.
-fn edited(alloc: Global, edit: &Edit, old: &[u8]) -> Result<Vec<u8>, PortFault>
+fn bytes_after(alloc: Global, edit: &Edit, old: &[u8]) -> Result<Vec<u8>, PortFault>
     requires { InRange (change_of edit.now) (length old.now) }
     ensures bytes { IfOk result (λ bytes. bytes.items ≡ changed (change_of edit.now) old.now) }
     ensures no_damage { IfErr result (λ fault. IsDamage fault → ⊥) }
@@ -186,6 +196,17 @@ fn is_grown<V: ReadVolume>(volume: &V, count: u64, len: usize) -> bool
     len > 0 && len as u64 <= count + u64::from(volume.page_size())
 }
 
+/// What an edit left of a version of a size, whose trees it didn't touch.
+fn stayed(size: u64) -> Edited
+    ensures { result ≡ record { size = size; gone = None; come = None } }
+{
+    Edited {
+        size,
+        gone: None,
+        come: None,
+    }
+}
+
 /// Puts the bytes after an edit that names so many in the place of a small version's.
 fn put_edited<V: Volume>(
     volume: &mut V,
@@ -194,17 +215,17 @@ fn put_edited<V: Volume>(
     head: &Head,
     count: u64,
     bytes: &[u8],
-) -> Result<u64, PortFault>
+) -> Result<Edited, PortFault>
     requires ready { V.ready volume.old }
     requires head { IsRecord (small_record head.now []) }
     requires count { count ≤ object_most }
     requires limit { length bytes.now ≤ object_most }
-    ensures size { IfOk result (λ size. size ≡ length bytes.now) }
-    ensures edited { OnOk result (V.tells volume.old → AreInUse V.Ground volume.old
+    ensures size { IfOk result (λ done. done.size ≡ length bytes.now) }
+    ensures edited { IfOk result (λ done. V.tells volume.old → AreInUse V.Ground volume.old
         → head.now ≡ lone_head oid.now.unique → (index : Index) (held : List ℕ)
         → HasVersion V.Ground volume.old index oid.now (Small held) held
-        → (change : Change) → EditsVersion V.Ground volume.old volume.new index oid.now
-        (Small held) change bytes.now) }
+        → (change : Change) → TurnsVersion V.Ground volume.old volume.new index oid.now
+        (Small held) change bytes.now done.gone done.come) }
     ensures small { OnOk result (V.tells volume.old → (index : Index) (held : List ℕ)
         → HasVersion V.Ground volume.old index oid.now (Small held) held
         → StaysSmall V.Ground volume.old (place_of oid.now) (Small held) (length bytes.now)
@@ -226,7 +247,7 @@ fn put_edited<V: Volume>(
     ensures cause { HasCause (V.faults volume.old) (V.faults volume.new) result }
 {
     match put_small(volume, alloc, place_of(oid), head, bytes) {
-        Ok(true) => return Ok(bytes.len() as u64),
+        Ok(true) => return Ok(stayed(bytes.len() as u64)),
         Ok(false) => {}
         Err(fault) => return Err(fault),
     }
@@ -265,7 +286,7 @@ fn edited_by<V: ReadVolume>(
     ensures cause { HasCause (V.faults volume.old) (V.faults volume.new) result }
 {
     match read_small(volume, alloc, place, 0, old) {
-        Ok(()) => edited(alloc, edit, old),
+        Ok(()) => bytes_after(alloc, edit, old),
         Err(fault) => Err(fault),
     }
 }
@@ -313,19 +334,19 @@ fn edit_small<V: Volume>(
     head: &Head,
     size: u64,
     edit: &Edit,
-) -> Result<u64, PortFault>
+) -> Result<Edited, PortFault>
     requires ready { V.ready volume.old }
     requires head { IsRecord (small_record head.now []) }
     requires range { InRange (change_of edit.now) size }
     requires short { size < 65536 }
-    ensures size { IfOk result (λ n. V.tells volume.old → (index : Index) (bytes : List ℕ)
+    ensures size { IfOk result (λ done. V.tells volume.old → (index : Index) (bytes : List ℕ)
         → HasVersion V.Ground volume.old index oid.now (Small bytes) bytes → length bytes ≡ size
-        → n ≡ length (changed (change_of edit.now) bytes)) }
-    ensures edited { OnOk result (V.tells volume.old → AreInUse V.Ground volume.old
+        → done.size ≡ length (changed (change_of edit.now) bytes)) }
+    ensures edited { IfOk result (λ done. V.tells volume.old → AreInUse V.Ground volume.old
         → head.now ≡ lone_head oid.now.unique → (index : Index) (bytes : List ℕ)
         → HasVersion V.Ground volume.old index oid.now (Small bytes) bytes → length bytes ≡ size
-        → EditsVersion V.Ground volume.old volume.new index oid.now (Small bytes)
-        (change_of edit.now) (changed (change_of edit.now) bytes)) }
+        → TurnsVersion V.Ground volume.old volume.new index oid.now (Small bytes)
+        (change_of edit.now) (changed (change_of edit.now) bytes) done.gone done.come) }
     ensures small { OnOk result (V.tells volume.old → (index : Index) (bytes : List ℕ)
         → HasVersion V.Ground volume.old index oid.now (Small bytes) bytes → length bytes ≡ size
         → StaysSmall V.Ground volume.old (place_of oid.now) (Small bytes)
@@ -361,32 +382,34 @@ fn is_editable(found: &Found, edit: &Edit) -> bool
     found.head.state == State::Current && edit.is_in_range(found.size)
 }
 
-/// Edits a version, and answers its new size. An edit of no bytes changes nothing. A small version becomes large exactly where its record would not fit
+/// Edits a version, and answers its new size with the root that went and the one that came. An edit of no bytes changes nothing. A small version becomes large exactly where its record would not fit
 /// its page; a large one stays large.
 pub fn apply<V: Volume>(
     volume: &mut V,
     alloc: Global,
     oid: &Oid,
     edit: &Edit,
-) -> Result<u64, PortFault>
+) -> Result<Edited, PortFault>
     requires { V.ready volume.old }
     ensures stands { OnOk result (V.tells volume.old → HasFileOf V.Ground volume.old oid.now.page.0
         → Stands V.Ground volume.old oid.now) }
     ensures asked { OnOk result (V.tells volume.old → (index : Index) (is : Record)
         → HasRecord V.Ground volume.old index oid.now is → is.head.state ≡ Current) }
-    ensures size { IfOk result (λ size. V.tells volume.old
+    ensures size { IfOk result (λ done. V.tells volume.old
         → (index : Index) (content : Content) (bytes : List ℕ)
         → HasVersion V.Ground volume.old index oid.now content bytes
         → InRange (change_of edit.now) (length bytes)
-        × (size ≡ length (changed (change_of edit.now) bytes))) }
+        × (done.size ≡ length (changed (change_of edit.now) bytes))) }
     ensures nothing { OnOk result (count_of (change_of edit.now) ≡ 0
         → Keeps V.Ground volume.old volume.new) }
-    ensures edited { OnOk result (1 ≤ count_of (change_of edit.now) → V.tells volume.old
+    ensures no_root { IfOk result (λ done. count_of (change_of edit.now) ≡ 0
+        → (done.gone ≡ None) × (done.come ≡ None)) }
+    ensures edited { IfOk result (λ done. 1 ≤ count_of (change_of edit.now) → V.tells volume.old
         → AreInUse V.Ground volume.old
         → (index : Index) (content : Content) (bytes : List ℕ)
         → HasVersion V.Ground volume.old index oid.now content bytes
-        → EditsVersion V.Ground volume.old volume.new index oid.now content (change_of edit.now)
-        (changed (change_of edit.now) bytes)) }
+        → TurnsVersion V.Ground volume.old volume.new index oid.now content (change_of edit.now)
+        (changed (change_of edit.now) bytes) done.gone done.come) }
     ensures small { OnOk result (V.tells volume.old
         → (index : Index) (content : Content) (bytes : List ℕ)
         → HasVersion V.Ground volume.old index oid.now content bytes
@@ -415,7 +438,7 @@ pub fn apply<V: Volume>(
     let found = stood(told, place)?;
     check(is_editable(&found, edit), place)?;
     if edit.count() == 0 {
-        return Ok(found.size);
+        return Ok(stayed(found.size));
     }
     match found.root {
         None => edit_small(volume, alloc, oid, &found.head, found.size, edit),

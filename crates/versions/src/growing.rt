@@ -13,14 +13,14 @@ ghost use Rattle.trees.specs.Damage.{IsWhole, IsRootFault};
 ghost use Rattle.trees.specs.Made.{Extends, AreUsed};
 ghost use Rattle.trees.specs.Grown.{Turned};
 ghost use Rattle.trees.specs.Roots.{IsRootFor};
-ghost use Rattle.version_model.specs.Versions.{HasVersion, AreInUse, Change, IsTreeShape, EditsVersion, StaysSmall, InRange, changed, count_of, lone_head, place_of};
+ghost use Rattle.version_model.specs.Versions.{HasVersion, AreInUse, Change, IsTreeShape, StaysSmall, InRange, changed, count_of, lone_head, place_of};
 ghost use Rattle.ex_base.specs.Needs.{growth_need, replace_need, delete_need};
 ghost use Rattle.versions.specs.Needs.{most_need};
-ghost use Rattle.versions.specs.Edited.{change_of};
+ghost use Rattle.versions.specs.Edited.{change_of, TurnsVersion};
 ghost use Rattle.versions.specs.Put.{IsPlaced, PutsRecord};
 ghost use Rattle.versions.specs.Damage.{no_tree, root_fault, IsPutFault, IsBytesFault};
 
-use crate::editing::Edit;
+use crate::editing::{Edit, Edited};
 use crate::recorded::{check, no_root, place_of};
 use ex_base::{
     Area, Geometry, Oid, PageNo, Place, PortFault, Root, Volume, delete_need, growth_need,
@@ -183,19 +183,19 @@ pub(crate) fn edit_large<V: Volume>(
     head: &Head,
     root: &Root,
     edit: &Edit,
-) -> Result<u64, PortFault>
+) -> Result<Edited, PortFault>
     requires ready { V.ready volume.old }
     requires head { IsRecord (small_record head.now []) }
     requires root { IsRootFor (V.geometry volume.old) root.now }
     requires range { InRange (change_of edit.now) root.now.size }
-    ensures size { IfOk result (λ size. V.tells volume.old → (index : Index) (bytes : List ℕ)
+    ensures size { IfOk result (λ done. V.tells volume.old → (index : Index) (bytes : List ℕ)
         → HasVersion V.Ground volume.old index oid.now (Large root.now) bytes
-        → size ≡ length (changed (change_of edit.now) bytes)) }
-    ensures edited { OnOk result (V.tells volume.old → AreInUse V.Ground volume.old
+        → done.size ≡ length (changed (change_of edit.now) bytes)) }
+    ensures edited { IfOk result (λ done. V.tells volume.old → AreInUse V.Ground volume.old
         → head.now ≡ lone_head oid.now.unique → (index : Index) (bytes : List ℕ)
         → HasVersion V.Ground volume.old index oid.now (Large root.now) bytes
-        → EditsVersion V.Ground volume.old volume.new index oid.now (Large root.now)
-        (change_of edit.now) (changed (change_of edit.now) bytes)) }
+        → TurnsVersion V.Ground volume.old volume.new index oid.now (Large root.now)
+        (change_of edit.now) (changed (change_of edit.now) bytes) done.gone done.come) }
     ensures free { OnOk result ((area : Area)
         → V.free volume.old area ≤ V.free volume.new area
         + most_need (V.geometry volume.old) (change_of edit.now) root.now.height area) }
@@ -213,7 +213,11 @@ pub(crate) fn edit_large<V: Volume>(
     check(has_units(volume, edit, root.height), place)?;
     let made = edit_tree(volume, alloc, root, edit)?;
     put_root(volume, alloc, place, head, &made)?;
-    Ok(made.size)
+    Ok(Edited {
+        size: made.size,
+        gone: Some(*root),
+        come: Some(made),
+    })
 }
 
 /// Makes a small version a large one of the bytes after an edit that names so many: they are laid out as one append to no tree.
@@ -224,20 +228,20 @@ pub(crate) fn convert<V: Volume>(
     head: &Head,
     count: u64,
     bytes: &[u8],
-) -> Result<u64, PortFault>
+) -> Result<Edited, PortFault>
     requires ready { V.ready volume.old }
     requires head { IsRecord (small_record head.now []) }
     requires count { count ≤ object_most }
     requires some { 1 ≤ length bytes.now }
     requires limit { length bytes.now ≤ object_most }
     requires page { length bytes.now ≤ count + (V.geometry volume.old).page_size }
-    ensures size { IfOk result (λ size. size ≡ length bytes.now) }
-    ensures edited { OnOk result (V.tells volume.old → AreInUse V.Ground volume.old
+    ensures size { IfOk result (λ done. done.size ≡ length bytes.now) }
+    ensures edited { IfOk result (λ done. V.tells volume.old → AreInUse V.Ground volume.old
         → head.now ≡ lone_head oid.now.unique → (index : Index) (held : List ℕ)
         → HasVersion V.Ground volume.old index oid.now (Small held) held
         → (StaysSmall V.Ground volume.old (place_of oid.now) (Small held) (length bytes.now) → ⊥)
-        → (change : Change) → EditsVersion V.Ground volume.old volume.new index oid.now
-        (Small held) change bytes.now) }
+        → (change : Change) → TurnsVersion V.Ground volume.old volume.new index oid.now
+        (Small held) change bytes.now done.gone done.come) }
     ensures free { OnOk result ((area : Area)
         → V.free volume.old area ≤ V.free volume.new area
         + growth_need (V.geometry volume.old) count 0 area) }
@@ -255,5 +259,9 @@ pub(crate) fn convert<V: Volume>(
     check(has_first_units(volume, count), place)?;
     let made = append(volume, alloc, &Root::EMPTY, bytes)?;
     put_root(volume, alloc, place, head, &made)?;
-    Ok(made.size)
+    Ok(Edited {
+        size: made.size,
+        gone: None,
+        come: Some(made),
+    })
 }

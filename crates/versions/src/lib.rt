@@ -17,7 +17,7 @@ mod recorded;
 pub use creating::create;
 pub use destroying::destroy;
 pub use digesting::{digest_at, room_for};
-pub use editing::{Edit, apply};
+pub use editing::{Edit, Edited, apply};
 pub use finding::{Found, find, read_at};
 pub use growing::large_need;
 pub use listing::objects;

@@ -11,7 +11,7 @@ use Rattle.ex_base.specs.Order.{Rising}
 use Rattle.ex_base.specs.Ports.{times}
 use Rattle.ex_base.proofs.Counts.{contains_times, times-append}
 use Rattle.ex_base.proofs.Members.{In, contains_in, in_contains, in_left, in_right, of_each}
-use Rattle.ex_base.proofs.Each.{each_with}
+use Rattle.ex_base.proofs.Each.{each_as, each_with}
 use Rattle.op_log.specs.declared.record.LogRecord.{LogRecord}
 use Rattle.index_pages.specs.declared.Index.{Index}
 use Rattle.file_index.specs.Changes.{count_of}
@@ -27,11 +27,12 @@ use Rattle.object_records.specs.Record.{Content, Record, BodyOf}
 use Rattle.trees.specs.Trees.{Units, root_units}
 use Rattle.trees.specs.Made.{Has, IsTaken}
 use Rattle.table_model.specs.Tables.{with_bytes}
-use Rattle.version_model.specs.Versions.{HasVersion, Change, EditsVersion, IsTreeUnit, place_of, lone_head, content_units}
+use Rattle.version_model.specs.Versions.{HasVersion, Change, EditsVersion, IsTreeUnit, place_of, lone_head, content_units, root_of}
 use Rattle.volume_model.specs.Parts.{IsStored}
+use Rattle.volume_model.specs.Shown.{root_here}
 use Rattle.volume_model.specs.Volume.{Stored, Volume, file_pages, unique_of, line_number, oid_of, roots_in, root_in, reach_of}
 use Rattle.volume_edits.specs.Ported.{IsVolume, IsApart, units_in}
-use Rattle.volume_edits.specs.Edits.{ChangesVolume, trees_of}
+use Rattle.volume_edits.specs.Edits.{ChangesVolume, TurnsRoots, trees_of, units_under}
 use Rattle.volume_edits.proofs.Lists.{flat_around, map_around, Paired, zip_joined}
 use Rattle.volume_edits.proofs.Frames.{Frame}
 use Rattle.volume_edits.proofs.Holes.{Hole, lone, stored_if, filled, catalog_with, lines_with, stored_with, table_filled, pages_filled, roots_filled, stored_first, stored_last, pages_first, pages_last}
@@ -41,6 +42,7 @@ use Rattle.volume_edits.proofs.Placed.{Placed, placed}
 use Rattle.volume_edits.proofs.Showing.{one_record}
 use Rattle.volume_edits.proofs.Spelled.{own_units, own_trees, own_content, body_there, x_some, x_below, x_alone, own_listed, lacks_around}
 use Rattle.volume_edits.proofs.Tables.{bytes_there}
+use Rattle.volume_edits.proofs.Turned.{nodes_apart, root_there, root_was_there, roots_turned, units_there, volume_in_use, whole_there}
 
 has_in : (xs : List ℕ) (u : ℕ) → Has xs u → In u xs
 has_in [] u h = absurd h
@@ -199,7 +201,34 @@ module _ {S : Type 0} (g : ground.Ghosts S) (old new : S) (records : List LogRec
     | inr was ↦ inl (contains_in u (trees_of U (filled h (g.image old) index (Some x))) (middle_trees U h (g.image old) index (Some x) u was))
   ]
 
-  pub changed_volume : ChangesVolume g old new records (filled h (g.image old) index (Some x)) oid bytes (content_units (g.unit old) content) (content_units (g.unit new) edit.now)
+  -- ---- roots
+
+  went : roots_in (stored_if (Some x)) ≡ root_here (root_of content)
+  went = ap (λ (r : Record). root_in r.content ++ []) x_is ∙ root_there content
+
+  came : roots_in (stored_if (Some y)) ≡ root_here (root_of edit.now)
+  came = root_there edit.now
+
+  own_source : (p : ℕ) → IsTaken g old new p ⊎ Has (content_units (g.unit old) content) p → Contains (units_under (g.unit old) (root_of content)) p ⊎ (g.used old p ≡ false)
+  own_source p (inl taken) = inr taken.0
+  own_source p (inr has) = inl (subst (λ (t : List ℕ). Contains t p) (sym (units_there (g.unit old) content)) (contains_in p (content_units (g.unit old) content) (has_in (content_units (g.unit old) content) p has)))
+
+  turned : TurnsRoots g old new (filled h (g.image old) index (Some x)) (filled h (g.image new) index (Some y)) (root_of content) (root_of edit.now)
+  turned = record {
+    roots = roots_turned g old new h index index (Some x) (Some y) (root_of content) (root_of edit.now) went came;
+    there = root_was_there g old new h index index (Some x) (Some y) (root_of content) (root_of edit.now) went came;
+    went = whole_there g old content before had.spells had.units had_file.catalog.held;
+    came = whole_there g new edit.now bytes edit.version.spells edit.version.units edit.file.catalog.held;
+    counts = edit.units.counts;
+    apart = λ names. each_as (IsTaken g old new) (λ p. g.held new p ≡ false) (edit.units.counts names).nodes (nodes_apart g old new (volume_in_use g old records (filled h (g.image old) index (Some x)) vol) edit.held) (edit.units.counts names).taken;
+    own = λ p c.
+        let k : In p (content_units (g.unit new) edit.now) = subst (λ (t : List ℕ). In p t) (units_there (g.unit new) edit.now) (in_contains p (units_under (g.unit new) (root_of edit.now)) c) in
+        let tree = of_each (IsTreeUnit g new) p (content_units (g.unit new) edit.now) edit.version.units k in
+        (tree.0, tree.1, own_source p (of_each (λ u. IsTaken g old new u ⊎ Has (content_units (g.unit old) content) u) p (content_units (g.unit new) edit.now) edit.units.own k));
+    tree = λ p taken away. subst (λ (t : List ℕ). Contains t p) (sym (units_there (g.unit new) edit.now)) (contains_in p (content_units (g.unit new) edit.now) (has_in (content_units (g.unit new) edit.now) p (edit.units.all p taken)));
+  }
+
+  pub changed_volume : ChangesVolume g old new records (filled h (g.image old) index (Some x)) oid bytes (root_of content) (root_of edit.now)
   changed_volume = record {
     now = filled h (g.image new) index (Some y);
     volume = edited g old new records h index index (Some x) (Some y) vol the_edit;
@@ -212,8 +241,9 @@ module _ {S : Type 0} (g : ground.Ghosts S) (old new : S) (records : List LogRec
       | inl was ↦ inl (contains_in u (trees_of U (filled h (g.image old) index (Some x))) was)
       | inr now ↦ its_trees u now
     ];
-    left = λ u was gone. left_units g old new records h index index (Some x) (Some y) vol the_edit u (subst (λ (t : List ℕ). In u t) (sym was_units) (in_contains u (content_units (g.unit old) content) was))
-        (λ k. gone (contains_in u (content_units (g.unit new) edit.now) (subst (λ (t : List ℕ). In u t) now_units k)));
+    left = λ u was gone. left_units g old new records h index index (Some x) (Some y) vol the_edit u (subst (λ (t : List ℕ). In u t) (units_there (g.unit old) content ∙ sym was_units) (in_contains u (units_under (g.unit old) (root_of content)) was))
+        (λ k. gone (contains_in u (units_under (g.unit new) (root_of edit.now)) (subst (λ (t : List ℕ). In u t) (now_units ∙ sym (units_there (g.unit new) edit.now)) k)));
+    turned = turned;
   }
 
 -- what stands in the place of a row with a body
@@ -223,10 +253,10 @@ own_some place body (Some x) h = (x, refl, h.0)
 
 module _ {S : Type 0} (g : ground.Ghosts S) (old new : S) (records : List LogRecord) (v : Volume) (vol : IsVolume g old records v) (index : Index) (oid : Oid) (content : Content) (change : Change) (before bytes : List ℕ)
     (geometry : g.geometry new ≡ g.geometry old) (apart : IsApart g new) (had : HasVersion g old index oid content before) (edit : EditsVersion g old new index oid content change bytes) where
-  pub changes_volume : ChangesVolume g old new records v oid bytes (content_units (g.unit old) content) (content_units (g.unit new) edit.now)
+  pub changes_volume : ChangesVolume g old new records v oid bytes (root_of content) (root_of edit.now)
   changes_volume =
       let p : Placed (g.image old) v index edit.rows.front edit.rows.back (place_of oid) (Some edit.was) = placed g old records v vol.shows index edit.rows.front edit.rows.back (place_of oid) (Some edit.was) had.stored.stands.file.entry edit.rows.before in
       let own = own_some (place_of oid) edit.was p.was p.own in
       let same : v ≡ filled p.hole (g.image old) index (Some own.0) = p.same ∙ ap (filled p.hole (g.image old) index) own.1 in
-      subst (λ (w : Volume). ChangesVolume g old new records w oid bytes (content_units (g.unit old) content) (content_units (g.unit new) edit.now)) (sym same)
+      subst (λ (w : Volume). ChangesVolume g old new records w oid bytes (root_of content) (root_of edit.now)) (sym same)
       (changed_volume g old new records p.hole index own.0 (subst (IsVolume g old records) same vol) oid content change before bytes geometry apart had edit p.number p.paired p.front_rows p.back_rows own.2)

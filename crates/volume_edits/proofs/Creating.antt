@@ -13,6 +13,7 @@ use Rattle.ex_base.proofs.Counts.{contains_times, times_apart, times_contains}
 use Rattle.ex_base.proofs.Members.{In, contains_in, in_contains}
 use Rattle.op_log.specs.declared.record.LogRecord.{LogRecord}
 use Rattle.index_pages.specs.declared.Index.{Index}
+use Rattle.file_index.specs.Taking.{OnlyTakes}
 use Rattle.file_bodies.specs.Bodies.{Row}
 use Rattle.file_bodies.specs.Files.{HasFile, EditsFile}
 use Rattle.object_files.specs.Catalog.{FileEntry, name_of, number_of}
@@ -33,6 +34,7 @@ use Rattle.volume_edits.proofs.Edited.{Edit, edited, table_edited, trees_from}
 use Rattle.volume_edits.proofs.Naming.{texts_differ}
 use Rattle.volume_edits.proofs.Placed.{Placed, placed}
 use Rattle.volume_edits.proofs.Rowed.{row_frame, row_catalog, row_pages, with_after}
+use Rattle.volume_edits.proofs.Turned.{all_held, roots_turned, turned_away}
 
 -- ---- the table
 
@@ -90,7 +92,7 @@ lines_below n (line ∷ lines) below =
     ((split_each (λ (s : Stored). unique_of s < n) line.frozen (line.current ∷ []) both.0).1.0, lines_below n lines both.1)
 
 module _ {S : Type 0} (g : ground.Ghosts S) (old new : S) (records : List LogRecord) (h : Hole) (index after : Index) (vol : IsVolume g old records (filled h (g.image old) index None))
-    (oid : Oid) (body : List ℕ) (geometry : g.geometry new ≡ g.geometry old) (apart : IsApart g new) (in_use : AreInUse g new) (file : HasFile g old index)
+    (oid : Oid) (body : List ℕ) (geometry : g.geometry new ≡ g.geometry old) (apart : IsApart g new) (in_use : AreInUse g new) (takes : OnlyTakes g old new) (file : HasFile g old index)
     (some : 1 ≤ oid.unique) (below : oid.unique < h.next) (above : AllByRecursion (λ (s : Stored). unique_of s < oid.unique) (stored_in (filled h (g.image old) index None))) (spelled : BodyOf body (new_record oid.unique))
     (edit : EditsFile g old new index after (place_of oid) None (Some body)) (number : index.file_no ≡ h.file_no) (paired : Paired h.entries_before h.files_before)
     (front_rows : AllZip IsStored edit.bodies.front h.stored_before) (back_rows : AllZip IsStored edit.bodies.back h.stored_behind) (last : h.lines_behind ≡ []) where
@@ -131,7 +133,7 @@ module _ {S : Type 0} (g : ground.Ghosts S) (old new : S) (records : List LogRec
   names_differ : AllByRecursion (λ (m : List ℕ). bytes_eq m h.name ≡ false) (map name_of h.entries_before) × AllByRecursion (λ (m : List ℕ). bytes_eq m h.name ≡ false) (map name_of h.entries_behind)
   names_differ = texts_differ (map name_of h.entries_before) h.name (map name_of h.entries_behind) (subst RisingTexts (map-append name_of h.entries_before (entry_with h index ∷ h.entries_behind)) vol.shows.parts.0.0.fits.sorted)
 
-  pub created_volume : MovesVolume g old new records (filled h (g.image old) index None) [] (with_object oid h.name (table_of (units_in g old) (filled h (g.image old) index None)))
+  pub created_volume : MovesVolume g old new records (filled h (g.image old) index None) None (with_object oid h.name (table_of (units_in g old) (filled h (g.image old) index None)))
   created_volume = record {
     now = filled h (g.image new) after (Some y);
     volume = edited g old new records h index after None (Some y) vol the_edit;
@@ -148,6 +150,7 @@ module _ {S : Type 0} (g : ground.Ghosts S) (old new : S) (records : List LogRec
       | inr never ↦ absurd never
     ];
     left = λ u c. absurd (in_contains u [] c);
+    turned = turned_away g old new (filled h (g.image old) index None) (filled h (g.image new) after (Some y)) None (λ p. omega (arith, roots_turned g old new h index after None (Some y) None None refl refl p)) tt (all_held g old new takes) edit.changes.refs;
   }
 
 -- an entry is known by its number
@@ -162,7 +165,7 @@ own_none None h = refl
 own_none (Some x) h = absurd h
 
 module _ {S : Type 0} (g : ground.Ghosts S) (old new : S) (records : List LogRecord) (v : Volume) (vol : IsVolume g old records v) (index : Index) (oid : Oid) (e : FileEntry)
-    (geometry : g.geometry new ≡ g.geometry old) (apart : IsApart g new) (in_use : AreInUse g new) (file : HasFile g old index) (entry : Contains v.catalog.entries e) (its : e.file_no ≡ index.file_no)
+    (geometry : g.geometry new ≡ g.geometry old) (apart : IsApart g new) (in_use : AreInUse g new) (takes : OnlyTakes g old new) (file : HasFile g old index) (entry : Contains v.catalog.entries e) (its : e.file_no ≡ index.file_no)
     (some : 1 ≤ oid.unique) (below : oid.unique < v.catalog.next_unique) (above : AllByRecursion (λ (s : Stored). unique_of s < oid.unique) (stored_in v)) (creates : PutsVersion g old new index oid) where
   record Given (w : Volume) : Type 0 where
     volume : IsVolume g old records w
@@ -170,7 +173,7 @@ module _ {S : Type 0} (g : ground.Ghosts S) (old new : S) (records : List LogRec
     lower : oid.unique < w.catalog.next_unique
     higher : AllByRecursion (λ (s : Stored). unique_of s < oid.unique) (stored_in w)
 
-  pub creates_object : MovesVolume g old new records v [] (with_object oid e.name (table_of (units_in g old) v))
+  pub creates_object : MovesVolume g old new records v None (with_object oid e.name (table_of (units_in g old) v))
   creates_object =
       let rows = creates.puts.edit.bodies in
       let p : Placed (g.image old) v index rows.front rows.back (place_of oid) None = placed g old records v vol.shows index rows.front rows.back (place_of oid) None file.entry rows.before in
@@ -178,6 +181,6 @@ module _ {S : Type 0} (g : ground.Ghosts S) (old new : S) (records : List LogRec
       let given : Given (filled p.hole (g.image old) index None) = subst Given same (record { volume = vol; there = in_contains e v.catalog.entries entry; lower = below; higher = above }) in
       let known = same_entry e p.hole index given.volume.shows.parts.0.0.fits.numbers given.there (its ∙ p.number) in
       let name : p.hole.name ≡ e.name = ap name_of (sym known) in
-      subst (λ (w : Volume). MovesVolume g old new records w [] (with_object oid e.name (table_of (units_in g old) w))) (sym same)
-      (subst (λ (n : List ℕ). MovesVolume g old new records (filled p.hole (g.image old) index None) [] (with_object oid n (table_of (units_in g old) (filled p.hole (g.image old) index None)))) name
-      (created_volume g old new records p.hole index creates.puts.after given.volume oid creates.body geometry apart in_use file some given.lower given.higher creates.spelled creates.puts.edit p.number p.paired p.front_rows p.back_rows (p.last refl)))
+      subst (λ (w : Volume). MovesVolume g old new records w None (with_object oid e.name (table_of (units_in g old) w))) (sym same)
+      (subst (λ (n : List ℕ). MovesVolume g old new records (filled p.hole (g.image old) index None) None (with_object oid n (table_of (units_in g old) (filled p.hole (g.image old) index None)))) name
+      (created_volume g old new records p.hole index creates.puts.after given.volume oid creates.body geometry apart in_use takes file some given.lower given.higher creates.spelled creates.puts.edit p.number p.paired p.front_rows p.back_rows (p.last refl)))

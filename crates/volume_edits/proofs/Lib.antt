@@ -11,6 +11,7 @@ pub mod Showing
 pub mod Tables
 pub mod Placed
 pub mod Spelled
+pub mod Turned
 pub mod Changing
 pub mod Rowed
 pub mod Removing

@@ -1,5 +1,5 @@
 -- A version that is removed leaves a volume whose table has its object no more.
-use Rattle.std.proofs.Common.{◌≡◌, ℕ, ◌+◌, List, [], ◌∷◌, ◌++◌, Some, None, sym, ap, subst, ◌∙◌, inl, inr}
+use Rattle.std.proofs.Common.{◌≡◌, ℕ, ◌+◌, List, [], ◌∷◌, ◌++◌, Some, None, refl, sym, ap, subst, ◌∙◌, arith, inl, inr}
 use Rattle.std.specs.Prelude.{map}
 use Rattle.std.specs.List.{AllZip, flat_map}
 use Rattle.ex_base.specs.declared.ground.Ground as ground
@@ -10,17 +10,19 @@ use Rattle.ex_base.proofs.Counts.{contains_times, times_contains}
 use Rattle.ex_base.proofs.Members.{In, contains_in, in_contains}
 use Rattle.op_log.specs.declared.record.LogRecord.{LogRecord}
 use Rattle.index_pages.specs.declared.Index.{Index}
+use Rattle.file_index.specs.Taking.{OnlyGives}
 use Rattle.file_bodies.specs.Bodies.{Row}
 use Rattle.file_bodies.specs.Files.{HasFile, EditsFile}
 use Rattle.file_bodies.specs.Places.{RemovesBody}
 use Rattle.object_records.specs.Record.{Content, Record}
 use Rattle.trees.specs.Trees.{root_units}
 use Rattle.table_model.specs.Tables.{without_object}
-use Rattle.version_model.specs.Versions.{HasVersion, AreInUse, place_of, lone_head, content_units}
+use Rattle.version_model.specs.Versions.{HasVersion, AreInUse, place_of, lone_head, content_units, root_of}
 use Rattle.volume_model.specs.Parts.{IsStored}
+use Rattle.volume_model.specs.Shown.{root_here}
 use Rattle.volume_model.specs.Volume.{Stored, Volume, file_pages, unique_of, line_number, table_of, roots_in, root_in}
 use Rattle.volume_edits.specs.Ported.{IsVolume, IsApart, units_in}
-use Rattle.volume_edits.specs.Edits.{MovesVolume, trees_of}
+use Rattle.volume_edits.specs.Edits.{MovesVolume, trees_of, units_under}
 use Rattle.volume_edits.proofs.Lists.{map_around, rising_less, Paired, zip_joined}
 use Rattle.std.proofs.lemmas.List.{map-append}
 use Rattle.volume_edits.proofs.Holes.{Hole, lone, filled, stored_with, table_filled, stored_first, stored_last, stored_if}
@@ -31,9 +33,10 @@ use Rattle.volume_edits.proofs.Changing.{oid_is, own_some}
 use Rattle.volume_edits.proofs.Spelled.{own_units, body_there, x_alone, own_listed, lacks_around}
 use Rattle.volume_edits.proofs.Rowed.{row_frame, row_catalog, row_pages, with_after}
 use Rattle.volume_edits.proofs.Tables.{removed_there}
+use Rattle.volume_edits.proofs.Turned.{none_taken, root_there, roots_turned, turned_away, units_there, volume_in_use, whole_there}
 
 module _ {S : Type 0} (g : ground.Ghosts S) (old new : S) (records : List LogRecord) (h : Hole) (index after : Index) (x : Stored) (vol : IsVolume g old records (filled h (g.image old) index (Some x)))
-    (oid : Oid) (body : List ℕ) (content : Content) (before : List ℕ) (geometry : g.geometry new ≡ g.geometry old) (apart : IsApart g new) (in_use : AreInUse g new) (had : HasVersion g old index oid content before)
+    (oid : Oid) (body : List ℕ) (content : Content) (before : List ℕ) (geometry : g.geometry new ≡ g.geometry old) (apart : IsApart g new) (in_use : AreInUse g new) (gives : OnlyGives g old new) (had : HasVersion g old index oid content before)
     (edit : EditsFile g old new index after (place_of oid) (Some body) None) (number : index.file_no ≡ h.file_no) (paired : Paired h.entries_before h.files_before)
     (front_rows : AllZip IsStored edit.bodies.front h.stored_before) (back_rows : AllZip IsStored edit.bodies.back h.stored_behind) (own : IsStored (place_of oid, body) x) where
   file : HasFile g old index
@@ -67,7 +70,10 @@ module _ {S : Type 0} (g : ground.Ghosts S) (old new : S) (records : List LogRec
     own = tt;
   }
 
-  pub removed_volume : MovesVolume g old new records (filled h (g.image old) index (Some x)) (content_units (g.unit old) content) (without_object oid (table_of (units_in g old) (filled h (g.image old) index (Some x))))
+  went : roots_in (stored_if (Some x)) ≡ root_here (root_of content)
+  went = ap (λ (r : Record). root_in r.content ++ []) x_is ∙ root_there content
+
+  pub removed_volume : MovesVolume g old new records (filled h (g.image old) index (Some x)) (root_of content) (without_object oid (table_of (units_in g old) (filled h (g.image old) index (Some x))))
   removed_volume = record {
     now = filled h (g.image new) after None;
     volume = edited g old new records h index after (Some x) None vol the_edit;
@@ -84,16 +90,18 @@ module _ {S : Type 0} (g : ground.Ghosts S) (old new : S) (records : List LogRec
       | inl was ↦ contains_in u (trees_of (units_in g old) (filled h (g.image old) index (Some x))) was
       | inr never ↦ absurd never
     ];
-    left = λ u was. left_units g old new records h index after (Some x) None vol the_edit u (subst (λ (t : List ℕ). In u t) (sym was_units) (in_contains u (content_units (g.unit old) content) was)) (λ never. never);
+    left = λ u was. left_units g old new records h index after (Some x) None vol the_edit u (subst (λ (t : List ℕ). In u t) (units_there (g.unit old) content ∙ sym was_units) (in_contains u (units_under (g.unit old) (root_of content)) was)) (λ never. never);
+    turned = turned_away g old new (filled h (g.image old) index (Some x)) (filled h (g.image new) after None) (root_of content) (λ p. omega (arith, roots_turned g old new h index after (Some x) None (root_of content) None went refl p))
+        (whole_there g old content before had.spells had.units file.catalog.held) (none_taken g old new gives (volume_in_use g old records (filled h (g.image old) index (Some x)) vol)) edit.changes.refs;
   }
 
 module _ {S : Type 0} (g : ground.Ghosts S) (old new : S) (records : List LogRecord) (v : Volume) (vol : IsVolume g old records v) (index : Index) (oid : Oid) (body : List ℕ) (content : Content) (before : List ℕ)
-    (geometry : g.geometry new ≡ g.geometry old) (apart : IsApart g new) (in_use : AreInUse g new) (had : HasVersion g old index oid content before) (removes : RemovesBody g old new index (place_of oid) body) where
-  pub removes_object : MovesVolume g old new records v (content_units (g.unit old) content) (without_object oid (table_of (units_in g old) v))
+    (geometry : g.geometry new ≡ g.geometry old) (apart : IsApart g new) (in_use : AreInUse g new) (gives : OnlyGives g old new) (had : HasVersion g old index oid content before) (removes : RemovesBody g old new index (place_of oid) body) where
+  pub removes_object : MovesVolume g old new records v (root_of content) (without_object oid (table_of (units_in g old) v))
   removes_object =
       let rows = removes.edit.bodies in
       let p : Placed (g.image old) v index rows.front rows.back (place_of oid) (Some body) = placed g old records v vol.shows index rows.front rows.back (place_of oid) (Some body) had.stored.stands.file.entry rows.before in
       let own = own_some (place_of oid) body p.was p.own in
       let same : v ≡ filled p.hole (g.image old) index (Some own.0) = p.same ∙ ap (filled p.hole (g.image old) index) own.1 in
-      subst (λ (w : Volume). MovesVolume g old new records w (content_units (g.unit old) content) (without_object oid (table_of (units_in g old) w))) (sym same)
-      (removed_volume g old new records p.hole index removes.after own.0 (subst (IsVolume g old records) same vol) oid body content before geometry apart in_use had removes.edit p.number p.paired p.front_rows p.back_rows own.2)
+      subst (λ (w : Volume). MovesVolume g old new records w (root_of content) (without_object oid (table_of (units_in g old) w))) (sym same)
+      (removed_volume g old new records p.hole index removes.after own.0 (subst (IsVolume g old records) same vol) oid body content before geometry apart in_use gives had removes.edit p.number p.paired p.front_rows p.back_rows own.2)

@@ -1,17 +1,23 @@
 -- What the calls on versions make of a volume.
-use Rattle.std.specs.Prelude.{◌≡◌, ◌⊎◌, ℕ, false, List, None, Contains}
-use Rattle.std.specs.List.{flat_map}
+use Rattle.std.specs.Prelude.{◌≡◌, ◌⊎◌, ℕ, ◌+◌, ◌≤◌, true, false, List, Option, None, Contains}
+use Rattle.std.specs.List.{flat_map, AllByRecursion}
 use Rattle.ex_base.specs.declared.ground.Ground as ground
 use Rattle.ex_base.specs.declared.names.Oid.{Oid}
+use Rattle.ex_base.specs.declared.names.Root.{Root}
 use Rattle.ex_base.specs.Area.{catalog_no}
-use Rattle.ex_base.specs.Ports.{PutsImage}
+use Rattle.ex_base.specs.Ports.{PutsImage, times}
 use Rattle.op_log.specs.declared.record.LogRecord.{LogRecord}
 use Rattle.index_pages.specs.declared.Index.{Index}
 use Rattle.file_bodies.specs.Files.{with_index}
 use Rattle.object_files.specs.Catalog.{FileEntry, Catalog, CatalogOf}
+use Rattle.trees.specs.Counted.{Counted, NamesPairs}
+use Rattle.trees.specs.Damage.{IsWhole}
+use Rattle.trees.specs.Made.{IsTaken}
+use Rattle.trees.specs.Owners.{root_pages}
 use Rattle.trees.specs.Trees.{Units, root_units}
 use Rattle.table_model.specs.declared.table.Table.{Table}
 use Rattle.table_model.specs.Tables.{with_bytes}
+use Rattle.volume_model.specs.Shown.{root_here}
 use Rattle.volume_model.specs.Volume.{Volume, lines_of, file_pages, reach_of, roots_in, stored_in, table_of}
 use Rattle.volume_edits.specs.Ported.{IsVolume, units_in}
 
@@ -19,21 +25,39 @@ use Rattle.volume_edits.specs.Ported.{IsVolume, units_in}
 abbrev pub trees_of : Units → Volume → List ℕ
 trees_of units v = flat_map (root_units units) (roots_in (stored_in v))
 
--- The port's working state becomes a volume whose table has other bytes in one version, the units of whose tree were these before and are those
--- after. It has the same catalog and the same pages, and each unit of its trees is one of before or was free. It reaches no unit of before that the
--- version's new tree lacks.
-pub record ChangesVolume {S : Type 0} (g : ground.Ghosts S) (old new : S) (records : List LogRecord) (v : Volume) (oid : Oid) (bytes before after : List ℕ) : Type 0 where
+-- the units of the tree of a root, where there is one
+abbrev pub units_under : Units → Option Root → List ℕ
+units_under units root = flat_map (root_units units) (root_here root)
+
+-- The roots of the new volume are those of the old one without the one that went and with the one that came, each as often as it is named. The trees of
+-- both are whole. The nodes that were taken are counted, and none of them is a logged page. Each unit of the tree that came was free or is one of the tree
+-- that went, and it has every unit that was taken and is no logged page.
+pub record TurnsRoots {S : Type 0} (g : ground.Ghosts S) (old new : S) (v now : Volume) (gone come : Option Root) : Type 0 where
+  pub roots : (p : ℕ) → times p (root_pages (roots_in (stored_in now))) + times p (root_pages (root_here gone)) ≡ times p (root_pages (roots_in (stored_in v))) + times p (root_pages (root_here come))
+  pub there : (p : ℕ) → times p (root_pages (root_here gone)) ≤ times p (root_pages (roots_in (stored_in v)))
+  pub went : AllByRecursion (IsWhole (g.geometry old) (g.unit old)) (root_here gone)
+  pub came : AllByRecursion (IsWhole (g.geometry new) (g.unit new)) (root_here come)
+  pub counts : NamesPairs g → Counted g old new
+  pub apart : (names : NamesPairs g) → AllByRecursion (λ p. g.held new p ≡ false) (counts names).nodes
+  pub own : (p : ℕ) → Contains (units_under (g.unit new) come) p → (g.used new p ≡ true) × (g.held new p ≡ false) × (Contains (units_under (g.unit old) gone) p ⊎ (g.used old p ≡ false))
+  pub tree : (p : ℕ) → IsTaken g old new p → g.held new p ≡ false → Contains (units_under (g.unit new) come) p
+
+-- The port's working state becomes a volume whose table has other bytes in one version, whose root was the one that went and is the one that came. It has
+-- the same catalog and the same pages, and each unit of its trees is one of before or was free. It reaches no unit of the tree that went which the tree
+-- that came lacks.
+pub record ChangesVolume {S : Type 0} (g : ground.Ghosts S) (old new : S) (records : List LogRecord) (v : Volume) (oid : Oid) (bytes : List ℕ) (gone come : Option Root) : Type 0 where
   pub now : Volume
   pub volume : IsVolume g new records now
   pub table : table_of (units_in g new) now ≡ with_bytes oid (λ was. bytes) (table_of (units_in g old) v)
   pub catalog : now.catalog ≡ v.catalog
   pub pages : file_pages now ≡ file_pages v
   pub units : (u : ℕ) → Contains (trees_of (units_in g new) now) u → Contains (trees_of (units_in g old) v) u ⊎ (g.used old u ≡ false)
-  pub left : (u : ℕ) → Contains before u → ¬ Contains after u → ¬ Contains (reach_of (units_in g new) now) u
+  pub left : (u : ℕ) → Contains (units_under (g.unit old) gone) u → ¬ Contains (units_under (g.unit new) come) u → ¬ Contains (reach_of (units_in g new) now) u
+  pub turned : TurnsRoots g old new v now gone come
 
 -- The port's working state becomes a volume with this table. In its catalog at most the index of one file is another one, each of its pages is one of
--- before or was free, and each unit of its trees is one of before. It reaches none of the units of a tree that was given up.
-pub record MovesVolume {S : Type 0} (g : ground.Ghosts S) (old new : S) (records : List LogRecord) (v : Volume) (given_up : List ℕ) (table : Table) : Type 0 where
+-- before or was free, and each unit of its trees is one of before. It reaches no unit of the tree that went, and no root came.
+pub record MovesVolume {S : Type 0} (g : ground.Ghosts S) (old new : S) (records : List LogRecord) (v : Volume) (gone : Option Root) (table : Table) : Type 0 where
   pub now : Volume
   pub volume : IsVolume g new records now
   pub shows : table_of (units_in g new) now ≡ table
@@ -41,7 +65,8 @@ pub record MovesVolume {S : Type 0} (g : ground.Ghosts S) (old new : S) (records
   pub catalog : now.catalog ≡ with_index v.catalog after
   pub pages : (page : ℕ) → Contains (file_pages now) page → Contains (file_pages v) page ⊎ (g.used old page ≡ false)
   pub units : (u : ℕ) → Contains (trees_of (units_in g new) now) u → Contains (trees_of (units_in g old) v) u
-  pub left : (u : ℕ) → Contains given_up u → ¬ Contains (reach_of (units_in g new) now) u
+  pub left : (u : ℕ) → Contains (units_under (g.unit old) gone) u → ¬ Contains (reach_of (units_in g new) now) u
+  pub turned : TurnsRoots g old new v now gone None
 
 -- The page of the catalog is written, and has this catalog from now on.
 pub record WritesCatalog {S : Type 0} (g : ground.Ghosts S) (old new : S) (catalog : Catalog) : Type 0 where

@@ -9,6 +9,7 @@ ghost use Rattle.ex_base.specs.Ports.{Keeps, GivesUnit};
 ghost use Rattle.op_log.specs.declared.record.LogRecord.{LogRecord};
 ghost use Rattle.file_bodies.specs.Files.{HasFile, HasFiles};
 ghost use Rattle.index_pages.specs.declared.Index.{Index};
+ghost use Rattle.file_index.specs.Taking.{OnlyTakes, OnlyGives};
 ghost use Rattle.file_bodies.specs.Bodies.{bodies_of};
 ghost use Rattle.file_bodies.specs.Places.{RemovesBody};
 ghost use Rattle.object_files.specs.Catalog.{FileEntry, name_of};
@@ -21,7 +22,7 @@ ghost use Rattle.table_model.specs.Refusals.{has_objects};
 ghost use Rattle.table_model.specs.Steps.{current_oids, objects_if};
 ghost use Rattle.table_model.specs.Tables.{version_at, object_at, current, file_at, is_current, with_object, without_object, with_file, without_file};
 ghost use Rattle.version_model.specs.Listed.{oids_of, AreByNumber};
-ghost use Rattle.version_model.specs.Versions.{Stands, HasVersion, Change, EditsVersion, PutsVersion, AreInUse, content_units, place_of};
+ghost use Rattle.version_model.specs.Versions.{Stands, HasVersion, Change, EditsVersion, PutsVersion, AreInUse, place_of, root_of};
 ghost use Rattle.volume_model.specs.Volume.{Stored, Volume, reach_of, stored_in, table_of, unique_of};
 ghost use Rattle.volume_edits.specs.Ported.{ShowsVolume, IsVolume, IsApart, HasContent, KeepsReach, units_in};
 ghost use Rattle.volume_edits.specs.Shown.{HasShown, ReadsVersion};
@@ -136,8 +137,7 @@ pub fn an_edited_version<P: Ground>()
         → P.Ground.geometry new ≡ P.Ground.geometry old → IsApart P.Ground new
         → HasVersion P.Ground old index oid content before
         → (edit : EditsVersion P.Ground old new index oid content change bytes)
-        → ChangesVolume P.Ground old new records v oid bytes
-        (content_units (P.Ground.unit old) content) (content_units (P.Ground.unit new) edit.now) }
+        → ChangesVolume P.Ground old new records v oid bytes (root_of content) (root_of edit.now) }
 {}
 
 /// A version whose record is removed leaves a volume whose table has its object no more and is else the same. Each page of the volume is one of before or
@@ -146,9 +146,10 @@ pub fn a_removed_version<P: Ground>()
     ensures { (old new : P) (records : List LogRecord) (v : Volume) (index : Index) (oid : Oid)
         (body : List ℕ) (content : Content) (bytes : List ℕ) → IsVolume P.Ground old records v
         → P.Ground.geometry new ≡ P.Ground.geometry old → IsApart P.Ground new
-        → AreInUse P.Ground new → HasVersion P.Ground old index oid content bytes
+        → AreInUse P.Ground new → OnlyGives P.Ground old new
+        → HasVersion P.Ground old index oid content bytes
         → RemovesBody P.Ground old new index (place_of oid) body
-        → MovesVolume P.Ground old new records v (content_units (P.Ground.unit old) content)
+        → MovesVolume P.Ground old new records v (root_of content)
         (without_object oid (table_of (units_in P.Ground old) v)) }
 {}
 
@@ -158,12 +159,13 @@ pub fn a_created_version<P: Ground>()
     ensures { (old new : P) (records : List LogRecord) (v : Volume) (index : Index) (oid : Oid)
         (e : FileEntry) → IsVolume P.Ground old records v
         → P.Ground.geometry new ≡ P.Ground.geometry old → IsApart P.Ground new
-        → AreInUse P.Ground new → HasFile P.Ground old index → Contains v.catalog.entries e
+        → AreInUse P.Ground new → OnlyTakes P.Ground old new
+        → HasFile P.Ground old index → Contains v.catalog.entries e
         → e.file_no ≡ index.file_no
         → 1 ≤ oid.unique → oid.unique < v.catalog.next_unique
         → AllByRecursion (λ (s : Stored). unique_of s < oid.unique) (stored_in v)
         → PutsVersion P.Ground old new index oid
-        → MovesVolume P.Ground old new records v []
+        → MovesVolume P.Ground old new records v None
         (with_object oid e.name (table_of (units_in P.Ground old) v)) }
 {}
 

@@ -23,7 +23,7 @@ ghost use Rattle.session_core.specs.Updates.{AreReady, HasRoomFor, HoldsTable, I
 use super::objects::stopped;
 use super::settle::take_back;
 use super::{MAIN, Session};
-use crate::updates::{ObjectUpdate, Rooms, perform};
+use crate::updates::{Done, ObjectUpdate, Rooms, perform};
 use buffer_groups::Groups;
 use disk_model::{Disk, Host};
 use ex_base::{Area, Geometry, Oid, OpNote, PageNo, PortFault};
@@ -94,13 +94,13 @@ pub(super) fn give_up(
 }
 
 /// The note of an update that was performed so: with the OID that it answered.
-fn noted(note: &OpNote, done: &Result<Oid, PortFault>) -> OpNote
+fn noted(note: &OpNote, done: &Result<Done, PortFault>) -> OpNote
     ensures { result ≡ note_done note.now done.now }
 {
     match done {
-        Ok(oid) => OpNote {
+        Ok(done) => OpNote {
             kind: note.kind,
-            oid: *oid,
+            oid: done.oid,
             first: note.first,
             second: note.second,
         },
@@ -120,19 +120,19 @@ fn update_on<D: Disk>(
     room: &mut [u8],
     rooms: &mut Rooms,
     update: &ObjectUpdate<'_>,
-) -> Result<Oid, PortFault>
+) -> Result<Done, PortFault>
     requires ready { AreReady geometry.now (D.outside disk.old).size
         (record { units = units.old; groups = groups.old; meta = meta.old; pages = pages.old; room = room.old }) }
     requires can { CanPerform update.now (free_count units.old.geometry (used_at units.old) Page) }
-    ensures named { IfOk result (NamesOid update.now) }
+    ensures named { IfOk result (λ done. NamesOid update.now done.oid) }
     ensures moved { Moved (D.outside disk.old) (D.outside disk.new) geometry.now
         (record { units = units.old; groups = groups.old; meta = meta.old; pages = pages.old; room = room.old })
         (record { units = units.new; groups = groups.new; meta = meta.new; pages = pages.new; room = room.new }) }
     ensures updated { IfOk result
-        (λ oid. IfAsked (D.outside disk.old) geometry.now
+        (λ done. IfAsked (D.outside disk.old) geometry.now
         (record { units = units.old; groups = groups.old; meta = meta.old; pages = pages.old; room = room.old }) update.now (λ before u.
         AreRows meta.new → HoldsTable before (D.outside disk.new)
-        (record { units = units.new; groups = groups.new; meta = meta.new; pages = pages.new; room = room.new }) (updated u oid (shown before.machine)))) }
+        (record { units = units.new; groups = groups.new; meta = meta.new; pages = pages.new; room = room.new }) (updated u done.oid (shown before.machine)))) }
     ensures sound { IfErr result
         (λ fault. IfAsked (D.outside disk.old) geometry.now
         (record { units = units.old; groups = groups.old; meta = meta.old; pages = pages.old; room = room.old }) update.now (λ before u.

@@ -5,6 +5,7 @@ ghost use Rattle.versions.specs.Edited.{change_of};
 ghost use Rattle.session_core.specs.Rooms.{ChangesOne};
 ghost use Rattle.session_core.specs.TableUpdates.{Changes, Updates};
 
+use super::Done;
 use super::rooms::Rooms;
 use ex_base::{Oid, PortFault, Volume};
 use std::alloc::Global;
@@ -17,9 +18,9 @@ pub fn change<V: Volume>(
     rooms: &mut Rooms,
     oid: &Oid,
     edit: &Edit<'_>,
-) -> Result<Oid, PortFault>
+) -> Result<Done, PortFault>
     requires { V.ready volume.old }
-    ensures named { IfOk result (λ changed. changed ≡ oid.now) }
+    ensures named { IfOk result (λ done. done.oid ≡ oid.now) }
     ensures updates { Updates V.Ground volume.old volume.new
         (Changes oid.now (change_of edit.now)) result }
     ensures rooms { ChangesOne rooms.old rooms.new }
@@ -27,7 +28,14 @@ pub fn change<V: Volume>(
     ensures cause { HasCause (V.faults volume.old) (V.faults volume.new) result }
 {
     match apply(volume, alloc, oid, edit) {
-        Ok(_) => rooms.look_at(volume, alloc, oid),
+        Ok(edited) => {
+            let done = Done {
+                oid: *oid,
+                gone: edited.gone,
+                come: edited.come,
+            };
+            rooms.look_at(volume, alloc, done)
+        }
         Err(fault) => Err(fault),
     }
 }

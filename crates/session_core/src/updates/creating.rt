@@ -12,8 +12,9 @@ ghost use Rattle.volume_edits.specs.Edits.{WritesCatalog, catalog_numbered};
 ghost use Rattle.session_core.specs.Rooms.{ChangesOne};
 ghost use Rattle.session_core.specs.TableUpdates.{Makes, Updates};
 
+use super::Done;
 use super::rooms::Rooms;
-use ex_base::{Oid, PageNo, PortFault, Seen, Volume};
+use ex_base::{PageNo, PortFault, Seen, Volume};
 use object_files::{CatalogView, set_numbers};
 use std::alloc::Global;
 use versions::create as create_version;
@@ -73,11 +74,11 @@ pub fn create<V: Volume>(
     rooms: &mut Rooms,
     file_no: u32,
     unique: u64,
-) -> Result<Oid, PortFault>
+) -> Result<Done, PortFault>
     requires ready { V.ready volume.old }
     requires pages { 7 ≤ V.free volume.old Page }
     requires number { unique + 1 < 2 ^ 64 }
-    ensures named { IfOk result (λ oid. oid.unique ≡ unique) }
+    ensures named { IfOk result (λ done. done.oid.unique ≡ unique) }
     ensures updates { (name : List ℕ)
         → Updates V.Ground volume.old volume.new (Makes name file_no unique) result }
     ensures rooms { ChangesOne rooms.old rooms.new }
@@ -89,7 +90,11 @@ pub fn create<V: Volume>(
     match create_version(volume, alloc, &mut room, unique) {
         Ok(oid) => {
             rooms.keep(room);
-            Ok(oid)
+            Ok(Done {
+                oid,
+                gone: None,
+                come: None,
+            })
         }
         Err(fault) => Err(fault),
     }

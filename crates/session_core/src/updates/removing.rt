@@ -4,6 +4,7 @@ ghost use Rattle.ex_base.specs.Ports.{HasCause};
 ghost use Rattle.session_core.specs.Rooms.{ChangesOne};
 ghost use Rattle.session_core.specs.TableUpdates.{Removes, Updates};
 
+use super::Done;
 use super::rooms::Rooms;
 use ex_base::{Oid, PortFault, Volume};
 use std::alloc::Global;
@@ -15,16 +16,23 @@ pub fn remove<V: Volume>(
     alloc: Global,
     rooms: &mut Rooms,
     oid: &Oid,
-) -> Result<Oid, PortFault>
+) -> Result<Done, PortFault>
     requires { V.ready volume.old }
-    ensures named { IfOk result (λ removed. removed ≡ oid.now) }
+    ensures named { IfOk result (λ done. done.oid ≡ oid.now) }
     ensures updates { Updates V.Ground volume.old volume.new (Removes oid.now) result }
     ensures rooms { ChangesOne rooms.old rooms.new }
     ensures leads { V.leads volume.old volume.new }
     ensures cause { HasCause (V.faults volume.old) (V.faults volume.new) result }
 {
     match destroy(volume, alloc, oid) {
-        Ok(()) => rooms.look_at(volume, alloc, oid),
+        Ok(gone) => {
+            let done = Done {
+                oid: *oid,
+                gone,
+                come: None,
+            };
+            rooms.look_at(volume, alloc, done)
+        }
         Err(fault) => Err(fault),
     }
 }

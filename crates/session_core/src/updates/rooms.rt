@@ -3,7 +3,8 @@ ghost use Rattle.std.specs.Prelude.{◌≡◌, IfOk, IfErr, IfSome};
 ghost use Rattle.ex_base.specs.Ports.{Keeps, HasCause, IsDamage};
 ghost use Rattle.slotted_pages.specs.Reads.{IsPage, page_on};
 
-use ex_base::{Oid, PageNo, PortFault, ReadVolume};
+use super::Done;
+use ex_base::{PageNo, PortFault, ReadVolume};
 use file_bodies::Room;
 use indexmap::IndexMap;
 use object_records::LARGE_LEN;
@@ -85,29 +86,30 @@ impl Rooms {
         false
     }
 
-    /// Looks at the page of a version that was changed or removed. Where it may have room for the
-    /// record of a new object again, the room of its file is lowered to it. The page isn't read where
-    /// no file has its room behind it.
+    /// Looks at the page of a version that was changed or removed, and hands on what was done. Where
+    /// the page may have room for the record of a new object again, the room of its file is lowered
+    /// to it. It isn't read where no file has its room behind it.
     pub(crate) fn look_at<V: ReadVolume>(
         &mut self,
         volume: &mut V,
         alloc: Global,
-        oid: &Oid,
-    ) -> Result<Oid, PortFault>
+        done: Done,
+    ) -> Result<Done, PortFault>
         requires { V.ready volume.old }
-        ensures same { IfOk result (λ looked. looked ≡ oid.now) }
-        ensures rooms { IsLookedAt self.old self.new oid.now.page.0 }
+        ensures same { IfOk result (λ looked. looked ≡ done) }
+        ensures rooms { IsLookedAt self.old self.new done.oid.page.0 }
         ensures no_damage { IfErr result (λ fault. IsDamage fault → ⊥) }
         ensures kept { Keeps V.Ground volume.old volume.new }
         ensures cause { HasCause (V.faults volume.old) (V.faults volume.new) result }
     {
-        if !self.has_room_behind(oid.page) || !volume.in_area(oid.page) {
-            return Ok(*oid);
+        let page = done.oid.page;
+        if !self.has_room_behind(page) || !volume.in_area(page) {
+            return Ok(done);
         }
-        if let Some(file_no) = file_with_room(volume.get(alloc, oid.page)?) {
-            self.lower(file_no, oid.page);
+        if let Some(file_no) = file_with_room(volume.get(alloc, page)?) {
+            self.lower(file_no, page);
         }
-        Ok(*oid)
+        Ok(done)
     }
 
     /// A page of a file may have room again.

@@ -5,11 +5,10 @@ use Rattle.ex_base.specs.Sizes.{least_page}
 use Rattle.ex_base.proofs.Results.{if_ok_on_ok}
 use Rattle.file_index.specs.Index.{IsFilesPage}
 use Rattle.file_index.specs.Edits.{put_in}
-use Rattle.file_index.specs.Nodes.{IsPlace, Stored, heads, entries_of}
+use Rattle.file_index.specs.Nodes.{IsPlace, Stored}
 use Rattle.file_index.specs.Damage.{place_in, IsWay, IsWayFault}
 use Rattle.file_index.proofs.Blame.{way_here}
 use Rattle.file_index.proofs.Ways.{child_at, page_way, page_fault}
-use Rattle.file_index.proofs.Counts.{stays_held}
 use Rattle.file_index.proofs.Lists.{put_local}
 use Rattle.file_index.proofs.Descending.{never_read, row_below, stays_below, written_below, first_key_is}
 use Rattle.file_index.proofs.Leaves.{leaf_added}
@@ -106,13 +105,4 @@ returns-in-Err-add_among-clause-fault g t c =
     (λ told_a. record { area = c.in-Ok.ensures.area; named = c.in-Ok.ensures.named told_a }) c.in-Err-add_among.fault c.in-Err-add_among.ensures.fault told)
 
 pub store-requires-clause-held : goal.store-requires-clause-held
-store-requires-clause-held g t c = c.in-Ok-true.ensures.held c.index-child.result.now.page.0 (rw c.entries_at.ensures.kept.held c.in-Ok.ensures.held)
-
-pub returns-in-Ok-false-clause-held : goal.returns-in-Ok-false-clause-held
-returns-in-Ok-false-clause-held g t c = λ page held. c.in-Ok-false.ensures.held page (rw c.entries_at.ensures.kept.held held)
-
-pub returns-in-Ok-replace_one-clause-held : goal.returns-in-Ok-replace_one-clause-held
-returns-in-Ok-replace_one-clause-held g t c = λ page held.
-    let p : ℕ = c.index-child.result.now.page.0 in
-    stays_held g.P.Ground c.add_among.new.pages c.store.new.pages (p ∷ []) (p ∷ heads (entries_of c.in-Ok-store.second)) page c.in-Ok-store.ensures.changes (omega arith)
-    (c.in-Ok-true.ensures.held page (rw c.entries_at.ensures.kept.held held))
+store-requires-clause-held g t c = c.in-Ok-true.ensures.takes.held c.index-child.result.now.page.0 (rw c.entries_at.ensures.kept.held c.in-Ok.ensures.held)

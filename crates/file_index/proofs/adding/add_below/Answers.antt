@@ -110,7 +110,7 @@ returns-in-Err-add_among-clause-fault g c =
     (λ told_a. record { area = c.in-Ok-entries_at.ensures.area; named = c.in-Ok-entries_at.ensures.named told_a }) c.in-Err-add_among.fault c.in-Err-add_among.ensures.fault told)
 
 pub store-requires-clause-held : goal.store-requires-clause-held
-store-requires-clause-held g c = c.in-Ok-true.ensures.held c.args.root.0 (rw c.entries_at.ensures.kept.held c.in-Ok-entries_at.ensures.held)
+store-requires-clause-held g c = c.in-Ok-true.ensures.takes.held c.args.root.0 (rw c.entries_at.ensures.kept.held c.in-Ok-entries_at.ensures.held)
 
 pub returns-in-Err-entries_at-clause-sound : goal.returns-in-Err-entries_at-clause-sound
 returns-in-Err-entries_at-clause-sound g c = λ damage told has.

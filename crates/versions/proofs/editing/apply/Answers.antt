@@ -5,18 +5,19 @@ use Rattle.object_records.specs.Record.{Content, Small, Large}
 use Rattle.std.proofs.lemmas.Result.{on_ok_weaker, IfOk-weaker, IfErr-weaker}
 use Rattle.ex_base.proofs.Options.{at_some}
 use Rattle.file_bodies.proofs.Belonging.{file_of_body}
+use Rattle.versions.specs.declared.editing.Edited.{Edited}
 use Rattle.versions.specs.declared.finding.Found.{Found}
-use Rattle.version_model.specs.Versions.{HasVersion, EditsVersion, StaysSmall, InRange, changed, count_of, place_of}
+use Rattle.version_model.specs.Versions.{HasVersion, StaysSmall, InRange, changed, count_of, place_of}
 use Rattle.ex_base.specs.Needs.{growth_need}
 use Rattle.ex_base.proofs.Results.{if_err_handed, on_ok_both}
 use Rattle.versions.specs.Needs.{most_need, height_in}
-use Rattle.versions.specs.Edited.{change_of}
+use Rattle.versions.specs.Edited.{change_of, TurnsVersion}
 use Rattle.versions.specs.Damage.{record_fault, looking, small, large, unlike}
 use Rattle.versions.proofs.Faults.{root_at, bytes_kept, version_kept}
 use Rattle.versions.proofs.Results.{none_some, same_some, ok_of}
 use Rattle.versions.proofs.Standing.{version_readable, holds_of, kept_version, small_content, large_content}
 use Rattle.versions.proofs.Needed.{same_length, grows, edit_need_is}
-use Rattle.versions.proofs.Becoming.{kept_edited, kept_in_use, kept_stays, less_stays}
+use Rattle.versions.proofs.Becoming.{kept_turned, kept_in_use, kept_stays, less_stays}
 use Rattle.versions.proofs.editing.apply.Goals as goal
 
 pub returns-in_err-found-clause-sound : goal.returns-in_err-found-clause-sound
@@ -42,7 +43,7 @@ returns-then-count-eq0-clause-size g c = λ told index content bytes has.
     let size : c.in_ok-found.found.size ≡ length bytes = at_some c.in_ok-told.told c.in_ok-found.found _ c.in_ok-found.ensures.some (c.in_ok-told.ensures.size told index content bytes (holds_of g.V.Ground c.args.volume.now index c.args.oid.now content bytes has)) in
     let range = subst (InRange (change_of c.args.edit.now)) size ((c.is_editable.ensures.0 c.in_ok-check.ensures.holds).1) in
     let f_is = same_some c.in_ok-told.told c.in_ok-found.found _ c.in_ok-found.ensures.some (c.in_ok-told.ensures.told told index _ has.stored) in
-    (range, size ∙ sym (same_length (change_of c.args.edit.now) bytes range (sym c.count.ensures ∙ c.if-count-eq0.true)))
+    (range, ap (λ (e : Edited). e.size) c.stayed.ensures ∙ size ∙ sym (same_length (change_of c.args.edit.now) bytes range (sym c.count.ensures ∙ c.if-count-eq0.true)))
 
 pub returns-in-None-clause-size : goal.returns-in-None-clause-size
 returns-in-None-clause-size g c = IfOk-weaker c.edit_small.result _ _ (λ n is told index content bytes has.
@@ -56,7 +57,7 @@ returns-in-None-clause-size g c = IfOk-weaker c.edit_small.result _ _ (λ n is t
     (range, is told_n index bytes has_n (sym size))) c.edit_small.ensures.size
 
 pub returns-in-None-clause-edited : goal.returns-in-None-clause-edited
-returns-in-None-clause-edited g c = on_ok_weaker c.edit_small.result (λ edits many told in_use index content bytes has.
+returns-in-None-clause-edited g c = IfOk-weaker c.edit_small.result _ _ (λ done edits many told in_use index content bytes has.
     let kept = c.find.ensures.kept in
     let told_n = g.V.Ground.leads_told c.args.volume.now c.find.new.volume kept.leads told in
     let size : c.in_ok-found.found.size ≡ length bytes = at_some c.in_ok-told.told c.in_ok-found.found _ c.in_ok-found.ensures.some (c.in_ok-told.ensures.size told index content bytes (holds_of g.V.Ground c.args.volume.now index c.args.oid.now content bytes has)) in
@@ -65,8 +66,8 @@ returns-in-None-clause-edited g c = on_ok_weaker c.edit_small.result (λ edits m
     let is_small : content ≡ Small bytes = small_content (g.V.Ground.geometry c.args.volume.now) (g.V.Ground.unit c.args.volume.now) content bytes (sym (ap (λ (f : Found). f.root) f_is) ∙ c.in-None.is) has.spells in
     let has_n = kept_version g.V.Ground c.args.volume.now c.find.new.volume index c.args.oid.now (Small bytes) bytes kept (subst (λ (t : Content). HasVersion g.V.Ground c.args.volume.now index c.args.oid.now t bytes) is_small has) in
     let in_use_n = kept_in_use g.V.Ground c.args.volume.now c.find.new.volume kept in_use in
-    kept_edited g.V.Ground c.args.volume.now c.find.new.volume c.edit_small.new.volume index c.args.oid.now content (change_of c.args.edit.now) (changed (change_of c.args.edit.now) bytes) kept
-    (subst (λ (t : Content). EditsVersion g.V.Ground c.find.new.volume c.edit_small.new.volume index c.args.oid.now t (change_of c.args.edit.now) (changed (change_of c.args.edit.now) bytes)) (sym is_small) (edits told_n in_use_n (ap (λ (f : Found). f.head) f_is) index bytes has_n (sym size)))) c.edit_small.ensures.edited
+    kept_turned g.V.Ground c.args.volume.now c.find.new.volume c.edit_small.new.volume index c.args.oid.now content (change_of c.args.edit.now) (changed (change_of c.args.edit.now) bytes) done.gone done.come kept
+    (subst (λ (t : Content). TurnsVersion g.V.Ground c.find.new.volume c.edit_small.new.volume index c.args.oid.now t (change_of c.args.edit.now) (changed (change_of c.args.edit.now) bytes) done.gone done.come) (sym is_small) (edits told_n in_use_n (ap (λ (f : Found). f.head) f_is) index bytes has_n (sym size)))) c.edit_small.ensures.edited
 
 pub returns-in-None-clause-small : goal.returns-in-None-clause-small
 returns-in-None-clause-small g c = on_ok_weaker c.edit_small.result (λ stay told index content bytes has stays.
@@ -129,7 +130,7 @@ returns-in-Some-clause-size g c = IfOk-weaker c.edit_large.result _ _ (λ n is t
     (range, is told_n index bytes has_n)) c.edit_large.ensures.size
 
 pub returns-in-Some-clause-edited : goal.returns-in-Some-clause-edited
-returns-in-Some-clause-edited g c = on_ok_weaker c.edit_large.result (λ edits many told in_use index content bytes has.
+returns-in-Some-clause-edited g c = IfOk-weaker c.edit_large.result _ _ (λ done edits many told in_use index content bytes has.
     let kept = c.find.ensures.kept in
     let told_n = g.V.Ground.leads_told c.args.volume.now c.find.new.volume kept.leads told in
     let size : c.in_ok-found.found.size ≡ length bytes = at_some c.in_ok-told.told c.in_ok-found.found _ c.in_ok-found.ensures.some (c.in_ok-told.ensures.size told index content bytes (holds_of g.V.Ground c.args.volume.now index c.args.oid.now content bytes has)) in
@@ -138,11 +139,11 @@ returns-in-Some-clause-edited g c = on_ok_weaker c.edit_large.result (λ edits m
     let is_large : content ≡ Large c.in-Some.root = large_content content c.in-Some.root (sym (ap (λ (f : Found). f.root) f_is) ∙ c.in-Some.is) in
     let has_n = kept_version g.V.Ground c.args.volume.now c.find.new.volume index c.args.oid.now (Large c.in-Some.root) bytes kept (subst (λ (t : Content). HasVersion g.V.Ground c.args.volume.now index c.args.oid.now t bytes) is_large has) in
     let in_use_n = kept_in_use g.V.Ground c.args.volume.now c.find.new.volume kept in_use in
-    kept_edited g.V.Ground c.args.volume.now c.find.new.volume c.edit_large.new.volume index c.args.oid.now content (change_of c.args.edit.now) (changed (change_of c.args.edit.now) bytes) kept
-    (subst (λ (t : Content). EditsVersion g.V.Ground c.find.new.volume c.edit_large.new.volume index c.args.oid.now t (change_of c.args.edit.now) (changed (change_of c.args.edit.now) bytes)) (sym is_large) (edits told_n in_use_n (ap (λ (f : Found). f.head) f_is) index bytes has_n))) c.edit_large.ensures.edited
+    kept_turned g.V.Ground c.args.volume.now c.find.new.volume c.edit_large.new.volume index c.args.oid.now content (change_of c.args.edit.now) (changed (change_of c.args.edit.now) bytes) done.gone done.come kept
+    (subst (λ (t : Content). TurnsVersion g.V.Ground c.find.new.volume c.edit_large.new.volume index c.args.oid.now t (change_of c.args.edit.now) (changed (change_of c.args.edit.now) bytes) done.gone done.come) (sym is_large) (edits told_n in_use_n (ap (λ (f : Found). f.head) f_is) index bytes has_n))) c.edit_large.ensures.edited
 
 pub returns-in-Some-clause-small : goal.returns-in-Some-clause-small
-returns-in-Some-clause-small g c = on_ok_weaker c.edit_large.result (λ edits told index content bytes has stays.
+returns-in-Some-clause-small g c = ok_of c.edit_large.result _ (λ told index content bytes has stays.
     let kept = c.find.ensures.kept in
     let told_n = g.V.Ground.leads_told c.args.volume.now c.find.new.volume kept.leads told in
     let size : c.in_ok-found.found.size ≡ length bytes = at_some c.in_ok-told.told c.in_ok-found.found _ c.in_ok-found.ensures.some (c.in_ok-told.ensures.size told index content bytes (holds_of g.V.Ground c.args.volume.now index c.args.oid.now content bytes has)) in
@@ -150,7 +151,7 @@ returns-in-Some-clause-small g c = on_ok_weaker c.edit_large.result (λ edits to
     let f_is = same_some c.in_ok-told.told c.in_ok-found.found _ c.in_ok-found.ensures.some (c.in_ok-told.ensures.told told index _ has.stored) in
     let is_large : content ≡ Large c.in-Some.root = large_content content c.in-Some.root (sym (ap (λ (f : Found). f.root) f_is) ∙ c.in-Some.is) in
     let has_n = kept_version g.V.Ground c.args.volume.now c.find.new.volume index c.args.oid.now (Large c.in-Some.root) bytes kept (subst (λ (t : Content). HasVersion g.V.Ground c.args.volume.now index c.args.oid.now t bytes) is_large has) in
-    absurd (subst (λ (t : Content). StaysSmall g.V.Ground c.args.volume.now (place_of c.args.oid.now) t (length (changed (change_of c.args.edit.now) bytes))) is_large stays)) c.edit_large.ensures.edited
+    absurd (subst (λ (t : Content). StaysSmall g.V.Ground c.args.volume.now (place_of c.args.oid.now) t (length (changed (change_of c.args.edit.now) bytes))) is_large stays))
 
 pub returns-in-Some-clause-free : goal.returns-in-Some-clause-free
 returns-in-Some-clause-free g c = on_ok_weaker c.edit_large.result (λ free told index content bytes has area.

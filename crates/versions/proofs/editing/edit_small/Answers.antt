@@ -5,13 +5,13 @@ use Rattle.ex_base.specs.declared.names.Area.{Area}
 use Rattle.ex_base.specs.declared.names.Place.{Place}
 use Rattle.object_records.specs.Record.{Small}
 use Rattle.file_bodies.specs.Files.{HasBody}
-use Rattle.version_model.specs.Versions.{EditsVersion, StaysSmall, changed, lone_head, place_of}
+use Rattle.version_model.specs.Versions.{StaysSmall, changed, lone_head, place_of}
 use Rattle.ex_base.specs.Needs.{growth_need}
-use Rattle.versions.specs.Edited.{change_of}
+use Rattle.versions.specs.Edited.{change_of, TurnsVersion}
 use Rattle.versions.specs.Damage.{no_tree, small}
 use Rattle.versions.proofs.Faults.{bytes_kept, step_version}
 use Rattle.versions.proofs.Standing.{kept_version}
-use Rattle.versions.proofs.Becoming.{kept_edited, kept_in_use, kept_stays}
+use Rattle.versions.proofs.Becoming.{kept_turned, kept_in_use, kept_stays}
 use Rattle.versions.proofs.editing.edit_small.Goals as goal
 
 pub returns-in-Ok-clause-size : goal.returns-in-Ok-clause-size
@@ -24,15 +24,15 @@ returns-in-Ok-clause-size g c = IfOk-weaker c.put_edited.result _ _ (λ n is tol
     is ∙ ap length same) c.put_edited.ensures.size
 
 pub returns-in-Ok-clause-edited : goal.returns-in-Ok-clause-edited
-returns-in-Ok-clause-edited g c = on_ok_weaker c.put_edited.result (λ edits told in_use lone index bytes has long.
+returns-in-Ok-clause-edited g c = IfOk-weaker c.put_edited.result _ _ (λ done edits told in_use lone index bytes has long.
     let kept = c.edited_small.ensures.kept in
     let told_n = g.V.Ground.leads_told c.args.volume.now c.edited_small.new.volume kept.leads told in
     let has_n = kept_version g.V.Ground c.args.volume.now c.edited_small.new.volume index c.args.oid.now (Small bytes) bytes kept has in
     let stands = subst (λ (p : Place). HasBody g.V.Ground c.args.volume.now index p has.stored.body) (sym c.place_of.ensures) has.stored.stands in
     let same : c.deref.result.now ≡ changed (change_of c.args.edit.now) bytes = c.deref.ensures.value ∙ c.in-Ok.ensures.bytes told index has.stored.body (lone_head c.args.oid.now.unique) bytes stands has.stored.spelled long in
     let in_use_n = kept_in_use g.V.Ground c.args.volume.now c.edited_small.new.volume kept in_use in
-    kept_edited g.V.Ground c.args.volume.now c.edited_small.new.volume c.put_edited.new.volume index c.args.oid.now (Small bytes) (change_of c.args.edit.now) (changed (change_of c.args.edit.now) bytes) kept
-    (subst (EditsVersion g.V.Ground c.edited_small.new.volume c.put_edited.new.volume index c.args.oid.now (Small bytes) (change_of c.args.edit.now)) same (edits told_n in_use_n lone index bytes has_n (change_of c.args.edit.now)))) c.put_edited.ensures.edited
+    kept_turned g.V.Ground c.args.volume.now c.edited_small.new.volume c.put_edited.new.volume index c.args.oid.now (Small bytes) (change_of c.args.edit.now) (changed (change_of c.args.edit.now) bytes) done.gone done.come kept
+    (subst (λ (b : List ℕ). TurnsVersion g.V.Ground c.edited_small.new.volume c.put_edited.new.volume index c.args.oid.now (Small bytes) (change_of c.args.edit.now) b done.gone done.come) same (edits told_n in_use_n lone index bytes has_n (change_of c.args.edit.now)))) c.put_edited.ensures.edited
 
 pub returns-in-Ok-clause-small : goal.returns-in-Ok-clause-small
 returns-in-Ok-clause-small g c = on_ok_weaker c.put_edited.result (λ small told index bytes has long stays.

@@ -17,6 +17,7 @@ use Rattle.std.specs.Prelude.{Result, IfErr}
 use Rattle.session_views.specs.declared.engine.Stop.{Stop}
 use Rattle.ex_base.specs.declared.faults.PortFault.{PortFault}
 use Rattle.ex_base.specs.Ports.{IsDamage}
+use Rattle.session_core.specs.declared.updates.Done.{Done}
 use Rattle.session_core.specs.Updates.{HasPortParts, HasRoomFor, HoldsTable, IfAsked, IfUpdated, Moved, WritesLoose, note_with}
 use Rattle.session_core.proofs.Finding.{no_damage}
 use Rattle.session_core.proofs.Moved.{at_oid, moved_session, note_with_oid, given_up_as, moments_of, noted_so, on_err, with_room, has_seen}
@@ -125,7 +126,7 @@ returns-clause-sound g c =
       | in-Ok w ↦ subst stops (sym w.result-is) (λ before same now u is asked room. tt)
       | in-Err w ↦ subst stops (sym w.result-is) (λ before same now u is asked room.
           let has = has_seen s c.args.self.now before c.self.view_is same c.self.invariant in
-          let sound = subst (λ (r : Result Oid PortFault). IfErr r (λ fault. IfAsked (outside c.args.host.now) s.geometry (parts s.units s.groups s.meta s.pages c.deref_mut.result.now) c.args.update.now (λ before u. HasRoomFor before u → IsDamage fault → ⊥)))
+          let sound = subst (λ (r : Result Done PortFault). IfErr r (λ fault. IfAsked (outside c.args.host.now) s.geometry (parts s.units s.groups s.meta s.pages c.deref_mut.result.now) c.args.update.now (λ before u. HasRoomFor before u → IsDamage fault → ⊥)))
           w.in-Err.is c.update_on-done.ensures.sound in
           subst IsOutside (sym w.stopped.ensures) (no_damage w.in-Err.fault (λ damage.
           sound before (subst (λ (r : List ℕ). HasPortParts before.session s.geometry (parts s.units s.groups s.meta s.pages r)) (sym c.deref_mut.ensures.value) has) now u is asked room damage)))

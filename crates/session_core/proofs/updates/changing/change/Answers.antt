@@ -8,8 +8,9 @@ use Rattle.session_core.proofs.updates.changing.change.Goals as goal
 pub returns-in-Ok-clause-updates : goal.returns-in-Ok-clause-updates
 returns-in-Ok-clause-updates g c =
     let change = change_of c.args.edit.now in
-    still_updated g.V.Ground c.args.volume.now c.apply.new.volume c.look_at.new.volume c.look_at.ensures.kept (Changes c.args.oid.now change) c.args.oid.now c.look_at.result
-    (version_changed g.V.Ground c.args.volume.now c.apply.new.volume c.args.oid.now change c.apply.ensures.leads c.in-Ok.ensures.nothing c.in-Ok.ensures.edited) c.look_at.ensures.same c.look_at.ensures.no_damage
+    let edited = c.in-Ok.edited in
+    still_updated g.V.Ground c.args.volume.now c.apply.new.volume c.look_at.new.volume c.look_at.ensures.kept (Changes c.args.oid.now change) (record { oid = c.args.oid.now; gone = edited.gone; come = edited.come }) c.look_at.result
+    (version_changed g.V.Ground c.args.volume.now c.apply.new.volume c.args.oid.now change edited.gone edited.come c.apply.ensures.leads c.in-Ok.ensures.nothing c.in-Ok.ensures.no_root c.in-Ok.ensures.edited) c.look_at.ensures.same c.look_at.ensures.no_damage
 
 pub returns-in-Err-clause-updates : goal.returns-in-Err-clause-updates
 returns-in-Err-clause-updates g c = change_failed g.V.Ground c.args.volume.now c.apply.new.volume c.args.oid.now (change_of c.args.edit.now) c.in-Err.fault c.in-Err.ensures.sound

@@ -23,7 +23,7 @@ returns-in-Ok-clause-updates g c = λ name.
     record {
       done = λ records v told vol asks apart in_use.
           let writes = c.in_ok-count_number.ensures.counts told in
-          becomes G old mid records v vol name c.args.file_no c.args.unique asks writes new c.in-Ok.oid c.in-Ok.ensures.number (G.leads_geometry mid new c.create.ensures.leads) apart in_use
+          becomes G old mid records v vol name c.args.file_no c.args.unique asks writes new c.in-Ok.oid c.in-Ok.ensures.number (G.leads_geometry mid new c.create.ensures.leads) apart in_use c.in-Ok.ensures.takes
           (c.in-Ok.ensures.anywhere (G.leads_told old mid c.count_number.ensures.leads told) (index_named asks.entry) (its_file G old mid records v vol name c.args.file_no c.args.unique asks writes) (asks.number ∙ sym (number_kept c.args.rooms.now c.args.file_no c.of_file-room.result c.of_file-room.ensures)));
       sound = tt;
     }

@@ -1,3 +1,4 @@
+use Rattle.std.proofs.Common.{None}
 use Rattle.session_core.specs.TableUpdates.{Removes}
 use Rattle.session_core.proofs.Removed.{object_removed, removal_failed}
 use Rattle.session_core.proofs.MovedVolumes.{still_updated}
@@ -6,8 +7,8 @@ use Rattle.session_core.proofs.updates.removing.remove.Goals as goal
 
 pub returns-in-Ok-clause-updates : goal.returns-in-Ok-clause-updates
 returns-in-Ok-clause-updates g c =
-    still_updated g.V.Ground c.args.volume.now c.destroy.new.volume c.look_at.new.volume c.look_at.ensures.kept (Removes c.args.oid.now) c.args.oid.now c.look_at.result
-    (object_removed g.V.Ground c.args.volume.now c.destroy.new.volume c.args.oid.now c.destroy.ensures.leads c.in-Ok.ensures.removes) c.look_at.ensures.same c.look_at.ensures.no_damage
+    still_updated g.V.Ground c.args.volume.now c.destroy.new.volume c.look_at.new.volume c.look_at.ensures.kept (Removes c.args.oid.now) (record { oid = c.args.oid.now; gone = c.in-Ok.gone; come = None }) c.look_at.result
+    (object_removed g.V.Ground c.args.volume.now c.destroy.new.volume c.args.oid.now c.in-Ok.gone c.destroy.ensures.leads c.in-Ok.ensures.gives c.in-Ok.ensures.gone c.in-Ok.ensures.removes) c.look_at.ensures.same c.look_at.ensures.no_damage
 
 pub returns-in-Err-clause-updates : goal.returns-in-Err-clause-updates
 returns-in-Err-clause-updates g c = removal_failed g.V.Ground c.args.volume.now c.destroy.new.volume c.args.oid.now c.in-Err.fault c.in-Err.ensures.sound
