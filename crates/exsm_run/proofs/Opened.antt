@@ -1,5 +1,5 @@
 -- A session that was opened shows its volume.
-use Rattle.std.proofs.Common.{◌≡◌, ◌∙◌, ⊎_elim, inl, inr, ℕ, List, [], ◌∷◌, map, refl, sym, ap, subst, IsTrue, Bool, false, Result, Err}
+use Rattle.std.proofs.Common.{◌≡◌, ◌∙◌, ◌&&◌, ⊎_elim, inl, inr, ℕ, List, [], ◌∷◌, map, not, refl, sym, ap, subst, IsTrue, Bool, true, false, Result, Err}
 use mathlib.Core.Path.{fun_ext}
 use Rattle.ex_base.specs.declared.geometry.Geometry.{Geometry}
 use Rattle.ex_base.specs.declared.names.Area.TheVariants.{Page, Segment}
@@ -26,19 +26,24 @@ use Rattle.volume_model.specs.FreshView.{OpenedView, fresh_held, fresh_view}
 use Rattle.volume_model.specs.Parts.{StandsFor}
 use Rattle.volume_model.specs.Shown.{Held, PageRow, Shows, used_in}
 use Rattle.volume_model.specs.Volume.{Decoded, table_of, units_of}
-use Rattle.volume_port.specs.Logged.{is_held, is_taken}
+use Rattle.volume_port.specs.Logged.{is_held}
 
 abbrev opened_session : OpenedParts → SessionState
 opened_session p = fresh_session p.geometry p.log p.meta p.pages p.units p.groups
+
+-- a page that the working state has is one of the committed state
+none_taken : (held : Bool) → (held && not held) ≡ false
+none_taken true = refl
+none_taken false = refl
 
 -- what the session holds is what a fresh one does
 held_is : (p : OpenedParts) → AreOpened p → held (opened_session p) ≡ fresh_held p.geometry p.log (used_at p.units) (is_held p.pages)
 held_is p opened =
     let frames : map (λ (f : Frames). f.entries) p.groups ≡ [] ∷ [] = ap (map (λ (f : Frames). f.entries)) opened.fresh.groups in
     let working = opened.fresh.working in
-    let taken : is_taken p.pages ≡ (λ _. false) = fun_ext opened.fresh.reached.taken in
+    let taken : (λ (page : ℕ). is_held p.pages page && not (is_held p.pages page)) ≡ (λ _. false) = fun_ext (λ page. none_taken (is_held p.pages page)) in
     let overlay = opened.images in
-    cc (frames, working, taken, overlay)
+    ap (λ (f : ℕ → Bool). record (held (opened_session p)) { taken = f }) taken ∙ cc (frames, working, overlay)
 
 pub shows_opened : {w : Outside} (p : OpenedParts) (image : List ℕ) (table : Table) → AreOpened p → IsTrue w.honest
     → OpenedOn image p.geometry w p.log p.meta.committed (used_at p.units) (refs_at p.units) (is_held p.pages) → StandsFor image table

@@ -16,44 +16,35 @@ use Rattle.file_walk.specs.declared.Found.{Found}
 use Rattle.file_walk.specs.Records.{HasRootFields}
 use Rattle.file_walk.specs.Walk.{page_numbers}
 use Rattle.object_records.specs.Record.{IsRootField}
-use Rattle.volume_port.specs.Logged.{LoggedSet, is_held, is_taken}
+use Rattle.volume_port.specs.Logged.{LoggedSet, is_held}
 use Rattle.restart.specs.Content.{AreHeld, root_list, roots_found}
 
 -- ---- logged pages
 
--- The pages that are there are the catalog and these, and none was taken.
+-- The pages that are there are the catalog and these.
 pub record AreAdopted (g : Geometry) (s : LoggedSet) (files : List PageNo) : Type 0 where
   pub held : AreHeld s (page_numbers files)
-  pub held_len : length s.held ≡ area_end g
-  pub taken_len : length s.taken ≡ area_end g
-  pub taken : (page : ℕ) → is_taken s page ≡ false
+  pub held_len : length s ≡ area_end g
 
-pub none_adopted : (g : Geometry) (s : LoggedSet) → ((p : ℕ) → is_held s p ≡ eqb p catalog_no) → length s.held ≡ area_end g → length s.taken ≡ area_end g → ((p : ℕ) → is_taken s p ≡ false) → AreAdopted g s []
-none_adopted g s held held_len taken_len taken = record {
+pub none_adopted : (g : Geometry) (s : LoggedSet) → ((p : ℕ) → is_held s p ≡ eqb p catalog_no) → length s ≡ area_end g → AreAdopted g s []
+none_adopted g s held held_len = record {
   held = λ page. (
     λ there. (0, omega arith, sym (eqb-true page catalog_no (sym (held page) ∙ there))),
     λ (k, lt, is). held page ∙ eq-eqb page catalog_no (alone k page lt is),
   );
   held_len = held_len;
-  taken_len = taken_len;
-  taken = taken;
 }
   where
     alone : (k page : ℕ) → k < 1 → get_or (catalog_no ∷ []) k page ≡ page → page ≡ catalog_no
     alone k page lt is = let front : k ≡ 0 = omega (arith, lt) in sym (ap (λ (n : ℕ). get_or (catalog_no ∷ []) n page) (sym front) ∙ is)
 
 abbrev with_page : LoggedSet → ℕ → LoggedSet
-with_page s p = record { held = slice_set s.held p true; taken = slice_set s.taken p false }
+with_page s p = slice_set s p true
 
 pub adopted_next : (g : Geometry) (s : LoggedSet) (files : List PageNo) (p : PageNo) → p.0 < area_end g → AreAdopted g s files → AreAdopted g (with_page s p.0) (files ++ p ∷ [])
 adopted_next g s files p inside so_far = record {
   held = λ page. subst (λ (ps : List ℕ). (is_held (with_page s p.0) page ≡ true) ↔ Contains (catalog_no ∷ ps) page) (sym (map-append (λ (x : PageNo). x.0) files (p ∷ []))) (held page);
-  held_len = length-set s.held p.0 true ∙ so_far.held_len;
-  taken_len = length-set s.taken p.0 false ∙ so_far.taken_len;
-  taken = λ page. ⊎_elim
-      (λ (same : page ≡ p.0). ap (λ (n : ℕ). get_or (set s.taken p.0 false) n false) same ∙ get_or-set_same s.taken p.0 false false (omega (arith, inside, so_far.taken_len)))
-      (λ other. get_or-set_other s.taken p.0 page false false other ∙ so_far.taken page)
-      (same_or_not page p.0);
+  held_len = length-set s p.0 true ∙ so_far.held_len;
 }
   where
     before : List ℕ
@@ -63,10 +54,10 @@ adopted_next g s files p inside so_far = record {
     held page = ⊎_elim
         (λ (same : page ≡ p.0). (
           (λ there. subst (Contains (before ++ p.0 ∷ [])) (sym same) (Contains-push before p.0)),
-          (λ there. ap (λ (n : ℕ). get_or (set s.held p.0 true) n false) same ∙ get_or-set_same s.held p.0 true false (omega (arith, inside, so_far.held_len))),
+          (λ there. ap (λ (n : ℕ). get_or (set s p.0 true) n false) same ∙ get_or-set_same s p.0 true false (omega (arith, inside, so_far.held_len))),
         ))
         (λ (other : page ≢ p.0).
-        let same : is_held (with_page s p.0) page ≡ is_held s page = get_or-set_other s.held p.0 page true false other in (
+        let same : is_held (with_page s p.0) page ≡ is_held s page = get_or-set_other s p.0 page true false other in (
           (λ there. Contains-append_left before (p.0 ∷ []) page ((so_far.held page).0 (sym same ∙ there))),
           (λ there. same ∙ (so_far.held page).1 (⊎_elim (λ earlier. earlier) (λ here. absurd (other (sym here))) (Contains-push_cases before p.0 page there))),
         ))

@@ -1,5 +1,5 @@
 -- What the pages of a volume hold behind the catalog, and which part of it fails first.
-use Rattle.std.specs.Prelude.{◌≡◌, ◌↔◌, ◌-◌, ℕ, Bool, true, false, List, [], ◌∷◌, length, take, Option, Some, None, Contains}
+use Rattle.std.specs.Prelude.{◌≡◌, ◌↔◌, ◌-◌, ℕ, Bool, true, List, [], ◌∷◌, length, take, Option, Some, None, Contains}
 use Rattle.std.specs.List.{flat_map, AllByRecursion}
 use Rattle.ex_base.specs.declared.geometry.Geometry.{Geometry}
 use Rattle.ex_base.specs.declared.names.Root.{Root}
@@ -14,7 +14,7 @@ use Rattle.trees.specs.Trees.{Units}
 use Rattle.tree_store.specs.Stored.{IsCounted}
 use Rattle.volume_model.specs.Parts.{HoldsOf, rank}
 use Rattle.volume_model.specs.Volume.{FileContent, Volume, file_pages, reach_of, roots_in, stored_in}
-use Rattle.volume_port.specs.Logged.{LoggedSet, is_held, is_taken}
+use Rattle.volume_port.specs.Logged.{LoggedSet, is_held}
 use Rattle.volume_port.specs.Ported.{IsUsed}
 use Rattle.restart.specs.declared.content.Reached.{Reached}
 
@@ -47,15 +47,13 @@ roots_found records = flat_map (λ (found : Found). root_list found.root) record
 abbrev pub AreHeld : LoggedSet → List ℕ → Type 0
 AreHeld pages files = (page : ℕ) → (is_held pages page ≡ true) ↔ Contains (catalog_no ∷ files) page
 
--- What was found is of a geometry: the numbers of used units name units, and what has a reference is used; the catalog's page is there, each page that is
--- there is used, and no page was taken.
+-- What was found is of a geometry: the numbers of used units name units, and what has a reference is used; the catalog's page is there, and each page that
+-- is there is used.
 pub record IsReached (g : Geometry) (r : Reached) : Type 0 where
   pub counted : IsCounted g r.units
-  pub held_len : length r.pages.held ≡ area_end g
-  pub taken_len : length r.pages.taken ≡ area_end g
+  pub held_len : length r.pages ≡ area_end g
   pub home : is_held r.pages catalog_no ≡ true
   pub in_use : (page : ℕ) → IsUsed (used_at r.units) r.pages page
-  pub taken : (page : ℕ) → is_taken r.pages page ≡ false
 
 -- Each unit of a tree has as many references as roots of the volume and pairs of its nodes name it. In use are these units, the catalog and the pages of
 -- its files, and no others.

@@ -33,7 +33,7 @@ pub record HasCatalog (page : List ℕ) (last : Option ℕ) (c : Catalog) : Type
 abbrev pub empty_main : Geometry → Frames
 empty_main g = record { entries = []; cap = 64; page_size = g.page_size; policy = Lru }
 
--- The parts are of one geometry; no page is touched and none was taken, and no frame is filled.
+-- The parts are of one geometry; no page is touched, and no frame is filled.
 pub record AreFresh (p : OpenedParts) : Type 0 where
   pub log : p.log.geometry ≡ p.geometry
   pub meta : p.meta.geometry ≡ p.geometry

@@ -9,7 +9,7 @@ ghost use Rattle.file_walk.specs.Walk.{page_numbers};
 ghost use Rattle.node_walk.specs.TreesNamed.{ShowsPages};
 ghost use Rattle.object_records.specs.Record.{IsRootField};
 ghost use Rattle.trees.specs.Trees.{Units as Bytes};
-ghost use Rattle.volume_port.specs.Logged.{is_held, is_taken};
+ghost use Rattle.volume_port.specs.Logged.{is_held};
 ghost use Rattle.restart.specs.Content.{FilesReached, IsFirstBad, AreHeld, IsReached, roots_found};
 
 use ex_base::{Geometry, PageNo, ReadPages, Root};
@@ -95,9 +95,7 @@ fn logged_pages(
 ) -> Result<LoggedPages, AllocError>
     requires { AllByRecursion (λ (page : PageNo). page.0 < area_end geometry.now) files.now }
     ensures held { IfOk result (λ s. AreHeld s (page_numbers files.now)) }
-    ensures lengths { IfOk result (λ s. (length s.held ≡ area_end geometry.now)
-        × (length s.taken ≡ area_end geometry.now)) }
-    ensures taken { IfOk result (λ s. (p : ℕ) → is_taken s p ≡ false) }
+    ensures len { IfOk result (λ s. length s ≡ area_end geometry.now) }
 {
     let mut pages = LoggedPages::make(alloc, geometry)?;
     for page in files {

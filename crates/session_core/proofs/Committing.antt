@@ -1,5 +1,5 @@
 -- A commit and a checkpoint, from a view that shows to one that shows.
-use Rattle.std.proofs.Common.{◌≡◌, ◌≢◌, ◌∙◌, ◌↔◌, ◌⊎◌, ⊎_elim, cond, eqb-true, ℕ, ◌+◌, Bool, true, false, List, [], ◌∷◌, ◌++◌, length, map, All, Option, Some, None, is_some, nat_eq, refl, sym, ap, subst, inl, inr, eq-eqb}
+use Rattle.std.proofs.Common.{◌≡◌, ◌≢◌, ◌∙◌, ◌↔◌, ◌⊎◌, ⊎_elim, cond, eqb-true, ℕ, ◌+◌, ◌&&◌, not, Bool, true, false, List, [], ◌∷◌, ◌++◌, length, map, All, Option, Some, None, is_some, nat_eq, refl, sym, ap, subst, inl, inr, eq-eqb}
 use Rattle.std.specs.Prelude.{IsTrue, Contains, is_none}
 use Rattle.std.specs.List.{AllByRecursion}
 use Rattle.std.specs.Map.{lookup}
@@ -45,13 +45,13 @@ use Rattle.session_core.proofs.Refusing.{commit_accepted, checkpoint_accepted, n
 use Rattle.session_core.proofs.Volumes.{idle_of, shown_parts}
 use Rattle.session_core.proofs.KeptOff.{Others, SameOff, others_kept, trees_off, trees_kept, table_off}
 use Rattle.session_core.proofs.Ending.{LeavesUnits, fewer_used, rests_shown, in_first, in_second}
-use Rattle.session_core.proofs.Tracking.{tracked_put, held_settled, kept_settled, none_taken_settled}
+use Rattle.session_core.proofs.Tracking.{bits_same, kept_settled, none_taken, tracked_put}
 use Rattle.std.proofs.lemmas.List.Elements.{Contains-append_left, Contains-append_right, Contains-append_cases}
 use Rattle.std.proofs.lemmas.Bool.{cases_eq, both_ways}
 use Rattle.lru.proofs.Splits.{Contains-cons}
 use Rattle.trees.proofs.SameUnits.{Kept}
 use Rattle.volume_model.specs.SameVolume.{kept_from_reach}
-use Rattle.volume_port.specs.Logged.{LoggedSet, is_held, is_taken}
+use Rattle.volume_port.specs.Logged.{is_held}
 use Rattle.volume_port.proofs.WorkingRows.{put_other}
 use Rattle.page_alloc.specs.UnitSet.{UnitSet, used_at}
 use Rattle.op_log.specs.AfterLog.{logged}
@@ -192,7 +192,7 @@ module _ {may_leave : List ℕ → Type 0} {v : View SessionState} (shows : Show
     pub reached_before : (u : ℕ) → Contains (reach_of new_units w) u → Contains (reach_of numbered_units w) u
     reached_before u has = subst (λ (us : List ℕ). Contains ((catalog_no ∷ file_pages w) ++ us) u) new_trees has
 
-    module _ (now : List Bool) (pages : LoggedSet) (used : UnitSet) (settled : Settled later v.session.kept now v.session.pages pages v.session.units used) where
+    module _ (now : List Bool) (used : UnitSet) (settled : Settled later v.session.kept now v.session.units used) where
       tracked : IsTracked v.session.geometry later v.session.pages v.session.kept
       tracked = tracked_put v.session.geometry rows v.session.pages v.session.kept session.pages page
 
@@ -208,7 +208,7 @@ module _ {may_leave : List ℕ → Type 0} {v : View SessionState} (shows : Show
           was_kept u flag = ⊎_elim (λ (same : catalog_no ≡ u). inl (sym same)) (λ file. inr file) (Contains-cons catalog_no (file_pages d.volume) u ((shows.logged.kept u).0 flag))
 
       pub commit_leaves : (m : Machine) (s : Held) → m.scans ≡ v.machine.scans → s.scans ≡ [] → m.geometry ≡ v.machine.geometry → m.working ≡ None → m.touched ≡ 0 → s.working_pages ≡ []
-          → s.used ≡ used_at used → s.held ≡ is_held pages → s.kept ≡ is_kept now → s.taken ≡ is_taken pages → m.pages_used ≡ used_in d.geometry s.used Page → m.segs_used ≡ used_in d.geometry s.used Segment
+          → s.used ≡ used_at used → s.held ≡ is_held v.session.pages → s.kept ≡ is_kept now → s.taken ≡ (λ page. is_held v.session.pages page && not (is_kept now page)) → m.pages_used ≡ used_in d.geometry s.used Page → m.segs_used ≡ used_in d.geometry s.used Segment
           → LeavesUnits d (done.earlier ++ done.made ∷ []) w (held_view v) m s disk
       commit_leaves m s machine_scans scans geometry closed untouched no_pages used_is held_is kept_is taken_is pages_used segs_used = record {
         machine_scans = machine_scans;
@@ -221,9 +221,9 @@ module _ {may_leave : List ℕ → Type 0} {v : View SessionState} (shows : Show
         untouched = untouched;
         no_pages = no_pages;
         reached = λ u has. ap (λ (f : ℕ → Bool). f u) used_is ∙ still_used u has;
-        held = λ p. subst (λ (b : Bool). (b ≡ true) ↔ Contains (catalog_no ∷ file_pages w) p) (sym (ap (λ (f : ℕ → Bool). f p) held_is ∙ held_settled v.session.geometry later v.session.pages v.session.kept tracked now pages v.session.units used settled p)) (shows.logged.held p);
-        kept = λ p. subst (λ (b : Bool). (b ≡ true) ↔ Contains (catalog_no ∷ file_pages w) p) (sym (ap (λ (f : ℕ → Bool). f p) kept_is ∙ kept_settled v.session.geometry later v.session.pages v.session.kept tracked now pages v.session.units used settled p)) (shows.logged.held p);
-        free = λ p. ap (λ (f : ℕ → Bool). f p) taken_is ∙ none_taken_settled v.session.geometry later v.session.pages v.session.kept tracked now pages v.session.units used settled p;
+        held = λ p. subst (λ (b : Bool). (b ≡ true) ↔ Contains (catalog_no ∷ file_pages w) p) (sym (ap (λ (f : ℕ → Bool). f p) held_is)) (shows.logged.held p);
+        kept = λ p. subst (λ (b : Bool). (b ≡ true) ↔ Contains (catalog_no ∷ file_pages w) p) (sym (ap (λ (f : ℕ → Bool). f p) kept_is ∙ kept_settled v.session.geometry later v.session.pages v.session.kept tracked now v.session.units used settled p)) (shows.logged.held p);
+        free = λ p. ap (λ (f : ℕ → Bool). f p) taken_is ∙ none_taken (is_held v.session.pages p) (is_kept now p) (kept_settled v.session.geometry later v.session.pages v.session.kept tracked now v.session.units used settled p);
         no_tree = λ p file tree.
             shows.apart.no_tree p (Contains-append_right (file_pages d.volume) (file_pages shows.working) p file)
             (in_second (trees_in (units_of d v.disk) d.volume) (trees_in units shows.working) [] p (subst (λ (us : List ℕ). Contains us p) (new_trees ∙ trees_stay) tree));
@@ -268,28 +268,28 @@ commit_moments {a} {m} {b} {before} now page session world reads opened catalog 
     ]))
 
 -- the session after a commit
-abbrev pub committed_session : SessionState → LogState → Overlays → List Frames → List Bool → LoggedSet → UnitSet → SessionState
-committed_session s log meta groups kept pages units =
-    record s { log = log; meta = meta; pages = pages; kept = kept; units = units; groups = groups; notes = []; names = unmarked s.names; opened = false }
+abbrev pub committed_session : SessionState → LogState → Overlays → List Frames → List Bool → UnitSet → SessionState
+committed_session s log meta groups kept units =
+    record s { log = log; meta = meta; kept = kept; units = units; groups = groups; notes = []; names = unmarked s.names; opened = false }
 
 -- the frames after a step that wrote
 pub record FramesAfter (b : Outside) (g : Geometry) (groups : List Frames) : Type 0 where
   pub sizes : All (λ (f : Frames). f.page_size ≡ g.page_size) groups
   pub lends : All (lent.Lends b.disk) groups
 
-pub commit_steps : {a m b : Outside} {before : View SessionState} (now : ShowsNow meant a before) (page : List ℕ) (log : LogState) (meta : Overlays) (groups : List Frames) (kept : List Bool) (pages : LoggedSet) (units : UnitSet) (new : SessionState)
+pub commit_steps : {a m b : Outside} {before : View SessionState} (now : ShowsNow meant a before) (page : List ℕ) (log : LogState) (meta : Overlays) (groups : List Frames) (kept : List Bool) (units : UnitSet) (new : SessionState)
     → IsSession before.session → ReadsOnly a m → DiskOnly m b → before.session.opened ≡ true → CatalogOf page (numbered now.shows.working.catalog)
     → Commits m b before.session.log (numbered_pages before.session.meta page) (now.shows.working.catalog.last + 1) before.session.notes log meta
-    → meta.working ≡ [] → FramesAfter b before.session.geometry groups → Settled (numbered_rows page before.session.meta.working) before.session.kept kept before.session.pages pages before.session.units units
-    → committed_session before.session log meta groups kept pages units ≡ new
+    → meta.working ≡ [] → FramesAfter b before.session.geometry groups → Settled (numbered_rows page before.session.meta.working) before.session.kept kept before.session.units units
+    → committed_session before.session log meta groups kept units ≡ new
     → Stepped meant before request.Commit (reply.Commit (now.shows.working.catalog.last + 1)) new b
-commit_steps {a} {m} {b} {before} now page log meta groups kept pages units new session reads only opened catalog commits none frames settled same =
+commit_steps {a} {m} {b} {before} now page log meta groups kept units new session reads only opened catalog commits none frames settled same =
     let o = before.machine in
     let d = now.shows.decoded in
     let g = d.geometry in
     let w = committed_as now.shows.working in
     let txn = now.shows.working.catalog.last + 1 in
-    let s = committed_session before.session log meta groups kept pages units in
+    let s = committed_session before.session log meta groups kept units in
     let done = commits d before.disk w (honest_on reads.nothing.only.goes now.honest) (reads.nothing.disk ∙ now.holds) (committed_side now.shows (left_before reads now)) now.shows.overlay.pages
     (may_commit now.shows page session opened catalog) in
     let result = done.2 in
@@ -309,7 +309,7 @@ commit_steps {a} {m} {b} {before} now page log meta groups kept pages units new 
         holds = done.1;
         shows = rests_shown now.shows after (held s) (result.earlier ++ result.made ∷ []) w done.0
             (record { committed = result.committed; in_order = result.in_order; of_files = result.of_files })
-            (commit_leaves now.shows page session opened catalog txn before.session.notes b.images done.0 log meta.committed result kept pages units settled after (held s) refl refl refl refl refl none refl refl refl refl refl refl)
+            (commit_leaves now.shows page session opened catalog txn before.session.notes b.images done.0 log meta.committed result kept units settled after (held s) refl refl refl refl refl none refl refl refl refl refl refl)
             (record { geometry = now.shows.shared.geometry; notes = refl; names = ap unmarked now.shows.shared.names; group_rows = now.shows.shared.group_rows; open_txn = refl; up = now.shows.shared.up })
             rules (commits_table now.shows page ∙ sym result.table) shown_frames;
       };
@@ -373,6 +373,7 @@ checkpoint_steps {a} {b} {before} now log meta groups new only closed home stays
     let step : Step o request.Checkpoint q reply.Checkpoint o = took_place o o request.Checkpoint q reply.Checkpoint (checkpoint_accepted before q now.shows.shared.open_txn closed) refl refl (tt, λ none. absurd (cc)) in
     let idle = idle_of d (held_view before) now.shows.working o.working shut now.shows.working_shown in
     let none : meta.working ≡ [] = stays ∙ idle.0 in
+    let held_of : (p : ℕ) → (is_held before.session.pages p ≡ true) ↔ Contains (catalog_no ∷ file_pages w) p = λ p. subst (λ (x : Volume). (is_held before.session.pages p ≡ true) ↔ Contains (catalog_no ∷ file_pages x) p) idle.1 (now.shows.logged.held p) in
     let empty = no_overlay meta.committed (λ page. result.committed.shown.just page) in
     let shown_frames = frames_shown d.geometry b.disk done.0 groups done.1 (subst (λ (g : Geometry). All (λ (f : Frames). f.page_size ≡ g.page_size) groups) (session_geometry now.shows) frames.sizes) frames.lends in
     let new_units = units_of (with_records d [] w) done.0 in
@@ -403,9 +404,9 @@ checkpoint_steps {a} {b} {before} now log meta groups new only closed home stays
               untouched = now.shows.used.touched ∙ ap (λ (rows : List WorkingRow). length rows) idle.0;
               no_pages = none;
               reached = λ u has. now.shows.used.reached u (in_first (reach_of old_units w) (reach_of (working_units d before.disk before.session.meta.working) now.shows.working) [] u (subst (λ (us : List ℕ). Contains ((catalog_no ∷ file_pages w) ++ us) u) trees has));
-              held = λ p. subst (λ (x : Volume). (is_held before.session.pages p ≡ true) ↔ Contains (catalog_no ∷ file_pages x) p) idle.1 (now.shows.logged.held p);
+              held = held_of;
               kept = now.shows.logged.kept;
-              free = λ p. free p (is_taken before.session.pages p) refl idle.1;
+              free = λ p. none_taken (is_held before.session.pages p) (is_kept before.session.kept p) (bits_same (is_kept before.session.kept p) (is_held before.session.pages p) (λ flag. (held_of p).1 ((now.shows.logged.kept p).0 flag)) (λ held. (now.shows.logged.kept p).1 ((held_of p).0 held)));
               no_tree = λ p file tree. now.shows.apart.no_tree p (Contains-append_left (file_pages w) (file_pages now.shows.working) p file) (in_first (trees_in old_units w) (trees_in (working_units d before.disk before.session.meta.working) now.shows.working) [] p (subst (λ (us : List ℕ). Contains us p) trees tree));
             })
             (record { geometry = now.shows.shared.geometry; notes = now.shows.shared.notes; names = now.shows.shared.names; group_rows = now.shows.shared.group_rows; open_txn = now.shows.shared.open_txn; up = now.shows.shared.up })
@@ -413,9 +414,3 @@ checkpoint_steps {a} {b} {before} now log meta groups new only closed home stays
       };
       step = step;
     }
-  where
-    free : (p : ℕ) (b : Bool) → is_taken before.session.pages p ≡ b → now.shows.working ≡ now.shows.decoded.volume → is_taken before.session.pages p ≡ false
-    free p false is working = is
-    free p true is working =
-        let took = now.shows.logged.taken p is in
-        absurd (took.1 (Contains-append_left (catalog_no ∷ file_pages now.shows.decoded.volume) (trees_in (units_of now.shows.decoded before.disk) now.shows.decoded.volume) p (subst (λ (x : Volume). Contains (catalog_no ∷ file_pages x) p) working ((now.shows.logged.held p).0 took.0))))

@@ -1,7 +1,9 @@
 -- A view after a transaction was given up, and one without a transaction over what a commit or a checkpoint left.
-use Rattle.std.proofs.Common.{◌≡◌, ◌∙◌, ◌↔◌, ◌≤◌, ℕ, Bool, true, false, List, [], ◌∷◌, ◌++◌, length, map, None, refl, sym, ap, subst, ⊎_elim, arith}
+use Rattle.std.proofs.Common.{◌≡◌, ◌∙◌, ◌↔◌, ◌≤◌, ℕ, Bool, true, false, List, [], ◌∷◌, ◌++◌, length, map, None, nat_eq, refl, sym, ap, subst, ⊎_elim, arith}
 use Rattle.std.specs.Prelude.{Contains}
 use Rattle.std.specs.List.{AllByRecursion, AllZip, flat_map}
+use Rattle.std.specs.Map.{lookup}
+use Rattle.lru.proofs.Splits.{Contains-cons}
 use Rattle.std.proofs.lemmas.List.Elements.{Contains-append_left, Contains-append_right, Contains-append_cases}
 use Rattle.std.proofs.lemmas.Bool.{both_ways}
 use Rattle.ex_base.specs.declared.geometry.Geometry.{Geometry}
@@ -21,12 +23,12 @@ use Rattle.session_views.specs.View.{View}
 use Rattle.volume_model.specs.Committed.{Committed, IsOverlayOf, with_records}
 use Rattle.volume_model.specs.Shown.{Held, Shows, Shared, PageRow, WorkingRow, WorkingShown, IsWorkingPage, ScanShown, HeldScan, Lends, working_units, used_in, reach_of_view, trees_of_view, roots_here}
 use Rattle.volume_model.specs.Volume.{Volume, Decoded, table_of, units_of, file_pages, reach_of}
-use Rattle.volume_port.specs.Logged.{LoggedSet, is_taken}
-use Rattle.session_core.specs.Sessions.{SessionState, IsSession, OnlyGives, TakenBack, held, aborted}
+use Rattle.volume_port.specs.Logged.{LoggedSet, is_held}
+use Rattle.session_core.specs.Sessions.{SessionState, IsSession, OnlyGives, TakenBack, held, aborted, is_kept}
 use Rattle.session_core.specs.Meant.{held_view}
 use Rattle.session_core.proofs.Refusing.{free_left}
 use Rattle.session_core.proofs.Showing.{view_of, trees_in, session_geometry}
-use Rattle.session_core.proofs.Tracking.{held_back, none_taken_back}
+use Rattle.session_core.proofs.Tracking.{held_back, held_there, none_taken}
 
 -- ---- the counts
 
@@ -61,6 +63,23 @@ in_second a b c u h = Contains-append_left (a ++ b) c u (Contains-append_right a
 once : (xs : List ℕ) (u : ℕ) → Contains (xs ++ xs ++ []) u → Contains xs u
 once xs u has = ⊎_elim (λ both. ⊎_elim (λ here. here) (λ here. here) (Contains-append_cases xs xs u both)) (λ none. absurd (contains_none u none)) (Contains-append_cases (xs ++ xs) [] u has)
 
+-- ---- pages that the transaction took
+
+-- What the working state has and the committed one hasn't is none that the committed volume reaches.
+pub apart_from_reach : {may_leave : List ℕ → Type 0} {v : View SessionState} (shows : Shows may_leave (held_view v)) → IsSession v.session → (page : ℕ) → is_held v.session.pages page ≡ true → is_kept v.session.kept page ≡ false
+    → ¬ Contains (reach_of (units_of shows.decoded v.disk) shows.decoded.volume) page
+apart_from_reach {may_leave} {v} shows session page held off reached =
+    let d = shows.decoded in
+    ⊎_elim
+    (λ (file : Contains (catalog_no ∷ file_pages d.volume) page). both_ways _ off ((shows.logged.kept page).1 file))
+    (λ (tree : Contains (trees_in (units_of d v.disk) d.volume) page). ⊎_elim
+    (λ (same : catalog_no ≡ page). both_ways _ off (ap (is_kept v.session.kept) (sym same) ∙ session.pages.catalog_kept))
+    (λ (file : Contains (file_pages shows.working) page).
+    shows.apart.no_tree page (Contains-append_right (file_pages d.volume) (file_pages shows.working) page file)
+    (in_first (trees_in (units_of d v.disk) d.volume) (trees_in (working_units d v.disk v.session.meta.working) shows.working) [] page tree))
+    (Contains-cons catalog_no (file_pages shows.working) page ((shows.logged.held page).0 held)))
+    (Contains-append_cases (catalog_no ∷ file_pages d.volume) (trees_in (units_of d v.disk) d.volume) page reached)
+
 -- ---- an abort
 
 pub shows_aborted : {may_leave fewer : List ℕ → Type 0} {v : View SessionState} (shows : Shows may_leave (held_view v)) (m : Machine) (pages : LoggedSet) (units : UnitSet) → ((d : List ℕ) → fewer d → may_leave d) → IsSession v.session
@@ -77,7 +96,6 @@ shows_aborted {may_leave} {fewer} {v} shows m pages units inside session back sh
     let R = reach_of (units_of d v.disk) d.volume in
     let T = trees_in (units_of d v.disk) d.volume in
     let flags = held_back g rows v.session.pages v.session.kept session.pages pages v.session.units units back in
-    let free = none_taken_back g rows v.session.pages v.session.kept session.pages pages v.session.units units back in
     record {
       decoded = d;
       working = d.volume;
@@ -92,7 +110,7 @@ shows_aborted {may_leave} {fewer} {v} shows m pages units inside session back sh
         reached = λ unit has.
             let here : Contains R unit = once R unit has in
             let was : used_at v.session.units unit ≡ true = shows.used.reached unit (in_first R (reach_of (working_units d v.disk rows) shows.working) [] unit here) in
-            back.units.stays unit was (not_taken unit here);
+            back.units.stays unit was (λ (there, off). apart_from_reach shows session unit (held_there (lookup (nat_eq unit) rows) (session.pages.images unit) there) off here);
         pages = pages_used;
         segs = segs_used;
         touched = touched;
@@ -100,7 +118,7 @@ shows_aborted {may_leave} {fewer} {v} shows m pages units inside session back sh
       logged = record {
         held = λ page. subst (λ (b : Bool). (b ≡ true) ↔ Contains (catalog_no ∷ file_pages d.volume) page) (sym (flags page)) (shows.logged.kept page);
         kept = shows.logged.kept;
-        taken = λ page took. absurd (both_ways _ (free page) took);
+        taken = λ page took. absurd (both_ways _ (none_taken (is_held pages page) (is_kept v.session.kept page) (sym (flags page))) took);
       };
       frames = frames;
       durable = λ image left. shows.durable image (inside image left);
@@ -115,13 +133,6 @@ shows_aborted {may_leave} {fewer} {v} shows m pages units inside session back sh
   where
     twice : (xs : List ℕ) (u : ℕ) → Contains (xs ++ xs) u → Contains xs u
     twice xs u has = ⊎_elim (λ here. here) (λ here. here) (Contains-append_cases xs xs u has)
-
-    not_taken : (unit : ℕ) → Contains (reach_of (units_of shows.decoded v.disk) shows.decoded.volume) unit → is_taken v.session.pages unit ≡ false
-    not_taken unit reached = by (is_taken v.session.pages unit) refl
-      where
-        by : (b : Bool) → is_taken v.session.pages unit ≡ b → is_taken v.session.pages unit ≡ false
-        by true is = absurd ((shows.logged.taken unit is).1 reached)
-        by false is = is
 
 -- ---- no transaction, over other records
 

@@ -3,13 +3,15 @@ use Rattle.std.proofs.Common.{◌≡◌, ◌∙◌, ⊎_elim, ℕ, Bool, true, f
 use Rattle.std.specs.Prelude.{Contains, unwrap_or}
 use Rattle.std.specs.Map.{lookup}
 use Rattle.std.proofs.lemmas.Bool.{both_ways}
+use Rattle.std.proofs.lemmas.List.Elements.{Contains-append_cases, Contains-append_right}
+use Rattle.lru.proofs.Splits.{Contains-cons}
 use Rattle.ex_base.specs.declared.geometry.Geometry.{Geometry}
 use Rattle.ex_base.specs.declared.ground.Ground as ground
 use Rattle.ex_base.specs.declared.names.Root.{Root}
 use Rattle.ex_base.specs.Area.{InPageArea, catalog_no}
 use Rattle.disk_model.specs.Outside.{Outside}
 use Rattle.buffer_groups.specs.Frames.{Frames, Lends}
-use Rattle.meta_pages.specs.Overlays.{AreRows, image_at}
+use Rattle.meta_pages.specs.Overlays.{AreRows, Overlays, image_at}
 use Rattle.page_alloc.specs.UnitSet.{free_count, used_at}
 use Rattle.trees.specs.Trees.{Units}
 use Rattle.tree_store.specs.Stored.{NoUnit, Tells, unit_bytes}
@@ -23,18 +25,18 @@ use Rattle.session_views.specs.View.{View, ShowsNow}
 use Rattle.version_model.specs.Versions.{AreInUse}
 use Rattle.volume_edits.specs.Edits.{trees_of}
 use Rattle.volume_edits.specs.Ported.{IsApart, IsVolume, units_in}
-use Rattle.volume_model.specs.Shown.{working_units}
+use Rattle.volume_model.specs.Shown.{PageRow, working_units}
 use Rattle.volume_model.specs.Volume.{Decoded, Volume, file_pages, reach_of, roots_in, stored_in, table_of, units_of}
-use Rattle.volume_port.specs.Logged.{is_held}
-use Rattle.volume_port.specs.Ported.{IsFixed, image_over}
-use Rattle.volume_port.specs.Stays.{StillCommitted}
+use Rattle.volume_port.specs.Logged.{LoggedSet, is_held}
+use Rattle.volume_port.specs.Ported.{image_over}
+use Rattle.volume_port.specs.Stays.{ReachIsOf, StaysUsed, StillCommitted}
 use Rattle.session_core.specs.Finding.{IsPortOf, PortShows}
 use Rattle.session_core.specs.Meant.{meant}
-use Rattle.session_core.specs.Sessions.{SessionState, IsSession}
+use Rattle.session_core.specs.Sessions.{SessionState, IsSession, is_kept}
 use Rattle.session_core.specs.Counts.{free_in}
-use Rattle.session_core.specs.Updates.{HasPortParts, HoldsTable, KeepsRest, Moved, PortParts, parts_held}
+use Rattle.session_core.specs.Updates.{HasPortParts, HoldsSwept, KeepsSwept, Moved, PortParts, WasSwept, parts_held}
 use Rattle.session_core.proofs.Bridge.{image_is, image_shown, kept_page, no_image, shows_volume, table_is, volume_kept}
-use Rattle.session_core.proofs.Ending.{in_second}
+use Rattle.session_core.proofs.Ending.{apart_from_reach, in_second}
 use Rattle.session_core.proofs.Finding.{shown_tells}
 use Rattle.session_core.proofs.KeptOff.{trees_kept}
 use Rattle.session_core.proofs.Ruling.{image_most, volume_rules}
@@ -83,7 +85,7 @@ module _ {S : Type 0} (g : ground.Ghosts S) (s : S) {a : Outside} {before : View
 
   -- ---- after it
 
-  module _ (t : S) {b : Outside} (p : PortParts) (moved : Moved a b before.session.geometry (parts_held before.session) p) (later_over : IsPortWith g t before.session.geometry b.disk p) where
+  module _ (t : S) {b : Outside} (p : PortParts) (moved : Moved NoUnit a b before.session.geometry (parts_held before.session) p) (later_over : IsPortWith g t before.session.geometry b.disk p) where
     pub in_use_after : AreInUse g t
     in_use_after page held =
         ap (λ (f : ℕ → Bool). f page) later_over.used ∙ moved.ready.in_use page (sym (ap (λ (f : ℕ → Bool). f page) later_over.held) ∙ held)
@@ -111,10 +113,10 @@ module _ {S : Type 0} (g : ground.Ghosts S) (s : S) {a : Outside} {before : View
       first = record before.session { units = p.units; groups = p.groups; meta = p.meta; pages = p.pages; room = p.room }
 
       abbrev Still : List ℕ → PortParts → Type 0
-      Still later q = StillCommitted (IsSettled before.session) (IsFixed NoUnit (used_at q.units) q.pages) d before.disk b.images later before.session.log q.meta.committed
+      Still later q = StillCommitted (IsSettled before.session) (StaysUsed NoUnit (used_at q.units)) d before.disk b.images later before.session.log q.meta.committed
 
       stays : (later : List ℕ) × ((b.disk ≡ Some later) × Still later p)
-      stays = update_stays now session first moved.changes moved.fixed moved.committed
+      stays = update_stays now session first moved.changes (λ unit (is, apart). (moved.used unit is apart, apart)) moved.committed
 
       abbrev later : List ℕ
       later = stays.0
@@ -122,22 +124,60 @@ module _ {S : Type 0} (g : ground.Ghosts S) (s : S) {a : Outside} {before : View
       free_before : (u : ℕ) → g.used s u ≡ false → used_at before.session.units u ≡ false
       free_before u free = sym (ap (λ (f : ℕ → Bool). f u) over.used) ∙ free
 
-      port_after : (new : SessionState) → KeepsRest before.session new p → IsPortWith g t new.geometry b.disk (parts_held new)
-      port_after new rest = subst (λ (h : Geometry). IsPortWith g t h b.disk (parts_held new)) (sym rest.geometry) (subst (λ (q : PortParts). IsPortWith g t before.session.geometry b.disk q) (sym rest.parts) later_over)
-
-      leaves : (new : SessionState) → KeepsRest before.session new p → LeavesVolume g t b d working before new becomes.now later
-      leaves new rest =
-          let whole = port_after new rest in
+      port_after : (new : SessionState) → KeepsSwept before.session new p → IsPortOf g t new b.disk
+      port_after new rest =
+          let meta : new.meta ≡ p.meta = ap (λ (q : PortParts). q.meta) rest.parts in
+          let pages : new.pages ≡ p.pages = ap (λ (q : PortParts). q.pages) rest.parts in
           record {
-            port = port_of g t new b.disk whole;
-            used = whole.used;
+            geometry = later_over.geometry_is ∙ sym rest.geometry;
+            unit = later_over.unit ∙ ap (λ (h : Geometry). unit_bytes h b.disk) (sym rest.geometry);
+            image =
+                later_over.image ∙ ap (λ (h : Geometry). image_over h p.meta (unit_bytes h b.disk)) (sym rest.geometry)
+                ∙ ap (λ (m : Overlays). image_over new.geometry m (unit_bytes new.geometry b.disk)) (sym meta);
+            held = later_over.held ∙ ap (λ (k : LoggedSet). is_held k) (sym pages);
+          }
+
+      held_after : (page : ℕ) → Contains (catalog_no ∷ file_pages becomes.now) page → is_held p.pages page ≡ true
+      held_after page file = sym (ap (λ (f : ℕ → Bool). f page) later_over.held) ∙ (becomes.volume.shows.held page).1 file
+
+      -- what was a page before and isn't the committed state's lies in no tree
+      no_tree_after : (u : ℕ) → is_held before.session.pages u ≡ true → is_kept before.session.kept u ≡ false → ¬ Contains (trees_of (units_in g t) becomes.now) u
+      no_tree_after u there off tree = ⊎_elim
+          (λ (was : Contains (trees_of (units_in g s) working) u). ⊎_elim
+          (λ (same : catalog_no ≡ u). both_ways _ off (ap (is_kept before.session.kept) (sym same) ∙ session.pages.catalog_kept))
+          (λ (file : Contains (file_pages working) u).
+          now.shows.apart.no_tree u (Contains-append_right (file_pages d.volume) (file_pages working) u file)
+          (in_second (trees_in (units_of d before.disk) d.volume) (trees_in O working) [] u (subst (λ (us : List ℕ). Contains us u) trees_before was)))
+          (Contains-cons catalog_no (file_pages working) u ((now.shows.logged.held u).0 there)))
+          (λ free. both_ways _ (free_before u free) (session.in_use.working u there))
+          (becomes.units u tree)
+
+      not_swept : (u : ℕ) → Contains (reach_of (units_in g t) becomes.now) u → WasSwept before.session.kept (parts_held before.session) p u → ⊥
+      not_swept u has (there, gone, off) = ⊎_elim
+          (λ (file : Contains (catalog_no ∷ file_pages becomes.now) u). both_ways _ gone (held_after u file))
+          (λ (tree : Contains (trees_of (units_in g t) becomes.now) u). no_tree_after u there off tree)
+          (Contains-append_cases (catalog_no ∷ file_pages becomes.now) (trees_of (units_in g t) becomes.now) u has)
+
+      leaves : (new : SessionState) → KeepsSwept before.session new p → LeavesVolume g t b d working before new becomes.now later
+      leaves new rest =
+          let still = stays.1.1 in
+          let committed : new.meta.committed ≡ p.meta.committed = ap (λ (q : PortParts). q.meta.committed) rest.parts in
+          let reached : ReachIsOf (IsSettled new) d later = λ unit reached. (
+            rest.units.stays unit (still.reached unit reached).0
+                (λ (there, gone, off). apart_from_reach now.shows session unit there off (subst (λ (us : List ℕ). Contains us unit) still.reach reached)),
+            λ none. none,
+          ) in
+          record {
+            port = port_after new rest;
+            used = λ u has. rest.units.stays u (sym (ap (λ (f : ℕ → Bool). f u) later_over.used) ∙ becomes.volume.used u has) (not_swept u has);
             volume = becomes.volume;
             pages = λ page has. ⊎_elim (λ was. inl was) (λ free. inr (free_before page free)) (becomes.pages page has);
             units = λ u has. ⊎_elim (λ was. inl (subst (λ (us : List ℕ). Contains us u) trees_before was)) (λ free. inr (free_before u free)) (becomes.units u has);
             holds = stays.1.0;
-            lends = subst (λ (q : PortParts). All (Lends b.disk) q.groups) (sym rest.parts) (moved.told tells).2;
-            still = subst (λ (q : PortParts). Still later q) (sym rest.parts) stays.1.1;
-            committed = ap (λ (q : PortParts). q.meta.committed) rest.parts ∙ moved.committed;
+            lends = subst (λ (fs : List Frames). All (Lends b.disk) fs) (sym (ap (λ (q : PortParts). q.groups) rest.parts)) (moved.told tells).2;
+            still = subst (λ (overlay : List PageRow). StillCommitted (IsSettled before.session) (IsSettled new) d before.disk b.images later before.session.log overlay) (sym committed)
+                (record { committed = still.committed; units = still.units; reach = still.reach; table = still.table; reached = reached });
+            committed = committed ∙ moved.committed;
             kept = rest.kept;
             log = rest.log;
             geometry = rest.geometry;
@@ -158,8 +198,8 @@ module _ {S : Type 0} (g : ground.Ghosts S) (s : S) {a : Outside} {before : View
           (subst (λ (kept : Table). IsTable (g.geometry t) kept) becomes.shows
           (volume_rules g t ready told_later d.records becomes.now (catalog_lies (g.geometry t)) catalog_fits becomes.volume.shows))
 
-      pub holds_table : HoldsTable before b p table
-      holds_table = record {
+      pub holds_swept : HoldsSwept before b p table
+      holds_swept = record {
         later = later;
         holds = stays.1.0;
         rules = rules_kept;
@@ -212,16 +252,16 @@ module _ {S : Type 0} (g : ground.Ghosts S) (s : S) {a : Outside} (geometry : Ge
     never_shown never before has now asked =
         never now.shows.decoded.records now.shows.working (own_tells has now) (is_volume g s now has.is (own_over has now)) (subst (asks now.shows.working) (same_table has now) asked)
 
-    module _ (t : S) (ready : g.ready s) (leads : g.leads s t) {b : Outside} (new : PortParts) (moved : Moved a b geometry old new) (later_over : IsPortWith g t geometry b.disk new) (rows : AreRows new.meta) (after : Table → Table) (gone come : Option Root) where
+    module _ (t : S) (ready : g.ready s) (leads : g.leads s t) {b : Outside} (new : PortParts) (moved : Moved NoUnit a b geometry old new) (later_over : IsPortWith g t geometry b.disk new) (rows : AreRows new.meta) (after : Table → Table) (gone come : Option Root) where
       -- where it becomes a volume with another table, the parts hold that table
       pub update_holds : ((records : List LogRecord) (v : Volume) → g.tells s → IsVolume g s records v → asks v (table_of (units_in g s) v) → IsApart g t → AreInUse g t → BecomesVolume g s t records v (after (table_of (units_in g s) v)) gone come)
-          → (before : View SessionState) → HasPortParts before.session geometry old → (now : ShowsNow meant a before) → asks now.shows.working (shown before.machine) → HoldsTable before b new (after (shown before.machine))
+          → (before : View SessionState) → HasPortParts before.session geometry old → (now : ShowsNow meant a before) → asks now.shows.working (shown before.machine) → HoldsSwept before b new (after (shown before.machine))
       update_holds becomes before has now asked =
           let own = own_over has now in
-          let moves = subst (λ (h : Geometry). Moved a b h (parts_held before.session) new) (sym has.geometry) (subst (λ (p : PortParts). Moved a b geometry p new) (sym has.parts) moved) in
+          let moves = subst (λ (h : Geometry). Moved NoUnit a b h (parts_held before.session) new) (sym has.geometry) (subst (λ (p : PortParts). Moved NoUnit a b geometry p new) (sym has.parts) moved) in
           let later = subst (λ (h : Geometry). IsPortWith g t h b.disk new) (sym has.geometry) later_over in
           let same = same_table has now in
-          holds_table g s now has.is own t new moves later (g.leads_ready s t leads ready) (g.leads_told s t leads (own_tells has now)) rows (after (shown before.machine)) gone come
+          holds_swept g s now has.is own t new moves later (g.leads_ready s t leads ready) (g.leads_told s t leads (own_tells has now)) rows (after (shown before.machine)) gone come
           (subst (λ (table : Table). BecomesVolume g s t now.shows.decoded.records now.shows.working (after table) gone come) (sym same)
           (becomes now.shows.decoded.records now.shows.working (own_tells has now) (is_volume g s now has.is own) (subst (asks now.shows.working) same asked)
           (apart_after g s now has.is own t new moves later) (in_use_after g s now has.is own t new moves later)))

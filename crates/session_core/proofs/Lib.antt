@@ -23,6 +23,7 @@ mod Roomed
 mod Ruling
 pub mod Sessions
 mod Settling
+mod Sweeping
 mod Shaping
 pub mod Showing
 mod Summing

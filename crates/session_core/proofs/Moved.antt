@@ -25,7 +25,7 @@ use Rattle.session_views.specs.View.{View, ShowsNow, StandsDuring}
 use Rattle.session_core.specs.Meant.{meant}
 use Rattle.session_core.proofs.Updating.{update_moments}
 use Rattle.session_core.specs.declared.updates.Done.{Done}
-use Rattle.session_core.specs.Updates.{AreReady, HasPortParts, Moved, PortParts, WritesLoose, note_done, note_with, parts_held}
+use Rattle.session_core.specs.Updates.{AreReady, HasPortParts, Moved, PortParts, WasSwept, WritesLoose, note_done, note_with, parts_held}
 use Rattle.ex_base.specs.Area.{catalog_no}
 use Rattle.object_files.specs.Catalog.{Catalog, CatalogOf}
 use Rattle.object_files.specs.Edits.{IsCatalogPage}
@@ -41,38 +41,32 @@ session_ready s size is room = record {
   fits = record { group = is.main; disk = room; frames = is.sizes; behind = is.behind; counted = is.units };
   overlay = is.meta;
   held_len = is.pages.held_len;
-  taken_len = is.pages.taken_len;
   room_len = is.room;
   catalog = is.pages.catalog;
   in_use = is.in_use.working;
   images = is.pages.images;
   gone = is.pages.gone;
-  taken = is.pages.taken;
-  there = is.pages.there;
 }
 
 -- the session with the parts that a port left
 abbrev pub moved_to : SessionState → PortParts → SessionState
 moved_to s p = record s { units = p.units; groups = p.groups; meta = p.meta; pages = p.pages; room = p.room }
 
-module _ {a b : Outside} (s : SessionState) (p : PortParts) (is : IsSession s) (moved : Moved a b s.geometry (parts_held s) p) where
+module _ {a b : Outside} (s : SessionState) (p : PortParts) (is : IsSession s) (moved : Moved (WasSwept s.kept (parts_held s) p) a b s.geometry (parts_held s) p) where
   pub tracked_moved : IsTracked s.geometry p.meta.working p.pages s.kept
   tracked_moved = record {
     held_len = moved.ready.held_len;
-    taken_len = moved.ready.taken_len;
     kept_len = is.pages.kept_len;
     catalog = moved.ready.catalog;
     catalog_kept = is.pages.catalog_kept;
     images = moved.ready.images;
     gone = moved.ready.gone;
-    taken = moved.ready.taken;
-    there = moved.ready.there;
     known = λ page flag. ⊎_elim (λ there. inl there) (λ off. inr (moved.given_back page (is.pages.known page flag) off)) (cases_Bool (is_held p.pages page));
     untouched = λ page held none. let was = moved.untouched page (held, none) in is.pages.untouched page was.0 was.1;
   }
 
   used_moved : ArePagesUsed (used_at p.units) p.pages s.kept
-  used_moved = record { working = moved.ready.in_use; committed = λ page flag. moved.fixed page (is.in_use.committed page flag) }
+  used_moved = record { working = moved.ready.in_use; committed = λ page flag. moved.used page (is.in_use.committed page flag) (λ (there, gone, off). both_ways _ off flag) }
 
   logged_moved : IsLogged s.log p.meta
   logged_moved =
@@ -196,7 +190,7 @@ has_seen s now before seen same is =
     record { is = subst IsSession here is; geometry = ap (λ (t : SessionState). t.geometry) (sym here); parts = ap parts_held (sym here) }
 
 -- given up, as the code comes to it: these notes are those of before
-pub given_up_as : {a b : Outside} (s : SessionState) (p : PortParts) → IsSession s → Moved a b s.geometry (parts_held s) p → (room : List ℕ) → length room ≡ length p.room
+pub given_up_as : {a b : Outside} (s : SessionState) (p : PortParts) → IsSession s → Moved (WasSwept s.kept (parts_held s) p) a b s.geometry (parts_held s) p → (room : List ℕ) → length room ≡ length p.room
     → (inside : SessionState) → inside ≡ record (moved_to s p) { room = room } → (meta : Overlays) (pages : LoggedSet) (units : UnitSet) → meta ≡ record inside.meta { working = [] }
     → TakenBack inside.meta.working inside.kept inside.pages pages inside.units units → IsSession (record inside { meta = meta; pages = pages; units = units; opened = false })
 given_up_as {a} {b} s p is moved room long inside same meta pages units none back =

@@ -10,7 +10,7 @@ use Rattle.meta_pages.specs.Overlays.{Overlays}
 use Rattle.page_alloc.specs.UnitSet.{UnitSet, used_at}
 use Rattle.tree_store.specs.Stored.{Fits, Frees, NoUnit}
 use Rattle.volume_port.specs.Logged.{LoggedSet}
-use Rattle.volume_port.specs.Ported.{IsFixed, IsLoose, IsReady, IsUsed, Moves}
+use Rattle.volume_port.specs.Ported.{IsReady, IsUsed, Moves}
 use Rattle.session_core.specs.Updates.{AreReady, Moved, PortParts}
 
 abbrev pub parts : UnitSet → List Frames → Overlays → LoggedSet → List ℕ → PortParts
@@ -23,14 +23,11 @@ module _ {S : Type 0} (g : ground.Ghosts S) where
     ready = is;
     overlay = are.overlay ∙ sym same;
     held_len = are.held_len ∙ ap area_end (sym same);
-    taken_len = are.taken_len ∙ ap area_end (sym same);
     room_len = are.room_len ∙ ap (λ (h : Geometry). h.page_size) (sym same);
     catalog = are.catalog;
     in_use = λ page. subst (λ (us : ℕ → _). IsUsed us p.pages page) (sym used) (are.in_use page);
     images = are.images;
     gone = are.gone;
-    taken = are.taken;
-    there = are.there;
   }
 
   pub are_ready : (store : S) (geometry : Geometry) (size : ℕ) (p : PortParts) → g.geometry store ≡ geometry → g.used store ≡ used_at p.units → Fits geometry size p.groups 0 p.units
@@ -39,25 +36,22 @@ module _ {S : Type 0} (g : ground.Ghosts S) where
     fits = fits;
     overlay = is.overlay ∙ same;
     held_len = is.held_len ∙ ap area_end same;
-    taken_len = is.taken_len ∙ ap area_end same;
     room_len = is.room_len ∙ ap (λ (h : Geometry). h.page_size) same;
     catalog = is.catalog;
     in_use = λ page. subst (λ (us : ℕ → _). IsUsed us p.pages page) used (is.in_use page);
     images = is.images;
     gone = is.gone;
-    taken = is.taken;
-    there = is.there;
   }
 
   -- a port moves its parts
   pub parts_moved : {D : Type 0} (outside : D → Outside) (a b : S) (d e : MutBor D) (u v : MutBor UnitSet) (f h : MutBor (List Frames)) (i j : ℕ) (x y : Geometry)
       (m n : MutBor Overlays) (k l : MutBor LoggedSet) (r t : MutBor (List ℕ)) → i ≡ 0 → g.used a ≡ used_at u.now → g.used b ≡ used_at v.now → g.geometry a ≡ x → g.geometry b ≡ y → g.ready a
-      → AreReady x (outside d.now).size (parts u.now f.now m.now k.now r.now) → Moves g NoUnit a b m n k l r t → Frees outside (IsLoose NoUnit (used_at u.now) k.now) d e u v f h i j x y
-      → Moved (outside d.now) (outside e.now) x (parts u.now f.now m.now k.now r.now) (parts v.now h.now n.now l.now t.now)
+      → AreReady x (outside d.now).size (parts u.now f.now m.now k.now r.now) → Moves g NoUnit a b m n k l r t → Frees outside NoUnit d e u v f h i j x y
+      → Moved NoUnit (outside d.now) (outside e.now) x (parts u.now f.now m.now k.now r.now) (parts v.now h.now n.now l.now t.now)
   parts_moved outside a b d e u v f h i j x y m n k l r t main was is at now ready are moves frees = record {
     changes = frees.changes;
     told = frees.told;
-    fixed = λ unit fixed. subst (λ (used : ℕ → _). IsFixed NoUnit used l.now unit) is (moves.fixed unit (subst (λ (used : ℕ → _). IsFixed NoUnit used k.now unit) (sym was) fixed));
+    used = frees.used;
     given_back = moves.given_back;
     untouched = moves.untouched;
     committed = moves.committed;
@@ -70,13 +64,13 @@ module _ {S : Type 0} (g : ground.Ghosts S) where
   }
 
 -- as the parts are before and after the borrow
-pub moved_at : {D : Type 0} (outside : D → Outside) (before a b after : D) (g h : Geometry) (old x y new : PortParts) → before ≡ a → after ≡ b → g ≡ h → old ≡ x → new ≡ y → Moved (outside a) (outside b) h x y → Moved (outside before) (outside after) g old new
+pub moved_at : {D : Type 0} (outside : D → Outside) (before a b after : D) (g h : Geometry) (old x y new : PortParts) → before ≡ a → after ≡ b → g ≡ h → old ≡ x → new ≡ y → Moved NoUnit (outside a) (outside b) h x y → Moved NoUnit (outside before) (outside after) g old new
 moved_at outside before a b after g h old x y new one two three four five moved =
-    subst (λ d. Moved (outside d) (outside after) g old new) (sym one)
-    (subst (λ d. Moved (outside a) (outside d) g old new) (sym two)
-    (subst (λ (k : Geometry). Moved (outside a) (outside b) k old new) (sym three)
-    (subst (λ (p : PortParts). Moved (outside a) (outside b) h p new) (sym four)
-    (subst (λ (p : PortParts). Moved (outside a) (outside b) h x p) (sym five) moved))))
+    subst (λ d. Moved NoUnit (outside d) (outside after) g old new) (sym one)
+    (subst (λ d. Moved NoUnit (outside a) (outside d) g old new) (sym two)
+    (subst (λ (k : Geometry). Moved NoUnit (outside a) (outside b) k old new) (sym three)
+    (subst (λ (p : PortParts). Moved NoUnit (outside a) (outside b) h p new) (sym four)
+    (subst (λ (p : PortParts). Moved NoUnit (outside a) (outside b) h x p) (sym five) moved))))
 
 pub ready_at : {D : Type 0} (outside : D → Outside) (before a : D) (g h : Geometry) (old x : PortParts) → before ≡ a → g ≡ h → old ≡ x → AreReady g (outside before).size old → AreReady h (outside a).size x
 ready_at outside before a g h old x one three four are =

@@ -12,21 +12,21 @@ use Rattle.session_core.specs.Performed.{IsUpdate}
 use Rattle.session_core.specs.TableUpdates.{Asks, HasRoom, TableUpdate, Updates, updated}
 use Rattle.table_model.specs.declared.table.Table.{Table}
 use Rattle.table_model.specs.Machines.{shown}
-use Rattle.tree_store.specs.Stored.{Tells}
+use Rattle.tree_store.specs.Stored.{NoUnit, Tells}
 use Rattle.volume_model.specs.Volume.{Volume}
-use Rattle.session_core.specs.Updates.{HasRoomFor, HoldsTable, IfAsked, Moved, PortParts}
+use Rattle.session_core.specs.Updates.{HasRoomFor, HoldsSwept, IfAsked, Moved, PortParts}
 use Rattle.session_core.proofs.Holding.{IsPortWith, never_shown, own_free, own_shows, update_holds}
 use Rattle.session_core.proofs.Roomed.{has_room}
 
 module _ {S : Type 0} (g : ground.Ghosts S) (s t : S) (update : ObjectUpdate) (result : Result Done PortFault) (does : (u : TableUpdate) → IsUpdate update u → Updates g s t u result) (ready : g.ready s)
     (a : Outside) (geometry : Geometry) (old : PortParts) (over : IsPortWith g s geometry a.disk old) (told : Tells a old.groups → g.tells s) where
   -- the parts that it leaves hold the table that it makes
-  pub performed_shown : g.leads s t → {b : Outside} (new : PortParts) → Moved a b geometry old new → IsPortWith g t geometry b.disk new
-      → IfOk result (λ done. IfAsked a geometry old update (λ before u. AreRows new.meta → HoldsTable before b new (updated u done.oid (shown before.machine))))
+  pub performed_shown : g.leads s t → {b : Outside} (new : PortParts) → Moved NoUnit a b geometry old new → IsPortWith g t geometry b.disk new
+      → IfOk result (λ done. IfAsked a geometry old update (λ before u. AreRows new.meta → HoldsSwept before b new (updated u done.oid (shown before.machine))))
   performed_shown leads {b} new moved later = by result does
     where
       by : (r : Result Done PortFault) → ((u : TableUpdate) → IsUpdate update u → Updates g s t u r)
-          → IfOk r (λ done. IfAsked a geometry old update (λ before u. AreRows new.meta → HoldsTable before b new (updated u done.oid (shown before.machine))))
+          → IfOk r (λ done. IfAsked a geometry old update (λ before u. AreRows new.meta → HoldsSwept before b new (updated u done.oid (shown before.machine))))
       by (Err fault) does = tt
       by (Ok done) does = λ before has now u is asked rows. update_holds g s geometry old over told (Asks u) t ready leads new moved later rows (updated u done.oid) done.gone done.come (does u is).done before has now asked
 

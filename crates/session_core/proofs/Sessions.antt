@@ -154,7 +154,7 @@ ready s meta page is opened same = subst (λ (m : Overlays). ReadyToCommit s m) 
 })
 
 -- what a commit leaves of the log, the overlay, the frames and the logged pages
-pub record LeftByCommit (s : SessionState) (edited : Overlays) (log : LogState) (meta : Overlays) (groups later : List Frames) (kept : List Bool) (pages : LoggedSet) (units : UnitSet) : Type 0 where
+pub record LeftByCommit (s : SessionState) (edited : Overlays) (log : LogState) (meta : Overlays) (groups later : List Frames) (kept : List Bool) (units : UnitSet) : Type 0 where
   pub edit : edited.geometry ≡ s.meta.geometry
   pub log_is : log.geometry ≡ s.log.geometry
   pub meta_is : meta.geometry ≡ edited.geometry
@@ -163,22 +163,22 @@ pub record LeftByCommit (s : SessionState) (edited : Overlays) (log : LogState) 
   pub logged : IsLogged log meta
   pub behind : AreBehindLog groups → AreBehindLog later
   pub none : meta.working ≡ []
-  pub settled : Settled edited.working s.kept kept s.pages pages s.units units
+  pub settled : Settled edited.working s.kept kept s.units units
 
-pub after_commit : (s : SessionState) (edited : Overlays) (page : List ℕ) (log : LogState) (meta : Overlays) (later : List Frames) (kept : List Bool) (pages : LoggedSet) (units : UnitSet) (notes : List OpNote) (names : List BoundName) → IsSession s
-    → edited ≡ record s.meta { working = with_row catalog_no (Some page) s.meta.working } → LeftByCommit s edited log meta s.groups later kept pages units
+pub after_commit : (s : SessionState) (edited : Overlays) (page : List ℕ) (log : LogState) (meta : Overlays) (later : List Frames) (kept : List Bool) (units : UnitSet) (notes : List OpNote) (names : List BoundName) → IsSession s
+    → edited ≡ record s.meta { working = with_row catalog_no (Some page) s.meta.working } → LeftByCommit s edited log meta s.groups later kept units
     → length notes ≤ updates_most → AllByRecursion IsNote notes
-    → IsSession (record s { log = log; meta = meta; pages = pages; kept = kept; units = units; groups = later; notes = notes; names = names; opened = false })
-after_commit s edited page log meta later kept pages units notes names is same left few each =
+    → IsSession (record s { log = log; meta = meta; kept = kept; units = units; groups = later; notes = notes; names = names; opened = false })
+after_commit s edited page log meta later kept units notes names is same left few each =
     let rows = with_row catalog_no (Some page) s.meta.working in
-    let settled = subst (λ (o : Overlays). Settled o.working s.kept kept s.pages pages s.units units) same left.settled in
-    let tracked = tracked_settled s.geometry rows s.pages s.kept (tracked_put s.geometry s.meta.working s.pages s.kept is.pages page) kept pages s.units units settled in
+    let settled = subst (λ (o : Overlays). Settled o.working s.kept kept s.units units) same left.settled in
+    let tracked = tracked_settled s.geometry rows s.pages s.kept (tracked_put s.geometry s.meta.working s.pages s.kept is.pages page) kept s.units units settled in
     record {
       log = left.log_is ∙ is.log;
       meta = left.meta_is ∙ left.edit ∙ is.meta;
       units = counted_gives s.geometry _ s.units units is.units settled.units;
-      pages = subst (λ (none : List WorkingRow). IsTracked s.geometry none pages kept) (sym left.none) tracked;
-      in_use = used_settled s.geometry rows s.pages s.kept (tracked_put s.geometry s.meta.working s.pages s.kept is.pages page) kept pages s.units units settled is.in_use;
+      pages = subst (λ (none : List WorkingRow). IsTracked s.geometry none s.pages kept) (sym left.none) tracked;
+      in_use = used_settled s.geometry rows s.pages s.kept (tracked_put s.geometry s.meta.working s.pages s.kept is.pages page) kept s.units units settled is.in_use;
       room = is.room;
       sizes = subst (λ (g : Geometry). All (λ (f : Frames). f.page_size ≡ g.page_size) later) (left.edit ∙ is.meta) left.sizes;
       main = omega (arith, is.main, left.len);

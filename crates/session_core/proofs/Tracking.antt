@@ -1,7 +1,7 @@
 -- The flags of a session's logged pages go on being those of its pages.
-use Rattle.std.proofs.Common.{◌≡◌, ◌≢◌, ◌∙◌, ℕ, Bool, true, false, List, [], Option, Some, None, IsSome, nat_eq, refl, sym, ap, subst, inl, inr, ⊎_elim, arith}
+use Rattle.std.proofs.Common.{◌≡◌, ◌≢◌, ◌∙◌, ℕ, Bool, true, false, not, ◌&&◌, List, [], Option, Some, None, nat_eq, refl, sym, ap, inl, inr, ⊎_elim, arith}
 use Rattle.std.specs.Map.{lookup}
-use Rattle.std.proofs.lemmas.Bool.{cases_Bool, cases_eq, both_ways}
+use Rattle.std.proofs.lemmas.Bool.{cases_eq, both_ways}
 use Rattle.ex_base.specs.declared.geometry.Geometry.{Geometry}
 use Rattle.ex_base.specs.Area.{catalog_no}
 use Rattle.ex_base.proofs.Options.{some_apart_inside}
@@ -9,9 +9,9 @@ use Rattle.meta_pages.specs.Rows.{with_row}
 use Rattle.page_alloc.specs.UnitSet.{UnitSet, refs_at, used_at}
 use Rattle.tree_store.specs.Stored.{IsCounted}
 use Rattle.volume_model.specs.Shown.{WorkingRow}
-use Rattle.volume_port.specs.Logged.{LoggedSet, is_held, is_taken}
-use Rattle.volume_port.proofs.WorkingRows.{put_here, put_other, put_touches}
-use Rattle.session_core.specs.Sessions.{ArePagesUsed, IsTracked, OnlyGives, Settled, TakenBack, is_kept}
+use Rattle.volume_port.specs.Logged.{LoggedSet, is_held}
+use Rattle.volume_port.proofs.WorkingRows.{put_here, put_other}
+use Rattle.session_core.specs.Sessions.{ArePagesUsed, IsTracked, OnlyGives, Settled, TakenBack, is_kept, is_there}
 
 some_none : (x : Option (List ℕ)) → Some x ≡ None → ⊥
 some_none x e = cc
@@ -21,8 +21,23 @@ bits_same true b f g = sym (f refl)
 bits_same false true f g = absurd (cc (g refl))
 bits_same false false f g = refl
 
-none_some : {A : Type 0} (o : Option A) → o ≡ None → IsSome o → ⊥
-none_some {A} o is some = (let here : IsSome {T = A} None = subst (λ (x : Option A). IsSome x) is some in cc)
+-- no page was taken where the working state has those of the committed one
+pub none_taken : (held kept : Bool) → kept ≡ held → (held && not kept) ≡ false
+none_taken true true same = refl
+none_taken false kept same = refl
+none_taken true false same = absurd (cc)
+
+-- what was taken is there, and the committed state hasn't it
+pub taken_is : (held kept : Bool) → (held && not kept) ≡ true → (held ≡ true) × (kept ≡ false)
+taken_is true false took = (refl, refl)
+taken_is true true took = absurd (cc)
+taken_is false kept took = absurd (cc)
+
+-- what holds of each page with an image holds of a touched page that is there
+pub held_there : {P : Type 0} (row : Option (Option (List ℕ))) → ((image : List ℕ) → row ≡ Some (Some image) → P) → is_there row ≡ true → P
+held_there None held there = absurd (cc)
+held_there (Some None) held there = absurd (cc)
+held_there (Some (Some image)) held there = held image refl
 
 -- a row, or none, or one that was given back
 pub data RowOf (o : Option (Option (List ℕ))) : Type 0 where
@@ -40,7 +55,6 @@ module _ (g : Geometry) (rows : List WorkingRow) (pages : LoggedSet) (kept : Lis
   pub tracked_put : (page : List ℕ) → IsTracked g (with_row catalog_no (Some page) rows) pages kept
   tracked_put page = record {
     held_len = is.held_len;
-    taken_len = is.taken_len;
     kept_len = is.kept_len;
     catalog = is.catalog;
     catalog_kept = is.catalog_kept;
@@ -50,8 +64,6 @@ module _ (g : Geometry) (rows : List WorkingRow) (pages : LoggedSet) (kept : Lis
     gone = λ p has. ⊎_elim
         (λ (same : p ≡ catalog_no). absurd (some_apart_inside page (sym (put_here catalog_no (Some page) rows) ∙ ap (λ (q : ℕ). lookup (nat_eq q) (with_row catalog_no (Some page) rows)) (sym same) ∙ has)))
         (λ (differ : p ≢ catalog_no). is.gone p (sym (put_other catalog_no (Some page) rows p (λ e. differ (sym e))) ∙ has)) (cases_eq p catalog_no);
-    taken = λ p took. put_touches catalog_no (Some page) rows p (is.taken p took);
-    there = is.there;
     known = λ p flag. ⊎_elim
         (λ (same : p ≡ catalog_no). inl (ap (is_held pages) same ∙ is.catalog))
         (λ (differ : p ≢ catalog_no). ⊎_elim (λ held. inl held) (λ gone. inr (put_other catalog_no (Some page) rows p (λ e. differ (sym e)) ∙ gone)) (is.known p flag)) (cases_eq p catalog_no);
@@ -71,49 +83,32 @@ module _ (g : Geometry) (rows : List WorkingRow) (pages : LoggedSet) (kept : Lis
   same_flags p none = bits_same (is_held pages p) (is_kept kept p) (λ held. is.untouched p held none)
       (λ flag. ⊎_elim (λ held. held) (λ gone. absurd (some_none None (sym gone ∙ none))) (is.known p flag))
 
-  -- the transaction took no page that it doesn't touch, nor one that it gave back
-  pub not_taken : (p : ℕ) → lookup (nat_eq p) rows ≡ None → is_taken pages p ≡ false
-  not_taken p none = ⊎_elim (λ took. absurd (none_some (lookup (nat_eq p) rows) none (is.taken p took))) (λ free. free) (cases_Bool (is_taken pages p))
-
-  gone_free : (p : ℕ) → lookup (nat_eq p) rows ≡ Some None → is_taken pages p ≡ false
-  gone_free p gone = ⊎_elim (λ took. absurd (both_ways _ (is.gone p gone) (is.there p took))) (λ free. free) (cases_Bool (is_taken pages p))
-
   -- ---- an abort
 
   module _ (new : LoggedSet) (u v : UnitSet) (back : TakenBack rows kept pages new u v) where
     pub held_back : (p : ℕ) → is_held new p ≡ is_kept kept p
     held_back p = elim (row_of (lookup (nat_eq p) rows)) [
-      | has_image image is_row ↦ (back.touched p (Some image) is_row).0
-      | is_gone is_row ↦ (back.touched p None is_row).0
-      | has_none none ↦ (back.others p none).0 ∙ same_flags p none
+      | has_image image is_row ↦ back.touched p (Some image) is_row
+      | is_gone is_row ↦ back.touched p None is_row
+      | has_none none ↦ back.others p none ∙ same_flags p none
     ]
 
-    pub none_taken_back : (p : ℕ) → is_taken new p ≡ false
-    none_taken_back p = elim (row_of (lookup (nat_eq p) rows)) [
-      | has_image image is_row ↦ (back.touched p (Some image) is_row).1
-      | is_gone is_row ↦ (back.touched p None is_row).1
-      | has_none none ↦ (back.others p none).1 ∙ not_taken p none
-    ]
-
-    -- each page that was taken is free
-    pub freed_back : (p : ℕ) → is_taken pages p ≡ true → is_kept kept p ≡ false → refs_at u p ≡ 0 → used_at v p ≡ false
-    freed_back p took left unnamed = elim (row_of (lookup (nat_eq p) rows)) [
-      | has_image image is_row ↦ back.freed p (Some image) is_row took left unnamed
-      | is_gone is_row ↦ back.freed p None is_row took left unnamed
-      | has_none none ↦ absurd (none_some (lookup (nat_eq p) rows) none (is.taken p took))
+    -- each page that the committed state hasn't is free
+    pub freed_back : (p : ℕ) → is_held pages p ≡ true → is_kept kept p ≡ false → refs_at u p ≡ 0 → used_at v p ≡ false
+    freed_back p held off unnamed = elim (row_of (lookup (nat_eq p) rows)) [
+      | has_image image is_row ↦ back.freed p (ap is_there is_row, off) unnamed
+      | is_gone is_row ↦ absurd (both_ways _ (is.gone p is_row) held)
+      | has_none none ↦ absurd (both_ways _ off (is.untouched p held none))
     ]
 
     pub tracked_back : IsTracked g [] new kept
     tracked_back = record {
       held_len = back.held_len ∙ is.held_len;
-      taken_len = back.taken_len ∙ is.taken_len;
       kept_len = is.kept_len;
       catalog = held_back catalog_no ∙ is.catalog_kept;
       catalog_kept = is.catalog_kept;
       images = λ p image has. absurd (some_none (Some image) (sym has));
       gone = λ p has. absurd (some_none None (sym has));
-      taken = λ p took. absurd (both_ways _ (none_taken_back p) took);
-      there = λ p took. absurd (both_ways _ (none_taken_back p) took);
       known = λ p flag. inl (held_back p ∙ flag);
       untouched = λ p held none. sym (held_back p) ∙ held;
     }
@@ -121,59 +116,36 @@ module _ (g : Geometry) (rows : List WorkingRow) (pages : LoggedSet) (kept : Lis
     -- a page that is there again is one of the committed state, which stayed used
     pub used_back : ArePagesUsed (used_at u) pages kept → ArePagesUsed (used_at v) new kept
     used_back was =
-        let stays : (p : ℕ) → is_kept kept p ≡ true → used_at v p ≡ true = λ p flag. let fixed = was.committed p flag in back.units.stays p fixed.in_use fixed.not_taken in
-        record {
-          working = λ p held. stays p (sym (held_back p) ∙ held);
-          committed = λ p flag. record { in_use = stays p flag; not_taken = none_taken_back p; stays = λ none. none };
-        }
+        let stays : (p : ℕ) → is_kept kept p ≡ true → used_at v p ≡ true = λ p flag. back.units.stays p (was.committed p flag) (λ (_, off). both_ways _ off flag) in
+        record { working = λ p held. stays p (sym (held_back p) ∙ held); committed = stays }
 
   -- ---- a commit
 
-  module _ (now : List Bool) (new : LoggedSet) (u v : UnitSet) (done : Settled rows kept now pages new u v) where
-    pub held_settled : (p : ℕ) → is_held new p ≡ is_held pages p
-    held_settled p = elim (row_of (lookup (nat_eq p) rows)) [
-      | has_image image is_row ↦ (done.images p image is_row).1 ∙ sym (is.images p image is_row)
-      | is_gone is_row ↦ (done.gone p is_row).1
-      | has_none none ↦ (done.others p none).1
-    ]
-
+  module _ (now : List Bool) (u v : UnitSet) (done : Settled rows kept now u v) where
     pub kept_settled : (p : ℕ) → is_kept now p ≡ is_held pages p
     kept_settled p = elim (row_of (lookup (nat_eq p) rows)) [
-      | has_image image is_row ↦ (done.images p image is_row).0 ∙ sym (is.images p image is_row)
-      | is_gone is_row ↦ (done.gone p is_row).0 ∙ sym (is.gone p is_row)
-      | has_none none ↦ (done.others p none).0 ∙ sym (same_flags p none)
+      | has_image image is_row ↦ done.images p image is_row ∙ sym (is.images p image is_row)
+      | is_gone is_row ↦ done.gone p is_row ∙ sym (is.gone p is_row)
+      | has_none none ↦ done.others p none ∙ sym (same_flags p none)
     ]
 
-    pub none_taken_settled : (p : ℕ) → is_taken new p ≡ false
-    none_taken_settled p = elim (row_of (lookup (nat_eq p) rows)) [
-      | has_image image is_row ↦ (done.images p image is_row).2
-      | is_gone is_row ↦ (done.gone p is_row).2 ∙ gone_free p is_row
-      | has_none none ↦ (done.others p none).2 ∙ not_taken p none
-    ]
-
-    pub tracked_settled : IsTracked g [] new now
+    pub tracked_settled : IsTracked g [] pages now
     tracked_settled = record {
-      held_len = done.held_len ∙ is.held_len;
-      taken_len = done.taken_len ∙ is.taken_len;
+      held_len = is.held_len;
       kept_len = done.kept_len ∙ is.kept_len;
-      catalog = held_settled catalog_no ∙ is.catalog;
+      catalog = is.catalog;
       catalog_kept = kept_settled catalog_no ∙ is.catalog;
       images = λ p image has. absurd (some_none (Some image) (sym has));
       gone = λ p has. absurd (some_none None (sym has));
-      taken = λ p took. absurd (both_ways _ (none_taken_settled p) took);
-      there = λ p took. absurd (both_ways _ (none_taken_settled p) took);
-      known = λ p flag. inl (held_settled p ∙ sym (kept_settled p) ∙ flag);
-      untouched = λ p held none. kept_settled p ∙ sym (held_settled p) ∙ held;
+      known = λ p flag. inl (sym (kept_settled p) ∙ flag);
+      untouched = λ p held none. kept_settled p ∙ held;
     }
 
     -- a page that is there was not given back
-    pub used_settled : ArePagesUsed (used_at u) pages kept → ArePagesUsed (used_at v) new now
+    pub used_settled : ArePagesUsed (used_at u) pages kept → ArePagesUsed (used_at v) pages now
     used_settled was =
         let stays : (p : ℕ) → is_held pages p ≡ true → used_at v p ≡ true = λ p held. done.units.stays p (was.working p held) (λ (gone, flag). both_ways _ (is.gone p gone) held) in
-        record {
-          working = λ p held. stays p (sym (held_settled p) ∙ held);
-          committed = λ p flag. record { in_use = stays p (sym (kept_settled p) ∙ flag); not_taken = none_taken_settled p; stays = λ none. none };
-        }
+        record { working = stays; committed = λ p flag. stays p (sym (kept_settled p) ∙ flag) }
 
 pub counted_gives : (g : Geometry) (stays : ℕ → Type 0) (u v : UnitSet) → IsCounted g u → OnlyGives stays u v → IsCounted g v
 counted_gives g stays u v is gives = record {

@@ -9,7 +9,6 @@ use Rattle.op_log.specs.declared.record.LogRecord.{LogRecord}
 use Rattle.op_log.proofs.OneList.{one_list}
 use Rattle.tree_store.specs.Stored.{InRest, NoUnit}
 use Rattle.page_alloc.specs.UnitSet.{used_at}
-use Rattle.volume_port.specs.Ported.{IsLoose}
 use Rattle.volume_port.proofs.Staying.{durable_apart}
 use Rattle.volume_model.specs.Durable.{IsDurable}
 use Rattle.session_views.specs.View.{View, ShowsNow}
@@ -21,7 +20,7 @@ use Rattle.session_core.proofs.Updating.{changes_now, counted_now, reach_settled
 
 -- what was read at most wrote nowhere
 pub writes_nowhere : {a b : Outside} (s : SessionState) → ReadsOnly a b → WritesLoose a b s
-writes_nowhere s reads = changes_nothing (InRest s.geometry (used_at s.units) (IsLoose NoUnit (used_at s.units) s.pages)) reads.nothing
+writes_nowhere s reads = changes_nothing (InRest s.geometry (used_at s.units) NoUnit) reads.nothing
 
 module _ {a b : Outside} {before : View SessionState} (now : ShowsNow meant a before) (session : IsSession before.session) (writes : WritesLoose a b before.session) where
   -- No byte is written that a crash image rests on.
@@ -29,8 +28,8 @@ module _ {a b : Outside} {before : View SessionState} (now : ShowsNow meant a be
   durable_unwritten =
       let d = now.shows.decoded in
       let s = before.session in
-      changes_wider (InRest d.geometry (used_at s.units) (IsLoose NoUnit (used_at s.units) s.pages)) (λ i. IsDurable d before.disk i → ⊥) (changes_now now session writes)
-      (λ i written durable. durable_apart d before.disk NoUnit s.units s.pages (counted_now now session) (reach_settled now session) now.shows.parts i durable written)
+      changes_wider (InRest d.geometry (used_at s.units) NoUnit) (λ i. IsDurable d before.disk i → ⊥) (changes_now now session writes)
+      (λ i written durable. durable_apart d before.disk NoUnit s.units (counted_now now session) (reach_settled now session) now.shows.parts i durable written)
 
   -- The log says the records that it said.
   pub records_unwritten : (records : List LogRecord) → SaysLog before.session.geometry records before.disk → (later : List ℕ) × ((b.disk ≡ Some later) × SaysLog before.session.geometry records later)

@@ -36,9 +36,9 @@ use Rattle.volume_model.specs.Volume.{Decoded, Volume, file_pages, reach_of, roo
 use Rattle.volume_model.proofs.FilePages.{file_pages_are}
 use Rattle.volume_edits.specs.Edits.{trees_of}
 use Rattle.volume_edits.specs.Ported.{IsVolume, units_in}
-use Rattle.volume_port.specs.Logged.{is_held, is_taken}
-use Rattle.volume_port.specs.Ported.{IsFixed, IsLoose, image_over}
-use Rattle.volume_port.specs.Stays.{ReachIsOf, StillCommitted}
+use Rattle.volume_port.specs.Logged.{is_held}
+use Rattle.volume_port.specs.Ported.{image_over}
+use Rattle.volume_port.specs.Stays.{ReachIsOf, StaysUsed, StillCommitted}
 use Rattle.volume_port.proofs.Staying.{stays_on, stands_meanwhile}
 use Rattle.session_core.specs.Sessions.{SessionState, IsSession, held, is_kept}
 use Rattle.session_core.specs.Finding.{IsPortOf}
@@ -51,6 +51,7 @@ use Rattle.session_core.proofs.KeptOff.{trees_kept}
 use Rattle.session_core.proofs.Sessions.{firsts_rise}
 use Rattle.session_core.proofs.Settling.{here_is, here_or}
 use Rattle.session_core.proofs.Showing.{session_geometry, trees_in, view_of}
+use Rattle.session_core.proofs.Tracking.{taken_is}
 use Rattle.session_core.proofs.Volumes.{Parts}
 
 -- ---- lists
@@ -109,15 +110,15 @@ no_catalog g records units v parts page has = (each_of (λ (p : ℕ). InPageArea
 
 -- ---- what an update leaves
 
--- the units that are used and were not taken by the transaction
+-- the units that are used
 abbrev pub IsSettled : SessionState → ℕ → Type 0
-IsSettled s unit = IsFixed NoUnit (used_at s.units) s.pages unit
+IsSettled s unit = StaysUsed NoUnit (used_at s.units) unit
 
 -- After an update the port's working state is a volume, whose pages and whose trees' units are those of the one before, or were free. What is committed
 -- stayed so, on what the disk holds later.
 pub record LeavesVolume {S : Type 0} (g : ground.Ghosts S) (t : S) (b : Outside) (d : Decoded) (was : Volume) (before : View SessionState) (new : SessionState) (now : Volume) (later : List ℕ) : Type 0 where
   pub port : IsPortOf g t new b.disk
-  pub used : g.used t ≡ used_at new.units
+  pub used : (u : ℕ) → Contains (reach_of (units_in g t) now) u → used_at new.units u ≡ true
   pub volume : IsVolume g t d.records now
   pub pages : (page : ℕ) → Contains (file_pages now) page → Contains (file_pages was) page ⊎ (used_at before.session.units page ≡ false)
   pub units : (u : ℕ) → Contains (trees_of (units_in g t) now) u → Contains (trees_in (working_units d before.disk before.session.meta.working) was) u ⊎ (used_at before.session.units u ≡ false)
@@ -211,8 +212,8 @@ module _ {S : Type 0} (g : ground.Ghosts S) (t : S) {a b : Outside} {before : Vi
 
   used_reached : (m : Machine) (unit : ℕ) → Contains (reach_of_view d (view_of m (held new) later) working) unit → used_at new.units unit ≡ true
   used_reached m unit has = ⊎_elim
-      (λ committed. (left.still.reached unit committed).in_use)
-      (λ work. sym (ap (λ (f : ℕ → Bool). f unit) left.used) ∙ left.volume.used unit (subst (λ (us : List ℕ). Contains ((catalog_no ∷ file_pages working) ++ us) unit) trees_shown work))
+      (λ committed. (left.still.reached unit committed).0)
+      (λ work. left.used unit (subst (λ (us : List ℕ). Contains ((catalog_no ∷ file_pages working) ++ us) unit) trees_shown work))
       (either_of (reach_of L d.volume) (reach_of W working) unit has)
 
   held_shown : (page : ℕ) → (is_held new.pages page ≡ true) ↔ Contains (catalog_no ∷ file_pages working) page
@@ -220,13 +221,6 @@ module _ {S : Type 0} (g : ground.Ghosts S) (t : S) {a b : Outside} {before : Vi
 
   kept_shown : (page : ℕ) → (is_kept new.kept page ≡ true) ↔ Contains (catalog_no ∷ file_pages d.volume) page
   kept_shown page = subst (λ (k : List Bool). (is_kept k page ≡ true) ↔ Contains (catalog_no ∷ file_pages d.volume) page) (sym left.kept) (now.shows.logged.kept page)
-
-  logged_shown : (m : Machine) → LoggedShown d (view_of m (held new) later) working
-  logged_shown m = record {
-    held = held_shown;
-    kept = kept_shown;
-    taken = λ page took. (session.pages.there page took, λ reached. both_ways _ (left.still.reached page reached).not_taken took);
-  }
 
   no_tree : (page : ℕ) → Contains (file_pages d.volume ++ file_pages working) page → ¬ Contains (trees_in L d.volume ++ trees_in W working ++ []) page
   no_tree page has tree = ⊎_elim
@@ -247,6 +241,23 @@ module _ {S : Type 0} (g : ground.Ghosts S) (t : S) {a b : Outside} {before : Vi
       (λ own. own_trees d.geometry d.records W working whole page of_working own)
       (either_of (trees_in L d.volume) (trees_in W working) page tree))
       (Contains-append_cases (file_pages d.volume) (file_pages working) page has)
+
+  -- what the working state has and the committed one hasn't is none that the committed volume reaches
+  took_apart : (page : ℕ) → is_held new.pages page ≡ true → is_kept new.kept page ≡ false → ¬ Contains (reach_of L d.volume) page
+  took_apart page there off reached = ⊎_elim
+      (λ (file : Contains (catalog_no ∷ file_pages d.volume) page). both_ways _ off ((kept_shown page).1 file))
+      (λ (tree : Contains (trees_in L d.volume) page). ⊎_elim
+      (λ (same : catalog_no ≡ page). both_ways _ off (ap (is_kept new.kept) (sym same) ∙ session.pages.catalog_kept))
+      (λ (file : Contains (file_pages working) page). no_tree page (Contains-append_right (file_pages d.volume) (file_pages working) page file) (in_first (trees_in L d.volume) (trees_in W working) [] page tree))
+      (Contains-cons catalog_no (file_pages working) page ((held_shown page).0 there)))
+      (Contains-append_cases (catalog_no ∷ file_pages d.volume) (trees_in L d.volume) page reached)
+
+  logged_shown : (m : Machine) → LoggedShown d (view_of m (held new) later) working
+  logged_shown m = record {
+    held = held_shown;
+    kept = kept_shown;
+    taken = λ page took. let is = taken_is (is_held new.pages page) (is_kept new.kept page) took in (is.0, took_apart page is.0 is.1);
+  }
 
   row_shown : (row : WorkingRow) → lookup (nat_eq row.0) new.meta.working ≡ Some row.1 → IsWorkingPage working row
   row_shown (page, None) is some = absurd (no_value some)
@@ -300,17 +311,10 @@ module _ {S : Type 0} (g : ground.Ghosts S) (t : S) {a b : Outside} {before : Vi
 -- ---- what is committed stays
 
 module _ {a : Outside} {before : View SessionState} (now : ShowsNow meant a before) (session : IsSession before.session) where
-  -- each unit that the committed volume reaches is used, and was not taken by the transaction
+  -- each unit that the committed volume reaches is used
   pub reach_settled : ReachIsOf (IsSettled before.session) now.shows.decoded before.disk
-  reach_settled unit reached = record {
-    in_use = now.shows.used.reached unit (in_first (reach_of (units_of now.shows.decoded before.disk) now.shows.decoded.volume) (reach_of (working_units now.shows.decoded before.disk before.session.meta.working) now.shows.working) [] unit reached);
-    not_taken = by (is_taken before.session.pages unit) refl;
-    stays = λ none. none;
-  }
-    where
-      by : (o : Bool) → is_taken before.session.pages unit ≡ o → is_taken before.session.pages unit ≡ false
-      by true is = absurd ((now.shows.logged.taken unit is).1 reached)
-      by false is = is
+  reach_settled unit reached =
+      (now.shows.used.reached unit (in_first (reach_of (units_of now.shows.decoded before.disk) now.shows.decoded.volume) (reach_of (working_units now.shows.decoded before.disk before.session.meta.working) now.shows.working) [] unit reached), λ none. none)
 
   pub committed_now : Committed a.images now.shows.decoded before.disk before.session.log before.session.meta.committed
   committed_now = record { parts = now.shows.parts; durable = now.shows.durable; shown = record { just = now.shows.overlay.just; log_is = now.shows.overlay.log } }
@@ -318,18 +322,18 @@ module _ {a : Outside} {before : View SessionState} (now : ShowsNow meant a befo
   pub counted_now : IsCounted now.shows.decoded.geometry before.session.units
   counted_now = subst (λ (h : Geometry). IsCounted h before.session.units) (session_geometry now.shows) session.units
 
-  pub changes_now : {b : Outside} → WritesLoose a b before.session → ChangesWithin (InRest now.shows.decoded.geometry (used_at before.session.units) (IsLoose NoUnit (used_at before.session.units) before.session.pages)) a b
-  changes_now {b} changes = subst (λ (h : Geometry). ChangesWithin (InRest h (used_at before.session.units) (IsLoose NoUnit (used_at before.session.units) before.session.pages)) a b) (session_geometry now.shows) changes
+  pub changes_now : {b : Outside} → WritesLoose a b before.session → ChangesWithin (InRest now.shows.decoded.geometry (used_at before.session.units) NoUnit) a b
+  changes_now {b} changes = subst (λ (h : Geometry). ChangesWithin (InRest h (used_at before.session.units) NoUnit) a b) (session_geometry now.shows) changes
 
   pub update_stays : {b : Outside} (new : SessionState) → WritesLoose a b before.session → ((unit : ℕ) → IsSettled before.session unit → IsSettled new unit) → new.meta.committed ≡ before.session.meta.committed
       → (later : List ℕ) × ((b.disk ≡ Some later) × StillCommitted (IsSettled before.session) (IsSettled new) now.shows.decoded before.disk b.images later before.session.log new.meta.committed)
   update_stays {b} new changes goes_on same =
       subst (λ (overlay : List PageRow). (later : List ℕ) × ((b.disk ≡ Some later) × StillCommitted (IsSettled before.session) (IsSettled new) now.shows.decoded before.disk b.images later before.session.log overlay)) (sym same)
-      (stays_on now.shows.decoded before.disk NoUnit before.session.units new.units before.session.pages new.pages counted_now reach_settled a b (changes_now changes) now.honest before.session.log before.session.meta.committed committed_now now.holds goes_on)
+      (stays_on now.shows.decoded before.disk NoUnit before.session.units new.units counted_now reach_settled a b (changes_now changes) now.honest before.session.log before.session.meta.committed committed_now now.holds goes_on)
 
   -- A crash at any moment of the update leaves what stands for the committed table.
   pub update_moments : {b : Outside} (r : Request) (new : SessionState) → IsWorld a → WritesLoose a b before.session → Leaves a b (StandsDuring meant before.machine r)
   update_moments {b} r new world changes =
       leaves_wider (StandsForVolume now.shows.decoded before.disk) (StandsDuring meant before.machine r)
-      (stands_meanwhile now.shows.decoded before.disk NoUnit before.session.units new.units before.session.pages new.pages counted_now reach_settled a b (changes_now changes) now.honest before.session.log before.session.meta.committed committed_now world)
+      (stands_meanwhile now.shows.decoded before.disk NoUnit before.session.units new.units counted_now reach_settled a b (changes_now changes) now.honest before.session.log before.session.meta.committed committed_now world)
       (λ image stands. inl (subst (StandsFor image) (sym now.shows.committed) stands))

@@ -21,7 +21,6 @@ use Rattle.session_views.specs.View.{View, ShowsNow, Stepped, StandsDuring}
 use Rattle.table_model.specs.Requests as request
 use Rattle.table_model.specs.declared.reply.Reply.TheVariants as reply
 use Rattle.session_core.specs.Sessions.{SessionState, IsSession, Settled}
-use Rattle.volume_port.specs.Logged.{LoggedSet}
 use Rattle.page_alloc.specs.UnitSet.{UnitSet}
 use Rattle.session_core.specs.Catalogs.{FramesLend}
 use Rattle.session_core.specs.Commits.{LogsCommit, stop_of}
@@ -129,9 +128,9 @@ pub record FramesKept (m b : Outside) (s : SessionState) (groups later : List Fr
   pub lends : IsTrue m.honest → AreBehindLog groups → All (Lends m.disk) groups → All (Lends b.disk) later
   pub sizes : All (λ (f : Frames). f.page_size ≡ s.geometry.page_size) later
 
-pub commit_done : {a m b : Outside} (s old mid new : SessionState) (page image : List ℕ) (number : ℕ) (log : LogState) (meta : Overlays) (later : List Frames) (flags : List Bool) (pages : LoggedSet) (units : UnitSet) → s ≡ old → IsWorld a → WasKept a m b s page image number → OnlyFrames a m old mid → AreBehindLog mid.groups
-    → Commits m b s.log (numbered_pages s.meta image) number s.notes log meta → meta.working ≡ [] → FramesKept m b s mid.groups later → Settled (numbered_rows image s.meta.working) s.kept flags s.pages pages s.units units → committed_session s log meta later flags pages units ≡ new → Steps a b old new request.Commit (Ok (reply.Commit number))
-commit_done {a} {m} {b} s old mid new page image number log meta later flags pages units is world kept only behind commits none frames settled same = record {
+pub commit_done : {a m b : Outside} (s old mid new : SessionState) (page image : List ℕ) (number : ℕ) (log : LogState) (meta : Overlays) (later : List Frames) (flags : List Bool) (units : UnitSet) → s ≡ old → IsWorld a → WasKept a m b s page image number → OnlyFrames a m old mid → AreBehindLog mid.groups
+    → Commits m b s.log (numbered_pages s.meta image) number s.notes log meta → meta.working ≡ [] → FramesKept m b s mid.groups later → Settled (numbered_rows image s.meta.working) s.kept flags s.units units → committed_session s log meta later flags units ≡ new → Steps a b old new request.Commit (Ok (reply.Commit number))
+commit_done {a} {m} {b} s old mid new page image number log meta later flags units is world kept only behind commits none frames settled same = record {
   only = disk_trans kept.reads.nothing.only kept.only;
   geometry = ap (λ (t : SessionState). t.geometry) (sym same) ∙ ap (λ (t : SessionState). t.geometry) is;
   down = ap (λ (t : SessionState). t.down) (sym same) ∙ ap (λ (t : SessionState). t.down) is;
@@ -146,12 +145,12 @@ commit_done {a} {m} {b} s old mid new page image number log meta later flags pag
       let lent = only.lends (subst (λ (t : SessionState). FramesLend a t) from (shown_lends now here.session.sizes)) in
       let lends = frames.lends (honest_on kept.reads.nothing.only.goes now.honest) behind (subst (λ (o : Option (List ℕ)). All (Lends o) mid.groups) (sym kept.reads.nothing.disk) lent) in
       subst (λ (n : ℕ). Stepped meant before request.Commit (reply.Commit n) new b) (sym number_is)
-      (commit_steps now image log meta later flags pages units new here.session here.reads here.only here.opened (subst (λ (c : Catalog). CatalogOf image (numbered c)) on here.image_is)
+      (commit_steps now image log meta later flags units new here.session here.reads here.only here.opened (subst (λ (c : Catalog). CatalogOf image (numbered c)) on here.image_is)
       (subst (λ (n : ℕ). Commits m b before.session.log (numbered_pages before.session.meta image) n before.session.notes log meta) number_is
       (subst (λ (t : SessionState). Commits m b t.log (numbered_pages t.meta image) number t.notes log meta) e commits))
       none (record { sizes = subst (λ (t : SessionState). All (λ (f : Frames). f.page_size ≡ t.geometry.page_size) later) e frames.sizes; lends = lends })
-      (subst (λ (t : SessionState). Settled (numbered_rows image t.meta.working) t.kept flags t.pages pages t.units units) e settled)
-      (ap (λ (t : SessionState). committed_session t log meta later flags pages units) (sym e) ∙ same));
+      (subst (λ (t : SessionState). Settled (numbered_rows image t.meta.working) t.kept flags t.units units) e settled)
+      (ap (λ (t : SessionState). committed_session t log meta later flags units) (sym e) ∙ same));
   any_moment = λ before from now. kept_moments page image number now world (subst (λ (t : SessionState). WasKept a m b t page image number) (is ∙ sym from) kept);
 }
 
@@ -190,19 +189,19 @@ frames_at m b s mid two edited later only is edit own lends sizes = record {
   sizes = subst (λ (g : Geometry). All (λ (f : Frames). f.page_size ≡ g.page_size) later) (edit ∙ own ∙ ap (λ (t : SessionState). t.geometry) (is ∙ only)) sizes;
 }
 
-closes : (two : SessionState) (log : LogState) (meta : Overlays) (later : List Frames) (flags : List Bool) (pages : LoggedSet) (units : UnitSet) (notes : List OpNote) (names : List BoundName) → notes ≡ [] → names ≡ unmarked two.names
-    → committed_session two log meta later flags pages units ≡ record two { log = log; meta = meta; pages = pages; kept = flags; units = units; groups = later; notes = notes; names = names; opened = false }
-closes two log meta later flags pages units notes names none unmark = cc (none, unmark)
+closes : (two : SessionState) (log : LogState) (meta : Overlays) (later : List Frames) (flags : List Bool) (units : UnitSet) (notes : List OpNote) (names : List BoundName) → notes ≡ [] → names ≡ unmarked two.names
+    → committed_session two log meta later flags units ≡ record two { log = log; meta = meta; kept = flags; units = units; groups = later; notes = notes; names = names; opened = false }
+closes two log meta later flags units notes names none unmark = cc (none, unmark)
 
-pub closed_as : (s mid two : SessionState) (log : LogState) (meta : Overlays) (later : List Frames) (flags : List Bool) (pages : LoggedSet) (units : UnitSet) (notes : List OpNote) (names : List BoundName)
+pub closed_as : (s mid two : SessionState) (log : LogState) (meta : Overlays) (later : List Frames) (flags : List Bool) (units : UnitSet) (notes : List OpNote) (names : List BoundName)
     → mid ≡ record s { groups = mid.groups } → two ≡ mid → notes ≡ [] → names ≡ unmarked two.names
-    → committed_session s log meta later flags pages units ≡ record two { log = log; meta = meta; pages = pages; kept = flags; units = units; groups = later; notes = notes; names = names; opened = false }
-closed_as s mid two log meta later flags pages units notes names only is none unmark =
-    ap (λ (t : SessionState). committed_session t log meta later flags pages units) (sym (is ∙ only)) ∙ closes two log meta later flags pages units notes names none unmark
+    → committed_session s log meta later flags units ≡ record two { log = log; meta = meta; kept = flags; units = units; groups = later; notes = notes; names = names; opened = false }
+closed_as s mid two log meta later flags units notes names only is none unmark =
+    ap (λ (t : SessionState). committed_session t log meta later flags units) (sym (is ∙ only)) ∙ closes two log meta later flags units notes names none unmark
 
 -- what was settled of the session before it
-pub settled_at : (s mid two : SessionState) (edited : Overlays) (image : List ℕ) (flags : List Bool) (pages : LoggedSet) (units : UnitSet) → mid ≡ record s { groups = mid.groups } → two ≡ mid → edited ≡ numbered_pages two.meta image
-    → Settled edited.working two.kept flags two.pages pages two.units units → Settled (numbered_rows image s.meta.working) s.kept flags s.pages pages s.units units
-settled_at s mid two edited image flags pages units only is same done =
-    subst (λ (t : SessionState). Settled (numbered_rows image t.meta.working) t.kept flags t.pages pages t.units units) (is ∙ only)
-    (subst (λ (o : Overlays). Settled o.working two.kept flags two.pages pages two.units units) same done)
+pub settled_at : (s mid two : SessionState) (edited : Overlays) (image : List ℕ) (flags : List Bool) (units : UnitSet) → mid ≡ record s { groups = mid.groups } → two ≡ mid → edited ≡ numbered_pages two.meta image
+    → Settled edited.working two.kept flags two.units units → Settled (numbered_rows image s.meta.working) s.kept flags s.units units
+settled_at s mid two edited image flags units only is same done =
+    subst (λ (t : SessionState). Settled (numbered_rows image t.meta.working) t.kept flags t.units units) (is ∙ only)
+    (subst (λ (o : Overlays). Settled o.working two.kept flags two.units units) same done)

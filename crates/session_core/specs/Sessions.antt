@@ -1,17 +1,18 @@
 -- What a session is made of, and what holds of its parts.
-use Rattle.std.specs.Prelude.{◌≡◌, ◌⊎◌, ◌<◌, ◌≤◌, ◌++◌, ◌∷◌, ◌-◌, ◌^◌, ℕ, Bool, true, false, List, [], length, map, replicate, All, Option, Some, None, IsSome, nat_eq, slice_index_or}
+use Rattle.std.specs.Prelude.{◌≡◌, ◌⊎◌, ◌↔◌, ◌<◌, ◌≤◌, ◌++◌, ◌∷◌, ◌-◌, ◌^◌, ◌&&◌, ℕ, Bool, true, false, not, is_some, List, [], length, map, replicate, All, Contains, Option, Some, None, nat_eq, slice_index_or}
 use Rattle.std.specs.List.{AllByRecursion}
 use Rattle.std.specs.Map.{lookup}
 use Rattle.ex_base.specs.declared.geometry.Geometry.{Geometry}
 use Rattle.ex_base.specs.declared.names.OpNote.{OpNote}
+use Rattle.ex_base.specs.declared.names.PageNo.{PageNo}
 use Rattle.ex_base.specs.declared.names.Area.{Area}
-use Rattle.ex_base.specs.Area.{area_end, catalog_no}
+use Rattle.ex_base.specs.Area.{InPageArea, area_end, catalog_no}
 use Rattle.ex_base.specs.declared.notes.NoteKind.{NoteKind}
 use Rattle.op_log.specs.Records.{IsNote}
 use Rattle.op_log.specs.State.{LogState}
 use Rattle.buffer_groups.specs.Frames.{Frames}
 use Rattle.page_alloc.specs.UnitSet.{UnitSet, used_at, refs_at, free_count}
-use Rattle.tree_store.specs.Stored.{IsCounted, NoUnit}
+use Rattle.tree_store.specs.Stored.{IsCounted}
 use Rattle.meta_pages.specs.Overlays.{Overlays}
 use Rattle.object_files.specs.Edits.{IsCatalogPage}
 use Rattle.object_files.specs.Reads.{catalog_on}
@@ -20,8 +21,8 @@ use Rattle.meta_pages.specs.Rows.{with_row, IsRising}
 use Rattle.table_model.specs.Machines.{updates_most, touched_most, kept, no_oid}
 use Rattle.table_model.specs.Steps.{note}
 use Rattle.volume_model.specs.Shown.{Held, WorkingRow}
-use Rattle.volume_port.specs.Logged.{LoggedSet, is_held, is_taken}
-use Rattle.volume_port.specs.Ported.{IsFixed, IsUsed}
+use Rattle.volume_port.specs.Logged.{LoggedSet, is_held}
+use Rattle.volume_port.specs.Ported.{IsUsed}
 use Rattle.commits.specs.Room.{IsLogged, AreBehindLog}
 
 -- the value of a session: its parts, the logged pages of the working state and of the committed one, a page that the port lends, the notes of the open
@@ -57,7 +58,7 @@ held s = record {
   used = used_at s.units;
   held = is_held s.pages;
   kept = is_kept s.kept;
-  taken = is_taken s.pages;
+  taken = λ page. is_held s.pages page && not (is_kept s.kept page);
   overlay = s.meta.committed;
   log = s.log;
   opened = s.opened;
@@ -71,7 +72,7 @@ fresh_session geometry log meta pages units groups = record {
   log = log;
   meta = meta;
   pages = pages;
-  kept = pages.held;
+  kept = pages;
   units = units;
   groups = groups;
   room = replicate geometry.page_size 0;
@@ -98,31 +99,56 @@ pub record OnlyGives (safe : ℕ → Type 0) (old new : UnitSet) : Type 0 where
   pub refs : (unit : ℕ) → refs_at new unit ≤ refs_at old unit
   pub free : (area : Area) → free_count old.geometry (used_at old) area ≤ free_count new.geometry (used_at new) area
 
--- The working state has again the pages that the committed one has, and of the units none is given back but those that the transaction took. A touched
--- page that it took is free, where no node names it.
+-- whether a touched page is there: it has an image
+abbrev pub is_there : Option (Option (List ℕ)) → Bool
+is_there None = false
+is_there (Some image) = is_some image
+
+-- The transaction took the page: it has an image of it, and the committed state hasn't the page.
+abbrev pub WasTaken : List WorkingRow → List Bool → ℕ → Type 0
+WasTaken rows kept page = (is_there (lookup (nat_eq page) rows) ≡ true) × (is_kept kept page ≡ false)
+
+-- The working state has again the pages that the committed one has, and of the units none is given back but pages that the transaction took. Each of
+-- them is free, where no node names it.
 pub record TakenBack (rows : List WorkingRow) (kept : List Bool) (old new : LoggedSet) (before after : UnitSet) : Type 0 where
-  pub held_len : length new.held ≡ length old.held
-  pub taken_len : length new.taken ≡ length old.taken
-  pub touched : (page : ℕ) (row : Option (List ℕ)) → lookup (nat_eq page) rows ≡ Some row → (is_held new page ≡ is_kept kept page) × (is_taken new page ≡ false)
-  pub others : (page : ℕ) → lookup (nat_eq page) rows ≡ None → (is_held new page ≡ is_held old page) × (is_taken new page ≡ is_taken old page)
-  pub units : OnlyGives (λ unit. is_taken old unit ≡ false) before after
-  pub freed : (page : ℕ) (row : Option (List ℕ)) → lookup (nat_eq page) rows ≡ Some row → is_taken old page ≡ true → is_kept kept page ≡ false → refs_at before page ≡ 0 → used_at after page ≡ false
+  pub held_len : length new ≡ length old
+  pub touched : (page : ℕ) (row : Option (List ℕ)) → lookup (nat_eq page) rows ≡ Some row → is_held new page ≡ is_kept kept page
+  pub others : (page : ℕ) → lookup (nat_eq page) rows ≡ None → is_held new page ≡ is_held old page
+  pub units : OnlyGives (λ unit. WasTaken rows kept unit → ⊥) before after
+  pub freed : (page : ℕ) → WasTaken rows kept page → refs_at before page ≡ 0 → used_at after page ≡ false
+
+-- the numbers of pages
+abbrev pub numbers_of : List PageNo → List ℕ
+numbers_of pages = map (λ (page : PageNo). page.0) pages
+
+-- These are the touched pages that are there.
+pub record AreThere (g : Geometry) (rows : List WorkingRow) (pages : List PageNo) : Type 0 where
+  pub area : AllByRecursion (λ (page : PageNo). InPageArea g page.0) pages
+  pub there : (page : ℕ) → Contains (numbers_of pages) page ↔ (is_there (lookup (nat_eq page) rows) ≡ true)
+
+-- The page is one of these, is there no more, and the committed state hasn't it.
+abbrev pub WasGivenBack : List ℕ → LoggedSet → List Bool → ℕ → Type 0
+WasGivenBack before pages kept page = Contains before page × (is_held pages page ≡ false) × (is_kept kept page ≡ false)
+
+-- Of the units none is given back but pages that were there before an update, are there no more, and that the committed state hasn't. Each of them is
+-- free, where no node names it.
+pub record Swept (before : List ℕ) (pages : LoggedSet) (kept : List Bool) (old new : UnitSet) : Type 0 where
+  pub units : OnlyGives (λ unit. WasGivenBack before pages kept unit → ⊥) old new
+  pub freed : (page : ℕ) → WasGivenBack before pages kept page → refs_at old page ≡ 0 → used_at new page ≡ false
 
 -- What a commit leaves of the logged pages: those with an image are the committed state's, those that were given back are not, and of the units none is
 -- given back but pages of the committed state that the transaction gave back. Each of them is free, where no node names it.
-pub record Settled (rows : List WorkingRow) (kept now : List Bool) (old new : LoggedSet) (before after : UnitSet) : Type 0 where
+pub record Settled (rows : List WorkingRow) (kept now : List Bool) (before after : UnitSet) : Type 0 where
   pub kept_len : length now ≡ length kept
-  pub held_len : length new.held ≡ length old.held
-  pub taken_len : length new.taken ≡ length old.taken
-  pub images : (page : ℕ) (image : List ℕ) → lookup (nat_eq page) rows ≡ Some (Some image) → (is_kept now page ≡ true) × (is_held new page ≡ true) × (is_taken new page ≡ false)
-  pub gone : (page : ℕ) → lookup (nat_eq page) rows ≡ Some None → (is_kept now page ≡ false) × (is_held new page ≡ is_held old page) × (is_taken new page ≡ is_taken old page)
-  pub others : (page : ℕ) → lookup (nat_eq page) rows ≡ None → (is_kept now page ≡ is_kept kept page) × (is_held new page ≡ is_held old page) × (is_taken new page ≡ is_taken old page)
+  pub images : (page : ℕ) (image : List ℕ) → lookup (nat_eq page) rows ≡ Some (Some image) → is_kept now page ≡ true
+  pub gone : (page : ℕ) → lookup (nat_eq page) rows ≡ Some None → is_kept now page ≡ false
+  pub others : (page : ℕ) → lookup (nat_eq page) rows ≡ None → is_kept now page ≡ is_kept kept page
   pub units : OnlyGives (λ unit. (lookup (nat_eq unit) rows ≡ Some None) × (is_kept kept unit ≡ true) → ⊥) before after
   pub freed : (page : ℕ) → lookup (nat_eq page) rows ≡ Some None → is_kept kept page ≡ true → refs_at before page ≡ 0 → used_at after page ≡ false
 
--- Each page that the open transaction took is free, where the committed state hasn't it and no node names it.
+-- Each page that the working state has and the committed one hasn't is free, where no node names it.
 abbrev pub FreesTaken : SessionState → SessionState → Type 0
-FreesTaken old new = (page : ℕ) → is_taken old.pages page ≡ true → is_kept old.kept page ≡ false → refs_at old.units page ≡ 0 → used_at new.units page ≡ false
+FreesTaken old new = (page : ℕ) → is_held old.pages page ≡ true → is_kept old.kept page ≡ false → refs_at old.units page ≡ 0 → used_at new.units page ≡ false
 
 -- Each page of the committed state that the open transaction gave back is free, where no node names it.
 abbrev pub FreesGivenBack : SessionState → SessionState → Type 0
@@ -139,25 +165,22 @@ pub record HasWork (meta : Overlays) : Type 0 where
   pub is_catalog : IsCatalogPage image
   pub room : (catalog_on image).last < 2 ^ 64 - 1
 
--- The flags are of a session's pages: the working state has those with an image, and not those that were given back; it has each page that the transaction
--- took, and touched each of them. A page of the committed state is there or was given back, and one that is there untouched is of the committed state.
+-- The flags are of a session's pages: the working state has those with an image, and not those that were given back. A page of the committed state is there
+-- or was given back, and one that is there untouched is of the committed state.
 pub record IsTracked (g : Geometry) (rows : List WorkingRow) (pages : LoggedSet) (kept : List Bool) : Type 0 where
-  pub held_len : length pages.held ≡ area_end g
-  pub taken_len : length pages.taken ≡ area_end g
+  pub held_len : length pages ≡ area_end g
   pub kept_len : length kept ≡ area_end g
   pub catalog : is_held pages catalog_no ≡ true
   pub catalog_kept : is_kept kept catalog_no ≡ true
   pub images : (page : ℕ) (image : List ℕ) → lookup (nat_eq page) rows ≡ Some (Some image) → is_held pages page ≡ true
   pub gone : (page : ℕ) → lookup (nat_eq page) rows ≡ Some None → is_held pages page ≡ false
-  pub taken : (page : ℕ) → is_taken pages page ≡ true → IsSome (lookup (nat_eq page) rows)
-  pub there : (page : ℕ) → is_taken pages page ≡ true → is_held pages page ≡ true
   pub known : (page : ℕ) → is_kept kept page ≡ true → (is_held pages page ≡ true) ⊎ (lookup (nat_eq page) rows ≡ Some None)
   pub untouched : (page : ℕ) → is_held pages page ≡ true → lookup (nat_eq page) rows ≡ None → is_kept kept page ≡ true
 
--- Each page of the working state is used. Each of the committed state is too, and the transaction did not take it: none is given back before a commit.
+-- Each page of the working state is used, and each of the committed state: none is given back before a commit.
 pub record ArePagesUsed (used : ℕ → Bool) (pages : LoggedSet) (kept : List Bool) : Type 0 where
   pub working : (page : ℕ) → IsUsed used pages page
-  pub committed : (page : ℕ) → is_kept kept page ≡ true → IsFixed NoUnit used pages page
+  pub committed : (page : ℕ) → is_kept kept page ≡ true → used page ≡ true
 
 -- What holds of every session: its parts are of one geometry, and `main` is among the groups; its logged pages are used; log, overlay and frames are such
 -- that a commit can be made; an open transaction is within its limits, and has a working catalog. Without one no page is touched.

@@ -1,5 +1,5 @@
 -- What an update does with the parts of a session, and what it makes of the volume.
-use Rattle.std.specs.Prelude.{◌≡◌, ◌≤◌, ◌++◌, ◌∷◌, [], ℕ, true, false, List, length, Some, None, IsSome, nat_eq, Result, Ok, Err, ⊤}
+use Rattle.std.specs.Prelude.{◌≡◌, ◌≤◌, ◌++◌, ◌∷◌, [], ℕ, Bool, true, false, List, length, Some, None, nat_eq, Result, Ok, Err, ⊤}
 use Rattle.std.specs.Map.{lookup}
 use Rattle.ex_base.specs.declared.geometry.Geometry.{Geometry}
 use Rattle.ex_base.specs.Area.{area_end, catalog_no}
@@ -30,9 +30,9 @@ use Rattle.session_core.specs.Needs.{fits_beside, size_after, units_need}
 use Rattle.session_core.specs.Finding.{TellsVersion}
 use Rattle.session_core.specs.Meant.{meant, held_view}
 use Rattle.session_core.specs.Counts.{free_in}
-use Rattle.session_core.specs.Sessions.{SessionState, IsSession}
-use Rattle.volume_port.specs.Logged.{LoggedSet, is_held, is_taken}
-use Rattle.volume_port.specs.Ported.{IsFixed, IsKnown, IsLoose, IsUntouched, IsUsed}
+use Rattle.session_core.specs.Sessions.{OnlyGives, SessionState, IsSession, is_kept}
+use Rattle.volume_port.specs.Logged.{LoggedSet, is_held}
+use Rattle.volume_port.specs.Ported.{IsKnown, IsUntouched, IsUsed}
 
 -- what a port of a session borrows besides the disk
 pub record PortParts : Type 0 where
@@ -43,34 +43,35 @@ pub record PortParts : Type 0 where
   pub room : List ℕ
 
 -- The parts are of one geometry, the disk has room for its volume, and no frame is of the superblock or the log. The working state has the catalog, and
--- each page that it has is used; of the touched pages it has just those with an image, and each page that the transaction took is one of them.
+-- each page that it has is used; of the touched pages it has just those with an image.
 pub record AreReady (g : Geometry) (disk_size : ℕ) (p : PortParts) : Type 0 where
   pub fits : Fits g disk_size p.groups 0 p.units
   pub overlay : p.meta.geometry ≡ g
-  pub held_len : length p.pages.held ≡ area_end g
-  pub taken_len : length p.pages.taken ≡ area_end g
+  pub held_len : length p.pages ≡ area_end g
   pub room_len : length p.room ≡ g.page_size
   pub catalog : is_held p.pages catalog_no ≡ true
   pub in_use : (page : ℕ) → IsUsed (used_at p.units) p.pages page
   pub images : (page : ℕ) (image : List ℕ) → lookup (nat_eq page) p.meta.working ≡ Some (Some image) → is_held p.pages page ≡ true
   pub gone : (page : ℕ) → lookup (nat_eq page) p.meta.working ≡ Some None → is_held p.pages page ≡ false
-  pub taken : (page : ℕ) → is_taken p.pages page ≡ true → IsSome (lookup (nat_eq page) p.meta.working)
-  pub there : (page : ℕ) → is_taken p.pages page ≡ true → is_held p.pages page ≡ true
 
--- What a port leaves of its parts: no unit was given back but such as the transaction took, on the disk nothing changed but bytes of other units, and
--- the committed images are the same. A page that is there no more was given back, and one that is there untouched was so before.
-pub record Moved (a b : Outside) (g : Geometry) (old new : PortParts) : Type 0 where
-  pub changes : ChangesWithin (InRest g (used_at old.units) (IsLoose NoUnit (used_at old.units) old.pages)) a b
+-- The page was there, is there no more, and the committed state hasn't it.
+abbrev pub WasSwept : List Bool → PortParts → PortParts → ℕ → Type 0
+WasSwept kept old new page = (is_held old.pages page ≡ true) × (is_held new.pages page ≡ false) × (is_kept kept page ≡ false)
+
+-- What an update leaves of the parts of a port: no unit was given back that isn't of the set, on the disk nothing changed but bytes of units that weren't in
+-- use, and the committed images are the same. A page that is there no more was given back, and one that is there untouched was so before.
+pub record Moved (freed : ℕ → Type 0) (a b : Outside) (g : Geometry) (old new : PortParts) : Type 0 where
+  pub changes : ChangesWithin (InRest g (used_at old.units) NoUnit) a b
   pub told : Tells a old.groups → Tells b new.groups
-  pub fixed : (unit : ℕ) → IsFixed NoUnit (used_at old.units) old.pages unit → IsFixed NoUnit (used_at new.units) new.pages unit
+  pub used : (unit : ℕ) → used_at old.units unit ≡ true → (freed unit → ⊥) → used_at new.units unit ≡ true
   pub given_back : (page : ℕ) → IsKnown old.meta old.pages page → is_held new.pages page ≡ false → lookup (nat_eq page) new.meta.working ≡ Some None
   pub untouched : (page : ℕ) → IsUntouched new.meta new.pages page → IsUntouched old.meta old.pages page
   pub committed : new.meta.committed ≡ old.meta.committed
   pub ready : AreReady g b.size new
 
--- On the disk nothing changed but bytes of units that are not in use, or that the open transaction took.
+-- On the disk nothing changed but bytes of units that are not in use.
 abbrev pub WritesLoose : Outside → Outside → SessionState → Type 0
-WritesLoose a b s = ChangesWithin (InRest s.geometry (used_at s.units) (IsLoose NoUnit (used_at s.units) s.pages)) a b
+WritesLoose a b s = ChangesWithin (InRest s.geometry (used_at s.units) NoUnit) a b
 
 -- the note of an update, of the version with this OID
 abbrev pub note_with : OpNote → Oid → OpNote
@@ -112,6 +113,24 @@ pub record HoldsTable (before : View SessionState) (b : Outside) (p : PortParts)
   pub holds : b.disk ≡ Some later
   pub rules : IsTable before.session.geometry table
   pub shows : (m : Machine) (new : SessionState) → KeepsRest before.session new p → MachineWith before.machine m new table → Shared (held_view (record { machine = m; session = new; disk = later }))
+      → Shows b.images (held_view (record { machine = m; session = new; disk = later }))
+
+-- The session after the update has these parts, but that pages may be free which the update gave back and which the committed state hasn't. Of the rest it
+-- has what the committed state is of.
+pub record KeepsSwept (old new : SessionState) (p : PortParts) : Type 0 where
+  pub is : IsSession new
+  pub units : OnlyGives (λ unit. WasSwept old.kept (parts_held old) p unit → ⊥) p.units new.units
+  pub parts : parts_held new ≡ record p { units = new.units }
+  pub geometry : new.geometry ≡ old.geometry
+  pub log : new.log ≡ old.log
+  pub kept : new.kept ≡ old.kept
+
+-- The parts hold a volume with this table, which keeps the rules, also once pages are free that the update gave back.
+pub record HoldsSwept (before : View SessionState) (b : Outside) (p : PortParts) (table : Table) : Type 0 where
+  pub later : List ℕ
+  pub holds : b.disk ≡ Some later
+  pub rules : IsTable before.session.geometry table
+  pub shows : (m : Machine) (new : SessionState) → KeepsSwept before.session new p → MachineWith before.machine m new table → Shared (held_view (record { machine = m; session = new; disk = later }))
       → Shows b.images (held_view (record { machine = m; session = new; disk = later }))
 
 -- The session has these parts, of this geometry.

@@ -81,24 +81,22 @@ impl Session {
     ghost use Rattle.ex_base.specs.Area.{area_end, catalog_no};
     ghost use Rattle.tree_store.specs.Stored.{IsCounted};
     ghost use Rattle.page_alloc.specs.UnitSet.{used_at};
-    ghost use Rattle.volume_port.specs.Logged.{is_held, is_taken};
+    ghost use Rattle.volume_port.specs.Logged.{is_held};
     ghost use Rattle.volume_port.specs.Ported.{IsUsed};
     ghost use Rattle.buffer_groups.specs.Frames.{Frames};
     ghost use Rattle.commits.specs.Room.{IsLogged, AreBehindLog};
     ghost use Rattle.session_core.specs.Sessions.{fresh_session};
 
     /// A session over these parts, with no transaction, no scan and no bound name. The parts are of one geometry, `main` is among the groups, no page
-    /// is touched or taken, the catalog is among the logged pages and each of these is used, each committed image has its place in the log, and no frame is
+    /// is touched, the catalog is among the logged pages and each of these is used, each committed image has its place in the log, and no frame is
     /// of a page of the log.
     pub fn make(alloc: Global, parts: Parts) -> Result<Session, AllocError>
         requires log { parts.log.geometry ≡ parts.geometry }
         requires meta { parts.meta.geometry ≡ parts.geometry }
         requires units { IsCounted parts.geometry parts.units }
-        requires held { length parts.pages.held ≡ area_end parts.geometry }
-        requires taken { length parts.pages.taken ≡ area_end parts.geometry }
+        requires held { length parts.pages ≡ area_end parts.geometry }
         requires catalog { is_held parts.pages catalog_no ≡ true }
         requires in_use { (page : ℕ) → IsUsed (used_at parts.units) parts.pages page }
-        requires none_taken { (page : ℕ) → is_taken parts.pages page ≡ false }
         requires groups { All (λ (f : Frames). f.page_size
             ≡ parts.geometry.page_size) parts.groups }
         requires main { 0 < length parts.groups }

@@ -23,9 +23,7 @@ use Rattle.volume_model.specs.Parts.{Decodes}
 use Rattle.volume_model.specs.SameVolume.{RootKept, kept_from_reach, units_of_root}
 use Rattle.volume_model.specs.Shown.{PageRow}
 use Rattle.volume_model.specs.Volume.{Decoded, file_pages, reach_of, roots_in, stored_in, units_of}
-use Rattle.volume_port.specs.Logged.{LoggedSet}
-use Rattle.volume_port.specs.Ported.{IsFixed, IsLoose}
-use Rattle.volume_port.specs.Stays.{ReachIsOf, StillCommitted}
+use Rattle.volume_port.specs.Stays.{ReachIsOf, StaysUsed, StillCommitted}
 
 -- ---- where units lie
 
@@ -43,13 +41,13 @@ leaf_unit g leaf i is there = let same : unit_len g leaf ≡ leaf_bytes g = rw (
 
 -- ---- what no crash may change lies apart from what the transaction writes
 
-module _ (d : Decoded) (disk : List ℕ) (freed : ℕ → Type 0) (units : UnitSet) (pages : LoggedSet) (counted : IsCounted d.geometry units) (fixed : ReachIsOf (IsFixed freed (used_at units) pages) d disk) (decodes : Decodes disk d) where
+module _ (d : Decoded) (disk : List ℕ) (freed : ℕ → Type 0) (units : UnitSet) (counted : IsCounted d.geometry units) (safe : ReachIsOf (StaysUsed freed (used_at units)) d disk) (decodes : Decodes disk d) where
   abbrev Written : ℕ → Type 0
-  Written i = InRest d.geometry (used_at units) (IsLoose freed (used_at units) pages) i
+  Written i = InRest d.geometry (used_at units) freed i
 
-  fixed_apart : (unit i : ℕ) → IsFixed freed (used_at units) pages unit → InUnit d.geometry unit i → Written i → ⊥
-  fixed_apart unit i is there written =
-      written.apart unit (counted.named unit is.in_use) is.in_use (λ loose. loose is) there
+  safe_apart : (unit i : ℕ) → StaysUsed freed (used_at units) unit → InUnit d.geometry unit i → Written i → ⊥
+  safe_apart unit i is there written =
+      written.apart unit (counted.named unit is.0) is.0 is.1 there
 
   front_apart : (i : ℕ) → InFront d i → Written i → ⊥
   front_apart i front written =
@@ -62,8 +60,8 @@ module _ (d : Decoded) (disk : List ℕ) (freed : ℕ → Type 0) (units : UnitS
   durable_apart i durable written = ⊎_elim
       (λ front. front_apart i front written)
       (λ rest. ⊎_elim
-      (λ (home : InHome d disk i). fixed_apart home.page i (fixed home.page home.reached) (page_unit d.geometry home.page i home.is_page home.inside) written)
-      (λ (leaf : InLeaf d disk i). fixed_apart leaf.leaf i (fixed leaf.leaf leaf.reached) (leaf_unit d.geometry leaf.leaf i leaf.is_leaf leaf.inside) written)
+      (λ (home : InHome d disk i). safe_apart home.page i (safe home.page home.reached) (page_unit d.geometry home.page i home.is_page home.inside) written)
+      (λ (leaf : InLeaf d disk i). safe_apart leaf.leaf i (safe leaf.leaf leaf.reached) (leaf_unit d.geometry leaf.leaf i leaf.is_leaf leaf.inside) written)
       rest)
       durable
 
@@ -81,17 +79,17 @@ module _ (d : Decoded) (disk : List ℕ) (freed : ℕ → Type 0) (units : UnitS
     pub agrees_later : Agrees d disk later
     agrees_later = changed_agrees disk later itself same
 
-    pub units_later : (unit : ℕ) → IsFixed freed (used_at units) pages unit → units_of d later unit ≡ units_of d disk unit
-    units_later unit is_fixed =
+    pub units_later : (unit : ℕ) → StaysUsed freed (used_at units) unit → units_of d later unit ≡ units_of d disk unit
+    units_later unit stays =
         either_way (ltb unit (area_end d.geometry)) (after_log d.geometry d.records later unit) (leaf_at d.geometry later unit) (after_log d.geometry d.records disk unit) (leaf_at d.geometry disk unit)
         (λ is. from_home (logged d.records unit) (page_at d.geometry later unit) (page_at d.geometry disk unit) (λ none.
         same_part later disk (unit * d.geometry.page_size) d.geometry.page_size same.same_length
-        (λ i from to. same.each i (fixed_apart unit i is_fixed (page_unit d.geometry unit i (ltb-true unit (area_end d.geometry) is) (from, to))))))
+        (λ i from to. same.each i (safe_apart unit i stays (page_unit d.geometry unit i (ltb-true unit (area_end d.geometry) is) (from, to))))))
         (λ is. same_part later disk (unit * d.geometry.page_size) (leaf_bytes d.geometry) same.same_length
-        (λ i from to. same.each i (fixed_apart unit i is_fixed (leaf_unit d.geometry unit i (ltb-false unit (area_end d.geometry) is) (from, to)))))
+        (λ i from to. same.each i (safe_apart unit i stays (leaf_unit d.geometry unit i (ltb-false unit (area_end d.geometry) is) (from, to)))))
 
     kept : Kept (units_of d disk) (units_of d later) (reach_of (units_of d disk) d.volume)
-    kept = each_from (λ u. units_of d later u ≡ units_of d disk u) (reach_of (units_of d disk) d.volume) (λ u reached. units_later u (fixed u reached))
+    kept = each_from (λ u. units_of d later u ≡ units_of d disk u) (reach_of (units_of d disk) d.volume) (λ u reached. units_later u (safe u reached))
 
     pub reach_later : reach_of (units_of d later) d.volume ≡ reach_of (units_of d disk) d.volume
     reach_later =
@@ -117,15 +115,15 @@ module _ (d : Decoded) (disk : List ℕ) (freed : ℕ → Type 0) (units : UnitS
 
 -- ---- the law, over the outside
 
-module _ (d : Decoded) (disk : List ℕ) (freed : ℕ → Type 0) (u v : UnitSet) (k l : LoggedSet) (counted : IsCounted d.geometry u) (fixed : ReachIsOf (IsFixed freed (used_at u) k) d disk) (a b : Outside)
-    (changes : ChangesWithin (InRest d.geometry (used_at u) (IsLoose freed (used_at u) k)) a b) (honest : IsTrue a.honest) (log : LogState) (overlay : List PageRow) (committed : Committed a.images d disk log overlay) where
-  pub stays_on : a.disk ≡ Some disk → ((unit : ℕ) → IsFixed freed (used_at u) k unit → IsFixed freed (used_at v) l unit)
-      → (later : List ℕ) × ((b.disk ≡ Some later) × StillCommitted (IsFixed freed (used_at u) k) (IsFixed freed (used_at v) l) d disk b.images later log overlay)
+module _ (d : Decoded) (disk : List ℕ) (freed : ℕ → Type 0) (u v : UnitSet) (counted : IsCounted d.geometry u) (safe : ReachIsOf (StaysUsed freed (used_at u)) d disk) (a b : Outside)
+    (changes : ChangesWithin (InRest d.geometry (used_at u) freed) a b) (honest : IsTrue a.honest) (log : LogState) (overlay : List PageRow) (committed : Committed a.images d disk log overlay) where
+  pub stays_on : a.disk ≡ Some disk → ((unit : ℕ) → StaysUsed freed (used_at u) unit → StaysUsed freed (used_at v) unit)
+      → (later : List ℕ) × ((b.disk ≡ Some later) × StillCommitted (StaysUsed freed (used_at u)) (StaysUsed freed (used_at v)) d disk b.images later log overlay)
   stays_on holds goes_on =
       let now = changes.disk honest disk holds in
       let later = now.0 in
-      let agrees = agrees_later d disk freed u k counted fixed committed.parts later now.2 in
-      let reach = reach_later d disk freed u k counted fixed committed.parts later now.2 in (
+      let agrees = agrees_later d disk freed u counted safe committed.parts later now.2 in
+      let reach = reach_later d disk freed u counted safe committed.parts later now.2 in (
         later,
         (
           now.1,
@@ -134,14 +132,14 @@ module _ (d : Decoded) (disk : List ℕ) (freed : ℕ → Type 0) (u v : UnitSet
               parts = agrees_decodes d disk later committed.parts agrees;
               durable = λ image here.
                   let from = changes.images honest image here in
-                  agrees_on_later d disk freed u k counted fixed committed.parts later now.2 image
-                  (changed_agrees d disk freed u k counted fixed committed.parts from.0 image (committed.durable from.0 from.1) from.2);
+                  agrees_on_later d disk freed u counted safe committed.parts later now.2 image
+                  (changed_agrees d disk freed u counted safe committed.parts from.0 image (committed.durable from.0 from.1) from.2);
               shown = committed.shown;
             };
-            units = units_later d disk freed u k counted fixed committed.parts later now.2;
+            units = units_later d disk freed u counted safe committed.parts later now.2;
             reach = reach;
             table = agrees_table d disk later agrees;
-            reached = λ unit reached. goes_on unit (fixed unit (subst (λ us. Contains us unit) reach reached));
+            reached = λ unit reached. goes_on unit (safe unit (subst (λ us. Contains us unit) reach reached));
           },
         ),
       )
@@ -149,5 +147,5 @@ module _ (d : Decoded) (disk : List ℕ) (freed : ℕ → Type 0) (u v : UnitSet
   -- and each image that a crash meanwhile might have left stands for the committed table
   pub stands_meanwhile : IsWorld a → Leaves a b (StandsForVolume d disk)
   stands_meanwhile world =
-      leaves_changes (InRest d.geometry (used_at u) (IsLoose freed (used_at u) k)) (StandsForVolume d disk) world honest changes
-      (λ from image here same. agrees_stands disk image d committed.parts (changed_agrees d disk freed u k counted fixed committed.parts from image (committed.durable from here) same))
+      leaves_changes (InRest d.geometry (used_at u) freed) (StandsForVolume d disk) world honest changes
+      (λ from image here same. agrees_stands disk image d committed.parts (changed_agrees d disk freed u counted safe committed.parts from image (committed.durable from here) same))

@@ -32,15 +32,6 @@ module _ {V : Type 0} where
     ]) refl
   ]
 
-  some_of : (o : Option V) (v : V) → o ≡ Some v → IsSome o
-  some_of o v is = rw is refl
-
-  -- what has a row still has one
-  pub put_touches : (page : ℕ) (v : V) (rows : List (ℕ × V)) (p : ℕ) → IsSome (lookup (nat_eq p) rows) → IsSome (lookup (nat_eq p) (with_row page v rows))
-  put_touches page v rows p is = ⊎_elim
-      (λ (same : page ≡ p). subst (λ q. IsSome (lookup (nat_eq q) (with_row page v rows))) same (some_of _ v (put_here page v rows)))
-      (λ (differ : page ≢ p). subst (λ o. IsSome o) (sym (put_other page v rows p differ)) is) (cases_eq page p)
-
 -- ---- which pages have images
 
 pub in_area : (g : Geometry) (page : ℕ) → InPageArea g page → in_pages g page ≡ true

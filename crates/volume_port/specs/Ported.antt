@@ -9,7 +9,7 @@ use Rattle.ex_base.specs.declared.ground.Ground as ground
 use Rattle.ex_base.specs.Area.{area_end, catalog_no}
 use Rattle.meta_pages.specs.Overlays.{Overlays, image_at}
 use Rattle.tree_store.specs.Stored.{NoUnit}
-use Rattle.volume_port.specs.Logged.{LoggedSet, is_held, is_taken}
+use Rattle.volume_port.specs.Logged.{LoggedSet, is_held}
 
 -- whether the page lies in the page area
 abbrev pub in_pages : Geometry → ℕ → Bool
@@ -24,29 +24,16 @@ abbrev pub IsUsed : (ℕ → Bool) → LoggedSet → ℕ → Type 0
 IsUsed used pages page = is_held pages page ≡ true → used page ≡ true
 
 -- The store is ready, and all parts are of its geometry. The working state has the catalog, and each page that it has is used. Of the touched pages it
--- has just those with an image; each page that the transaction took is one of them, and is there.
+-- has just those with an image.
 pub record IsReady {S : Type 0} (g : ground.Ghosts S) (store : S) (meta : Overlays) (pages : LoggedSet) (room : List ℕ) : Type 0 where
   pub ready : g.ready store
   pub overlay : meta.geometry ≡ g.geometry store
-  pub held_len : length pages.held ≡ area_end (g.geometry store)
-  pub taken_len : length pages.taken ≡ area_end (g.geometry store)
+  pub held_len : length pages ≡ area_end (g.geometry store)
   pub room_len : length room ≡ (g.geometry store).page_size
   pub catalog : is_held pages catalog_no ≡ true
   pub in_use : (page : ℕ) → IsUsed (g.used store) pages page
   pub images : (page : ℕ) (image : List ℕ) → lookup (nat_eq page) meta.working ≡ Some (Some image) → is_held pages page ≡ true
   pub gone : (page : ℕ) → lookup (nat_eq page) meta.working ≡ Some None → is_held pages page ≡ false
-  pub taken : (page : ℕ) → is_taken pages page ≡ true → IsSome (lookup (nat_eq page) meta.working)
-  pub there : (page : ℕ) → is_taken pages page ≡ true → is_held pages page ≡ true
-
--- The unit is used, the transaction did not take it, and it is not of this set.
-pub record IsFixed (freed : ℕ → Type 0) (used : ℕ → Bool) (pages : LoggedSet) (unit : ℕ) : Type 0 where
-  pub in_use : used unit ≡ true
-  pub not_taken : is_taken pages unit ≡ false
-  pub stays : freed unit → ⊥
-
--- any other
-abbrev pub IsLoose : (ℕ → Type 0) → (ℕ → Bool) → LoggedSet → ℕ → Type 0
-IsLoose freed used pages unit = IsFixed freed used pages unit → ⊥
 
 -- the page is there, or it was given back
 abbrev pub IsKnown : Overlays → LoggedSet → ℕ → Type 0
@@ -56,15 +43,15 @@ IsKnown meta pages page = (is_held pages page ≡ true) ⊎ (lookup (nat_eq page
 abbrev pub IsUntouched : Overlays → LoggedSet → ℕ → Type 0
 IsUntouched meta pages page = (is_held pages page ≡ true) × (lookup (nat_eq page) meta.working ≡ None)
 
--- An earlier and a later state of a port, over the same borrowed parts. Each unit that was used, that the transaction had not taken and that is not
--- of the set is used still, and the transaction has not taken it. On the disk nothing changed but bytes of other units. A page that is there no more
--- is one that the transaction gave back, and one that is there untouched was so before. The committed images are the same.
+-- An earlier and a later state of a port, over the same borrowed parts. Each unit that was used and that is not of the set is used still, and on the
+-- disk nothing changed but bytes of other units. A page that is there no more is one that the transaction gave back, and one that is there untouched was
+-- so before. The committed images are the same.
 pub record Moves {S : Type 0} (g : ground.Ghosts S) (freed : ℕ → Type 0) (a b : S) (m n : MutBor Overlays) (k l : MutBor LoggedSet) (r t : MutBor (List ℕ)) : Type 0 where
-  pub store : g.frees (IsLoose freed (g.used a) k.now) a b
+  pub store : g.frees freed a b
   pub meta : n.ghost_name ≡ m.ghost_name
   pub pages : l.ghost_name ≡ k.ghost_name
   pub room : t.ghost_name ≡ r.ghost_name
-  pub fixed : (unit : ℕ) → IsFixed freed (g.used a) k.now unit → IsFixed freed (g.used b) l.now unit
+  pub used : (unit : ℕ) → g.used a unit ≡ true → (freed unit → ⊥) → g.used b unit ≡ true
   pub given_back : (page : ℕ) → IsKnown m.now k.now page → is_held l.now page ≡ false → lookup (nat_eq page) n.now.working ≡ Some None
   pub untouched : (page : ℕ) → IsUntouched n.now l.now page → IsUntouched m.now k.now page
   pub committed : n.now.committed ≡ m.now.committed
@@ -74,22 +61,14 @@ pub record Moves {S : Type 0} (g : ground.Ghosts S) (freed : ℕ → Type 0) (a 
 pub unchanged : (meta : Overlays) (pages : LoggedSet) (page : ℕ) → IsKnown meta pages page → is_held pages page ≡ false → lookup (nat_eq page) meta.working ≡ Some None
 unchanged meta pages page known now = ⊎_elim (λ there. absurd (both_ways _ now there)) (λ row. row) known
 
--- what is loose later was loose before
-loose_before : {freed : ℕ → Type 0} {used later : ℕ → Bool} {k l : LoggedSet} → ((unit : ℕ) → IsFixed freed used k unit → IsFixed freed later l unit)
-    → (unit : ℕ) → IsLoose freed later l unit → IsLoose freed used k unit
-loose_before fixed unit loose is = loose (fixed unit is)
-
-fixed_in_more : {few many : ℕ → Type 0} {used : ℕ → Bool} {k : LoggedSet} → ((unit : ℕ) → few unit → many unit) → (unit : ℕ) → IsFixed many used k unit → IsFixed few used k unit
-fixed_in_more wider unit is = record { in_use = is.in_use; not_taken = is.not_taken; stays = λ freed. is.stays (wider unit freed) }
-
 module _ {S : Type 0} (g : ground.Ghosts S) where
   pub moves_same : (a : S) (m : MutBor Overlays) (k : MutBor LoggedSet) (r : MutBor (List ℕ)) → Moves g NoUnit a a m m k k r r
   moves_same a m k r = record {
-    store = g.frees_leads (IsLoose NoUnit (g.used a) k.now) a a (g.leads_refl a);
+    store = g.frees_leads NoUnit a a (g.leads_refl a);
     meta = refl;
     pages = refl;
     room = refl;
-    fixed = λ unit is. is;
+    used = λ unit is stays. is;
     given_back = λ page known now. unchanged m.now k.now page known now;
     untouched = λ page is. is;
     committed = refl;
@@ -99,12 +78,11 @@ module _ {S : Type 0} (g : ground.Ghosts S) where
   pub moves_on : (freed : ℕ → Type 0) (a b c : S) (m n o : MutBor Overlays) (k l j : MutBor LoggedSet) (r t u : MutBor (List ℕ))
       → Moves g freed a b m n k l r t → Moves g freed b c n o l j t u → Moves g freed a c m o k j r u
   moves_on freed a b c m n o k l j r t u x y = record {
-    store = g.frees_trans (IsLoose freed (g.used a) k.now) a b c x.store
-        (g.frees_more (IsLoose freed (g.used b) l.now) (IsLoose freed (g.used a) k.now) (loose_before x.fixed) b c y.store);
+    store = g.frees_trans freed a b c x.store y.store;
     meta = y.meta ∙ x.meta;
     pages = y.pages ∙ x.pages;
     room = y.room ∙ x.room;
-    fixed = λ unit is. y.fixed unit (x.fixed unit is);
+    used = λ unit is stays. y.used unit (x.used unit is stays) stays;
     given_back = λ page known now. ⊎_elim
         (λ there. y.given_back page (inl there) now)
         (λ away. y.given_back page (inr (x.given_back page known away)) now) (cases_Bool (is_held l.now page));
@@ -116,11 +94,11 @@ module _ {S : Type 0} (g : ground.Ghosts S) where
   pub moves_more : (few many : ℕ → Type 0) → ((unit : ℕ) → few unit → many unit) → (a b : S) (m n : MutBor Overlays) (k l : MutBor LoggedSet) (r t : MutBor (List ℕ))
       → Moves g few a b m n k l r t → Moves g many a b m n k l r t
   moves_more few many wider a b m n k l r t x = record {
-    store = g.frees_more (IsLoose few (g.used a) k.now) (IsLoose many (g.used a) k.now) (λ unit loose is. loose (fixed_in_more wider unit is)) a b x.store;
+    store = g.frees_more few many wider a b x.store;
     meta = x.meta;
     pages = x.pages;
     room = x.room;
-    fixed = λ unit is. let later = x.fixed unit (fixed_in_more wider unit is) in record { in_use = later.in_use; not_taken = later.not_taken; stays = is.stays };
+    used = λ unit is stays. x.used unit is (λ few. stays (wider unit few));
     given_back = x.given_back;
     untouched = x.untouched;
     committed = x.committed;

@@ -8,7 +8,7 @@ impl<'a, D: Disk> Ground for VolumePort<'a, D> {
     ghost use Rattle.std.specs.Prelude.{length};
     ghost use Rattle.tree_store.specs.Stored.{NoUnit};
     ghost use Rattle.volume_port.specs.Logged.{is_held};
-    ghost use Rattle.volume_port.specs.Ported.{IsReady, IsLoose, Moves, image_over, moves_same, moves_on, moves_more};
+    ghost use Rattle.volume_port.specs.Ported.{IsReady, Moves, image_over, moves_same, moves_on, moves_more};
 
     ghost geometry = { λ s. ⟦<Store<'a, D> as Ground>⟧.geometry s.store };
 
@@ -44,13 +44,13 @@ impl<'a, D: Disk> Ground for VolumePort<'a, D> {
 
     ghost leads_trans = { λ a b c x y. moves_on ⟦<Store<'a, D> as Ground>⟧ NoUnit a.store b.store c.store a.meta b.meta c.meta a.pages b.pages c.pages a.room b.room c.room x y };
 
-    ghost leads_geometry = { λ a b x. ⟦<Store<'a, D> as Ground>⟧.frees_geometry (IsLoose NoUnit (⟦<Store<'a, D> as Ground>⟧.used a.store) a.pages.now) a.store b.store x.store };
+    ghost leads_geometry = { λ a b x. ⟦<Store<'a, D> as Ground>⟧.frees_geometry NoUnit a.store b.store x.store };
 
     ghost leads_ready = { λ a b x. x.ready };
 
-    ghost leads_told = { λ a b x. ⟦<Store<'a, D> as Ground>⟧.frees_told (IsLoose NoUnit (⟦<Store<'a, D> as Ground>⟧.used a.store) a.pages.now) a.store b.store x.store };
+    ghost leads_told = { λ a b x. ⟦<Store<'a, D> as Ground>⟧.frees_told NoUnit a.store b.store x.store };
 
-    ghost leads_faults = { λ a b x. ⟦<Store<'a, D> as Ground>⟧.frees_faults (IsLoose NoUnit (⟦<Store<'a, D> as Ground>⟧.used a.store) a.pages.now) a.store b.store x.store };
+    ghost leads_faults = { λ a b x. ⟦<Store<'a, D> as Ground>⟧.frees_faults NoUnit a.store b.store x.store };
 
     ghost frees_leads = { λ freed a b x. moves_more ⟦<Store<'a, D> as Ground>⟧ NoUnit freed (λ p none. absurd none) a.store b.store a.meta b.meta a.pages b.pages a.room b.room x };
 
@@ -58,11 +58,11 @@ impl<'a, D: Disk> Ground for VolumePort<'a, D> {
 
     ghost frees_more = { λ few many wider a b x. moves_more ⟦<Store<'a, D> as Ground>⟧ few many wider a.store b.store a.meta b.meta a.pages b.pages a.room b.room x };
 
-    ghost frees_geometry = { λ freed a b x. ⟦<Store<'a, D> as Ground>⟧.frees_geometry (IsLoose freed (⟦<Store<'a, D> as Ground>⟧.used a.store) a.pages.now) a.store b.store x.store };
+    ghost frees_geometry = { λ freed a b x. ⟦<Store<'a, D> as Ground>⟧.frees_geometry freed a.store b.store x.store };
 
     ghost frees_ready = { λ freed a b x. x.ready };
 
-    ghost frees_told = { λ freed a b x. ⟦<Store<'a, D> as Ground>⟧.frees_told (IsLoose freed (⟦<Store<'a, D> as Ground>⟧.used a.store) a.pages.now) a.store b.store x.store };
+    ghost frees_told = { λ freed a b x. ⟦<Store<'a, D> as Ground>⟧.frees_told freed a.store b.store x.store };
 
-    ghost frees_faults = { λ freed a b x. ⟦<Store<'a, D> as Ground>⟧.frees_faults (IsLoose freed (⟦<Store<'a, D> as Ground>⟧.used a.store) a.pages.now) a.store b.store x.store };
+    ghost frees_faults = { λ freed a b x. ⟦<Store<'a, D> as Ground>⟧.frees_faults freed a.store b.store x.store };
 }

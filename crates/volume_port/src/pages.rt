@@ -1,16 +1,15 @@
 //! Logged pages.
-ghost use Rattle.std.specs.Prelude.{◌≡◌, ◌≢◌, ◌≤◌, ◌+◌, ℕ, true, false, length, nat_eq, OnOk, IfOk, IfErr, Some, None};
+ghost use Rattle.std.specs.Prelude.{◌≡◌, ◌≢◌, ◌≤◌, ◌+◌, length, nat_eq, OnOk, IfOk, IfErr, Some, None};
 ghost use Rattle.std.specs.Map.{lookup};
 ghost use Rattle.ex_base.specs.Area.{InPageArea, catalog_no};
 ghost use Rattle.ex_base.specs.Ports.{Keeps, HasCause, IsDamage, IsLowest, TakesPage, GivesPage};
 ghost use Rattle.ex_base.specs.declared.names.Area.TheVariants.{Page, Segment};
-ghost use Rattle.page_alloc.specs.UnitSet.{used_at, refs_at, free_count};
+ghost use Rattle.page_alloc.specs.UnitSet.{used_at};
 
 use crate::port::VolumePort;
 use crate::reading::read_page;
 use disk_model::Disk;
 use ex_base::{Area, Ground, PageNo, Pages, PortFault, ReadPages, ReadVolume, Volume};
-use page_alloc::Units;
 use std::alloc::Global;
 
 impl<'a, D: Disk> VolumePort<'a, D> {
@@ -36,26 +35,6 @@ impl<'a, D: Disk> VolumePort<'a, D> {
     }
 }
 
-// Frees a page that the transaction took, where it is used and no node names it.
-fn free_taken(units: &mut Units, page: PageNo, taken: bool)
-    requires { InPageArea units.old.geometry page.0 }
-    ensures freed { taken ≡ true → refs_at units.old page.0 ≡ 0 → used_at units.new page.0 ≡ false }
-    ensures kept { taken ≡ false → units.new ≡ units.old }
-    ensures named { refs_at units.old page.0 ≢ 0 → units.new ≡ units.old }
-    ensures others { (p : ℕ) → p ≢ page.0 → used_at units.new p ≡ used_at units.old p }
-    ensures no_more { (p : ℕ) → used_at units.new p ≡ true → used_at units.old p ≡ true }
-    ensures refs { refs_at units.new ≡ refs_at units.old }
-    ensures geometry { units.new.geometry ≡ units.old.geometry }
-    ensures pages { free_count units.old.geometry (used_at units.old) Page
-        ≤ free_count units.new.geometry (used_at units.new) Page }
-    ensures leaves { free_count units.new.geometry (used_at units.new) Segment
-        ≡ free_count units.old.geometry (used_at units.old) Segment }
-{
-    if taken && units.is_used(page) && units.refs(page) == 0 {
-        units.give(page);
-    }
-}
-
 impl<'a, D: Disk> ReadPages for VolumePort<'a, D> {
     fn page_size(&self) -> u32 {
         self.store.geometry.page_size
@@ -72,8 +51,6 @@ impl<'a, D: Disk> ReadPages for VolumePort<'a, D> {
 }
 
 impl<'a, D: Disk> Pages for VolumePort<'a, D> {
-    ghost use Rattle.volume_port.specs.Logged.{is_taken};
-
     fn has(&self, page: PageNo) -> bool {
         self.pages.holds(page)
     }
@@ -91,7 +68,6 @@ impl<'a, D: Disk> Pages for VolumePort<'a, D> {
         ensures lowest { IfOk result
             (λ page. IsLowest self.old.store.geometry
             (used_at self.old.store.units.now) Page page.0) }
-        ensures noted { IfOk result (λ page. is_taken self.new.pages.now page.0 ≡ true) }
         ensures pages { OnOk result (⟦<VolumePort<'a, D> as Ground>⟧.free self.new Page + 1
             ≡ ⟦<VolumePort<'a, D> as Ground>⟧.free self.old Page) }
         ensures leaves { OnOk result (⟦<VolumePort<'a, D> as Ground>⟧.free self.new Segment
@@ -105,7 +81,7 @@ impl<'a, D: Disk> Pages for VolumePort<'a, D> {
     {
         let page = self.store.units.take(Area::Page);
         self.meta.edit(alloc, page, image)?;
-        self.pages.take(page);
+        self.pages.adopt(page);
         Ok(page)
     }
 
@@ -116,11 +92,7 @@ impl<'a, D: Disk> Pages for VolumePort<'a, D> {
         ensures given { OnOk result
             (GivesPage ⟦<VolumePort<'a, D> as Ground>⟧ self.old self.new page.0) }
         ensures noted { OnOk result (lookup (nat_eq page.0) self.new.meta.now.working ≡ Some None) }
-        ensures freed { OnOk result (is_taken self.old.pages.now page.0 ≡ true
-            → refs_at self.old.store.units.now page.0 ≡ 0
-            → used_at self.new.store.units.now page.0 ≡ false) }
-        ensures kept { OnOk result (is_taken self.old.pages.now page.0 ≡ false
-            → self.new.store.units.now ≡ self.old.store.units.now) }
+        ensures stays { self.new.store.units.now ≡ self.old.store.units.now }
         ensures no_damage { IfErr result (λ fault. IsDamage fault → ⊥) }
         ensures touched { ⟦<VolumePort<'a, D> as Ground>⟧.touched self.new
             ≤ ⟦<VolumePort<'a, D> as Ground>⟧.touched self.old + 1 }
@@ -129,8 +101,6 @@ impl<'a, D: Disk> Pages for VolumePort<'a, D> {
             (⟦<VolumePort<'a, D> as Ground>⟧.faults self.new) result }
     {
         self.meta.gone(page)?;
-        let taken = self.pages.took(page);
-        free_taken(self.store.units, page, taken);
         self.pages.give(page);
         Ok(())
     }

@@ -85,7 +85,7 @@ impl Session {
         }
         // From here on the transaction is committed, or the session is down.
         self.opened = false;
-        settle(&self.meta, &mut self.units, &mut self.pages, &mut self.kept);
+        settle(&self.meta, &mut self.units, &mut self.kept);
         if let Err(fault) = commit(
             alloc,
             &mut self.log,

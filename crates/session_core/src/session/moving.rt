@@ -18,10 +18,11 @@ ghost use Rattle.session_core.specs.TableUpdates.{updated};
 ghost use Rattle.session_core.specs.Finding.{IsOutside, LineStops};
 ghost use Rattle.session_core.specs.Counts.{free_in};
 ghost use Rattle.session_core.specs.Sessions.{HasWork, SessionState, TakenBack};
-ghost use Rattle.session_core.specs.Updates.{AreReady, HasRoomFor, HoldsTable, IfAsked, Moved, note_done};
+ghost use Rattle.session_core.specs.Updates.{AreReady, HasRoomFor, HoldsSwept, HoldsTable, IfAsked, Moved, WasSwept, note_done};
+ghost use Rattle.tree_store.specs.Stored.{NoUnit};
 
 use super::objects::stopped;
-use super::settle::take_back;
+use super::settle::{pages_there, sweep, take_back};
 use super::{MAIN, Session};
 use crate::updates::{Done, ObjectUpdate, Rooms, perform};
 use buffer_groups::Groups;
@@ -83,8 +84,7 @@ pub(super) fn give_up(
     kept: &Filled<bool>,
 )
     requires geometry { units.old.geometry ≡ meta.old.geometry }
-    requires held { length pages.old.held ≡ area_end meta.old.geometry }
-    requires taken { length pages.old.taken ≡ area_end meta.old.geometry }
+    requires held { length pages.old ≡ area_end meta.old.geometry }
     requires flags { length kept.now ≡ area_end meta.old.geometry }
     ensures back { TakenBack meta.old.working kept.now pages.old pages.new units.old units.new }
     ensures none { meta.new ≡ record meta.old { working = [] } }
@@ -125,13 +125,13 @@ fn update_on<D: Disk>(
         (record { units = units.old; groups = groups.old; meta = meta.old; pages = pages.old; room = room.old }) }
     requires can { CanPerform update.now (free_count units.old.geometry (used_at units.old) Page) }
     ensures named { IfOk result (λ done. NamesOid update.now done.oid) }
-    ensures moved { Moved (D.outside disk.old) (D.outside disk.new) geometry.now
+    ensures moved { Moved NoUnit (D.outside disk.old) (D.outside disk.new) geometry.now
         (record { units = units.old; groups = groups.old; meta = meta.old; pages = pages.old; room = room.old })
         (record { units = units.new; groups = groups.new; meta = meta.new; pages = pages.new; room = room.new }) }
     ensures updated { IfOk result
         (λ done. IfAsked (D.outside disk.old) geometry.now
         (record { units = units.old; groups = groups.old; meta = meta.old; pages = pages.old; room = room.old }) update.now (λ before u.
-        AreRows meta.new → HoldsTable before (D.outside disk.new)
+        AreRows meta.new → HoldsSwept before (D.outside disk.new)
         (record { units = units.new; groups = groups.new; meta = meta.new; pages = pages.new; room = room.new }) (updated u done.oid (shown before.machine)))) }
     ensures sound { IfErr result
         (λ fault. IfAsked (D.outside disk.old) geometry.now
@@ -147,6 +147,51 @@ fn update_on<D: Disk>(
         room,
     );
     perform(&mut port, alloc, rooms, update)
+}
+
+// Performs an update as `update_on` does, and frees the pages that it gave back and that the committed state hasn't.
+fn update_parts<D: Disk>(
+    alloc: Global,
+    disk: &mut D,
+    units: &mut Units,
+    groups: &mut Groups,
+    geometry: &Geometry,
+    meta: &mut Meta,
+    pages: &mut LoggedPages,
+    kept: &Filled<bool>,
+    room: &mut [u8],
+    rooms: &mut Rooms,
+    update: &ObjectUpdate<'_>,
+) -> Result<Done, PortFault>
+    requires ready { AreReady geometry.now (D.outside disk.old).size
+        (record { units = units.old; groups = groups.old; meta = meta.old; pages = pages.old; room = room.old }) }
+    requires flags { length kept.now ≡ area_end geometry.now }
+    requires can { CanPerform update.now (free_count units.old.geometry (used_at units.old) Page) }
+    ensures named { IfOk result (λ done. NamesOid update.now done.oid) }
+    ensures moved { Moved (WasSwept kept.now
+        (record { units = units.old; groups = groups.old; meta = meta.old; pages = pages.old; room = room.old })
+        (record { units = units.new; groups = groups.new; meta = meta.new; pages = pages.new; room = room.new }))
+        (D.outside disk.old) (D.outside disk.new) geometry.now
+        (record { units = units.old; groups = groups.old; meta = meta.old; pages = pages.old; room = room.old })
+        (record { units = units.new; groups = groups.new; meta = meta.new; pages = pages.new; room = room.new }) }
+    ensures updated { IfOk result
+        (λ done. IfAsked (D.outside disk.old) geometry.now
+        (record { units = units.old; groups = groups.old; meta = meta.old; pages = pages.old; room = room.old }) update.now (λ before u.
+        before.session.kept ≡ kept.now → AreRows meta.new → HoldsTable before (D.outside disk.new)
+        (record { units = units.new; groups = groups.new; meta = meta.new; pages = pages.new; room = room.new }) (updated u done.oid (shown before.machine)))) }
+    ensures sound { IfErr result
+        (λ fault. IfAsked (D.outside disk.old) geometry.now
+        (record { units = units.old; groups = groups.old; meta = meta.old; pages = pages.old; room = room.old }) update.now (λ before u.
+        HasRoomFor before u → IsDamage fault → ⊥)) }
+    ensures cause { HasCause (D.outside disk.old).disk_faults
+        (D.outside disk.new).disk_faults result }
+{
+    let before = pages_there(alloc, meta)?;
+    let done = update_on(
+        alloc, disk, units, groups, geometry, meta, pages, room, rooms, update,
+    )?;
+    sweep(units, pages, kept, &before);
+    Ok(done)
 }
 
 impl Session {
@@ -192,7 +237,7 @@ impl Session {
         ensures sound { IfErr result (λ why. IfUpdated (H.outside host.old) self.old update.now
             (λ before u. HasRoomFor before u → IsOutside why)) }
     {
-        let done = update_on(
+        let done = update_parts(
             alloc,
             host,
             &mut self.units,
@@ -200,6 +245,7 @@ impl Session {
             &self.geometry,
             &mut self.meta,
             &mut self.pages,
+            &self.kept,
             &mut self.room,
             &mut self.rooms,
             update,

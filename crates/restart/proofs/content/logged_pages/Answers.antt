@@ -13,15 +13,11 @@ abbrev none : PageNo
 none = record { 0 = 0 }
 
 pub loop-page-init : goal.loop-page-init
-loop-page-init c = let made = c.in_ok-pages.ensures in none_adopted c.args.geometry.now c.in_ok-pages.pages made.held made.held_len made.taken_len made.taken
+loop-page-init c = let made = c.in_ok-pages.ensures in none_adopted c.args.geometry.now c.in_ok-pages.pages made.held made.held_len
 
-pub adopt-requires-clause-held : goal.adopt-requires-clause-held
-adopt-requires-clause-held c =
+pub adopt-requires : goal.adopt-requires
+adopt-requires c =
     omega (arith, each_at (λ (page : PageNo). page.0 < area_end c.args.geometry.now) c.args.files.now c.loop-page.page-index none c.loop-page-test.true c.requires, c.loop-page.invariant.held_len)
-
-pub adopt-requires-clause-taken : goal.adopt-requires-clause-taken
-adopt-requires-clause-taken c =
-    omega (arith, each_at (λ (page : PageNo). page.0 < area_end c.args.geometry.now) c.args.files.now c.loop-page.page-index none c.loop-page-test.true c.requires, c.loop-page.invariant.taken_len)
 
 pub loop-page-preserved : goal.loop-page-preserved
 loop-page-preserved c =
@@ -34,8 +30,5 @@ pub returns-clause-held : goal.returns-clause-held
 returns-clause-held c =
     subst (λ (files : List PageNo). AreHeld c.loop-page.pages (page_numbers files)) (take_all c.loop-page.page-index c.args.files.now c.loop-page-test.false) c.loop-page.invariant.held
 
-pub returns-clause-lengths : goal.returns-clause-lengths
-returns-clause-lengths c = (c.loop-page.invariant.held_len, c.loop-page.invariant.taken_len)
-
-pub returns-clause-taken : goal.returns-clause-taken
-returns-clause-taken c = c.loop-page.invariant.taken
+pub returns-clause-len : goal.returns-clause-len
+returns-clause-len c = c.loop-page.invariant.held_len

@@ -106,11 +106,9 @@ returns-in-Ok-logged_pages-clause-reached g c =
     let geometry = c.walk_trees.ensures.geometry ∙ (c.walk_files.ensures.units.geometry ∙ c.in-Ok.ensures.geometry) in
     record {
       counted = counted c.args.geometry.now c.walk_trees.new.units (subst IsFitting c.units-2.view_is c.units-2.invariant) geometry c.in-Ok-walk_trees.ensures.counted;
-      held_len = c.in-Ok-logged_pages.ensures.lengths.0;
-      taken_len = c.in-Ok-logged_pages.ensures.lengths.1;
+      held_len = c.in-Ok-logged_pages.ensures.len;
       home = (c.in-Ok-logged_pages.ensures.held catalog_no).1 (0, omega arith, refl);
       in_use = λ page is. c.in-Ok-walk_trees.ensures.stays page ((used_files g after page).1 ((held page).0 is));
-      taken = c.in-Ok-logged_pages.ensures.taken;
     }
 
 pub returns-in-Ok-logged_pages-clause-holds : goal.returns-in-Ok-logged_pages-clause-holds

@@ -58,8 +58,8 @@ invariant_of-self-in-Err-commit g c =
     let edited = (if_no_error c.edit.result (sym c.if-is_err.ensures.value) c.edit.ensures.ok ∙ ap (λ (l : List ℕ). numbered_pages (session.the_view c.self-2.inside).meta l) c.deref.ensures.value) in
     let two = session.the_view c.self-2.inside in
     let flags = c.settle.new.kept in
-    let settled : Settled c.edit.new.self.working two.kept flags two.pages c.settle.new.pages two.units c.settle.new.units = c.settle.ensures in
-    after_commit two c.edit.new.self c.number_next-number.new.page.items c.commit.new.log c.undo.new.self c.commit.new.groups flags c.settle.new.pages c.settle.new.units _ _ c.self-2.invariant edited (record {
+    let settled : Settled c.edit.new.self.working two.kept flags two.units c.settle.new.units = c.settle.ensures in
+    after_commit two c.edit.new.self c.number_next-number.new.page.items c.commit.new.log c.undo.new.self c.commit.new.groups flags c.settle.new.units _ _ c.self-2.invariant edited (record {
       edit = ap (λ (o : Overlays). o.geometry) edited;
       log_is = c.commit.ensures.log_geometry;
       meta_is = ap (λ (o : Overlays). o.geometry) c.undo.ensures ∙ c.commit.ensures.same_geometry;
@@ -95,8 +95,8 @@ invariant_of-self-2 g c =
     let edited = (if_no_error c.edit.result (sym c.if-is_err.ensures.value) c.edit.ensures.ok ∙ ap (λ (l : List ℕ). numbered_pages (session.the_view c.self-2.inside).meta l) c.deref.ensures.value) in
     let two = session.the_view c.self-2.inside in
     let flags = c.settle.new.kept in
-    let settled : Settled c.edit.new.self.working two.kept flags two.pages c.settle.new.pages two.units c.settle.new.units = c.settle.ensures in
-    after_commit two c.edit.new.self c.number_next-number.new.page.items c.commit.new.log c.commit.new.meta c.commit.new.groups flags c.settle.new.pages c.settle.new.units _ _ c.self-2.invariant edited (record {
+    let settled : Settled c.edit.new.self.working two.kept flags two.units c.settle.new.units = c.settle.ensures in
+    after_commit two c.edit.new.self c.number_next-number.new.page.items c.commit.new.log c.commit.new.meta c.commit.new.groups flags c.settle.new.units _ _ c.self-2.invariant edited (record {
       edit = ap (λ (o : Overlays). o.geometry) edited;
       log_is = c.commit.ensures.log_geometry;
       meta_is = c.commit.ensures.same_geometry;
@@ -127,22 +127,22 @@ returns-clause-steps g c =
     } in
     let two = session.the_view c.self-2.inside in
     let flags = c.settle.new.kept in
-    let settled : Settled c.edit.new.self.working two.kept flags two.pages c.settle.new.pages two.units c.settle.new.units = c.settle.ensures in
-    commit_done c.args.self.now c.args.self.now c.catalog.new.self _ c.in-Ok.page.items c.number_next-number.new.page.items c.number_next-number.result c.commit.new.log c.commit.new.meta c.commit.new.groups flags c.settle.new.pages c.settle.new.units refl (g.H.World.is_world c.args.host.now) kept c.catalog.ensures.frames
+    let settled : Settled c.edit.new.self.working two.kept flags two.units c.settle.new.units = c.settle.ensures in
+    commit_done c.args.self.now c.args.self.now c.catalog.new.self _ c.in-Ok.page.items c.number_next-number.new.page.items c.number_next-number.result c.commit.new.log c.commit.new.meta c.commit.new.groups flags c.settle.new.units refl (g.H.World.is_world c.args.host.now) kept c.catalog.ensures.frames
     (subst (λ (t : SessionState). AreBehindLog t.groups) c.self-2.view_is c.self-2.invariant.behind)
     (commits_at (g.H.World.outside c.catalog.new.disk) (g.H.World.outside c.commit.new.disk) c.args.self.now c.catalog.new.self (session.the_view c.self-2.inside) c.edit.new.self c.number_next-number.new.page.items c.number_next-number.result c.commit.new.log c.commit.new.meta c.catalog.ensures.frames.same c.self-2.view_is edited
     (subst (λ (l : List OpNote). Commits (g.H.World.outside c.catalog.new.disk) (g.H.World.outside c.commit.new.disk) (session.the_view c.self-2.inside).log c.edit.new.self c.number_next-number.result l c.commit.new.log c.commit.new.meta) c.deref-2.ensures.value c.in_default.ensures.done))
     c.in_default.ensures.working
     (frames_at (g.H.World.outside c.catalog.new.disk) (g.H.World.outside c.commit.new.disk) c.args.self.now c.catalog.new.self (session.the_view c.self-2.inside) c.edit.new.self c.commit.new.groups c.catalog.ensures.frames.same c.self-2.view_is (ap (λ (o : Overlays). o.geometry) edited) c.self-2.invariant.meta c.commit.ensures.lends c.commit.ensures.sizes)
-    (settled_at c.args.self.now c.catalog.new.self two c.edit.new.self c.number_next-number.new.page.items flags c.settle.new.pages c.settle.new.units c.catalog.ensures.frames.same c.self-2.view_is edited settled)
-    (closed_as c.args.self.now c.catalog.new.self (session.the_view c.self-2.inside) c.commit.new.log c.commit.new.meta c.commit.new.groups flags c.settle.new.pages c.settle.new.units c.clear.new.self.items c.unmark.new.self c.catalog.ensures.frames.same c.self-2.view_is c.clear.ensures.items c.unmark.ensures)
+    (settled_at c.args.self.now c.catalog.new.self two c.edit.new.self c.number_next-number.new.page.items flags c.settle.new.units c.catalog.ensures.frames.same c.self-2.view_is edited settled)
+    (closed_as c.args.self.now c.catalog.new.self (session.the_view c.self-2.inside) c.commit.new.log c.commit.new.meta c.commit.new.groups flags c.settle.new.units c.clear.new.self.items c.unmark.new.self c.catalog.ensures.frames.same c.self-2.view_is c.clear.ensures.items c.unmark.ensures)
 
 pub returns-clause-freed : goal.returns-clause-freed
 returns-clause-freed g c = λ _ page gone left unnamed.
     let edited = (if_no_error c.edit.result (sym c.if-is_err.ensures.value) c.edit.ensures.ok ∙ ap (λ (l : List ℕ). numbered_pages (session.the_view c.self-2.inside).meta l) c.deref.ensures.value) in
     let image = c.number_next-number.new.page.items in
     let is = seen c.self.view_is c.self.invariant in
-    let settled = settled_at c.args.self.now c.catalog.new.self (session.the_view c.self-2.inside) c.edit.new.self image c.settle.new.kept c.settle.new.pages c.settle.new.units c.catalog.ensures.frames.same c.self-2.view_is edited c.settle.ensures in
+    let settled = settled_at c.args.self.now c.catalog.new.self (session.the_view c.self-2.inside) c.edit.new.self image c.settle.new.kept c.settle.new.units c.catalog.ensures.frames.same c.self-2.view_is edited c.settle.ensures in
     settled.freed page (gone_put _ _ _ _ is.pages image page gone) left unnamed
 
 pub returns-in-Err-clause-unwritten : goal.returns-in-Err-clause-unwritten

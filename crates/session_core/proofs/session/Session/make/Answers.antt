@@ -8,7 +8,7 @@ invariant_of-result c = record {
   meta = c.requires.meta;
   units = c.requires.units;
   pages = search rules;
-  in_use = record { working = c.requires.in_use; committed = λ page flag. record { in_use = c.requires.in_use page (sym (ap (λ (flags : List Bool). is_kept flags page) (c.in_ok-kept.ensures ∙ c.held.ensures)) ∙ flag); not_taken = c.requires.none_taken page; stays = λ none. none } };
+  in_use = record { working = c.requires.in_use; committed = λ page flag. c.requires.in_use page (sym (ap (λ (flags : List Bool). is_kept flags page) (c.in_ok-kept.ensures ∙ c.held.ensures)) ∙ flag) };
   room = search rules;
   sizes = c.requires.groups;
   main = c.requires.main;

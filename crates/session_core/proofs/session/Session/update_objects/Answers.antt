@@ -18,27 +18,27 @@ use Rattle.session_views.specs.declared.engine.Stop.{Stop}
 use Rattle.ex_base.specs.declared.faults.PortFault.{PortFault}
 use Rattle.ex_base.specs.Ports.{IsDamage}
 use Rattle.session_core.specs.declared.updates.Done.{Done}
-use Rattle.session_core.specs.Updates.{HasPortParts, HasRoomFor, HoldsTable, IfAsked, IfUpdated, Moved, WritesLoose, note_with}
+use Rattle.session_core.specs.Updates.{HasPortParts, HasRoomFor, HoldsTable, IfAsked, IfUpdated, Moved, WasSwept, WritesLoose, note_with}
 use Rattle.session_core.proofs.Finding.{no_damage}
 use Rattle.session_core.proofs.Moved.{at_oid, moved_session, note_with_oid, given_up_as, moments_of, noted_so, on_err, with_room, has_seen}
 use Rattle.session_core.proofs.Moving.{parts}
 use Rattle.session_core.proofs.session.Session.update_objects.Goals.{else-is_ok-via-then-is_ok+then-keeps_to+then-has_work+else-is_ok-2, else-is_ok-via-then-is_ok+then-keeps_to+else-has_work, else-is_ok-via-then-is_ok+else-keeps_to, else-is_ok-via-else-is_ok, in-Err, in-Ok}
 use Rattle.session_core.proofs.session.Session.update_objects.Goals as goal
 
-pub update_on-done-requires-clause-can : goal.update_on-done-requires-clause-can
-update_on-done-requires-clause-can g c = subst (λ (t : SessionState). CanPerform c.args.update.now (free_in t Page)) (sym c.self.view_is) c.requires.can
+pub update_parts-done-requires-clause-can : goal.update_parts-done-requires-clause-can
+update_parts-done-requires-clause-can g c = subst (λ (t : SessionState). CanPerform c.args.update.now (free_in t Page)) (sym c.self.view_is) c.requires.can
 
 pub invariant_of-self : goal.invariant_of-self
 invariant_of-self g c =
     let s = session.the_view c.self.inside in
-    let done = c.update_on-done.new in
+    let done = c.update_parts-done.new in
     let p = parts done.units done.groups done.meta done.pages done.room in
-    let moved = subst (λ (r : List ℕ). Moved (g.H.World.outside c.args.host.now) (g.H.World.outside done.disk) s.geometry (parts s.units s.groups s.meta s.pages r) p) c.deref_mut.ensures.value c.update_on-done.ensures.moved in
+    let moved = subst (λ (r : List ℕ). Moved (WasSwept s.kept (parts s.units s.groups s.meta s.pages r) p) (g.H.World.outside c.args.host.now) (g.H.World.outside done.disk) s.geometry (parts s.units s.groups s.meta s.pages r) p) c.deref_mut.ensures.value c.update_parts-done.ensures.moved in
     let len : c.self.inside.room.len ≡ length c.self.inside.room.items = search rules in
     let kept = c.keeps_to.ensures.kept c.if-keeps_to.true in
     let size : length (with_items c.self.inside.room done.room).items ≡ length done.room = sym (length_refill c.self.inside.room.len c.self.inside.room.items done.room len) ∙ len ∙ c.self.invariant.room ∙ sym moved.ready.room_len in
     let pushed : c.push.new.self.items ≡ s.notes ++ c.noted-noted.result ∷ [] = search rules in
-    let same = noted_so c.args.note.now c.noted-noted.result c.update_on-done.result (sym c.is_ok.ensures.value ∙ c.if-is_ok.true) c.noted-noted.ensures in
+    let same = noted_so c.args.note.now c.noted-noted.result c.update_parts-done.result (sym c.is_ok.ensures.value ∙ c.if-is_ok.true) c.noted-noted.ensures in
     let page : c.noted-noted.result.oid.page.0 < 2 ^ 32 = search rules in
     let slot : c.noted-noted.result.oid.slot < 2 ^ 16 = search rules in
     let unique : c.noted-noted.result.oid.unique < 2 ^ 64 = search rules in
@@ -49,31 +49,31 @@ invariant_of-self g c =
     (ap (λ (t : SessionState). t.opened) c.self.view_is ∙ c.requires.opened)))
 
 pub returns-then-is_ok-2-clause-named : goal.returns-then-is_ok-2-clause-named
-returns-then-is_ok-2-clause-named g c = at_oid (NamesOid c.args.update.now) c.args.note.now c.noted-noted.result c.update_on-done.result (sym c.is_ok.ensures.value ∙ c.if-is_ok.true) c.noted-noted.ensures c.update_on-done.ensures.named
+returns-then-is_ok-2-clause-named g c = at_oid (NamesOid c.args.update.now) c.args.note.now c.noted-noted.result c.update_parts-done.result (sym c.is_ok.ensures.value ∙ c.if-is_ok.true) c.noted-noted.ensures c.update_parts-done.ensures.named
 
 pub returns-then-is_ok-2-clause-holds : goal.returns-then-is_ok-2-clause-holds
 returns-then-is_ok-2-clause-holds g c = λ before same now u is asked.
     let s = session.the_view c.self.inside in
-    let done = c.update_on-done.new in
+    let done = c.update_parts-done.new in
     let outside = g.H.World.outside in
     let len : c.self.inside.room.len ≡ length c.self.inside.room.items = search rules in
-    let size : length done.room ≡ c.self.inside.room.len = c.update_on-done.ensures.moved.ready.room_len ∙ sym c.self.invariant.room ∙ sym len in
+    let size : length done.room ≡ c.self.inside.room.len = c.update_parts-done.ensures.moved.ready.room_len ∙ sym c.self.invariant.room ∙ sym len in
     let room = with_items_is c.self.inside.room done.room size in
     let has = has_seen s c.args.self.now before c.self.view_is same c.self.invariant in
     let holds =
     at_oid (λ (oid : Oid). IfAsked (outside c.args.host.now) s.geometry (parts s.units s.groups s.meta s.pages c.deref_mut.result.now) c.args.update.now (λ before u.
-    AreRows done.meta → HoldsTable before (outside done.disk) (parts done.units done.groups done.meta done.pages done.room) (updated u oid (shown before.machine))))
-    c.args.note.now c.noted-noted.result c.update_on-done.result (sym c.is_ok.ensures.value ∙ c.if-is_ok.true) c.noted-noted.ensures c.update_on-done.ensures.updated in
+    before.session.kept ≡ s.kept → AreRows done.meta → HoldsTable before (outside done.disk) (parts done.units done.groups done.meta done.pages done.room) (updated u oid (shown before.machine))))
+    c.args.note.now c.noted-noted.result c.update_parts-done.result (sym c.is_ok.ensures.value ∙ c.if-is_ok.true) c.noted-noted.ensures c.update_parts-done.ensures.updated in
     subst (λ (r : List ℕ). HoldsTable before (outside done.disk) (parts done.units done.groups done.meta done.pages r) (updated u c.noted-noted.result.oid (shown before.machine))) (sym room)
-    (holds before (subst (λ (r : List ℕ). HasPortParts before.session s.geometry (parts s.units s.groups s.meta s.pages r)) (sym c.deref_mut.ensures.value) has) now u is asked c.keeps_to.ensures.rows)
+    (holds before (subst (λ (r : List ℕ). HasPortParts before.session s.geometry (parts s.units s.groups s.meta s.pages r)) (sym c.deref_mut.ensures.value) has) now u is asked (ap (λ (t : SessionState). t.kept) (same ∙ sym c.self.view_is)) c.keeps_to.ensures.rows)
 
 pub returns-then-is_ok-2-clause-noted : goal.returns-then-is_ok-2-clause-noted
 returns-then-is_ok-2-clause-noted g c =
     let s = session.the_view c.self.inside in
-    let done = c.update_on-done.new in
+    let done = c.update_parts-done.new in
     let room = (with_items c.self.inside.room done.room).items in
     let pushed : c.push.new.self.items ≡ s.notes ++ c.noted-noted.result ∷ [] = search rules in
-    let same = noted_so c.args.note.now c.noted-noted.result c.update_on-done.result (sym c.is_ok.ensures.value ∙ c.if-is_ok.true) c.noted-noted.ensures in
+    let same = noted_so c.args.note.now c.noted-noted.result c.update_parts-done.result (sym c.is_ok.ensures.value ∙ c.if-is_ok.true) c.noted-noted.ensures in
     record {
       is = invariant_of-self g c;
       same =
@@ -85,9 +85,9 @@ returns-then-is_ok-2-clause-noted g c =
 pub invariant_of-self-2 : goal.invariant_of-self-2
 invariant_of-self-2 g c =
     let s = session.the_view c.self.inside in
-    let done = c.update_on-done.new in
+    let done = c.update_parts-done.new in
     let p = parts done.units done.groups done.meta done.pages done.room in
-    let moved = subst (λ (r : List ℕ). Moved (g.H.World.outside c.args.host.now) (g.H.World.outside done.disk) s.geometry (parts s.units s.groups s.meta s.pages r) p) c.deref_mut.ensures.value c.update_on-done.ensures.moved in
+    let moved = subst (λ (r : List ℕ). Moved (WasSwept s.kept (parts s.units s.groups s.meta s.pages r) p) (g.H.World.outside c.args.host.now) (g.H.World.outside done.disk) s.geometry (parts s.units s.groups s.meta s.pages r) p) c.deref_mut.ensures.value c.update_parts-done.ensures.moved in
     let len : c.self.inside.room.len ≡ length c.self.inside.room.items = search rules in
     let room = (with_items c.self.inside.room done.room).items in
     let size : length room ≡ length done.room = sym (length_refill c.self.inside.room.len c.self.inside.room.items done.room len) ∙ len ∙ c.self.invariant.room ∙ sym moved.ready.room_len in
@@ -103,16 +103,16 @@ invariant_of-self-2 g c =
     given_up_as s p c.self.invariant moved room size (session.the_view c.else-is_ok.self-inside) same c.give_up.new.meta c.give_up.new.pages c.give_up.new.units c.give_up.ensures.none back
 
 pub returns-then-is_ok-2-clause-writes : goal.returns-then-is_ok-2-clause-writes
-returns-then-is_ok-2-clause-writes g c = subst (λ (t : SessionState). WritesLoose (g.H.World.outside c.args.host.now) (g.H.World.outside c.update_on-done.new.disk) t) c.self.view_is c.update_on-done.ensures.moved.changes
+returns-then-is_ok-2-clause-writes g c = subst (λ (t : SessionState). WritesLoose (g.H.World.outside c.args.host.now) (g.H.World.outside c.update_parts-done.new.disk) t) c.self.view_is c.update_parts-done.ensures.moved.changes
 
 pub returns-clause-writes : goal.returns-clause-writes
-returns-clause-writes g c = subst (λ (t : SessionState). WritesLoose (g.H.World.outside c.args.host.now) (g.H.World.outside c.update_on-done.new.disk) t) c.self.view_is c.update_on-done.ensures.moved.changes
+returns-clause-writes g c = subst (λ (t : SessionState). WritesLoose (g.H.World.outside c.args.host.now) (g.H.World.outside c.update_parts-done.new.disk) t) c.self.view_is c.update_parts-done.ensures.moved.changes
 
 pub returns-then-is_ok-2-clause-any_moment : goal.returns-then-is_ok-2-clause-any_moment
-returns-then-is_ok-2-clause-any_moment g c = moments_of (session.the_view c.self.inside) c.args.self.now c.self.view_is c.self.invariant (g.H.World.is_world c.args.host.now) c.update_on-done.ensures.moved.changes
+returns-then-is_ok-2-clause-any_moment g c = moments_of (session.the_view c.self.inside) c.args.self.now c.self.view_is c.self.invariant (g.H.World.is_world c.args.host.now) c.update_parts-done.ensures.moved.changes
 
 pub returns-clause-any_moment : goal.returns-clause-any_moment
-returns-clause-any_moment g c = moments_of (session.the_view c.self.inside) c.args.self.now c.self.view_is c.self.invariant (g.H.World.is_world c.args.host.now) c.update_on-done.ensures.moved.changes
+returns-clause-any_moment g c = moments_of (session.the_view c.self.inside) c.args.self.now c.self.view_is c.self.invariant (g.H.World.is_world c.args.host.now) c.update_parts-done.ensures.moved.changes
 
 pub returns-clause-given_up : goal.returns-clause-given_up
 returns-clause-given_up g c = on_err c.match-done.result (refl, ap (λ (o : Overlays). o.working) c.give_up.ensures.none)
@@ -127,7 +127,7 @@ returns-clause-sound g c =
       | in-Err w ↦ subst stops (sym w.result-is) (λ before same now u is asked room.
           let has = has_seen s c.args.self.now before c.self.view_is same c.self.invariant in
           let sound = subst (λ (r : Result Done PortFault). IfErr r (λ fault. IfAsked (outside c.args.host.now) s.geometry (parts s.units s.groups s.meta s.pages c.deref_mut.result.now) c.args.update.now (λ before u. HasRoomFor before u → IsDamage fault → ⊥)))
-          w.in-Err.is c.update_on-done.ensures.sound in
+          w.in-Err.is c.update_parts-done.ensures.sound in
           subst IsOutside (sym w.stopped.ensures) (no_damage w.in-Err.fault (λ damage.
           sound before (subst (λ (r : List ℕ). HasPortParts before.session s.geometry (parts s.units s.groups s.meta s.pages r)) (sym c.deref_mut.ensures.value) has) now u is asked room damage)))
     ]

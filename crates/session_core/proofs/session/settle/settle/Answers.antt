@@ -17,10 +17,10 @@ loop-index-preserved c =
       | in-Some w ↦
           let row : WorkingRow = (w.in-Some.page.0, option_copied w.in-Some.image) in
           let inside = at_row (IsWorkingRow meta.geometry) meta.working c.loop-index.index row rows.working_pages w.in-Some.ensures in
-          settled_next meta.working c.loop-index.index row c.args.kept.now c.loop-index.kept c.match-touched_at.kept c.args.pages.now c.loop-index.pages c.match-touched_at.pages c.args.units.now c.loop-index.units c.match-touched_at.units
+          settled_next meta.working c.loop-index.index row c.args.kept.now c.loop-index.kept c.match-touched_at.kept c.args.units.now c.loop-index.units c.match-touched_at.units
           w.is_some.result rows.working_rising w.in-Some.ensures
-          (omega (arith, inside.0.1, done.kept_len, c.requires.flags)) (omega (arith, inside.0.1, done.held_len, c.requires.held)) (omega (arith, inside.0.1, done.taken_len, c.requires.taken))
-          (w.is_some.ensures ∙ copied_some w.in-Some.image) done (w.kept-is ∙ w.settle_page.ensures.kept) (w.pages-is ∙ w.settle_page.ensures.pages)
+          (omega (arith, inside.0.1, done.kept_len, c.requires.flags))
+          (w.is_some.ensures ∙ copied_some w.in-Some.image) done (w.kept-is ∙ w.settle_page.ensures.kept)
           (subst (λ (u : UnitSet). OnlyGives (λ unit. (unit ≡ row.0) × (w.is_some.result ≡ false) × (is_kept c.loop-index.kept unit ≡ true) → ⊥) c.loop-index.units u) (sym w.units-is) w.settle_page.ensures.units)
           (λ none left unnamed. ap (λ (u : UnitSet). used_at u row.0) w.units-is ∙ w.settle_page.ensures.freed none left unnamed)
       | in_default w ↦ absurd (omega (arith, w.in_default.ensures, c.loop-index-test.true, c.touched-index-end.ensures.value))

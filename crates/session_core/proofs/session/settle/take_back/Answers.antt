@@ -3,9 +3,8 @@ use Rattle.std.specs.Option.{option_copied}
 use Rattle.meta_pages.specs.Overlays.{IsWorkingRow}
 use Rattle.page_alloc.specs.UnitSet.{UnitSet, used_at}
 use Rattle.volume_model.specs.Shown.{WorkingRow}
-use Rattle.volume_port.specs.Logged.{is_taken}
 use Rattle.session_core.specs.Sessions.{OnlyGives}
-use Rattle.session_core.proofs.Settling.{taken_back_next, at_row}
+use Rattle.session_core.proofs.Settling.{taken_back_next, copied_some, at_row}
 use Rattle.session_core.proofs.session.settle.take_back.Goals.{in-Some, in_default}
 use Rattle.session_core.proofs.session.settle.take_back.Goals as goal
 
@@ -16,13 +15,13 @@ loop-index-preserved c =
     let done = c.loop-index.invariant in
     elim c.match-touched_at.branch [
       | in-Some w ↦
-          let row : WorkingRow = (w.in-Some.page.0, option_copied w.in-Some.field-0-1) in
+          let row : WorkingRow = (w.in-Some.page.0, option_copied w.in-Some.image) in
           let inside = at_row (IsWorkingRow meta.geometry) meta.working c.loop-index.index row rows.working_pages w.in-Some.ensures in
           taken_back_next meta.working c.loop-index.index row c.args.kept.now c.args.pages.now c.loop-index.pages c.match-touched_at.pages c.args.units.now c.loop-index.units c.match-touched_at.units
-          w.get.result rows.working_rising w.in-Some.ensures
-          (omega (arith, inside.0.1, done.held_len, c.requires.held)) (omega (arith, inside.0.1, done.taken_len, c.requires.taken)) (w.get.ensures false)
+          w.is_some.result w.get-flag.result rows.working_rising w.in-Some.ensures
+          (omega (arith, inside.0.1, done.held_len, c.requires.held)) (w.is_some.ensures ∙ copied_some w.in-Some.image) (w.get-flag.ensures false)
           done (w.pages-is ∙ w.take_back_page.ensures.pages)
-          (subst (λ (u : UnitSet). OnlyGives (λ unit. (unit ≡ row.0) × (is_taken c.loop-index.pages unit ≡ true) → ⊥) c.loop-index.units u) (sym w.units-is) w.take_back_page.ensures.units)
-          (λ none took unnamed. ap (λ (u : UnitSet). used_at u row.0) w.units-is ∙ w.take_back_page.ensures.freed none took unnamed)
+          (subst (λ (u : UnitSet). OnlyGives (λ unit. (unit ≡ row.0) × (w.is_some.result ≡ true) × (w.get-flag.result ≡ false) → ⊥) c.loop-index.units u) (sym w.units-is) w.take_back_page.ensures.units)
+          (λ some off unnamed. ap (λ (u : UnitSet). used_at u row.0) w.units-is ∙ w.take_back_page.ensures.freed some off unnamed)
       | in_default w ↦ absurd (omega (arith, w.in_default.ensures, c.loop-index-test.true, c.touched-index-end.ensures.value))
     ]

@@ -7,7 +7,7 @@ use Rattle.tree_store.specs.Stored.{NoUnit, unit_bytes}
 use Rattle.tree_store.proofs.Places.{area_unit}
 use Rattle.tree_store.proofs.Taking.{counts_frees, taken_area, taken_counted, updated_here, updated_other}
 use Rattle.volume_port.specs.Logged.{is_held}
-use Rattle.volume_port.proofs.Moving.{free_apart, held_here, held_other, store_moves, take_grows, take_moves, taken_here}
+use Rattle.volume_port.proofs.Moving.{free_apart, held_here, held_other, store_moves, take_grows, take_moves}
 use Rattle.volume_port.proofs.WorkingRows.{image_put, images_put}
 use Rattle.volume_port.proofs.pages.VolumePortPages.take_page.Goals as goal
 
@@ -27,13 +27,6 @@ returns-in_err-edit-clause-leads g c =
 pub returns-clause-leaves : goal.returns-clause-leaves
 returns-clause-leaves g c = c.take-page.ensures.other_free Segment (λ same. cc)
 
-pub returns-clause-noted : goal.returns-clause-noted
-returns-clause-noted g c =
-    let s = c.args.self.now in
-    let page = c.take-page.result.0 in
-    let area = taken_area s.store.geometry s.store.units.now Page page c.requires.ready.ready.counted.geometry c.take-page.ensures.lowest in
-    taken_here s.pages.now c.take.new.self page true true c.take.ensures (omega (arith, area.1, c.requires.ready.taken_len))
-
 pub returns-clause-taken : goal.returns-clause-taken
 returns-clause-taken g c =
     let s = c.args.self.now in
@@ -44,7 +37,7 @@ returns-clause-taken g c =
     let free = took.lowest.free in
     let apart = free_apart (used_at store.units.now) s.pages.now page c.requires.ready.in_use free in
     let other : page ≢ catalog_no = λ same. both_ways _ (ap (is_held s.pages.now) (sym same) ∙ apart) c.requires.ready.catalog in
-    let inside : page < length s.pages.now.held = omega (arith, area.1, c.requires.ready.held_len) in
+    let inside : page < length s.pages.now = omega (arith, area.1, c.requires.ready.held_len) in
     let unit = unit_bytes store.geometry (g.D.World.outside store.disk.now).disk in
     record {
       area = area;
@@ -52,10 +45,10 @@ returns-clause-taken g c =
       was_free = free;
       now_used = ap (λ (f : ℕ → Bool). f page) took.used ∙ updated_here (used_at store.units.now) page true;
       was_not_held = apart;
-      now_held = held_here s.pages.now c.take.new.self page true true c.take.ensures inside;
+      now_held = held_here s.pages.now c.adopt.new.self page true c.adopt.ensures inside;
       image = λ told. image_put store.geometry s.meta.now c.edit.new.self unit page c.args.image.now area c.in_ok-edit.ensures.ok;
       images = λ p differ. images_put store.geometry s.meta.now c.edit.new.self unit page p _ differ c.in_ok-edit.ensures.ok;
-      held = λ p differ. held_other s.pages.now c.take.new.self page true true c.take.ensures p differ;
+      held = λ p differ. held_other s.pages.now c.adopt.new.self page true c.adopt.ensures p differ;
       used = λ p differ. ap (λ (f : ℕ → Bool). f p) took.used ∙ updated_other (used_at store.units.now) page true p differ;
       units = λ p is. refl;
       refs = took.refs;
@@ -74,7 +67,7 @@ returns-clause-leads g c =
     (λ before. taken_counted store.geometry store.units.now c.take-page.new.self page before (area_unit store.geometry Page page area) took.geometry took.used took.refs) in
     let apart = free_apart (used_at store.units.now) s.pages.now page c.requires.ready.in_use free in
     let other : page ≢ catalog_no = λ same. both_ways _ (ap (is_held s.pages.now) (sym same) ∙ apart) c.requires.ready.catalog in
-    let inside : page < length s.pages.now.held = omega (arith, area.1, c.requires.ready.held_len) in
+    let inside : page < length s.pages.now = omega (arith, area.1, c.requires.ready.held_len) in
     take_moves _ store _ s.meta _ s.pages _ s.room page c.args.image.now refl refl other inside frees free
     (ap (λ (f : ℕ → Bool). f page) took.used ∙ updated_here (used_at store.units.now) page true)
-    (λ p differ. ap (λ (f : ℕ → Bool). f p) took.used ∙ updated_other (used_at store.units.now) page true p differ) c.in_ok-edit.ensures.ok c.take.ensures
+    (λ p differ. ap (λ (f : ℕ → Bool). f p) took.used ∙ updated_other (used_at store.units.now) page true p differ) c.in_ok-edit.ensures.ok c.adopt.ensures
