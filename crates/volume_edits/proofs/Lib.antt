@@ -12,6 +12,7 @@ pub mod Tables
 pub mod Placed
 pub mod Spelled
 pub mod Turned
+pub mod Owning
 pub mod Changing
 pub mod Rowed
 pub mod Removing

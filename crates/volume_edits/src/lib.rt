@@ -1,11 +1,13 @@
 //! What the calls on files and versions make of the whole volume and of its table. It has definitions and their laws alone.
 #![tactic(auto)]
 
-ghost use Rattle.std.specs.Prelude.{◌≡◌, ◌<◌, ◌≤◌, ◌↔◌, ℕ, true, List, Some, None, Contains, IsPermutation, IsSome, flat_map, map, [], ◌∷◌};
+ghost use Rattle.std.specs.Prelude.{◌≡◌, ◌<◌, ◌≤◌, ◌↔◌, ◌⊎◌, ◌+◌, ◌++◌, ℕ, true, false, List, Option, Some, None, Contains, IsPermutation, IsSome, flat_map, length, map, [], ◌∷◌};
 ghost use Rattle.std.specs.Option.{is_some};
 ghost use Rattle.std.specs.List.{AllByRecursion, AllZip};
 ghost use Rattle.ex_base.specs.declared.names.Oid.{Oid};
-ghost use Rattle.ex_base.specs.Ports.{Keeps, GivesUnit};
+ghost use Rattle.ex_base.specs.declared.names.Root.{Root};
+ghost use Rattle.ex_base.specs.Area.{catalog_no};
+ghost use Rattle.ex_base.specs.Ports.{Keeps, GivesUnit, times};
 ghost use Rattle.op_log.specs.declared.record.LogRecord.{LogRecord};
 ghost use Rattle.file_bodies.specs.Files.{HasFile, HasFiles};
 ghost use Rattle.index_pages.specs.declared.Index.{Index};
@@ -23,10 +25,13 @@ ghost use Rattle.table_model.specs.Steps.{current_oids, objects_if};
 ghost use Rattle.table_model.specs.Tables.{version_at, object_at, current, file_at, is_current, with_object, without_object, with_file, without_file};
 ghost use Rattle.version_model.specs.Listed.{oids_of, AreByNumber};
 ghost use Rattle.version_model.specs.Versions.{Stands, HasVersion, Change, EditsVersion, PutsVersion, AreInUse, place_of, root_of};
-ghost use Rattle.volume_model.specs.Volume.{Stored, Volume, reach_of, stored_in, table_of, unique_of};
+ghost use Rattle.trees.specs.Counted.{NamesPairs};
+ghost use Rattle.trees.specs.Owners.{IsOwned, root_pages};
+ghost use Rattle.volume_model.specs.Shown.{root_here};
+ghost use Rattle.volume_model.specs.Volume.{Stored, Volume, file_pages, reach_of, stored_in, table_of, unique_of};
 ghost use Rattle.volume_edits.specs.Ported.{ShowsVolume, IsVolume, IsApart, HasContent, KeepsReach, units_in};
 ghost use Rattle.volume_edits.specs.Shown.{HasShown, ReadsVersion};
-ghost use Rattle.volume_edits.specs.Edits.{ChangesVolume, MovesVolume, WritesCatalog, RecatalogsVolume, IsRootless, catalog_numbered, table_numbered};
+ghost use Rattle.volume_edits.specs.Edits.{ChangesVolume, MovesVolume, TurnsRoots, WritesCatalog, RecatalogsVolume, IsRootless, catalog_numbered, table_numbered};
 
 use ex_base::Ground;
 
@@ -199,4 +204,26 @@ pub fn a_volume_with_a_file_less<P: Ground>()
         → RecatalogsVolume P.Ground old new records v
         (with_entries v.catalog (without_name name v.catalog.entries))
         (without_file name (table_of (units_in P.Ground old) v)) }
+{}
+
+/// Where each unit of a tree has as many references as owners before an update, whose root that goes is an owner, it has so after the update, with the root
+/// that came counted and with the logged pages of before still in use.
+pub fn owners_after_an_update<P: Ground>()
+    ensures { (old new : P) (v now : Volume) (gone come : Option Root)
+        → TurnsRoots P.Ground old new v now gone come → NamesPairs P.Ground
+        → (logged roots : List ℕ) → IsOwned (P.Ground.geometry old) (P.Ground.unit old)
+        (P.Ground.used old) (P.Ground.refs old) logged roots
+        → P.Ground.geometry new ≡ P.Ground.geometry old
+        → ((u : ℕ) → P.Ground.used old u ≡ true → P.Ground.unit new u ≡ P.Ground.unit old u)
+        → ((u : ℕ) → P.Ground.used old u ≡ true → P.Ground.used new u ≡ true)
+        → ((page : ℕ) → (P.Ground.held new page ≡ true)
+        ↔ Contains (catalog_no ∷ file_pages now) page)
+        → ((page : ℕ) → P.Ground.held new page ≡ true → P.Ground.used new page ≡ true)
+        → 1 ≤ times catalog_no logged → ((page : ℕ) → Contains (file_pages now) page
+        → (1 ≤ times page logged) ⊎ (P.Ground.used old page ≡ false))
+        → ((p : ℕ) → 1 ≤ times p (root_pages (root_here gone)) → 1 ≤ P.Ground.refs old p)
+        → length (root_pages (root_here come) ++ roots) ≤ 1500000000 → (after : ℕ → ℕ)
+        → ((u : ℕ) → after u ≡ P.Ground.refs new u + times u (root_pages (root_here come)))
+        → IsOwned (P.Ground.geometry old) (P.Ground.unit new) (P.Ground.used new) after
+        (logged ++ file_pages now) (root_pages (root_here come) ++ roots) }
 {}

@@ -12,3 +12,9 @@ pub mod OpenedView
 pub mod FoundRows
 pub mod ExactView
 pub mod ScansKept
+pub mod OwnersAlike
+pub mod OwnersMade
+pub mod OwnersTurned
+pub mod OwnersSwept
+pub mod OwnersUpdated
+pub mod FewRoots

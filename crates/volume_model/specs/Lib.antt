@@ -4,6 +4,8 @@ pub mod Durable
 pub mod Homes
 pub mod Shown
 pub mod OwnersShown
+pub mod OwnersMoved
+pub mod OwnersTurn
 pub mod Committed
 pub mod SameVolume
 pub mod CrashImage

@@ -1,8 +1,10 @@
 -- Who owns the units of trees, as a session holds them.
 use Rattle.std.specs.Prelude.{◌≡◌, ℕ, ◌+◌, ◌≤◌, Bool, List, ◌∷◌, ◌++◌}
+use Rattle.std.specs.List.{AllByRecursion}
 use Rattle.ex_base.specs.declared.names.Root.{Root}
 use Rattle.ex_base.specs.Area.{catalog_no}
 use Rattle.ex_base.specs.Ports.{times}
+use Rattle.trees.specs.Damage.{IsWhole}
 use Rattle.trees.specs.Owners.{IsOwned, root_pages}
 use Rattle.session_views.specs.View.{View}
 use Rattle.volume_model.specs.Homes.{home}
@@ -22,12 +24,14 @@ abbrev pub roots_held : Decoded → List Root → List Root → List Root
 roots_held d gained scans = committed_roots d ++ gained ++ scans
 
 -- Each unit of a tree has as many references as owners. The working roots are the committed ones without those that the transaction lost and with
--- those that it gained. It loses committed ones alone.
+-- those that it gained. It loses committed ones alone. Each of these trees is whole.
 pub record OwnersShown (d : Decoded) (used : ℕ → Bool) (refs : ℕ → ℕ) (gained lost scans : List Root) (disk : List ℕ) (working : Volume) : Type 0 where
   pub owned : IsOwned d.geometry (home d.geometry disk) used refs (logged_pages d working) (root_pages (roots_held d gained scans))
   pub turned : (page : ℕ) → times page (root_pages (roots_in (stored_in working))) + times page (root_pages lost)
       ≡ times page (root_pages (committed_roots d)) + times page (root_pages gained)
   pub was_committed : (page : ℕ) → times page (root_pages lost) ≤ times page (root_pages (committed_roots d))
+  pub gained_whole : AllByRecursion (IsWhole d.geometry (home d.geometry disk)) gained
+  pub lost_whole : AllByRecursion (IsWhole d.geometry (home d.geometry disk)) lost
 
 -- Each unit behind the log that has an owner stands at home on the later disk as it did.
 abbrev pub OwnedStay : Decoded → (ℕ → ℕ) → List ℕ → List ℕ → Type 0

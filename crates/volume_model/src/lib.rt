@@ -2,9 +2,10 @@
 //! leave of it. It has definitions and their laws alone.
 #![tactic(auto)]
 
-ghost use Rattle.std.specs.Prelude.{◌≡◌, ◌≢◌, ◌↔◌, ◌++◌, ℕ, Bool, true, List, [], length, slice_index, Contains};
-ghost use Rattle.std.specs.List.{AllZip};
-ghost use Rattle.ex_base.specs.Area.{catalog_no, page_at};
+ghost use Rattle.std.specs.Prelude.{◌≡◌, ◌≢◌, ◌↔◌, ◌++◌, ◌∷◌, ◌+◌, ◌≤◌, ◌<◌, ℕ, Bool, true, List, [], length, slice_index, Contains, Option};
+ghost use Rattle.std.specs.List.{AllByRecursion, AllZip};
+ghost use Rattle.ex_base.specs.Area.{InPageArea, catalog_no, page_at};
+ghost use Rattle.ex_base.specs.Ports.{refs_most, times};
 ghost use Rattle.ex_base.specs.declared.geometry.Geometry.{Geometry};
 ghost use Rattle.ex_base.specs.declared.names.Root.{Root};
 ghost use Rattle.object_files.specs.Catalog.{CatalogOf, fresh_catalog};
@@ -14,13 +15,19 @@ ghost use Rattle.table_model.specs.declared.table.Table.{Table};
 ghost use Rattle.table_model.specs.Tables.{empty_table, IsTable};
 ghost use Rattle.volume_model.specs.Committed.{Committed, HomesStay, with_records};
 ghost use Rattle.op_log.specs.State.{LogState};
+ghost use Rattle.op_log.specs.declared.record.LogRecord.{LogRecord};
+ghost use Rattle.trees.specs.Damage.{IsWhole};
+ghost use Rattle.trees.specs.Owners.{IsOwned, all_named, root_pages};
+ghost use Rattle.trees.specs.Trees.{Units};
 ghost use Rattle.volume_model.specs.Durable.{Agrees};
 ghost use Rattle.volume_model.specs.FreshView.{KnowsUnits, OpenedView};
 ghost use Rattle.volume_model.specs.Homes.{home};
-ghost use Rattle.volume_model.specs.OwnersShown.{NoImage, OwnedStay, OwnersOf};
-ghost use Rattle.volume_model.specs.Parts.{Decodes, FirstBad, StandsFor, SuperOf};
-ghost use Rattle.volume_model.specs.Shown.{Held, OverlayShown, ScanShown, Shows, reach_of_view, trees_of_view};
-ghost use Rattle.volume_model.specs.Volume.{Volume, Decoded, file_pages, table_of, units_of};
+ghost use Rattle.volume_model.specs.OwnersMoved.{PagesGo, UnitsMade};
+ghost use Rattle.volume_model.specs.OwnersTurn.{OwnersTurn};
+ghost use Rattle.volume_model.specs.OwnersShown.{NoImage, OwnedStay, OwnersOf, OwnersShown, committed_roots, logged_pages};
+ghost use Rattle.volume_model.specs.Parts.{Decodes, FirstBad, HoldsOf, StandsFor, SuperOf, content_parts};
+ghost use Rattle.volume_model.specs.Shown.{Held, OverlayShown, ScanShown, Shows, reach_of_view, root_here, trees_of_view};
+ghost use Rattle.volume_model.specs.Volume.{Volume, Decoded, file_pages, roots_in, stored_in, table_of, units_of};
 
 pub use session_views::Part;
 
@@ -103,4 +110,96 @@ pub fn open_scans_keep_their_bytes()
     ensures committed { (d : Decoded) (v : View Held) (working : Volume) (refs : ℕ → ℕ) (gained lost
         : List Root) → OwnersOf d v refs gained lost working → OverlayShown d v
         → (later : List ℕ) → HomesStay d v.disk later → OwnedStay d refs v.disk later }
+{}
+
+/// Where each unit of a tree has as many references as owners, it has so after an update, with the tree that came counted, and after the pages that the
+/// update gave back were freed. No count of references reaches its end.
+pub fn an_update_keeps_owners()
+    ensures made { (g : Geometry) (units : Units) (used : ℕ → Bool) (refs : ℕ → ℕ) (logged roots
+        : List ℕ) → IsOwned g units used refs logged roots → (later : Units) (now : ℕ
+        → Bool) (pages nodes : List ℕ) (come : Option Root)
+        → UnitsMade g units later used now refs logged pages nodes come → (after : ℕ → ℕ)
+        → ((u : ℕ) → after u
+        ≡ refs u + times u (all_named later nodes) + times u (root_pages (root_here come)))
+        → IsOwned g later now after pages (root_pages (root_here come) ++ roots) }
+    ensures counted { (g : Geometry) (units : Units) (used : ℕ → Bool) (refs : ℕ
+        → ℕ) (logged roots : List ℕ) → IsOwned g units used refs logged roots
+        → (later : Units) (now : ℕ → Bool) (pages nodes : List ℕ) (come : Option Root)
+        → UnitsMade g units later used now refs logged pages nodes come
+        → length (root_pages (root_here come) ++ roots) ≤ 1500000000 → (u : ℕ)
+        → refs u + times u (all_named later nodes) + times u (root_pages (root_here come))
+        < refs_most }
+    ensures swept { (d : Decoded) (working now : Volume) (units : Units) (used left : ℕ
+        → Bool) (refs : ℕ → ℕ) (roots : List ℕ)
+        → IsOwned d.geometry units used refs (logged_pages d working ++ file_pages now) roots
+        → PagesGo used left refs (file_pages working) (logged_pages d now)
+        → IsOwned d.geometry units left refs (logged_pages d now) roots }
+{}
+
+/// Where a session shows who owns each unit, it does so after an update, in which the root that came is gained: the one that went is given up at once where
+/// it was gained, by its page, and is lost else. The pages of the working files that were given back are freed, but for committed ones.
+pub fn roots_that_turn_keep_owners()
+    ensures released { (d : Decoded) (used : ℕ → Bool) (refs : ℕ → ℕ) (gained lost scans : List
+        Root) (disk : List ℕ) (working now : Volume) (gone come : Option Root) (later : List
+        ℕ) (made : ℕ → Bool) (counts : ℕ → ℕ)
+        → OwnersTurn d used refs gained lost scans disk working now gone come later made counts
+        → (others : List Root) → ((u : ℕ) → times u (root_pages others)
+        + times u (root_pages (root_here gone)) ≡ times u (root_pages gained))
+        → AllByRecursion (IsWhole d.geometry (home d.geometry disk)) others
+        → (left : ℕ → Bool) (fewer : ℕ → ℕ) → ((logged roots : List ℕ)
+        → IsOwned d.geometry (home d.geometry later) made counts logged
+        (root_pages (root_here gone) ++ roots)
+        → IsOwned d.geometry (home d.geometry later) left fewer logged roots)
+        → (rest : ℕ → Bool) → PagesGo left rest fewer (file_pages working) (logged_pages d now)
+        → OwnersShown d rest fewer (others ++ root_here come) lost scans later now }
+    ensures lost { (d : Decoded) (used : ℕ → Bool) (refs : ℕ → ℕ) (gained lost scans : List
+        Root) (disk : List ℕ) (working now : Volume) (gone come : Option Root) (later : List
+        ℕ) (made : ℕ → Bool) (counts : ℕ → ℕ)
+        → OwnersTurn d used refs gained lost scans disk working now gone come later made counts
+        → ((u : ℕ) → 1 ≤ times u (root_pages (root_here gone))
+        → times u (root_pages gained) ≡ 0)
+        → AllByRecursion (IsWhole d.geometry (home d.geometry disk)) (root_here gone)
+        → (rest : ℕ → Bool) → PagesGo made rest counts (file_pages working) (logged_pages d now)
+        → OwnersShown d rest counts (gained ++ root_here come) (lost ++ root_here gone) scans
+        later now }
+{}
+
+/// Where a session shows who owns each unit, it does so after a commit: each root that was lost is given up first, and then the pages of committed files
+/// that the working ones lack are freed.
+pub fn a_commit_keeps_owners()
+    ensures lost { (d : Decoded) (scans : List Root) (working : Volume) (used : ℕ
+        → Bool) (refs : ℕ → ℕ) (gained lost : List Root) (disk : List ℕ)
+        → OwnersShown d used refs gained lost scans disk working
+        → IsOwned d.geometry (home d.geometry disk) used refs (logged_pages d working)
+        (root_pages lost ++ root_pages (roots_in (stored_in working) ++ scans)) }
+    ensures committed { (d : Decoded) (scans : List Root) (working : Volume) (records : List
+        LogRecord) (used left : ℕ → Bool) (refs : ℕ → ℕ) (disk later : List ℕ)
+        → IsOwned d.geometry (home d.geometry disk) used refs (logged_pages d working)
+        (root_pages (roots_in (stored_in working) ++ scans))
+        → ((u : ℕ) → InPageArea d.geometry u → 1 ≤ refs u
+        → home d.geometry later u ≡ home d.geometry disk u)
+        → PagesGo used left refs (file_pages d.volume) (catalog_no ∷ file_pages working)
+        → OwnersShown (with_records d records working) left refs [] [] scans later working }
+{}
+
+/// So it does after an abort: each root that was gained is given up first, and then the pages of the working files that the committed ones lack are freed.
+pub fn an_abort_keeps_owners()
+    ensures gained { (d : Decoded) (scans : List Root) (working : Volume) (used : ℕ
+        → Bool) (refs : ℕ → ℕ) (gained lost : List Root) (disk : List ℕ)
+        → OwnersShown d used refs gained lost scans disk working
+        → IsOwned d.geometry (home d.geometry disk) used refs (logged_pages d working)
+        (root_pages gained ++ root_pages (committed_roots d ++ scans)) }
+    ensures aborted { (d : Decoded) (scans : List Root) (working : Volume) (used left : ℕ
+        → Bool) (refs : ℕ → ℕ) (disk : List ℕ)
+        → IsOwned d.geometry (home d.geometry disk) used refs (logged_pages d working)
+        (root_pages (committed_roots d ++ scans))
+        → PagesGo used left refs (file_pages working) (catalog_no ∷ file_pages d.volume)
+        → OwnersShown d left refs [] [] scans disk d.volume }
+{}
+
+/// A volume has at most 816,000,000 roots, so that no count of references reaches its end.
+pub fn a_volume_has_few_roots()
+    ensures { (g : Geometry) (records : List LogRecord) (units : Units) (v : Volume)
+        → AllByRecursion (HoldsOf g records units v) content_parts
+        → length (roots_in (stored_in v)) ≤ 816000000 }
 {}
