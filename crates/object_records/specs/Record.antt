@@ -33,10 +33,10 @@ content_bytes (Large root) = two_bytes root.height ++ eight_bytes root.size ++ p
 unfoldable pub record_bytes : Record → List ℕ
 record_bytes r = (form_of r.content ∷ state_byte r.head.state ∷ []) ++ eight_bytes r.head.unique ++ place_field r.head.older ++ place_field r.head.newer ++ content_bytes r.content
 
--- a current version has no newer one, a frozen one has one
+-- A current version has no newer one. A frozen one, from which others are derived, has one where they are not many.
 abbrev pub NewerFits : State → Option Place → Type 0
 NewerFits Current newer = newer ≡ None
-NewerFits Frozen newer = IsSome newer
+NewerFits Frozen newer = Unit {0}
 
 -- what has the fields of a root: of size 0 it has no height and no page, above that it has a page
 pub record IsRootField (root : Root) : Type 0 where

@@ -21,7 +21,8 @@ pub enum State {
     Frozen,
 }
 
-/// What every record has: its state, its unique number, and where its neighbours in the line of versions lie.
+/// What every record has: its state, its unique number, where the version lies that it is derived from, and where the only one lies that is derived
+/// from it.
 #[derive(Clone, Copy, Debug, PartialEq, Eq)]
 pub struct Head {
     pub state: State,

@@ -11,8 +11,7 @@ use Rattle.ex_base.specs.Fields.{IsPageField, two_bytes, eight_bytes, zeros, pad
 use Rattle.ex_base.proofs.FieldLaws.{two_is, eight_is}
 use Rattle.ex_base.proofs.Places.{length-place_field}
 use Rattle.ex_base.proofs.Counts.{contains_times}
-use Rattle.ex_base.specs.Sizes.{most_page, least_page, leaf_bytes}
-use Rattle.std.proofs.lemmas.Nat.{mul-le}
+use Rattle.ex_base.specs.Sizes.{most_page}
 use Rattle.ex_base.specs.declared.names.Area.{Area}
 use Rattle.ex_base.specs.Needs.{growth_need}
 use Rattle.ex_base.proofs.NeedLaws.{growth_need_up}
@@ -53,7 +52,7 @@ small_fits head bytes h few = record { unique = h.unique; older = h.older; newer
 
 -- ---- a body is no longer than its page
 
-body_within : (slots : List Slot) (k : ℕ) (body : List ℕ) → slice_index_or slots k None ≡ Some body → length body ≤ length (bodies slots)
+pub body_within : (slots : List Slot) (k : ℕ) (body : List ℕ) → slice_index_or slots k None ≡ Some body → length body ≤ length (bodies slots)
 body_within [] k body is = absurd (let e : None ≡ Some body = is in cc)
 body_within (s ∷ slots) zero body is =
     let e : length (body_of s) ≡ length body = ap (λ (t : Slot). length (body_of t)) is in
@@ -61,7 +60,7 @@ body_within (s ∷ slots) zero body is =
 body_within (s ∷ slots) (suc k) body is = omega (arith, body_within slots k body is, length-append (body_of s) (bodies slots))
 
 module _ {S : Type 0} (g : ground.Ghosts S) where
-  page_is : (s : S) (index : Index) (place : Place) (was : List ℕ) → HasBody g s index place was → IsPageOf index.file_no (g.image s place.page.0)
+  pub page_is : (s : S) (index : Index) (place : Place) (was : List ℕ) → HasBody g s index place was → IsPageOf index.file_no (g.image s place.page.0)
   page_is s index place was has = each_at (λ q. IsPageOf index.file_no (g.image s q)) (pages_in (g.image s) index) place.page.0 has.file.pages (contains_times place.page.0 (pages_in (g.image s) index) has.named)
 
   pub body_most : (s : S) (index : Index) (place : Place) (was : List ℕ) → HasBody g s index place was → 16 + length was ≤ length (g.image s place.page.0)

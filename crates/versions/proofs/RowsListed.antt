@@ -33,7 +33,7 @@ pub record IsListed (rows : List Row) (key slot : ℕ) (oids : List Oid) : Type 
   pub before : AllByRecursion (λ (row : Row). ¬ IsFrom key slot row.0) front
   pub behind : AllByRecursion (λ (row : Row). IsFrom key slot row.0) back
 
-from_start : (rows : List Row) → AllByRecursion (λ (row : Row). IsFrom 0 0 row.0) rows
+pub from_start : (rows : List Row) → AllByRecursion (λ (row : Row). IsFrom 0 0 row.0) rows
 from_start [] = tt
 from_start (row ∷ rows) = (at row.0, from_start rows)
   where
@@ -48,7 +48,7 @@ none_listed rows = record { front = []; back = rows; is = refl; oids_are = refl;
 
 -- ---- the next row
 
-all_passed : (key slot : ℕ) (front back : List Row) → AllByRecursion (λ (row : Row). ¬ IsFrom key slot row.0) (front ++ back) → AllByRecursion (λ (row : Row). IsFrom key slot row.0) back → back ≡ []
+pub all_passed : (key slot : ℕ) (front back : List Row) → AllByRecursion (λ (row : Row). ¬ IsFrom key slot row.0) (front ++ back) → AllByRecursion (λ (row : Row). IsFrom key slot row.0) back → back ≡ []
 all_passed key slot [] [] passed behind = refl
 all_passed key slot [] (row ∷ back) passed behind = absurd (passed.0 behind.0)
 all_passed key slot (x ∷ front) back passed behind = all_passed key slot front back passed.1 behind
@@ -62,7 +62,7 @@ all_listed rows key slot oids h passed =
     let none = all_passed key slot h.front h.back (subst (AllByRecursion (λ (row : Row). ¬ IsFrom key slot row.0)) h.is passed) h.behind in
     h.oids_are ∙ ap oids_of (sym (h.is ∙ ap (λ (t : List Row). h.front ++ t) none ∙ append-nil h.front))
 
-record SameCut (front back front2 : List Row) (row : Row) (back2 : List Row) : Type 0 where
+pub record SameCut (front back front2 : List Row) (row : Row) (back2 : List Row) : Type 0 where
   pub fronts : front ≡ front2
   pub backs : back ≡ row ∷ back2
 
@@ -82,7 +82,7 @@ same_rests : (x y : Row) (xs ys : List Row) → x ∷ xs ≡ y ∷ ys → xs ≡
 unfolding rest_of
 same_rests x y xs ys e = ap rest_of e
 
-same_cut : (key slot : ℕ) (front back front2 : List Row) (row : Row) (back2 : List Row) → front ++ back ≡ front2 ++ (row ∷ back2) → AllByRecursion (λ (row : Row). ¬ IsFrom key slot row.0) front → AllByRecursion (λ (row : Row). IsFrom key slot row.0) back
+pub same_cut : (key slot : ℕ) (front back front2 : List Row) (row : Row) (back2 : List Row) → front ++ back ≡ front2 ++ (row ∷ back2) → AllByRecursion (λ (row : Row). ¬ IsFrom key slot row.0) front → AllByRecursion (λ (row : Row). IsFrom key slot row.0) back
     → AllByRecursion (λ (row : Row). ¬ IsFrom key slot row.0) front2 → IsFrom key slot row.0 → SameCut front back front2 row back2
 same_cut key slot [] back [] row back2 e before behind passed reached = record { fronts = refl; backs = e }
 same_cut key slot [] [] (y ∷ front2) row back2 e before behind passed reached = absurd cc
@@ -106,7 +106,7 @@ before_trans a b c x y = elim x [
   ]
 ]
 
-tail_order : (x : Row) (xs : List Row) → InPlaceOrder (x ∷ xs) → InPlaceOrder xs
+pub tail_order : (x : Row) (xs : List Row) → InPlaceOrder (x ∷ xs) → InPlaceOrder xs
 tail_order x [] o = tt
 tail_order x (y ∷ xs) o = o.1
 
@@ -114,7 +114,7 @@ later_from : (p : Place) (x : Row) (xs : List Row) → IsBefore p x.0 → InPlac
 later_from p x [] b o = (b, tt)
 later_from p x (y ∷ xs) b o = (b, later_from p y xs (before_trans p x.0 y.0 b o.0) o.1)
 
-later : (x : Row) (xs : List Row) → InPlaceOrder (x ∷ xs) → AllByRecursion (λ (row : Row). IsBefore x.0 row.0) xs
+pub later : (x : Row) (xs : List Row) → InPlaceOrder (x ∷ xs) → AllByRecursion (λ (row : Row). IsBefore x.0 row.0) xs
 later x [] o = tt
 later x (y ∷ xs) o = later_from x.0 y xs o.0 o.1
 
@@ -122,15 +122,15 @@ pub at_mid : (p : Row → Type 0) (front : List Row) (row : Row) (back : List Ro
 at_mid p [] row back all = all.0
 at_mid p (x ∷ front) row back all = at_mid p front row back all.1
 
-earlier : (front : List Row) (row : Row) (back : List Row) → InPlaceOrder (front ++ (row ∷ back)) → AllByRecursion (λ (r : Row). IsBefore r.0 row.0) front
+pub earlier : (front : List Row) (row : Row) (back : List Row) → InPlaceOrder (front ++ (row ∷ back)) → AllByRecursion (λ (r : Row). IsBefore r.0 row.0) front
 earlier [] row back o = tt
 earlier (x ∷ front) row back o = (at_mid (λ (r : Row). IsBefore x.0 r.0) front row back (later x (front ++ (row ∷ back)) o), earlier front row back (tail_order x (front ++ (row ∷ back)) o))
 
-back_order : (front : List Row) (row : Row) (back : List Row) → InPlaceOrder (front ++ (row ∷ back)) → InPlaceOrder (row ∷ back)
+pub back_order : (front : List Row) (row : Row) (back : List Row) → InPlaceOrder (front ++ (row ∷ back)) → InPlaceOrder (row ∷ back)
 back_order [] row back o = o
 back_order (x ∷ front) row back o = back_order front row back (tail_order x (front ++ (row ∷ back)) o)
 
-not_from : (a b : Place) → IsBefore a b → ¬ IsFrom b.page.0 (b.slot + 1) a
+pub not_from : (a b : Place) → IsBefore a b → ¬ IsFrom b.page.0 (b.slot + 1) a
 not_from a b x h = elim x [
   | inl l ↦ elim h [
     | inl m ↦ omega (arith, l, m)
@@ -142,23 +142,23 @@ not_from a b x h = elim x [
   ]
 ]
 
-is_from : (a b : Place) → IsBefore a b → IsFrom a.page.0 (a.slot + 1) b
+pub is_from : (a b : Place) → IsBefore a b → IsFrom a.page.0 (a.slot + 1) b
 is_from a b x = elim x [
   | inl l ↦ inl l
   | inr l ↦ inr (l.0, omega (arith, l.1))
 ]
 
-not_itself : (a : Place) → ¬ IsFrom a.page.0 (a.slot + 1) a
+pub not_itself : (a : Place) → ¬ IsFrom a.page.0 (a.slot + 1) a
 not_itself a h = elim h [
   | inl m ↦ omega (arith, m)
   | inr m ↦ omega (arith, m.1)
 ]
 
-each_map : (P Q : Row → Type 0) (xs : List Row) → ((x : Row) → P x → Q x) → AllByRecursion P xs → AllByRecursion Q xs
+pub each_map : (P Q : Row → Type 0) (xs : List Row) → ((x : Row) → P x → Q x) → AllByRecursion P xs → AllByRecursion Q xs
 each_map P Q [] f each = tt
 each_map P Q (x ∷ xs) f each = (f x each.0, each_map P Q xs f each.1)
 
-each_app : (P : Row → Type 0) (xs : List Row) (x : Row) → AllByRecursion P xs → P x → AllByRecursion P (xs ++ (x ∷ []))
+pub each_app : (P : Row → Type 0) (xs : List Row) (x : Row) → AllByRecursion P xs → P x → AllByRecursion P (xs ++ (x ∷ []))
 each_app P [] x each p = (p, tt)
 each_app P (y ∷ xs) x each p = (each.0, each_app P xs x each.1 p)
 

@@ -19,7 +19,7 @@ use std::alloc::Global;
 const PAGE_SLOTS: u64 = 65_536;
 
 /// A place as a number: places stand in the order of their ranks.
-fn rank(place: Place) -> u64
+pub(crate) fn rank(place: Place) -> u64
     ensures rank { result ≡ rank_of place }
     ensures short { place.slot < 65536 }
 {
@@ -27,7 +27,7 @@ fn rank(place: Place) -> u64
 }
 
 /// The rank of the first place behind a place, or of the first one.
-fn first_rank(after: Option<Place>) -> u64
+pub(crate) fn first_rank(after: Option<Place>) -> u64
     ensures { result ≡ start_rank after }
 {
     match after {
@@ -37,7 +37,7 @@ fn first_rank(after: Option<Place>) -> u64
 }
 
 /// The head of the record in a body.
-fn head_of(body: &[u8], place: Place) -> Result<Head, PortFault>
+pub(crate) fn head_of(body: &[u8], place: Place) -> Result<Head, PortFault>
     ensures head { IfOk result (λ head. head ≡ (record_on body.now).head) }
     ensures sound { IfErr result (λ fault. (is : Record) → BodyOf body.now is → ⊥) }
     ensures fault { IfErr result (λ fault. fault ≡ record_fault place) }
@@ -66,7 +66,11 @@ fn head_on(body: Option<&[u8]>, place: Place) -> Result<Head, PortFault>
 }
 
 /// The head of the record at a place.
-fn head_at<V: ReadVolume>(volume: &mut V, alloc: Global, place: Place) -> Result<Head, PortFault>
+pub(crate) fn head_at<V: ReadVolume>(
+    volume: &mut V,
+    alloc: Global,
+    place: Place,
+) -> Result<Head, PortFault>
     requires { V.ready volume.old }
     ensures head { IfOk result (λ head. V.tells volume.old → (index : Index) (body : List ℕ)
         → HasBody V.Ground volume.old index place body → head ≡ (record_on body).head) }
