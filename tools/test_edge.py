@@ -370,7 +370,7 @@ class FullDisks(InAFolder):
 
     def test_a_disk_that_gets_full_loses_no_commit(self):
         self.make("whole")
-        with self.small_disk("64k") as volume:
+        with self.small_disk("32k") as volume:
             # The zeros that nothing was written over take no room here, so that the disk gets full in the midst of the run.
             subprocess.run(["cp", "--sparse=always", "whole", volume], check=True)
             script = "begin\nfile a\ncreate a as @x\ncommit\n" + "begin\nappend 258.0.1 rep:700:61\ncommit\n" * 40

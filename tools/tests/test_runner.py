@@ -86,7 +86,7 @@ class RunnerTest(InFolder):
 
     def test_same_replies(self) -> None:
         """a script without a refusal has the program's own replies"""
-        script = (TOP / "examples" / "document").read_bytes()
+        script = (TOP / "examples" / "document" / "script").read_bytes()
         self.assertEqual(self.tool("exsm_do", self.format("v"), given=script).out,
                          self.exsm("run", self.format("w"), given=script).out)
 

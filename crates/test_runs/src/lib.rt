@@ -4,4 +4,6 @@
 #[cfg(test)]
 mod formats;
 #[cfg(test)]
+mod records;
+#[cfg(test)]
 mod scripts;

@@ -7,13 +7,13 @@ use std::test::Fail;
 use volume_model::Part;
 
 /// The bytes of a page.
-const PAGE: usize = 512;
+pub const PAGE: usize = 512;
 
 /// Where the catalog lies.
-const CATALOG: usize = 257 * PAGE;
+pub const CATALOG: usize = 257 * PAGE;
 
 /// A volume of 64 pages and 16 units, and the bytes of its file.
-const FORMAT: [&str; 12] = [
+pub const FORMAT: [&str; 12] = [
     "format",
     "v",
     "--page-size",
@@ -28,7 +28,7 @@ const FORMAT: [&str; 12] = [
     "2",
 ];
 
-const SIZE: usize = 172_544;
+pub const SIZE: usize = 172_544;
 
 /// The same with two pages.
 const FORMAT_SMALL: [&str; 12] = [
@@ -68,7 +68,7 @@ fn words_of(alloc: Global, line: &[&str]) -> Result<Vec<String>, AllocError> {
 }
 
 // What the disk holds once the words made a volume on so many zero bytes.
-fn formatted(alloc: Global, line: &[&str], size: usize) -> Result<Vec<u8>, AllocError> {
+pub fn formatted(alloc: Global, line: &[&str], size: usize) -> Result<Vec<u8>, AllocError> {
     let disk = vec![in alloc; 0u8; size]?;
     let mut host = MemoryHost::make(alloc, &disk, b"", PIECE, &[], &[], None)?;
     let words = words_of(alloc, line)?;
@@ -77,7 +77,7 @@ fn formatted(alloc: Global, line: &[&str], size: usize) -> Result<Vec<u8>, Alloc
 }
 
 // Runs a script on a disk, where the calls in `failing` fail, and those after `stop`.
-fn run_on(
+pub fn run_on(
     alloc: Global,
     disk: &[u8],
     script: &[u8],
@@ -91,7 +91,7 @@ fn run_on(
 }
 
 // What a run to the end of the script leaves on the disk.
-fn left_by(
+pub fn left_by(
     rt: &impl Abort,
     alloc: Global,
     disk: &[u8],
@@ -103,7 +103,7 @@ fn left_by(
 }
 
 // Whether the bytes have these at a place.
-fn has_at(bytes: &[u8], at: usize, front: &[u8]) -> bool {
+pub fn has_at(bytes: &[u8], at: usize, front: &[u8]) -> bool {
     match bytes.get(at..) {
         Some(rest) => rest.starts_with(front),
         None => false,
@@ -120,7 +120,12 @@ fn with_byte(alloc: Global, disk: &[u8], at: usize, byte: u8) -> Result<Vec<u8>,
 }
 
 // A disk with bytes written over those from a place on.
-fn with_bytes(alloc: Global, disk: &[u8], at: usize, bytes: &[u8]) -> Result<Vec<u8>, AllocError> {
+pub fn with_bytes(
+    alloc: Global,
+    disk: &[u8],
+    at: usize,
+    bytes: &[u8],
+) -> Result<Vec<u8>, AllocError> {
     let mut changed = disk.to_vec(alloc)?;
     for (place, byte) in changed.iter_mut().skip(at).zip(bytes) {
         *place = *byte;
