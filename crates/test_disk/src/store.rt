@@ -9,6 +9,7 @@ use ex_base::{Area, Blocks, Geometry, PageNo, ReadBlocks};
 use memory_host::MemoryHost;
 use page_alloc::Units;
 use std::alloc::Global;
+use std::process::Abort;
 use std::test::Fail;
 use tree_store::Store;
 
@@ -44,6 +45,17 @@ fn fresh_parts(alloc: Global) -> Result<Parts, Fail>
     })
 }
 
+/// Reads a page of a volume of four pages.
+fn read_page<B: ReadBlocks>(rt: &impl Abort, alloc: Global, blocks: &mut B, page: PageNo)
+    requires { B.ready blocks.old }
+    ensures ready { B.ready blocks.new }
+    ensures leads { B.leads blocks.old blocks.new }
+{
+    let geometry = blocks.geometry();
+    assert!(rt; geometry.pages == 4 && geometry.in_page_area(page));
+    assert!(rt; blocks.node(alloc, page).is_ok());
+}
+
 #[test]
 fn a_second_read_of_a_node_makes_no_call(rt: HostRuntime) -> Result<(), Fail> {
     let alloc = rt.alloc();
@@ -55,16 +67,39 @@ fn a_second_read_of_a_node_makes_no_call(rt: HostRuntime) -> Result<(), Fail> {
         0,
         parts.geometry,
     );
-    assert_eq!(rt; store.geometry.pages, 4);
-    let first = store.node(alloc, PageNo(257));
-    assert!(rt; first.is_ok());
-    let _ = first;
-    assert_eq!(rt; store.disk.calls(), 1);
-    let second = store.node(alloc, PageNo(257));
-    assert!(rt; second.is_ok());
-    let _ = second;
-    assert_eq!(rt; store.disk.calls(), 1);
+    read_page(&rt, alloc, &mut store, PageNo::CATALOG);
+    assert!(rt; store.disk.calls() == 1);
+    read_page(&rt, alloc, &mut store, PageNo::CATALOG);
+    assert!(rt; store.disk.calls() == 1);
     Ok(())
+}
+
+/// The page of a node with one pair, of a leaf of four bytes.
+fn one_pair() -> [u8; PAGE_SIZE as usize] {
+    let mut node = [0u8; PAGE_SIZE as usize];
+    node[..16].copy_from_slice(&[2, 1, 0, 1, 0, 0, 0, 0, 0, 0, 0, 4, 0, 0, 1, 5]);
+    node
+}
+
+/// Writes a node, which takes the lowest page behind the catalog.
+fn write_node<B: Blocks>(rt: &impl Abort, blocks: &mut B, node: &[u8])
+    requires { B.ready blocks.old }
+    ensures ready { B.ready blocks.new }
+    ensures leads { B.leads blocks.old blocks.new }
+{
+    let geometry = blocks.geometry();
+    assert!(rt; geometry.page_size == PAGE_SIZE && geometry.pages == 4);
+    assert!(rt; node.len() == PAGE_SIZE as usize && blocks.free(Area::Page) >= 1);
+    assert!(rt; blocks.new_node(node) == Ok(PageNo(258)));
+}
+
+/// Reads the page that a node was written to.
+fn read_node<B: ReadBlocks>(rt: &impl Abort, alloc: Global, blocks: &mut B, node: &[u8])
+    requires { B.ready blocks.old }
+    ensures { B.leads blocks.old blocks.new }
+{
+    assert!(rt; blocks.geometry().in_page_area(PageNo(258)));
+    assert!(rt; blocks.node(alloc, PageNo(258)) == Ok(node));
 }
 
 #[test]
@@ -78,16 +113,10 @@ fn a_node_is_read_as_it_was_written_with_no_call(rt: HostRuntime) -> Result<(), 
         0,
         parts.geometry,
     );
-    let mut node = [0u8; PAGE_SIZE as usize];
-    node[..16].copy_from_slice(&[2, 1, 0, 1, 0, 0, 0, 0, 0, 0, 0, 4, 0, 0, 1, 5]);
-    assert_eq!(rt; store.geometry.page_size, PAGE_SIZE);
-    assert_eq!(rt; store.geometry.pages, 4);
-    assert!(rt; store.free(Area::Page) >= 1);
-    assert_eq!(rt; store.new_node(&node), Ok(PageNo(258)));
-    assert_eq!(rt; store.disk.calls(), 1);
-    let read = store.node(alloc, PageNo(258));
-    assert_eq!(rt; read, Ok(node.as_slice()));
-    let _ = read;
-    assert_eq!(rt; store.disk.calls(), 1);
+    let node = one_pair();
+    write_node(&rt, &mut store, &node);
+    assert!(rt; store.disk.calls() == 1);
+    read_node(&rt, alloc, &mut store, &node);
+    assert!(rt; store.disk.calls() == 1);
     Ok(())
 }

@@ -1,5 +1,6 @@
-ghost use Rattle.std.specs.Prelude.{◌≡◌, IsTrue};
+ghost use Rattle.std.specs.Prelude.{◌≡◌, IsTrue, IfOk};
 ghost use Rattle.std.specs.List.{AllByRecursion};
+ghost use Rattle.memory_ports.specs.InMemory.{IsVolume};
 ghost use Rattle.object_records.specs.Record.{IsRootField};
 ghost use Rattle.page_alloc.specs.UnitSet.{refs_at};
 
@@ -29,21 +30,14 @@ type RootRow = (u8, u32, u64);
 /// No root.
 const NO_ROOT: RootRow = (0, 0, 0);
 
-/// Nodes, a page of a file, roots, and what the walk answers.
+/// Nodes, a page of a file, roots, and the part that the walk blames, none where all trees are whole.
+#[derive(Clone, Copy)]
 struct Case {
     nodes: [NodeRow; 3],
     file_page: u32,
     roots: [RootRow; 2],
-    want: Result<(), OpenFault>,
+    want: Option<Part>,
 }
-
-/// The answer for a tree that fails its nodes.
-const NODE: Result<(), OpenFault> = Err(OpenFault::BadVolume { part: Part::Node });
-
-/// The answer for a tree that fails its balance.
-const BALANCE: Result<(), OpenFault> = Err(OpenFault::BadVolume {
-    part: Part::Balance,
-});
 
 /// Trees on a volume of the pages 257 to 272 and the leaves 273 to 288, with leaves of 512 bytes and nodes of two to five pairs.
 const CASES: [Case; 24] = [
@@ -52,32 +46,32 @@ const CASES: [Case; 24] = [
         nodes: [NO_NODE, NO_NODE, NO_NODE],
         file_page: 0,
         roots: [NO_ROOT, NO_ROOT],
-        want: Ok(()),
+        want: None,
     },
     Case {
         nodes: [NO_NODE, NO_NODE, NO_NODE],
         file_page: 0,
         roots: [(0, 273, 1), (0, 288, 512)],
-        want: Ok(()),
+        want: None,
     },
     Case {
         nodes: [NO_NODE, NO_NODE, NO_NODE],
         file_page: 0,
         roots: [(0, 273, 513), NO_ROOT],
-        want: BALANCE,
+        want: Some(Part::Balance),
     },
     Case {
         nodes: [GOOD, NO_NODE, NO_NODE],
         file_page: 0,
         roots: [(1, 258, 600), (0, 275, 512)],
-        want: Ok(()),
+        want: None,
     },
     // A unit that a tree names twice.
     Case {
         nodes: [(258, 1, [(300, 273), (600, 273)]), NO_NODE, NO_NODE],
         file_page: 0,
         roots: [(1, 258, 600), NO_ROOT],
-        want: Ok(()),
+        want: None,
     },
     Case {
         nodes: [
@@ -87,14 +81,14 @@ const CASES: [Case; 24] = [
         ],
         file_page: 0,
         roots: [(2, 258, 1200), NO_ROOT],
-        want: Ok(()),
+        want: None,
     },
     // Another level than is asked, at the root, below it, and where a node names itself.
     Case {
         nodes: [GOOD, NO_NODE, NO_NODE],
         file_page: 0,
         roots: [(2, 258, 600), NO_ROOT],
-        want: NODE,
+        want: Some(Part::Node),
     },
     Case {
         nodes: [
@@ -104,7 +98,7 @@ const CASES: [Case; 24] = [
         ],
         file_page: 0,
         roots: [(3, 258, 1200), NO_ROOT],
-        want: NODE,
+        want: Some(Part::Node),
     },
     Case {
         nodes: [
@@ -114,65 +108,65 @@ const CASES: [Case; 24] = [
         ],
         file_page: 0,
         roots: [(2, 258, 1200), NO_ROOT],
-        want: NODE,
+        want: Some(Part::Node),
     },
     // A node outside its grammar, and pages outside their area.
     Case {
         nodes: [NO_NODE, NO_NODE, NO_NODE],
         file_page: 0,
         roots: [(1, 258, 600), NO_ROOT],
-        want: NODE,
+        want: Some(Part::Node),
     },
     Case {
         nodes: [GOOD, NO_NODE, NO_NODE],
         file_page: 0,
         roots: [(1, 273, 600), NO_ROOT],
-        want: NODE,
+        want: Some(Part::Node),
     },
     Case {
         nodes: [GOOD, NO_NODE, NO_NODE],
         file_page: 0,
         roots: [(0, 272, 600), NO_ROOT],
-        want: NODE,
+        want: Some(Part::Node),
     },
     Case {
         nodes: [(258, 1, [(300, 273), (600, 289)]), NO_NODE, NO_NODE],
         file_page: 0,
         roots: [(1, 258, 600), NO_ROOT],
-        want: NODE,
+        want: Some(Part::Node),
     },
     // The catalog, and a page of a file.
     Case {
         nodes: [(257, 1, [(300, 273), (600, 274)]), NO_NODE, NO_NODE],
         file_page: 0,
         roots: [(1, 257, 600), NO_ROOT],
-        want: NODE,
+        want: Some(Part::Node),
     },
     Case {
         nodes: [GOOD, NO_NODE, NO_NODE],
         file_page: 258,
         roots: [(1, 258, 600), NO_ROOT],
-        want: NODE,
+        want: Some(Part::Node),
     },
     // A node and a leaf of two trees.
     Case {
         nodes: [GOOD, NO_NODE, NO_NODE],
         file_page: 0,
         roots: [(1, 258, 600), (1, 258, 600)],
-        want: NODE,
+        want: Some(Part::Node),
     },
     Case {
         nodes: [GOOD, (259, 1, [(300, 275), (600, 274)]), NO_NODE],
         file_page: 0,
         roots: [(1, 258, 600), (1, 259, 600)],
-        want: NODE,
+        want: Some(Part::Node),
     },
     // Wrong totals, at the root, below it, and where a node is named with two totals.
     Case {
         nodes: [GOOD, NO_NODE, NO_NODE],
         file_page: 0,
         roots: [(1, 258, 601), NO_ROOT],
-        want: BALANCE,
+        want: Some(Part::Balance),
     },
     Case {
         nodes: [
@@ -182,27 +176,27 @@ const CASES: [Case; 24] = [
         ],
         file_page: 0,
         roots: [(2, 258, 1199), NO_ROOT],
-        want: BALANCE,
+        want: Some(Part::Balance),
     },
     // A leaf of too few bytes and one of too many.
     Case {
         nodes: [(258, 1, [(255, 273), (600, 274)]), NO_NODE, NO_NODE],
         file_page: 0,
         roots: [(1, 258, 600), NO_ROOT],
-        want: BALANCE,
+        want: Some(Part::Balance),
     },
     Case {
         nodes: [(258, 1, [(513, 273), (1000, 274)]), NO_NODE, NO_NODE],
         file_page: 0,
         roots: [(1, 258, 1000), NO_ROOT],
-        want: BALANCE,
+        want: Some(Part::Balance),
     },
     // A node of too few pairs, at the root and below it.
     Case {
         nodes: [(258, 1, [(300, 273), (0, 0)]), NO_NODE, NO_NODE],
         file_page: 0,
         roots: [(1, 258, 300), NO_ROOT],
-        want: BALANCE,
+        want: Some(Part::Balance),
     },
     Case {
         nodes: [
@@ -212,14 +206,14 @@ const CASES: [Case; 24] = [
         ],
         file_page: 0,
         roots: [(2, 258, 900), NO_ROOT],
-        want: BALANCE,
+        want: Some(Part::Balance),
     },
     // The nodes of all trees come before the balance of any.
     Case {
         nodes: [GOOD, NO_NODE, NO_NODE],
         file_page: 0,
         roots: [(1, 258, 601), (0, 274, 512)],
-        want: NODE,
+        want: Some(Part::Node),
     },
 ];
 
@@ -234,7 +228,7 @@ const FAR_CASES: [Case; 2] = [
         ],
         file_page: 0,
         roots: [(2, 258, 1200), (0, 401, 300)],
-        want: Ok(()),
+        want: None,
     },
     Case {
         nodes: [
@@ -244,7 +238,7 @@ const FAR_CASES: [Case; 2] = [
         ],
         file_page: 0,
         roots: [(2, 258, 1200), (0, 273, 300)],
-        want: NODE,
+        want: Some(Part::Node),
     },
 ];
 
@@ -341,24 +335,29 @@ fn have_trees(roots: &[Root]) -> bool
     true
 }
 
-/// Walks the trees of these roots.
-fn walked<V: ReadVolume>(
+/// Walks the trees of these roots, and says which part is blamed, none where they are whole.
+fn blamed<V: ReadVolume>(
     volume: &mut V,
     alloc: Global,
     units: &mut Units,
-    roots: &[Root],
-) -> Result<Result<(), OpenFault>, Fail>
+    rows: &[RootRow],
+) -> Result<Option<Part>, Fail>
     requires ready { V.ready volume.old }
     requires units { units.old.geometry ≡ V.geometry volume.old }
     requires fresh { refs_at units.old ≡ (λ _. 0) }
     ensures leads { V.leads volume.old volume.new }
     ensures units { units.new.geometry ≡ units.old.geometry }
 {
-    let geometry = volume.geometry();
-    if !have_trees(roots) {
+    let roots = roots_of(alloc, rows)?;
+    if !have_trees(&roots) {
         return Err("no root")?;
     }
-    Ok(walk_trees(volume, alloc, &geometry, units, roots))
+    let geometry = volume.geometry();
+    match walk_trees(volume, alloc, &geometry, units, &roots) {
+        Ok(()) => Ok(None),
+        Err(OpenFault::BadVolume { part }) => Ok(Some(part)),
+        Err(_) => Err("a fault")?,
+    }
 }
 
 /// Makes a page one of a file, where there is one.
@@ -378,44 +377,52 @@ fn adopt_file<V: ReadVolume>(volume: &V, units: &mut Units, page: u32) -> Result
     Ok(())
 }
 
-/// Writes a case, and compares what the walk answers.
-fn check_case<V: Volume>(
-    rt: &impl Abort,
-    alloc: Global,
-    volume: &mut V,
-    case: &Case,
-) -> Result<(), Fail>
+/// Writes a case, and says which part the walk blames.
+fn blamed_in<V: Volume>(volume: &mut V, alloc: Global, case: &Case) -> Result<Option<Part>, Fail>
     requires { V.ready volume.old }
 {
-    let geometry = volume.geometry();
     put_rows(volume, alloc, &case.nodes)?;
-    let mut units = Units::make(alloc, &geometry)?;
+    let mut units = Units::make(alloc, &volume.geometry())?;
     adopt_file(volume, &mut units, case.file_page)?;
-    let roots = roots_of(alloc, &case.roots)?;
-    assert_eq!(rt; walked(volume, alloc, &mut units, &roots)?, case.want);
+    blamed(volume, alloc, &mut units, &case.roots)
+}
+
+/// A fresh volume of so many pages of 512 bytes and so many leaves.
+fn fresh(alloc: Global, pages: u32, leaves: u32) -> Result<MemoryVolume, Fail>
+    ensures { IfOk result
+        (λ v. IsVolume v.geometry v.units v.bytes.items v.images.items v.held.items) }
+{
+    let geometry = Geometry::make(512, pages, leaves, 1, 2).map_err(|_| "geometry")?;
+    Ok(MemoryVolume::make(alloc, &geometry)?)
+}
+
+/// Whether the walk blames what a case says, on a fresh volume with so many leaves.
+fn is_answered(alloc: Global, leaves: u32, case: &Case) -> Result<bool, Fail> {
+    let volume = &mut fresh(alloc, 16, leaves)?;
+    Ok(blamed_in(volume, alloc, case)? == case.want)
+}
+
+/// Takes each case.
+fn check_cases(rt: &impl Abort, alloc: Global, leaves: u32, cases: &[Case]) -> Result<(), Fail> {
+    for case in cases {
+        assert!(rt; is_answered(alloc, leaves, case)?);
+    }
     Ok(())
+}
+
+/// The table, which a function with little else gives in less of the check's time.
+fn cases() -> [Case; 24] {
+    CASES
 }
 
 #[test]
 fn crafted_trees_are_answered(rt: HostRuntime) -> Result<(), Fail> {
-    let alloc = rt.alloc();
-    let geometry = Geometry::make(512, 16, 16, 1, 2).map_err(|_| "geometry")?;
-    for case in &CASES {
-        let volume = &mut MemoryVolume::make(alloc, &geometry)?;
-        check_case(&rt, alloc, volume, case)?;
-    }
-    Ok(())
+    check_cases(&rt, rt.alloc(), 16, &cases())
 }
 
 #[test]
 fn leaves_far_apart_are_told_from_each_other(rt: HostRuntime) -> Result<(), Fail> {
-    let alloc = rt.alloc();
-    let geometry = Geometry::make(512, 16, 200, 1, 2).map_err(|_| "geometry")?;
-    for case in &FAR_CASES {
-        let volume = &mut MemoryVolume::make(alloc, &geometry)?;
-        check_case(&rt, alloc, volume, case)?;
-    }
-    Ok(())
+    check_cases(&rt, rt.alloc(), 200, &FAR_CASES)
 }
 
 /// A page, and how often roots and nodes name its unit.
@@ -481,58 +488,44 @@ fn refs_of(geometry: &Geometry, units: &Units, page: u32) -> Result<u32, Fail>
     Ok(units.refs(page))
 }
 
-/// Walks trees, and compares how often each unit was counted.
-fn check_counts<V: Volume>(
-    rt: &impl Abort,
-    alloc: Global,
+/// Whether each unit has so many references.
+fn are_counted(geometry: &Geometry, units: &Units, counts: &[CountRow]) -> Result<bool, Fail>
+    requires { units.now.geometry ≡ geometry.now }
+{
+    for (page, count) in counts {
+        if refs_of(geometry, units, *page)? != *count {
+            return Ok(false);
+        }
+    }
+    Ok(true)
+}
+
+/// Whether the walk finds trees whole and counts each unit as often as the case says.
+fn counts_as_wanted<V: Volume>(
     volume: &mut V,
+    alloc: Global,
     case: &CountCase,
-) -> Result<(), Fail>
+) -> Result<bool, Fail>
     requires { V.ready volume.old }
 {
-    let geometry = volume.geometry();
     put_rows(volume, alloc, &case.nodes)?;
+    let geometry = volume.geometry();
     let mut units = Units::make(alloc, &geometry)?;
-    let roots = roots_of(alloc, &case.roots)?;
-    assert_eq!(rt; walked(volume, alloc, &mut units, &roots)?, Ok(()));
-    for (page, count) in &case.counts {
-        assert_eq!(rt; refs_of(&geometry, &units, *page)?, *count);
+    let blamed = blamed(volume, alloc, &mut units, &case.roots)?;
+    Ok(blamed.is_none() && are_counted(&geometry, &units, &case.counts)?)
+}
+
+/// Takes each case on a fresh volume.
+fn check_counts(rt: &impl Abort, alloc: Global, cases: &[CountCase]) -> Result<(), Fail> {
+    for case in cases {
+        assert!(rt; counts_as_wanted(&mut fresh(alloc, 16, 16)?, alloc, case)?);
     }
     Ok(())
 }
 
 #[test]
 fn each_unit_counts_the_roots_and_pairs_that_name_it(rt: HostRuntime) -> Result<(), Fail> {
-    let alloc = rt.alloc();
-    let geometry = Geometry::make(512, 16, 16, 1, 2).map_err(|_| "geometry")?;
-    for case in &COUNT_CASES {
-        let volume = &mut MemoryVolume::make(alloc, &geometry)?;
-        check_counts(&rt, alloc, volume, case)?;
-    }
-    Ok(())
-}
-
-/// The pairs of a node that names trees of so many bytes each: one page all but once, and another one last, which lacks some bytes.
-fn named_often(
-    alloc: Global,
-    times: u64,
-    each: u64,
-    page: u32,
-    last: u32,
-    less: u64,
-) -> Result<Vec<Pair>, Fail> {
-    let mut pairs = Vec::new(alloc);
-    for index in 1..times {
-        pairs.push(Pair {
-            count: each.wrapping_mul(index),
-            page: PageNo(page),
-        })?;
-    }
-    pairs.push(Pair {
-        count: each.wrapping_mul(times).wrapping_sub(less),
-        page: PageNo(last),
-    })?;
-    Ok(pairs)
+    check_counts(&rt, rt.alloc(), &COUNT_CASES)
 }
 
 /// Whether a page lies in the page area and is used.
@@ -553,36 +546,110 @@ const LOW_BYTES: u64 = 256 * LEAF_BYTES;
 /// The bytes of a node over 256 such nodes.
 const HIGH_BYTES: u64 = 256 * LOW_BYTES;
 
+/// A node that names two pages, the first one often, and the last one once, with some bytes less.
+struct Often {
+    page: u32,
+    level: u8,
+    times: u64,
+    each: u64,
+    often: u32,
+    last: u32,
+    less: u64,
+}
+
 /// The nodes of the largest tree: 128 times 256 times 256 namings of one leaf, of which the last one lacks a byte.
+static LARGEST: [Often; 5] = [
+    Often {
+        page: 258,
+        level: 1,
+        times: 256,
+        each: LEAF_BYTES,
+        often: 265,
+        last: 265,
+        less: 0,
+    },
+    Often {
+        page: 259,
+        level: 1,
+        times: 256,
+        each: LEAF_BYTES,
+        often: 265,
+        last: 265,
+        less: 1,
+    },
+    Often {
+        page: 260,
+        level: 2,
+        times: 256,
+        each: LOW_BYTES,
+        often: 258,
+        last: 258,
+        less: 0,
+    },
+    Often {
+        page: 261,
+        level: 2,
+        times: 256,
+        each: LOW_BYTES,
+        often: 258,
+        last: 259,
+        less: 1,
+    },
+    Often {
+        page: 262,
+        level: 3,
+        times: 128,
+        each: HIGH_BYTES,
+        often: 260,
+        last: 261,
+        less: 1,
+    },
+];
+
+/// The pairs of such a node.
+fn named_often(alloc: Global, node: &Often) -> Result<Vec<Pair>, Fail> {
+    let mut pairs = Vec::new(alloc);
+    for index in 1..node.times {
+        pairs.push(Pair {
+            count: node.each.wrapping_mul(index),
+            page: PageNo(node.often),
+        })?;
+    }
+    pairs.push(Pair {
+        count: node.each.wrapping_mul(node.times).wrapping_sub(node.less),
+        page: PageNo(node.last),
+    })?;
+    Ok(pairs)
+}
+
+/// Writes the nodes of the largest tree.
 fn put_largest<V: Volume>(volume: &mut V, alloc: Global) -> Result<(), Fail>
     requires { V.ready volume.old }
     ensures { V.leads volume.old volume.new }
 {
-    let low = named_often(alloc, 256, LEAF_BYTES, 265, 265, 0)?;
-    put_node(volume, alloc, 258, 1, &low)?;
-    let short = named_often(alloc, 256, LEAF_BYTES, 265, 265, 1)?;
-    put_node(volume, alloc, 259, 1, &short)?;
-    let high = named_often(alloc, 256, LOW_BYTES, 258, 258, 0)?;
-    put_node(volume, alloc, 260, 2, &high)?;
-    let shorter = named_often(alloc, 256, LOW_BYTES, 258, 259, 1)?;
-    put_node(volume, alloc, 261, 2, &shorter)?;
-    let root = named_often(alloc, 128, HIGH_BYTES, 260, 261, 1)?;
-    put_node(volume, alloc, 262, 3, &root)
+    for node in &LARGEST {
+        let pairs = named_often(alloc, node)?;
+        put_node(volume, alloc, node.page, node.level, &pairs)?;
+    }
+    Ok(())
 }
 
-/// Walks the largest tree.
-fn check_largest<V: Volume>(rt: &impl Abort, alloc: Global, volume: &mut V) -> Result<(), Fail>
+/// Whether two nodes of the largest tree lie on used pages, and no page behind them is used.
+fn uses_largest<V: ReadVolume>(volume: &V, units: &Units) -> bool
+    requires ready { V.ready volume.now }
+    requires units { units.now.geometry ≡ V.geometry volume.now }
+{
+    uses_page(volume, units, 259) && uses_page(volume, units, 262) && !uses_page(volume, units, 263)
+}
+
+/// Whether the walk finds the largest tree whole, and uses its pages alone.
+fn is_largest_read<V: Volume>(volume: &mut V, alloc: Global) -> Result<bool, Fail>
     requires { V.ready volume.old }
 {
-    let geometry = volume.geometry();
     put_largest(volume, alloc)?;
-    let mut units = Units::make(alloc, &geometry)?;
-    let roots = roots_of(alloc, &[(3, 262, OBJECT_MOST)])?;
-    assert_eq!(rt; walked(volume, alloc, &mut units, &roots)?, Ok(()));
-    assert!(rt; uses_page(volume, &units, 259));
-    assert!(rt; uses_page(volume, &units, 262));
-    assert!(rt; !uses_page(volume, &units, 263));
-    Ok(())
+    let mut units = Units::make(alloc, &volume.geometry())?;
+    let blamed = blamed(volume, alloc, &mut units, &[(3, 262, OBJECT_MOST)])?;
+    Ok(blamed.is_none() && uses_largest(volume, &units))
 }
 
 #[test]
@@ -590,7 +657,8 @@ fn a_tree_of_the_most_bytes_is_read_once(rt: HostRuntime) -> Result<(), Fail> {
     let alloc = rt.alloc();
     let geometry = Geometry::make(8192, 8, 2, 16, 200).map_err(|_| "geometry")?;
     let volume = &mut MemoryVolume::make(alloc, &geometry)?;
-    check_largest(&rt, alloc, volume)
+    assert!(rt; is_largest_read(volume, alloc)?);
+    Ok(())
 }
 
 /// The pairs of a node that names one page five times, with a byte each time.
@@ -620,22 +688,18 @@ fn put_chain<V: Volume>(volume: &mut V, alloc: Global) -> Result<(), Fail>
     Ok(())
 }
 
-/// Where each node names the one below it five times, the walk takes five steps a level.
-fn check_chain<V: Volume>(rt: &impl Abort, alloc: Global, volume: &mut V) -> Result<(), Fail>
+/// Which part the walk blames where each node names the one below it five times: it takes five steps a level.
+fn blamed_in_chain<V: Volume>(volume: &mut V, alloc: Global) -> Result<Option<Part>, Fail>
     requires { V.ready volume.old }
 {
-    let geometry = volume.geometry();
     put_chain(volume, alloc)?;
-    let mut units = Units::make(alloc, &geometry)?;
-    let roots = roots_of(alloc, &[(200, 457, 5)])?;
-    assert_eq!(rt; walked(volume, alloc, &mut units, &roots)?, BALANCE);
-    Ok(())
+    let mut units = Units::make(alloc, &volume.geometry())?;
+    blamed(volume, alloc, &mut units, &[(200, 457, 5)])
 }
 
 #[test]
 fn a_high_tree_is_walked_level_by_level(rt: HostRuntime) -> Result<(), Fail> {
     let alloc = rt.alloc();
-    let geometry = Geometry::make(512, 256, 1, 1, 2).map_err(|_| "geometry")?;
-    let volume = &mut MemoryVolume::make(alloc, &geometry)?;
-    check_chain(&rt, alloc, volume)
+    assert!(rt; blamed_in_chain(&mut fresh(alloc, 256, 1)?, alloc)? == Some(Part::Balance));
+    Ok(())
 }

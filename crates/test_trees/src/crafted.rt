@@ -1,10 +1,11 @@
 // Trees whose nodes are written byte by byte: one that names a few nodes often, and some with a page that isn't what names it.
 
-use crate::tests::{LENGTHS_MOST, Object, grown, leaves_of, replaced, shortened, spells, walk};
+use crate::tests::{
+    LENGTHS_MOST, Object, fresh, grown, leaves_of, replaced, shortened, spells, walk,
+};
 use count_nodes::names::{name_at, names_len};
 use count_nodes::width::Width;
-use ex_base::{Area, Blocks, Geometry, OBJECT_MOST, PageNo, PortFault, Root, Seen};
-use memory_ports::MemoryVolume;
+use ex_base::{Area, Blocks, OBJECT_MOST, PageNo, PortFault, Root, Seen};
 use std::alloc::Global;
 use std::process::Abort;
 use std::test::Fail;
@@ -143,16 +144,21 @@ fn largest<B: Blocks>(blocks: &mut B, alloc: Global) -> Result<Root, Fail>
     Ok(root_over(LEVELS + 1, root))
 }
 
+/// Whether the leaves of the largest object are counted, all as full as can be.
+fn counts_largest<B: Blocks>(blocks: &mut B, alloc: Global) -> Result<bool, Fail>
+    requires { B.ready blocks.old }
+{
+    let root = largest(blocks, alloc)?;
+    let (leaves, lengths) = leaves_of(blocks, alloc, &root)?;
+    let is_full = root.size == OBJECT_MOST && leaves == 2_147_483_648;
+    Ok(is_full && lengths == [512; LENGTHS_MOST])
+}
+
 #[test]
 fn leaves_that_are_named_often_are_counted_at_once(rt: HostRuntime) -> Result<(), Fail> {
     let alloc = rt.alloc();
-    let geometry = Geometry::make(512, 64, 4, 1, 16).map_err(|_| "geometry")?;
-    let volume = &mut MemoryVolume::make(alloc, &geometry)?;
-    let root = largest(volume, alloc)?;
-    assert_eq!(&rt; root.size, OBJECT_MOST);
-    let (leaves, lengths) = leaves_of(volume, alloc, &root)?;
-    assert_eq!(&rt; leaves, 2_147_483_648);
-    assert_eq!(&rt; lengths, [512; LENGTHS_MOST]);
+    let volume = &mut fresh(alloc, 512, 64, 4, 1, 16)?;
+    assert!(rt; counts_largest(volume, alloc)?);
     Ok(())
 }
 
@@ -255,7 +261,7 @@ fn check_damage<B: Blocks>(
         } else {
             Some(told)
         };
-        assert_eq!(rt; fault_by(blocks, alloc, root, *call)?, want);
+        assert!(rt; fault_by(blocks, alloc, root, *call)? == want);
     }
     Ok(())
 }
@@ -288,67 +294,93 @@ fn check_child<B: Blocks>(
     check_damage(rt, alloc, blocks, &root, told, is_leaf)
 }
 
-/// A page of zeros among those where nodes may lie.
-const FREE_PAGE: PageNo = PageNo(300);
+/// A tree that a page isn't, named twice by a root of a level, and what is found of it.
+#[derive(Clone, Copy)]
+struct Child {
+    level: u8,
+    tree: Tree,
+    got: Seen,
+}
+
+fn named(level: u8, tree: Tree, got: Seen) -> Child {
+    Child { level, tree, got }
+}
+
+fn said(size: u64, page: PageNo) -> Tree {
+    Tree { size, page }
+}
+
+/// Takes the calls on a root over each of these.
+fn check_children<B: Blocks>(
+    rt: &impl Abort,
+    alloc: Global,
+    blocks: &mut B,
+    children: &[Child],
+) -> Result<(), Fail>
+    requires { B.ready blocks.old }
+    ensures { B.leads blocks.old blocks.new }
+{
+    for child in children {
+        check_child(rt, alloc, blocks, child.level, child.tree, child.got)?;
+    }
+    Ok(())
+}
+
+/// Writes a node of level 1 over a full leaf so many times.
+fn put_leaves<B: Blocks>(blocks: &mut B, alloc: Global, times: usize) -> Result<Tree, Fail>
+    requires { B.ready blocks.old }
+    ensures { B.leads blocks.old blocks.new }
+{
+    let leaf = put_leaf(blocks, alloc)?;
+    let row = vec![in alloc; leaf; times]?;
+    put_node(blocks, alloc, 1, &row)
+}
 
 /// Takes the calls on trees where a page is another node than the one that is named.
 fn check_other_nodes<B: Blocks>(rt: &impl Abort, alloc: Global, blocks: &mut B) -> Result<(), Fail>
     requires { B.ready blocks.old }
     ensures { B.leads blocks.old blocks.new }
 {
-    let leaf = put_leaf(blocks, alloc)?;
-    let node = put_node(blocks, alloc, 1, &[leaf, leaf])?;
+    let node = put_leaves(blocks, alloc, 2)?;
     let longer = Tree { size: 1536, ..node };
-    check_child(rt, alloc, blocks, 2, longer, Seen::node(1, 1024))?;
-    check_child(rt, alloc, blocks, 3, node, Seen::node(1, 1024))?;
+    let got = Seen::node(1, 1024);
+    let children = [named(2, longer, got), named(3, node, got)];
+    check_children(rt, alloc, blocks, &children)?;
     let told = PortFault::Damaged {
         page: node.page,
         want: Seen::node(1, 1536),
-        got: Seen::node(1, 1024),
+        got,
     };
     check_damage(rt, alloc, blocks, &root_over(1, longer), told, false)
 }
 
-/// Takes the calls on trees where a page has no node, may have none, or has one with too few pairs.
-fn check_no_nodes<B: Blocks>(rt: &impl Abort, alloc: Global, blocks: &mut B) -> Result<(), Fail>
-    requires { B.ready blocks.old }
-    ensures { B.leads blocks.old blocks.new }
-{
-    let leaf = put_leaf(blocks, alloc)?;
-    let thin = put_node(blocks, alloc, 1, &[leaf])?;
-    check_child(rt, alloc, blocks, 2, thin, Seen::NOTHING)?;
-    let empty = Tree {
-        size: 1024,
-        page: FREE_PAGE,
-    };
-    check_child(rt, alloc, blocks, 2, empty, Seen::NOTHING)?;
-    let catalog = Tree {
-        size: 1024,
-        page: PageNo::CATALOG,
-    };
-    check_child(rt, alloc, blocks, 2, catalog, Seen::NOTHING)
+/// A page of zeros among those where nodes may lie.
+const FREE_PAGE: PageNo = PageNo(300);
+
+/// Trees where a page has a node with too few pairs, none, or may have none, and one that names a page as a leaf where none may lie.
+fn no_trees(thin: Tree) -> [Child; 4] {
+    [
+        named(2, thin, Seen::NOTHING),
+        named(2, said(1024, FREE_PAGE), Seen::NOTHING),
+        named(2, said(1024, PageNo::CATALOG), Seen::NOTHING),
+        named(1, said(512, FREE_PAGE), Seen::NOTHING),
+    ]
 }
 
-/// Takes the calls on a tree that names a page as a leaf where none may lie.
-fn check_no_leaf<B: Blocks>(rt: &impl Abort, alloc: Global, blocks: &mut B) -> Result<(), Fail>
+/// Takes the calls on trees where a page is another node than the one that is named, and on those where it is none.
+fn check_all_damage<B: Blocks>(rt: &impl Abort, alloc: Global, blocks: &mut B) -> Result<(), Fail>
     requires { B.ready blocks.old }
-    ensures { B.leads blocks.old blocks.new }
 {
-    let leaf = Tree {
-        size: 512,
-        page: FREE_PAGE,
-    };
-    check_child(rt, alloc, blocks, 1, leaf, Seen::NOTHING)
+    check_other_nodes(rt, alloc, blocks)?;
+    let thin = put_leaves(blocks, alloc, 1)?;
+    check_children(rt, alloc, blocks, &no_trees(thin))
 }
 
 #[test]
 fn damage_is_told_as_it_was_wanted_and_found(rt: HostRuntime) -> Result<(), Fail> {
     let alloc = rt.alloc();
-    let geometry = Geometry::make(512, 256, 64, 1, 2).map_err(|_| "geometry")?;
-    let volume = &mut MemoryVolume::make(alloc, &geometry)?;
-    check_other_nodes(&rt, alloc, volume)?;
-    check_no_nodes(&rt, alloc, volume)?;
-    check_no_leaf(&rt, alloc, volume)
+    let volume = &mut fresh(alloc, 512, 256, 64, 1, 2)?;
+    check_all_damage(&rt, alloc, volume)
 }
 
 /// The bytes of a leaf of the smallest page.
@@ -419,39 +451,29 @@ fn width_at<B: Blocks>(blocks: &mut B, alloc: Global, page: PageNo) -> Result<Op
     Ok(Some(Width::of(bytes)))
 }
 
-/// An older tree is read as its bytes, and has nodes of the older kind alone.
-fn check_older<B: Blocks>(
-    rt: &impl Abort,
-    alloc: Global,
-    blocks: &mut B,
-    object: &Object,
-) -> Result<(), Fail>
+/// Whether an older tree is read as its bytes, and has nodes of the older kind alone.
+fn is_older<B: Blocks>(blocks: &mut B, alloc: Global, object: &Object) -> Result<bool, Fail>
     requires { B.ready blocks.old }
     ensures { B.leads blocks.old blocks.new }
 {
-    assert!(rt; spells(blocks, alloc, &object.root, &object.bytes)?);
     let older = Some((Width::Narrow, Width::Narrow, Width::Narrow));
-    assert_eq!(rt; widths_of(blocks, alloc, &object.root)?, older);
-    Ok(())
+    Ok(
+        spells(blocks, alloc, &object.root, &object.bytes)?
+            && widths_of(blocks, alloc, &object.root)? == older,
+    )
 }
 
-/// An edit of an older tree leaves a tree of nodes of both kinds: what it goes through is written with counts of eight bytes, and what it doesn't stays.
-fn check_both_kinds<B: Blocks>(
-    rt: &impl Abort,
-    alloc: Global,
-    blocks: &mut B,
-    root: &Root,
-) -> Result<(), Fail>
+/// Whether an edit of an older tree leaves a tree of nodes of both kinds: what it goes through is written with counts of eight bytes, and what it doesn't
+/// stays.
+fn leaves_both_kinds<B: Blocks>(blocks: &mut B, alloc: Global, root: &Root) -> Result<bool, Fail>
     requires { B.ready blocks.old }
     ensures { B.leads blocks.old blocks.new }
 {
     let Some(made) = replaced(blocks, alloc, root, POS, &GIVEN)? else {
         return Err("no room")?;
     };
-    let root = made?;
     let both = Some((Width::Wide, Width::Wide, Width::Narrow));
-    assert_eq!(rt; widths_of(blocks, alloc, &root)?, both);
-    Ok(())
+    Ok(widths_of(blocks, alloc, &made?)? == both)
 }
 
 /// Edits older trees at random, so that trees of both kinds of node are edited in every way, and compares each with its list.
@@ -461,18 +483,24 @@ fn walk_older<B: Blocks>(rt: &impl Abort, alloc: Global, blocks: &mut B) -> Resu
 {
     for seed in 0..20u64 {
         let object = older_tree(blocks, alloc)?;
-        assert_eq!(rt; walk(rt, alloc, blocks, object, seed, 12)?, 12);
+        assert!(rt; walk(rt, alloc, blocks, object, seed, 12)? == 12);
     }
     Ok(())
+}
+
+/// Reads an older tree, edits it once, and edits others at random.
+fn check_older<B: Blocks>(rt: &impl Abort, alloc: Global, blocks: &mut B) -> Result<(), Fail>
+    requires { B.ready blocks.old }
+{
+    let object = older_tree(blocks, alloc)?;
+    assert!(rt; is_older(blocks, alloc, &object)?);
+    assert!(rt; leaves_both_kinds(blocks, alloc, &object.root)?);
+    walk_older(rt, alloc, blocks)
 }
 
 #[test]
 fn trees_of_both_kinds_of_node_are_edited(rt: HostRuntime) -> Result<(), Fail> {
     let alloc = rt.alloc();
-    let geometry = Geometry::make(512, 4000, 4000, 1, 2).map_err(|_| "geometry")?;
-    let volume = &mut MemoryVolume::make(alloc, &geometry)?;
-    let object = older_tree(volume, alloc)?;
-    check_older(&rt, alloc, volume, &object)?;
-    check_both_kinds(&rt, alloc, volume, &object.root)?;
-    walk_older(&rt, alloc, volume)
+    let volume = &mut fresh(alloc, 512, 4000, 4000, 1, 2)?;
+    check_older(&rt, alloc, volume)
 }

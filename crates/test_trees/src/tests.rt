@@ -1,3 +1,6 @@
+ghost use Rattle.std.specs.Prelude.{IfOk};
+ghost use Rattle.memory_ports.specs.InMemory.{IsVolume};
+
 use ex_base::{
     Area, Blocks, Geometry, OBJECT_MOST, PortFault, ReadBlocks, Root, delete_need, growth_need,
     replace_need,
@@ -358,14 +361,36 @@ pub(crate) fn leaves_of<B: Blocks>(
     Ok((leaves, first))
 }
 
-/// Takes a row's edit and compares what it leaves.
-fn check_row<B: Blocks>(
-    rt: &impl Abort,
-    alloc: Global,
+/// Whether an object's tree spells its list.
+fn is_spelled<B: ReadBlocks>(blocks: &mut B, alloc: Global, object: &Object) -> Result<bool, Fail>
+    requires { B.ready blocks.old }
+    ensures { B.leads blocks.old blocks.new }
+{
+    spells(blocks, alloc, &object.root, &object.bytes)
+}
+
+/// Whether an object's tree has the height, the leaves and the bytes that a row tells.
+fn is_as_told<B: Blocks>(
     blocks: &mut B,
+    alloc: Global,
+    object: &Object,
+    row: &Row,
+) -> Result<bool, Fail>
+    requires { B.ready blocks.old }
+    ensures { B.leads blocks.old blocks.new }
+{
+    let (leaves, lengths) = leaves_of(blocks, alloc, &object.root)?;
+    let is_formed = object.root.height == row.height && leaves == row.leaves;
+    Ok(is_formed && lengths == row.lengths && is_spelled(blocks, alloc, object)?)
+}
+
+/// Takes a row's edit, and answers whether it was done and left what the row tells.
+fn takes_row<B: Blocks>(
+    blocks: &mut B,
+    alloc: Global,
     object: &mut Object,
     row: &Row,
-) -> Result<(), Fail>
+) -> Result<bool, Fail>
     requires { B.ready blocks.old }
     ensures { B.leads blocks.old blocks.new }
 {
@@ -374,14 +399,7 @@ fn check_row<B: Blocks>(
         object.bytes.clear();
     }
     let given = vec![in alloc; row.byte; row.len]?;
-    assert!(rt; edited(blocks, alloc, object, row.edit, &given)?);
-    let root = object.root;
-    assert_eq!(rt; root.height, row.height);
-    let (leaves, lengths) = leaves_of(blocks, alloc, &root)?;
-    assert_eq!(rt; leaves, row.leaves);
-    assert_eq!(rt; lengths, row.lengths);
-    assert!(rt; spells(blocks, alloc, &root, &object.bytes)?);
-    Ok(())
+    Ok(edited(blocks, alloc, object, row.edit, &given)? && is_as_told(blocks, alloc, object, row)?)
 }
 
 /// Takes the rows' edits one after the other.
@@ -394,17 +412,32 @@ fn check_rows<B: Blocks>(rt: &impl Abort, alloc: Global, blocks: &mut B) -> Resu
         bytes: Vec::new(alloc),
     };
     for row in &ROWS {
-        check_row(rt, alloc, blocks, object, row)?;
+        assert!(rt; takes_row(blocks, alloc, object, row)?);
     }
     Ok(())
+}
+
+/// A fresh volume of these sizes.
+pub(crate) fn fresh(
+    alloc: Global,
+    page_size: u32,
+    pages: u32,
+    segs: u32,
+    seg_len: u32,
+    fan: u32,
+) -> Result<MemoryVolume, Fail>
+    ensures { IfOk result
+        (λ v. IsVolume v.geometry v.units v.bytes.items v.images.items v.held.items) }
+{
+    let made = Geometry::make(page_size, pages, segs, seg_len, fan);
+    let geometry = made.map_err(|_| "geometry")?;
+    Ok(MemoryVolume::make(alloc, &geometry)?)
 }
 
 #[test]
 fn worked_edits_leave_their_trees(rt: HostRuntime) -> Result<(), Fail> {
     let alloc = rt.alloc();
-    let geometry = Geometry::make(512, 256, 256, 1, 2).map_err(|_| "geometry")?;
-    let volume = &mut MemoryVolume::make(alloc, &geometry)?;
-    check_rows(&rt, alloc, volume)
+    check_rows(&rt, alloc, &mut fresh(alloc, 512, 256, 256, 1, 2)?)
 }
 
 /// The next draw of a linear congruence.
@@ -433,6 +466,21 @@ fn random_edit(state: &mut u64, size: u64) -> (Edit, u64) {
     (Edit::Replace(pos), len)
 }
 
+/// Edits an object at random. False where the need isn't free, and then nothing is edited.
+fn steps<B: Blocks>(
+    blocks: &mut B,
+    alloc: Global,
+    object: &mut Object,
+    state: &mut u64,
+) -> Result<bool, Fail>
+    requires { B.ready blocks.old }
+    ensures { B.leads blocks.old blocks.new }
+{
+    let (edit, len) = random_edit(state, object.root.size);
+    let given = vec![in alloc; (draw(state) % 256) as u8; len as usize]?;
+    edited(blocks, alloc, object, edit, &given)
+}
+
 /// Edits an object at random, and compares it with its list now and then, until all edits are done or the volume is full. Answers how many were done.
 pub(crate) fn walk<B: Blocks>(
     rt: &impl Abort,
@@ -448,18 +496,14 @@ pub(crate) fn walk<B: Blocks>(
     let object = &mut { object };
     let state = &mut seed.wrapping_add(1);
     for done in 0..edits {
-        let (edit, len) = random_edit(state, object.root.size);
-        let given = vec![in alloc; (draw(state) % 256) as u8; len as usize]?;
-        if !edited(blocks, alloc, object, edit, &given)? {
+        if !steps(blocks, alloc, object, state)? {
             return Ok(done);
         }
         if done % COMPARED_EACH == 0 {
-            let root = object.root;
-            assert!(rt; spells(blocks, alloc, &root, &object.bytes)?);
+            assert!(rt; is_spelled(blocks, alloc, object)?);
         }
     }
-    let root = object.root;
-    assert!(rt; spells(blocks, alloc, &root, &object.bytes)?);
+    assert!(rt; is_spelled(blocks, alloc, object)?);
     Ok(edits)
 }
 
@@ -528,23 +572,35 @@ const WALKS: [Sizes; 6] = [
 /// After so many edits a walk compares the tree with the list.
 const COMPARED_EACH: u32 = 50;
 
-/// Takes a random walk on a fresh volume of these sizes, and answers whether it had all of its edits.
-fn walk_on(rt: &impl Abort, alloc: Global, sizes: &Sizes) -> Result<bool, Fail> {
-    let geometry = Geometry::make(
-        sizes.page_size,
-        sizes.pages,
-        sizes.segs,
-        sizes.seg_len,
-        sizes.fan,
-    )
-    .map_err(|_| "geometry")?;
-    let volume = &mut MemoryVolume::make(alloc, &geometry)?;
-    let seed = u64::from(sizes.segs);
+/// Takes a random walk from an empty object on, and answers whether it had all of its edits.
+fn walk_from_nothing<B: Blocks>(
+    rt: &impl Abort,
+    alloc: Global,
+    blocks: &mut B,
+    sizes: &Sizes,
+) -> Result<bool, Fail>
+    requires { B.ready blocks.old }
+{
     let object = Object {
         root: Root::EMPTY,
         bytes: Vec::new(alloc),
     };
-    Ok(walk(rt, alloc, volume, object, seed, sizes.edits)? == sizes.edits)
+    let seed = u64::from(sizes.segs);
+    Ok(walk(rt, alloc, blocks, object, seed, sizes.edits)? == sizes.edits)
+}
+
+/// Takes a random walk on a fresh volume of these sizes, and answers whether it had all of its edits.
+fn walk_on(rt: &impl Abort, alloc: Global, sizes: &Sizes) -> Result<bool, Fail> {
+    let (pages, segs) = (sizes.pages, sizes.segs);
+    let volume = &mut fresh(
+        alloc,
+        sizes.page_size,
+        pages,
+        segs,
+        sizes.seg_len,
+        sizes.fan,
+    )?;
+    walk_from_nothing(rt, alloc, volume, sizes)
 }
 
 /// Takes each of the random walks.

@@ -10,6 +10,7 @@ use object_files::CatalogView;
 use page_alloc::Units;
 use session_views::{OpenFault, Part};
 use std::alloc::Global;
+use std::process::Abort;
 use std::test::Fail;
 
 /// The first page that a file may have.
@@ -55,6 +56,19 @@ fn put<V: Volume>(volume: &mut V, alloc: Global, page: u32, image: &Image) -> Re
     Ok(())
 }
 
+/// Puts pages from the first one that a file may have on.
+fn put_each<V: Volume>(volume: &mut V, alloc: Global, images: &[Image]) -> Result<(), Fail>
+    requires { V.ready volume.old }
+    ensures { V.leads volume.old volume.new }
+{
+    let mut page = FIRST;
+    for image in images {
+        put(volume, alloc, page, image)?;
+        page = page.saturating_add(1);
+    }
+    Ok(())
+}
+
 /// What the walk over the files of a catalog answers.
 fn walk<V: ReadVolume>(
     volume: &mut V,
@@ -72,6 +86,16 @@ fn walk<V: ReadVolume>(
     Ok(walk_files(volume, alloc, &view, &mut units))
 }
 
+/// What the walk finds in the files of a catalog, which are whole.
+fn walked<V: ReadVolume>(volume: &mut V, alloc: Global, roots: &[Root]) -> Result<WalkedFiles, Fail>
+    requires { V.ready volume.old }
+{
+    match walk(volume, alloc, roots)? {
+        Ok(it) => Ok(it),
+        Err(_) => Err("bad volume")?,
+    }
+}
+
 /// The part that the walk blames, none where the files are whole.
 fn blamed<V: ReadVolume>(
     volume: &mut V,
@@ -86,6 +110,24 @@ fn blamed<V: ReadVolume>(
         Err(OpenFault::BadVolume { part }) => Ok(Some(part)),
         Err(_) => Err("a fault")?,
     }
+}
+
+/// The part that the walk blames where the files have these pages, from the first one on.
+fn blamed_with<V: Volume>(
+    volume: &mut V,
+    alloc: Global,
+    images: &[Image],
+    roots: &[Root],
+) -> Result<Option<Part>, Fail>
+    requires { V.ready volume.old }
+{
+    put_each(volume, alloc, images)?;
+    blamed(volume, alloc, roots)
+}
+
+/// The part that the walk blames on a fresh volume with these pages, from the first one on.
+fn blamed_pages(alloc: Global, images: &[Image], roots: &[Root]) -> Result<Option<Part>, Fail> {
+    blamed_with(&mut fresh(alloc)?, alloc, images, roots)
 }
 
 /// Puts an index page over pages of the file with number 7, from one page on.
@@ -106,242 +148,281 @@ fn put_leaf_index<V: Volume>(
     put(volume, alloc, page, &index_page(1, 7, &entries))
 }
 
-/// The part that the walk blames where one file has this page alone.
-fn blamed_page(alloc: Global, image: &Image) -> Result<Option<Part>, Fail> {
-    let volume = &mut fresh(alloc)?;
-    put(volume, alloc, FIRST, image)?;
-    blamed(volume, alloc, &[ONE_PAGE])
-}
-
-/// The part that the walk blames where a file has one page, and another file the next one.
-fn blamed_pages(
-    alloc: Global,
-    first: &Image,
-    second: &Image,
-    other: Root,
-) -> Result<Option<Part>, Fail> {
-    let volume = &mut fresh(alloc)?;
-    put(volume, alloc, FIRST, first)?;
-    put(volume, alloc, FIRST + 1, second)?;
-    blamed(volume, alloc, &[ONE_PAGE, other])
-}
-
-/// Builds a file under an index of two levels: 50 pages from the first on, and from a second one on as many as count.
-fn build<V: Volume>(
-    volume: &mut V,
-    alloc: Global,
+/// A file under an index of two levels: 50 pages from the first on, and from a second one on as many as count, by a key in the root.
+#[derive(Clone, Copy)]
+struct Index {
     second: u32,
     key: u32,
     count: u32,
-) -> Result<(), Fail>
+}
+
+/// An index whose pages follow each other, under the least keys.
+const WHOLE: Index = Index {
+    second: FIRST + 50,
+    key: FIRST + 50,
+    count: 50,
+};
+
+/// Puts 150 pages with a record.
+fn put_files<V: Volume>(volume: &mut V, alloc: Global) -> Result<(), Fail>
     requires { V.ready volume.old }
     ensures { V.leads volume.old volume.new }
 {
+    let image = file_page(7, &[1]);
     for page in FIRST..FIRST + 150 {
-        put(volume, alloc, page, &file_page(7, &[1]))?;
+        put(volume, alloc, page, &image)?;
     }
+    Ok(())
+}
+
+/// Builds a file under an index of two levels.
+fn build<V: Volume>(volume: &mut V, alloc: Global, index: Index) -> Result<(), Fail>
+    requires { V.ready volume.old }
+    ensures { V.leads volume.old volume.new }
+{
+    put_files(volume, alloc)?;
     put_leaf_index(volume, alloc, 500, FIRST, 50)?;
-    put_leaf_index(volume, alloc, 501, second, count)?;
-    put(
-        volume,
-        alloc,
-        502,
-        &index_page(2, 7, &[(FIRST, 500), (key, 501)]),
-    )
+    put_leaf_index(volume, alloc, 501, index.second, index.count)?;
+    let root = index_page(2, 7, &[(FIRST, 500), (index.key, 501)]);
+    put(volume, alloc, 502, &root)
 }
 
 /// The part that the walk blames where a file is built so.
-fn blamed_index(
+fn blamed_in<V: Volume>(
+    volume: &mut V,
     alloc: Global,
-    second: u32,
-    key: u32,
-    count: u32,
+    index: Index,
     root: Root,
-) -> Result<Option<Part>, Fail> {
-    let volume = &mut fresh(alloc)?;
-    build(volume, alloc, second, key, count)?;
+) -> Result<Option<Part>, Fail>
+    requires { V.ready volume.old }
+{
+    build(volume, alloc, index)?;
     blamed(volume, alloc, &[root])
+}
+
+/// The part that the walk blames on a fresh volume where a file is built so.
+fn blamed_index(alloc: Global, index: Index, root: Root) -> Result<Option<Part>, Fail> {
+    blamed_in(&mut fresh(alloc)?, alloc, index, root)
+}
+
+/// Whether the walk finds a page with two records, of which the second one is an empty version with number 3 at slot 1.
+fn has_records_in_order<V: Volume>(volume: &mut V, alloc: Global) -> Result<bool, Fail>
+    requires { V.ready volume.old }
+{
+    put(volume, alloc, FIRST, &file_page(7, &[5, 3]))?;
+    let found = walked(volume, alloc, &[ONE_PAGE])?;
+    if found.pages.len() != 1 || found.records.len() != 2 {
+        return Ok(false);
+    }
+    let second = &found.records[1];
+    Ok(second.unique == 3 && second.place.slot == 1 && second.root.is_none())
 }
 
 #[test]
 fn a_file_of_one_page_has_its_records_in_order_of_place(rt: HostRuntime) -> Result<(), Fail> {
     let alloc = rt.alloc();
-    let volume = &mut fresh(alloc)?;
-    put(volume, alloc, FIRST, &file_page(7, &[5, 3]))?;
-    let walked = walk(volume, alloc, &[ONE_PAGE])?.map_err(|_| "bad volume")?;
-    assert_eq!(rt; walked.pages.len(), 1);
-    assert_eq!(rt; walked.records.len(), 2);
-    let second = &walked.records[1];
-    assert_eq!(rt; second.unique, 3);
-    assert_eq!(rt; second.place.slot, 1);
-    assert!(rt; second.root.is_none());
+    assert!(rt; has_records_in_order(&mut fresh(alloc)?, alloc)?);
     Ok(())
 }
 
 #[test]
 fn a_file_without_pages_is_whole(rt: HostRuntime) -> Result<(), Fail> {
-    let alloc = rt.alloc();
-    let volume = &mut fresh(alloc)?;
     let empty = Root {
         page: 0,
         ..ONE_PAGE
     };
-    assert_eq!(rt; blamed(volume, alloc, &[empty])?, None);
+    assert!(rt; blamed_pages(rt.alloc(), &[], &[empty])?.is_none());
     Ok(())
+}
+
+/// Whether the walk finds a hundred pages, and behind them their index pages with the root first.
+fn has_a_hundred_pages<V: Volume>(volume: &mut V, alloc: Global) -> Result<bool, Fail>
+    requires { V.ready volume.old }
+{
+    build(volume, alloc, WHOLE)?;
+    let found = walked(volume, alloc, &[TWO_LEVELS])?;
+    if found.pages.len() != 103 {
+        return Ok(false);
+    }
+    let (last, root) = (found.pages[99], found.pages[100]);
+    Ok(found.records.len() == 100 && last == PageNo(FIRST + 99) && root == PageNo(502))
 }
 
 #[test]
 fn a_hundred_pages_stand_under_three_index_pages(rt: HostRuntime) -> Result<(), Fail> {
     let alloc = rt.alloc();
-    let volume = &mut fresh(alloc)?;
-    build(volume, alloc, FIRST + 50, FIRST + 50, 50)?;
-    let walked = walk(volume, alloc, &[TWO_LEVELS])?.map_err(|_| "bad volume")?;
-    assert_eq!(rt; walked.records.len(), 100);
-    assert_eq!(rt; walked.pages.len(), 103);
-    assert_eq!(rt; walked.pages[99], PageNo(FIRST + 99));
-    assert_eq!(rt; walked.pages[100], PageNo(502));
+    assert!(rt; has_a_hundred_pages(&mut fresh(alloc)?, alloc)?);
     Ok(())
 }
+
+/// An index, its root, and the part that the walk blames.
+type IndexRow = (Index, Root, Option<Part>);
+
+/// Takes the walk over each index, on a fresh volume.
+fn check_indexes(rt: &impl Abort, alloc: Global, rows: &[IndexRow]) -> Result<(), Fail> {
+    for (index, root, want) in rows {
+        assert!(rt; blamed_index(alloc, *index, *root)? == *want);
+    }
+    Ok(())
+}
+
+/// 30 entries are too few, of 62 that a page has room for, and a key is the least below it.
+const FEW: [IndexRow; 3] = [
+    (Index { count: 30, ..WHOLE }, TWO_LEVELS, Some(Part::File)),
+    (Index { count: 31, ..WHOLE }, TWO_LEVELS, None),
+    (
+        Index {
+            key: FIRST + 51,
+            ..WHOLE
+        },
+        TWO_LEVELS,
+        Some(Part::File),
+    ),
+];
 
 #[test]
 fn an_index_has_enough_entries_and_their_least_keys(rt: HostRuntime) -> Result<(), Fail> {
-    let alloc = rt.alloc();
-    let second = FIRST + 50;
-    // 30 entries are too few, of 62 that a page has room for.
-    assert_eq!(rt;
-        blamed_index(alloc, second, second, 30, TWO_LEVELS)?,
-        Some(Part::File)
-    );
-    assert_eq!(rt; blamed_index(alloc, second, second, 31, TWO_LEVELS)?, None);
-    assert_eq!(rt;
-        blamed_index(alloc, second, second + 1, 50, TWO_LEVELS)?,
-        Some(Part::File)
-    );
-    Ok(())
+    check_indexes(&rt, rt.alloc(), &FEW)
 }
+
+/// One page that two index pages name, and a root that is said to have another level.
+const TWICE: [IndexRow; 2] = [
+    (
+        Index {
+            second: FIRST + 49,
+            key: FIRST + 49,
+            count: 50,
+        },
+        TWO_LEVELS,
+        Some(Part::File),
+    ),
+    (
+        WHOLE,
+        Root {
+            level: 1,
+            ..TWO_LEVELS
+        },
+        Some(Part::File),
+    ),
+];
 
 #[test]
 fn an_index_names_each_page_once_and_has_its_level(rt: HostRuntime) -> Result<(), Fail> {
-    let alloc = rt.alloc();
-    let second = FIRST + 49;
-    assert_eq!(rt;
-        blamed_index(alloc, second, second, 50, TWO_LEVELS)?,
-        Some(Part::File)
-    );
-    let lower = Root {
-        level: 1,
-        ..TWO_LEVELS
-    };
-    assert_eq!(rt;
-        blamed_index(alloc, second + 1, second + 1, 50, lower)?,
-        Some(Part::File)
-    );
+    check_indexes(&rt, rt.alloc(), &TWICE)
+}
+
+/// Takes the walk over pages from the first one on, on a fresh volume.
+fn check_pages(
+    rt: &impl Abort,
+    alloc: Global,
+    images: &[Image],
+    roots: &[Root],
+    want: Option<Part>,
+) -> Result<(), Fail> {
+    assert!(rt; blamed_pages(alloc, images, roots)? == want);
     Ok(())
 }
 
 #[test]
 fn a_file_page_lies_in_the_page_area_behind_the_catalog(rt: HostRuntime) -> Result<(), Fail> {
     let alloc = rt.alloc();
-    let volume = &mut fresh(alloc)?;
     let catalog = Root {
         page: 257,
         ..ONE_PAGE
     };
-    assert_eq!(rt; blamed(volume, alloc, &[catalog])?, Some(Part::File));
+    check_pages(&rt, alloc, &[], &[catalog], Some(Part::File))?;
     let behind = Root {
         page: 1257,
         ..ONE_PAGE
     };
-    assert_eq!(rt; blamed(volume, alloc, &[behind])?, Some(Part::File));
-    Ok(())
+    check_pages(&rt, alloc, &[], &[behind], Some(Part::File))
 }
 
 #[test]
 fn two_indexes_may_not_name_one_page(rt: HostRuntime) -> Result<(), Fail> {
     let alloc = rt.alloc();
-    let (first, second) = (file_page(7, &[5]), file_page(8, &[6]));
-    assert_eq!(rt; blamed_pages(alloc, &first, &second, NEXT_PAGE)?, None);
+    let images = [file_page(7, &[5]), file_page(8, &[6])];
+    check_pages(&rt, alloc, &images, &[ONE_PAGE, NEXT_PAGE], None)?;
     let same = Root {
         page: FIRST,
         ..NEXT_PAGE
     };
-    assert_eq!(rt;
-        blamed_pages(alloc, &first, &second, same)?,
-        Some(Part::File)
-    );
-    Ok(())
+    check_pages(&rt, alloc, &images, &[ONE_PAGE, same], Some(Part::File))
+}
+
+/// A page of the file with number 7 with two records, of which some bytes are others.
+fn spoiled(bytes: &[(usize, u8)]) -> Image {
+    let mut image = file_page(7, &[5, 6]);
+    for (at, byte) in bytes {
+        if *at < image.len() {
+            image[*at] = *byte;
+        }
+    }
+    image
+}
+
+/// Takes the walk over one page, on a fresh volume.
+fn check_page(rt: &impl Abort, alloc: Global, image: Image, want: Part) -> Result<(), Fail> {
+    check_pages(rt, alloc, &[image], &[ONE_PAGE], Some(want))
 }
 
 #[test]
 fn a_page_has_its_files_number_and_a_record(rt: HostRuntime) -> Result<(), Fail> {
     let alloc = rt.alloc();
-    assert_eq!(rt; blamed_page(alloc, &file_page(8, &[5]))?, Some(Part::Page));
-    assert_eq!(rt; blamed_page(alloc, &file_page(7, &[]))?, Some(Part::Page));
+    check_page(&rt, alloc, file_page(8, &[5]), Part::Page)?;
+    check_page(&rt, alloc, file_page(7, &[]), Part::Page)?;
     // A slot past the page.
     let mut image = file_page(7, &[5]);
     image[510] = 2;
-    assert_eq!(rt; blamed_page(alloc, &image)?, Some(Part::Page));
-    Ok(())
+    check_page(&rt, alloc, image, Part::Page)
 }
 
 #[test]
 fn a_record_has_a_form_and_no_older_version(rt: HostRuntime) -> Result<(), Fail> {
     let alloc = rt.alloc();
     // A form that there isn't.
-    let mut image = file_page(7, &[5, 6]);
-    image[16] = 3;
-    assert_eq!(rt; blamed_page(alloc, &image)?, Some(Part::Body));
+    check_page(&rt, alloc, spoiled(&[(16, 3)]), Part::Body)?;
     // A current version with an older one.
-    let mut image = file_page(7, &[5, 6]);
-    image[29] = 1;
-    assert_eq!(rt; blamed_page(alloc, &image)?, Some(Part::Body));
-    Ok(())
+    check_page(&rt, alloc, spoiled(&[(29, 1)]), Part::Body)
 }
 
 #[test]
 fn no_frozen_version_stands_in_a_volume(rt: HostRuntime) -> Result<(), Fail> {
-    let alloc = rt.alloc();
     // The newer version is at slot 1 of the page.
-    let mut image = file_page(7, &[5, 6]);
-    image[17] = 2;
-    image[34] = 1;
-    image[35] = 2;
-    image[37] = 1;
-    assert_eq!(rt; blamed_page(alloc, &image)?, Some(Part::Body));
-    Ok(())
+    let image = spoiled(&[(17, 2), (34, 1), (35, 2), (37, 1)]);
+    check_page(&rt, rt.alloc(), image, Part::Body)
 }
+
+/// The root of the file with number 8 on a page outside of the page area.
+const OUTSIDE: Root = Root {
+    page: 5000,
+    ..NEXT_PAGE
+};
 
 #[test]
 fn a_fault_of_an_earlier_part_wins(rt: HostRuntime) -> Result<(), Fail> {
     let alloc = rt.alloc();
     let mut first = file_page(7, &[5]);
     first[16] = 3;
-    let (good, other) = (file_page(8, &[6]), file_page(9, &[6]));
-    assert_eq!(rt;
-        blamed_pages(alloc, &first, &good, NEXT_PAGE)?,
-        Some(Part::Body)
-    );
-    assert_eq!(rt;
-        blamed_pages(alloc, &first, &other, NEXT_PAGE)?,
-        Some(Part::Page)
-    );
-    let outside = Root {
-        page: 5000,
-        ..NEXT_PAGE
-    };
-    assert_eq!(rt;
-        blamed_pages(alloc, &first, &other, outside)?,
-        Some(Part::File)
-    );
-    Ok(())
+    let good = [first, file_page(8, &[6])];
+    let other = [first, file_page(9, &[6])];
+    check_pages(&rt, alloc, &good, &[ONE_PAGE, NEXT_PAGE], Some(Part::Body))?;
+    check_pages(&rt, alloc, &other, &[ONE_PAGE, NEXT_PAGE], Some(Part::Page))?;
+    check_pages(&rt, alloc, &other, &[ONE_PAGE, OUTSIDE], Some(Part::File))
 }
 
 /// Whether records of these numbers on one page have good numbers, where the next one is 200.
-fn good(alloc: Global, uniques: &[u8]) -> Result<bool, Fail> {
-    let volume = &mut fresh(alloc)?;
+fn have_good_numbers<V: Volume>(volume: &mut V, alloc: Global, uniques: &[u8]) -> Result<bool, Fail>
+    requires { V.ready volume.old }
+{
     put(volume, alloc, FIRST, &file_page(7, uniques))?;
-    let walked = walk(volume, alloc, &[ONE_PAGE])?.map_err(|_| "bad volume")?;
-    Ok(has_good_numbers(alloc, &walked.records, 200)?)
+    let found = walked(volume, alloc, &[ONE_PAGE])?;
+    Ok(has_good_numbers(alloc, &found.records, 200)?)
+}
+
+/// Whether records of these numbers have good numbers, on a fresh volume.
+fn good(alloc: Global, uniques: &[u8]) -> Result<bool, Fail> {
+    have_good_numbers(&mut fresh(alloc)?, alloc, uniques)
 }
 
 #[test]
