@@ -10,10 +10,3 @@ pub mod RowsListed
 pub mod Listed
 pub mod Faults
 pub mod Fed
-pub mod Places
-pub mod BodiesEdited
-pub mod Linking
-pub mod HeadLaws
-pub mod Copied
-pub mod Dropped
-pub mod DerivedRows

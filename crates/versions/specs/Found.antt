@@ -1,9 +1,8 @@
 -- What is told of a record, and which bodies a call can tell of.
-use Rattle.std.specs.Prelude.{◌≡◌, ℕ, List, length, Option, Some, None}
+use Rattle.std.specs.Prelude.{◌≡◌, ℕ, List, length}
 use Rattle.ex_base.specs.declared.ground.Ground as ground
 use Rattle.ex_base.specs.declared.geometry.Geometry.{Geometry}
 use Rattle.ex_base.specs.declared.names.Place.{Place}
-use Rattle.ex_base.specs.declared.names.Root.{Root}
 use Rattle.object_records.specs.Record.{Content, Small, Large, Record, BodyOf}
 use Rattle.file_bodies.specs.Files.{HasSomeBody}
 use Rattle.trees.specs.Roots.{IsRootFor}

@@ -3,8 +3,3 @@ pub mod Found
 pub mod Edited
 pub mod Put
 pub mod Damage
-pub mod Bodies
-pub mod Linked
-pub mod Links
-pub mod Copies
-pub mod Removals

@@ -11,6 +11,7 @@ ghost use Rattle.file_bodies.specs.Placing.{start_of};
 ghost use Rattle.file_bodies.specs.Damage.{IsListedFault, IsPlacingFault};
 ghost use Rattle.version_model.specs.Versions.{CreatesVersion, PutsVersion};
 
+use crate::recorded::oid_at;
 use ex_base::{Oid, PortFault, Volume};
 use file_bodies::{Room, place_body};
 use object_records::{Head, LARGE_LEN, State, write_small};
@@ -56,11 +57,7 @@ pub fn create<V: Volume>(
     let mut body = [0u8; LARGE_LEN];
     write_small(&head, &[], &mut body);
     match place_body(volume, alloc, room, &body) {
-        Ok(place) => Ok(Oid {
-            page: place.page,
-            slot: place.slot,
-            unique,
-        }),
+        Ok(place) => Ok(oid_at(place, unique)),
         Err(fault) => Err(fault),
     }
 }

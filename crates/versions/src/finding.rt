@@ -183,7 +183,7 @@ pub fn find<V: ReadVolume>(
 }
 
 /// What is told of a version that a call asks for, else the fault of its place.
-pub(crate) fn stood(told: Option<Found>, place: Place) -> Result<Found, PortFault>
+pub fn stood(told: Option<Found>, place: Place) -> Result<Found, PortFault>
     ensures some { IfOk result (λ found. told ≡ Some found) }
     ensures fault { IfErr result (λ fault. (told ≡ None) × (fault ≡ record_fault place)) }
     ensures cause { (before now : ℕ) → HasCause before now result }

@@ -5,31 +5,20 @@
 //! working state is not to be used again.
 #![tactic(auto)]
 
-mod branching;
 mod creating;
-mod descent;
 mod destroying;
 mod digesting;
-mod dropping;
 mod editing;
 mod finding;
-mod freezing;
 mod growing;
-mod heads;
-mod links;
 mod listing;
-mod neighbours;
 mod recorded;
 
-pub use branching::derive;
 pub use creating::create;
-pub use descent::derived;
 pub use destroying::destroy;
 pub use digesting::{digest_at, room_for};
-pub use dropping::drop_version;
 pub use editing::{Edit, Edited, apply};
-pub use finding::{Found, find, read_at};
-pub use freezing::freeze;
+pub use finding::{Found, find, read_at, stood};
 pub use growing::large_need;
-pub use listing::objects;
-pub use neighbours::{newer, older};
+pub use listing::{first_rank, head_at, head_of, objects, rank};
+pub use recorded::{check, no_record, oid_at, place_of, root_in};

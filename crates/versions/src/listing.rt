@@ -9,7 +9,7 @@ ghost use Rattle.file_bodies.specs.Files.{HasFile, HasBody};
 ghost use Rattle.versions.specs.Damage.{record_fault, IsStepFault, IsListingFault};
 ghost use Rattle.version_model.specs.Listed.{oids_in, oids_of, rank_of, start_rank, AreByNumber, AreReadable};
 
-use crate::recorded::{check, no_record};
+use crate::recorded::{check, no_record, oid_at};
 use ex_base::{Oid, Place, PortFault, ReadVolume};
 use file_bodies::{body_at, next_place};
 use object_records::{Head, RecordView, State};
@@ -19,7 +19,7 @@ use std::alloc::Global;
 const PAGE_SLOTS: u64 = 65_536;
 
 /// A place as a number: places stand in the order of their ranks.
-pub(crate) fn rank(place: Place) -> u64
+pub fn rank(place: Place) -> u64
     ensures rank { result ≡ rank_of place }
     ensures short { place.slot < 65536 }
 {
@@ -27,7 +27,7 @@ pub(crate) fn rank(place: Place) -> u64
 }
 
 /// The rank of the first place behind a place, or of the first one.
-pub(crate) fn first_rank(after: Option<Place>) -> u64
+pub fn first_rank(after: Option<Place>) -> u64
     ensures { result ≡ start_rank after }
 {
     match after {
@@ -37,7 +37,7 @@ pub(crate) fn first_rank(after: Option<Place>) -> u64
 }
 
 /// The head of the record in a body.
-pub(crate) fn head_of(body: &[u8], place: Place) -> Result<Head, PortFault>
+pub fn head_of(body: &[u8], place: Place) -> Result<Head, PortFault>
     ensures head { IfOk result (λ head. head ≡ (record_on body.now).head) }
     ensures sound { IfErr result (λ fault. (is : Record) → BodyOf body.now is → ⊥) }
     ensures fault { IfErr result (λ fault. fault ≡ record_fault place) }
@@ -66,7 +66,7 @@ fn head_on(body: Option<&[u8]>, place: Place) -> Result<Head, PortFault>
 }
 
 /// The head of the record at a place.
-pub(crate) fn head_at<V: ReadVolume>(
+pub fn head_at<V: ReadVolume>(
     volume: &mut V,
     alloc: Global,
     place: Place,
@@ -97,12 +97,7 @@ fn put_oid(oids: &mut Vec<Oid>, place: Place, head: &Head) -> Result<(), PortFau
     if head.state != State::Current {
         return Ok(());
     }
-    let oid = Oid {
-        page: place.page,
-        slot: place.slot,
-        unique: head.unique,
-    };
-    match oids.push(oid) {
+    match oids.push(oid_at(place, head.unique)) {
         Ok(()) => Ok(()),
         Err(_) => Err(PortFault::Memory),
     }

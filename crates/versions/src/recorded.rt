@@ -2,12 +2,16 @@
 ghost use Rattle.std.specs.Prelude.{◌≡◌, ℕ, IfErr, OnOk, IsTrue, false};
 ghost use Rattle.ex_base.specs.Ports.{Cause, HasCause, IsDamage};
 ghost use Rattle.ex_base.specs.Seen.{nothing_seen};
+ghost use Rattle.object_records.specs.Record.{Record, BodyOf};
+ghost use Rattle.version_model.specs.Listed.{oid_at};
+ghost use Rattle.version_model.specs.Versions.{root_of};
 ghost use Rattle.versions.specs.Damage.{record_fault, root_fault};
 
 use ex_base::{Oid, PageNo, Place, PortFault, Root, Seen};
+use object_records::{Payload, RecordView};
 
 /// Where an OID leads.
-pub(crate) fn place_of(oid: &Oid) -> Place
+pub fn place_of(oid: &Oid) -> Place
     ensures { result ≡ record { page = oid.now.page; slot = oid.now.slot } }
 {
     Place {
@@ -16,8 +20,29 @@ pub(crate) fn place_of(oid: &Oid) -> Place
     }
 }
 
+/// The OID of the version at a place that has a unique number.
+pub fn oid_at(place: Place, unique: u64) -> Oid
+    ensures { result ≡ oid_at place unique }
+{
+    let Place { page, slot } = place;
+    Oid { page, slot, unique }
+}
+
+/// The root of the version whose record is in a body: none of a small one, nor where no record is.
+pub fn root_in(body: &[u8]) -> Option<Root>
+    ensures { (is : Record) → BodyOf body.now is → result ≡ root_of is.content }
+{
+    let Some(view) = RecordView::of(body) else {
+        return None;
+    };
+    match view.payload() {
+        Payload::Small(_) => None,
+        Payload::Large(root) => Some(root),
+    }
+}
+
 /// The fault of a place whose record isn't what a call asks of it.
-pub(crate) fn no_record(place: Place) -> PortFault
+pub fn no_record(place: Place) -> PortFault
     ensures is { result ≡ record_fault place }
     ensures damage { IsDamage result }
     ensures cause { (before now : ℕ) → Cause before now result }
@@ -30,7 +55,7 @@ pub(crate) fn no_record(place: Place) -> PortFault
 }
 
 /// Nothing where what a call asks of the record at a place holds, else the fault of the place.
-pub(crate) fn check(holds: bool, place: Place) -> Result<(), PortFault>
+pub fn check(holds: bool, place: Place) -> Result<(), PortFault>
     ensures holds { OnOk result (IsTrue holds) }
     ensures fault { IfErr result (λ fault. (holds ≡ false) × (fault ≡ record_fault place)) }
     ensures cause { (before now : ℕ) → HasCause before now result }

@@ -1,0 +1,10 @@
+pub mod Places
+pub mod BodiesEdited
+pub mod Linking
+pub mod HeadLaws
+pub mod Copying
+pub mod Dropped
+pub mod TakenOut
+pub mod LineageOrder
+pub mod MemberRows
+pub mod DerivedRows

@@ -1,0 +1,39 @@
+use Rattle.std.proofs.Common.{rules, ℕ, List, sym, subst}
+use Rattle.std.specs.Prelude.{IsPermutation}
+use Rattle.std.proofs.lemmas.List.Sorted.{answers_always}
+use Rattle.std.specs.Prelude.{map}
+use Rattle.version_tree.specs.declared.lineage.Member.{Member}
+use Rattle.file_bodies.specs.Bodies.{bodies_of}
+use Rattle.file_bodies.proofs.Blame.{carried}
+use Rattle.file_bodies.proofs.Moving.{kept_file}
+use Rattle.version_model.specs.Listed.{AreReadable}
+use Rattle.versions.specs.Damage.{IsListingFault}
+use Rattle.version_tree.specs.Lineage.{member_of}
+use Rattle.version_tree.specs.Links.{at_start, on_way}
+use Rattle.version_tree.proofs.all_versions.members_of.Goals as goal
+
+pub returns-in-Err-clause-fault : goal.returns-in-Err-clause-fault
+returns-in-Err-clause-fault g c = λ told. at_start c.args.place (c.in-Err.ensures.fault told)
+
+pub returns-in-Ok-collect-clause-members : goal.returns-in-Ok-collect-clause-members
+returns-in-Ok-collect-clause-members g c = λ told index body has.
+    let kept = c.file_of.ensures.kept in
+    let told_b = g.V.Ground.leads_told c.args.volume.now c.file_of.new.volume kept.leads told in
+    let file_b = kept_file g.V.Ground c.args.volume.now c.file_of.new.volume index kept has.file in
+    let all = c.in-Ok-collect.ensures.members told_b index file_b (c.in-Ok.ensures.number told index body has) in
+    subst (λ (i : ℕ → List ℕ). IsPermutation (map member_of (bodies_of i index)) c.sort_unstable_by_key.new.self.items) kept.images
+    (subst (λ (t : List Member). IsPermutation t c.sort_unstable_by_key.new.self.items) all c.sort_unstable_by_key.ensures.permutation)
+
+pub returns-in-Ok-collect-clause-ordered : goal.returns-in-Ok-collect-clause-ordered
+returns-in-Ok-collect-clause-ordered g c = c.sort_unstable_by_key.ensures.sorted (λ (m : Member). m.oid.unique) (answers_always _ _ _ (λ f a r h k. search rules))
+
+pub returns-in-Err-collect-clause-sound : goal.returns-in-Err-collect-clause-sound
+returns-in-Err-collect-clause-sound g c = λ damage told index body has readable.
+    let kept = c.file_of.ensures.kept in
+    let told_b = g.V.Ground.leads_told c.args.volume.now c.file_of.new.volume kept.leads told in
+    let file_b = kept_file g.V.Ground c.args.volume.now c.file_of.new.volume index kept has.file in
+    c.in-Err-collect.ensures.sound damage told_b index file_b (c.in-Ok.ensures.number told index body has) (subst (λ (i : ℕ → List ℕ). AreReadable (bodies_of i index)) (sym kept.images) readable)
+
+pub returns-in-Err-collect-clause-fault : goal.returns-in-Err-collect-clause-fault
+returns-in-Err-collect-clause-fault g c = λ told. on_way c.in-Ok.file_no
+    (carried g.V.Ground c.args.volume.now c.file_of.new.volume (λ y u. IsListingFault y u c.in-Ok.file_no c.in-Err-collect.fault) c.file_of.ensures.kept c.in-Err-collect.ensures.fault told)

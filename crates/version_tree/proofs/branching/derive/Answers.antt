@@ -1,0 +1,65 @@
+use Rattle.std.proofs.Common.{◌≡◌, ℕ, List, true, false, subst, sym, ap, ◌∙◌, arith}
+use Rattle.ex_base.specs.declared.names.Oid.{Oid}
+use Rattle.object_records.specs.Record.{BodyOf}
+use Rattle.ex_base.specs.declared.names.Area.{Area}
+use Rattle.ex_base.specs.declared.names.Area.TheVariants.{Page}
+use Rattle.ex_base.proofs.Results.{if_err_handed}
+use Rattle.object_records.specs.declared.Head.{Head}
+use Rattle.file_bodies.proofs.Blame.{carried_held}
+use Rattle.version_model.specs.Versions.{place_of}
+use Rattle.version_tree.specs.Copies.{Derives, IsCopyFault, copying, linked}
+use Rattle.versions.specs.Damage.{unread}
+use Rattle.version_tree.specs.Links.{at_link, to_link}
+use Rattle.version_tree.proofs.Copying.{kept_derives, version_in}
+use Rattle.version_tree.proofs.Linking.{head_read, linked_limits}
+use Rattle.version_tree.proofs.branching.derive.Goals as goal
+
+pub returns-in_err-version-clause-sound : goal.returns-in_err-version-clause-sound
+returns-in_err-version-clause-sound g c = if_err_handed c.from_residual.result _ _ c.from_residual.ensures.1 (λ damage told links index is has frozen file.
+    c.in_err-version.ensures.sound damage told index is has (linked_limits g.V.Ground c.args.volume.now index c.args.oid.now is links has))
+
+pub returns-in_err-version-clause-fault : goal.returns-in_err-version-clause-fault
+returns-in_err-version-clause-fault g c = if_err_handed c.from_residual.result _ _ c.from_residual.ensures.1 (λ told. linked (c.in_err-version.ensures.fault told))
+
+pub returns-in_err-check-clause-sound : goal.returns-in_err-check-clause-sound
+returns-in_err-check-clause-sound g c = if_err_handed c.from_residual-in_err-check.result _ _ c.from_residual-in_err-check.ensures.1 (λ damage told links index is has frozen file.
+    let at = c.in_ok-version.ensures.stored told index is has in
+    let yes : c.is_frozen.result ≡ true = c.is_frozen.ensures.1 (ap (λ (h : Head). h.state) (head_read g.V.Ground has.body is c.in_ok-version.version.head has.spelled at.head) ∙ frozen) in
+    let isnt : c.is_frozen.result ≡ false = c.in_err-check.ensures.fault.0 in
+    absurd cc)
+
+pub returns-in_err-check-clause-fault : goal.returns-in_err-check-clause-fault
+returns-in_err-check-clause-fault g c = if_err_handed c.from_residual-in_err-check.result _ _ c.from_residual-in_err-check.ensures.1 (λ told. linked (to_link (at_link c.in_ok-version.version.place (unread c.in_err-check.ensures.fault.1))))
+
+pub returns-in-Ok-clause-derived : goal.returns-in-Ok-clause-derived
+returns-in-Ok-clause-derived g c = λ told index is has file.
+    let kept = c.stored_version.ensures.kept in
+    let told_b = g.V.Ground.leads_told c.args.volume.now c.stored_version.new.volume kept.leads told in
+    let at = c.in_ok-version.ensures.stored told index is has in
+    let v = version_in g.V.Ground c.args.volume.now c.stored_version.new.volume index (place_of c.args.oid.now) has.body is c.in_ok-version.version kept has.stands has.spelled at (c.in_ok-version.ensures.fits told index is has) in
+    subst (λ (o : Oid). Derives g.V.Ground c.args.volume.now c.derive_read.new.volume index (place_of c.args.oid.now) is o) (sym c.oid_at.ensures)
+    (kept_derives g.V.Ground c.args.volume.now c.stored_version.new.volume c.derive_read.new.volume index c.in_ok-version.version.place (place_of c.args.oid.now) is _ at.stands kept (c.in-Ok.ensures.derived told_b index is v file))
+
+pub returns-in-Ok-clause-come : goal.returns-in-Ok-clause-come
+returns-in-Ok-clause-come g c = λ told index is has.
+    let at = c.in_ok-version.ensures.stored told index is has in
+    c.root_in.ensures is (subst (λ (b : List ℕ). BodyOf b is) (sym (c.deref.ensures.value ∙ at.bytes)) has.spelled)
+
+pub returns-in-Ok-clause-asked : goal.returns-in-Ok-clause-asked
+returns-in-Ok-clause-asked g c = λ told index is has.
+    let at = c.in_ok-version.ensures.stored told index is has in
+    sym (ap (λ (h : Head). h.state) (head_read g.V.Ground has.body is c.in_ok-version.version.head has.spelled at.head)) ∙ c.is_frozen.ensures.0 c.in_ok-check.ensures.holds
+
+pub returns-in-Ok-clause-pages : goal.returns-in-Ok-clause-pages
+returns-in-Ok-clause-pages g c = omega (arith, c.in-Ok.ensures.pages, ap (λ (f : Area → ℕ). f Page) c.stored_version.ensures.kept.free)
+
+pub returns-clause-sound : goal.returns-clause-sound
+returns-clause-sound g c = λ damage told links index is has frozen file.
+    let kept = c.stored_version.ensures.kept in
+    let told_b = g.V.Ground.leads_told c.args.volume.now c.stored_version.new.volume kept.leads told in
+    let at = c.in_ok-version.ensures.stored told index is has in
+    let v = version_in g.V.Ground c.args.volume.now c.stored_version.new.volume index (place_of c.args.oid.now) has.body is c.in_ok-version.version kept has.stands has.spelled at (c.in_ok-version.ensures.fits told index is has) in
+    c.in-Err.ensures.sound damage told_b index is v file
+
+pub returns-clause-fault : goal.returns-clause-fault
+returns-clause-fault g c = λ told. copying (carried_held g.V.Ground c.args.volume.now c.stored_version.new.volume (λ y k u. IsCopyFault y k u c.args.room.now c.in-Err.fault) c.stored_version.ensures.kept c.in-Err.ensures.fault told)

@@ -1,0 +1,84 @@
+use Rattle.std.proofs.Common.{ℕ, List, Option, refl, sym, subst, ◌∙◌}
+use Rattle.std.specs.Prelude.{IsPermutation}
+use Rattle.std.proofs.lemmas.List.Sorted.{IsPermutation-refl}
+use Rattle.std.proofs.lemmas.Result.{IfOk-weaker, IfErr-weaker}
+use Rattle.ex_base.specs.declared.names.Oid.{Oid}
+use Rattle.ex_base.specs.declared.names.Place.{Place}
+use Rattle.ex_base.proofs.Keeping.{keeps_on}
+use Rattle.ex_base.proofs.Results.{if_err_handed}
+use Rattle.file_bodies.specs.Bodies.{bodies_of}
+use Rattle.file_bodies.specs.Files.{HasBody}
+use Rattle.file_bodies.proofs.Blame.{carried}
+use Rattle.file_bodies.proofs.Moving.{kept_body}
+use Rattle.version_model.specs.Versions.{place_of}
+use Rattle.versions.specs.Damage.{own}
+use Rattle.version_tree.specs.Linked.{oids_from}
+use Rattle.version_tree.specs.Links.{IsWalkFault, StoredAt, at_link, by_link, by_walk, to_link}
+use Rattle.version_tree.specs.declared.links.Stored.{Stored}
+use Rattle.version_tree.proofs.DerivedRows.{linked_readable, one_derived}
+use Rattle.version_tree.proofs.Linking.{kept_linked, link_kept, linked_limits}
+use Rattle.version_tree.proofs.descent.derived.Goals as goal
+
+pub returns-in_err-version-clause-sound : goal.returns-in_err-version-clause-sound
+returns-in_err-version-clause-sound g c = if_err_handed c.from_residual.result _ _ c.from_residual.ensures.1 (λ damage told linked index is has.
+    c.in_err-version.ensures.sound damage told index is has (linked_limits g.V.Ground c.args.volume.now index c.args.oid.now is linked has))
+
+pub returns-in_err-version-clause-fault : goal.returns-in_err-version-clause-fault
+returns-in_err-version-clause-fault g c = if_err_handed c.from_residual.result _ _ c.from_residual.ensures.1 (λ told. by_link (c.in_err-version.ensures.fault told))
+
+pub returns-in_err-found-clause-sound : goal.returns-in_err-found-clause-sound
+returns-in_err-found-clause-sound g c = if_err_handed c.from_residual-in_err-found.result _ _ c.from_residual-in_err-found.ensures.1 (λ damage told linked index is has.
+    let kept = c.stored_version.ensures.kept in
+    let told_b = g.V.Ground.leads_told c.args.volume.now c.stored_version.new.volume kept.leads told in
+    let stands = kept_body g.V.Ground c.args.volume.now c.stored_version.new.volume index (place_of c.args.oid.now) has.body kept has.stands in
+    c.in_err-found.ensures.sound damage told_b (kept_linked g.V.Ground c.args.volume.now c.stored_version.new.volume kept linked) index (place_of c.args.oid.now) has.body stands (c.in_ok-version.ensures.stored told index is has))
+
+pub returns-in_err-found-clause-fault : goal.returns-in_err-found-clause-fault
+returns-in_err-found-clause-fault g c = if_err_handed c.from_residual-in_err-found.result _ _ c.from_residual-in_err-found.ensures.1 (λ told.
+    by_link (to_link (link_kept g.V.Ground c.args.volume.now c.stored_version.new.volume _ c.stored_version.ensures.kept c.in_err-found.ensures.fault told)))
+
+pub returns-in-Some-clause-oids : goal.returns-in-Some-clause-oids
+returns-in-Some-clause-oids g c = IfOk-weaker c.list_one.result _ _ (λ oids one told linked index is has.
+    let kept = c.stored_version.ensures.kept in
+    let told_b = g.V.Ground.leads_told c.args.volume.now c.stored_version.new.volume kept.leads told in
+    let links_b = kept_linked g.V.Ground c.args.volume.now c.stored_version.new.volume kept linked in
+    let stands = kept_body g.V.Ground c.args.volume.now c.stored_version.new.volume index (place_of c.args.oid.now) has.body kept has.stands in
+    let at = c.in_ok-version.ensures.stored told index is has in
+    let down = subst (λ (o : Option Stored). StoredAt (bodies_of (g.V.Ground.image c.stored_version.new.volume) index) c.in_ok-version.version.head.newer o) c.in-Some.is
+    (c.in_ok-found.ensures.newer told_b links_b index (place_of c.args.oid.now) has.body stands at) in
+    let here = one_derived g.V.Ground c.stored_version.new.volume index (place_of c.args.oid.now) has.body c.in_ok-version.version.head c.in_ok-version.version.head.newer c.in-Some.newer links_b stands at.head refl down in
+    subst (λ (i : ℕ → List ℕ). IsPermutation (oids_from (place_of c.args.oid.now) (bodies_of i index)) oids.items) kept.images
+    (subst (λ (t : List Oid). IsPermutation t oids.items) (sym (here ∙ sym one)) (IsPermutation-refl oids.items))) c.list_one.ensures.one
+
+pub returns-in-Some-clause-sound : goal.returns-in-Some-clause-sound
+returns-in-Some-clause-sound g c = IfErr-weaker c.list_one.result _ _ (λ fault never damage told linked index is has. never damage) c.list_one.ensures.no_damage
+
+pub returns-in-Some-clause-fault : goal.returns-in-Some-clause-fault
+returns-in-Some-clause-fault g c = IfErr-weaker c.list_one.result _ _ (λ fault never told. by_link (to_link (at_link c.in_ok-version.version.place (own never)))) c.list_one.ensures.no_damage
+
+pub returns-in-Some-clause-cause : goal.returns-in-Some-clause-cause
+returns-in-Some-clause-cause g c = c.list_one.ensures.cause _ _
+
+pub returns-clause-oids : goal.returns-clause-oids
+returns-clause-oids g c = IfOk-weaker c.list_by_number.result _ _ (λ oids h told linked index is has.
+    let kept = keeps_on g.V.Ground c.args.volume.now c.stored_version.new.volume c.linked_newer.new.volume c.stored_version.ensures.kept c.linked_newer.ensures.kept in
+    let told_d = g.V.Ground.leads_told c.args.volume.now c.linked_newer.new.volume kept.leads told in
+    let stands = kept_body g.V.Ground c.args.volume.now c.linked_newer.new.volume index (place_of c.args.oid.now) has.body kept has.stands in
+    let at = c.in_ok-version.ensures.stored told index is has in
+    subst (λ (p : Place). IsPermutation (oids_from p (bodies_of (g.V.Ground.image c.args.volume.now) index)) oids.items) at.stands
+    (subst (λ (i : ℕ → List ℕ). IsPermutation (oids_from c.in_ok-version.version.place (bodies_of i index)) oids.items) kept.images
+    (h told_d index has.body (subst (λ (p : Place). HasBody g.V.Ground c.linked_newer.new.volume index p has.body) (sym at.stands) stands)))) c.list_by_number.ensures.oids
+
+pub returns-clause-sound : goal.returns-clause-sound
+returns-clause-sound g c = IfErr-weaker c.list_by_number.result _ _ (λ fault h damage told linked index is has.
+    let kept = keeps_on g.V.Ground c.args.volume.now c.stored_version.new.volume c.linked_newer.new.volume c.stored_version.ensures.kept c.linked_newer.ensures.kept in
+    let told_d = g.V.Ground.leads_told c.args.volume.now c.linked_newer.new.volume kept.leads told in
+    let stands = kept_body g.V.Ground c.args.volume.now c.linked_newer.new.volume index (place_of c.args.oid.now) has.body kept has.stands in
+    let at = c.in_ok-version.ensures.stored told index is has in
+    h damage told_d index has.body (subst (λ (p : Place). HasBody g.V.Ground c.linked_newer.new.volume index p has.body) (sym at.stands) stands)
+    (linked_readable g.V.Ground c.linked_newer.new.volume index (kept_linked g.V.Ground c.args.volume.now c.linked_newer.new.volume kept linked) stands.file)) c.list_by_number.ensures.sound
+
+pub returns-clause-fault : goal.returns-clause-fault
+returns-clause-fault g c = IfErr-weaker c.list_by_number.result _ _ (λ fault h told.
+    let kept = keeps_on g.V.Ground c.args.volume.now c.stored_version.new.volume c.linked_newer.new.volume c.stored_version.ensures.kept c.linked_newer.ensures.kept in
+    by_walk (carried g.V.Ground c.args.volume.now c.linked_newer.new.volume (λ y u. IsWalkFault y u fault) kept h told)) c.list_by_number.ensures.fault

@@ -1,0 +1,34 @@
+use Rattle.std.proofs.Common.{◌≡◌, ℕ, List, true, false, sym, ap, subst, ◌∙◌}
+use Rattle.std.proofs.lemmas.Result.{IfOk-weaker, IfErr-weaker}
+use Rattle.ex_base.proofs.Counts.{contains_times}
+use Rattle.slotted_pages.specs.Reads.{page_on, IsPage}
+use Rattle.file_bodies.specs.Bodies.{pages_in}
+use Rattle.file_bodies.proofs.Moving.{lies}
+use Rattle.versions.specs.Damage.{unread, own}
+use Rattle.versions.proofs.Puts.{page_is}
+use Rattle.version_tree.proofs.descent.file_of.Goals as goal
+
+pub returns-in-Ok-clause-number : goal.returns-in-Ok-clause-number
+returns-in-Ok-clause-number g c = IfOk-weaker c.number_on.result _ _ (λ number is told index body has.
+    sym (page_is g.V.Ground c.args.volume.now index c.args.place body has).number ∙ sym (ap (λ (t : List ℕ). (page_on t).file_no) (c.in-Ok.ensures.bytes told)) ∙ is) c.number_on.ensures.number
+
+pub returns-in-Ok-clause-sound : goal.returns-in-Ok-clause-sound
+returns-in-Ok-clause-sound g c = IfErr-weaker c.number_on.result _ _ (λ fault never damage told index body has.
+    never (subst IsPage (sym (c.in-Ok.ensures.bytes told)) (page_is g.V.Ground c.args.volume.now index c.args.place body has).spelled)) c.number_on.ensures.sound
+
+pub returns-in-Ok-clause-fault : goal.returns-in-Ok-clause-fault
+returns-in-Ok-clause-fault g c = IfErr-weaker c.number_on.result _ _ (λ fault is told. unread is) c.number_on.ensures.fault
+
+pub returns-in-Ok-clause-cause : goal.returns-in-Ok-clause-cause
+returns-in-Ok-clause-cause g c = c.number_on.ensures.cause _ _
+
+pub returns-in-Err-clause-fault : goal.returns-in-Err-clause-fault
+returns-in-Err-clause-fault g c = λ told. own c.in-Err.ensures.no_damage
+
+pub returns-then-not-in_area-clause-sound : goal.returns-then-not-in_area-clause-sound
+returns-then-not-in_area-clause-sound g c = λ damage told index body has. absurd (
+    let yes : c.in_area.result ≡ true = c.in_area.ensures.1 (lies g.V.Ground c.args.volume.now index c.args.place.page.0 has.file (contains_times c.args.place.page.0 (pages_in (g.V.Ground.image c.args.volume.now) index) has.named)).0 in
+    let no : c.in_area.result ≡ false = c.if-not-in_area.true in cc)
+
+pub returns-then-not-in_area-clause-fault : goal.returns-then-not-in_area-clause-fault
+returns-then-not-in_area-clause-fault g c = λ told. unread c.no_record.ensures.is

@@ -1,0 +1,22 @@
+use Rattle.std.proofs.lemmas.Result.{IfErr-weaker}
+use Rattle.versions.specs.Damage.{own, unread}
+use Rattle.version_tree.proofs.descent.list_at.Goals as goal
+use Rattle.ex_base.proofs.Results.{if_err_handed}
+
+pub returns-clause-sound : goal.returns-clause-sound
+returns-clause-sound g c = IfErr-weaker c.put_derived.result _ _ (λ fault never damage told le index body is has spelled. never damage) c.put_derived.ensures.no_damage
+
+pub returns-clause-fault : goal.returns-clause-fault
+returns-clause-fault g c = IfErr-weaker c.put_derived.result _ _ (λ fault never told. own never) c.put_derived.ensures.no_damage
+
+pub returns-in_err-check-clause-fault : goal.returns-in_err-check-clause-fault
+returns-in_err-check-clause-fault g c = if_err_handed c.from_residual.result _ _ c.from_residual.ensures.1 (λ told. unread c.in_err-check.ensures.fault.1)
+
+pub returns-clause-cause : goal.returns-clause-cause
+returns-clause-cause g c = c.put_derived.ensures.cause _ _
+
+pub returns-in_err-head-clause-sound : goal.returns-in_err-head-clause-sound
+returns-in_err-head-clause-sound g c = if_err_handed c.from_residual-in_err-head.result _ _ c.from_residual-in_err-head.ensures.1 (λ damage told le index body is has spelled. c.in_err-head.ensures.sound damage told index body is has spelled)
+
+pub returns-in_err-head-clause-fault : goal.returns-in_err-head-clause-fault
+returns-in_err-head-clause-fault g c = if_err_handed c.from_residual-in_err-head.result _ _ c.from_residual-in_err-head.ensures.1 (λ told. c.in_err-head.ensures.fault told)

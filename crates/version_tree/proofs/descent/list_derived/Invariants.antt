@@ -1,0 +1,10 @@
+use Rattle.std.proofs.Common.{◌-◌}
+use Rattle.version_model.specs.Listed.{start_rank}
+use Rattle.version_tree.proofs.DerivedRows.{DerivedTo}
+use Rattle.version_tree.proofs.descent.list_derived.Given as goal
+
+abbrev pub invariant-places : goal.invariant-places
+invariant-places g l = DerivedTo g.V.Ground l.from l.initial.volume l.volume l.file_no l.after l.oids.items
+
+abbrev pub decreases-places : goal.decreases-places
+decreases-places g l = 281474976710656 - start_rank l.after

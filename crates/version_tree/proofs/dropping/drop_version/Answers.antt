@@ -1,0 +1,146 @@
+use Rattle.std.proofs.Common.{◌≡◌, ◌≤◌, ◌+◌, ℕ, true, false, List, length, Option, Some, sym, ap, subst, ◌∙◌, arith}
+use Rattle.std.specs.Prelude.{IsSome}
+use Rattle.std.proofs.lemmas.Result.{on_ok_weaker, IfOk-weaker, IfErr-weaker}
+use Rattle.ex_base.specs.declared.geometry.Geometry.{Geometry}
+use Rattle.ex_base.specs.declared.names.Area.{Area}
+use Rattle.ex_base.specs.declared.names.Area.TheVariants.{Page}
+use Rattle.ex_base.proofs.Keeping.{keeps_on}
+use Rattle.ex_base.proofs.Results.{if_err_handed}
+use Rattle.object_records.specs.Record.{BodyOf}
+use Rattle.object_records.specs.declared.Head.{Head}
+use Rattle.file_bodies.specs.Bodies.{bodies_of}
+use Rattle.file_bodies.proofs.Blame.{carried_held}
+use Rattle.file_bodies.proofs.Moving.{kept_body}
+use Rattle.version_model.specs.Versions.{place_of}
+use Rattle.versions.specs.Damage.{unread}
+use Rattle.version_tree.specs.Links.{StoredAt, at_link, to_link}
+use Rattle.version_tree.specs.Removals.{IsRemovingFault, of_links}
+use Rattle.version_tree.proofs.Dropped.{between_of, kept_drops, none_linked}
+use Rattle.version_tree.proofs.Linking.{head_read, kept_linked, link_kept, linked_limits}
+use Rattle.versions.proofs.Results.{ok_of}
+use Rattle.version_tree.specs.declared.links.Stored.{Stored}
+use Rattle.version_tree.proofs.dropping.drop_version.Goals as goal
+
+pub returns-in_err-version-clause-sound : goal.returns-in_err-version-clause-sound
+returns-in_err-version-clause-sound g c = if_err_handed c.from_residual.result _ _ c.from_residual.ensures.1 (λ damage told links index is has frozen some.
+    c.in_err-version.ensures.sound damage told index is has (linked_limits g.V.Ground c.args.volume.now index c.args.oid.now is links has))
+
+pub returns-in_err-version-clause-fault : goal.returns-in_err-version-clause-fault
+returns-in_err-version-clause-fault g c = if_err_handed c.from_residual.result _ _ c.from_residual.ensures.1 (λ told. of_links (c.in_err-version.ensures.fault told))
+
+pub returns-in_err-check-clause-sound : goal.returns-in_err-check-clause-sound
+returns-in_err-check-clause-sound g c = if_err_handed c.from_residual-in_err-check.result _ _ c.from_residual-in_err-check.ensures.1 (λ damage told links index is has frozen some.
+    let at = c.in_ok-version.ensures.stored told index is has in
+    let yes : c.is_frozen.result ≡ true = c.is_frozen.ensures.1 (ap (λ (h : Head). h.state) (head_read g.V.Ground has.body is c.in_ok-version.version.head has.spelled at.head) ∙ frozen) in
+    let isnt : c.is_frozen.result ≡ false = c.in_err-check.ensures.fault.0 in
+    absurd cc)
+
+pub returns-in_err-check-clause-fault : goal.returns-in_err-check-clause-fault
+returns-in_err-check-clause-fault g c = if_err_handed c.from_residual-in_err-check.result _ _ c.from_residual-in_err-check.ensures.1 (λ told. of_links (to_link (at_link c.in_ok-version.version.place (unread c.in_err-check.ensures.fault.1))))
+
+pub returns-in_err-older-clause-sound : goal.returns-in_err-older-clause-sound
+returns-in_err-older-clause-sound g c = if_err_handed c.from_residual-in_err-older.result _ _ c.from_residual-in_err-older.ensures.1 (λ damage told links index is has frozen some.
+    let kept = c.stored_version.ensures.kept in
+    let told_b = g.V.Ground.leads_told c.args.volume.now c.stored_version.new.volume kept.leads told in
+    let stands = kept_body g.V.Ground c.args.volume.now c.stored_version.new.volume index (place_of c.args.oid.now) has.body kept has.stands in
+    c.in_err-older.ensures.sound damage told_b (kept_linked g.V.Ground c.args.volume.now c.stored_version.new.volume kept links) index (place_of c.args.oid.now) has.body stands (c.in_ok-version.ensures.stored told index is has))
+
+pub returns-in_err-older-clause-fault : goal.returns-in_err-older-clause-fault
+returns-in_err-older-clause-fault g c = if_err_handed c.from_residual-in_err-older.result _ _ c.from_residual-in_err-older.ensures.1 (λ told.
+    of_links (to_link (link_kept g.V.Ground c.args.volume.now c.stored_version.new.volume _ c.stored_version.ensures.kept c.in_err-older.ensures.fault told)))
+
+pub returns-in_err-found-clause-sound : goal.returns-in_err-found-clause-sound
+returns-in_err-found-clause-sound g c = if_err_handed c.from_residual-in_err-found.result _ _ c.from_residual-in_err-found.ensures.1 (λ damage told links index is has frozen some.
+    let kept = keeps_on g.V.Ground c.args.volume.now c.stored_version.new.volume c.linked_older.new.volume c.stored_version.ensures.kept c.linked_older.ensures.kept in
+    let told_d = g.V.Ground.leads_told c.args.volume.now c.linked_older.new.volume kept.leads told in
+    let stands = kept_body g.V.Ground c.args.volume.now c.linked_older.new.volume index (place_of c.args.oid.now) has.body kept has.stands in
+    c.in_err-found.ensures.sound damage told_d (kept_linked g.V.Ground c.args.volume.now c.linked_older.new.volume kept links) index (place_of c.args.oid.now) has.body stands (c.in_ok-version.ensures.stored told index is has))
+
+pub returns-in_err-found-clause-fault : goal.returns-in_err-found-clause-fault
+returns-in_err-found-clause-fault g c = if_err_handed c.from_residual-in_err-found.result _ _ c.from_residual-in_err-found.ensures.1 (λ told.
+    of_links (to_link (link_kept g.V.Ground c.args.volume.now c.linked_older.new.volume _
+    (keeps_on g.V.Ground c.args.volume.now c.stored_version.new.volume c.linked_older.new.volume c.stored_version.ensures.kept c.linked_older.ensures.kept) c.in_err-found.ensures.fault told)))
+
+pub returns-clause-sound : goal.returns-clause-sound
+returns-clause-sound g c = λ damage told links index is has frozen some.
+    let kept = keeps_on g.V.Ground c.args.volume.now c.stored_version.new.volume c.linked_older.new.volume c.stored_version.ensures.kept c.linked_older.ensures.kept in
+    let told_d = g.V.Ground.leads_told c.args.volume.now c.linked_older.new.volume kept.leads told in
+    let stands = kept_body g.V.Ground c.args.volume.now c.linked_older.new.volume index (place_of c.args.oid.now) has.body kept has.stands in
+    let at = c.in_ok-version.ensures.stored told index is has in
+    let down = c.in_ok-found.ensures.newer told_d (kept_linked g.V.Ground c.args.volume.now c.linked_older.new.volume kept links) index (place_of c.args.oid.now) has.body stands at in
+    none_linked (bodies_of (g.V.Ground.image c.linked_older.new.volume) index) c.in_ok-version.version.head.newer
+    (subst (λ (o : Option Stored). StoredAt (bodies_of (g.V.Ground.image c.linked_older.new.volume) index) c.in_ok-version.version.head.newer o) c.in-None.is down)
+    (subst (λ (h : Head). IsSome h.newer) (sym (head_read g.V.Ground has.body is c.in_ok-version.version.head has.spelled at.head)) some)
+
+pub returns-clause-fault : goal.returns-clause-fault
+returns-clause-fault g c = λ told. of_links (to_link (at_link c.in_ok-version.version.place (unread c.no_record.ensures.is)))
+
+pub returns-in-Some-clause-asked : goal.returns-in-Some-clause-asked
+returns-in-Some-clause-asked g c = ok_of c.drop_read.result _ (λ told index is has.
+    let at = c.in_ok-version.ensures.stored told index is has in
+    sym (ap (λ (h : Head). h.state) (head_read g.V.Ground has.body is c.in_ok-version.version.head has.spelled at.head)) ∙ c.is_frozen.ensures.0 c.in_ok-check.ensures.holds)
+
+pub returns-in-Some-clause-gone : goal.returns-in-Some-clause-gone
+returns-in-Some-clause-gone g c = IfOk-weaker c.drop_read.result _ _ (λ gone h told index is has.
+    let at = c.in_ok-version.ensures.stored told index is has in
+    h is (subst (λ (b : List ℕ). BodyOf b is) (sym at.bytes) has.spelled)) c.drop_read.ensures.gone
+
+pub returns-in-Some-clause-pages : goal.returns-in-Some-clause-pages
+returns-in-Some-clause-pages g c = on_ok_weaker c.drop_read.result (λ p. omega (arith, p, ap (λ (f : Area → ℕ). f Page) c.stored_version.ensures.kept.free, ap (λ (f : Area → ℕ). f Page) c.linked_older.ensures.kept.free, ap (λ (f : Area → ℕ). f Page) c.linked_newer.ensures.kept.free)) c.drop_read.ensures.pages
+
+pub returns-in-Some-clause-fault : goal.returns-in-Some-clause-fault
+returns-in-Some-clause-fault g c = IfErr-weaker c.drop_read.result _ _ (λ fault h told.
+    let kept = keeps_on g.V.Ground c.args.volume.now c.linked_older.new.volume c.linked_newer.new.volume
+    (keeps_on g.V.Ground c.args.volume.now c.stored_version.new.volume c.linked_older.new.volume c.stored_version.ensures.kept c.linked_older.ensures.kept) c.linked_newer.ensures.kept in
+    carried_held g.V.Ground c.args.volume.now c.linked_newer.new.volume (λ y k u. IsRemovingFault y k u (g.V.Ground.held c.drop_read.new.volume) (g.V.Ground.image c.drop_read.new.volume) c.args.oid.now fault) kept (λ later. h later c.args.oid.now) told) c.drop_read.ensures.fault
+
+pub returns-in-Some-clause-dropped : goal.returns-in-Some-clause-dropped
+returns-in-Some-clause-dropped g c = on_ok_weaker c.drop_read.result (λ h told links index is has.
+    let ab = c.stored_version.ensures.kept in
+    let bd = c.linked_older.ensures.kept in
+    let de = c.linked_newer.ensures.kept in
+    let ad = keeps_on g.V.Ground c.args.volume.now c.stored_version.new.volume c.linked_older.new.volume ab bd in
+    let be = keeps_on g.V.Ground c.stored_version.new.volume c.linked_older.new.volume c.linked_newer.new.volume bd de in
+    let told_b = g.V.Ground.leads_told c.args.volume.now c.stored_version.new.volume ab.leads told in
+    let told_d = g.V.Ground.leads_told c.args.volume.now c.linked_older.new.volume ad.leads told in
+    let told_e = g.V.Ground.leads_told c.linked_older.new.volume c.linked_newer.new.volume de.leads told_d in
+    let links_b = kept_linked g.V.Ground c.args.volume.now c.stored_version.new.volume ab links in
+    let links_d = kept_linked g.V.Ground c.args.volume.now c.linked_older.new.volume ad links in
+    let stands_b = kept_body g.V.Ground c.args.volume.now c.stored_version.new.volume index (place_of c.args.oid.now) has.body ab has.stands in
+    let stands_d = kept_body g.V.Ground c.args.volume.now c.linked_older.new.volume index (place_of c.args.oid.now) has.body ad has.stands in
+    let at = c.in_ok-version.ensures.stored told index is has in
+    let fits : length has.body + 20 ≤ (g.V.Ground.geometry c.stored_version.new.volume).page_size =
+    subst (λ (y : Geometry). length has.body + 20 ≤ y.page_size) (sym (g.V.Ground.leads_geometry c.args.volume.now c.stored_version.new.volume ab.leads)) (c.in_ok-version.ensures.fits told index is has) in
+    let up = c.in_ok-older.ensures.older told_b links_b index (place_of c.args.oid.now) has.body stands_b at in
+    let down = subst (λ (i : ℕ → List ℕ). StoredAt (bodies_of i index) c.in_ok-version.version.head.newer (Some c.in-Some.newer)) bd.images
+    (subst (λ (o : Option Stored). StoredAt (bodies_of (g.V.Ground.image c.linked_older.new.volume) index) c.in_ok-version.version.head.newer o) c.in-Some.is
+    (c.in_ok-found.ensures.newer told_d links_d index (place_of c.args.oid.now) has.body stands_d at)) in
+    let between = between_of g.V.Ground c.stored_version.new.volume c.linked_newer.new.volume index (place_of c.args.oid.now) has.body is c.in_ok-version.version c.in-Some.newer c.in_ok-older.older links_b be stands_b has.spelled at fits
+    (c.is_frozen.ensures.0 c.in_ok-check.ensures.holds) up down in
+    kept_drops g.V.Ground c.args.volume.now c.linked_newer.new.volume c.drop_read.new.volume index c.in_ok-version.version.place (place_of c.args.oid.now) is at.stands
+    (keeps_on g.V.Ground c.args.volume.now c.linked_older.new.volume c.linked_newer.new.volume ad de) (h told_e index is between)) c.drop_read.ensures.dropped
+
+pub returns-in-Some-clause-sound : goal.returns-in-Some-clause-sound
+returns-in-Some-clause-sound g c = IfErr-weaker c.drop_read.result _ _ (λ fault h damage told links index is has frozen some.
+    let ab = c.stored_version.ensures.kept in
+    let bd = c.linked_older.ensures.kept in
+    let de = c.linked_newer.ensures.kept in
+    let ad = keeps_on g.V.Ground c.args.volume.now c.stored_version.new.volume c.linked_older.new.volume ab bd in
+    let be = keeps_on g.V.Ground c.stored_version.new.volume c.linked_older.new.volume c.linked_newer.new.volume bd de in
+    let told_b = g.V.Ground.leads_told c.args.volume.now c.stored_version.new.volume ab.leads told in
+    let told_d = g.V.Ground.leads_told c.args.volume.now c.linked_older.new.volume ad.leads told in
+    let told_e = g.V.Ground.leads_told c.linked_older.new.volume c.linked_newer.new.volume de.leads told_d in
+    let links_b = kept_linked g.V.Ground c.args.volume.now c.stored_version.new.volume ab links in
+    let links_d = kept_linked g.V.Ground c.args.volume.now c.linked_older.new.volume ad links in
+    let stands_b = kept_body g.V.Ground c.args.volume.now c.stored_version.new.volume index (place_of c.args.oid.now) has.body ab has.stands in
+    let stands_d = kept_body g.V.Ground c.args.volume.now c.linked_older.new.volume index (place_of c.args.oid.now) has.body ad has.stands in
+    let at = c.in_ok-version.ensures.stored told index is has in
+    let fits : length has.body + 20 ≤ (g.V.Ground.geometry c.stored_version.new.volume).page_size =
+    subst (λ (y : Geometry). length has.body + 20 ≤ y.page_size) (sym (g.V.Ground.leads_geometry c.args.volume.now c.stored_version.new.volume ab.leads)) (c.in_ok-version.ensures.fits told index is has) in
+    let up = c.in_ok-older.ensures.older told_b links_b index (place_of c.args.oid.now) has.body stands_b at in
+    let down = subst (λ (i : ℕ → List ℕ). StoredAt (bodies_of i index) c.in_ok-version.version.head.newer (Some c.in-Some.newer)) bd.images
+    (subst (λ (o : Option Stored). StoredAt (bodies_of (g.V.Ground.image c.linked_older.new.volume) index) c.in_ok-version.version.head.newer o) c.in-Some.is
+    (c.in_ok-found.ensures.newer told_d links_d index (place_of c.args.oid.now) has.body stands_d at)) in
+    h damage told_e index is
+    (between_of g.V.Ground c.stored_version.new.volume c.linked_newer.new.volume index (place_of c.args.oid.now) has.body is c.in_ok-version.version c.in-Some.newer c.in_ok-older.older links_b be stands_b has.spelled at fits
+    (c.is_frozen.ensures.0 c.in_ok-check.ensures.holds) up down)) c.drop_read.ensures.sound

@@ -1,0 +1,70 @@
+use Rattle.std.proofs.Common.{ℕ, ap, arith}
+use Rattle.ex_base.specs.declared.names.Area.{Area}
+use Rattle.ex_base.specs.declared.names.Area.TheVariants.{Page}
+use Rattle.ex_base.proofs.Results.{if_err_handed}
+use Rattle.file_bodies.specs.Bodies.{bodies_of}
+use Rattle.version_tree.specs.Bodies.{frozen_head, with_head}
+use Rattle.version_tree.specs.Copies.{unwritten}
+use Rattle.version_tree.proofs.Copying.{copied_stands, copy_fault, copy_head, copy_named, froze, just_stand, moved_head, older_frozen}
+use Rattle.version_tree.proofs.Linking.{step_of}
+use Rattle.version_tree.proofs.freezing.freeze_read.Goals as goal
+
+pub returns-clause-frozen : goal.returns-clause-frozen
+returns-clause-frozen g c = λ told index is read current file.
+    let a = c.args.volume.now in
+    let b = c.put_copy.new.volume in
+    let d = c.put_head.new.volume in
+    let was = c.args.was.now in
+    let older = c.args.older.now in
+    let place = c.in_ok-place.place in
+    let told_b = g.V.Ground.leads_told c.args.volume.now c.put_copy.new.volume c.put_copy.ensures.leads told in
+    let copied = c.in_ok-place.ensures.copies told index is read.has.file file read.spelled in
+    let put = c.in_ok-put_head.ensures.put told_b copied.puts.after is
+    (copied_stands g.V.Ground c.args.volume.now c.put_copy.new.volume index c.in_ok-place.place (with_head (frozen_head c.args.unique c.args.was.now.place c.args.was.now.head) is) copied c.args.was.now read.has) read.spelled in
+    let told_d = g.V.Ground.leads_told c.put_copy.new.volume c.put_head.new.volume c.put_head.ensures.leads told_b in
+    let frozen = older_frozen g.V.Ground c.args.volume.now c.put_copy.new.volume index c.args.was.now c.args.older.now is read current c.args.unique c.in_ok-place.place copied c.put_head.new.volume put in
+    let turned = c.in_ok-turn_older.ensures.turned told_d copied.puts.after (bodies_of (g.V.Ground.image c.args.volume.now) index) is.head.older put.edit.file read.link
+    (just_stand g.V.Ground c.put_head.new.volume copied.puts.after c.args.older.now frozen) in
+    froze g.V.Ground c.args.volume.now c.put_copy.new.volume index c.args.was.now c.args.older.now is read current c.args.unique c.in_ok-place.place copied c.put_head.new.volume put c.turn_older.new.volume turned
+
+pub returns-clause-pages : goal.returns-clause-pages
+returns-clause-pages g c = omega (arith, c.in_ok-place.ensures.pages, ap (λ (f : Area → ℕ). f Page) c.in_ok-put_head.ensures.free, ap (λ (f : Area → ℕ). f Page) c.in_ok-turn_older.ensures.free)
+
+pub returns-in_err-place-clause-sound : goal.returns-in_err-place-clause-sound
+returns-in_err-place-clause-sound g c = if_err_handed c.from_residual.result _ _ c.from_residual.ensures.1 (λ damage told index is read current file.
+    c.in_err-place.ensures.sound damage told index is read.has file read.fits read.spelled
+    (copy_head g.V.Ground c.args.volume.now c.args.volume.now index c.args.was.now c.args.older.now is read current c.args.unique c.args.was.now.place))
+
+pub returns-in_err-place-clause-fault : goal.returns-in_err-place-clause-fault
+returns-in_err-place-clause-fault g c = if_err_handed c.from_residual.result _ _ c.from_residual.ensures.1 (λ told. c.in_err-place.ensures.fault told)
+
+pub returns-in_err-put_head-clause-sound : goal.returns-in_err-put_head-clause-sound
+returns-in_err-put_head-clause-sound g c = if_err_handed c.from_residual-in_err-put_head.result _ _ c.from_residual-in_err-put_head.ensures.1 (λ damage told index is read current file.
+    let told_b = g.V.Ground.leads_told c.args.volume.now c.put_copy.new.volume c.put_copy.ensures.leads told in
+    let copied = c.in_ok-place.ensures.copies told index is read.has.file file read.spelled in
+    let stands = copied_stands g.V.Ground c.args.volume.now c.put_copy.new.volume index c.in_ok-place.place (with_head (frozen_head c.args.unique c.args.was.now.place c.args.was.now.head) is) copied c.args.was.now read.has in
+    c.in_err-put_head.ensures.sound damage told_b copied.puts.after is stands read.spelled
+    (moved_head g.V.Ground c.args.volume.now c.put_copy.new.volume index c.args.was.now c.args.older.now is read current c.args.unique c.in_ok-place.place
+    (copy_named g.V.Ground c.args.volume.now c.put_copy.new.volume index c.in_ok-place.place (with_head (frozen_head c.args.unique c.args.was.now.place c.args.was.now.head) is) copied)))
+
+pub returns-in_err-put_head-clause-fault : goal.returns-in_err-put_head-clause-fault
+returns-in_err-put_head-clause-fault g c = if_err_handed c.from_residual-in_err-put_head.result _ _ c.from_residual-in_err-put_head.ensures.1 (λ told.
+    let told_b = g.V.Ground.leads_told c.args.volume.now c.put_copy.new.volume c.put_copy.ensures.leads told in
+    unwritten c.args.was.now.place (step_of (g.V.Ground.geometry c.args.volume.now) (g.V.Ground.image c.args.volume.now) c.args.was.now.place _ (c.in_err-put_head.ensures.fault told_b)))
+
+pub returns-in_err-turn_older-clause-sound : goal.returns-in_err-turn_older-clause-sound
+returns-in_err-turn_older-clause-sound g c = if_err_handed c.from_residual-in_err-turn_older.result _ _ c.from_residual-in_err-turn_older.ensures.1 (λ damage told index is read current file.
+    let told_b = g.V.Ground.leads_told c.args.volume.now c.put_copy.new.volume c.put_copy.ensures.leads told in
+    let copied = c.in_ok-place.ensures.copies told index is read.has.file file read.spelled in
+    let put = c.in_ok-put_head.ensures.put told_b copied.puts.after is
+    (copied_stands g.V.Ground c.args.volume.now c.put_copy.new.volume index c.in_ok-place.place (with_head (frozen_head c.args.unique c.args.was.now.place c.args.was.now.head) is) copied c.args.was.now read.has) read.spelled in
+    let told_d = g.V.Ground.leads_told c.put_copy.new.volume c.put_head.new.volume c.put_head.ensures.leads told_b in
+    c.in_err-turn_older.ensures.sound damage told_d copied.puts.after
+    (older_frozen g.V.Ground c.args.volume.now c.put_copy.new.volume index c.args.was.now c.args.older.now is read current c.args.unique c.in_ok-place.place copied c.put_head.new.volume put)
+    (copy_named g.V.Ground c.args.volume.now c.put_copy.new.volume index c.in_ok-place.place (with_head (frozen_head c.args.unique c.args.was.now.place c.args.was.now.head) is) copied))
+
+pub returns-in_err-turn_older-clause-fault : goal.returns-in_err-turn_older-clause-fault
+returns-in_err-turn_older-clause-fault g c = if_err_handed c.from_residual-in_err-turn_older.result _ _ c.from_residual-in_err-turn_older.ensures.1 (λ told.
+    let told_b = g.V.Ground.leads_told c.args.volume.now c.put_copy.new.volume c.put_copy.ensures.leads told in
+    let told_d = g.V.Ground.leads_told c.put_copy.new.volume c.put_head.new.volume c.put_head.ensures.leads told_b in
+    copy_fault (g.V.Ground.geometry c.args.volume.now) (g.V.Ground.held c.args.volume.now) (g.V.Ground.image c.args.volume.now) c.args.room.now c.args.was.now.place _ (c.in_err-turn_older.ensures.fault told_d))

@@ -1,0 +1,6 @@
+use Rattle.std.proofs.Common.{take}
+use Rattle.version_tree.proofs.LineageOrder.{AreBelow}
+use Rattle.version_tree.proofs.lineage.below.Given as goal
+
+abbrev pub invariant-members : goal.invariant-members
+invariant-members l = AreBelow l.levels (take l.member-index l.members) l.rest.member l.rests.items

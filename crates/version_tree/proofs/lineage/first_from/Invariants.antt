@@ -1,0 +1,9 @@
+use Rattle.std.proofs.Common.{◌≡◌, length}
+use Rattle.version_tree.specs.Lineage.{first_from}
+use Rattle.version_tree.proofs.lineage.first_from.Given as goal
+
+abbrev pub invariant-steps : goal.invariant-steps
+invariant-steps l = first_from l.steps l.members l.member ≡ first_from (length l.members) l.members l.fn.from
+
+abbrev pub decreases-steps : goal.decreases-steps
+decreases-steps l = l.steps

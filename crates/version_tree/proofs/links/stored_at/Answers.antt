@@ -1,0 +1,25 @@
+use Rattle.std.proofs.Common.{ℕ, List, subst, sym, arith}
+use Rattle.std.proofs.lemmas.Result.{IfErr-weaker}
+use Rattle.object_records.specs.Record.{BodyOf}
+use Rattle.file_bodies.proofs.Belonging.{file_of_body}
+use Rattle.versions.specs.Damage.{of_page}
+use Rattle.versions.proofs.Results.{of_found, ok_of}
+use Rattle.version_tree.proofs.HeadLaws.{body_fits}
+use Rattle.versions.proofs.Standing.{one_body}
+use Rattle.version_tree.proofs.links.stored_at.Goals as goal
+
+pub returns-in-Ok-clause-sound : goal.returns-in-Ok-clause-sound
+returns-in-Ok-clause-sound g c = IfErr-weaker c.copy_on.result _ _ (λ fault h damage told index body is has spelled.
+    of_found c.in-Ok.body _ _ _ _ (c.in-Ok.ensures.found told (file_of_body g.V.Ground c.args.volume.now index c.args.place body has)) (h damage)
+    (λ never. never body (record { index = index; has = has }))
+    (λ b some never. never is (subst (λ (t : List ℕ). BodyOf t is) (sym (one_body g.V.Ground c.args.volume.now index c.args.place b.now body some has)) spelled))) c.copy_on.ensures.sound
+
+pub returns-in-Ok-clause-cause : goal.returns-in-Ok-clause-cause
+returns-in-Ok-clause-cause g c = c.copy_on.ensures.cause _ _
+
+pub returns-in-Err-clause-fault : goal.returns-in-Err-clause-fault
+returns-in-Err-clause-fault g c = λ told. of_page (c.in-Err.ensures.fault told)
+
+pub returns-in-Ok-clause-fits : goal.returns-in-Ok-clause-fits
+returns-in-Ok-clause-fits g c = ok_of c.copy_on.result _ (λ told index body has.
+    omega (arith, body_fits g.V.Ground c.args.volume.now index c.args.place body has, c.in-Ok.ensures.page told index body has))

@@ -1,0 +1,33 @@
+use Rattle.ex_base.proofs.Results.{if_err_handed}
+use Rattle.file_bodies.proofs.Moving.{kept_body}
+use Rattle.object_records.specs.declared.Head.{Head}
+use Rattle.version_model.specs.Versions.{place_of}
+use Rattle.version_tree.specs.Links.{to_link}
+use Rattle.version_tree.proofs.Linking.{kept_linked, linked_limits, link_kept, neighbour_told}
+use Rattle.version_tree.proofs.neighbours.newer.Goals as goal
+
+pub returns-in_err-stored-clause-sound : goal.returns-in_err-stored-clause-sound
+returns-in_err-stored-clause-sound g c = if_err_handed c.from_residual.result _ _ c.from_residual.ensures.1 (λ damage told linked index is has.
+    c.in_err-stored.ensures.sound damage told index is has (linked_limits g.V.Ground c.args.volume.now index c.args.oid.now is linked has))
+
+pub returns-in_err-stored-clause-fault : goal.returns-in_err-stored-clause-fault
+returns-in_err-stored-clause-fault g c = if_err_handed c.from_residual.result _ _ c.from_residual.ensures.1 (λ told. c.in_err-stored.ensures.fault told)
+
+pub returns-in-Ok-clause-told : goal.returns-in-Ok-clause-told
+returns-in-Ok-clause-told g c = λ told linked index is has.
+    let kept = c.stored_version.ensures.kept in
+    let told_b = g.V.Ground.leads_told c.args.volume.now c.stored_version.new.volume kept.leads told in
+    let stands = kept_body g.V.Ground c.args.volume.now c.stored_version.new.volume index (place_of c.args.oid.now) has.body kept has.stands in
+    let at = c.in_ok-stored.ensures.stored told index is has in
+    neighbour_told g.V.Ground c.args.volume.now c.stored_version.new.volume index has.body is c.in_ok-stored.stored.head c.in-Ok.found c.oid_read.result (λ (h : Head). h.newer) kept has.spelled at.head
+    (c.in-Ok.ensures.newer told_b (kept_linked g.V.Ground c.args.volume.now c.stored_version.new.volume kept linked) index (place_of c.args.oid.now) has.body stands at) c.oid_read.ensures
+
+pub returns-clause-sound : goal.returns-clause-sound
+returns-clause-sound g c = λ damage told linked index is has.
+    let kept = c.stored_version.ensures.kept in
+    let told_b = g.V.Ground.leads_told c.args.volume.now c.stored_version.new.volume kept.leads told in
+    let stands = kept_body g.V.Ground c.args.volume.now c.stored_version.new.volume index (place_of c.args.oid.now) has.body kept has.stands in
+    c.in-Err.ensures.sound damage told_b (kept_linked g.V.Ground c.args.volume.now c.stored_version.new.volume kept linked) index (place_of c.args.oid.now) has.body stands (c.in_ok-stored.ensures.stored told index is has)
+
+pub returns-clause-fault : goal.returns-clause-fault
+returns-clause-fault g c = λ told. to_link (link_kept g.V.Ground c.args.volume.now c.stored_version.new.volume c.in-Err.fault c.stored_version.ensures.kept c.in-Err.ensures.fault told)

@@ -1,0 +1,169 @@
+use Rattle.std.proofs.Common.{◌≡◌, ◌≤◌, ◌+◌, ℕ, true, false, List, length, sym, ap, subst, ◌∙◌, arith}
+use Rattle.std.proofs.lemmas.Result.{on_ok_weaker, IfOk-weaker, IfErr-weaker}
+use Rattle.ex_base.specs.declared.geometry.Geometry.{Geometry}
+use Rattle.ex_base.specs.declared.names.Area.{Area}
+use Rattle.ex_base.specs.declared.names.Area.TheVariants.{Page}
+use Rattle.ex_base.proofs.Keeping.{keeps_on}
+use Rattle.ex_base.proofs.Results.{if_err_handed}
+use Rattle.object_records.specs.Record.{BodyOf}
+use Rattle.object_records.specs.declared.Head.{Head}
+use Rattle.file_bodies.specs.Bodies.{bodies_of}
+use Rattle.file_bodies.proofs.Blame.{carried, carried_held}
+use Rattle.file_bodies.proofs.Moving.{kept_body}
+use Rattle.version_model.specs.Versions.{place_of}
+use Rattle.versions.specs.Damage.{unread}
+use Rattle.version_tree.specs.Links.{IsWalkFault, at_link, to_link}
+use Rattle.version_tree.specs.Removals.{IsBranch, IsRemovingFault, of_links, of_search, of_version, other_from}
+use Rattle.version_tree.proofs.Copying.{just_stand, read_of}
+use Rattle.version_tree.proofs.DerivedRows.{linked_readable}
+use Rattle.version_tree.proofs.Linking.{head_read, kept_linked, link_kept, linked_limits}
+use Rattle.versions.proofs.Results.{ok_of}
+use Rattle.version_tree.proofs.TakenOut.{branch_of, branch_read, kept_takes, leaving_of}
+use Rattle.version_tree.proofs.taking_out.take_out.Goals as goal
+
+pub returns-in_err-version-clause-sound : goal.returns-in_err-version-clause-sound
+returns-in_err-version-clause-sound g c = if_err_handed c.from_residual.result _ _ c.from_residual.ensures.1 (λ damage told links index is has current branch.
+    c.in_err-version.ensures.sound damage told index is has (linked_limits g.V.Ground c.args.volume.now index c.args.oid.now is links has))
+
+pub returns-in_err-version-clause-fault : goal.returns-in_err-version-clause-fault
+returns-in_err-version-clause-fault g c = if_err_handed c.from_residual.result _ _ c.from_residual.ensures.1 (λ told. of_version (of_links (c.in_err-version.ensures.fault told)))
+
+pub returns-in_err-check-clause-sound : goal.returns-in_err-check-clause-sound
+returns-in_err-check-clause-sound g c = if_err_handed c.from_residual-in_err-check.result _ _ c.from_residual-in_err-check.ensures.1 (λ damage told links index is has current branch.
+    let at = c.in_ok-version.ensures.stored told index is has in
+    let yes : c.is_current.result ≡ true = c.is_current.ensures.1 (ap (λ (h : Head). h.state) (head_read g.V.Ground has.body is c.in_ok-version.version.head has.spelled at.head) ∙ current) in
+    let isnt : c.is_current.result ≡ false = c.in_err-check.ensures.fault.0 in
+    absurd cc)
+
+pub returns-in_err-check-clause-fault : goal.returns-in_err-check-clause-fault
+returns-in_err-check-clause-fault g c = if_err_handed c.from_residual-in_err-check.result _ _ c.from_residual-in_err-check.ensures.1 (λ told. of_version (of_links (to_link (at_link c.in_ok-version.version.place (unread c.in_err-check.ensures.fault.1)))))
+
+pub returns-in_err-older-clause-sound : goal.returns-in_err-older-clause-sound
+returns-in_err-older-clause-sound g c = if_err_handed c.from_residual-in_err-older.result _ _ c.from_residual-in_err-older.ensures.1 (λ damage told links index is has current branch.
+    let kept = c.stored_version.ensures.kept in
+    let told_b = g.V.Ground.leads_told c.args.volume.now c.stored_version.new.volume kept.leads told in
+    let stands = kept_body g.V.Ground c.args.volume.now c.stored_version.new.volume index (place_of c.args.oid.now) has.body kept has.stands in
+    c.in_err-older.ensures.sound damage told_b (kept_linked g.V.Ground c.args.volume.now c.stored_version.new.volume kept links) index (place_of c.args.oid.now) has.body stands (c.in_ok-version.ensures.stored told index is has))
+
+pub returns-in_err-older-clause-fault : goal.returns-in_err-older-clause-fault
+returns-in_err-older-clause-fault g c = if_err_handed c.from_residual-in_err-older.result _ _ c.from_residual-in_err-older.ensures.1 (λ told.
+    of_version (of_links (to_link (link_kept g.V.Ground c.args.volume.now c.stored_version.new.volume _ c.stored_version.ensures.kept c.in_err-older.ensures.fault told))))
+
+pub returns-in_err-check-2-clause-sound : goal.returns-in_err-check-2-clause-sound
+returns-in_err-check-2-clause-sound g c = if_err_handed c.from_residual-in_err-check-2.result _ _ c.from_residual-in_err-check-2.ensures.1 (λ damage told links index is has current branch.
+    let kept = c.stored_version.ensures.kept in
+    let told_b = g.V.Ground.leads_told c.args.volume.now c.stored_version.new.volume kept.leads told in
+    let links_b = kept_linked g.V.Ground c.args.volume.now c.stored_version.new.volume kept links in
+    let stands = kept_body g.V.Ground c.args.volume.now c.stored_version.new.volume index (place_of c.args.oid.now) has.body kept has.stands in
+    let at = c.in_ok-version.ensures.stored told index is has in
+    let up = c.in_ok-older.ensures.older told_b links_b index (place_of c.args.oid.now) has.body stands at in
+    let link = subst (λ (h : Head). IsBranch (bodies_of (g.V.Ground.image c.stored_version.new.volume) index) h.older) (sym (head_read g.V.Ground has.body is c.in_ok-version.version.head has.spelled at.head))
+    (subst (λ (i : ℕ → List ℕ). IsBranch (bodies_of i index) is.head.older) (sym kept.images) branch) in
+    let yes : c.is_branch.result ≡ true = c.is_branch.ensures.1 (branch_read (bodies_of (g.V.Ground.image c.stored_version.new.volume) index) c.in_ok-version.version.head.older c.in_ok-older.older up link) in
+    let isnt : c.is_branch.result ≡ false = c.in_err-check-2.ensures.fault.0 in
+    absurd cc)
+
+pub returns-in_err-check-2-clause-fault : goal.returns-in_err-check-2-clause-fault
+returns-in_err-check-2-clause-fault g c = if_err_handed c.from_residual-in_err-check-2.result _ _ c.from_residual-in_err-check-2.ensures.1 (λ told. of_version (of_links (to_link (at_link c.in_ok-version.version.place (unread c.in_err-check-2.ensures.fault.1)))))
+
+pub returns-in_err-other-clause-sound : goal.returns-in_err-other-clause-sound
+returns-in_err-other-clause-sound g c = if_err_handed c.from_residual-in_err-other.result _ _ c.from_residual-in_err-other.ensures.1 (λ damage told links index is has current branch.
+    let kept = c.stored_version.ensures.kept in
+    let later = c.linked_older.ensures.kept in
+    let both = keeps_on g.V.Ground c.args.volume.now c.stored_version.new.volume c.linked_older.new.volume kept later in
+    let told_b = g.V.Ground.leads_told c.args.volume.now c.stored_version.new.volume kept.leads told in
+    let told_d = g.V.Ground.leads_told c.args.volume.now c.linked_older.new.volume both.leads told in
+    let links_b = kept_linked g.V.Ground c.args.volume.now c.stored_version.new.volume kept links in
+    let links_d = kept_linked g.V.Ground c.args.volume.now c.linked_older.new.volume both links in
+    let stands = kept_body g.V.Ground c.args.volume.now c.stored_version.new.volume index (place_of c.args.oid.now) has.body kept has.stands in
+    let at = c.in_ok-version.ensures.stored told index is has in
+    let fits : length has.body + 20 ≤ (g.V.Ground.geometry c.stored_version.new.volume).page_size =
+    subst (λ (y : Geometry). length has.body + 20 ≤ y.page_size) (sym (g.V.Ground.leads_geometry c.args.volume.now c.stored_version.new.volume kept.leads)) (c.in_ok-version.ensures.fits told index is has) in
+    let read = read_of g.V.Ground c.stored_version.new.volume c.linked_older.new.volume index (place_of c.args.oid.now) has.body is c.in_ok-version.version c.in_ok-older.older links_b later stands has.spelled at fits
+    (c.in_ok-older.ensures.older told_b links_b index (place_of c.args.oid.now) has.body stands at) in
+    c.in_err-other.ensures.sound damage told_d index (just_stand g.V.Ground c.linked_older.new.volume index c.in_ok-older.older read.frozen)
+    (linked_readable g.V.Ground c.linked_older.new.volume index links_d read.has.file))
+
+pub returns-in_err-other-clause-fault : goal.returns-in_err-other-clause-fault
+returns-in_err-other-clause-fault g c = if_err_handed c.from_residual-in_err-other.result _ _ c.from_residual-in_err-other.ensures.1 (λ told.
+    of_search (carried g.V.Ground c.args.volume.now c.linked_older.new.volume (λ y u. IsWalkFault y u c.in_err-other.field-0.0)
+    (keeps_on g.V.Ground c.args.volume.now c.stored_version.new.volume c.linked_older.new.volume c.stored_version.ensures.kept c.linked_older.ensures.kept) c.in_err-other.ensures.fault told))
+
+pub returns-clause-asked : goal.returns-clause-asked
+returns-clause-asked g c = ok_of c.take_read.result _ (λ told index is has.
+    let at = c.in_ok-version.ensures.stored told index is has in
+    sym (ap (λ (h : Head). h.state) (head_read g.V.Ground has.body is c.in_ok-version.version.head has.spelled at.head)) ∙ c.is_current.ensures.0 c.in_ok-check.ensures.holds)
+
+pub returns-clause-branch : goal.returns-clause-branch
+returns-clause-branch g c = ok_of c.take_read.result _ (λ told links index is has.
+    let kept = c.stored_version.ensures.kept in
+    let told_b = g.V.Ground.leads_told c.args.volume.now c.stored_version.new.volume kept.leads told in
+    let links_b = kept_linked g.V.Ground c.args.volume.now c.stored_version.new.volume kept links in
+    let stands = kept_body g.V.Ground c.args.volume.now c.stored_version.new.volume index (place_of c.args.oid.now) has.body kept has.stands in
+    let at = c.in_ok-version.ensures.stored told index is has in
+    let up = c.in_ok-older.ensures.older told_b links_b index (place_of c.args.oid.now) has.body stands at in
+    subst (λ (i : ℕ → List ℕ). IsBranch (bodies_of i index) is.head.older) kept.images
+    (subst (λ (h : Head). IsBranch (bodies_of (g.V.Ground.image c.stored_version.new.volume) index) h.older) (head_read g.V.Ground has.body is c.in_ok-version.version.head has.spelled at.head)
+    (branch_of (bodies_of (g.V.Ground.image c.stored_version.new.volume) index) c.in_ok-version.version.head.older c.in_ok-older.older up (c.is_branch.ensures.0 c.in_ok-check-2.ensures.holds))))
+
+pub returns-clause-gone : goal.returns-clause-gone
+returns-clause-gone g c = IfOk-weaker c.take_read.result _ _ (λ gone h told index is has.
+    let at = c.in_ok-version.ensures.stored told index is has in
+    h is (subst (λ (b : List ℕ). BodyOf b is) (sym at.bytes) has.spelled)) c.take_read.ensures.gone
+
+pub returns-clause-pages : goal.returns-clause-pages
+returns-clause-pages g c = on_ok_weaker c.take_read.result (λ p. omega (arith, p, ap (λ (f : Area → ℕ). f Page) c.stored_version.ensures.kept.free, ap (λ (f : Area → ℕ). f Page) c.linked_older.ensures.kept.free, ap (λ (f : Area → ℕ). f Page) c.other_from.ensures.kept.free)) c.take_read.ensures.pages
+
+pub returns-clause-fault : goal.returns-clause-fault
+returns-clause-fault g c = IfErr-weaker c.take_read.result _ _ (λ fault h told.
+    let kept = keeps_on g.V.Ground c.args.volume.now c.linked_older.new.volume c.other_from.new.volume
+    (keeps_on g.V.Ground c.args.volume.now c.stored_version.new.volume c.linked_older.new.volume c.stored_version.ensures.kept c.linked_older.ensures.kept) c.other_from.ensures.kept in
+    of_version (carried_held g.V.Ground c.args.volume.now c.other_from.new.volume (λ y k u. IsRemovingFault y k u (g.V.Ground.held c.take_read.new.volume) (g.V.Ground.image c.take_read.new.volume) c.args.oid.now fault) kept (λ later. h later c.args.oid.now) told)) c.take_read.ensures.fault
+
+pub returns-clause-taken_out : goal.returns-clause-taken_out
+returns-clause-taken_out g c = on_ok_weaker c.take_read.result (λ h told links index is has.
+    let ab = c.stored_version.ensures.kept in
+    let bd = c.linked_older.ensures.kept in
+    let de = c.other_from.ensures.kept in
+    let ad = keeps_on g.V.Ground c.args.volume.now c.stored_version.new.volume c.linked_older.new.volume ab bd in
+    let be = keeps_on g.V.Ground c.stored_version.new.volume c.linked_older.new.volume c.other_from.new.volume bd de in
+    let ae = keeps_on g.V.Ground c.args.volume.now c.linked_older.new.volume c.other_from.new.volume ad de in
+    let told_b = g.V.Ground.leads_told c.args.volume.now c.stored_version.new.volume ab.leads told in
+    let told_d = g.V.Ground.leads_told c.args.volume.now c.linked_older.new.volume ad.leads told in
+    let told_e = g.V.Ground.leads_told c.args.volume.now c.other_from.new.volume ae.leads told in
+    let links_b = kept_linked g.V.Ground c.args.volume.now c.stored_version.new.volume ab links in
+    let stands = kept_body g.V.Ground c.args.volume.now c.stored_version.new.volume index (place_of c.args.oid.now) has.body ab has.stands in
+    let at = c.in_ok-version.ensures.stored told index is has in
+    let fits : length has.body + 20 ≤ (g.V.Ground.geometry c.stored_version.new.volume).page_size =
+    subst (λ (y : Geometry). length has.body + 20 ≤ y.page_size) (sym (g.V.Ground.leads_geometry c.args.volume.now c.stored_version.new.volume ab.leads)) (c.in_ok-version.ensures.fits told index is has) in
+    let up = c.in_ok-older.ensures.older told_b links_b index (place_of c.args.oid.now) has.body stands at in
+    let read_d = read_of g.V.Ground c.stored_version.new.volume c.linked_older.new.volume index (place_of c.args.oid.now) has.body is c.in_ok-version.version c.in_ok-older.older links_b bd stands has.spelled at fits up in
+    let read_e = read_of g.V.Ground c.stored_version.new.volume c.other_from.new.volume index (place_of c.args.oid.now) has.body is c.in_ok-version.version c.in_ok-older.older links_b be stands has.spelled at fits up in
+    let current = sym (ap (λ (h : Head). h.state) (head_read g.V.Ground has.body is c.in_ok-version.version.head has.spelled at.head)) ∙ c.is_current.ensures.0 c.in_ok-check.ensures.holds in
+    let left = subst (λ (i : ℕ → List ℕ). c.in_ok-other.other ≡ other_from (bodies_of i index) c.in_ok-version.version.place c.in_ok-older.older) (sym de.images)
+    (c.in_ok-other.ensures.other told_d index (just_stand g.V.Ground c.linked_older.new.volume index c.in_ok-older.older read_d.frozen)) in
+    kept_takes g.V.Ground c.args.volume.now c.other_from.new.volume c.take_read.new.volume index c.in_ok-version.version.place (place_of c.args.oid.now) is at.stands ae
+    (h told_e index is (leaving_of g.V.Ground c.other_from.new.volume index c.in_ok-version.version c.in_ok-older.older c.in_ok-other.other is read_e current left))) c.take_read.ensures.taken_out
+
+pub returns-clause-sound : goal.returns-clause-sound
+returns-clause-sound g c = IfErr-weaker c.take_read.result _ _ (λ fault h damage told links index is has current branch.
+    let ab = c.stored_version.ensures.kept in
+    let bd = c.linked_older.ensures.kept in
+    let de = c.other_from.ensures.kept in
+    let ad = keeps_on g.V.Ground c.args.volume.now c.stored_version.new.volume c.linked_older.new.volume ab bd in
+    let be = keeps_on g.V.Ground c.stored_version.new.volume c.linked_older.new.volume c.other_from.new.volume bd de in
+    let ae = keeps_on g.V.Ground c.args.volume.now c.linked_older.new.volume c.other_from.new.volume ad de in
+    let told_b = g.V.Ground.leads_told c.args.volume.now c.stored_version.new.volume ab.leads told in
+    let told_d = g.V.Ground.leads_told c.args.volume.now c.linked_older.new.volume ad.leads told in
+    let told_e = g.V.Ground.leads_told c.args.volume.now c.other_from.new.volume ae.leads told in
+    let links_b = kept_linked g.V.Ground c.args.volume.now c.stored_version.new.volume ab links in
+    let stands = kept_body g.V.Ground c.args.volume.now c.stored_version.new.volume index (place_of c.args.oid.now) has.body ab has.stands in
+    let at = c.in_ok-version.ensures.stored told index is has in
+    let fits : length has.body + 20 ≤ (g.V.Ground.geometry c.stored_version.new.volume).page_size =
+    subst (λ (y : Geometry). length has.body + 20 ≤ y.page_size) (sym (g.V.Ground.leads_geometry c.args.volume.now c.stored_version.new.volume ab.leads)) (c.in_ok-version.ensures.fits told index is has) in
+    let up = c.in_ok-older.ensures.older told_b links_b index (place_of c.args.oid.now) has.body stands at in
+    let read_d = read_of g.V.Ground c.stored_version.new.volume c.linked_older.new.volume index (place_of c.args.oid.now) has.body is c.in_ok-version.version c.in_ok-older.older links_b bd stands has.spelled at fits up in
+    let read_e = read_of g.V.Ground c.stored_version.new.volume c.other_from.new.volume index (place_of c.args.oid.now) has.body is c.in_ok-version.version c.in_ok-older.older links_b be stands has.spelled at fits up in
+    let left = subst (λ (i : ℕ → List ℕ). c.in_ok-other.other ≡ other_from (bodies_of i index) c.in_ok-version.version.place c.in_ok-older.older) (sym de.images)
+    (c.in_ok-other.ensures.other told_d index (just_stand g.V.Ground c.linked_older.new.volume index c.in_ok-older.older read_d.frozen)) in
+    h damage told_e index is (leaving_of g.V.Ground c.other_from.new.volume index c.in_ok-version.version c.in_ok-older.older c.in_ok-other.other is read_e current left)) c.take_read.ensures.sound

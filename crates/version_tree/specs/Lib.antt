@@ -1,0 +1,6 @@
+pub mod Bodies
+pub mod Linked
+pub mod Links
+pub mod Copies
+pub mod Removals
+pub mod Lineage

@@ -1,0 +1,139 @@
+-- Versions that are taken out of the tree of their object.
+use Rattle.std.specs.Prelude.{◌≡◌, ◌≢◌, ℕ, Bool, not, List, [], ◌∷◌, ◌++◌, filter, Option, Some, None, IfSome}
+use Rattle.ex_base.specs.declared.ground.Ground as ground
+use Rattle.ex_base.specs.declared.faults.PortFault.{PortFault}
+use Rattle.ex_base.specs.declared.geometry.Geometry.{Geometry}
+use Rattle.ex_base.specs.declared.names.Oid.{Oid}
+use Rattle.ex_base.specs.declared.names.Place.{Place}
+use Rattle.object_records.specs.Record.{Record, BodyOf}
+use Rattle.object_records.specs.Reads.{record_on}
+use Rattle.object_records.specs.declared.State.TheVariants.{Current}
+use Rattle.index_pages.specs.declared.Index.{Index}
+use Rattle.file_bodies.specs.Bodies.{Row, bodies_of}
+use Rattle.file_bodies.specs.Damage.{IsTakingFault}
+use Rattle.version_model.specs.Versions.{place_of}
+use Rattle.version_tree.specs.Bodies.{PlaceChange, EditsBodies, body_at, newer_head, older_head, same_place, with_head}
+use Rattle.version_tree.specs.Copies.{IsRead, TurnsLink}
+use Rattle.version_tree.specs.Linked.{derived_from, head_in, only_place}
+use Rattle.version_tree.specs.Links.{IsLinkedFault, IsWalkFault, StandsIn}
+use Rattle.version_tree.specs.declared.links.Stored.{Stored}
+
+-- ---- a frozen version that goes
+
+-- A version was read, with the only one that is derived from it and the one that it is derived from, if it is. They stand at different places.
+pub record IsBetween {S : Type 0} (g : ground.Ghosts S) (s : S) (index : Index) (was newer : Stored) (older : Option Stored) (is : Record) : Type 0 where
+  pub read : IsRead g s index was older is
+  pub next : StandsIn g s index newer
+  pub names : is.head.newer ≡ Some newer.place
+  pub apart : was.place ≢ newer.place
+  pub older_apart : IfSome older (λ (stored : Stored). (was.place ≢ stored.place) × (newer.place ≢ stored.place))
+
+-- A frozen version goes from which only one is derived: that one is derived from the older version instead, and where the older one named the version as its
+-- newer one, it names that one.
+pub record Drops {S : Type 0} (g : ground.Ghosts S) (old new : S) (index : Index) (place : Place) (is : Record) : Type 0 where
+  pub after : Index
+  pub at : Place
+  pub only : is.head.newer ≡ Some at
+  pub was : List ℕ
+  pub there : body_at at (bodies_of (g.image old) index) ≡ Some was
+  pub now : List ℕ
+  pub moved : BodyOf now (with_head (older_head is.head.older (head_in was)) (record_on was))
+  pub others : List PlaceChange
+  pub older : TurnsLink (bodies_of (g.image old) index) place at is.head.older others
+  pub bodies : EditsBodies g old new index after (others ++ (at, Some now) ∷ (place, None) ∷ [])
+
+-- ---- a current version that goes
+
+-- it stands at another place than this
+abbrev pub stands_elsewhere : Place → Row → Bool
+stands_elsewhere gone row = not (same_place row.0 gone)
+
+-- the place of the only one of these rows that stands elsewhere
+abbrev pub only_other : Place → List Row → Option Place
+only_other gone rows = only_place (filter (stands_elsewhere gone) rows)
+
+-- the OID leads to another place than this
+abbrev pub leads_elsewhere : Place → Oid → Bool
+leads_elsewhere gone oid = not (same_place (place_of oid) gone)
+
+-- where the only one of these OIDs leads
+abbrev pub only_lead : List Oid → Option Place
+only_lead [] = None
+only_lead (oid ∷ []) = Some (place_of oid)
+only_lead (oid ∷ next ∷ oids) = None
+
+-- the place of the only other version that is derived from the one that was read, if one was
+abbrev pub other_from : List Row → Place → Option Stored → Option Place
+other_from rows gone None = None
+other_from rows gone (Some stored) = only_other gone (derived_from stored.place rows)
+
+-- The version at a place has no newer place: several are derived from it.
+pub record IsShared (rows : List Row) (place : Place) : Type 0 where
+  pub body : List ℕ
+  pub there : body_at place rows ≡ Some body
+  pub many : (head_in body).newer ≡ None
+
+-- so has the one at an older place, if there is one
+abbrev pub IsBranch : List Row → Option Place → Type 0
+IsBranch rows None = Unit {0}
+IsBranch rows (Some place) = IsShared rows place
+
+-- The record in a body at a place gets a newer place.
+pub record IsNaming (place : Place) (body : List ℕ) (newer : Place) (changes : List PlaceChange) : Type 0 where
+  pub now : List ℕ
+  pub spelled : BodyOf now (with_head (newer_head (Some newer) (head_in body)) (record_on body))
+  pub is : changes ≡ (place, Some now) ∷ []
+
+-- it gets none where there is none to give
+abbrev pub NamesNewer : Place → List ℕ → Option Place → List PlaceChange → Type 0
+NamesNewer place body None changes = changes ≡ []
+NamesNewer place body (Some newer) changes = IsNaming place body newer changes
+
+-- so does the record at a place of these rows
+pub record NamesAt (rows : List Row) (newer : Option Place) (place : Place) (changes : List PlaceChange) : Type 0 where
+  pub body : List ℕ
+  pub there : body_at place rows ≡ Some body
+  pub named : NamesNewer place body newer changes
+
+-- The record that a link names gets the only other one as its newer one that is derived from it, where just one other is.
+abbrev pub NamesLink : List Row → Place → Option Place → List PlaceChange → Type 0
+NamesLink rows gone None changes = changes ≡ []
+NamesLink rows gone (Some place) changes = NamesAt rows (only_other gone (derived_from place rows)) place changes
+
+-- A record that was read gets a newer place, and nothing else changes in its file.
+pub record NamesStored {S : Type 0} (g : ground.Ghosts S) (old new : S) (index : Index) (stored : Stored) (newer : Option Place) : Type 0 where
+  pub changes : List PlaceChange
+  pub named : NamesNewer stored.place stored.body.items newer changes
+  pub bodies : EditsBodies g old new index index changes
+
+-- so does the record that a link names, as it stood in these rows
+pub record NamesOther {S : Type 0} (g : ground.Ghosts S) (old new : S) (index : Index) (rows : List Row) (link : Option Place) (gone : Place) : Type 0 where
+  pub changes : List PlaceChange
+  pub named : NamesLink rows gone link changes
+  pub bodies : EditsBodies g old new index index changes
+
+-- A current version was read, the one that it is derived from, if it is, and the place of the only other one that is derived from that, if there is just one.
+pub record IsLeaving {S : Type 0} (g : ground.Ghosts S) (s : S) (index : Index) (was : Stored) (older : Option Stored) (other : Option Place) (is : Record) : Type 0 where
+  pub read : IsRead g s index was older is
+  pub current : is.head.state ≡ Current
+  pub left : other ≡ other_from (bodies_of (g.image s) index) was.place older
+
+-- A current version goes. Where just one other is derived from the version that it was derived from, that one becomes the newer one of it.
+pub record TakesOut {S : Type 0} (g : ground.Ghosts S) (old new : S) (index : Index) (place : Place) (is : Record) : Type 0 where
+  pub after : Index
+  pub others : List PlaceChange
+  pub older : NamesLink (bodies_of (g.image old) index) place is.head.older others
+  pub bodies : EditsBodies g old new index after (others ++ (place, None) ∷ [])
+
+-- ---- what is told
+
+-- What a call tells that takes a version out: of the version and its links; of its file (`now_held` and `now` are what stands when it is told); or of the
+-- place of a record that isn't written.
+pub data IsRemovingFault (g : Geometry) (held : ℕ → Bool) (image : ℕ → List ℕ) (now_held : ℕ → Bool) (now : ℕ → List ℕ) (oid : Oid) (fault : PortFault) : Type 0 where
+  of_links : IsLinkedFault g image oid fault → IsRemovingFault g held image now_held now oid fault
+  of_file : (place : Place) → IsTakingFault g held image now_held now place fault → IsRemovingFault g held image now_held now oid fault
+
+-- What a call tells that takes a current version out: of that, or of the walk over its file.
+pub data IsTakingOutFault (g : Geometry) (held : ℕ → Bool) (image : ℕ → List ℕ) (now_held : ℕ → Bool) (now : ℕ → List ℕ) (oid : Oid) (fault : PortFault) : Type 0 where
+  of_version : IsRemovingFault g held image now_held now oid fault → IsTakingOutFault g held image now_held now oid fault
+  of_search : IsWalkFault g image fault → IsTakingOutFault g held image now_held now oid fault
