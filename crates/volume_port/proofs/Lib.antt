@@ -4,3 +4,5 @@ pub mod WorkingRows
 pub mod ReadingAlone
 pub mod Staying
 pub mod Giving
+pub mod GivingUp
+pub mod Owning

@@ -1,8 +1,8 @@
 -- Working images after one of them was changed.
-use Rattle.std.proofs.Common.{◌≡◌, ◌≢◌, ℕ, Bool, true, false, cond, not, ◌&&◌, List, [], ◌∷◌, Option, Some, IsSome, nat_eq, nat_lt, refl, sym, ap, subst, ◌∙◌, arith, inl, ⊎_elim, eqb-true, eq-eqb, ltb-true}
+use Rattle.std.proofs.Common.{◌≡◌, ◌≢◌, ℕ, Bool, true, false, cond, not, ◌&&◌, List, [], ◌∷◌, Option, Some, nat_eq, nat_lt, refl, sym, ap, ◌∙◌, arith, inl, eqb-true, eq-eqb, ltb-true}
 use Rattle.std.specs.Prelude.{unwrap_or}
 use Rattle.std.specs.Map.{lookup}
-use Rattle.std.proofs.lemmas.Bool.{lt-ltb, le-ltb, ltb-false, cases_eq}
+use Rattle.std.proofs.lemmas.Bool.{lt-ltb, le-ltb, ltb-false}
 use Rattle.ex_base.specs.declared.geometry.Geometry.{Geometry}
 use Rattle.ex_base.specs.Area.{InPageArea, IsUnit, area_end}
 use Rattle.ex_base.proofs.Lists.{lookup_off}

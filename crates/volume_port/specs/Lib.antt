@@ -1,4 +1,5 @@
 pub mod Giving
+pub mod GivingUp
 pub mod Logged
 pub mod Ported
 pub mod Reading

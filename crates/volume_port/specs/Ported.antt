@@ -1,5 +1,5 @@
 -- The meanings of a session's port, over its store and what the session keeps of its logged pages.
-use Rattle.std.specs.Prelude.{◌≡◌, ℕ, Bool, true, false, not, ◌&&◌, nat_lt, nat_eq, if◌then◌else◌, List, [], length, unwrap_or, ◌⊎◌, Some, None, IsSome, refl}
+use Rattle.std.specs.Prelude.{◌≡◌, ℕ, Bool, true, false, not, ◌&&◌, nat_lt, nat_eq, if◌then◌else◌, List, [], length, unwrap_or, ◌⊎◌, Some, None, refl}
 use Rattle.std.proofs.Common.{◌∙◌, inl, inr, ⊎_elim}
 use Rattle.std.proofs.lemmas.Bool.{cases_Bool, both_ways}
 use Rattle.std.specs.Borrow.{MutBor}

@@ -1,5 +1,5 @@
 //! A port that only gives trees up.
-ghost use Rattle.std.specs.Prelude.{◌≡◌, ◌≤◌, ◌+◌, [], ◌∷◌, length, false, OnOk, IfErr};
+ghost use Rattle.std.specs.Prelude.{◌≡◌, ◌≤◌, ◌+◌, [], ◌∷◌, length, OnOk, IfErr};
 ghost use Rattle.ex_base.specs.Area.{InPageArea};
 ghost use Rattle.ex_base.specs.Ports.{Keeps, HasCause, IsDamage};
 ghost use Rattle.ex_base.specs.declared.names.Area.TheVariants.{Page};
@@ -8,16 +8,19 @@ ghost use Rattle.page_alloc.specs.UnitSet.{free_count, used_at};
 ghost use Rattle.trees.specs.Damage.{root_row};
 ghost use Rattle.trees.specs.Owners.{root_pages};
 ghost use Rattle.version_delete.specs.Released.{Blames, Gives, Released};
+ghost use Rattle.volume_port.specs.Giving.{is_logged};
 
+use crate::logged::LoggedPages;
 use buffer_groups::Groups;
 use disk_model::Disk;
 use ex_base::{CountBlocks, Geometry, Ground, PageNo, PortFault, ReadBlocks, Root};
-use page_alloc::Units;
+use page_alloc::{Filled, Units};
 use std::alloc::Global;
 use std::sync::ledger::Ledger;
 use version_delete::{Steps, release_tree};
 
-/// The units of a session and their owners, lent to give trees up. It takes no unit, knows no logged page, and writes nothing to the disk.
+/// The units of a session and their owners, lent to give trees up. It takes no unit and writes nothing to the disk. To it a logged page has no owner, so it
+/// gives none back, whatever names it.
 #[derive(Drop)]
 pub struct GivingPort<'a, D: Disk> {
     pub disk: &'a mut D,
@@ -26,18 +29,22 @@ pub struct GivingPort<'a, D: Disk> {
     /// The group that nodes are read through.
     pub index: u32,
     pub geometry: Geometry,
+    /// The logged pages of the working state.
+    pub pages: &'a LoggedPages,
+    /// Whether the committed state has each logged page, by page number.
+    pub kept: &'a Filled<bool>,
 }
 
 impl<'a, D: Disk> Ground for GivingPort<'a, D> {
     ghost use Rattle.count_nodes.specs.Names.{names_on};
-    ghost use Rattle.page_alloc.specs.UnitSet.{used_at, refs_at, free_count};
-    ghost use Rattle.tree_store.specs.Stored.{unit_bytes, Fits, Tells, NoUnit};
+    ghost use Rattle.page_alloc.specs.UnitSet.{used_at, free_count};
+    ghost use Rattle.tree_store.specs.Stored.{unit_bytes, Tells, NoUnit};
     ghost use Rattle.tree_store.specs.Whole.{leaf_whole};
-    ghost use Rattle.volume_port.specs.Giving.{GivesUp, gives_same, gives_on, gives_wider};
+    ghost use Rattle.volume_port.specs.Giving.{CanGive, GivesUp, is_logged, tree_refs, gives_same, gives_on, gives_wider, gives_ready};
 
     ghost geometry = { λ s. s.geometry };
 
-    ghost ready = { λ s. Fits s.geometry (D.outside s.disk.now).size s.groups.now s.index s.units.now };
+    ghost ready = { λ s. CanGive s.geometry (D.outside s.disk.now).size s.groups.now s.index s.units.now s.pages.now s.kept.now };
 
     ghost tells = { λ s. Tells (D.outside s.disk.now) s.groups.now };
 
@@ -47,11 +54,11 @@ impl<'a, D: Disk> Ground for GivingPort<'a, D> {
 
     ghost used = { λ s. used_at s.units.now };
 
-    ghost refs = { λ s. refs_at s.units.now };
+    ghost refs = { λ s. tree_refs s.pages.now s.kept.now s.units.now };
 
     ghost names = { λ g bytes. names_on bytes };
 
-    ghost held = { λ s p. false };
+    ghost held = { λ s. is_logged s.pages.now s.kept.now };
 
     ghost free = { λ s. free_count s.units.now.geometry (used_at s.units.now) };
 
@@ -59,33 +66,33 @@ impl<'a, D: Disk> Ground for GivingPort<'a, D> {
 
     ghost faults = { λ s. (D.outside s.disk.now).disk_faults };
 
-    ghost leads = { λ a b. GivesUp D.outside NoUnit a.disk b.disk a.units b.units a.groups b.groups a.index b.index a.geometry b.geometry };
+    ghost leads = { λ a b. GivesUp D.outside NoUnit a.disk b.disk a.units b.units a.groups b.groups a.index b.index a.geometry b.geometry a.pages.now b.pages.now a.kept.now b.kept.now };
 
-    ghost frees = { λ freed a b. GivesUp D.outside freed a.disk b.disk a.units b.units a.groups b.groups a.index b.index a.geometry b.geometry };
+    ghost frees = { λ freed a b. GivesUp D.outside freed a.disk b.disk a.units b.units a.groups b.groups a.index b.index a.geometry b.geometry a.pages.now b.pages.now a.kept.now b.kept.now };
 
-    ghost whole = { λ s ready told page leaf. leaf_whole (D.outside s.disk.now) s.geometry page (D.is_world s.disk.now) ready.disk told.1 leaf };
+    ghost whole = { λ s ready told page leaf. leaf_whole (D.outside s.disk.now) s.geometry page (D.is_world s.disk.now) ready.fits.disk told.1 leaf };
 
-    ghost leads_refl = { λ s. gives_same D.outside s.disk s.units s.groups s.index s.geometry };
+    ghost leads_refl = { λ s. gives_same D.outside s.disk s.units s.groups s.index s.geometry s.pages.now s.kept.now };
 
-    ghost leads_trans = { λ a b c x y. gives_on D.outside NoUnit a.disk b.disk c.disk a.units b.units c.units a.groups b.groups c.groups a.index b.index c.index a.geometry b.geometry c.geometry x y };
+    ghost leads_trans = { λ a b c x y. gives_on D.outside NoUnit a.disk b.disk c.disk a.units b.units c.units a.groups b.groups c.groups a.index b.index c.index a.geometry b.geometry c.geometry a.pages.now b.pages.now c.pages.now a.kept.now b.kept.now c.kept.now x y };
 
     ghost leads_geometry = { λ a b x. x.store.geometry };
 
-    ghost leads_ready = { λ a b x. x.store.fits };
+    ghost leads_ready = { λ a b x. gives_ready D.outside NoUnit a.disk b.disk a.units b.units a.groups b.groups a.index b.index a.geometry b.geometry a.pages.now b.pages.now a.kept.now b.kept.now x };
 
     ghost leads_told = { λ a b x. x.store.told };
 
     ghost leads_faults = { λ a b x. x.only.nothing.only.goes.disk_faults };
 
-    ghost frees_leads = { λ freed a b x. gives_wider D.outside NoUnit freed (λ p none. absurd none) a.disk b.disk a.units b.units a.groups b.groups a.index b.index a.geometry b.geometry x };
+    ghost frees_leads = { λ freed a b x. gives_wider D.outside NoUnit freed (λ p none. absurd none) a.disk b.disk a.units b.units a.groups b.groups a.index b.index a.geometry b.geometry a.pages.now b.pages.now a.kept.now b.kept.now x };
 
-    ghost frees_trans = { λ freed a b c x y. gives_on D.outside freed a.disk b.disk c.disk a.units b.units c.units a.groups b.groups c.groups a.index b.index c.index a.geometry b.geometry c.geometry x y };
+    ghost frees_trans = { λ freed a b c x y. gives_on D.outside freed a.disk b.disk c.disk a.units b.units c.units a.groups b.groups c.groups a.index b.index c.index a.geometry b.geometry c.geometry a.pages.now b.pages.now c.pages.now a.kept.now b.kept.now c.kept.now x y };
 
-    ghost frees_more = { λ few many wider a b x. gives_wider D.outside few many wider a.disk b.disk a.units b.units a.groups b.groups a.index b.index a.geometry b.geometry x };
+    ghost frees_more = { λ few many wider a b x. gives_wider D.outside few many wider a.disk b.disk a.units b.units a.groups b.groups a.index b.index a.geometry b.geometry a.pages.now b.pages.now a.kept.now b.kept.now x };
 
     ghost frees_geometry = { λ freed a b x. x.store.geometry };
 
-    ghost frees_ready = { λ freed a b x. x.store.fits };
+    ghost frees_ready = { λ freed a b x. gives_ready D.outside freed a.disk b.disk a.units b.units a.groups b.groups a.index b.index a.geometry b.geometry a.pages.now b.pages.now a.kept.now b.kept.now x };
 
     ghost frees_told = { λ freed a b x. x.store.told };
 
@@ -118,6 +125,15 @@ impl<'a, D: Disk> GivingPort<'a, D> {
         ensures len { length result.now ≡ self.now.geometry.page_size }
     {
         self.groups.get(self.index).frame(page)
+    }
+
+    // Whether the working state or the committed one has a page as a logged page.
+    fn is_logged(&self, page: PageNo) -> bool
+        requires ready { ⟦<GivingPort<'a, D> as Ground>⟧.ready self.now }
+        ensures { result ≡ is_logged self.now.pages.now self.now.kept.now page.0 }
+    {
+        let end = PageNo::CATALOG.0 + self.geometry.pages;
+        page.0 < end && (self.pages.holds(page) || self.kept.get(page.0 as usize))
     }
 
     /// Takes an owner away from the tree of a root. Units that have no owner left are free from then on. Each node that is read is given back: where no
@@ -184,6 +200,9 @@ impl<'a, D: Disk> CountBlocks for GivingPort<'a, D> {
     ghost idle_trans = { λ a b c x y. y ∙ x };
 
     fn drop_ref(&mut self, page: PageNo) -> bool {
+        if self.is_logged(page) {
+            return false;
+        }
         self.units.drop_ref(page)
     }
 

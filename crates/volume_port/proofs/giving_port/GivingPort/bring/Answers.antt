@@ -1,4 +1,4 @@
-use Rattle.std.proofs.Common.{refl, ap}
+use Rattle.std.proofs.Common.{refl, ap, arith}
 use Rattle.tree_store.specs.Stored.{unit_bytes}
 use Rattle.tree_store.proofs.Forgetting.{groups_brought, groups_not_brought}
 use Rattle.tree_store.proofs.Reading.{range_at, read_leads}
@@ -7,7 +7,7 @@ use Rattle.volume_port.proofs.giving_port.GivingPort.bring.Goals as goal
 pub bring-requires-clause-range : goal.bring-requires-clause-range
 bring-requires-clause-range g c =
     let s = c.args.self.now in
-    range_at s.geometry c.args.page.0 _ s.index s.groups.now _ refl c.requires.ready.group c.requires.page c.requires.ready.frames c.requires.ready.disk
+    range_at s.geometry c.args.page.0 _ s.index s.groups.now _ refl c.requires.ready.fits.group c.requires.page c.requires.ready.fits.frames c.requires.ready.fits.disk
 
 pub returns-clause-kept : goal.returns-clause-kept
 returns-clause-kept g c =
@@ -23,9 +23,13 @@ returns-clause-kept g c =
       touched = refl;
       leads = record {
         store = read_leads g.D.World.outside s.disk _ s.units s.groups _ s.index s.geometry refl refl brought.only brought.keeps
-            (groups_brought (g.D.World.outside s.disk.now).disk s.groups.now _ s.index c.args.page.0 c.requires.ready.group c.requires.page.0 c.in_ok-bring.ensures.ok);
+            (groups_brought (g.D.World.outside s.disk.now).disk s.groups.now _ s.index c.args.page.0 c.requires.ready.fits.group c.requires.page.0 c.in_ok-bring.ensures.ok);
         only = brought.only;
         fewer = λ p is. is;
+        refs = λ p. omega arith;
+        pages = refl;
+        kept = refl;
+        logged = λ p held is. is;
       };
     }
 
@@ -43,8 +47,12 @@ returns-in_err-bring-clause-kept g c =
       touched = refl;
       leads = record {
         store = read_leads g.D.World.outside s.disk _ s.units s.groups _ s.index s.geometry refl refl brought.only brought.keeps
-            (groups_not_brought s.groups.now _ s.index c.args.page.0 c.requires.ready.group c.in_err-bring.ensures.err);
+            (groups_not_brought s.groups.now _ s.index c.args.page.0 c.requires.ready.fits.group c.in_err-bring.ensures.err);
         only = brought.only;
         fewer = λ p is. is;
+        refs = λ p. omega arith;
+        pages = refl;
+        kept = refl;
+        logged = λ p held is. is;
       };
     }
