@@ -1,6 +1,5 @@
 -- A session that was opened shows its volume.
-use Rattle.std.proofs.Common.{◌≡◌, ◌∙◌, ◌&&◌, ⊎_elim, inl, inr, ℕ, List, [], ◌∷◌, map, not, refl, sym, ap, subst, IsTrue, Bool, true, false, Result, Err}
-use mathlib.Core.Path.{fun_ext}
+use Rattle.std.proofs.Common.{◌≡◌, ◌∙◌, ⊎_elim, inl, inr, ℕ, List, [], ◌∷◌, map, refl, sym, ap, subst, IsTrue, Bool, Result, Err}
 use Rattle.ex_base.specs.declared.geometry.Geometry.{Geometry}
 use Rattle.ex_base.specs.declared.names.Area.TheVariants.{Page, Segment}
 use Rattle.disk_model.specs.Outside.{Outside, Leaves}
@@ -31,19 +30,13 @@ use Rattle.volume_port.specs.Logged.{is_held}
 abbrev opened_session : OpenedParts → SessionState
 opened_session p = fresh_session p.geometry p.log p.meta p.pages p.units p.groups
 
--- a page that the working state has is one of the committed state
-none_taken : (held : Bool) → (held && not held) ≡ false
-none_taken true = refl
-none_taken false = refl
-
 -- what the session holds is what a fresh one does
-held_is : (p : OpenedParts) → AreOpened p → held (opened_session p) ≡ fresh_held p.geometry p.log (used_at p.units) (is_held p.pages)
+held_is : (p : OpenedParts) → AreOpened p → held (opened_session p) ≡ fresh_held p.geometry p.log (used_at p.units) (refs_at p.units) (is_held p.pages)
 held_is p opened =
     let frames : map (λ (f : Frames). f.entries) p.groups ≡ [] ∷ [] = ap (map (λ (f : Frames). f.entries)) opened.fresh.groups in
     let working = opened.fresh.working in
-    let taken : (λ (page : ℕ). is_held p.pages page && not (is_held p.pages page)) ≡ (λ _. false) = fun_ext (λ page. none_taken (is_held p.pages page)) in
     let overlay = opened.images in
-    ap (λ (f : ℕ → Bool). record (held (opened_session p)) { taken = f }) taken ∙ cc (frames, working, overlay)
+    cc (frames, working, overlay)
 
 pub shows_opened : {w : Outside} (p : OpenedParts) (image : List ℕ) (table : Table) → AreOpened p → IsTrue w.honest
     → OpenedOn image p.geometry w p.log p.meta.committed (used_at p.units) (refs_at p.units) (is_held p.pages) → StandsFor image table
@@ -52,11 +45,12 @@ shows_opened {w} p image table parts honest on stands =
     let d = on.decoded in
     let later = with_records d [] d.volume in
     let used = used_at p.units in
+    let refs = refs_at p.units in
     let committed : Committed w.images later on.disk p.log [] = subst (λ (rows : List PageRow). Committed w.images later on.disk p.log rows) parts.images on.committed in
-    let opened : OpenedView w.images later on.disk p.log used (is_held p.pages) table = opened_view d on.was stands committed on.table on.knows in
+    let opened : OpenedView w.images later on.disk p.log used refs (is_held p.pages) table = opened_view d on.was stands committed on.table on.knows on.owned in
     let machine = machine_of d (units_of later on.disk) used in
-    let same : record { machine = machine; session = held (opened_session p); disk = on.disk } ≡ fresh_view later on.disk p.log used (is_held p.pages) =
-    ap (λ (h : Held). the_view machine h on.disk) (held_is p parts ∙ ap (λ (g : Geometry). fresh_held g p.log used (is_held p.pages)) (sym on.geometry)) in
+    let same : record { machine = machine; session = held (opened_session p); disk = on.disk } ≡ fresh_view later on.disk p.log used refs (is_held p.pages) =
+    ap (λ (h : Held). the_view machine h on.disk) (held_is p parts ∙ ap (λ (g : Geometry). fresh_held g p.log used refs (is_held p.pages)) (sym on.geometry)) in
     record {
       view = record { machine = machine; session = opened_session p; disk = on.disk };
       is = refl;

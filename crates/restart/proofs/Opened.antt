@@ -23,7 +23,7 @@ use Rattle.page_alloc.specs.UnitSet.{refs_at, used_at}
 use Rattle.commits.proofs.Closing.{settled_agrees}
 use Rattle.commits.proofs.Reached.{reach_behind, without_last}
 use Rattle.volume_model.specs.Committed.{Checkpointed, Committed, SameAfterLog, StandsForVolume, with_records}
-use Rattle.volume_model.specs.FreshView.{KnowsUnits}
+use Rattle.volume_model.specs.FreshView.{KnowsUnits, OwnsUnits}
 use Rattle.volume_model.specs.Parts.{Decodes, HasRecords, HoldsOf, StandsFor, SuperOf, content_parts}
 use Rattle.volume_model.specs.SameVolume.{reach_kept}
 use Rattle.trees.specs.Owners.{root_pages}
@@ -33,7 +33,7 @@ use Rattle.restart.proofs.BadParts.{decoded_as, whole}
 use Rattle.restart.proofs.LastRecord.{no_rows}
 use Rattle.restart.specs.declared.content.Reached.{Reached}
 use Rattle.restart.proofs.Owners.{owned_kept}
-use Rattle.restart.specs.Content.{FilesReached, OwnsUnits, volume_of}
+use Rattle.restart.specs.Content.{FilesReached, volume_of}
 use Rattle.volume_model.specs.Homes.{home}
 use Rattle.restart.specs.Opening.{HasCatalog, OpenedOn, OpensAs, ReadsAs, empty_main}
 

@@ -9,11 +9,11 @@ use Rattle.file_walk.specs.declared.Found.{Found}
 use Rattle.page_alloc.specs.UnitSet.{used_at, refs_at}
 use Rattle.session_views.specs.declared.part.Part.{Part}
 use Rattle.session_views.specs.declared.part.Part.TheVariants.{File, Page, Body, Node, Balance, Unique}
-use Rattle.trees.specs.Owners.{IsOwned, root_pages}
 use Rattle.trees.specs.Trees.{Units}
 use Rattle.tree_store.specs.Stored.{IsCounted}
+use Rattle.volume_model.specs.FreshView.{OwnsUnits}
 use Rattle.volume_model.specs.Parts.{HoldsOf, rank}
-use Rattle.volume_model.specs.Volume.{FileContent, Volume, file_pages, reach_of, roots_in, stored_in}
+use Rattle.volume_model.specs.Volume.{FileContent, Volume, file_pages, reach_of}
 use Rattle.volume_port.specs.Logged.{LoggedSet, is_held}
 use Rattle.volume_port.specs.Ported.{IsUsed}
 use Rattle.restart.specs.declared.content.Reached.{Reached}
@@ -54,11 +54,6 @@ pub record IsReached (g : Geometry) (r : Reached) : Type 0 where
   pub held_len : length r.pages ≡ area_end g
   pub home : is_held r.pages catalog_no ≡ true
   pub in_use : (page : ℕ) → IsUsed (used_at r.units) r.pages page
-
--- Each unit of a tree has as many references as roots of the volume and pairs of its nodes name it. In use are these units, the catalog and the pages of
--- its files, and no others.
-abbrev pub OwnsUnits : Geometry → Units → Volume → (ℕ → Bool) → (ℕ → ℕ) → Type 0
-OwnsUnits g units v used refs = IsOwned g units used refs (catalog_no ∷ file_pages v) (root_pages (roots_in (stored_in v)))
 
 -- These files hold all parts. The units in use are exactly those that the volume reaches, each with as many references as owners, and the logged pages are
 -- exactly the catalog and the pages of its files.

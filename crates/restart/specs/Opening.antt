@@ -8,10 +8,10 @@ use Rattle.object_files.specs.Catalog.{Catalog, CatalogOf}
 use Rattle.op_log.specs.State.{LogState}
 use Rattle.table_model.specs.declared.table.Table.{Table}
 use Rattle.restart.specs.declared.opening.OpenedParts.{OpenedParts}
-use Rattle.restart.specs.Content.{IsReached, OwnsUnits}
+use Rattle.restart.specs.Content.{IsReached}
 use Rattle.volume_model.specs.Homes.{home}
 use Rattle.volume_model.specs.Committed.{Committed, OverlayOf, with_records}
-use Rattle.volume_model.specs.FreshView.{KnowsUnits}
+use Rattle.volume_model.specs.FreshView.{KnowsUnits, OwnsUnits}
 use Rattle.volume_model.specs.Parts.{Decodes, StandsFor}
 use Rattle.volume_model.specs.Volume.{Decoded, table_of, units_of}
 

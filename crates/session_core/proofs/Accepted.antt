@@ -26,14 +26,14 @@ use Rattle.table_model.proofs.Stepping.{accepted}
 use Rattle.session_views.specs.View.{View, ShowsNow, Stepped}
 use Rattle.volume_model.proofs.OneReading.{one_catalog}
 use Rattle.volume_model.specs.Shown.{Shared, WorkingRow, used_in, working_units}
-use Rattle.volume_model.specs.Volume.{Volume, file_pages, table_of, units_of}
+use Rattle.volume_model.specs.Volume.{Volume, file_pages, roots_in, stored_in, table_of, units_of}
 use Rattle.session_core.specs.Sessions.{SessionState, held, IsSession, begun}
 use Rattle.session_core.specs.Catalogs.{FramesLend, catalog_bytes}
 use Rattle.session_core.specs.Meant.{meant, pick_of, held_view}
 use Rattle.session_core.specs.Counts.{used_of}
 use Rattle.session_core.specs.Steps.{OnlyFrames, StepsQuietly}
-use Rattle.session_core.proofs.Volumes.{parts_same, table_same, trees_same_units, idle_of}
-use Rattle.session_core.proofs.Showing.{view_of, KeepsVolume, WorksAs, trees_in, shows_after, shows_catalog, reads_catalog, working_catalog, session_geometry}
+use Rattle.session_core.proofs.Volumes.{parts_same, table_same, idle_of}
+use Rattle.session_core.proofs.Showing.{view_of, KeepsVolume, WorksAs, shows_after, shows_catalog, reads_catalog, working_catalog, session_geometry}
 use Rattle.session_core.proofs.Quiet.{AreSizes, refused_at_once, quiet_refusal, shown_lends, later_frames, left_before, now_after}
 use Rattle.session_core.proofs.Refusing.{begin_accepted, spent_refused, free_left}
 use Rattle.session_core.proofs.Working.{begun_units}
@@ -55,7 +55,7 @@ pub record LaterFrames (a b : Outside) (old : SessionState) (groups : List Frame
 pub stepped_by : {a b : Outside} {before : View SessionState} (now : ShowsNow meant a before) (r : Request) (told : Reply) (m : Machine) (s new : SessionState) (w : Volume) → s ≡ new
     → LaterFrames a b before.session s.groups → IsTrue (is_request r)
     → Step before.machine r (pick_of (held_view before) r (view_of m (held s) before.disk)) told m
-    → KeepsVolume (held_view before) m (held s) → Shared (view_of m (held s) before.disk) → WorksAs now.shows.decoded (held_view before) (view_of m (held s) before.disk) now.shows.working w → Stepped meant before r told new b
+    → KeepsVolume (held_view before) m (held s) → Shared (view_of m (held s) before.disk) → WorksAs now.shows.decoded (view_of m (held s) before.disk) now.shows.working w → Stepped meant before r told new b
 stepped_by {a} {b} {before} now r told m s new w same frames form step keeps shared works =
     let q = pick_of (held_view before) r (view_of m (held s) before.disk) in
     let rules = steps_keep before.machine r q told m now.shows.rules form step in
@@ -111,7 +111,7 @@ begin_steps {a} {b} {before} now new groups page same frames closed reads lends 
     took_place m after request.Begin q (reply.Begin ((catalog_on page).last + 1)) (begin_accepted before q now.shows.shared.open_txn closed (λ is. room (sym number ∙ is)))
     (ap (λ (n : ℕ). reply.Begin (n + 1)) (sym number)) refl (tt, λ none. absurd (cc)) in
     stepped_by now request.Begin (reply.Begin ((catalog_on page).last + 1)) after s new d.volume same frames refl step
-    (record { geometry = refl; committed = refl; machine_scans = refl; pages = refl; segs = refl; scans = refl; used = refl; held = refl; kept = refl; taken = refl; overlay = refl; log = refl })
+    (record { geometry = refl; committed = refl; machine_scans = refl; pages = refl; segs = refl; scans = refl; used = refl; refs = refl; gained = refl; lost = refl; held = refl; kept = refl; overlay = refl; log = refl })
     (record { geometry = now.shows.shared.geometry; notes = refl; names = now.shows.shared.names; group_rows = now.shows.shared.group_rows; open_txn = refl; up = now.shows.shared.up })
     (record {
       working = record {
@@ -122,9 +122,7 @@ begin_steps {a} {b} {before} now new groups page same frames closed reads lends 
       in_order = tt;
       images = (λ some. inl refl, tt);
       pages = ap file_pages (sym idle.1);
-      trees = trees_same_units (units_of d before.disk) (working_units d before.disk rows) d.volume units
-          ∙ ap (λ (rs : List WorkingRow). trees_in (working_units d before.disk rs) d.volume) (sym idle.0)
-          ∙ ap (λ (w : Volume). trees_in (working_units d before.disk old) w) (sym idle.1);
+      roots = ap (λ (w : Volume). roots_in (stored_in w)) (sym idle.1);
       left = λ some number has none. absurd (none (subst (λ (w : Volume). Contains (file_pages w) number) (sym idle.1) has));
     })
 

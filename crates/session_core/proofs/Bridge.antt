@@ -36,10 +36,10 @@ laid_over_log None image home = refl
 laid_over_log (Some None) image home = refl
 laid_over_log (Some (Some bytes)) image home = refl
 
-page_bytes : (g : Geometry) (disk : List ℕ) (u : ℕ) → ltb u (area_end g) ≡ true → unit_bytes g (Some disk) u ≡ page_at g disk u
+pub page_bytes : (g : Geometry) (disk : List ℕ) (u : ℕ) → ltb u (area_end g) ≡ true → unit_bytes g (Some disk) u ≡ page_at g disk u
 page_bytes g disk u lt = rw lt refl
 
-leaf_bytes_at : (g : Geometry) (disk : List ℕ) (u : ℕ) → ltb u (area_end g) ≡ false → unit_bytes g (Some disk) u ≡ leaf_at g disk u
+pub leaf_bytes_at : (g : Geometry) (disk : List ℕ) (u : ℕ) → ltb u (area_end g) ≡ false → unit_bytes g (Some disk) u ≡ leaf_at g disk u
 leaf_bytes_at g disk u lt = rw lt refl
 
 pub image_is : (g : Geometry) (meta : Overlays) (unit : ℕ → List ℕ) (u : ℕ) → InPageArea g u → image_over g meta unit u ≡ unwrap_or (image_at meta u) (unit u)

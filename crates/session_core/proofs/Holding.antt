@@ -1,18 +1,18 @@
 -- The parts that a port leaves hold the volume that its working state became.
-use Rattle.std.proofs.Common.{◌≡◌, ◌∙◌, ⊎_elim, ℕ, Bool, true, false, List, [], ◌∷◌, ◌++◌, All, Option, Some, None, nat_eq, sym, ap, subst, inl, inr, length, ◌≤◌, arith}
+use Rattle.std.proofs.Common.{◌≡◌, ◌∙◌, ℕ, Bool, true, false, List, [], ◌∷◌, ◌++◌, Option, Some, None, nat_eq, sym, ap, subst, length, ◌≤◌, arith}
 use Rattle.std.specs.Prelude.{Contains, unwrap_or}
 use Rattle.std.specs.Map.{lookup}
 use Rattle.std.proofs.lemmas.Bool.{both_ways}
-use Rattle.std.proofs.lemmas.List.Elements.{Contains-append_cases, Contains-append_right}
-use Rattle.lru.proofs.Splits.{Contains-cons}
 use Rattle.ex_base.specs.declared.geometry.Geometry.{Geometry}
 use Rattle.ex_base.specs.declared.ground.Ground as ground
 use Rattle.ex_base.specs.declared.names.Root.{Root}
 use Rattle.ex_base.specs.Area.{InPageArea, catalog_no}
 use Rattle.disk_model.specs.Outside.{Outside}
-use Rattle.buffer_groups.specs.Frames.{Frames, Lends}
+use Rattle.disk_model.specs.Runs.{honest_on}
+use Rattle.buffer_groups.specs.Frames.{Frames}
 use Rattle.meta_pages.specs.Overlays.{AreRows, Overlays, image_at}
-use Rattle.page_alloc.specs.UnitSet.{free_count, used_at}
+use Rattle.page_alloc.specs.UnitSet.{used_at}
+use Rattle.trees.specs.Counted.{NamesPairs}
 use Rattle.trees.specs.Trees.{Units}
 use Rattle.tree_store.specs.Stored.{NoUnit, Tells, unit_bytes}
 use Rattle.table_model.specs.declared.table.Table.{Table}
@@ -25,35 +25,26 @@ use Rattle.session_views.specs.View.{View, ShowsNow}
 use Rattle.version_model.specs.Versions.{AreInUse}
 use Rattle.volume_edits.specs.Edits.{trees_of}
 use Rattle.volume_edits.specs.Ported.{IsApart, IsVolume, units_in}
+use Rattle.volume_model.specs.Committed.{Committed}
 use Rattle.volume_model.specs.Shown.{PageRow, working_units}
 use Rattle.volume_model.specs.Volume.{Decoded, Volume, file_pages, reach_of, roots_in, stored_in, table_of, units_of}
 use Rattle.volume_port.specs.Logged.{LoggedSet, is_held}
 use Rattle.volume_port.specs.Ported.{image_over}
-use Rattle.volume_port.specs.Stays.{ReachIsOf, StaysUsed, StillCommitted}
+use Rattle.volume_port.specs.Stays.{StaysUsed, StillCommitted}
 use Rattle.session_core.specs.Finding.{IsPortOf, PortShows}
 use Rattle.session_core.specs.Meant.{meant}
-use Rattle.session_core.specs.Sessions.{SessionState, IsSession, is_kept}
+use Rattle.session_core.specs.Sessions.{SessionState, IsSession}
 use Rattle.session_core.specs.Counts.{free_in}
-use Rattle.session_core.specs.Updates.{HasPortParts, HoldsSwept, KeepsSwept, Moved, PortParts, WasSwept, parts_held}
+use Rattle.session_core.specs.Updates.{HasPortParts, HoldsTurned, KeepsTurned, Moved, OwnsGone, PortParts, parts_held}
 use Rattle.session_core.proofs.Bridge.{image_is, image_shown, kept_page, no_image, shows_volume, table_is, volume_kept}
-use Rattle.session_core.proofs.Ending.{apart_from_reach, in_second}
+use Rattle.session_core.proofs.Ending.{in_second}
 use Rattle.session_core.proofs.Finding.{shown_tells}
 use Rattle.session_core.proofs.KeptOff.{trees_kept}
 use Rattle.session_core.proofs.Ruling.{image_most, volume_rules}
 use Rattle.session_core.proofs.Showing.{trees_in}
+use Rattle.session_core.proofs.PortParts.{IsPortWith, port_of}
+use Rattle.session_core.proofs.Turning.{owners_turned, owns_gone}
 use Rattle.session_core.proofs.Updating.{LeavesVolume, IsSettled, update_stays, updates_show}
-
--- The port is over a session's parts: it has their bytes, images and logged pages, the units in use, and as many free ones.
-pub record IsPortWith {S : Type 0} (g : ground.Ghosts S) (s : S) (geometry : Geometry) (disk : Option (List ℕ)) (p : PortParts) : Type 0 where
-  pub geometry_is : g.geometry s ≡ geometry
-  pub unit : g.unit s ≡ unit_bytes geometry disk
-  pub image : g.image s ≡ image_over geometry p.meta (unit_bytes geometry disk)
-  pub held : g.held s ≡ is_held p.pages
-  pub used : g.used s ≡ used_at p.units
-  pub free : g.free s ≡ free_count p.units.geometry (used_at p.units)
-
-pub port_of : {S : Type 0} (g : ground.Ghosts S) (s : S) (session : SessionState) (disk : Option (List ℕ)) → IsPortWith g s session.geometry disk (parts_held session) → IsPortOf g s session disk
-port_of g s session disk over = record { geometry = over.geometry_is; unit = over.unit; image = over.image; held = over.held }
 
 -- ---- before the update
 
@@ -75,7 +66,7 @@ module _ {S : Type 0} (g : ground.Ghosts S) (s : S) {a : Outside} {before : View
   trees_before = trees_kept O (units_in g s) (roots_in (stored_in working)) (volume_kept g s now port).roots
 
   used_before : (u : ℕ) → Contains (reach_of O working) u → used_at before.session.units u ≡ true
-  used_before u has = now.shows.used.reached u (in_second (reach_of (units_of d before.disk) d.volume) (reach_of O working) [] u has)
+  used_before u has = (now.shows.used.reached u).1 (in_second (reach_of (units_of d before.disk) d.volume) (reach_of O working) [] u has)
 
   pub is_volume : IsVolume g s d.records working
   is_volume = record {
@@ -104,7 +95,7 @@ module _ {S : Type 0} (g : ground.Ghosts S) (s : S) {a : Outside} {before : View
         ∙ ap (λ (o : Option (List ℕ)). unwrap_or o (home page)) (nothing_over page (sym (ap (λ (f : ℕ → Bool). f page) later_over.held) ∙ off))
         ∙ sym (ap (λ (f : ℕ → List ℕ). f page) later_over.unit)
 
-    module _ (ready : g.ready t) (told_later : g.tells t) (rows : AreRows p.meta) (table : Table) (gone come : Option Root) (becomes : BecomesVolume g s t d.records working table gone come) where
+    module _ (names : NamesPairs g) (table : Table) (gone come : Option Root) (becomes : BecomesVolume g s t d.records working table gone come) where
       tells : Tells a before.session.groups
       tells = let bytes = shown_tells now session.sizes in (now.honest, bytes.0, bytes.1)
 
@@ -121,90 +112,61 @@ module _ {S : Type 0} (g : ground.Ghosts S) (s : S) {a : Outside} {before : View
       abbrev later : List ℕ
       later = stays.0
 
-      free_before : (u : ℕ) → g.used s u ≡ false → used_at before.session.units u ≡ false
-      free_before u free = sym (ap (λ (f : ℕ → Bool). f u) over.used) ∙ free
+      port_after : (new : SessionState) → new.meta ≡ p.meta → new.pages ≡ p.pages → new.geometry ≡ before.session.geometry → IsPortOf g t new b.disk
+      port_after new meta pages geometry = record {
+        geometry = later_over.geometry_is ∙ sym geometry;
+        unit = later_over.unit ∙ ap (λ (h : Geometry). unit_bytes h b.disk) (sym geometry);
+        image =
+            later_over.image ∙ ap (λ (h : Geometry). image_over h p.meta (unit_bytes h b.disk)) (sym geometry)
+            ∙ ap (λ (m : Overlays). image_over new.geometry m (unit_bytes new.geometry b.disk)) (sym meta);
+        held = later_over.held ∙ ap (λ (k : LoggedSet). is_held k) (sym pages);
+      }
 
-      port_after : (new : SessionState) → KeepsSwept before.session new p → IsPortOf g t new b.disk
-      port_after new rest =
-          let meta : new.meta ≡ p.meta = ap (λ (q : PortParts). q.meta) rest.parts in
-          let pages : new.pages ≡ p.pages = ap (λ (q : PortParts). q.pages) rest.parts in
-          record {
-            geometry = later_over.geometry_is ∙ sym rest.geometry;
-            unit = later_over.unit ∙ ap (λ (h : Geometry). unit_bytes h b.disk) (sym rest.geometry);
-            image =
-                later_over.image ∙ ap (λ (h : Geometry). image_over h p.meta (unit_bytes h b.disk)) (sym rest.geometry)
-                ∙ ap (λ (m : Overlays). image_over new.geometry m (unit_bytes new.geometry b.disk)) (sym meta);
-            held = later_over.held ∙ ap (λ (k : LoggedSet). is_held k) (sym pages);
-          }
-
-      held_after : (page : ℕ) → Contains (catalog_no ∷ file_pages becomes.now) page → is_held p.pages page ≡ true
-      held_after page file = sym (ap (λ (f : ℕ → Bool). f page) later_over.held) ∙ (becomes.volume.shows.held page).1 file
-
-      -- what was a page before and isn't the committed state's lies in no tree
-      no_tree_after : (u : ℕ) → is_held before.session.pages u ≡ true → is_kept before.session.kept u ≡ false → ¬ Contains (trees_of (units_in g t) becomes.now) u
-      no_tree_after u there off tree = ⊎_elim
-          (λ (was : Contains (trees_of (units_in g s) working) u). ⊎_elim
-          (λ (same : catalog_no ≡ u). both_ways _ off (ap (is_kept before.session.kept) (sym same) ∙ session.pages.catalog_kept))
-          (λ (file : Contains (file_pages working) u).
-          now.shows.apart.no_tree u (Contains-append_right (file_pages d.volume) (file_pages working) u file)
-          (in_second (trees_in (units_of d before.disk) d.volume) (trees_in O working) [] u (subst (λ (us : List ℕ). Contains us u) trees_before was)))
-          (Contains-cons catalog_no (file_pages working) u ((now.shows.logged.held u).0 there)))
-          (λ free. both_ways _ (free_before u free) (session.in_use.working u there))
-          (becomes.units u tree)
-
-      not_swept : (u : ℕ) → Contains (reach_of (units_in g t) becomes.now) u → WasSwept before.session.kept (parts_held before.session) p u → ⊥
-      not_swept u has (there, gone, off) = ⊎_elim
-          (λ (file : Contains (catalog_no ∷ file_pages becomes.now) u). both_ways _ gone (held_after u file))
-          (λ (tree : Contains (trees_of (units_in g t) becomes.now) u). no_tree_after u there off tree)
-          (Contains-append_cases (catalog_no ∷ file_pages becomes.now) (trees_of (units_in g t) becomes.now) u has)
-
-      leaves : (new : SessionState) → KeepsSwept before.session new p → LeavesVolume g t b d working before new becomes.now later
+      leaves : (new : SessionState) → KeepsTurned before.session new b p gone come → LeavesVolume g t b d before new becomes.now later
       leaves new rest =
-          let still = stays.1.1 in
-          let committed : new.meta.committed ≡ p.meta.committed = ap (λ (q : PortParts). q.meta.committed) rest.parts in
-          let reached : ReachIsOf (IsSettled new) d later = λ unit reached. (
-            rest.units.stays unit (still.reached unit reached).0
-                (λ (there, gone, off). apart_from_reach now.shows session unit there off (subst (λ (us : List ℕ). Contains us unit) still.reach reached)),
-            λ none. none,
-          ) in
+          let meta : new.meta ≡ p.meta = ap (λ (q : PortParts). q.meta) rest.parts in
+          let committed : new.meta.committed ≡ p.meta.committed = ap (λ (m : Overlays). m.committed) meta in
           record {
-            port = port_after new rest;
-            used = λ u has. rest.units.stays u (sym (ap (λ (f : ℕ → Bool). f u) later_over.used) ∙ becomes.volume.used u has) (not_swept u has);
+            port = port_after new meta (ap (λ (q : PortParts). q.pages) rest.parts) rest.geometry;
             volume = becomes.volume;
-            pages = λ page has. ⊎_elim (λ was. inl was) (λ free. inr (free_before page free)) (becomes.pages page has);
-            units = λ u has. ⊎_elim (λ was. inl (subst (λ (us : List ℕ). Contains us u) trees_before was)) (λ free. inr (free_before u free)) (becomes.units u has);
             holds = stays.1.0;
-            lends = subst (λ (fs : List Frames). All (Lends b.disk) fs) (sym (ap (λ (q : PortParts). q.groups) rest.parts)) (moved.told tells).2;
-            still = subst (λ (overlay : List PageRow). StillCommitted (IsSettled before.session) (IsSettled new) d before.disk b.images later before.session.log overlay) (sym committed)
-                (record { committed = still.committed; units = still.units; reach = still.reach; table = still.table; reached = reached });
+            lends = rest.lends (moved.told tells);
+            still = subst (λ (overlay : List PageRow). Committed b.images d later before.session.log overlay) (sym committed) stays.1.1.committed;
+            table = stays.1.1.table;
+            owners = owners_turned g s t names now session over p moved later_over in_use_after table gone come becomes later stays.1.0 (moved.told tells) rest.left new.units rest.swept new.gained new.lost rest.turned;
             committed = committed ∙ moved.committed;
             kept = rest.kept;
             log = rest.log;
             geometry = rest.geometry;
           }
 
-      catalog_lies : (h : Geometry) → InPageArea h catalog_no
-      catalog_lies h = let some = h.some_pages in (omega arith, omega (arith, some))
+      pub owns_went : OwnsGone before b p gone come
+      owns_went = owns_gone g s t names now session over p moved later_over in_use_after table gone come becomes later stays.1.0 (moved.told tells)
 
-      catalog_fits : length (g.image t catalog_no) ≤ (g.geometry t).page_size
-      catalog_fits =
-          subst (λ (image : ℕ → List ℕ). length (image catalog_no) ≤ (g.geometry t).page_size) (sym later_over.image)
-          (subst (λ (h : Geometry). length (image_over before.session.geometry p.meta (unit_bytes before.session.geometry b.disk) catalog_no) ≤ h.page_size) (sym later_over.geometry_is)
-          (image_most before.session.geometry p.meta rows moved.ready.overlay catalog_no b.disk (catalog_lies before.session.geometry)))
+      module _ (ready : g.ready t) (told_later : g.tells t) (rows : AreRows p.meta) where
+        catalog_lies : (h : Geometry) → InPageArea h catalog_no
+        catalog_lies h = let some = h.some_pages in (omega arith, omega (arith, some))
 
-      rules_kept : IsTable before.session.geometry table
-      rules_kept =
-          subst (λ (h : Geometry). IsTable h table) later_over.geometry_is
-          (subst (λ (kept : Table). IsTable (g.geometry t) kept) becomes.shows
-          (volume_rules g t ready told_later d.records becomes.now (catalog_lies (g.geometry t)) catalog_fits becomes.volume.shows))
+        catalog_fits : length (g.image t catalog_no) ≤ (g.geometry t).page_size
+        catalog_fits =
+            subst (λ (image : ℕ → List ℕ). length (image catalog_no) ≤ (g.geometry t).page_size) (sym later_over.image)
+            (subst (λ (h : Geometry). length (image_over before.session.geometry p.meta (unit_bytes before.session.geometry b.disk) catalog_no) ≤ h.page_size) (sym later_over.geometry_is)
+            (image_most before.session.geometry p.meta rows moved.ready.overlay catalog_no b.disk (catalog_lies before.session.geometry)))
 
-      pub holds_swept : HoldsSwept before b p table
-      holds_swept = record {
-        later = later;
-        holds = stays.1.0;
-        rules = rules_kept;
-        shows = λ m new rest with shared. updates_show g t now new becomes.now later (leaves new rest) rest.is m table with (sym becomes.shows) shared;
-      }
+        rules_kept : IsTable before.session.geometry table
+        rules_kept =
+            subst (λ (h : Geometry). IsTable h table) later_over.geometry_is
+            (subst (λ (kept : Table). IsTable (g.geometry t) kept) becomes.shows
+            (volume_rules g t ready told_later d.records becomes.now (catalog_lies (g.geometry t)) catalog_fits becomes.volume.shows))
+
+        pub holds_turned : HoldsTurned before b p gone come table
+        holds_turned = record {
+          later = later;
+          holds = stays.1.0;
+          rules = rules_kept;
+          honest = honest_on moved.changes.only.goes now.honest;
+          shows = λ m new rest with shared. updates_show g t now new becomes.now later (leaves new rest) rest.is m table with (sym becomes.shows) shared;
+        }
 
 -- ---- over the session that an update begins with
 
@@ -252,16 +214,31 @@ module _ {S : Type 0} (g : ground.Ghosts S) (s : S) {a : Outside} (geometry : Ge
     never_shown never before has now asked =
         never now.shows.decoded.records now.shows.working (own_tells has now) (is_volume g s now has.is (own_over has now)) (subst (asks now.shows.working) (same_table has now) asked)
 
-    module _ (t : S) (ready : g.ready s) (leads : g.leads s t) {b : Outside} (new : PortParts) (moved : Moved NoUnit a b geometry old new) (later_over : IsPortWith g t geometry b.disk new) (rows : AreRows new.meta) (after : Table → Table) (gone come : Option Root) where
-      -- where it becomes a volume with another table, the parts hold that table
-      pub update_holds : ((records : List LogRecord) (v : Volume) → g.tells s → IsVolume g s records v → asks v (table_of (units_in g s) v) → IsApart g t → AreInUse g t → BecomesVolume g s t records v (after (table_of (units_in g s) v)) gone come)
-          → (before : View SessionState) → HasPortParts before.session geometry old → (now : ShowsNow meant a before) → asks now.shows.working (shown before.machine) → HoldsSwept before b new (after (shown before.machine))
-      update_holds becomes before has now asked =
-          let own = own_over has now in
-          let moves = subst (λ (h : Geometry). Moved NoUnit a b h (parts_held before.session) new) (sym has.geometry) (subst (λ (p : PortParts). Moved NoUnit a b geometry p new) (sym has.parts) moved) in
-          let later = subst (λ (h : Geometry). IsPortWith g t h b.disk new) (sym has.geometry) later_over in
+    module _ (names : NamesPairs g) (t : S) (ready : g.ready s) (leads : g.leads s t) {b : Outside} (new : PortParts) (moved : Moved NoUnit a b geometry old new) (later_over : IsPortWith g t geometry b.disk new) (after : Table → Table) (gone come : Option Root)
+        (becomes : (records : List LogRecord) (v : Volume) → g.tells s → IsVolume g s records v → asks v (table_of (units_in g s) v) → IsApart g t → AreInUse g t → BecomesVolume g s t records v (after (table_of (units_in g s) v)) gone come)
+        (before : View SessionState) (has : HasPortParts before.session geometry old) (now : ShowsNow meant a before) (asked : asks now.shows.working (shown before.machine)) where
+      own : IsPortWith g s before.session.geometry a.disk (parts_held before.session)
+      own = own_over has now
+
+      moves : Moved NoUnit a b before.session.geometry (parts_held before.session) new
+      moves = subst (λ (h : Geometry). Moved NoUnit a b h (parts_held before.session) new) (sym has.geometry) (subst (λ (p : PortParts). Moved NoUnit a b geometry p new) (sym has.parts) moved)
+
+      over_later : IsPortWith g t before.session.geometry b.disk new
+      over_later = subst (λ (h : Geometry). IsPortWith g t h b.disk new) (sym has.geometry) later_over
+
+      -- what it becomes, from what the session shows
+      becomes_now : BecomesVolume g s t now.shows.decoded.records now.shows.working (after (shown before.machine)) gone come
+      becomes_now =
           let same = same_table has now in
-          holds_swept g s now has.is own t new moves later (g.leads_ready s t leads ready) (g.leads_told s t leads (own_tells has now)) rows (after (shown before.machine)) gone come
-          (subst (λ (table : Table). BecomesVolume g s t now.shows.decoded.records now.shows.working (after table) gone come) (sym same)
+          subst (λ (table : Table). BecomesVolume g s t now.shows.decoded.records now.shows.working (after table) gone come) (sym same)
           (becomes now.shows.decoded.records now.shows.working (own_tells has now) (is_volume g s now has.is own) (subst (asks now.shows.working) same asked)
-          (apart_after g s now has.is own t new moves later) (in_use_after g s now has.is own t new moves later)))
+          (apart_after g s now has.is own t new moves over_later) (in_use_after g s now has.is own t new moves over_later))
+
+      -- where it becomes a volume with another table, the parts hold that table,
+      pub update_holds : AreRows new.meta → HoldsTurned before b new gone come (after (shown before.machine))
+      update_holds rows =
+          holds_turned g s now has.is own t new moves over_later names (after (shown before.machine)) gone come becomes_now (g.leads_ready s t leads ready) (g.leads_told s t leads (own_tells has now)) rows
+
+      -- and the root that went owns its tree
+      pub update_owns : OwnsGone before b new gone come
+      update_owns = owns_went g s now has.is own t new moves over_later names (after (shown before.machine)) gone come becomes_now

@@ -3,11 +3,16 @@ mod Beside
 mod Bridge
 mod Committing
 mod Digests
-mod Stopping
+pub mod Stopping
 pub mod Ending
 pub mod Finding
 mod Frames
 mod Holding
+mod Homes
+mod PortParts
+mod Turning
+mod TurnedParts
+mod TakingOut
 pub mod KeptOff
 pub mod Listing
 mod Moved
@@ -39,3 +44,7 @@ mod Changed
 mod Removed
 mod Making
 mod Remembered
+mod Releasing
+mod Aborting
+mod CommitSteps
+mod Checkpointing

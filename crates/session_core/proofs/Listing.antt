@@ -1,5 +1,5 @@
 -- What a port that shows a view lists of a file, and the catalog that was read before.
-use Rattle.std.proofs.Common.{◌≡◌, ◌∙◌, ◌⊎◌, ℕ, All, List, [], ◌∷◌, Some, Result, Ok, Err, refl, sym, ap, subst, inl, inr}
+use Rattle.std.proofs.Common.{◌≡◌, ◌∙◌, ℕ, All, List, [], ◌∷◌, Some, Result, Ok, Err, refl, sym, ap, subst, inl, inr}
 use Rattle.std.specs.Prelude.{Contains, IfOk, IfErr, IsPermutation}
 use Rattle.std.specs.List.{AllZip, flat_map}
 use Rattle.ex_base.specs.declared.ground.Ground as ground
@@ -18,8 +18,6 @@ use Rattle.table_model.specs.declared.table.Object.{Object}
 use Rattle.table_model.specs.declared.table.Table.{Table}
 use Rattle.table_model.specs.Steps.{current_oids, objects_if}
 use Rattle.table_model.specs.Tables.{current, file_at}
-use Rattle.session_views.specs.declared.engine.Stop.{Stop}
-use Rattle.session_views.specs.declared.engine.Stop.TheVariants as stop
 use Rattle.session_views.specs.View.{View, ShowsNow}
 use Rattle.version_model.specs.Listed.{AreByNumber, AreReadable, oids_of}
 use Rattle.volume_model.specs.Parts.{IsStored}
@@ -28,12 +26,11 @@ use Rattle.volume_edits.specs.Ported.{HasContent, index_named}
 use Rattle.volume_edits.proofs.Contents.{contents}
 use Rattle.volume_edits.proofs.Listed.{file_listed}
 use Rattle.session_core.specs.Catalogs.{FramesLend, catalog_bytes}
-use Rattle.session_core.specs.Finding.{IfFile, IfPortFile, IfShown, IsOutside, IsPortOver, LineStops, PortShows, oids_listed}
+use Rattle.session_core.specs.Finding.{IfFile, IfPortFile, IsPortOver, PortShows, oids_listed}
 use Rattle.session_core.specs.Meant.{meant}
 use Rattle.session_core.specs.Sessions.{IsSession, SessionState}
-use Rattle.session_core.specs.Steps.{OnlyFrames, Stops}
+use Rattle.session_core.specs.Steps.{OnlyFrames}
 use Rattle.session_core.proofs.Accepted.{ReadsCatalog, shown_on}
-use Rattle.session_core.proofs.Stopping.{damage_shows, sound_stop}
 use Rattle.session_core.proofs.Finding.{port_shows, port_working}
 use Rattle.session_core.proofs.Quiet.{shown_lends, with_groups}
 
@@ -77,21 +74,6 @@ module _ {S : Type 0} (g : ground.Ghosts S) (s : S) where
   pub file_on : {w : Outside} {old : SessionState} → IsPortOver g s w old → (file_no : ℕ) (P : View SessionState → List ℕ → Type 0) → IfPortFile g s file_no P → IfFile w old file_no P
   file_on over file_no P each = λ before same now e there number.
       each before (port_shows g s over before same now) e (subst (λ (v : Volume). Contains v.catalog.entries e) (sym (port_working g s over before same now)) there) number
-
--- ---- why the catalog was not read
-
-pub unread_stops : (a b : Outside) (old : SessionState) (why : Stop) → Stops a b old why → LineStops a b why
-unread_stops a b old stop.Memory stops = stops
-unread_stops a b old stop.Disk stops = stops
-unread_stops a b old (stop.Damaged page want got) stops = damage_shows a old page want got stops
-unread_stops a b old stop.Down stops = stops
-
-outside_by : (why : Stop) → (why ≡ stop.Disk) ⊎ (why ≡ stop.Memory) → IsOutside why
-outside_by why (inl is) = subst IsOutside (sym is) tt
-outside_by why (inr is) = subst IsOutside (sym is) tt
-
-pub unread_outside : {a : Outside} {old : SessionState} (b : Outside) (why : Stop) → IsSession old → Stops a b old why → IfShown a old (λ before. IsOutside why)
-unread_outside b why is stops = λ before same now. outside_by why (sound_stop b is before same now why stops)
 
 -- ---- the catalog, once more after it was read
 

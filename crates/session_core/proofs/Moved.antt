@@ -1,9 +1,10 @@
 -- What holds of every session goes on holding after an update, and after one that is given up.
-use Rattle.std.proofs.Common.{◌≡◌, ◌≢◌, ◌∙◌, ⊎_elim, ℕ, ◌<◌, ◌≤◌, ◌+◌, ◌-◌, ◌*◌, ◌^◌, cond, slice_get, true, false, List, [], ◌∷◌, ◌++◌, length, Some, nat_eq, refl, sym, ap, subst, inl, inr, arith, length-append}
+use Rattle.std.proofs.Common.{◌≡◌, ◌≢◌, ◌∙◌, ⊎_elim, ℕ, ◌<◌, ◌≤◌, ◌+◌, ◌-◌, ◌*◌, ◌^◌, cond, slice_get, suc, true, false, List, [], ◌∷◌, ◌++◌, length, Some, nat_eq, refl, sym, ap, subst, inl, inr, arith, length-append}
 use Rattle.std.specs.Map.{lookup}
-use Rattle.std.proofs.lemmas.Bool.{cases_Bool, both_ways}
+use Rattle.std.proofs.lemmas.Bool.{cases_Bool, both_ways, or_right}
 use Rattle.ex_base.specs.declared.geometry.Geometry.{Geometry}
 use Rattle.ex_base.specs.declared.names.OpNote.{OpNote}
+use Rattle.ex_base.specs.declared.names.Root.{Root}
 use Rattle.ex_base.specs.Sizes.{volume_bytes}
 use Rattle.disk_model.specs.Outside.{Outside}
 use Rattle.op_log.specs.Records.{IsNote}
@@ -25,7 +26,7 @@ use Rattle.session_views.specs.View.{View, ShowsNow, StandsDuring}
 use Rattle.session_core.specs.Meant.{meant}
 use Rattle.session_core.proofs.Updating.{update_moments}
 use Rattle.session_core.specs.declared.updates.Done.{Done}
-use Rattle.session_core.specs.Updates.{AreReady, HasPortParts, Moved, PortParts, WasSwept, WritesLoose, note_done, note_with, parts_held}
+use Rattle.session_core.specs.Updates.{AreReady, HasPortParts, HasRoots, IsLoose, Moved, PortParts, WritesUnused, note_done, note_with, parts_held}
 use Rattle.ex_base.specs.Area.{catalog_no}
 use Rattle.object_files.specs.Catalog.{Catalog, CatalogOf}
 use Rattle.object_files.specs.Edits.{IsCatalogPage}
@@ -52,7 +53,7 @@ session_ready s size is room = record {
 abbrev pub moved_to : SessionState → PortParts → SessionState
 moved_to s p = record s { units = p.units; groups = p.groups; meta = p.meta; pages = p.pages; room = p.room }
 
-module _ {a b : Outside} (s : SessionState) (p : PortParts) (is : IsSession s) (moved : Moved (WasSwept s.kept (parts_held s) p) a b s.geometry (parts_held s) p) where
+module _ {a b : Outside} (s : SessionState) (p : PortParts) (is : IsSession s) (moved : Moved (IsLoose p.pages s.kept) a b s.geometry (parts_held s) p) where
   pub tracked_moved : IsTracked s.geometry p.meta.working p.pages s.kept
   tracked_moved = record {
     held_len = moved.ready.held_len;
@@ -66,7 +67,7 @@ module _ {a b : Outside} (s : SessionState) (p : PortParts) (is : IsSession s) (
   }
 
   used_moved : ArePagesUsed (used_at p.units) p.pages s.kept
-  used_moved = record { working = moved.ready.in_use; committed = λ page flag. moved.used page (is.in_use.committed page flag) (λ (there, gone, off). both_ways _ off flag) }
+  used_moved = record { working = moved.ready.in_use; committed = λ page flag. moved.used page (is.in_use.committed page flag) (λ loose. both_ways _ loose (or_right (is_held p.pages page) (is_held s.kept page) flag)) }
 
   logged_moved : IsLogged s.log p.meta
   logged_moved =
@@ -77,9 +78,9 @@ module _ {a b : Outside} (s : SessionState) (p : PortParts) (is : IsSession s) (
       }
 
   -- an update that was noted
-  pub moved_session : (note : OpNote) → IsNote note → length s.notes < updates_most → length p.meta.working ≤ touched_most → IsRising p.meta.working → HasWork p.meta → s.opened ≡ true
-      → IsSession (record (moved_to s p) { notes = s.notes ++ note ∷ [] })
-  moved_session note noted room few rising work opened = record {
+  pub moved_session : (gained lost : List Root) → length gained ≤ suc (length s.gained) → length lost ≤ suc (length s.lost) → (note : OpNote) → IsNote note → length s.notes < updates_most → length p.meta.working ≤ touched_most → IsRising p.meta.working → HasWork p.meta → s.opened ≡ true
+      → IsSession (record (moved_to s p) { notes = s.notes ++ note ∷ []; gained = gained; lost = lost })
+  moved_session gained lost few_gained few_lost note noted room few rising work opened = record {
     log = is.log;
     meta = moved.ready.overlay;
     units = moved.ready.fits.counted;
@@ -92,6 +93,8 @@ module _ {a b : Outside} (s : SessionState) (p : PortParts) (is : IsSession s) (
     behind = moved.ready.fits.behind;
     few_notes = omega (arith, length-append s.notes (note ∷ []), room);
     notes = each-push IsNote s.notes note is.notes noted;
+    few_gained = omega (arith, length-append s.notes (note ∷ []), is.few_gained, few_gained);
+    few_lost = omega (arith, length-append s.notes (note ∷ []), is.few_lost, few_lost);
     few_pages = few;
     in_order = rising;
     work = λ _. work;
@@ -100,7 +103,7 @@ module _ {a b : Outside} (s : SessionState) (p : PortParts) (is : IsSession s) (
 
   -- one that was given up
   pub given_up : (pages : LoggedSet) (units : UnitSet) → TakenBack p.meta.working s.kept p.pages pages p.units units
-      → IsSession (record (moved_to s p) { meta = record p.meta { working = [] }; pages = pages; units = units; opened = false })
+      → IsSession (record (moved_to s p) { meta = record p.meta { working = [] }; pages = pages; units = units; gained = []; lost = []; opened = false })
   given_up pages units back = record {
     log = is.log;
     meta = moved.ready.overlay;
@@ -114,10 +117,12 @@ module _ {a b : Outside} (s : SessionState) (p : PortParts) (is : IsSession s) (
     behind = moved.ready.fits.behind;
     few_notes = is.few_notes;
     notes = is.notes;
+    few_gained = omega arith;
+    few_lost = omega arith;
     few_pages = omega arith;
     in_order = tt;
     work = λ opened. absurd (cc);
-    idle = λ _. refl;
+    idle = λ _. (refl, refl, refl);
   }
 
 -- ---- the working catalog
@@ -157,6 +162,8 @@ with_room s room same is = record {
   behind = is.behind;
   few_notes = is.few_notes;
   notes = is.notes;
+  few_gained = is.few_gained;
+  few_lost = is.few_lost;
   few_pages = is.few_pages;
   in_order = is.in_order;
   work = is.work;
@@ -189,20 +196,24 @@ has_seen s now before seen same is =
     let here : s ≡ before.session = seen ∙ sym same in
     record { is = subst IsSession here is; geometry = ap (λ (t : SessionState). t.geometry) (sym here); parts = ap parts_held (sym here) }
 
+-- and its roots are these
+pub has_roots : (s : SessionState) (before : View SessionState) → before.session ≡ s → HasRoots before.session s.kept s.gained s.lost
+has_roots s before same = record { kept = ap (λ (t : SessionState). t.kept) same; gained = ap (λ (t : SessionState). t.gained) same; lost = ap (λ (t : SessionState). t.lost) same }
+
 -- given up, as the code comes to it: these notes are those of before
-pub given_up_as : {a b : Outside} (s : SessionState) (p : PortParts) → IsSession s → Moved (WasSwept s.kept (parts_held s) p) a b s.geometry (parts_held s) p → (room : List ℕ) → length room ≡ length p.room
-    → (inside : SessionState) → inside ≡ record (moved_to s p) { room = room } → (meta : Overlays) (pages : LoggedSet) (units : UnitSet) → meta ≡ record inside.meta { working = [] }
-    → TakenBack inside.meta.working inside.kept inside.pages pages inside.units units → IsSession (record inside { meta = meta; pages = pages; units = units; opened = false })
-given_up_as {a} {b} s p is moved room long inside same meta pages units none back =
-    let there : SessionState = record (moved_to s p) { room = room } in
+pub given_up_as : {a b : Outside} (s : SessionState) (p : PortParts) → IsSession s → Moved (IsLoose p.pages s.kept) a b s.geometry (parts_held s) p → (gained lost : List Root) (room : List ℕ) → length room ≡ length p.room
+    → (inside : SessionState) → inside ≡ record (moved_to s p) { room = room; gained = gained; lost = lost } → (meta : Overlays) (pages : LoggedSet) (units : UnitSet) → meta ≡ record inside.meta { working = [] }
+    → TakenBack inside.meta.working inside.kept inside.pages pages inside.units units → IsSession (record inside { meta = meta; pages = pages; units = units; gained = []; lost = []; opened = false })
+given_up_as {a} {b} s p is moved gained lost room long inside same meta pages units none back =
+    let there : SessionState = record (moved_to s p) { room = room; gained = gained; lost = lost } in
     let back_there : TakenBack p.meta.working s.kept p.pages pages p.units units = subst (λ (t : SessionState). TakenBack t.meta.working t.kept t.pages pages t.units units) same back in
-    subst (λ (t : SessionState). IsSession (record t { meta = meta; pages = pages; units = units; opened = false })) (sym same)
-    (subst (λ (m : Overlays). IsSession (record there { meta = m; pages = pages; units = units; opened = false })) (sym (none ∙ ap (λ (t : SessionState). record t.meta { working = [] }) same))
-    (with_room (record (moved_to s p) { meta = record p.meta { working = [] }; pages = pages; units = units; opened = false }) room long (given_up s p is moved pages units back_there)))
+    subst (λ (t : SessionState). IsSession (record t { meta = meta; pages = pages; units = units; gained = []; lost = []; opened = false })) (sym same)
+    (subst (λ (m : Overlays). IsSession (record there { meta = m; pages = pages; units = units; gained = []; lost = []; opened = false })) (sym (none ∙ ap (λ (t : SessionState). record t.meta { working = [] }) same))
+    (with_room (record (moved_to s p) { meta = record p.meta { working = [] }; pages = pages; units = units; gained = []; lost = []; opened = false }) room long (given_up s p is moved pages units back_there)))
 
 -- at every moment of it a crash leaves the committed table
-pub moments_of : {a b : Outside} (s now : SessionState) → s ≡ now → IsSession s → IsWorld a → WritesLoose a b s
+pub moments_of : {a b : Outside} (s now : SessionState) → s ≡ now → IsSession s → IsWorld a → WritesUnused a b s
     → (before : View SessionState) → before.session ≡ now → ShowsNow meant a before → (r : Request) → Leaves a b (StandsDuring meant before.machine r)
 moments_of {a} {b} s now seen is world changes before same shows r =
     let here : s ≡ before.session = seen ∙ sym same in
-    update_moments shows (subst IsSession here is) r before.session world (subst (λ (t : SessionState). WritesLoose a b t) here changes)
+    update_moments shows (subst IsSession here is) r before.session world (subst (λ (t : SessionState). WritesUnused a b t) here changes)

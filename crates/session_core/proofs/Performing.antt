@@ -13,22 +13,32 @@ use Rattle.session_core.specs.TableUpdates.{Asks, HasRoom, TableUpdate, Updates,
 use Rattle.table_model.specs.declared.table.Table.{Table}
 use Rattle.table_model.specs.Machines.{shown}
 use Rattle.tree_store.specs.Stored.{NoUnit, Tells}
+use Rattle.trees.specs.Counted.{NamesPairs}
 use Rattle.volume_model.specs.Volume.{Volume}
-use Rattle.session_core.specs.Updates.{HasRoomFor, HoldsSwept, IfAsked, Moved, PortParts}
-use Rattle.session_core.proofs.Holding.{IsPortWith, never_shown, own_free, own_shows, update_holds}
+use Rattle.session_core.specs.Updates.{HasRoomFor, HoldsTurned, IfAsked, Moved, OwnsGone, PortParts}
+use Rattle.session_core.proofs.Holding.{never_shown, own_free, own_shows, update_holds, update_owns}
+use Rattle.session_core.proofs.PortParts.{IsPortWith}
 use Rattle.session_core.proofs.Roomed.{has_room}
 
 module _ {S : Type 0} (g : ground.Ghosts S) (s t : S) (update : ObjectUpdate) (result : Result Done PortFault) (does : (u : TableUpdate) → IsUpdate update u → Updates g s t u result) (ready : g.ready s)
     (a : Outside) (geometry : Geometry) (old : PortParts) (over : IsPortWith g s geometry a.disk old) (told : Tells a old.groups → g.tells s) where
-  -- the parts that it leaves hold the table that it makes
-  pub performed_shown : g.leads s t → {b : Outside} (new : PortParts) → Moved NoUnit a b geometry old new → IsPortWith g t geometry b.disk new
-      → IfOk result (λ done. IfAsked a geometry old update (λ before u. AreRows new.meta → HoldsSwept before b new (updated u done.oid (shown before.machine))))
-  performed_shown leads {b} new moved later = by result does
-    where
-      by : (r : Result Done PortFault) → ((u : TableUpdate) → IsUpdate update u → Updates g s t u r)
-          → IfOk r (λ done. IfAsked a geometry old update (λ before u. AreRows new.meta → HoldsSwept before b new (updated u done.oid (shown before.machine))))
-      by (Err fault) does = tt
-      by (Ok done) does = λ before has now u is asked rows. update_holds g s geometry old over told (Asks u) t ready leads new moved later rows (updated u done.oid) done.gone done.come (does u is).done before has now asked
+  module _ (names : NamesPairs g) (leads : g.leads s t) {b : Outside} (new : PortParts) (moved : Moved NoUnit a b geometry old new) (later : IsPortWith g t geometry b.disk new) where
+    -- the parts that it leaves hold the table that it makes,
+    pub performed_shown : IfOk result (λ done. IfAsked a geometry old update (λ before u. AreRows new.meta → HoldsTurned before b new done.gone done.come (updated u done.oid (shown before.machine))))
+    performed_shown = by result does
+      where
+        by : (r : Result Done PortFault) → ((u : TableUpdate) → IsUpdate update u → Updates g s t u r)
+            → IfOk r (λ done. IfAsked a geometry old update (λ before u. AreRows new.meta → HoldsTurned before b new done.gone done.come (updated u done.oid (shown before.machine))))
+        by (Err fault) does = tt
+        by (Ok done) does = λ before has now u is asked rows. update_holds g s geometry old over told (Asks u) names t ready leads new moved later (updated u done.oid) done.gone done.come (does u is).done before has now asked rows
+
+    -- and the root that went owns its tree
+    pub performed_owns : IfOk result (λ done. IfAsked a geometry old update (λ before u. OwnsGone before b new done.gone done.come))
+    performed_owns = by result does
+      where
+        by : (r : Result Done PortFault) → ((u : TableUpdate) → IsUpdate update u → Updates g s t u r) → IfOk r (λ done. IfAsked a geometry old update (λ before u. OwnsGone before b new done.gone done.come))
+        by (Err fault) does = tt
+        by (Ok done) does = λ before has now u is asked. update_owns g s geometry old over told (Asks u) names t ready leads new moved later (updated u done.oid) done.gone done.come (does u is).done before has now asked
 
   -- where it has its room, it tells of no damage
   pub performed_sound : IfErr result (λ fault. IfAsked a geometry old update (λ before u. HasRoomFor before u → IsDamage fault → ⊥))

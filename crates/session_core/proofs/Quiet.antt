@@ -1,5 +1,5 @@
 -- Steps that write nothing, and what a session shows over them.
-use Rattle.std.proofs.Common.{◌≡◌, ◌∙◌, ℕ, List, map, All, Option, Some, None, Result, Ok, Err, refl, sym, ap, subst, inl}
+use Rattle.std.proofs.Common.{◌≡◌, ◌∙◌, ℕ, List, map, All, Option, Some, None, Ok, Err, refl, sym, ap, subst, inl}
 use Rattle.std.specs.List.{AllByRecursion}
 use Rattle.ex_base.specs.declared.geometry.Geometry.{Geometry}
 use Rattle.disk_model.specs.Outside.{Outside, IsWorld, ReadsOnly, Leaves}
@@ -8,7 +8,6 @@ use Rattle.buffer_groups.specs.Frames.{Frames}
 use Rattle.buffer_groups.specs.Frames as lent
 use Rattle.table_model.specs.declared.machine.Pick.{Pick}
 use Rattle.table_model.specs.declared.reply.Refusal.{Refusal}
-use Rattle.table_model.specs.declared.reply.Reply.{Reply}
 use Rattle.table_model.specs.declared.reply.Reply.TheVariants as reply
 use Rattle.table_model.specs.Requests.{Request}
 use Rattle.table_model.specs.Refusals.{refusal_of}
@@ -22,7 +21,7 @@ use Rattle.table_model.specs.declared.table.Table.{Table}
 use Rattle.session_core.specs.Sessions.{SessionState, held, IsSession}
 use Rattle.session_core.specs.Catalogs.{FramesLend}
 use Rattle.session_core.specs.Meant.{meant, pick_of, held_view}
-use Rattle.session_core.specs.Steps.{OnlyFrames, Stops, StepsQuietly, Steps}
+use Rattle.session_core.specs.Steps.{OnlyFrames, Stops, StepsQuietly}
 use Rattle.session_core.proofs.Frames.{frames_shown, frames_lent}
 use Rattle.session_core.proofs.Showing.{view_of, session_geometry}
 
@@ -45,8 +44,9 @@ shows_frames {may_leave} {fewer} {v} s shows inside same frames = subst (λ (t :
   committed = shows.committed;
   working_shown = working_moved shows.decoded v s.frames shows.working v.machine.working shows.working_shown;
   scans = shows.scans;
+  owners = shows.owners;
   used = (let h = shows.used in record { reached = h.reached; pages = h.pages; segs = h.segs; touched = h.touched });
-  logged = (let h = shows.logged in record { held = h.held; kept = h.kept; taken = h.taken });
+  logged = (let h = shows.logged in record { held = h.held; kept = h.kept });
   frames = frames;
   durable = λ image left. shows.durable image (inside image left);
   apart = (let h = shows.apart in record { no_tree = h.no_tree; in_order = h.in_order; images = h.images; left = h.left });
@@ -89,19 +89,6 @@ quiet_moments {a} {b} r world reads before now =
     leaves_quiet (StandsDuring meant before.machine r)
     (leaves_start a (StandsDuring meant before.machine r) world (λ d here. inl (meant.stands a.images before d now.shows here)))
     now.honest reads.nothing
-
--- A quiet step is a step.
-pub quietly : {a b : Outside} {old new : SessionState} (r : Request) (result : Result Reply Stop) → IsWorld a → StepsQuietly a b old new r result → Steps a b old new r result
-quietly {a} {b} r result world quiet = record {
-  only = quiet.reads.nothing.only;
-  geometry = quiet.geometry;
-  down = quiet.down;
-  stops = quiet.stops;
-  refused = quiet.refused;
-  quiet = λ _. (quiet.reads, quiet.log);
-  stepped = quiet.stepped;
-  any_moment = λ before same now. quiet_moments r world quiet.reads before now;
-}
 
 -- ---- a refusal, and a stop
 

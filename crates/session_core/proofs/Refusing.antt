@@ -83,3 +83,6 @@ checkpoint_accepted v q same closed = let is : is_some v.machine.working ≡ fal
 
 pub commit_accepted : (v : View SessionState) (q : Pick) → SameOpen v → v.session.opened ≡ true → refusal_of v.machine request.Commit q ≡ None
 commit_accepted v q same opened = rw (none_is_false v.machine.working (same ∙ opened)) refl
+
+pub abort_accepted : (v : View SessionState) (q : Pick) → SameOpen v → v.session.opened ≡ true → refusal_of v.machine request.Abort q ≡ None
+abort_accepted v q same opened = rw (none_is_false v.machine.working (same ∙ opened)) refl

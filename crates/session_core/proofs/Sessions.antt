@@ -5,6 +5,7 @@ use Rattle.std.specs.Map.{lookup}
 use Rattle.std.specs.Prelude.{Result, Ok, Err, OnErr, is_err}
 use Rattle.object_files.specs.Catalog.{Catalog}
 use Rattle.ex_base.specs.declared.names.OpNote.{OpNote}
+use Rattle.ex_base.specs.declared.names.Root.{Root}
 use Rattle.ex_base.specs.Area.{catalog_no}
 use Rattle.op_log.specs.Records.{IsNote}
 use Rattle.op_log.proofs.Reading.{each-push}
@@ -37,9 +38,16 @@ use Rattle.session_core.proofs.Working.{lookup_put, length_put, firsts_put}
 abbrev pub working_on : SessionState → Overlays → List OpNote → Bool → SessionState
 working_on s meta notes opened = record s { meta = meta; notes = notes; opened = opened }
 
-pub works_on : (s : SessionState) (rows : List WorkingRow) (notes : List OpNote) (opened : Bool) (meta : Overlays) → IsSession s → meta ≡ record s.meta { working = rows } → length rows ≤ touched_most → length notes ≤ updates_most → AllByRecursion IsNote notes → IsRising rows
-    → (opened ≡ true → HasWork (record s.meta { working = rows })) → IsTracked s.geometry rows s.pages s.kept → (opened ≡ false → rows ≡ []) → IsSession (working_on s meta notes opened)
-works_on s rows notes opened meta is same few_rows few each rising work tracked idle = subst (λ (m : Overlays). IsSession (working_on s m notes opened)) (sym same) (record {
+-- what holds of other notes of a session
+pub record AreNoted (s : SessionState) (notes : List OpNote) : Type 0 where
+  pub few : length notes ≤ updates_most
+  pub each : AllByRecursion IsNote notes
+  pub gained : length s.gained ≤ length notes
+  pub lost : length s.lost ≤ length notes
+
+pub works_on : (s : SessionState) (rows : List WorkingRow) (notes : List OpNote) (opened : Bool) (meta : Overlays) → IsSession s → meta ≡ record s.meta { working = rows } → length rows ≤ touched_most → AreNoted s notes → IsRising rows
+    → (opened ≡ true → HasWork (record s.meta { working = rows })) → IsTracked s.geometry rows s.pages s.kept → (opened ≡ false → (rows ≡ []) × (s.gained ≡ []) × (s.lost ≡ [])) → IsSession (working_on s meta notes opened)
+works_on s rows notes opened meta is same few_rows noted rising work tracked idle = subst (λ (m : Overlays). IsSession (working_on s m notes opened)) (sym same) (record {
   log = is.log;
   meta = is.meta;
   units = is.units;
@@ -50,8 +58,10 @@ works_on s rows notes opened meta is same few_rows few each rising work tracked 
   main = is.main;
   logged = record { images = is.logged.images; none = is.logged.none };
   behind = is.behind;
-  few_notes = few;
-  notes = each;
+  few_notes = noted.few;
+  notes = noted.each;
+  few_gained = noted.gained;
+  few_lost = noted.lost;
   few_pages = few_rows;
   in_order = rising;
   work = work;
@@ -78,26 +88,35 @@ pub edited : (s now : SessionState) (page : List ℕ) (kind : NoteKind) (meta : 
 edited s now page kind meta notes is session may same noted =
     let here = subst (λ (t : SessionState). MayUpdate t page kind) (sym is) may in
     works_on s (with_row catalog_no (Some page) s.meta.working) notes s.opened meta session same (omega (arith, length_put catalog_no (Some page) s.meta.working, here.touched))
-    (subst (λ (l : List OpNote). length l ≤ updates_most) (sym noted) session.few_notes) (subst (λ (l : List OpNote). AllByRecursion IsNote l) (sym noted) session.notes) (rising_with catalog_no (Some page) s.meta.working session.in_order) (λ _. has_work s.meta page here.catalog here.number) (tracked_put s.geometry s.meta.working s.pages s.kept session.pages page) (λ closed. absurd (both_ways _ closed here.opened))
+    (subst (λ (l : List OpNote). AreNoted s l) (sym noted) (record { few = session.few_notes; each = session.notes; gained = session.few_gained; lost = session.few_lost })) (rising_with catalog_no (Some page) s.meta.working session.in_order) (λ _. has_work s.meta page here.catalog here.number) (tracked_put s.geometry s.meta.working s.pages s.kept session.pages page) (λ closed. absurd (both_ways _ closed here.opened))
 
 pub noted : (s now : SessionState) (page : List ℕ) (kind : NoteKind) (meta : Overlays) (notes : List OpNote) → s ≡ now → IsSession s → MayUpdate now page kind → meta ≡ record s.meta { working = with_row catalog_no (Some page) s.meta.working }
     → notes ≡ s.notes ++ note kind no_oid 0 0 ∷ [] → IsSession (working_on s meta notes s.opened)
 noted s now page kind meta notes is session may same pushed =
     let here = subst (λ (t : SessionState). MayUpdate t page kind) (sym is) may in
     works_on s (with_row catalog_no (Some page) s.meta.working) notes s.opened meta session same (omega (arith, length_put catalog_no (Some page) s.meta.working, here.touched))
-    (subst (λ (l : List OpNote). length l ≤ updates_most) (sym pushed) (omega (arith, length-append s.notes (note kind no_oid 0 0 ∷ []), here.updates)))
-    (subst (λ (l : List OpNote). AllByRecursion IsNote l) (sym pushed) (each-push IsNote s.notes (note kind no_oid 0 0) session.notes (is_note kind))) (rising_with catalog_no (Some page) s.meta.working session.in_order) (λ _. has_work s.meta page here.catalog here.number) (tracked_put s.geometry s.meta.working s.pages s.kept session.pages page) (λ closed. absurd (both_ways _ closed here.opened))
+    (subst (λ (l : List OpNote). AreNoted s l) (sym pushed) (record {
+      few = omega (arith, length-append s.notes (note kind no_oid 0 0 ∷ []), here.updates);
+      each = each-push IsNote s.notes (note kind no_oid 0 0) session.notes (is_note kind);
+      gained = omega (arith, length-append s.notes (note kind no_oid 0 0 ∷ []), session.few_gained);
+      lost = omega (arith, length-append s.notes (note kind no_oid 0 0 ∷ []), session.few_lost);
+    })) (rising_with catalog_no (Some page) s.meta.working session.in_order) (λ _. has_work s.meta page here.catalog here.number) (tracked_put s.geometry s.meta.working s.pages s.kept session.pages page) (λ closed. absurd (both_ways _ closed here.opened))
 
 -- a transaction that could not be opened, and one that was
 pub not_begun : (s : SessionState) (meta : Overlays) → IsSession s → s.opened ≡ false → meta ≡ record s.meta { working = [] } → IsSession (working_on s meta s.notes s.opened)
-not_begun s meta is closed same = works_on s [] s.notes s.opened meta is same (omega arith) is.few_notes is.notes tt (λ opened. absurd (both_ways _ closed opened)) (subst (λ (rows : List WorkingRow). IsTracked s.geometry rows s.pages s.kept) (is.idle closed) is.pages) (λ _. refl)
+not_begun s meta is closed same = works_on s [] s.notes s.opened meta is same (omega arith) (record { few = is.few_notes; each = is.notes; gained = is.few_gained; lost = is.few_lost }) tt (λ opened. absurd (both_ways _ closed opened)) (subst (λ (rows : List WorkingRow). IsTracked s.geometry rows s.pages s.kept) (is.idle closed).0 is.pages) (λ _. (refl, (is.idle closed).1, (is.idle closed).2))
 
 pub is_begun : (s : SessionState) (meta : Overlays) (notes : List OpNote) (page : List ℕ) → IsSession s → s.opened ≡ false → meta ≡ record s.meta { working = (catalog_no, Some page) ∷ [] } → notes ≡ [] → IsCatalogPage page → (catalog_on page).last < 2 ^ 64 - 1
     → IsSession (working_on s meta notes true)
 is_begun s meta notes page is closed same none catalog room =
-    works_on s ((catalog_no, Some page) ∷ []) notes true meta is same (omega arith) (subst (λ (l : List OpNote). length l ≤ updates_most) (sym none) (omega arith)) (subst (λ (l : List OpNote). AllByRecursion IsNote l) (sym none) tt) (tt, tt)
+    works_on s ((catalog_no, Some page) ∷ []) notes true meta is same (omega arith) (subst (λ (l : List OpNote). AreNoted s l) (sym none) (record {
+      few = omega arith;
+      each = tt;
+      gained = omega (arith, ap (λ (l : List Root). length l) (is.idle closed).1);
+      lost = omega (arith, ap (λ (l : List Root). length l) (is.idle closed).2);
+    })) (tt, tt)
     (λ _. record { image = page; there = refl; is_catalog = catalog; room = room })
-    (tracked_put s.geometry [] s.pages s.kept (subst (λ (rows : List WorkingRow). IsTracked s.geometry rows s.pages s.kept) (is.idle closed) is.pages) page) (λ shut. absurd (cc))
+    (tracked_put s.geometry [] s.pages s.kept (subst (λ (rows : List WorkingRow). IsTracked s.geometry rows s.pages s.kept) (is.idle closed).0 is.pages) page) (λ shut. absurd (cc))
 
 -- what a session is seen as
 pub seen : {s now : SessionState} → s ≡ now → IsSession s → IsSession now
@@ -165,11 +184,17 @@ pub record LeftByCommit (s : SessionState) (edited : Overlays) (log : LogState) 
   pub none : meta.working ≡ []
   pub settled : Settled edited.working s.kept kept s.units units
 
-pub after_commit : (s : SessionState) (edited : Overlays) (page : List ℕ) (log : LogState) (meta : Overlays) (later : List Frames) (kept : List Bool) (units : UnitSet) (notes : List OpNote) (names : List BoundName) → IsSession s
-    → edited ≡ record s.meta { working = with_row catalog_no (Some page) s.meta.working } → LeftByCommit s edited log meta s.groups later kept units
-    → length notes ≤ updates_most → AllByRecursion IsNote notes
-    → IsSession (record s { log = log; meta = meta; kept = kept; units = units; groups = later; notes = notes; names = names; opened = false })
-after_commit s edited page log meta later kept units notes names is same left few each =
+-- the notes and the roots that are left then
+pub record NoRoots (notes : List OpNote) (gains loses : List Root) : Type 0 where
+  pub few : length notes ≤ updates_most
+  pub each : AllByRecursion IsNote notes
+  pub gained : gains ≡ []
+  pub lost : loses ≡ []
+
+pub after_commit : (s : SessionState) (edited : Overlays) (page : List ℕ) (log : LogState) (meta : Overlays) (later : List Frames) (kept : List Bool) (units : UnitSet) (notes : List OpNote) (gained lost : List Root) (names : List BoundName) → IsSession s
+    → edited ≡ record s.meta { working = with_row catalog_no (Some page) s.meta.working } → LeftByCommit s edited log meta s.groups later kept units → NoRoots notes gained lost
+    → IsSession (record s { log = log; meta = meta; kept = kept; units = units; groups = later; notes = notes; gained = gained; lost = lost; names = names; opened = false })
+after_commit s edited page log meta later kept units notes gained lost names is same left none_left =
     let rows = with_row catalog_no (Some page) s.meta.working in
     let settled = subst (λ (o : Overlays). Settled o.working s.kept kept s.units units) same left.settled in
     let tracked = tracked_settled s.geometry rows s.pages s.kept (tracked_put s.geometry s.meta.working s.pages s.kept is.pages page) kept s.units units settled in
@@ -184,22 +209,24 @@ after_commit s edited page log meta later kept units notes names is same left fe
       main = omega (arith, is.main, left.len);
       logged = left.logged;
       behind = left.behind is.behind;
-      few_notes = few;
-      notes = each;
+      few_notes = none_left.few;
+      notes = none_left.each;
+      few_gained = omega (arith, ap (λ (l : List Root). length l) none_left.gained);
+      few_lost = omega (arith, ap (λ (l : List Root). length l) none_left.lost);
       few_pages = subst (λ (none : List WorkingRow). length none ≤ touched_most) (sym left.none) (omega arith);
       in_order = subst IsRising (sym left.none) tt;
       work = λ opened. absurd (cc);
-      idle = λ _. left.none;
+      idle = λ _. (left.none, none_left.gained, none_left.lost);
     }
 
 -- ---- after an abort
 
-pub after_abort : (s : SessionState) (meta : Overlays) (pages : LoggedSet) (units : UnitSet) (notes : List OpNote) (names : List BoundName) → IsSession s → meta ≡ record s.meta { working = [] }
-    → TakenBack s.meta.working s.kept s.pages pages s.units units → notes ≡ []
-    → IsSession (record s { meta = meta; pages = pages; units = units; notes = notes; names = names; opened = false })
-after_abort s meta pages units notes names is same back none =
-    subst (λ (m : Overlays). IsSession (record s { meta = m; pages = pages; units = units; notes = notes; names = names; opened = false })) (sym same)
-    (subst (λ (l : List OpNote). IsSession (record s { meta = record s.meta { working = [] }; pages = pages; units = units; notes = l; names = names; opened = false })) (sym none) (record {
+pub after_abort : (s : SessionState) (meta : Overlays) (pages : LoggedSet) (units : UnitSet) (notes : List OpNote) (gained lost : List Root) (names : List BoundName) → IsSession s → meta ≡ record s.meta { working = [] }
+    → TakenBack s.meta.working s.kept s.pages pages s.units units → notes ≡ [] → gained ≡ [] → lost ≡ []
+    → IsSession (record s { meta = meta; pages = pages; units = units; notes = notes; gained = gained; lost = lost; names = names; opened = false })
+after_abort s meta pages units notes gained lost names is same back none no_gained no_lost =
+    subst (λ (m : Overlays). IsSession (record s { meta = m; pages = pages; units = units; notes = notes; gained = gained; lost = lost; names = names; opened = false })) (sym same)
+    (subst (λ (l : List OpNote). IsSession (record s { meta = record s.meta { working = [] }; pages = pages; units = units; notes = l; gained = gained; lost = lost; names = names; opened = false })) (sym none) (record {
       log = is.log;
       meta = is.meta;
       units = counted_gives s.geometry _ s.units units is.units back.units;
@@ -212,8 +239,10 @@ after_abort s meta pages units notes names is same back none =
       behind = is.behind;
       few_notes = omega arith;
       notes = tt;
+      few_gained = omega (arith, ap (λ (l : List Root). length l) no_gained);
+      few_lost = omega (arith, ap (λ (l : List Root). length l) no_lost);
       few_pages = omega arith;
       in_order = tt;
       work = λ opened. absurd (cc);
-      idle = λ _. refl;
+      idle = λ _. (refl, no_gained, no_lost);
     }))

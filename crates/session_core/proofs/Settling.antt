@@ -77,13 +77,13 @@ none_below (r ∷ rows) (suc i) row rising is =
     here_or row.0 r.0 r.1 (lookup (nat_eq row.0) (take i rows)) (λ same. absurd (omega (arith, lt, same))) ∙ none_below rows i row rising.1 is
 
 module _ (rows : List WorkingRow) (i : ℕ) (row : WorkingRow) (rising : IsRising rows) (is : slice_get rows i ≡ Some row) where
-  next_here : lookup (nat_eq row.0) (take (i + 1) rows) ≡ Some row.1
+  pub next_here : lookup (nat_eq row.0) (take (i + 1) rows) ≡ Some row.1
   next_here = lookup_next rows i row rising is row.0 ∙ here_is row.0 row.1 (lookup (nat_eq row.0) (take i rows))
 
   pub next_other : (p : ℕ) → p ≢ row.0 → lookup (nat_eq p) (take (i + 1) rows) ≡ lookup (nat_eq p) (take i rows)
   next_other p differ = lookup_next rows i row rising is p ∙ here_or p row.0 row.1 (lookup (nat_eq p) (take i rows)) differ
 
-  next_keeps : (p : ℕ) (v : Option (List ℕ)) → lookup (nat_eq p) (take i rows) ≡ Some v → lookup (nat_eq p) (take (i + 1) rows) ≡ Some v
+  pub next_keeps : (p : ℕ) (v : Option (List ℕ)) → lookup (nat_eq p) (take i rows) ≡ Some v → lookup (nat_eq p) (take (i + 1) rows) ≡ Some v
   next_keeps p v has = ⊎_elim
       (λ (same : p ≡ row.0). absurd (some_none (sym has ∙ ap (λ (q : ℕ). lookup (nat_eq q) (take i rows)) same ∙ none_below rows i row rising is)))
       (λ (differ : p ≢ row.0). next_other p differ ∙ has) (cases_eq p row.0)

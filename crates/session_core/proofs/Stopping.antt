@@ -1,6 +1,9 @@
--- Why a step on the catalog stops.
-use Rattle.std.proofs.Common.{◌≡◌, ◌≢◌, ◌⊎◌, ℕ, refl, sym, ap, subst, inl, inr, arith}
-use Rattle.disk_model.specs.Outside.{Outside}
+-- Why a step on the catalog stops, and quiet steps as steps.
+use Rattle.std.proofs.Common.{◌≡◌, ◌≢◌, ◌⊎◌, ℕ, Result, Ok, Err, refl, sym, ap, subst, inl, inr, arith}
+use Rattle.std.specs.Prelude.{IfErr}
+use Rattle.disk_model.specs.Outside.{Outside, IsWorld}
+use Rattle.table_model.specs.declared.reply.Reply.{Reply}
+use Rattle.table_model.specs.Requests.{Request}
 use Rattle.ex_base.specs.declared.faults.Seen.{Seen}
 use Rattle.ex_base.specs.declared.names.PageNo.{PageNo}
 use Rattle.session_views.specs.declared.engine.Stop.{Stop}
@@ -10,8 +13,9 @@ use Rattle.session_core.specs.Sessions.{SessionState, IsSession}
 use Rattle.session_core.specs.Catalogs.{IsDamaged, FramesLend, catalog_bytes}
 use Rattle.object_files.specs.Catalog.{CatalogOf}
 use Rattle.session_core.specs.Meant.{meant}
-use Rattle.session_core.specs.Steps.{Stops}
-use Rattle.session_core.proofs.Quiet.{shown_lends}
+use Rattle.session_core.specs.Finding.{IfShown, IsOutside, LineStops}
+use Rattle.session_core.specs.Steps.{Steps, Stops, StepsQuietly}
+use Rattle.session_core.proofs.Quiet.{quiet_moments, shown_lends}
 use Rattle.session_core.proofs.Showing.{reads_catalog}
 
 -- ---- why it stops
@@ -31,3 +35,38 @@ sound_stop {a} b session before from now (stop.Damaged page want got) stops =
     let here = subst IsSession (sym from) session in
     let lends = subst (λ (s : SessionState). FramesLend a s) from (shown_lends now here.sizes) in
     absurd (stops.isnt before.disk now.holds lends now.shows.working.catalog (subst (λ (s : SessionState). CatalogOf (catalog_bytes s before.disk) now.shows.working.catalog) from (reads_catalog now.shows)))
+
+-- ---- why the catalog was not read
+
+pub unread_stops : (a b : Outside) (old : SessionState) (why : Stop) → Stops a b old why → LineStops a b why
+unread_stops a b old stop.Memory stops = stops
+unread_stops a b old stop.Disk stops = stops
+unread_stops a b old (stop.Damaged page want got) stops = damage_shows a old page want got stops
+unread_stops a b old stop.Down stops = stops
+
+outside_by : (why : Stop) → (why ≡ stop.Disk) ⊎ (why ≡ stop.Memory) → IsOutside why
+outside_by why (inl is) = subst IsOutside (sym is) tt
+outside_by why (inr is) = subst IsOutside (sym is) tt
+
+pub unread_outside : {a : Outside} {old : SessionState} (b : Outside) (why : Stop) → IsSession old → Stops a b old why → IfShown a old (λ before. IsOutside why)
+unread_outside b why is stops = λ before same now. outside_by why (sound_stop b is before same now why stops)
+
+-- ---- a step that writes nothing
+
+if_err : (P Q : Stop → Type 0) (result : Result Reply Stop) → ((why : Stop) → P why → Q why) → IfErr result P → IfErr result Q
+if_err P Q (Ok told) f has = tt
+if_err P Q (Err why) f has = f why has
+
+-- A quiet step is a step.
+pub quietly : {a b : Outside} {old new : SessionState} (r : Request) (result : Result Reply Stop) → IsWorld a → IsSession old → StepsQuietly a b old new r result → Steps a b old new r result
+quietly {a} {b} {old} r result world session quiet = record {
+  only = quiet.reads.nothing.only;
+  geometry = quiet.geometry;
+  down = quiet.down;
+  stops = if_err (Stops a b old) (LineStops a b) result (unread_stops a b old) quiet.stops;
+  sound = if_err (Stops a b old) (λ why. IfShown a old (λ before. IsOutside why)) result (λ why stops. unread_outside b why session stops) quiet.stops;
+  refused = quiet.refused;
+  quiet = λ _. (quiet.reads, quiet.log);
+  stepped = quiet.stepped;
+  any_moment = λ before same now. quiet_moments r world quiet.reads before now;
+}

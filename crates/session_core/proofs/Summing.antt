@@ -41,7 +41,8 @@ use Rattle.session_core.specs.Sessions.{IsSession, SessionState, held}
 use Rattle.session_core.specs.Steps.{OnlyFrames, Stops}
 use Rattle.session_core.specs.Summaries.{IfCatalog, SumsUp, oids_in}
 use Rattle.session_core.proofs.Accepted.{ReadsCatalog, shown_on, used_is}
-use Rattle.session_core.proofs.Listing.{on_after, unread_outside, unread_stops}
+use Rattle.session_core.proofs.Listing.{on_after}
+use Rattle.session_core.proofs.Stopping.{unread_outside, unread_stops}
 use Rattle.session_core.proofs.Naming.{frames_twice, later_stops}
 use Rattle.session_core.proofs.Quiet.{nothing_changed, same_view, shown_lends, with_groups}
 use Rattle.session_core.proofs.Showing.{held_catalog, reads_catalog, session_geometry}

@@ -1,5 +1,5 @@
 -- The flags of a session's logged pages go on being those of its pages.
-use Rattle.std.proofs.Common.{◌≡◌, ◌≢◌, ◌∙◌, ℕ, Bool, true, false, not, ◌&&◌, List, [], Option, Some, None, nat_eq, refl, sym, ap, inl, inr, ⊎_elim, arith}
+use Rattle.std.proofs.Common.{◌≡◌, ◌≢◌, ◌∙◌, ℕ, Bool, true, false, List, [], Option, Some, None, nat_eq, refl, sym, ap, inl, inr, ⊎_elim, arith}
 use Rattle.std.specs.Map.{lookup}
 use Rattle.std.proofs.lemmas.Bool.{cases_eq, both_ways}
 use Rattle.ex_base.specs.declared.geometry.Geometry.{Geometry}
@@ -20,18 +20,6 @@ pub bits_same : (a b : Bool) → (a ≡ true → b ≡ true) → (b ≡ true →
 bits_same true b f g = sym (f refl)
 bits_same false true f g = absurd (cc (g refl))
 bits_same false false f g = refl
-
--- no page was taken where the working state has those of the committed one
-pub none_taken : (held kept : Bool) → kept ≡ held → (held && not kept) ≡ false
-none_taken true true same = refl
-none_taken false kept same = refl
-none_taken true false same = absurd (cc)
-
--- what was taken is there, and the committed state hasn't it
-pub taken_is : (held kept : Bool) → (held && not kept) ≡ true → (held ≡ true) × (kept ≡ false)
-taken_is true false took = (refl, refl)
-taken_is true true took = absurd (cc)
-taken_is false kept took = absurd (cc)
 
 -- what holds of each page with an image holds of a touched page that is there
 pub held_there : {P : Type 0} (row : Option (Option (List ℕ))) → ((image : List ℕ) → row ≡ Some (Some image) → P) → is_there row ≡ true → P

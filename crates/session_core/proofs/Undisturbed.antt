@@ -14,15 +14,15 @@ use Rattle.volume_model.specs.Durable.{IsDurable}
 use Rattle.session_views.specs.View.{View, ShowsNow}
 use Rattle.session_core.specs.Meant.{meant}
 use Rattle.session_core.specs.Sessions.{IsSession, SessionState}
-use Rattle.session_core.specs.Updates.{WritesLoose}
+use Rattle.session_core.specs.Updates.{WritesUnused}
 use Rattle.session_core.proofs.Showing.{session_geometry}
 use Rattle.session_core.proofs.Updating.{changes_now, counted_now, reach_settled, update_stays}
 
 -- what was read at most wrote nowhere
-pub writes_nowhere : {a b : Outside} (s : SessionState) → ReadsOnly a b → WritesLoose a b s
+pub writes_nowhere : {a b : Outside} (s : SessionState) → ReadsOnly a b → WritesUnused a b s
 writes_nowhere s reads = changes_nothing (InRest s.geometry (used_at s.units) NoUnit) reads.nothing
 
-module _ {a b : Outside} {before : View SessionState} (now : ShowsNow meant a before) (session : IsSession before.session) (writes : WritesLoose a b before.session) where
+module _ {a b : Outside} {before : View SessionState} (now : ShowsNow meant a before) (session : IsSession before.session) (writes : WritesUnused a b before.session) where
   -- No byte is written that a crash image rests on.
   pub durable_unwritten : ChangesWithin (λ i. IsDurable now.shows.decoded before.disk i → ⊥) a b
   durable_unwritten =

@@ -1,5 +1,5 @@
--- What a commit leaves in the log, and what a session stops at where a transaction could not be committed.
-use Rattle.std.specs.Prelude.{◌≡◌, ◌⊎◌, ℕ, ◌+◌, List, [], ◌∷◌, ◌++◌, Some}
+-- What a commit leaves in the log and of the units, and what a session stops at where a transaction could not be committed.
+use Rattle.std.specs.Prelude.{◌≡◌, ◌⊎◌, ◌↔◌, ℕ, ◌+◌, true, Contains, List, [], ◌∷◌, ◌++◌, Some}
 use Rattle.ex_base.specs.Area.{catalog_no}
 use Rattle.disk_model.specs.Outside.{Outside}
 use Rattle.object_files.specs.Catalog.{CatalogOf}
@@ -9,7 +9,10 @@ use Rattle.op_log.specs.AfterLog.{logged}
 use Rattle.op_log.specs.Log.{DiskSays}
 use Rattle.op_log.specs.declared.record.LogRecord.{LogRecord}
 use Rattle.volume_model.specs.Committed.{HasNoRoom, IsRecordOf}
-use Rattle.volume_model.specs.Volume.{Decoded, Volume}
+use Rattle.page_alloc.specs.UnitSet.{UnitSet, used_at}
+use Rattle.session_views.specs.View.{View}
+use Rattle.volume_model.specs.Shown.{working_units}
+use Rattle.volume_model.specs.Volume.{Decoded, Volume, reach_of, units_of}
 use Rattle.session_core.specs.Sessions.{SessionState}
 use Rattle.commits.specs.declared.keep.CommitFault.{CommitFault}
 use Rattle.commits.specs.declared.keep.CommitFault.TheVariants as fault
@@ -31,3 +34,15 @@ pub record LogsCommit (d : Decoded) (working : Volume) (s : SessionState) (w : O
   pub rule : IsRecordOf (λ page. logged earlier page) (working.catalog.last + 1) s.notes (with_row catalog_no (Some catalog) s.meta.working) made
   pub anew : (earlier ≡ d.records → ⊥) → HasNoRoom d (with_row catalog_no (Some catalog) s.meta.working) (working.catalog.last + 1) s.notes
   pub says : DiskSays s.geometry w (earlier ++ made ∷ [])
+
+-- In use are exactly the units that are reached.
+abbrev pub JustReached : UnitSet → List ℕ → Type 0
+JustReached units reached = (unit : ℕ) → (used_at units unit ≡ true) ↔ Contains reached unit
+
+-- what the committed volume reaches on a disk that decodes so
+abbrev pub committed_reach : Decoded → List ℕ → List ℕ
+committed_reach d disk = reach_of (units_of d disk) d.volume
+
+-- what the working volume of a session reaches, over its working pages
+abbrev pub working_reach : Decoded → View SessionState → Volume → List ℕ
+working_reach d before working = reach_of (working_units d before.disk before.session.meta.working) working

@@ -7,6 +7,7 @@ pub mod Counts
 pub mod Needs
 pub mod TableUpdates
 pub mod Performed
+pub mod Turning
 pub mod Rooms
 pub mod Updates
 pub mod Commits

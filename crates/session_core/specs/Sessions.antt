@@ -1,12 +1,12 @@
 -- What a session is made of, and what holds of its parts.
-use Rattle.std.specs.Prelude.{◌≡◌, ◌⊎◌, ◌↔◌, ◌<◌, ◌≤◌, ◌++◌, ◌∷◌, ◌-◌, ◌^◌, ◌&&◌, ℕ, Bool, true, false, not, is_some, List, [], length, map, replicate, All, Contains, Option, Some, None, nat_eq, slice_index_or}
+use Rattle.std.specs.Prelude.{◌≡◌, ◌⊎◌, ◌<◌, ◌≤◌, ◌++◌, ◌∷◌, ◌-◌, ◌^◌, ℕ, Bool, true, false, is_some, List, [], length, map, replicate, All, Option, Some, None, nat_eq, slice_index_or}
 use Rattle.std.specs.List.{AllByRecursion}
 use Rattle.std.specs.Map.{lookup}
 use Rattle.ex_base.specs.declared.geometry.Geometry.{Geometry}
 use Rattle.ex_base.specs.declared.names.OpNote.{OpNote}
-use Rattle.ex_base.specs.declared.names.PageNo.{PageNo}
+use Rattle.ex_base.specs.declared.names.Root.{Root}
 use Rattle.ex_base.specs.declared.names.Area.{Area}
-use Rattle.ex_base.specs.Area.{InPageArea, area_end, catalog_no}
+use Rattle.ex_base.specs.Area.{area_end, catalog_no}
 use Rattle.ex_base.specs.declared.notes.NoteKind.{NoteKind}
 use Rattle.op_log.specs.Records.{IsNote}
 use Rattle.op_log.specs.State.{LogState}
@@ -26,7 +26,8 @@ use Rattle.volume_port.specs.Ported.{IsUsed}
 use Rattle.commits.specs.Room.{IsLogged, AreBehindLog}
 
 -- the value of a session: its parts, the logged pages of the working state and of the committed one, a page that the port lends, the notes of the open
--- transaction's updates, the bound names, whether a transaction is open, and whether the session is down
+-- transaction's updates, the roots of trees that these made and that the working state has still, those of the committed state that it lost, the bound names,
+-- whether a transaction is open, and whether the session is down
 pub record SessionState : Type 0 where
   pub geometry : Geometry
   pub log : LogState
@@ -37,6 +38,8 @@ pub record SessionState : Type 0 where
   pub groups : List Frames
   pub room : List ℕ
   pub notes : List OpNote
+  pub gained : List Root
+  pub lost : List Root
   pub names : List BoundName
   pub opened : Bool
   pub down : Bool
@@ -56,9 +59,11 @@ held s = record {
   group_rows = [];
   frames = map (λ (f : Frames). f.entries) s.groups;
   used = used_at s.units;
+  refs = refs_at s.units;
+  gained = s.gained;
+  lost = s.lost;
   held = is_held s.pages;
   kept = is_kept s.kept;
-  taken = λ page. is_held s.pages page && not (is_kept s.kept page);
   overlay = s.meta.committed;
   log = s.log;
   opened = s.opened;
@@ -77,6 +82,8 @@ fresh_session geometry log meta pages units groups = record {
   groups = groups;
   room = replicate geometry.page_size 0;
   notes = [];
+  gained = [];
+  lost = [];
   names = [];
   opened = false;
   down = false;
@@ -86,17 +93,28 @@ fresh_session geometry log meta pages units groups = record {
 abbrev pub begun : SessionState → List ℕ → SessionState
 begun s page = record s { meta = record s.meta { working = (catalog_no, Some page) ∷ [] }; notes = []; opened = true }
 
--- after the transaction was given up, with these logged pages and units: no page is touched, and the names that it bound are unbound
-abbrev pub aborted : SessionState → LoggedSet → UnitSet → SessionState
-aborted s pages units = record s { meta = record s.meta { working = [] }; pages = pages; units = units; notes = []; names = kept s.names; opened = false }
+-- after the transaction was given up, with these logged pages, units and frames: no page is touched, no root was gained or lost, and the names that it
+-- bound are unbound
+abbrev pub aborted : SessionState → LoggedSet → UnitSet → List Frames → SessionState
+aborted s pages units groups = record s {
+  meta = record s.meta { working = [] };
+  pages = pages;
+  units = units;
+  groups = groups;
+  notes = [];
+  gained = [];
+  lost = [];
+  names = kept s.names;
+  opened = false;
+}
 
--- Of the units none became used, and of those that were used these are still, and those that have references.
+-- Of the units none became used, and of those that were used these are still, and those that have references. Each has the references that it had.
 pub record OnlyGives (safe : ℕ → Type 0) (old new : UnitSet) : Type 0 where
   pub geometry : new.geometry ≡ old.geometry
   pub used : (unit : ℕ) → used_at new unit ≡ true → used_at old unit ≡ true
   pub stays : (unit : ℕ) → used_at old unit ≡ true → safe unit → used_at new unit ≡ true
   pub owned : (unit : ℕ) → used_at old unit ≡ true → 1 ≤ refs_at new unit → used_at new unit ≡ true
-  pub refs : (unit : ℕ) → refs_at new unit ≤ refs_at old unit
+  pub refs : (unit : ℕ) → refs_at new unit ≡ refs_at old unit
   pub free : (area : Area) → free_count old.geometry (used_at old) area ≤ free_count new.geometry (used_at new) area
 
 -- whether a touched page is there: it has an image
@@ -117,24 +135,15 @@ pub record TakenBack (rows : List WorkingRow) (kept : List Bool) (old new : Logg
   pub units : OnlyGives (λ unit. WasTaken rows kept unit → ⊥) before after
   pub freed : (page : ℕ) → WasTaken rows kept page → refs_at before page ≡ 0 → used_at after page ≡ false
 
--- the numbers of pages
-abbrev pub numbers_of : List PageNo → List ℕ
-numbers_of pages = map (λ (page : PageNo). page.0) pages
+-- The transaction gave the page back, and the committed state hasn't it.
+abbrev pub WasGivenBack : List WorkingRow → List Bool → ℕ → Type 0
+WasGivenBack rows kept page = (lookup (nat_eq page) rows ≡ Some None) × (is_kept kept page ≡ false)
 
--- These are the touched pages that are there.
-pub record AreThere (g : Geometry) (rows : List WorkingRow) (pages : List PageNo) : Type 0 where
-  pub area : AllByRecursion (λ (page : PageNo). InPageArea g page.0) pages
-  pub there : (page : ℕ) → Contains (numbers_of pages) page ↔ (is_there (lookup (nat_eq page) rows) ≡ true)
-
--- The page is one of these, is there no more, and the committed state hasn't it.
-abbrev pub WasGivenBack : List ℕ → LoggedSet → List Bool → ℕ → Type 0
-WasGivenBack before pages kept page = Contains before page × (is_held pages page ≡ false) × (is_kept kept page ≡ false)
-
--- Of the units none is given back but pages that were there before an update, are there no more, and that the committed state hasn't. Each of them is
--- free, where no node names it.
-pub record Swept (before : List ℕ) (pages : LoggedSet) (kept : List Bool) (old new : UnitSet) : Type 0 where
-  pub units : OnlyGives (λ unit. WasGivenBack before pages kept unit → ⊥) old new
-  pub freed : (page : ℕ) → WasGivenBack before pages kept page → refs_at old page ≡ 0 → used_at new page ≡ false
+-- Of the units none is given back but pages that the transaction gave back and that the committed state hasn't. Each of them is free, where no node names
+-- it.
+pub record Swept (rows : List WorkingRow) (kept : List Bool) (old new : UnitSet) : Type 0 where
+  pub units : OnlyGives (λ unit. WasGivenBack rows kept unit → ⊥) old new
+  pub freed : (page : ℕ) → WasGivenBack rows kept page → refs_at old page ≡ 0 → used_at new page ≡ false
 
 -- What a commit leaves of the logged pages: those with an image are the committed state's, those that were given back are not, and of the units none is
 -- given back but pages of the committed state that the transaction gave back. Each of them is free, where no node names it.
@@ -183,7 +192,8 @@ pub record ArePagesUsed (used : ℕ → Bool) (pages : LoggedSet) (kept : List B
   pub committed : (page : ℕ) → is_kept kept page ≡ true → used page ≡ true
 
 -- What holds of every session: its parts are of one geometry, and `main` is among the groups; its logged pages are used; log, overlay and frames are such
--- that a commit can be made; an open transaction is within its limits, and has a working catalog. Without one no page is touched.
+-- that a commit can be made; an open transaction is within its limits, and has a working catalog; each of its updates gains and loses one root at most.
+-- Without one no page is touched, and no root is gained or lost.
 pub record IsSession (s : SessionState) : Type 0 where
   pub log : s.log.geometry ≡ s.geometry
   pub meta : s.meta.geometry ≡ s.geometry
@@ -197,7 +207,9 @@ pub record IsSession (s : SessionState) : Type 0 where
   pub behind : AreBehindLog s.groups
   pub few_notes : length s.notes ≤ updates_most
   pub notes : AllByRecursion IsNote s.notes
+  pub few_gained : length s.gained ≤ length s.notes
+  pub few_lost : length s.lost ≤ length s.notes
   pub few_pages : length s.meta.working ≤ touched_most
   pub in_order : IsRising s.meta.working
   pub work : s.opened ≡ true → HasWork s.meta
-  pub idle : s.opened ≡ false → s.meta.working ≡ []
+  pub idle : s.opened ≡ false → (s.meta.working ≡ []) × (s.gained ≡ []) × (s.lost ≡ [])

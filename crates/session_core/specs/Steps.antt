@@ -11,6 +11,7 @@ use Rattle.session_views.specs.declared.engine.Stop.{Stop}
 use Rattle.session_views.specs.View.{View, ShowsNow, Stepped, StandsDuring}
 use Rattle.session_core.specs.Sessions.{SessionState}
 use Rattle.session_core.specs.Catalogs.{FramesLend, ReadingStops, catalog_bytes}
+use Rattle.session_core.specs.Finding.{IfShown, IsOutside, LineStops}
 use Rattle.session_core.specs.Meant.{meant}
 
 -- The disk was read at most, and nothing of the session changed but its frames, which still have the bytes of their pages, and are
@@ -53,7 +54,8 @@ pub record Steps (a b : Outside) (old new : SessionState) (r : Request) (result 
   pub only : DiskOnly a b
   pub geometry : new.geometry ≡ old.geometry
   pub down : new.down ≡ old.down
-  pub stops : IfErr result (Stops a b old)
+  pub stops : IfErr result (LineStops a b)
+  pub sound : IfErr result (λ why. IfShown a old (λ before. IsOutside why))
   pub refused : IfOk result (λ told. IsRefused told → OnlyFrames a b old new)
   pub quiet : IsQuiet r → ReadsOnly a b × (new.log ≡ old.log)
   pub stepped : (before : View SessionState) → before.session ≡ old → ShowsNow meant a before → IfOk result (λ told. Stepped meant before r told new b)

@@ -1,5 +1,5 @@
 -- What an update does with the parts of a session, and what it makes of the volume.
-use Rattle.std.specs.Prelude.{◌≡◌, ◌≤◌, ◌++◌, ◌∷◌, [], ℕ, Bool, true, false, List, length, Some, None, nat_eq, Result, Ok, Err, ⊤}
+use Rattle.std.specs.Prelude.{◌≡◌, ◌≤◌, ◌++◌, ◌∷◌, [], ℕ, Bool, true, false, List, length, Some, None, nat_eq, Option, Result, Ok, Err, All, IsTrue, ⊤}
 use Rattle.std.specs.Map.{lookup}
 use Rattle.ex_base.specs.declared.geometry.Geometry.{Geometry}
 use Rattle.ex_base.specs.Area.{area_end, catalog_no}
@@ -9,8 +9,9 @@ use Rattle.ex_base.specs.declared.names.Oid.{Oid}
 use Rattle.ex_base.specs.declared.names.OpNote.{OpNote}
 use Rattle.table_model.specs.Tables.{IsTable}
 use Rattle.disk_model.specs.Outside.{Outside}
+use Rattle.ex_base.specs.declared.names.Root.{Root}
 use Rattle.disk_model.specs.Changes.{ChangesWithin}
-use Rattle.buffer_groups.specs.Frames.{Frames}
+use Rattle.buffer_groups.specs.Frames.{Frames, Lends}
 use Rattle.meta_pages.specs.Overlays.{Overlays}
 use Rattle.page_alloc.specs.UnitSet.{UnitSet, used_at}
 use Rattle.tree_store.specs.Stored.{Fits, InRest, NoUnit, Tells}
@@ -30,7 +31,11 @@ use Rattle.session_core.specs.Needs.{fits_beside, size_after, units_need}
 use Rattle.session_core.specs.Finding.{TellsVersion}
 use Rattle.session_core.specs.Meant.{meant, held_view}
 use Rattle.session_core.specs.Counts.{free_in}
-use Rattle.session_core.specs.Sessions.{OnlyGives, SessionState, IsSession, is_kept}
+use Rattle.session_core.specs.Sessions.{SessionState, IsSession, Swept}
+use Rattle.session_core.specs.Turning.{RootsTurned, TakenOut}
+use Rattle.volume_model.specs.Held.{root_here}
+use Rattle.volume_port.specs.GivingUp.{CountsRoot, OwnRoots}
+use Rattle.volume_port.specs.Giving.{is_logged}
 use Rattle.volume_port.specs.Logged.{LoggedSet, is_held}
 use Rattle.volume_port.specs.Ported.{IsKnown, IsUntouched, IsUsed}
 
@@ -54,9 +59,9 @@ pub record AreReady (g : Geometry) (disk_size : ℕ) (p : PortParts) : Type 0 wh
   pub images : (page : ℕ) (image : List ℕ) → lookup (nat_eq page) p.meta.working ≡ Some (Some image) → is_held p.pages page ≡ true
   pub gone : (page : ℕ) → lookup (nat_eq page) p.meta.working ≡ Some None → is_held p.pages page ≡ false
 
--- The page was there, is there no more, and the committed state hasn't it.
-abbrev pub WasSwept : List Bool → PortParts → PortParts → ℕ → Type 0
-WasSwept kept old new page = (is_held old.pages page ≡ true) × (is_held new.pages page ≡ false) × (is_kept kept page ≡ false)
+-- Neither the working state nor the committed one has the unit as a logged page.
+abbrev pub IsLoose : LoggedSet → List Bool → ℕ → Type 0
+IsLoose pages kept unit = is_logged pages kept unit ≡ false
 
 -- What an update leaves of the parts of a port: no unit was given back that isn't of the set, on the disk nothing changed but bytes of units that weren't in
 -- use, and the committed images are the same. A page that is there no more was given back, and one that is there untouched was so before.
@@ -70,8 +75,8 @@ pub record Moved (freed : ℕ → Type 0) (a b : Outside) (g : Geometry) (old ne
   pub ready : AreReady g b.size new
 
 -- On the disk nothing changed but bytes of units that are not in use.
-abbrev pub WritesLoose : Outside → Outside → SessionState → Type 0
-WritesLoose a b s = ChangesWithin (InRest s.geometry (used_at s.units) NoUnit) a b
+abbrev pub WritesUnused : Outside → Outside → SessionState → Type 0
+WritesUnused a b s = ChangesWithin (InRest s.geometry (used_at s.units) NoUnit) a b
 
 -- the note of an update, of the version with this OID
 abbrev pub note_with : OpNote → Oid → OpNote
@@ -99,39 +104,58 @@ pub record MachineWith (old m : Machine) (new : SessionState) (table : Table) : 
   pub segs : m.segs_used ≡ used_in new.geometry (used_at new.units) Segment
   pub touched : m.touched ≡ length new.meta.working
 
--- The session after the update has these parts, and of the rest what the committed state is of.
-pub record KeepsRest (old new : SessionState) (p : PortParts) : Type 0 where
+-- The session after the update has these parts and roots, and of the rest what the committed state is of.
+pub record KeepsRest (old new : SessionState) (p : PortParts) (gains loses : List Root) : Type 0 where
   pub is : IsSession new
   pub parts : parts_held new ≡ p
+  pub gained : new.gained ≡ gains
+  pub lost : new.lost ≡ loses
   pub geometry : new.geometry ≡ old.geometry
   pub log : new.log ≡ old.log
   pub kept : new.kept ≡ old.kept
 
--- The parts hold a volume with this table, which keeps the rules: each session that has them shows it, on what the disk holds, with a machine that has it as its working table.
-pub record HoldsTable (before : View SessionState) (b : Outside) (p : PortParts) (table : Table) : Type 0 where
+-- The parts hold a volume with this table, which keeps the rules, and these roots were gained and lost: each session that has them shows it, on what the
+-- disk holds, with a machine that has it as its working table.
+pub record HoldsTable (before : View SessionState) (b : Outside) (p : PortParts) (gained lost : List Root) (table : Table) : Type 0 where
   pub later : List ℕ
   pub holds : b.disk ≡ Some later
   pub rules : IsTable before.session.geometry table
-  pub shows : (m : Machine) (new : SessionState) → KeepsRest before.session new p → MachineWith before.machine m new table → Shared (held_view (record { machine = m; session = new; disk = later }))
-      → Shows b.images (held_view (record { machine = m; session = new; disk = later }))
+  pub shows : (m : Machine) (new : SessionState) → KeepsRest before.session new p gained lost → MachineWith before.machine m new table
+      → Shared (held_view (record { machine = m; session = new; disk = later })) → Shows b.images (held_view (record { machine = m; session = new; disk = later }))
 
--- The session after the update has these parts, but that pages may be free which the update gave back and which the committed state hasn't. Of the rest it
--- has what the committed state is of.
-pub record KeepsSwept (old new : SessionState) (p : PortParts) : Type 0 where
+-- The session after the update has these parts, but that its roots were turned by the one that went and the one that came, and that the pages are free which
+-- the transaction gave back and which the committed state hasn't. Its frames lend what the disk has. Of the rest it has what the committed state is of.
+pub record KeepsTurned (old new : SessionState) (b : Outside) (p : PortParts) (gone come : Option Root) : Type 0 where
   pub is : IsSession new
-  pub units : OnlyGives (λ unit. WasSwept old.kept (parts_held old) p unit → ⊥) p.units new.units
-  pub parts : parts_held new ≡ record p { units = new.units }
+  pub lends : Tells b p.groups → All (Lends b.disk) new.groups
+  pub left : UnitSet
+  pub turned : RootsTurned p.pages old.kept old.geometry b p.groups p.units left old.gained new.gained old.lost new.lost gone come
+  pub swept : Swept p.meta.working old.kept left new.units
+  pub parts : parts_held new ≡ record p { units = new.units; groups = new.groups }
   pub geometry : new.geometry ≡ old.geometry
   pub log : new.log ≡ old.log
   pub kept : new.kept ≡ old.kept
 
--- The parts hold a volume with this table, which keeps the rules, also once pages are free that the update gave back.
-pub record HoldsSwept (before : View SessionState) (b : Outside) (p : PortParts) (table : Table) : Type 0 where
+-- Where the root that went was gained, it owns its tree beside others, also once the one that came is counted.
+abbrev pub OwnsGone : View SessionState → Outside → PortParts → Option Root → Option Root → Type 0
+OwnsGone before b p gone come = (counted : UnitSet) (rest : List Root) → CountsRoot come p.units counted → TakenOut before.session.gained rest gone
+    → OwnRoots p.pages before.session.kept before.session.geometry b p.groups counted (root_here gone)
+
+-- On an honest disk the parts hold a volume with this table, which keeps the rules, also once the roots are turned and the pages are free that were given
+-- back.
+pub record HoldsTurned (before : View SessionState) (b : Outside) (p : PortParts) (gone come : Option Root) (table : Table) : Type 0 where
   pub later : List ℕ
   pub holds : b.disk ≡ Some later
+  pub honest : IsTrue b.honest
   pub rules : IsTable before.session.geometry table
-  pub shows : (m : Machine) (new : SessionState) → KeepsSwept before.session new p → MachineWith before.machine m new table → Shared (held_view (record { machine = m; session = new; disk = later }))
-      → Shows b.images (held_view (record { machine = m; session = new; disk = later }))
+  pub shows : (m : Machine) (new : SessionState) → KeepsTurned before.session new b p gone come → MachineWith before.machine m new table
+      → Shared (held_view (record { machine = m; session = new; disk = later })) → Shows b.images (held_view (record { machine = m; session = new; disk = later }))
+
+-- The session has these flags of the committed state, and these roots.
+pub record HasRoots (s : SessionState) (flags : List Bool) (gains loses : List Root) : Type 0 where
+  pub kept : s.kept ≡ flags
+  pub gained : s.gained ≡ gains
+  pub lost : s.lost ≡ loses
 
 -- The session has these parts, of this geometry.
 pub record HasPortParts (s : SessionState) (g : Geometry) (p : PortParts) : Type 0 where
@@ -139,10 +163,19 @@ pub record HasPortParts (s : SessionState) (g : Geometry) (p : PortParts) : Type
   pub geometry : s.geometry ≡ g
   pub parts : parts_held s ≡ p
 
--- An update was noted, and of the rest of the session nothing changed but the parts of its port.
+-- An update was noted, and of the rest of the session nothing changed but the parts of its port and the roots that were gained and lost.
 pub record Noted (old new : SessionState) (noted : OpNote) : Type 0 where
   pub is : IsSession new
-  pub same : new ≡ record old { units = new.units; groups = new.groups; meta = new.meta; pages = new.pages; room = new.room; notes = old.notes ++ noted ∷ [] }
+  pub same : new ≡ record old {
+    units = new.units;
+    groups = new.groups;
+    meta = new.meta;
+    pages = new.pages;
+    room = new.room;
+    notes = old.notes ++ noted ∷ [];
+    gained = new.gained;
+    lost = new.lost;
+  }
 
 -- ---- what an update asks of the session
 

@@ -10,12 +10,13 @@ mod objects;
 mod settle;
 mod shapes;
 mod summary;
+mod turning;
 
 use crate::updates::Rooms;
 use bound_names::NameMap;
 use buffer_groups::Groups;
 pub use catalog::view_of;
-use ex_base::{Geometry, OpNote};
+use ex_base::{Geometry, OpNote, Root};
 use meta_pages::Meta;
 pub use moving::Limit;
 pub use objects::Named;
@@ -57,6 +58,10 @@ pub struct Session {
     room: Vec<u8>,
     // of the open transaction's updates
     notes: Vec<OpNote>,
+    // roots of trees that the open transaction made, and that the working state has still
+    gained: Vec<Root>,
+    // roots of the committed state that the open transaction gave up
+    lost: Vec<Root>,
     names: NameMap,
     // of the working state's files, and no part of what contracts see
     rooms: Rooms,
@@ -71,9 +76,9 @@ impl Model for Session {
 
     ghost Value = { SessionState };
 
-    ghost view = { λ s. record { geometry = s.geometry; log = s.log; meta = s.meta; pages = s.pages; kept = s.kept; units = s.units; groups = s.groups; room = s.room.items; notes = s.notes.items; names = s.names; opened = s.opened; down = s.down } };
+    ghost view = { λ s. record { geometry = s.geometry; log = s.log; meta = s.meta; pages = s.pages; kept = s.kept; units = s.units; groups = s.groups; room = s.room.items; notes = s.notes.items; gained = s.gained.items; lost = s.lost.items; names = s.names; opened = s.opened; down = s.down } };
 
-    ghost invariant = { λ s. IsSession (record { geometry = s.geometry; log = s.log; meta = s.meta; pages = s.pages; kept = s.kept; units = s.units; groups = s.groups; room = s.room.items; notes = s.notes.items; names = s.names; opened = s.opened; down = s.down }) };
+    ghost invariant = { λ s. IsSession (record { geometry = s.geometry; log = s.log; meta = s.meta; pages = s.pages; kept = s.kept; units = s.units; groups = s.groups; room = s.room.items; notes = s.notes.items; gained = s.gained.items; lost = s.lost.items; names = s.names; opened = s.opened; down = s.down }) };
 }
 
 impl Session {
@@ -126,6 +131,8 @@ impl Session {
             groups,
             room,
             notes: Vec::new(alloc),
+            gained: Vec::new(alloc),
+            lost: Vec::new(alloc),
             names: NameMap::new(alloc),
             rooms: Rooms::new(alloc),
             opened: false,

@@ -1,4 +1,4 @@
--- Accepted commands on files and counts, and an accepted abort. None writes.
+-- Accepted commands on files and counts. None writes.
 use Rattle.std.proofs.Common.{◌≡◌, ◌≢◌, ◌∙◌, ℕ, true, List, [], ◌∷◌, ◌++◌, length, map, Option, Some, None, nat_eq, Ok, ⊎_elim, refl, sym, ap, subst, inl, arith}
 use Rattle.std.specs.Prelude.{IsTrue, Contains, find}
 use Rattle.std.specs.Map.{lookup}
@@ -11,7 +11,6 @@ use Rattle.ex_base.specs.Order.{Rising}
 use Rattle.disk_model.specs.Outside.{Outside}
 use Rattle.buffer_groups.specs.Frames.{Frames}
 use Rattle.meta_pages.specs.Rows.{with_row}
-use Rattle.page_alloc.specs.UnitSet.{UnitSet, used_at}
 use Rattle.object_files.specs.Catalog.{Catalog, CatalogOf, name_of}
 use Rattle.object_files.specs.Edits as edits
 use Rattle.object_files.specs.Reads.{catalog_on}
@@ -24,16 +23,15 @@ use Rattle.table_model.specs.declared.reply.Refusal.{Refusal}
 use Rattle.table_model.specs.Requests.{Request}
 use Rattle.table_model.specs.Requests as request
 use Rattle.table_model.specs.Words.{is_name}
-use Rattle.table_model.specs.Machines.{shown, kept, no_oid}
+use Rattle.table_model.specs.Machines.{shown, no_oid}
 use Rattle.table_model.specs.Refusals.{refusal_of, has_objects}
 use Rattle.table_model.specs.Steps.{Step, note}
 use Rattle.table_model.specs.Tables.{with_file, without_file}
-use Rattle.table_model.proofs.StepsKeep.{steps_keep}
 use Rattle.session_views.specs.View.{View, ShowsNow, Stepped}
-use Rattle.volume_model.specs.Shown.{WorkingRow, WorkingShown, IsWorkingPage, used_in, working_units}
+use Rattle.volume_model.specs.Shown.{WorkingRow, WorkingShown, IsWorkingPage, working_units}
 use Rattle.volume_model.specs.Parts.{IsLastOf, HasIndex}
 use Rattle.volume_model.specs.Volume.{Stored, Volume, file_pages, stored_in, roots_in, table_of}
-use Rattle.session_core.specs.Sessions.{SessionState, held, IsSession, TakenBack, aborted, updated}
+use Rattle.session_core.specs.Sessions.{SessionState, held, IsSession, updated}
 use Rattle.session_core.specs.Catalogs.{FramesLend}
 use Rattle.session_core.specs.Meant.{meant, pick_of, held_view}
 use Rattle.session_core.specs.Counts.{used_of}
@@ -43,47 +41,18 @@ use Rattle.transactions.proofs.Files.{no_pages_there}
 use Rattle.transactions.proofs.Unfiled.{volume_without, all_of, not_empty_as, gone_of, pages_without, stored_without, others_without, table_without_file}
 use Rattle.session_core.specs.Steps.{OnlyFrames, StepsQuietly}
 use Rattle.session_core.proofs.Volumes.{names_shown, shown_parts}
-use Rattle.session_core.proofs.KeptOff.{Others, others_kept, trees_off, table_off}
+use Rattle.session_core.proofs.KeptOff.{Others, others_kept, table_off}
 use Rattle.transactions.proofs.Filed.{volume_with, pages_with, stored_with, others_with, table_with_file}
-use Rattle.session_core.proofs.Ending.{fewer_used, shows_aborted}
-use Rattle.volume_port.specs.Logged.{LoggedSet}
 use Rattle.volume_port.proofs.WorkingRows.{put_other}
 use Rattle.std.proofs.lemmas.Bool.{cases_eq}
-use Rattle.std.specs.List.{flat_map}
-use Rattle.trees.specs.Trees.{root_units}
 use Rattle.session_core.proofs.Showing.{view_of, WorksAs, shows_catalog, session_geometry}
-use Rattle.session_core.proofs.Quiet.{quiet_refusal, nothing_changed, shown_lends, later_frames, left_before, now_after, same_view, with_groups}
-use Rattle.transactions.proofs.Refusing.{same_counts, abort_accepted, file_refused, unfile_refused}
+use Rattle.session_core.proofs.Quiet.{quiet_refusal, nothing_changed, shown_lends, same_view, with_groups}
+use Rattle.transactions.proofs.Refusing.{same_counts, file_refused, unfile_refused}
 use Rattle.session_core.proofs.Working.{lookup_put, firsts_put, each_put, images_of_files, working_image, same_off}
 use Rattle.ex_base.proofs.Options.{some_apart_inside}
 use Rattle.ex_base.specs.declared.notes.NoteKind.TheVariants as note_kind
 use Rattle.ex_base.specs.declared.notes.NoteKind.{NoteKind}
 use Rattle.session_core.proofs.Accepted.{LaterFrames, ReadsCatalog, accepted_quietly, later_of, shown_on, stepped_by, took_place, used_is}
-
--- ---- abort
-
-pub abort_steps : {a b : Outside} {before : View SessionState} (now : ShowsNow meant a before) (new : SessionState) (pages : LoggedSet) (units : UnitSet) → aborted before.session pages units ≡ new
-    → LaterFrames a b before.session before.session.groups → IsSession before.session → before.session.opened ≡ true → TakenBack before.session.meta.working before.session.kept before.session.pages pages before.session.units units
-    → Stepped meant before request.Abort reply.Abort new b
-abort_steps {a} {b} {before} now new pages units same frames session opened back =
-    let m = before.machine in
-    let g = now.shows.decoded.geometry in
-    let s = aborted before.session pages units in
-    let after : Machine = record m { names = kept m.names; working = None; notes = []; touched = 0; pages_used = used_in g (used_at units) Page; segs_used = used_in g (used_at units) Segment } in
-    let q = pick_of (held_view before) request.Abort (view_of after (held s) before.disk) in
-    let fewer = fewer_used now.shows session units back.units in
-    let step : Step m request.Abort q reply.Abort after =
-    took_place m after request.Abort q reply.Abort (abort_accepted before q now.shows.shared.open_txn opened) refl refl (record { pages = fewer.pages; segs = fewer.segs }, λ none. absurd (cc)) in
-    let rules = steps_keep m request.Abort q reply.Abort after now.shows.rules refl step in
-    let shown_frames = later_frames now s.groups frames.sizes frames.later frames.lends in
-    record {
-      after = record { machine = after; session = s; disk = before.disk };
-      is = same;
-      shows = now_after frames.reads now refl (shows_aborted now.shows after pages units (left_before frames.reads now) session back
-          (record { geometry = now.shows.shared.geometry; notes = refl; names = ap kept now.shows.shared.names; group_rows = now.shows.shared.group_rows; open_txn = refl; up = now.shows.shared.up })
-          rules shown_frames refl refl refl refl refl refl refl);
-      step = step;
-    }
 
 -- ---- file and unfile
 
@@ -98,7 +67,7 @@ update_works : {a : Outside} {before : View SessionState} (now : ShowsNow meant 
     → (Others now.shows.decoded.geometry now.shows.decoded.records (working_units now.shows.decoded before.disk (with_row catalog_no (Some page) before.session.meta.working)) now.shows.working
     → Others now.shows.decoded.geometry now.shows.decoded.records (working_units now.shows.decoded before.disk (with_row catalog_no (Some page) before.session.meta.working)) w)
     → table ≡ table_of (working_units now.shows.decoded before.disk (with_row catalog_no (Some page) before.session.meta.working)) w → m.working ≡ Some table → m.touched ≡ before.machine.touched
-    → WorksAs now.shows.decoded (held_view before) (view_of m (held (updated (record before.session { groups = groups }) page kind)) before.disk) now.shows.working w
+    → WorksAs now.shows.decoded (view_of m (held (updated (record before.session { groups = groups }) page kind)) before.disk) now.shows.working w
 update_works {a} {before} now groups page kind w m table has opened catalog last files stored others same working touched =
     let d = now.shows.decoded in
     let rows = before.session.meta.working in
@@ -122,7 +91,7 @@ update_works {a} {before} now groups page kind w m table has opened catalog last
       in_order = subst Rising (sym firsts) now.shows.apart.in_order;
       images = each_put (IsWorkingPage w) catalog_no (Some page) rows (λ some. inl refl) (images_of_files now.shows.working w rows files now.shows.apart.images);
       pages = files;
-      trees = ap (λ (ss : List Stored). flat_map (root_units units) (roots_in ss)) stored ∙ trees_off d.geometry d.records (working_units d before.disk rows) units now.shows.working off was;
+      roots = ap (λ (ss : List Stored). roots_in ss) stored;
       left = λ some number file none. left number file none;
     }
   where
@@ -163,7 +132,7 @@ file_steps {a} {b} {before} now new groups page image name file_no same frames o
     let step : Step m (request.File name) q (reply.File name) after =
     took_place m after (request.File name) q (reply.File name) refuses refl refl (tt, λ _. record { pages = omega arith; segs = omega arith; touched = omega arith }) in
     stepped_by now (request.File name) (reply.File name) after s new w same frames form step
-    (record { geometry = refl; committed = refl; machine_scans = refl; pages = refl; segs = refl; scans = refl; used = refl; held = refl; kept = refl; taken = refl; overlay = refl; log = refl })
+    (record { geometry = refl; committed = refl; machine_scans = refl; pages = refl; segs = refl; scans = refl; used = refl; refs = refl; gained = refl; lost = refl; held = refl; kept = refl; overlay = refl; log = refl })
     (record { geometry = now.shows.shared.geometry; notes = ap (λ (notes : List OpNote). notes ++ note note_kind.FileMade no_oid 0 0 ∷ []) now.shows.shared.notes; names = now.shows.shared.names; group_rows = now.shows.shared.group_rows; open_txn = sym opened; up = now.shows.shared.up })
     (update_works now groups image note_kind.FileMade w after (with_file name (shown m)) has opened
     (subst (λ (o : Catalog). CatalogOf image (edits.with_entries o (edits.entry_inserted (edits.new_file name file_no) o.entries))) on catalog)
@@ -201,19 +170,11 @@ unfile_steps {a} {b} {before} now new groups page image name same frames opened 
     let step : Step m (request.Unfile name) q (reply.Unfile name) after =
     took_place m after (request.Unfile name) q (reply.Unfile name) refuses refl refl (tt, λ _. record { pages = omega arith; segs = omega arith; touched = omega arith }) in
     stepped_by now (request.Unfile name) (reply.Unfile name) after s new w same frames form step
-    (record { geometry = refl; committed = refl; machine_scans = refl; pages = refl; segs = refl; scans = refl; used = refl; held = refl; kept = refl; taken = refl; overlay = refl; log = refl })
+    (record { geometry = refl; committed = refl; machine_scans = refl; pages = refl; segs = refl; scans = refl; used = refl; refs = refl; gained = refl; lost = refl; held = refl; kept = refl; overlay = refl; log = refl })
     (record { geometry = now.shows.shared.geometry; notes = ap (λ (notes : List OpNote). notes ++ note note_kind.FileRemoved no_oid 0 0 ∷ []) now.shows.shared.notes; names = now.shows.shared.names; group_rows = now.shows.shared.group_rows; open_txn = sym opened; up = now.shows.shared.up })
     (update_works now groups image note_kind.FileRemoved w after (without_file name (shown m)) has opened
     (subst (λ (o : Catalog). CatalogOf image (edits.with_entries o (edits.without_name name o.entries))) on catalog)
     refl (pages_without name now.shows.working gone) (stored_without name now.shows.working gone) (λ others. others_without name now.shows.working gone d.geometry d.records later others) table refl refl)
-
-pub abort_quietly : {a : Outside} (old new : SessionState) (pages : LoggedSet) (units : UnitSet) → IsSession old → old.opened ≡ true → TakenBack old.meta.working old.kept old.pages pages old.units units → aborted old pages units ≡ new
-    → StepsQuietly a a old new request.Abort (Ok reply.Abort)
-abort_quietly {a} old new pages units is opened back same =
-    accepted_quietly old old new request.Abort reply.Abort (nothing_changed a old) (ap (λ (s : SessionState). s.geometry) (sym same)) (ap (λ (s : SessionState). s.log) (sym same)) (ap (λ (s : SessionState). s.down) (sym same)) (λ why told. absurd (cc))
-    (λ before from now.
-    abort_steps now new pages units (ap (λ (s : SessionState). aborted s pages units) from ∙ same) (subst (λ (s : SessionState). LaterFrames a a s s.groups) (sym from) (later_of old old is (nothing_changed a old)))
-    (subst IsSession (sym from) is) (ap (λ (s : SessionState). s.opened) from ∙ opened) (subst (λ (s : SessionState). TakenBack s.meta.working s.kept s.pages pages s.units units) (sym from) back))
 
 work_image : (s : SessionState) → IsSession s → s.opened ≡ true → HasImage s
 work_image s is opened = let work = is.work opened in record { image = work.image; there = work.there }

@@ -226,7 +226,7 @@ module _ (m : Machine) (x : Reference) (oid : Oid) (size : ℕ) (named : the_oid
 module _ {a : Outside} {before : View SessionState} (now : ShowsNow meant a before) (counted : before.session.units.geometry ≡ before.session.geometry) (is_open : before.session.opened ≡ true) (x : Reference) (change : Change) (given : Admitted)
     (admitted : IsAdmitted before x change given) (within : IsWithin before.session change given) where
   pub change_steps : {b : Outside} (new : SessionState) (oid : Oid) → oid ≡ given.version.oid → DiskOnly a b → Noted before.session new (note_with (edit_note change given.version.oid given.version.found.size) oid)
-      → KeptTo (limit_of before.session given.need) new → HoldsTable before b (parts_held new) (with_bytes given.version.oid (changed change) (shown before.machine)) → (r : Request) → AsksFor r x change
+      → KeptTo (limit_of before.session given.need) new → HoldsTable before b (parts_held new) new.gained new.lost (with_bytes given.version.oid (changed change) (shown before.machine)) → (r : Request) → AsksFor r x change
       → Stepped meant before r (edit_reply change (size_after change given.version.found.size)) new b
   change_steps {b} new oid is only noted kept holds r asked =
       let m = before.machine in
@@ -275,7 +275,7 @@ module _ {a b : Outside} {old mid : SessionState} (x : Reference) (change : Chan
     -- it is done: the note, the limit and the reply as the code comes to them
     pub changed_so : (oid : Oid) (n : OpNote) (limit : Limit) (size : ℕ) (told : Reply) → oid ≡ given.version.oid → n ≡ edit_note change given.version.oid given.version.found.size → limit ≡ limit_of mid given.need
         → size ≡ size_after change given.version.found.size → told ≡ edit_reply change size → Noted mid new (note_with n oid) → KeptTo limit new
-        → IfUpdated b mid (made.Change given.version.oid edit) (λ before u. HoldsTable before c (parts_held new) (update.updated u oid (shown before.machine))) → UpdatesLine a c old new r (Ok told)
+        → IfUpdated b mid (made.Change given.version.oid edit) (λ before u. HoldsTable before c (parts_held new) new.gained new.lost (update.updated u oid (shown before.machine))) → UpdatesLine a c old new r (Ok told)
     changed_so oid n limit size told named noting limited sized telling noted kept holds =
         let did : Noted mid new (note_with (edit_note change given.version.oid given.version.found.size) oid) = subst (λ (o : OpNote). Noted mid new (note_with o oid)) noting noted in
         let keeps : KeptTo (limit_of mid given.need) new = subst (λ (l : Limit). KeptTo l new) limited kept in

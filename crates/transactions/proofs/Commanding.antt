@@ -16,43 +16,41 @@ use Rattle.session_core.specs.Finding.{IfShown, IsOutside, LineStops}
 use Rattle.transactions.specs.Lines.{ReadsLine, UpdatesLine}
 use Rattle.session_core.specs.Meant.{meant}
 use Rattle.session_core.specs.Steps.{IsQuiet, IsRefused, OnlyFrames, Steps, Stops, StepsQuietly}
-use Rattle.session_core.specs.Updates.{WritesLoose}
+use Rattle.session_core.specs.Updates.{WritesUnused}
 use Rattle.disk_model.specs.Changes.{ChangesWithin}
 use Rattle.op_log.specs.Log.{SaysLog}
 use Rattle.op_log.specs.declared.record.LogRecord.{LogRecord}
 use Rattle.volume_model.specs.Durable.{IsDurable}
-use Rattle.session_core.proofs.Listing.{unread_outside, unread_stops}
-use Rattle.session_core.proofs.Quiet.{quietly, quiet_moments}
+use Rattle.session_core.proofs.Quiet.{quiet_moments}
+use Rattle.session_core.proofs.Stopping.{quietly}
 use Rattle.session_core.proofs.Undisturbed.{durable_unwritten, records_unwritten, writes_nowhere}
 
 -- ---- any command
 
-if_err : (P Q : Stop → Type 0) (result : Result Reply Stop) → ((why : Stop) → P why → Q why) → IfErr result P → IfErr result Q
-if_err P Q (Ok told) f has = tt
-if_err P Q (Err why) f has = f why has
-
--- on the catalog
-answered : {a b : Outside} {old new : SessionState} (r : Request) (result : Result Reply Stop) → IsSession old → Steps a b old new r result → Answers a b old new r result
-answered {a} {b} {old} r result session steps = record {
+-- on the catalog, and on what gives trees up
+pub of_step : {a b : Outside} {old new : SessionState} (r s : Request) (result : Result Reply Stop) → r ≡ s → IsSession old → (IsOfCatalog s → IfErr result (Stops a b old)) → Steps a b old new s result → Answers a b old new r result
+of_step {a} {b} {old} {new} r s result is session catalog steps = subst (λ (t : Request). Answers a b old new t result) (sym is) (record {
   only = steps.only;
   geometry = steps.geometry;
   down = steps.down;
-  stops = if_err (Stops a b old) (LineStops a b) result (unread_stops a b old) steps.stops;
-  sound = if_err (Stops a b old) (λ why. IfShown a old (λ before. IsOutside why)) result (λ why stops. unread_outside b why session stops) steps.stops;
-  catalog = λ _. steps.stops;
+  stops = steps.stops;
+  sound = steps.sound;
+  catalog = catalog;
   refused = steps.refused;
   quiet = λ quiet. (steps.quiet quiet).1;
   writes = λ quiet. writes_nowhere old (steps.quiet quiet).0;
   reads = λ alone. (steps.quiet alone.0).0;
   stepped = steps.stepped;
   any_moment = steps.any_moment;
-}
+})
 
-pub of_step : {a b : Outside} {old new : SessionState} (r s : Request) (result : Result Reply Stop) → r ≡ s → IsSession old → Steps a b old new s result → Answers a b old new r result
-of_step {a} {b} {old} {new} r s result is session steps = subst (λ (t : Request). Answers a b old new t result) (sym is) (answered s result session steps)
+-- what stops for a fault of the disk alone blames no page
+pub disk_alone : (a b : Outside) (old : SessionState) (result : Result Reply Stop) → IfErr result (λ why. why ≡ stop.Disk) → IfErr result (LineStops a b) → IfErr result (Stops a b old)
+disk_alone a b old (Ok told) alone stops = tt
+disk_alone a b old (Err why) alone stops = subst (Stops a b old) (sym alone) (subst (LineStops a b) alone stops)
 
 pub of_quiet : {a b : Outside} {old new : SessionState} (r s : Request) (result : Result Reply Stop) → r ≡ s → IsWorld a → IsSession old → StepsQuietly a b old new s result → Answers a b old new r result
-of_quiet r s result is world session quiet = of_step r s result is session (quietly s result world quiet)
+of_quiet r s result is world session quiet = of_step r s result is session (λ _. quiet.stops) (quietly s result world session quiet)
 
 -- of each view by itself
 each_view : (a b : Outside) (old new : SessionState) (r : Request) (result : Result Reply Stop) → IfOk result (λ told. IfShown a old (λ before. Stepped meant before r told new b)) → (before : View SessionState) → before.session ≡ old → ShowsNow meant a before
@@ -68,7 +66,7 @@ of_read {a} {b} {old} {new} r s result is asks world line = subst (λ (t : Reque
   down = ap (λ (t : SessionState). t.down) line.only.same;
   stops = line.stops;
   sound = line.sound;
-  catalog = λ none. absurd (true≢false (sym asks ∙ none));
+  catalog = λ none. absurd (true≢false (sym asks ∙ none.0));
   refused = any_of result line.only;
   quiet = λ _. ap (λ (t : SessionState). t.log) line.only.same;
   writes = λ _. writes_nowhere old line.only.reads;
@@ -89,7 +87,7 @@ of_update {a} {b} {old} {new} r s result is changes asks line = subst (λ (t : R
   down = line.down;
   stops = line.stops;
   sound = line.sound;
-  catalog = λ none. absurd (true≢false (sym asks ∙ none));
+  catalog = λ none. absurd (true≢false (sym asks ∙ none.0));
   refused = line.refused;
   quiet = λ _. line.log;
   writes = λ _. line.writes;
@@ -126,10 +124,10 @@ is_sound {a} {b} {old} r result answers before why from now is = disk_or_memory 
 pub leaves_durable : {a b : Outside} {old new : SessionState} (r : Request) (result : Result Reply Stop) → IsSession old → Answers a b old new r result → IsQuiet r → (before : View SessionState) → before.session ≡ old
     → (now : ShowsNow meant a before) → ChangesWithin (λ i. IsDurable now.shows.decoded before.disk i → ⊥) a b
 leaves_durable {a} {b} r result is answers quiet before from now =
-    durable_unwritten now (subst IsSession (sym from) is) (subst (λ (s : SessionState). WritesLoose a b s) (sym from) (answers.writes quiet))
+    durable_unwritten now (subst IsSession (sym from) is) (subst (λ (s : SessionState). WritesUnused a b s) (sym from) (answers.writes quiet))
 
 pub leaves_records : {a b : Outside} {old new : SessionState} (r : Request) (result : Result Reply Stop) → IsSession old → Answers a b old new r result → IsQuiet r → (before : View SessionState) → before.session ≡ old
     → ShowsNow meant a before → (records : List LogRecord) → SaysLog old.geometry records before.disk → (later : List ℕ) × (b.disk ≡ Some later) × SaysLog old.geometry records later
 leaves_records {a} {b} {old} r result is answers quiet before from now records says =
-    let left = records_unwritten now (subst IsSession (sym from) is) (subst (λ (s : SessionState). WritesLoose a b s) (sym from) (answers.writes quiet)) records (subst (λ (s : SessionState). SaysLog s.geometry records before.disk) (sym from) says) in
+    let left = records_unwritten now (subst IsSession (sym from) is) (subst (λ (s : SessionState). WritesUnused a b s) (sym from) (answers.writes quiet)) records (subst (λ (s : SessionState). SaysLog s.geometry records before.disk) (sym from) says) in
     (left.0, left.1.0, subst (λ (s : SessionState). SaysLog s.geometry records left.0) from left.1.1)

@@ -310,7 +310,7 @@ module _ {a b c : Outside} {old mid new : SessionState} (file name page : List �
     there_is = gives.absent ∙ ap (λ (k : Catalog). is_none (find (has_name file) k.entries)) (sym on) ∙ ap (λ (o : Option FileEntry). is_none o) at.found
 
     module _ (oid : Oid) (named : oid.unique ≡ made.unique) (s : SessionState) (did : Noted mid s (note note_kind.ObjectMade oid 0 0)) (kept : KeptTo (limit_of mid creation_need) s)
-        (holds : HoldsTable (with_groups before mid) c (parts_held s) (numbered (with_object oid file (shown before.machine)))) where
+        (holds : HoldsTable (with_groups before mid) c (parts_held s) s.gained s.lost (numbered (with_object oid file (shown before.machine)))) where
       abbrev m : Machine
       m = before.machine
 
@@ -357,7 +357,7 @@ module _ {a b c : Outside} {old mid new : SessionState} (file name page : List �
   create_unbound = update_stopped its_line world is read went stop.Memory tt (λ before same now later. tt)
 
   pub create_done : (oid : Oid) (s : SessionState) → oid.unique ≡ made.unique → Noted mid s (note note_kind.ObjectMade oid 0 0) → KeptTo (limit_of mid creation_need) s
-      → IfUpdated b mid (update.Create made.file_no made.unique) (λ before u. HoldsTable before c (parts_held s) (updated u oid (shown before.machine)))
+      → IfUpdated b mid (update.Create made.file_no made.unique) (λ before u. HoldsTable before c (parts_held s) s.gained s.lost (updated u oid (shown before.machine)))
       → record s { names = mid.names ++ bound_to name oid ∷ [] } ≡ new → UpdatesLine a c old new its_line (Ok (reply.Create oid))
   create_done oid s named did kept holds whole =
       update_done its_line world is read went (reply.Create oid) (λ why told. absurd (cc))

@@ -90,7 +90,7 @@ module _ {a : Outside} {before : View SessionState} (now : ShowsNow meant a befo
       ∙ room_is before removal_need 16 0 0 (update_counts now.shows counted) refl refl refl
 
   pub destroy_steps : {b : Outside} (new : SessionState) (oid : Oid) → oid ≡ version.oid → DiskOnly a b → Noted before.session new (note note_kind.ObjectRemoved oid 0 0) → KeptTo (limit_of before.session removal_need) new
-      → HoldsTable before b (parts_held new) (without_object version.oid (shown before.machine)) → room_refusal before.session removal_need ≡ None → Stepped meant before (request.Destroy x) (reply.Destroy oid) new b
+      → HoldsTable before b (parts_held new) new.gained new.lost (without_object version.oid (shown before.machine)) → room_refusal before.session removal_need ≡ None → Stepped meant before (request.Destroy x) (reply.Destroy oid) new b
   destroy_steps {b} new oid is only did kept holds room =
       let m = before.machine in
       let r = request.Destroy x in
@@ -131,7 +131,7 @@ module _ {a b : Outside} {old mid : SessionState} (x : Reference) (world : IsWor
 
       -- it is done: the note and the limit as the code comes to them
       pub destroyed : (oid : Oid) (n : OpNote) (limit : Limit) → oid ≡ version.oid → n ≡ note note_kind.ObjectRemoved version.oid 0 0 → limit ≡ limit_of mid removal_need → Noted mid new (note_with n oid) → KeptTo limit new → None ≡ room_refusal mid removal_need
-          → IfUpdated b mid (update.Remove version.oid) (λ before u. HoldsTable before c (parts_held new) (updated u oid (shown before.machine))) → UpdatesLine a c old new (request.Destroy x) (Ok (reply.Destroy oid))
+          → IfUpdated b mid (update.Remove version.oid) (λ before u. HoldsTable before c (parts_held new) new.gained new.lost (updated u oid (shown before.machine))) → UpdatesLine a c old new (request.Destroy x) (Ok (reply.Destroy oid))
       destroyed oid n limit named noting limited noted kept room holds =
           let did : Noted mid new (note note_kind.ObjectRemoved oid 0 0) = subst (λ (o : OpNote). Noted mid new (note_with o oid)) noting noted in
           let keeps : KeptTo (limit_of mid removal_need) new = subst (λ (l : Limit). KeptTo l new) limited kept in

@@ -5,7 +5,6 @@ mod Creating
 mod DataCounts
 mod Destroyed
 mod Digests
-mod Aborted
 mod EditRefusals
 mod Entries
 mod Filed

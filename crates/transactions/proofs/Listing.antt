@@ -26,7 +26,8 @@ use Rattle.transactions.proofs.Naming.{answers_so, line_stops, refuses_so}
 use Rattle.session_core.proofs.Naming.{frames_twice, later_stops}
 use Rattle.session_core.proofs.Quiet.{same_view, shown_lends, with_groups}
 use Rattle.transactions.proofs.Refusing.{missing, same_counts}
-use Rattle.session_core.proofs.Listing.{on_after, unread_outside, unread_stops}
+use Rattle.session_core.proofs.Listing.{on_after}
+use Rattle.session_core.proofs.Stopping.{unread_outside, unread_stops}
 
 -- ---- the line
 

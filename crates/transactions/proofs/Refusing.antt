@@ -148,6 +148,3 @@ unfile_refused v c name q same empty opened =
     ≡ unfile_told false (is_none (entry_of c name)) (has_pages (entry_of c name)) (length v.session.notes) (length v.session.meta.working) false false (free v.machine Page) (free v.machine Segment) =
     untold (free v.machine Page) (free v.machine Segment) some absent empty (ap length same.notes) same.touched (below_zero (free v.machine Page)) (below_zero (free v.machine Segment)) in
     change
-
-pub abort_accepted : (v : View SessionState) (q : Pick) → SameOpen v → v.session.opened ≡ true → refusal_of v.machine request.Abort q ≡ None
-abort_accepted v q same opened = rw (none_is_false v.machine.working (same ∙ opened)) refl

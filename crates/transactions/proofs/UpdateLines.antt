@@ -21,7 +21,7 @@ use Rattle.transactions.specs.Lines.{UpdatesLine}
 use Rattle.session_core.specs.Meant.{meant, pick_of, held_view}
 use Rattle.session_core.specs.Sessions.{SessionState, IsSession}
 use Rattle.session_core.specs.Steps.{OnlyFrames}
-use Rattle.session_core.specs.Updates.{WritesLoose}
+use Rattle.session_core.specs.Updates.{WritesUnused}
 use Rattle.session_core.proofs.Undisturbed.{writes_nowhere}
 use Rattle.disk_model.specs.Changes.{changes_trans}
 use Rattle.session_core.proofs.Naming.{later_stops}
@@ -78,7 +78,7 @@ line_closed {a} s r world is closed refuses =
 -- what an update leaves, however it ended
 pub record WentOn (b c : Outside) (mid new : SessionState) : Type 0 where
   pub only : DiskOnly b c
-  pub writes : WritesLoose b c mid
+  pub writes : WritesUnused b c mid
   pub geometry : new.geometry ≡ mid.geometry
   pub log : new.log ≡ mid.log
   pub down : new.down ≡ mid.down
@@ -105,8 +105,8 @@ module _ {a b c : Outside} {old mid new : SessionState} (r : Request) (world : I
   moments : (before : View SessionState) → before.session ≡ old → ShowsNow meant a before → Leaves a c (StandsDuring meant before.machine r)
   moments before same now = leaves_trans (StandsDuring meant before.machine r) (quiet_moments r world read.reads before now) (went.moments (with_groups before mid) refl (same_view before same now read is.sizes) r)
 
-  writes : WritesLoose a c old
-  writes = changes_trans (writes_nowhere old read.reads) (subst (λ (s : SessionState). WritesLoose b c s) read.same went.writes)
+  writes : WritesUnused a c old
+  writes = changes_trans (writes_nowhere old read.reads) (subst (λ (s : SessionState). WritesUnused b c s) read.same went.writes)
 
   pub update_stopped : (why : Stop) → LineStops b c why → IfShown a old (λ before. ShowsNow meant b (with_groups before mid) → IsOutside why) → UpdatesLine a c old new r (Err why)
   update_stopped why stops sound = record {

@@ -53,6 +53,8 @@ renamed s names is = record {
   behind = is.behind;
   few_notes = is.few_notes;
   notes = is.notes;
+  few_gained = is.few_gained;
+  few_lost = is.few_lost;
   few_pages = is.few_pages;
   in_order = is.in_order;
   work = is.work;
@@ -91,7 +93,7 @@ abbrev pub KeptTo : Limit → SessionState → Type 0
 KeptTo limit s = (length s.meta.working ≤ limit.touched) × (limit.pages ≤ free_count s.units.geometry (used_at s.units) Page) × (limit.segs ≤ free_count s.units.geometry (used_at s.units) Segment)
 
 module _ {a b : Outside} {before : View SessionState} (now : ShowsNow meant a before) (mid : SessionState) (noted : OpNote) (names : List BoundName) (table : Table) (did : Noted before.session mid noted)
-    (holds : HoldsTable before b (parts_held mid) table) where
+    (holds : HoldsTable before b (parts_held mid) mid.gained mid.lost table) where
   -- the session after the update, with these names
   abbrev pub session_then : SessionState
   session_then = record mid { names = names }
@@ -163,6 +165,8 @@ module _ {a b : Outside} {before : View SessionState} (now : ShowsNow meant a be
           (record {
             is = renamed mid names did.is;
             parts = refl;
+            gained = refl;
+            lost = refl;
             geometry = ap (λ (s : SessionState). s.geometry) did.same;
             log = ap (λ (s : SessionState). s.log) did.same;
             kept = ap (λ (s : SessionState). s.kept) did.same;

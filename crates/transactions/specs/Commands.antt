@@ -10,7 +10,7 @@ use Rattle.session_core.specs.Finding.{IfShown, IsOutside, LineStops}
 use Rattle.session_core.specs.Meant.{meant}
 use Rattle.session_core.specs.Sessions.{SessionState}
 use Rattle.session_core.specs.Steps.{IsQuiet, IsRefused, OnlyFrames, Stops}
-use Rattle.session_core.specs.Updates.{WritesLoose}
+use Rattle.session_core.specs.Updates.{WritesUnused}
 
 -- The command makes, changes or removes a version. What it writes of a tree goes to units that are not in use, at once.
 abbrev pub changes_objects : Request → Bool
@@ -36,8 +36,15 @@ asks_objects (request.Scan x name group) = true
 asks_objects (request.Next name len) = true
 asks_objects r = changes_objects r
 
+-- The command gives trees up: it reads the nodes that become free.
+abbrev pub gives_trees : Request → Bool
+gives_trees request.Commit = true
+gives_trees request.Abort = true
+gives_trees (request.Close name) = true
+gives_trees r = false
+
 abbrev pub IsOfCatalog : Request → Type 0
-IsOfCatalog r = asks_objects r ≡ false
+IsOfCatalog r = (asks_objects r ≡ false) × (gives_trees r ≡ false)
 
 -- it is no commit and no checkpoint, and changes no object
 abbrev pub ReadsAlone : Request → Type 0
@@ -53,7 +60,7 @@ pub record Answers (a b : Outside) (old new : SessionState) (r : Request) (resul
   pub catalog : IsOfCatalog r → IfErr result (Stops a b old)
   pub refused : IfOk result (λ told. IsRefused told → OnlyFrames a b old new)
   pub quiet : IsQuiet r → new.log ≡ old.log
-  pub writes : IsQuiet r → WritesLoose a b old
+  pub writes : IsQuiet r → WritesUnused a b old
   pub reads : ReadsAlone r → ReadsOnly a b
   pub stepped : (before : View SessionState) → before.session ≡ old → ShowsNow meant a before → IfOk result (λ told. Stepped meant before r told new b)
   pub any_moment : (before : View SessionState) → before.session ≡ old → ShowsNow meant a before → Leaves a b (StandsDuring meant before.machine r)

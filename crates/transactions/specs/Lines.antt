@@ -8,7 +8,7 @@ use Rattle.session_views.specs.View.{View, ShowsNow, StandsDuring, Stepped}
 use Rattle.session_core.specs.Meant.{meant}
 use Rattle.session_core.specs.Sessions.{SessionState}
 use Rattle.session_core.specs.Steps.{IsRefused, OnlyFrames}
-use Rattle.session_core.specs.Updates.{WritesLoose}
+use Rattle.session_core.specs.Updates.{WritesUnused}
 use Rattle.session_core.specs.Finding.{IfShown, LineStops, IsOutside}
 
 -- A line that reads objects: it writes nothing and leaves the session but for its frames. From a view that shows it steps as the machine does, or the
@@ -23,7 +23,7 @@ pub record ReadsLine (a b : Outside) (old new : SessionState) (r : Request) (res
 -- stays. A refusal leaves the session but for its frames. From a view that shows it steps as the machine does, or the stop is no fault of the volume.
 pub record UpdatesLine (a b : Outside) (old new : SessionState) (r : Request) (result : Result Reply Stop) : Type 0 where
   pub only : DiskOnly a b
-  pub writes : WritesLoose a b old
+  pub writes : WritesUnused a b old
   pub geometry : new.geometry ≡ old.geometry
   pub log : new.log ≡ old.log
   pub down : new.down ≡ old.down

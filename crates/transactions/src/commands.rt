@@ -1,6 +1,7 @@
 //! The step of a session on a command.
 ghost use Rattle.std.specs.Prelude.{◌≡◌, ◌≢◌, ◌≤◌, ◌⊎◌, ℕ, List, Some, Ok, Err, IsTrue, IfOk, OnOk, OnErr, true, false};
 ghost use Rattle.ex_base.specs.declared.faults.Seen.{Seen};
+ghost use Rattle.ex_base.specs.declared.names.Area.TheVariants.{Page};
 ghost use Rattle.ex_base.specs.declared.names.PageNo.{PageNo};
 ghost use Rattle.ex_base.specs.Sizes.{volume_bytes};
 ghost use Rattle.disk_model.specs.Changes.{ChangesWithin};
@@ -15,7 +16,8 @@ ghost use Rattle.session_views.specs.declared.engine.Stop.{Stop};
 ghost use Rattle.session_views.specs.View.{View, ShowsNow, Stepped, StandsDuring};
 ghost use Rattle.session_core.specs.Sessions.{FreesGivenBack, FreesTaken, IsSession, SessionState};
 ghost use Rattle.session_core.specs.Catalogs.{IsDamaged, catalog_bytes};
-ghost use Rattle.session_core.specs.Commits.{LogsCommit};
+ghost use Rattle.session_core.specs.Commits.{JustReached, LogsCommit, committed_reach, working_reach};
+ghost use Rattle.session_core.specs.Counts.{free_in};
 ghost use Rattle.session_core.specs.Meant.{meant};
 ghost use Rattle.session_core.specs.Steps.{IsRefused, OnlyFrames, IsQuiet};
 ghost use Rattle.transactions.specs.Commands.{Answers, IsOfCatalog, ReadsAlone, asks_objects};
@@ -61,11 +63,22 @@ fn answer<H: Host>(
         → OnOk result (FreesGivenBack session.old session.new) }
     ensures taken_back { request_of command.now ≡ request.Abort → session.old.opened ≡ true
         → OnOk result (FreesTaken session.old session.new) }
+    ensures reached { request_of command.now ≡ request.Commit → (before : View SessionState)
+        → before.session ≡ session.old → (shown : ShowsNow meant (H.outside host.old) before)
+        → session.old.opened ≡ true → OnOk result (JustReached session.new.units
+        (working_reach shown.shows.decoded before shown.shows.working)) }
+    ensures reached_back { request_of command.now ≡ request.Abort → (before : View SessionState)
+        → before.session ≡ session.old → (shown : ShowsNow meant (H.outside host.old) before)
+        → session.old.opened ≡ true → OnOk result (JustReached session.new.units
+        (committed_reach shown.shows.decoded before.disk)) }
+    ensures idle { request_of command.now ≡ request.Abort
+        → OnOk result (free_in session.new Page ≡ free_in session.old Page
+        → host.new ≡ host.old) }
 {
     match command {
         Command::Begin => session.begin(alloc, host),
         Command::Commit => session.commit(alloc, host),
-        Command::Abort => Ok(session.abort()),
+        Command::Abort => session.abort(alloc, host),
         Command::Checkpoint => session.checkpoint(host),
         Command::Log => Ok(log(session)),
         Command::Files => files(session, alloc, host),
@@ -183,7 +196,23 @@ pub fn step<H: Host>(
     ensures taken_back { request_of command.now ≡ request.Abort → session.old.opened ≡ true
         → OnOk result (FreesTaken session.old session.new) }
 
-    // To a command that asks of no objects, only a catalog that is outside of its grammar is damaged.
+    // After a commit in use are exactly the units that the working volume reached, so that what a dropped version alone reached is free, and after an
+    // abort those that the committed volume reaches.
+    ensures reached { request_of command.now ≡ request.Commit → (before : View SessionState)
+        → before.session ≡ session.old → (shown : ShowsNow meant (H.outside host.old) before)
+        → session.old.opened ≡ true → OnOk result (JustReached session.new.units
+        (working_reach shown.shows.decoded before shown.shows.working)) }
+    ensures reached_back { request_of command.now ≡ request.Abort → (before : View SessionState)
+        → before.session ≡ session.old → (shown : ShowsNow meant (H.outside host.old) before)
+        → session.old.opened ≡ true → OnOk result (JustReached session.new.units
+        (committed_reach shown.shows.decoded before.disk)) }
+
+    // Where an abort frees no page, the host was not called.
+    ensures idle { request_of command.now ≡ request.Abort
+        → OnOk result (free_in session.new Page ≡ free_in session.old Page
+        → host.new ≡ host.old) }
+
+    // To a command that asks of no objects and gives no tree up, only a catalog that is outside of its grammar is damaged.
     ensures catalog { IsOfCatalog (request_of command.now) → (page : PageNo) (want got : Seen)
         → result ≡ Err (Stop.Damaged page want got)
         → IsDamaged (H.outside host.old) session.old.groups

@@ -16,7 +16,7 @@ use Rattle.trees.specs.Made.{IsTaken}
 use Rattle.trees.specs.Owners.{IsOwned, root_pages}
 use Rattle.trees.specs.Trees.{RootNamed}
 use Rattle.trees.proofs.Owned.{some_of}
-use Rattle.volume_model.specs.OwnersMoved.{UnitsMade}
+use Rattle.volume_model.specs.OwnersMoved.{UnitsMade, roots_most}
 use Rattle.volume_model.specs.Shown.{root_here}
 use Rattle.volume_model.specs.Volume.{Volume, file_pages}
 use Rattle.volume_model.proofs.OwnersMade.{few_counted, nodes_made, tree_owned}
@@ -112,7 +112,7 @@ module _ {S : Type 0} (g : ground.Ghosts S) (old new : S) (v now : Volume) (gone
   }
 
   -- With the root that came counted, it and those of before own what is in use, and no count reaches its end.
-  pub owned_made : length (root_pages (root_here come) ++ roots) ≤ 1500000000 → (after : ℕ → ℕ) → ((u : ℕ) → after u ≡ g.refs new u + times u (root_pages (root_here come)))
+  pub owned_made : length (root_pages (root_here come) ++ roots) ≤ roots_most → (after : ℕ → ℕ) → ((u : ℕ) → after u ≡ g.refs new u + times u (root_pages (root_here come)))
       → IsOwned (g.geometry old) (g.unit new) (g.used new) after logged_now (root_pages (root_here come) ++ roots)
   owned_made few after counts =
       nodes_made (g.geometry old) (g.unit old) (g.used old) (g.refs old) logged roots is (g.unit new) (g.used new) logged_now counted.nodes come made after

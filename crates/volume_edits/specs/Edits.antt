@@ -17,17 +17,14 @@ use Rattle.trees.specs.Owners.{root_pages}
 use Rattle.trees.specs.Trees.{Units, root_units}
 use Rattle.table_model.specs.declared.table.Table.{Table}
 use Rattle.table_model.specs.Tables.{with_bytes}
-use Rattle.volume_model.specs.Shown.{root_here}
+use Rattle.volume_model.specs.Held.{root_here}
+pub use Rattle.volume_model.specs.OwnersMoved.{units_under}
 use Rattle.volume_model.specs.Volume.{Volume, lines_of, file_pages, reach_of, roots_in, stored_in, table_of}
 use Rattle.volume_edits.specs.Ported.{IsVolume, units_in}
 
 -- the units of all trees of a volume
 abbrev pub trees_of : Units → Volume → List ℕ
 trees_of units v = flat_map (root_units units) (roots_in (stored_in v))
-
--- the units of the tree of a root, where there is one
-abbrev pub units_under : Units → Option Root → List ℕ
-units_under units root = flat_map (root_units units) (root_here root)
 
 -- The roots of the new volume are those of the old one without the one that went and with the one that came, each as often as it is named. The trees of
 -- both are whole. The nodes that were taken are counted, and none of them is a logged page. Each unit of the tree that came was free or is one of the tree

@@ -27,6 +27,7 @@ ghost use Rattle.version_model.specs.Listed.{oids_of, AreByNumber};
 ghost use Rattle.version_model.specs.Versions.{Stands, HasVersion, Change, EditsVersion, PutsVersion, AreInUse, place_of, root_of};
 ghost use Rattle.trees.specs.Counted.{NamesPairs};
 ghost use Rattle.trees.specs.Owners.{IsOwned, root_pages};
+ghost use Rattle.volume_model.specs.OwnersMoved.{roots_most};
 ghost use Rattle.volume_model.specs.Shown.{root_here};
 ghost use Rattle.volume_model.specs.Volume.{Stored, Volume, file_pages, reach_of, stored_in, table_of, unique_of};
 ghost use Rattle.volume_edits.specs.Ported.{ShowsVolume, IsVolume, IsApart, HasContent, KeepsReach, units_in};
@@ -222,7 +223,7 @@ pub fn owners_after_an_update<P: Ground>()
         → 1 ≤ times catalog_no logged → ((page : ℕ) → Contains (file_pages now) page
         → (1 ≤ times page logged) ⊎ (P.Ground.used old page ≡ false))
         → ((p : ℕ) → 1 ≤ times p (root_pages (root_here gone)) → 1 ≤ P.Ground.refs old p)
-        → length (root_pages (root_here come) ++ roots) ≤ 1500000000 → (after : ℕ → ℕ)
+        → length (root_pages (root_here come) ++ roots) ≤ roots_most → (after : ℕ → ℕ)
         → ((u : ℕ) → after u ≡ P.Ground.refs new u + times u (root_pages (root_here come)))
         → IsOwned (P.Ground.geometry old) (P.Ground.unit new) (P.Ground.used new) after
         (logged ++ file_pages now) (root_pages (root_here come) ++ roots) }

@@ -1,5 +1,5 @@
 -- What is used is exactly what the pages of a view reach, where each unit of a tree has as many references as owners.
-use Rattle.std.proofs.Common.{◌≡◌, ◌≢◌, ◌↔◌, ◌⊎◌, inl, inr, ⊎_elim, ℕ, ◌+◌, ◌≤◌, ◌<◌, Bool, true, cond, nat_lt, nat_eq, List, [], ◌∷◌, ◌++◌, Option, Some, None, unwrap_or, refl, sym, ap, subst, ◌∙◌, arith}
+use Rattle.std.proofs.Common.{◌≡◌, ◌≢◌, ◌↔◌, ◌⊎◌, inl, inr, ⊎_elim, ℕ, ◌+◌, ◌≤◌, Bool, true, cond, nat_lt, nat_eq, List, [], ◌∷◌, ◌++◌, Option, Some, None, unwrap_or, refl, sym, ap, subst, ◌∙◌, arith}
 use Rattle.std.specs.Prelude.{Contains}
 use Rattle.std.specs.List.{flat_map, AllByRecursion, AllZip}
 use Rattle.std.specs.Map.{lookup}
@@ -21,10 +21,11 @@ use Rattle.trees.specs.Shown.{BytesShown}
 use Rattle.trees.specs.Trees.{Units, RootNamed, root_units}
 use Rattle.trees.proofs.KeptRoots.{RootKept, named_root, units_of_root}
 use Rattle.trees.proofs.Owned.{AreNamed, exact_reach, reached_owned, some_of}
-use Rattle.trees.proofs.OwnedTrees.{SameOwned, owned_apart, roots_kept}
+use Rattle.trees.proofs.OwnedTrees.{owned_apart, roots_kept}
 use Rattle.volume_model.specs.Homes.{home}
 use Rattle.volume_model.specs.OwnersShown.{OwnersOf, OwnersShown, committed_roots, logged_pages, roots_held}
-use Rattle.volume_model.specs.Shown.{Held, HeldScan, IsWorkingPage, OverlayShown, PageRow, ScanShown, Shows, WorkingRow, WorkingShown, laid_over_page, reach_of_view, root_here, roots_here, trees_of_view, working_units}
+use Rattle.volume_model.specs.Shown.{Held, HeldScan, IsWorkingPage, OverlayShown, PageRow, ScanShown, WorkingRow, WorkingShown, laid_over_page, reach_of_view, root_here, roots_here, trees_of_view, working_units}
+use Rattle.volume_model.specs.TreesShown.{TreesShown}
 use Rattle.volume_model.specs.Volume.{Volume, Decoded, file_pages, roots_in, stored_in, units_of}
 use Rattle.volume_model.proofs.FoundRows.{found_is}
 
@@ -117,15 +118,12 @@ module _ (d : Decoded) (used : ℕ → Bool) (refs : ℕ → ℕ) (gained lost s
         (λ u behind some. same u some) (λ u behind some. sym (same u some)) rs named (λ u has. omega (arith, own u has))
 
     module _ (committed : AreNamed d.geometry (units_of d disk) (committed_roots d)) (worked : AreNamed d.geometry (working_units d disk rows) (roots_in (stored_in working)))
-        (scanned : AreNamed d.geometry (units_of d disk) scans) where
+        (scanned : AreNamed d.geometry (home d.geometry disk) scans) where
       committed_kept : AllByRecursion (RootKept (units_of d disk) (home d.geometry disk)) (committed_roots d)
       committed_kept = trees_at_home (units_of d disk) after_home (committed_roots d) committed (λ u has. omega (arith, has, roots_of u))
 
       working_kept : AllByRecursion (RootKept (working_units d disk rows) (home d.geometry disk)) (roots_in (stored_in working))
       working_kept = trees_at_home (working_units d disk rows) working_home (roots_in (stored_in working)) worked (λ u has. omega (arith, has, roots_of u))
-
-      scans_kept : AllByRecursion (RootKept (units_of d disk) (home d.geometry disk)) scans
-      scans_kept = trees_at_home (units_of d disk) after_home scans scanned (λ u has. omega (arith, has, roots_of u))
 
       named_home : (over : Units) (rs : List Root) → AllByRecursion (RootKept over (home d.geometry disk)) rs → AreNamed d.geometry over rs → AreNamed d.geometry (home d.geometry disk) rs
       named_home over rs kept named =
@@ -137,7 +135,7 @@ module _ (d : Decoded) (used : ℕ → Bool) (refs : ℕ → ℕ) (gained lost s
           let P = λ (root : Root). RootNamed d.geometry (home d.geometry disk) root.height root.page in
           each-append P (committed_roots d ++ roots_in (stored_in working)) scans
           (each-append P (committed_roots d) (roots_in (stored_in working)) (named_home (units_of d disk) (committed_roots d) committed_kept committed) (named_home (working_units d disk rows) (roots_in (stored_in working)) working_kept worked))
-          (named_home (units_of d disk) scans scans_kept scanned)
+          scanned
 
       same_trees : (over : Units) (rs : List Root) → AllByRecursion (RootKept over (home d.geometry disk)) rs → flat_map (root_units (home d.geometry disk)) rs ≡ flat_map (root_units over) rs
       same_trees over rs kept =
@@ -145,25 +143,24 @@ module _ (d : Decoded) (used : ℕ → Bool) (refs : ℕ → ℕ) (gained lost s
 
       -- how often a unit stands in the trees at home
       trees_of : (u : ℕ) → times u (flat_map (root_units (home d.geometry disk)) roots_shown)
-          ≡ times u (flat_map (root_units (units_of d disk)) (committed_roots d)) + times u (flat_map (root_units (working_units d disk rows)) (roots_in (stored_in working))) + times u (flat_map (root_units (units_of d disk)) scans)
+          ≡ times u (flat_map (root_units (units_of d disk)) (committed_roots d)) + times u (flat_map (root_units (working_units d disk rows)) (roots_in (stored_in working))) + times u (flat_map (root_units (home d.geometry disk)) scans)
       trees_of u =
           omega (
             arith,
             times_joined u (root_units (home d.geometry disk)) (committed_roots d) (roots_in (stored_in working)) scans,
             ap (times u) (same_trees (units_of d disk) (committed_roots d) committed_kept),
             ap (times u) (same_trees (working_units d disk rows) (roots_in (stored_in working)) working_kept),
-            ap (times u) (same_trees (units_of d disk) scans scans_kept),
           )
 
       pub exact_trees : (u : ℕ) → (used u ≡ true) ↔ (1 ≤ times u (logged_pages d working)
-          + (times u (flat_map (root_units (units_of d disk)) (committed_roots d)) + times u (flat_map (root_units (working_units d disk rows)) (roots_in (stored_in working))) + times u (flat_map (root_units (units_of d disk)) scans)))
+          + (times u (flat_map (root_units (units_of d disk)) (committed_roots d)) + times u (flat_map (root_units (working_units d disk rows)) (roots_in (stored_in working))) + times u (flat_map (root_units (home d.geometry disk)) scans)))
       exact_trees u =
           let small : d.geometry.fan ≤ 340 = omega (arith, most_page d.geometry, d.geometry.narrow) in
           let exact = exact_reach d.geometry (home d.geometry disk) used named_by (logged_pages d working) roots_shown small owned_shown all_named_home u in
           let sum = times-append u (logged_pages d working) (flat_map (root_units (home d.geometry disk)) roots_shown) in
           (λ yes. omega (arith, exact.0 yes, sum, trees_of u), λ some. exact.1 (omega (arith, some, sum, trees_of u)))
 
-      pub trees_owned : (u : ℕ) → 1 ≤ times u (flat_map (root_units (units_of d disk)) (committed_roots d)) + times u (flat_map (root_units (working_units d disk rows)) (roots_in (stored_in working))) + times u (flat_map (root_units (units_of d disk)) scans)
+      pub trees_owned : (u : ℕ) → 1 ≤ times u (flat_map (root_units (units_of d disk)) (committed_roots d)) + times u (flat_map (root_units (working_units d disk rows)) (roots_in (stored_in working))) + times u (flat_map (root_units (home d.geometry disk)) scans)
           → times u (logged_pages d working) ≡ 0
       trees_owned u some =
           let small : d.geometry.fan ≤ 340 = omega (arith, most_page d.geometry, d.geometry.narrow) in
@@ -190,25 +187,25 @@ rows_apart d working rows images page image none is = ⊎_elim
     (λ (filed : Contains (file_pages working) page). absurd (omega (arith, none, contains_times page (file_pages working) filed, times-append page (catalog_no ∷ file_pages d.volume) (file_pages working))))
     (found_is (IsWorkingPage working) rows page (Some image) images is refl)
 
-module _ (d : Decoded) (v : View Held) (working : Volume) (refs : ℕ → ℕ) (gained lost : List Root) (owners : OwnersOf d v refs gained lost working)
+module _ (d : Decoded) (v : View Held) (working : Volume) (owners : OwnersOf d v working)
     (overlay : OverlayShown d v) (images : AllByRecursion (IsWorkingPage working) v.session.working_pages) (committed : AreNamed d.geometry (units_of d v.disk) (committed_roots d))
-    (worked : AreNamed d.geometry (working_units d v.disk v.session.working_pages) (roots_in (stored_in working))) (scanned : AreNamed d.geometry (units_of d v.disk) (roots_here v.session.scans)) where
+    (worked : AreNamed d.geometry (working_units d v.disk v.session.working_pages) (roots_in (stored_in working))) (scanned : AreNamed d.geometry (home d.geometry v.disk) (roots_here v.session.scans)) where
   trees_in_view : (u : ℕ) → times u (trees_of_view d v working)
       ≡ times u (flat_map (root_units (units_of d v.disk)) (committed_roots d)) + times u (flat_map (root_units (working_units d v.disk v.session.working_pages)) (roots_in (stored_in working)))
-      + times u (flat_map (root_units (units_of d v.disk)) (roots_here v.session.scans))
+      + times u (flat_map (root_units (home d.geometry v.disk)) (roots_here v.session.scans))
   trees_in_view u =
       let first = flat_map (root_units (units_of d v.disk)) (committed_roots d) in
       let second = flat_map (root_units (working_units d v.disk v.session.working_pages)) (roots_in (stored_in working)) in
-      let third = flat_map (root_units (units_of d v.disk)) (roots_here v.session.scans) in
+      let third = flat_map (root_units (home d.geometry v.disk)) (roots_here v.session.scans) in
       omega (arith, times-append u (first ++ second) third, times-append u first second)
 
   -- A unit is used exactly where the committed pages, the working pages or the open scans reach it.
   pub exact_view : (unit : ℕ) → (v.session.used unit ≡ true) ↔ Contains (reach_of_view d v working) unit
   exact_view unit =
-      let exact = exact_trees d v.session.used refs gained lost (roots_here v.session.scans) v.disk working owners v.session.working_pages (log_apart d v working overlay) (rows_apart d working v.session.working_pages images) committed worked scanned unit in
+      let exact = exact_trees d v.session.used v.session.refs v.session.gained v.session.lost (roots_here v.session.scans) v.disk working owners v.session.working_pages (log_apart d v working overlay) (rows_apart d working v.session.working_pages images) committed worked scanned unit in
       let first = flat_map (root_units (units_of d v.disk)) (committed_roots d) in
       let second = flat_map (root_units (working_units d v.disk v.session.working_pages)) (roots_in (stored_in working)) in
-      let third = flat_map (root_units (units_of d v.disk)) (roots_here v.session.scans) in
+      let third = flat_map (root_units (home d.geometry v.disk)) (roots_here v.session.scans) in
       let one = catalog_no ∷ file_pages d.volume in
       let two = catalog_no ∷ file_pages working in
       let all : times unit (reach_of_view d v working) ≡ times unit one + times unit first + (times unit two + times unit second) + times unit third =
@@ -223,7 +220,7 @@ module _ (d : Decoded) (v : View Held) (working : Volume) (refs : ℕ → ℕ) (
   -- No page of a file lies in a tree.
   pub no_page_in_tree : (page : ℕ) → Contains (file_pages d.volume ++ file_pages working) page → ¬ Contains (trees_of_view d v working) page
   no_page_in_tree page filed tree =
-      let none = trees_owned d v.session.used refs gained lost (roots_here v.session.scans) v.disk working owners v.session.working_pages (log_apart d v working overlay) (rows_apart d working v.session.working_pages images) committed worked scanned page
+      let none = trees_owned d v.session.used v.session.refs v.session.gained v.session.lost (roots_here v.session.scans) v.disk working owners v.session.working_pages (log_apart d v working overlay) (rows_apart d working v.session.working_pages images) committed worked scanned page
       (omega (arith, contains_times page (trees_of_view d v working) tree, trees_in_view page)) in
       absurd (omega (
         arith,
@@ -254,18 +251,18 @@ working_named d v working None committed shown =
     (subst (λ (w : Volume). AreNamed d.geometry (units_of d v.disk) (roots_in (stored_in w))) (sym shown.1) committed)
 working_named d v working (Some table) committed shown = shown.parts.1.1.1.1.0.named
 
-module _ (may_leave : List ℕ → Type 0) (v : View Held) (shows : Shows may_leave v) (refs : ℕ → ℕ) (gained lost : List Root) (owners : OwnersOf shows.decoded v refs gained lost shows.working) where
-  committed_named : AreNamed shows.decoded.geometry (units_of shows.decoded v.disk) (committed_roots shows.decoded)
-  committed_named = shows.parts.1.1.1.1.1.1.0.named
+module _ (d : Decoded) (v : View Held) (working : Volume) (owners : OwnersOf d v working) (trees : TreesShown d v working) where
+  committed_named : AreNamed d.geometry (units_of d v.disk) (committed_roots d)
+  committed_named = trees.parts.1.1.1.1.1.1.0.named
 
   -- Just the units that it reaches are used,
-  pub exact_shown : (unit : ℕ) → (v.session.used unit ≡ true) ↔ Contains (reach_of_view shows.decoded v shows.working) unit
+  pub exact_shown : (unit : ℕ) → (v.session.used unit ≡ true) ↔ Contains (reach_of_view d v working) unit
   exact_shown =
-      exact_view shows.decoded v shows.working refs gained lost owners shows.overlay shows.apart.images committed_named (working_named shows.decoded v shows.working v.machine.working committed_named shows.working_shown)
-      (scans_named shows.decoded.geometry (units_of shows.decoded v.disk) v.machine.scans v.session.scans shows.scans)
+      exact_view d v working owners trees.overlay trees.images committed_named (working_named d v working v.machine.working committed_named trees.working_shown)
+      (scans_named d.geometry (home d.geometry v.disk) v.machine.scans v.session.scans trees.scans)
 
   -- and no page of a file lies in a tree.
-  pub no_page_shown : (page : ℕ) → Contains (file_pages shows.decoded.volume ++ file_pages shows.working) page → ¬ Contains (trees_of_view shows.decoded v shows.working) page
+  pub no_page_shown : (page : ℕ) → Contains (file_pages d.volume ++ file_pages working) page → ¬ Contains (trees_of_view d v working) page
   no_page_shown =
-      no_page_in_tree shows.decoded v shows.working refs gained lost owners shows.overlay shows.apart.images committed_named (working_named shows.decoded v shows.working v.machine.working committed_named shows.working_shown)
-      (scans_named shows.decoded.geometry (units_of shows.decoded v.disk) v.machine.scans v.session.scans shows.scans)
+      no_page_in_tree d v working owners trees.overlay trees.images committed_named (working_named d v working v.machine.working committed_named trees.working_shown)
+      (scans_named d.geometry (home d.geometry v.disk) v.machine.scans v.session.scans trees.scans)

@@ -19,6 +19,7 @@ use Rattle.op_log.specs.declared.record.LogRecord.{LogRecord}
 use Rattle.slotted_pages.specs.FilePage.{FilePage, Slot, bodies}
 use Rattle.trees.specs.Owners.{page_here, root_pages}
 use Rattle.trees.specs.Trees.{Units}
+use Rattle.volume_model.specs.OwnersMoved.{volume_roots_most}
 use Rattle.volume_model.specs.OwnersShown.{committed_roots, roots_held}
 use Rattle.volume_model.specs.Parts.{Decodes, HasLines, HasPage, HasPages, HoldsOf, IsStored, bodies_from, bodies_in, content_parts}
 use Rattle.volume_model.specs.Volume.{Decoded, FileContent, Stored, Volume, file_pages, line_records, pages_of_file, root_in, roots_in, stored_in}
@@ -106,14 +107,14 @@ fewer_pages [] = omega arith
 fewer_pages (root ∷ roots) = omega (arith, one_page root.page, fewer_pages roots, length-append (page_here root.page) (root_pages roots))
 
 -- A volume has 4,000,000 pages at most, so it has 816,000,000 roots at most.
-pub few_roots : (g : Geometry) (records : List LogRecord) (units : Units) (v : Volume) → AllByRecursion (HoldsOf g records units v) content_parts → length (roots_in (stored_in v)) ≤ 816000000
+pub few_roots : (g : Geometry) (records : List LogRecord) (units : Units) (v : Volume) → AllByRecursion (HoldsOf g records units v) content_parts → length (roots_in (stored_in v)) ≤ volume_roots_most
 few_roots g records units v parts =
     let area = each_as (IsFilesPage g) (λ (page : ℕ). (257 ≤ page) × (page < 257 + g.pages)) (file_pages v) (λ page is. is.0) (file_pages_are g units v parts.1.0.0) in
     let pages : length (file_pages v) ≤ g.pages = few_once 257 g.pages (file_pages v) area (differ_once (file_pages v) parts.1.0.1) in
     omega (arith, pages, g.few_pages, fewer_roots (stored_in v), few_of_files units v.catalog.entries v.files parts.1.1.0 parts.1.1.1.0)
 
 -- So the roots that own trees are few, where a transaction gains few and few scans are open.
-pub few_owners : (d : Decoded) (disk : List ℕ) (gained scans : List Root) → Decodes disk d → length (root_pages (roots_held d gained scans)) ≤ 816000000 + length gained + length scans
+pub few_owners : (d : Decoded) (disk : List ℕ) (gained scans : List Root) → Decodes disk d → length (root_pages (roots_held d gained scans)) ≤ volume_roots_most + length gained + length scans
 few_owners d disk gained scans (super, (log, content)) =
     omega (
       arith,

@@ -1,5 +1,5 @@
 -- What a disk decodes as is determined, up to the order in which a file's records are listed as lines.
-use Rattle.std.proofs.Common.{◌≡◌, ℕ, ◌-◌, ◌≤◌, List, [], ◌∷◌, ◌++◌, drop, refl, sym, ap, subst, ◌∙◌, arith, append_assoc}
+use Rattle.std.proofs.Common.{◌≡◌, ℕ, ◌-◌, List, [], ◌∷◌, ◌++◌, drop, refl, sym, ap, subst, ◌∙◌, arith, append_assoc}
 use Rattle.std.specs.List.{AllZip}
 use Rattle.std.proofs.lemmas.List.{take-append-drop}
 use Rattle.ex_base.specs.declared.geometry.Geometry.{Geometry}
@@ -7,7 +7,7 @@ use Rattle.ex_base.specs.declared.names.Place.{Place}
 use Rattle.ex_base.specs.Bytes.{part}
 use Rattle.ex_base.specs.Fields.{four_bytes, zeros}
 use Rattle.ex_base.specs.Sizes.{most_page}
-use Rattle.ex_base.specs.Superblock.{magic, super_rest, super_page, IsSuper}
+use Rattle.ex_base.specs.Superblock.{magic, super_rest, super_page}
 use Rattle.ex_base.proofs.FieldLaws.{same_front, same_four}
 use Rattle.ex_base.proofs.Geometries.{same_numbers}
 use Rattle.slotted_pages.specs.FilePage.{FilePage}

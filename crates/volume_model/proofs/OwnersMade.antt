@@ -19,7 +19,7 @@ use Rattle.trees.proofs.FewOwners.{references_below_end}
 use Rattle.trees.proofs.Owned.{at_one, page_no_leaf, some_of}
 use Rattle.trees.proofs.Released.{named_left}
 use Rattle.volume_model.specs.Shown.{root_here}
-use Rattle.volume_model.specs.OwnersMoved.{IsNamedRoot, UnitsMade, tree_of}
+use Rattle.volume_model.specs.OwnersMoved.{IsNamedRoot, UnitsMade, roots_most, units_under}
 use Rattle.volume_model.proofs.OwnersAlike.{names_kept, nodes_kept, named_owned}
 
 -- ---- the units of a tree
@@ -136,34 +136,34 @@ module _ (g : Geometry) (units : Units) where
 -- ---- of a root, which may have no tree
 
 -- What holds of each named tree with its page, for the tree of a root.
-of_tree : (g : Geometry) (units : Units) (root : Option Root) (u : ℕ) (P : Type 0) → IsNamedRoot g units root → 1 ≤ times u (tree_of units root)
-    → ((l page : ℕ) → IsNamed g units l page → 1 ≤ times u (units_on units l page) → ((p : ℕ) → times p (tree_of units root) ≡ times p (units_on units l page)) → 1 ≤ times page (root_pages (root_here root)) → P) → P
+of_tree : (g : Geometry) (units : Units) (root : Option Root) (u : ℕ) (P : Type 0) → IsNamedRoot g units root → 1 ≤ times u (units_under units root)
+    → ((l page : ℕ) → IsNamed g units l page → 1 ≤ times u (units_on units l page) → ((p : ℕ) → times p (units_under units root) ≡ times p (units_on units l page)) → 1 ≤ times page (root_pages (root_here root)) → P) → P
 of_tree g units None u P named has f = absurd (omega (arith, has))
 of_tree g units (Some root) u P named has f = by root.page named.0 (omega (arith, has, times-append u (root_units units root) [])) (λ p. times-append p (root_units units root) [])
     (λ p. times-append p (page_here root.page) [])
   where
     by : (page : Option PageNo) → RootNamed g units root.height page → 1 ≤ times u (root_units_at units root.height page)
-        → ((p : ℕ) → times p (tree_of units (Some root)) ≡ times p (root_units_at units root.height page) + 0)
+        → ((p : ℕ) → times p (units_under units (Some root)) ≡ times p (root_units_at units root.height page) + 0)
         → ((p : ℕ) → times p (root_pages (root_here (Some root))) ≡ times p (page_here page) + 0) → P
     by None named has same own = absurd (omega (arith, has))
     by (Some page) named has same own = f root.height page.0 named has (λ p. omega (arith, same p)) (omega (arith, own page.0, times_here page.0 page.0 [] refl))
 
 module _ (g : Geometry) (units : Units) (root : Option Root) (named : IsNamedRoot g units root) where
-  pub node_in : (u : ℕ) → InPageArea g u → 1 ≤ times u (tree_of units root) → IsInner g units u
+  pub node_in : (u : ℕ) → InPageArea g u → 1 ≤ times u (units_under units root) → IsInner g units u
   node_in u area has = of_tree g units root u (IsInner g units u) named has (λ l page is here same own. node_of_tree g units u area l page is here)
 
-  pub names_in : (p u : ℕ) → InPageArea g p → 1 ≤ times u (named_on units p) → 1 ≤ times p (tree_of units root) → 1 ≤ times u (tree_of units root)
+  pub names_in : (p u : ℕ) → InPageArea g p → 1 ≤ times u (named_on units p) → 1 ≤ times p (units_under units root) → 1 ≤ times u (units_under units root)
   names_in p u area names has =
-      of_tree g units root p (1 ≤ times u (tree_of units root)) named has (λ l page is here same own. omega (arith, same u, names_in_tree g units p u area names l page is here))
+      of_tree g units root p (1 ≤ times u (units_under units root)) named has (λ l page is here same own. omega (arith, same u, names_in_tree g units p u area names l page is here))
 
   -- A unit of the tree is its root, or is named by a node of the tree.
   pub record IsNode (u : ℕ) : Type 0 where
     pub node : ℕ
     pub area : InPageArea g node
-    pub there : 1 ≤ times node (tree_of units root)
+    pub there : 1 ≤ times node (units_under units root)
     pub names : 1 ≤ times u (named_on units node)
 
-  pub owner_in : (u : ℕ) → 1 ≤ times u (tree_of units root) → (1 ≤ times u (root_pages (root_here root))) ⊎ IsNode u
+  pub owner_in : (u : ℕ) → 1 ≤ times u (units_under units root) → (1 ≤ times u (root_pages (root_here root))) ⊎ IsNode u
   owner_in u has = of_tree g units root u ((1 ≤ times u (root_pages (root_here root))) ⊎ IsNode u) named has
       (λ l page is here same own. elim (parent_of g units u l page is here) [
         | inl first ↦ inl (subst (λ v. 1 ≤ times v (root_pages (root_here root))) (sym first) own)
@@ -171,7 +171,7 @@ module _ (g : Geometry) (units : Units) (root : Option Root) (named : IsNamedRoo
       ])
 
 -- the root's page is a unit of its tree
-pub page_in_tree : (units : Units) (root : Option Root) (u : ℕ) → 1 ≤ times u (root_pages (root_here root)) → 1 ≤ times u (tree_of units root)
+pub page_in_tree : (units : Units) (root : Option Root) (u : ℕ) → 1 ≤ times u (root_pages (root_here root)) → 1 ≤ times u (units_under units root)
 page_in_tree units None u has = absurd (omega (arith, has))
 page_in_tree units (Some root) u has =
     omega (arith, times-append u (root_units units root) [], by root.page (omega (arith, has, times-append u (page_here root.page) [])))
@@ -198,7 +198,7 @@ module _ (g : Geometry) (units : Units) (used : ℕ → Bool) (refs : ℕ → �
         unit_owned l b.child u b.named (named_owned g units used refs logged roots is page b.child (is.listed page named.0 owned) b.there) b.has
   ]
 
-  pub tree_owned : (root : Option Root) → IsNamedRoot g units root → ((p : ℕ) → 1 ≤ times p (root_pages (root_here root)) → 1 ≤ refs p) → (u : ℕ) → 1 ≤ times u (tree_of units root) → 1 ≤ refs u
+  pub tree_owned : (root : Option Root) → IsNamedRoot g units root → ((p : ℕ) → 1 ≤ times p (root_pages (root_here root)) → 1 ≤ refs p) → (u : ℕ) → 1 ≤ times u (units_under units root) → 1 ≤ refs u
   tree_owned root named own u has = of_tree g units root u (1 ≤ refs u) named has (λ l page n here same first. unit_owned l page u n (own page first) here)
 
 -- ---- an update
@@ -218,14 +218,14 @@ module _ (g : Geometry) (units : Units) (used : ℕ → Bool) (refs : ℕ → �
   new_node : (u : ℕ) → 1 ≤ times u nodes → (used u ≡ false) × (now u ≡ true) × InPageArea g u × (times u pages ≡ 0)
   new_node u has = at_one (λ v. (used v ≡ false) × (now v ≡ true) × InPageArea g v × (times v pages ≡ 0)) nodes u made.taken has
 
-  node_of_come : (u : ℕ) → 1 ≤ times u nodes → 1 ≤ times u (tree_of later come)
+  node_of_come : (u : ℕ) → 1 ≤ times u nodes → 1 ≤ times u (units_under later come)
   node_of_come u has = let t = new_node u has in made.tree u t.0 t.1 t.3
 
   -- what the new nodes name is of the tree
-  named_by_new : (u : ℕ) → 1 ≤ times u (all_named later nodes) → 1 ≤ times u (tree_of later come)
+  named_by_new : (u : ℕ) → 1 ≤ times u (all_named later nodes) → 1 ≤ times u (units_under later come)
   named_by_new u has = by nodes (λ n some. some) has
     where
-      by : (ns : List ℕ) → ((n : ℕ) → 1 ≤ times n ns → 1 ≤ times n nodes) → 1 ≤ times u (all_named later ns) → 1 ≤ times u (tree_of later come)
+      by : (ns : List ℕ) → ((n : ℕ) → 1 ≤ times n ns → 1 ≤ times n nodes) → 1 ≤ times u (all_named later ns) → 1 ≤ times u (units_under later come)
       by [] inside some = absurd (omega (arith, some))
       by (n ∷ ns) inside some = elim (some_of (times u (named_on later n))) [
         | inl here ↦
@@ -240,20 +240,20 @@ module _ (g : Geometry) (units : Units) (used : ℕ → Bool) (refs : ℕ → �
 
   module _ (after : ℕ → ℕ) (count_of : (u : ℕ) → after u ≡ refs u + times u (all_named later nodes) + times u (root_pages (root_here come))) where
     -- what has a new owner is of the tree that came
-    newly_owned : (u : ℕ) → 1 ≤ after u → refs u ≡ 0 → 1 ≤ times u (tree_of later come)
+    newly_owned : (u : ℕ) → 1 ≤ after u → refs u ≡ 0 → 1 ≤ times u (units_under later come)
     newly_owned u some none = elim (some_of (times u (all_named later nodes))) [
       | inl named ↦ named_by_new u named
       | inr no_node ↦ page_in_tree later come u (omega (arith, some, none, no_node, count_of u))
     ]
 
     -- each unit of it has an owner
-    tree_has_owners : (u : ℕ) → 1 ≤ times u (tree_of later come) → 1 ≤ after u
+    tree_has_owners : (u : ℕ) → 1 ≤ times u (units_under later come) → 1 ≤ after u
     tree_has_owners u has = elim (owner_in g later come made.named u has) [
       | inl root ↦ omega (arith, root, count_of u)
       | inr above ↦ of_node above.node above.area above.there above.names
     ]
       where
-        of_node : (n : ℕ) → InPageArea g n → 1 ≤ times n (tree_of later come) → 1 ≤ times u (named_on later n) → 1 ≤ after u
+        of_node : (n : ℕ) → InPageArea g n → 1 ≤ times n (units_under later come) → 1 ≤ times u (named_on later n) → 1 ≤ after u
         of_node n area there names =
             let own = made.own n there in
             elim own.2 [
@@ -350,7 +350,7 @@ module _ (g : Geometry) (units : Units) (used : ℕ → Bool) (refs : ℕ → �
         ]
 
   -- No count of references reaches its end, where roots are few.
-  pub few_counted : length (root_pages (root_here come) ++ roots) ≤ 1500000000 → (u : ℕ) → refs u + times u (all_named later nodes) + times u (root_pages (root_here come)) < refs_most
+  pub few_counted : length (root_pages (root_here come) ++ roots) ≤ roots_most → (u : ℕ) → refs u + times u (all_named later nodes) + times u (root_pages (root_here come)) < refs_most
   few_counted few u =
       let after : ℕ → ℕ = λ v. refs v + times v (all_named later nodes) + times v (root_pages (root_here come)) in
       references_below_end g later now after pages (root_pages (root_here come) ++ roots) u (nodes_made after (λ v. refl)) few

@@ -16,7 +16,7 @@ use Rattle.trees.proofs.Owned.{some_of}
 use Rattle.trees.proofs.OwnedTrees.{root_kept}
 use Rattle.volume_model.specs.Shown.{root_here}
 use Rattle.volume_model.specs.Homes.{home}
-use Rattle.volume_model.specs.OwnersMoved.{IsNamedRoot, tree_of}
+use Rattle.volume_model.specs.OwnersMoved.{IsNamedRoot, units_under}
 use Rattle.volume_model.specs.OwnersShown.{OwnersShown, committed_roots, logged_pages, roots_held}
 use Rattle.volume_model.specs.Volume.{Decoded, Volume, roots_in, stored_in}
 use Rattle.volume_model.proofs.ExactView.{times_joined}
@@ -84,7 +84,7 @@ module _ (d : Decoded) (used : ℕ → Bool) (refs : ℕ → ℕ) (gained lost s
       (turns : (u : ℕ) → times u (root_pages (roots_in (stored_in now))) + times u (root_pages (root_here gone)) ≡ times u (root_pages (roots_in (stored_in working))) + times u (root_pages (root_here come)))
       (there : (u : ℕ) → times u (root_pages (root_here gone)) ≤ times u (root_pages (roots_in (stored_in working)))) where
     -- Each unit of the tree that goes has an owner.
-    pub gone_owned : IsNamedRoot d.geometry (home d.geometry disk) gone → (u : ℕ) → 1 ≤ times u (tree_of (home d.geometry disk) gone) → 1 ≤ refs u
+    pub gone_owned : IsNamedRoot d.geometry (home d.geometry disk) gone → (u : ℕ) → 1 ≤ times u (units_under (home d.geometry disk) gone) → 1 ≤ refs u
     gone_owned named =
         tree_owned d.geometry (home d.geometry disk) used refs (logged_pages d working) (root_pages (roots_held d gained scans)) owners.owned gone named
         (λ u has. working_own u (omega (arith, has, there u)))

@@ -51,7 +51,8 @@ module _ (d : Decoded) (used : ℕ → Bool) (refs : ℕ → ℕ) (gained lost s
   -- The root that went was gained, by its page: the others are gained still, and an owner of its tree less leaves them.
   pub shown_released : (others : List Root) → ((u : ℕ) → times u (root_pages others) + times u (root_pages (root_here gone)) ≡ times u (root_pages gained)) → AllByRecursion (IsWhole d.geometry (home d.geometry disk)) others
       → (left : ℕ → Bool) (fewer : ℕ → ℕ)
-      → ((logged roots : List ℕ) → IsOwned d.geometry (home d.geometry later) made_used counts logged (root_pages (root_here gone) ++ roots) → IsOwned d.geometry (home d.geometry later) left fewer logged roots)
+      → (IsOwned d.geometry (home d.geometry later) made_used counts (logged_pages d working ++ file_pages now) (root_pages (root_here gone) ++ root_pages (roots_held d (others ++ root_here come) scans))
+      → IsOwned d.geometry (home d.geometry later) left fewer (logged_pages d working ++ file_pages now) (root_pages (roots_held d (others ++ root_here come) scans)))
       → (rest : ℕ → Bool) → PagesGo left rest fewer (file_pages working) (logged_pages d now) → OwnersShown d rest fewer (others ++ root_here come) lost scans later now
   shown_released others taken_out whole left fewer released rest go =
       let all = others ++ root_here come in
@@ -59,7 +60,7 @@ module _ (d : Decoded) (used : ℕ → Bool) (refs : ℕ → ℕ) (gained lost s
       λ u. omega (arith, taken_out u, pages_both u others (root_here come)) in
       record {
         owned = swept d working now (home d.geometry later) left rest fewer (root_pages (roots_held d all scans))
-            (released (logged_pages d working ++ file_pages now) (root_pages (roots_held d all scans))
+            (released
             (gone_first d used refs gained lost scans disk working owners now gone come turns there all turned (home d.geometry later) made_used counts (logged_pages d working ++ file_pages now) made)) go;
         turned = released_turned d used refs gained lost scans disk working owners now gone come turns there all turned;
         was_committed = owners.was_committed;

@@ -1,5 +1,5 @@
 -- The table of a volume keeps the rules of tables.
-use Rattle.std.proofs.Common.{◌≡◌, ◌≢◌, ◌∙◌, ◌<◌, ◌≤◌, ℕ, suc, true, ◌&&◌, List, [], ◌∷◌, ◌++◌, length, map, All, AllPairs, IsTrue, Option, Some, None, refl, sym, ap, subst, arith}
+use Rattle.std.proofs.Common.{◌≡◌, ◌≢◌, ◌∙◌, ◌<◌, ◌≤◌, ℕ, suc, true, List, [], ◌∷◌, ◌++◌, length, map, All, AllPairs, IsTrue, Option, Some, None, refl, sym, ap, subst, arith}
 use Rattle.std.specs.Prelude.{Contains, flat_map, nat_le}
 use Rattle.std.specs.List.{AllByRecursion, AllZip, list_all, zip}
 use Rattle.std.specs.Cmp.Lexicographic.{slice_cmp, nat_list_cmp_total}

@@ -60,12 +60,12 @@ scans_used d used refs gained lost held disk working owners later kept =
     scans_kept d used refs gained lost held disk working owners later (λ u behind some. kept u ((owners.owned.in_use u).1 (omega (arith, some))))
 
 -- and over a checkpoint and a commit.
-pub owned_stay : (d : Decoded) (v : View Held) (working : Volume) (refs : ℕ → ℕ) (gained lost : List Root) → OwnersOf d v refs gained lost working → OverlayShown d v
-    → (later : List ℕ) → HomesStay d v.disk later → OwnedStay d refs v.disk later
-owned_stay d v working refs gained lost owners overlay later stays unit behind some =
+pub owned_stay : (d : Decoded) (v : View Held) (working : Volume) → OwnersOf d v working → OverlayShown d v
+    → (later : List ℕ) → HomesStay d v.disk later → OwnedStay d v.session.refs v.disk later
+owned_stay d v working owners overlay later stays unit behind some =
     stays unit behind (log_apart d v working overlay unit
-    (owned_apart d.geometry (home d.geometry v.disk) v.session.used refs (logged_pages d working) (root_pages (roots_held d gained (roots_here v.session.scans))) owners.owned unit some))
+    (owned_apart d.geometry (home d.geometry v.disk) v.session.used v.session.refs (logged_pages d working) (root_pages (roots_held d v.session.gained (roots_here v.session.scans))) owners.owned unit some))
 
-pub scans_shown : (d : Decoded) (v : View Held) (working : Volume) (refs : ℕ → ℕ) (gained lost : List Root) → OwnersOf d v refs gained lost working → (later : List ℕ) → OwnedStay d refs v.disk later
+pub scans_shown : (d : Decoded) (v : View Held) (working : Volume) → OwnersOf d v working → (later : List ℕ) → OwnedStay d v.session.refs v.disk later
     → AllZip (ScanShown d.geometry (home d.geometry v.disk)) v.machine.scans v.session.scans → AllZip (ScanShown d.geometry (home d.geometry later)) v.machine.scans v.session.scans
-scans_shown d v working refs gained lost owners later same = scans_kept d v.session.used refs gained lost v.session.scans v.disk working owners later same v.machine.scans
+scans_shown d v working owners later same = scans_kept d v.session.used v.session.refs v.session.gained v.session.lost v.session.scans v.disk working owners later same v.machine.scans

@@ -1,6 +1,6 @@
 -- The units of a disk that decodes are whole.
 use Rattle.std.proofs.Common.{◌≡◌, ℕ, ◌+◌, ◌*◌, ◌<◌, ◌≤◌, suc, suc-mul, List, [], ◌∷◌, length, Option, Some, None, refl, subst, eqb-true, arith}
-use Rattle.std.specs.Prelude.{IfSome, unwrap_or, ◌==◌, if◌then◌else◌}
+use Rattle.std.specs.Prelude.{IfSome, unwrap_or, ◌==◌}
 use Rattle.std.specs.List.{AllByRecursion, list_any}
 use Rattle.std.proofs.lemmas.Bool.{lt-ltb, le-ltb, cond_both}
 use Rattle.std.proofs.Math.Nat.{mul-le-mul_right, add-mul}

@@ -2,8 +2,10 @@ pub mod Volume
 pub mod Parts
 pub mod Durable
 pub mod Homes
-pub mod Shown
+pub mod Held
 pub mod OwnersShown
+pub mod Shown
+pub mod TreesShown
 pub mod OwnersMoved
 pub mod OwnersTurn
 pub mod Committed

@@ -32,6 +32,7 @@ shows_narrower may_leave fewer v inside shows = record {
   committed = shows.committed;
   working_shown = shows.working_shown;
   scans = shows.scans;
+  owners = shows.owners;
   used = shows.used;
   logged = shows.logged;
   frames = shows.frames;

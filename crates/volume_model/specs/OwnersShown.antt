@@ -8,7 +8,7 @@ use Rattle.trees.specs.Damage.{IsWhole}
 use Rattle.trees.specs.Owners.{IsOwned, root_pages}
 use Rattle.session_views.specs.View.{View}
 use Rattle.volume_model.specs.Homes.{home}
-use Rattle.volume_model.specs.Shown.{Held, roots_here}
+use Rattle.volume_model.specs.Held.{Held, roots_here}
 use Rattle.volume_model.specs.Volume.{Volume, Decoded, file_pages, roots_in, stored_in}
 
 -- the logged pages of the committed and of the working volume
@@ -37,10 +37,6 @@ pub record OwnersShown (d : Decoded) (used : ℕ → Bool) (refs : ℕ → ℕ) 
 abbrev pub OwnedStay : Decoded → (ℕ → ℕ) → List ℕ → List ℕ → Type 0
 OwnedStay d refs disk later = (unit : ℕ) → catalog_no ≤ unit → 1 ≤ refs unit → home d.geometry later unit ≡ home d.geometry disk unit
 
--- the owners of a view, whose session holds these counts and roots besides
-abbrev pub OwnersOf : Decoded → View Held → (ℕ → ℕ) → List Root → List Root → Volume → Type 0
-OwnersOf d v refs gained lost working = OwnersShown d v.session.used refs gained lost (roots_here v.session.scans) v.disk working
-
--- A crash leaves no image. A view that shows where some are left shows so too.
-abbrev pub NoImage : List ℕ → Type 0
-NoImage image = ⊥
+-- the owners of a view
+abbrev pub OwnersOf : Decoded → View Held → Volume → Type 0
+OwnersOf d v working = OwnersShown d v.session.used v.session.refs v.session.gained v.session.lost (roots_here v.session.scans) v.disk working

@@ -7,7 +7,7 @@ use Rattle.trees.specs.Damage.{IsWhole}
 use Rattle.trees.specs.Owners.{IsOwned, root_pages}
 use Rattle.volume_model.specs.Homes.{home}
 use Rattle.volume_model.specs.OwnersShown.{OwnersShown, logged_pages, roots_held}
-use Rattle.volume_model.specs.Shown.{root_here}
+use Rattle.volume_model.specs.Held.{root_here}
 use Rattle.volume_model.specs.Volume.{Decoded, Volume, file_pages, roots_in, stored_in}
 
 -- A session showed its owners. In the working volume one root went and one came, whose tree is whole; what was used has its bytes. The root that came is

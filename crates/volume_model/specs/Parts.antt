@@ -5,7 +5,7 @@ use Rattle.std.specs.List.Sorted.{IsPermutation}
 use Rattle.ex_base.specs.declared.names.Place.{Place}
 use Rattle.ex_base.specs.declared.names.Root.{Root}
 use Rattle.ex_base.specs.declared.geometry.Geometry.{Geometry}
-use Rattle.ex_base.specs.Area.{catalog_no, log_at}
+use Rattle.ex_base.specs.Area.{catalog_no}
 use Rattle.ex_base.specs.Bytes.{part}
 use Rattle.ex_base.specs.Order.{Rising, AllDiffer}
 use Rattle.ex_base.specs.Sizes.{leaf_bytes, object_most, volume_bytes}

@@ -5,65 +5,23 @@ use Rattle.std.specs.Map.{lookup}
 use Rattle.ex_base.specs.declared.geometry.Geometry.{Geometry}
 use Rattle.ex_base.specs.declared.names.Area.{Area}
 use Rattle.ex_base.specs.declared.names.Area.TheVariants.{Page, Segment}
-use Rattle.ex_base.specs.declared.names.OpNote.{OpNote}
-use Rattle.ex_base.specs.declared.names.Root.{Root}
 use Rattle.ex_base.specs.Area.{catalog_no, page_at, unit_at}
 use Rattle.ex_base.specs.Order.{Rising}
 use Rattle.ex_base.specs.Sizes.{units}
 use Rattle.op_log.specs.AfterLog.{logged, after_log}
 use Rattle.op_log.specs.Log.{log_end}
-use Rattle.op_log.specs.State.{LogState}
 use Rattle.trees.specs.Shown.{BytesShown}
 use Rattle.trees.specs.Trees.{Units, root_units, units_from}
-use Rattle.table_model.specs.declared.machine.BoundName.{BoundName}
-use Rattle.table_model.specs.declared.machine.GroupRow.{GroupRow}
 use Rattle.table_model.specs.declared.machine.ScanRow.{ScanRow}
 use Rattle.table_model.specs.declared.table.Table.{Table}
 use Rattle.table_model.specs.Machines.{IsMachine}
 use Rattle.session_views.specs.View.{View}
 use Rattle.volume_model.specs.Durable.{Agrees}
+use Rattle.volume_model.specs.Homes.{home}
+use Rattle.volume_model.specs.OwnersShown.{OwnersOf}
 use Rattle.volume_model.specs.Parts.{Decodes, HoldsOf, content_parts}
+pub use Rattle.volume_model.specs.Held.{PageRow, WorkingRow, HeldScan, Held, root_here, roots_here}
 use Rattle.volume_model.specs.Volume.{Volume, Decoded, table_of, units_of, file_pages, reach_of, roots_in, stored_in}
-
--- ---- what a session holds
-
--- a page number and the bytes of the page
-abbrev pub PageRow : Type 0
-PageRow = ℕ × List ℕ
-
--- a changed logged page of the transaction: its image, or none where it was given back
-abbrev pub WorkingRow : Type 0
-WorkingRow = ℕ × Option (List ℕ)
-
--- an open scan: without a root it holds its bytes itself
-pub record HeldScan : Type 0 where
-  pub name : List ℕ
-  pub root : Option Root
-  pub small : List ℕ
-  pub pos : ℕ
-
--- the value of a session in contracts: all that it holds, and no table
-pub record Held : Type 0 where
-  pub geometry : Geometry
-  pub notes : List OpNote
-  pub names : List BoundName
-  pub working_pages : List WorkingRow
-  pub scans : List HeldScan
-  pub group_rows : List GroupRow
-  -- the frames of `main` and of each group
-  pub frames : List (List PageRow)
-  pub used : ℕ → Bool
-  -- the logged pages that the working state has, and those that the committed one has
-  pub held : ℕ → Bool
-  pub kept : ℕ → Bool
-  -- of the pages that the working state has, those that the open transaction took
-  pub taken : ℕ → Bool
-  -- the committed images that stand in the log
-  pub overlay : List PageRow
-  pub log : LogState
-  -- a transaction is open
-  pub opened : Bool
-  pub down : Bool
 
 -- ---- the working pages, laid over
 
@@ -79,13 +37,6 @@ laid_over g disk pages working page = laid_over_page (pages page) (page_at g dis
 abbrev pub working_units : Decoded → List ℕ → List WorkingRow → Units
 working_units d disk working = units_from d.geometry (laid_over d.geometry disk (after_log d.geometry d.records disk) working) disk
 
-abbrev pub root_here : Option Root → List Root
-root_here None = []
-root_here (Some root) = root ∷ []
-
-abbrev pub roots_here : List HeldScan → List Root
-roots_here scans = flat_map (λ (scan : HeldScan). root_here scan.root) scans
-
 -- ---- the parts of a view
 
 -- The working pages decode as a volume of the working table.
@@ -98,7 +49,7 @@ abbrev pub WorkingShown : Decoded → View Held → Volume → Option Table → 
 WorkingShown d v working None = (v.session.working_pages ≡ []) × (working ≡ d.volume)
 WorkingShown d v working (Some table) = ShowsWorking d v working table
 
--- The scan of this row of the machine is open, and its bytes are those that it shows.
+-- The scan of this row of the machine is open, and its bytes are those that it shows; the units of its tree stand at home.
 pub record ScanShown (g : Geometry) (units : Units) (row : ScanRow) (held : HeldScan) : Type 0 where
   pub name : row.name ≡ held.name
   pub pos : row.pos ≡ held.pos
@@ -108,13 +59,13 @@ pub record ScanShown (g : Geometry) (units : Units) (row : ScanRow) (held : Held
 abbrev pub trees_of_view : Decoded → View Held → Volume → List ℕ
 trees_of_view d v working =
     flat_map (root_units (units_of d v.disk)) (roots_in (stored_in d.volume)) ++ flat_map (root_units (working_units d v.disk v.session.working_pages)) (roots_in (stored_in working))
-    ++ flat_map (root_units (units_of d v.disk)) (roots_here v.session.scans)
+    ++ flat_map (root_units (home d.geometry v.disk)) (roots_here v.session.scans)
 
 -- what the committed pages, the working pages and the open scans reach
 abbrev pub reach_of_view : Decoded → View Held → Volume → List ℕ
 reach_of_view d v working =
     reach_of (units_of d v.disk) d.volume ++ reach_of (working_units d v.disk v.session.working_pages) working
-    ++ flat_map (root_units (units_of d v.disk)) (roots_here v.session.scans)
+    ++ flat_map (root_units (home d.geometry v.disk)) (roots_here v.session.scans)
 
 -- how many of the first n units are used
 abbrev pub used_below : (ℕ → Bool) → (ℕ → ℕ) → ℕ → ℕ
@@ -125,10 +76,9 @@ used_below used at (suc n) = used_below used at n + (if used (at n) then 1 else 
 abbrev pub used_in : Geometry → (ℕ → Bool) → Area → ℕ
 used_in g used area = used_below used (unit_at g area) (units g area)
 
--- Each unit that is reached is in use, and the machine counts those in use. A unit of a tree that lost its last owner may stay in use until the volume
--- is opened again.
+-- In use are exactly the units that are reached, and the machine counts them.
 pub record UsedShown (d : Decoded) (v : View Held) (working : Volume) : Type 0 where
-  pub reached : (unit : ℕ) → Contains (reach_of_view d v working) unit → v.session.used unit ≡ true
+  pub reached : (unit : ℕ) → (v.session.used unit ≡ true) ↔ Contains (reach_of_view d v working) unit
   pub pages : v.machine.pages_used ≡ used_in d.geometry v.session.used Page
   pub segs : v.machine.segs_used ≡ used_in d.geometry v.session.used Segment
   pub touched : v.machine.touched ≡ length v.session.working_pages
@@ -149,12 +99,10 @@ pub record PagesApart (d : Decoded) (v : View Held) (working : Volume) : Type 0 
   pub images : AllByRecursion (IsWorkingPage working) v.session.working_pages
   pub left : IsSome v.machine.working → (page : ℕ) → Contains (file_pages d.volume) page → (¬ Contains (file_pages working) page) → lookup (nat_eq page) v.session.working_pages ≡ Some None
 
--- The session knows the logged pages of the working volume and of the committed one exactly. A page that the transaction took is none of the committed
--- volume's, nor of its trees.
+-- The session knows the logged pages of the working volume and of the committed one exactly.
 pub record LoggedShown (d : Decoded) (v : View Held) (working : Volume) : Type 0 where
   pub held : (page : ℕ) → (v.session.held page ≡ true) ↔ Contains (catalog_no ∷ file_pages working) page
   pub kept : (page : ℕ) → (v.session.kept page ≡ true) ↔ Contains (catalog_no ∷ file_pages d.volume) page
-  pub taken : (page : ℕ) → v.session.taken page ≡ true → (v.session.held page ≡ true) × (¬ Contains (reach_of (units_of d v.disk) d.volume) page)
 
 -- The overlay has just the pages that the log has, with their images; the session's log stands behind the last record.
 pub record OverlayShown (d : Decoded) (v : View Held) : Type 0 where
@@ -182,7 +130,8 @@ pub record Shows (may_leave : List ℕ → Type 0) (v : View Held) : Type 0 wher
   pub geometry : v.machine.geometry ≡ decoded.geometry
   pub committed : v.machine.committed ≡ table_of (units_of decoded v.disk) decoded.volume
   pub working_shown : WorkingShown decoded v working v.machine.working
-  pub scans : AllZip (ScanShown decoded.geometry (units_of decoded v.disk)) v.machine.scans v.session.scans
+  pub scans : AllZip (ScanShown decoded.geometry (home decoded.geometry v.disk)) v.machine.scans v.session.scans
+  pub owners : OwnersOf decoded v working
   pub used : UsedShown decoded v working
   pub logged : LoggedShown decoded v working
   pub frames : AllByRecursion (Lends decoded.geometry v.disk) v.session.frames

@@ -20,13 +20,14 @@ ghost use Rattle.trees.specs.Damage.{IsWhole};
 ghost use Rattle.trees.specs.Owners.{IsOwned, all_named, root_pages};
 ghost use Rattle.trees.specs.Trees.{Units};
 ghost use Rattle.volume_model.specs.Durable.{Agrees};
-ghost use Rattle.volume_model.specs.FreshView.{KnowsUnits, OpenedView};
+ghost use Rattle.volume_model.specs.FreshView.{KnowsUnits, OpenedView, OwnsUnits};
 ghost use Rattle.volume_model.specs.Homes.{home};
-ghost use Rattle.volume_model.specs.OwnersMoved.{PagesGo, UnitsMade};
+ghost use Rattle.volume_model.specs.OwnersMoved.{PagesGo, UnitsMade, roots_most, volume_roots_most};
 ghost use Rattle.volume_model.specs.OwnersTurn.{OwnersTurn};
-ghost use Rattle.volume_model.specs.OwnersShown.{NoImage, OwnedStay, OwnersOf, OwnersShown, committed_roots, logged_pages};
+ghost use Rattle.volume_model.specs.OwnersShown.{OwnedStay, OwnersOf, OwnersShown, committed_roots, logged_pages, roots_held};
 ghost use Rattle.volume_model.specs.Parts.{Decodes, FirstBad, HoldsOf, StandsFor, SuperOf, content_parts};
-ghost use Rattle.volume_model.specs.Shown.{Held, OverlayShown, ScanShown, Shows, reach_of_view, root_here, trees_of_view};
+ghost use Rattle.volume_model.specs.Shown.{Held, OverlayShown, ScanShown, reach_of_view, root_here, trees_of_view};
+ghost use Rattle.volume_model.specs.TreesShown.{TreesShown};
 ghost use Rattle.volume_model.specs.Volume.{Volume, Decoded, file_pages, roots_in, stored_in, table_of, units_of};
 
 pub use session_views::Part;
@@ -73,43 +74,40 @@ pub fn a_volume_stands_for_a_table_with_the_rules()
 {}
 
 /// A session that was just opened shows the table that the volume stood for: no record counts any more and nothing is pending, the volume's table stayed
-/// as it was, and the session knows which units and logged pages the volume has.
+/// as it was, and the session knows which units and logged pages the volume has, and how many owners each unit has.
 pub fn an_opened_volume_shows_its_table()
-    ensures { (d : Decoded) (image disk : List ℕ) (log : LogState) (used held : ℕ
-        → Bool) (table : Table) → Decodes image d → StandsFor image table
+    ensures { (d : Decoded) (image disk : List ℕ) (log : LogState) (used : ℕ → Bool) (refs : ℕ
+        → ℕ) (held : ℕ → Bool) (table : Table) → Decodes image d → StandsFor image table
         → Committed (λ left. left ≡ disk) (with_records d [] d.volume) disk log []
         → table_of (units_of (with_records d [] d.volume) disk) d.volume
         ≡ table_of (units_of d image) d.volume
         → KnowsUnits (with_records d [] d.volume) disk used held
-        → OpenedView (λ left. left ≡ disk) (with_records d [] d.volume) disk log used held table }
+        → OwnsUnits d.geometry (home d.geometry disk) d.volume used refs
+        → OpenedView (λ left. left ≡ disk) (with_records d [] d.volume) disk log used refs held
+        table }
 {}
 
-/// Where a view shows, whatever a crash may leave, and each unit of a tree has as many references as owners, just the units that it reaches are used,
-/// and no page of a file lies in a tree.
+/// Where each unit of a tree has as many references as owners, just the units that a view reaches are used, and no page of a file lies in a tree.
 pub fn owned_units_are_reached()
-    ensures reached { (v : View Held) (shows : Shows NoImage v)
-        → (refs : ℕ → ℕ) (gained lost : List Root)
-        → OwnersOf shows.decoded v refs gained lost shows.working
-        → (unit : ℕ) → (v.session.used unit ≡ true)
-        ↔ Contains (reach_of_view shows.decoded v shows.working) unit }
-    ensures apart { (v : View Held) (shows : Shows NoImage v)
-        → (refs : ℕ → ℕ) (gained lost : List Root)
-        → OwnersOf shows.decoded v refs gained lost shows.working → (page : ℕ)
-        → Contains (file_pages shows.decoded.volume ++ file_pages shows.working) page
-        → ¬ Contains (trees_of_view shows.decoded v shows.working) page }
+    ensures reached { (d : Decoded) (v : View Held) (working : Volume) → OwnersOf d v working
+        → TreesShown d v working → (unit : ℕ) → (v.session.used unit ≡ true)
+        ↔ Contains (reach_of_view d v working) unit }
+    ensures apart { (d : Decoded) (v : View Held) (working : Volume) → OwnersOf d v working
+        → TreesShown d v working → (page : ℕ)
+        → Contains (file_pages d.volume ++ file_pages working) page
+        → ¬ Contains (trees_of_view d v working) page }
 {}
 
 /// Where each unit of a tree has as many references as owners, of which open scans are some, a scan shows the same bytes on a later disk on which the
 /// units that have an owner stand at home as they did. They do over a checkpoint and a commit.
 pub fn open_scans_keep_their_bytes()
-    ensures kept { (d : Decoded) (v : View Held) (working : Volume) (refs : ℕ → ℕ) (gained lost
-        : List Root) → OwnersOf d v refs gained lost working → (later : List ℕ)
-        → OwnedStay d refs v.disk later
+    ensures kept { (d : Decoded) (v : View Held) (working : Volume) → OwnersOf d v working
+        → (later : List ℕ) → OwnedStay d v.session.refs v.disk later
         → AllZip (ScanShown d.geometry (home d.geometry v.disk)) v.machine.scans v.session.scans
         → AllZip (ScanShown d.geometry (home d.geometry later)) v.machine.scans v.session.scans }
-    ensures committed { (d : Decoded) (v : View Held) (working : Volume) (refs : ℕ → ℕ) (gained lost
-        : List Root) → OwnersOf d v refs gained lost working → OverlayShown d v
-        → (later : List ℕ) → HomesStay d v.disk later → OwnedStay d refs v.disk later }
+    ensures committed { (d : Decoded) (v : View Held) (working : Volume) → OwnersOf d v working
+        → OverlayShown d v → (later : List ℕ) → HomesStay d v.disk later
+        → OwnedStay d v.session.refs v.disk later }
 {}
 
 /// Where each unit of a tree has as many references as owners, it has so after an update, with the tree that came counted, and after the pages that the
@@ -126,7 +124,7 @@ pub fn an_update_keeps_owners()
         → ℕ) (logged roots : List ℕ) → IsOwned g units used refs logged roots
         → (later : Units) (now : ℕ → Bool) (pages nodes : List ℕ) (come : Option Root)
         → UnitsMade g units later used now refs logged pages nodes come
-        → length (root_pages (root_here come) ++ roots) ≤ 1500000000 → (u : ℕ)
+        → length (root_pages (root_here come) ++ roots) ≤ roots_most → (u : ℕ)
         → refs u + times u (all_named later nodes) + times u (root_pages (root_here come))
         < refs_most }
     ensures swept { (d : Decoded) (working now : Volume) (units : Units) (used left : ℕ
@@ -146,10 +144,13 @@ pub fn roots_that_turn_keep_owners()
         → (others : List Root) → ((u : ℕ) → times u (root_pages others)
         + times u (root_pages (root_here gone)) ≡ times u (root_pages gained))
         → AllByRecursion (IsWhole d.geometry (home d.geometry disk)) others
-        → (left : ℕ → Bool) (fewer : ℕ → ℕ) → ((logged roots : List ℕ)
-        → IsOwned d.geometry (home d.geometry later) made counts logged
-        (root_pages (root_here gone) ++ roots)
-        → IsOwned d.geometry (home d.geometry later) left fewer logged roots)
+        → (left : ℕ → Bool) (fewer : ℕ → ℕ)
+        → (IsOwned d.geometry (home d.geometry later) made counts
+        (logged_pages d working ++ file_pages now) (root_pages (root_here gone)
+        ++ root_pages (roots_held d (others ++ root_here come) scans))
+        → IsOwned d.geometry (home d.geometry later) left fewer
+        (logged_pages d working ++ file_pages now)
+        (root_pages (roots_held d (others ++ root_here come) scans)))
         → (rest : ℕ → Bool) → PagesGo left rest fewer (file_pages working) (logged_pages d now)
         → OwnersShown d rest fewer (others ++ root_here come) lost scans later now }
     ensures lost { (d : Decoded) (used : ℕ → Bool) (refs : ℕ → ℕ) (gained lost scans : List
@@ -197,9 +198,9 @@ pub fn an_abort_keeps_owners()
         → OwnersShown d left refs [] [] scans disk d.volume }
 {}
 
-/// A volume has at most 816,000,000 roots, so that no count of references reaches its end.
+/// A volume has few roots, so that no count of references reaches its end.
 pub fn a_volume_has_few_roots()
     ensures { (g : Geometry) (records : List LogRecord) (units : Units) (v : Volume)
         → AllByRecursion (HoldsOf g records units v) content_parts
-        → length (roots_in (stored_in v)) ≤ 816000000 }
+        → length (roots_in (stored_in v)) ≤ volume_roots_most }
 {}

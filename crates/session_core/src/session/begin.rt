@@ -1,19 +1,26 @@
 //! A transaction is opened, and one is given up.
-ghost use Rattle.std.specs.Prelude.{◌≡◌, ◌≤◌, true, false};
+ghost use Rattle.std.specs.Prelude.{◌≡◌, ◌≤◌, true, OnOk};
 ghost use Rattle.ex_base.specs.Sizes.{volume_bytes};
 
 use super::Session;
 use super::catalog::view_of;
+use super::objects::stopped;
 use super::settle::take_back;
 use disk_model::Host;
 use session_views::Stop;
 use std::alloc::Global;
 use table_model::{Refusal, Reply};
+use volume_port::release_roots;
 
 impl Session {
     ghost use Rattle.table_model.specs.Requests as request;
-    ghost use Rattle.session_core.specs.Sessions.{FreesTaken, IsSession, TakenBack, aborted};
-    ghost use Rattle.session_core.specs.Steps.{StepsQuietly};
+    ghost use Rattle.ex_base.specs.declared.names.Area.TheVariants.{Page};
+    ghost use Rattle.session_core.specs.Counts.{free_in};
+    ghost use Rattle.session_views.specs.View.{View, ShowsNow};
+    ghost use Rattle.session_core.specs.Commits.{JustReached, committed_reach};
+    ghost use Rattle.session_core.specs.Meant.{meant};
+    ghost use Rattle.session_core.specs.Sessions.{FreesTaken, SessionState};
+    ghost use Rattle.session_core.specs.Steps.{Steps, StepsQuietly};
 
     /// Opens a transaction: the working catalog is the committed one, and no update is noted. Refused where one is open, and where no number of a commit is
     /// left.
@@ -38,27 +45,50 @@ impl Session {
         Ok(Reply::Begin { number: last + 1 })
     }
 
-    /// Gives the open transaction up: its working pages are dropped, the pages that it took are free, and the names that it bound are unbound. Refused where
-    /// none is open.
-    pub fn abort(&mut self) -> Reply
-        ensures refused { self.old.opened ≡ false → (result ≡ Reply.No Refusal.NoTxn)
-            × (self.new ≡ self.old) }
-        ensures aborted { self.old.opened ≡ true → (result ≡ Reply.Abort)
-            × (self.new ≡ aborted self.old self.new.pages self.new.units) }
-        ensures taken_back { self.old.opened ≡ true
-            → TakenBack self.old.meta.working self.old.kept self.old.pages self.new.pages self.old.units self.new.units }
-        ensures freed { self.old.opened ≡ true → FreesTaken self.old self.new }
-        ensures session { IsSession self.old }
+    /// Gives the open transaction up: each tree whose root it gained has an owner less, its working pages are dropped, the pages that it took are free, and
+    /// the names that it bound are unbound. Refused where none is open. It stops where the disk fails and where memory is wanted, since it reads the nodes
+    /// that become free.
+    pub fn abort<H: Host>(&mut self, alloc: Global, host: &mut H) -> Result<Reply, Stop>
+        requires room { volume_bytes self.old.geometry ≤ (H.outside host.old).size }
+        ensures steps { Steps (H.outside host.old)
+            (H.outside host.new) self.old self.new request.Abort result }
+
+        // The pages that the transaction took are free.
+        ensures freed { self.old.opened ≡ true → OnOk result (FreesTaken self.old self.new) }
+
+        // In use are exactly the units that the committed volume reaches.
+        ensures exact { (before : View SessionState) → before.session ≡ self.old
+            → (shown : ShowsNow meant (H.outside host.old) before) → self.old.opened ≡ true
+            → OnOk result (JustReached self.new.units
+            (committed_reach shown.shows.decoded before.disk)) }
+
+        // Where no page became free, the host was not called.
+        ensures idle { OnOk result (free_in self.new Page ≡ free_in self.old Page
+            → host.new ≡ host.old) }
     {
         if !self.opened {
-            return Reply::No(Refusal::NoTxn);
+            return Ok(Reply::No(Refusal::NoTxn));
+        }
+        if let Err(fault) = release_roots(
+            alloc,
+            host,
+            &mut self.units,
+            &mut self.groups,
+            &self.geometry,
+            &self.pages,
+            &self.kept,
+            &self.gained,
+        ) {
+            return Err(stopped(fault));
         }
         take_back(&self.meta, &mut self.units, &mut self.pages, &self.kept);
         self.meta.undo();
         self.rooms.forget();
         self.names.unbind_marked();
         self.notes.clear();
+        self.gained.clear();
+        self.lost.clear();
         self.opened = false;
-        Reply::Abort
+        Ok(Reply::Abort)
     }
 }

@@ -1,5 +1,5 @@
 //! A transaction is committed, and a checkpoint is made.
-ghost use Rattle.std.specs.Prelude.{◌≡◌, ◌≤◌, ◌<◌, ◌+◌, ◌-◌, ◌^◌, length, Ok, Err, OnOk, true};
+ghost use Rattle.std.specs.Prelude.{◌≡◌, ◌≤◌, ◌<◌, ◌+◌, ◌-◌, ◌^◌, length, Ok, Err, IfErr, OnOk, true};
 ghost use Rattle.ex_base.specs.Sizes.{volume_bytes};
 ghost use Rattle.object_files.specs.Catalog.{CatalogOf};
 ghost use Rattle.object_files.specs.Edits.{IsCatalogPage};
@@ -8,6 +8,7 @@ ghost use Rattle.session_core.specs.Commits.{stop_of};
 
 use super::Session;
 use super::catalog::view_of;
+use super::objects::stopped;
 use super::settle::settle;
 use commits::{CommitFault, checkpoint, commit};
 use disk_model::Host;
@@ -16,6 +17,7 @@ use object_files::set_numbers;
 use session_views::Stop;
 use std::alloc::Global;
 use table_model::{Refusal, Reply};
+use volume_port::release_roots;
 
 /// Puts the number of the next commit into a copy of the catalog, and answers it.
 fn number_next(page: &mut Vec<u8>) -> u64
@@ -48,13 +50,13 @@ impl Session {
     ghost use Rattle.table_model.specs.Requests as request;
     ghost use Rattle.session_views.specs.declared.engine.Stop.{Stop};
     ghost use Rattle.session_views.specs.View.{View, ShowsNow};
-    ghost use Rattle.session_core.specs.Commits.{LogsCommit};
+    ghost use Rattle.session_core.specs.Commits.{JustReached, LogsCommit, working_reach};
     ghost use Rattle.session_core.specs.Sessions.{FreesGivenBack, SessionState};
     ghost use Rattle.session_core.specs.Meant.{meant};
     ghost use Rattle.session_core.specs.Steps.{Steps};
 
-    /// Makes the working state the committed one, under the number after that of the last commit. Refused where no transaction is open. It stops where the
-    /// disk fails and where memory is wanted.
+    /// Makes the working state the committed one, under the number after that of the last commit. Each tree whose root the transaction gave up has an owner
+    /// less, before anything is written. Refused where no transaction is open. It stops where the disk fails and where memory is wanted.
     pub fn commit<H: Host>(&mut self, alloc: Global, host: &mut H) -> Result<Reply, Stop>
         requires room { volume_bytes self.old.geometry ≤ (H.outside host.old).size }
         ensures steps { Steps (H.outside host.old)
@@ -68,6 +70,12 @@ impl Session {
         ensures freed { self.old.opened ≡ true
             → OnOk result (FreesGivenBack self.old self.new) }
 
+        // In use are exactly the units that the working volume reached: where a version was dropped, what nothing else reaches became free.
+        ensures exact { (before : View SessionState) → before.session ≡ self.old
+            → (shown : ShowsNow meant (H.outside host.old) before) → self.old.opened ≡ true
+            → OnOk result (JustReached self.new.units
+            (working_reach shown.shows.decoded before shown.shows.working)) }
+
         // Where memory is wanted, the disk was read at most, and the log is what it was.
         ensures unwritten { result ≡ Err Stop.Memory
             → ReadsOnly (H.outside host.old) (H.outside host.new) × (self.new.log ≡ self.old.log) }
@@ -79,12 +87,26 @@ impl Session {
             Ok(page) => page,
             Err(stop) => return Err(stop),
         };
+        if let Err(fault) = release_roots(
+            alloc,
+            host,
+            &mut self.units,
+            &mut self.groups,
+            &self.geometry,
+            &self.pages,
+            &self.kept,
+            &self.lost,
+        ) {
+            return Err(stopped(fault));
+        }
         let number = number_next(&mut page);
         if self.meta.edit(alloc, PageNo::CATALOG, &page).is_err() {
             return Err(Stop::Memory);
         }
         // From here on the transaction is committed, or the session is down.
         self.opened = false;
+        self.gained.clear();
+        self.lost.clear();
         settle(&self.meta, &mut self.units, &mut self.kept);
         if let Err(fault) = commit(
             alloc,
@@ -110,6 +132,7 @@ impl Session {
         ensures steps { Steps (H.outside host.old)
             (H.outside host.new) self.old self.new request.Checkpoint result }
         ensures none_counts { result ≡ Ok Reply.Checkpoint → self.new.log.count ≡ 0 }
+        ensures disk_alone { IfErr result (λ why. why ≡ Stop.Disk) }
         ensures takes_none { result ≡ Err Stop.Memory → ⊥ }
     {
         if self.opened {

@@ -1,5 +1,5 @@
 //! Updates of objects, through a port over the parts of a session.
-ghost use Rattle.std.specs.Prelude.{◌≡◌, ◌≤◌, ◌<◌, [], length, true, false, IfOk, IfErr, OnOk, OnErr};
+ghost use Rattle.std.specs.Prelude.{◌≡◌, ◌≤◌, ◌<◌, [], length, suc, true, false, IfOk, IfErr, OnOk, OnErr};
 ghost use Rattle.ex_base.specs.Ports.{HasCause, IsDamage};
 ghost use Rattle.disk_model.specs.Outside.{DiskOnly, Leaves};
 ghost use Rattle.table_model.specs.Requests.{Request};
@@ -18,16 +18,17 @@ ghost use Rattle.session_core.specs.TableUpdates.{updated};
 ghost use Rattle.session_core.specs.Finding.{IsOutside, LineStops};
 ghost use Rattle.session_core.specs.Counts.{free_in};
 ghost use Rattle.session_core.specs.Sessions.{HasWork, SessionState, TakenBack};
-ghost use Rattle.session_core.specs.Updates.{AreReady, HasRoomFor, HoldsSwept, HoldsTable, IfAsked, Moved, WasSwept, note_done};
+ghost use Rattle.session_core.specs.Updates.{AreReady, HasRoomFor, HasRoots, HoldsTable, HoldsTurned, IfAsked, IsLoose, Moved, OwnsGone, note_done};
 ghost use Rattle.tree_store.specs.Stored.{NoUnit};
 
 use super::objects::stopped;
-use super::settle::{pages_there, sweep, take_back};
+use super::settle::{sweep, take_back};
+use super::turning::turn_roots;
 use super::{MAIN, Session};
 use crate::updates::{Done, ObjectUpdate, Rooms, perform};
 use buffer_groups::Groups;
 use disk_model::{Disk, Host};
-use ex_base::{Area, Geometry, Oid, OpNote, PageNo, PortFault};
+use ex_base::{Area, Geometry, Oid, OpNote, PageNo, PortFault, Root};
 use meta_pages::Meta;
 use object_files::CatalogView;
 use page_alloc::{Filled, Units};
@@ -131,8 +132,13 @@ fn update_on<D: Disk>(
     ensures updated { IfOk result
         (λ done. IfAsked (D.outside disk.old) geometry.now
         (record { units = units.old; groups = groups.old; meta = meta.old; pages = pages.old; room = room.old }) update.now (λ before u.
-        AreRows meta.new → HoldsSwept before (D.outside disk.new)
-        (record { units = units.new; groups = groups.new; meta = meta.new; pages = pages.new; room = room.new }) (updated u done.oid (shown before.machine)))) }
+        AreRows meta.new → HoldsTurned before (D.outside disk.new)
+        (record { units = units.new; groups = groups.new; meta = meta.new; pages = pages.new; room = room.new }) done.gone done.come (updated u done.oid (shown before.machine)))) }
+    ensures owns { IfOk result
+        (λ done. IfAsked (D.outside disk.old) geometry.now
+        (record { units = units.old; groups = groups.old; meta = meta.old; pages = pages.old; room = room.old }) update.now (λ before u.
+        OwnsGone before (D.outside disk.new)
+        (record { units = units.new; groups = groups.new; meta = meta.new; pages = pages.new; room = room.new }) done.gone done.come)) }
     ensures sound { IfErr result
         (λ fault. IfAsked (D.outside disk.old) geometry.now
         (record { units = units.old; groups = groups.old; meta = meta.old; pages = pages.old; room = room.old }) update.now (λ before u.
@@ -149,7 +155,8 @@ fn update_on<D: Disk>(
     perform(&mut port, alloc, rooms, update)
 }
 
-// Performs an update as `update_on` does, and frees the pages that it gave back and that the committed state hasn't.
+// Performs an update as `update_on` does, turns the roots of the transaction by the one that went and the one that came, and frees the pages that the
+// transaction gave back and that the committed state hasn't.
 fn update_parts<D: Disk>(
     alloc: Global,
     disk: &mut D,
@@ -159,6 +166,8 @@ fn update_parts<D: Disk>(
     meta: &mut Meta,
     pages: &mut LoggedPages,
     kept: &Filled<bool>,
+    gained: &mut Vec<Root>,
+    lost: &mut Vec<Root>,
     room: &mut [u8],
     rooms: &mut Rooms,
     update: &ObjectUpdate<'_>,
@@ -168,34 +177,39 @@ fn update_parts<D: Disk>(
     requires flags { length kept.now ≡ area_end geometry.now }
     requires can { CanPerform update.now (free_count units.old.geometry (used_at units.old) Page) }
     ensures named { IfOk result (λ done. NamesOid update.now done.oid) }
-    ensures moved { Moved (WasSwept kept.now
-        (record { units = units.old; groups = groups.old; meta = meta.old; pages = pages.old; room = room.old })
-        (record { units = units.new; groups = groups.new; meta = meta.new; pages = pages.new; room = room.new }))
+    ensures moved { Moved (IsLoose pages.new kept.now)
         (D.outside disk.old) (D.outside disk.new) geometry.now
         (record { units = units.old; groups = groups.old; meta = meta.old; pages = pages.old; room = room.old })
         (record { units = units.new; groups = groups.new; meta = meta.new; pages = pages.new; room = room.new }) }
+    ensures few_gained { length gained.new.items ≤ suc (length gained.old.items) }
+    ensures few_lost { length lost.new.items ≤ suc (length lost.old.items) }
     ensures updated { IfOk result
         (λ done. IfAsked (D.outside disk.old) geometry.now
         (record { units = units.old; groups = groups.old; meta = meta.old; pages = pages.old; room = room.old }) update.now (λ before u.
-        before.session.kept ≡ kept.now → AreRows meta.new → HoldsTable before (D.outside disk.new)
-        (record { units = units.new; groups = groups.new; meta = meta.new; pages = pages.new; room = room.new }) (updated u done.oid (shown before.machine)))) }
+        HasRoots before.session kept.now gained.old.items lost.old.items
+        → AreRows meta.new → HoldsTable before (D.outside disk.new)
+        (record { units = units.new; groups = groups.new; meta = meta.new; pages = pages.new; room = room.new })
+        gained.new.items lost.new.items (updated u done.oid (shown before.machine)))) }
     ensures sound { IfErr result
         (λ fault. IfAsked (D.outside disk.old) geometry.now
         (record { units = units.old; groups = groups.old; meta = meta.old; pages = pages.old; room = room.old }) update.now (λ before u.
-        HasRoomFor before u → IsDamage fault → ⊥)) }
+        HasRoots before.session kept.now gained.old.items lost.old.items
+        → HasRoomFor before u → IsDamage fault → ⊥)) }
     ensures cause { HasCause (D.outside disk.old).disk_faults
         (D.outside disk.new).disk_faults result }
 {
-    let before = pages_there(alloc, meta)?;
     let done = update_on(
         alloc, disk, units, groups, geometry, meta, pages, room, rooms, update,
     )?;
-    sweep(units, pages, kept, &before);
+    turn_roots(
+        alloc, disk, units, groups, geometry, pages, kept, gained, lost, &done,
+    )?;
+    sweep(meta, units, kept);
     Ok(done)
 }
 
 impl Session {
-    ghost use Rattle.session_core.specs.Updates.{IfUpdated, Noted, WritesLoose, note_with, parts_held};
+    ghost use Rattle.session_core.specs.Updates.{IfUpdated, Noted, WritesUnused, note_with, parts_held};
 
     /// Performs an update of objects, and notes it: the note has the OID of the version that was made, changed or removed, which is answered. Where the update
     /// does not keep to its limit, memory is wanted or the disk fails, the transaction is given up and the call stops.
@@ -221,9 +235,9 @@ impl Session {
             (used_at self.new.units) Segment)) }
         ensures holds { IfOk result (λ oid. IfUpdated (H.outside host.old) self.old update.now
             (λ before u. HoldsTable before (H.outside host.new) (parts_held self.new)
-            (updated u oid (shown before.machine)))) }
+            self.new.gained self.new.lost (updated u oid (shown before.machine)))) }
         ensures only { DiskOnly (H.outside host.old) (H.outside host.new) }
-        ensures writes { WritesLoose (H.outside host.old) (H.outside host.new) self.old }
+        ensures writes { WritesUnused (H.outside host.old) (H.outside host.new) self.old }
         ensures any_moment { (before : View SessionState) → before.session ≡ self.old
             → ShowsNow meant (H.outside host.old) before → (r : Request)
             → Leaves (H.outside host.old) (H.outside host.new)
@@ -246,6 +260,8 @@ impl Session {
             &mut self.meta,
             &mut self.pages,
             &self.kept,
+            &mut self.gained,
+            &mut self.lost,
             &mut self.room,
             &mut self.rooms,
             update,
@@ -259,6 +275,8 @@ impl Session {
             return Ok(noted.oid);
         }
         give_up(&mut self.meta, &mut self.units, &mut self.pages, &self.kept);
+        self.gained.clear();
+        self.lost.clear();
         self.rooms.forget();
         self.opened = false;
         match done {

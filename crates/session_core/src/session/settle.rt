@@ -1,15 +1,12 @@
 //! The logged pages at the end of an update, and of a transaction.
-ghost use Rattle.std.specs.Prelude.{◌≡◌, ◌<◌, ◌++◌, ◌∷◌, [], length, slice_set, true, false, if◌then◌else◌, IfOk, OnOk};
-ghost use Rattle.std.specs.List.{AllByRecursion};
+ghost use Rattle.std.specs.Prelude.{◌≡◌, ◌<◌, length, slice_set, true, false};
 ghost use Rattle.ex_base.specs.Area.{InPageArea, area_end};
-ghost use Rattle.ex_base.specs.declared.names.PageNo.{PageNo};
 ghost use Rattle.page_alloc.specs.UnitSet.{refs_at, used_at};
-ghost use Rattle.session_core.specs.Sessions.{AreThere, OnlyGives, Settled, Swept, TakenBack, is_kept, numbers_of};
+ghost use Rattle.session_core.specs.Sessions.{OnlyGives, Settled, Swept, TakenBack, is_kept};
 
 use ex_base::PageNo;
 use meta_pages::Meta;
 use page_alloc::{Filled, Units};
-use std::alloc::{AllocError, Global};
 use volume_port::LoggedPages;
 
 /// A page that is used and that no node names is free from now on.
@@ -93,53 +90,30 @@ pub(super) fn take_back(
     }
 }
 
-/// Notes a touched page that has an image.
-fn note_there(there: &mut Vec<PageNo>, page: PageNo, image: bool) -> Result<(), AllocError>
-    ensures { OnOk result (there.new.items
-        ≡ (if image then there.old.items ++ page ∷ [] else there.old.items)) }
-{
-    if image {
-        there.push(page)?;
-    }
-    Ok(())
-}
-
-/// The touched pages that have an image.
-pub(super) fn pages_there(alloc: Global, meta: &Meta) -> Result<Vec<PageNo>, AllocError>
-    ensures { IfOk result (λ s. AreThere meta.now.geometry meta.now.working s.items) }
-{
-    let mut there = Vec::new(alloc);
-    for index in 0..meta.touched() {
-        if let Some((page, image)) = meta.touched_at(index) {
-            note_there(&mut there, page, image.is_some())?;
-        }
-    }
-    Ok(there)
-}
-
-/// A page that isn't there is free from now on, where the committed state hasn't it and no node names it.
-fn sweep_page(units: &mut Units, page: PageNo, there: bool, kept: bool)
+/// What the end of an update makes of a page that the transaction touched: one that it gave back is free, where the committed state hasn't it and no node
+/// names it.
+fn sweep_page(units: &mut Units, page: PageNo, image: bool, kept: bool)
     requires { InPageArea units.old.geometry page.0 }
-    ensures units { OnlyGives (λ unit. (unit ≡ page.0) × (there ≡ false) × (kept ≡ false)
+    ensures units { OnlyGives (λ unit. (unit ≡ page.0) × (image ≡ false) × (kept ≡ false)
         → ⊥) units.old units.new }
-    ensures freed { there ≡ false → kept ≡ false
+    ensures freed { image ≡ false → kept ≡ false
         → refs_at units.old page.0 ≡ 0 → used_at units.new page.0 ≡ false }
 {
-    if !there && !kept {
+    if !image && !kept {
         free_page(units, page);
     }
 }
 
-/// Of the pages that were there before an update, those are free from now on that are there no more and that the committed state hasn't.
-pub(super) fn sweep(units: &mut Units, pages: &LoggedPages, kept: &Filled<bool>, before: &[PageNo])
-    requires area { AllByRecursion (λ (page : PageNo).
-        InPageArea units.old.geometry page.0) before.now }
-    requires held { length pages.now ≡ area_end units.old.geometry }
-    requires flags { length kept.now ≡ area_end units.old.geometry }
-    ensures { Swept (numbers_of before.now) pages.now kept.now units.old units.new }
+/// The pages are free that the transaction gave back and that the committed state hasn't.
+pub(super) fn sweep(meta: &Meta, units: &mut Units, kept: &Filled<bool>)
+    requires geometry { units.old.geometry ≡ meta.now.geometry }
+    requires flags { length kept.now ≡ area_end meta.now.geometry }
+    ensures { Swept meta.now.working kept.now units.old units.new }
 {
-    for page in before {
-        let there = pages.holds(*page);
-        sweep_page(units, *page, there, kept.get(page.0 as usize));
+    for index in 0..meta.touched() {
+        if let Some((page, image)) = meta.touched_at(index) {
+            let flag = kept.get(page.0 as usize);
+            sweep_page(units, page, image.is_some(), flag);
+        }
     }
 }

@@ -1,11 +1,10 @@
-use Rattle.std.proofs.Common.{Ok, ap, subst, sym}
+use Rattle.std.proofs.Common.{Ok, ap, subst, sym, true≢false}
 use Rattle.table_model.specs.Requests.{request_of}
 use Rattle.table_model.specs.Requests as request
 use Rattle.table_model.specs.declared.reply.Reply.{Reply}
 use Rattle.session_core.specs.Steps.{StepsQuietly}
 use Rattle.transactions.proofs.Accepted.{log_quietly, space_quietly}
-use Rattle.transactions.proofs.Commanding.{of_quiet, of_step}
-use Rattle.transactions.proofs.Aborted.{any_abort}
+use Rattle.transactions.proofs.Commanding.{disk_alone, of_quiet, of_step}
 use Rattle.transactions.proofs.commands.answer.Goals as goal
 
 pub returns-in-Begin-clause-answers : goal.returns-in-Begin-clause-answers
@@ -21,15 +20,15 @@ pub returns-in-Unfile-clause-answers : goal.returns-in-Unfile-clause-answers
 returns-in-Unfile-clause-answers g c = of_quiet (request_of c.args.command.now) (request.Unfile c.in-Unfile.name.now) c.unfile.result (ap request_of c.in-Unfile.is) (g.H.World.is_world c.args.host.now) c.requires.session c.unfile.ensures
 
 pub returns-in-Commit-clause-answers : goal.returns-in-Commit-clause-answers
-returns-in-Commit-clause-answers g c = of_step (request_of c.args.command.now) request.Commit c.commit.result (ap request_of c.in-Commit.is) c.requires.session c.commit.ensures.steps
+returns-in-Commit-clause-answers g c = of_step (request_of c.args.command.now) request.Commit c.commit.result (ap request_of c.in-Commit.is) c.requires.session (λ of. absurd (true≢false of.1)) c.commit.ensures.steps
 
 pub returns-in-Checkpoint-clause-answers : goal.returns-in-Checkpoint-clause-answers
-returns-in-Checkpoint-clause-answers g c = of_step (request_of c.args.command.now) request.Checkpoint c.checkpoint.result (ap request_of c.in-Checkpoint.is) c.requires.session c.checkpoint.ensures.steps
+returns-in-Checkpoint-clause-answers g c =
+    of_step (request_of c.args.command.now) request.Checkpoint c.checkpoint.result (ap request_of c.in-Checkpoint.is) c.requires.session
+    (λ _. disk_alone (g.H.World.outside c.args.host.now) (g.H.World.outside c.checkpoint.new.host) c.args.session.now c.checkpoint.result c.checkpoint.ensures.disk_alone c.checkpoint.ensures.steps.stops) c.checkpoint.ensures.steps
 
 pub returns-in-Abort-clause-answers : goal.returns-in-Abort-clause-answers
-returns-in-Abort-clause-answers g c =
-    of_quiet (request_of c.args.command.now) request.Abort (Ok c.abort.result) (ap request_of c.in-Abort.is) (g.H.World.is_world c.args.host.now) c.requires.session
-    (any_abort c.args.session.now c.abort.new.self c.abort.result c.requires.session c.abort.ensures.refused c.abort.ensures.aborted c.abort.ensures.taken_back)
+returns-in-Abort-clause-answers g c = of_step (request_of c.args.command.now) request.Abort c.abort.result (ap request_of c.in-Abort.is) c.requires.session (λ of. absurd (true≢false of.1)) c.abort.ensures.steps
 
 pub returns-in-Log-clause-answers : goal.returns-in-Log-clause-answers
 returns-in-Log-clause-answers g c =

@@ -7,7 +7,7 @@ use Rattle.session_core.specs.declared.session.moving.Limit.{Limit}
 use Rattle.transactions.specs.Editing.{new_object_in, room_refusal}
 use Rattle.session_core.specs.Updates.{Noted, note_with}
 use Rattle.transactions.proofs.Creating.{bound_session, bound_to, bound_went, can_make, create_done, create_roomless, create_stopped, create_taken, create_unbound, create_unplaced, creation_need, unbound_still, unbound_went}
-use Rattle.session_core.proofs.Listing.{unread_outside, unread_stops}
+use Rattle.session_core.proofs.Stopping.{unread_outside, unread_stops}
 use Rattle.session_core.proofs.Quiet.{nothing_changed}
 use Rattle.session_core.proofs.Refusing.{closed_refused}
 use Rattle.session_core.proofs.Sessions.{viewed}

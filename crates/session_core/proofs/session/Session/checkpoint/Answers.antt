@@ -3,7 +3,8 @@ use Rattle.table_model.specs.Requests as request
 use Rattle.table_model.specs.declared.reply.Refusal.TheVariants as refusal
 use Rattle.session_core.specs.contracts.session.Session as session
 use Rattle.session_core.specs.Sessions.{SessionState}
-use Rattle.session_core.proofs.Quiet.{quietly, refused_at_once}
+use Rattle.session_core.proofs.Quiet.{refused_at_once}
+use Rattle.session_core.proofs.Stopping.{quietly}
 use Rattle.session_core.proofs.Refusing.{checkpoint_refused}
 use Rattle.session_core.proofs.Sessions.{seen, if_error}
 use Rattle.session_core.proofs.Writing.{checkpoint_failed, checkpoint_done}
@@ -12,7 +13,7 @@ use Rattle.ex_base.proofs.Results.{if_no_error}
 
 pub returns-then-self-clause-steps : goal.returns-then-self-clause-steps
 returns-then-self-clause-steps g c =
-    quietly request.Checkpoint _ (g.H.World.is_world c.args.host.now)
+    quietly request.Checkpoint _ (g.H.World.is_world c.args.host.now) (seen c.self.view_is c.self.invariant)
     (refused_at_once c.args.self.now request.Checkpoint refusal.TxnOpen (seen c.self.view_is c.self.invariant)
     (λ before from now q. checkpoint_refused before q now.shows.shared.open_txn (ap (λ (s : SessionState). s.opened) (from ∙ sym c.self.view_is) ∙ c.if-self.true)))
 

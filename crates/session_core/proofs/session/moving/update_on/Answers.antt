@@ -5,7 +5,8 @@ use Rattle.page_alloc.specs.UnitSet.{UnitSet, free_count, used_at}
 use Rattle.tree_store.specs.Stored.{Fits}
 use Rattle.session_core.proofs.Moving.{moved_at, parts, parts_moved, parts_same, ready_at, ready_of}
 use Rattle.session_core.proofs.Holding.{tells_at, with_parts}
-use Rattle.session_core.proofs.Performing.{performed_shown, performed_sound}
+use Rattle.session_core.proofs.Performing.{performed_owns, performed_shown, performed_sound}
+use Rattle.session_core.proofs.PortParts.{pairs_named}
 use Rattle.session_core.proofs.session.moving.update_on.Goals as goal
 
 pub perform-requires-clause-ready : goal.perform-requires-clause-ready
@@ -62,9 +63,30 @@ returns-clause-updated g c =
     performed_shown _ a b c.args.update.now c.perform.result c.perform.ensures.updates
     (ready_of _ a.store a.store.geometry (outside a.store.disk.now).size (parts a.store.units.now a.store.groups.now a.meta.now a.pages.now a.room.now) refl refl fits ready)
     (outside c.args.disk.now) c.args.geometry.now _
-    (with_parts _ a outside a.store.disk.now c.args.disk.now a.store.geometry c.args.geometry.now _ _ (sym disk) (sym geometry) (sym old) (record { geometry_is = refl; unit = refl; image = refl; held = refl; used = refl; free = refl }))
-    (λ told. tells_at outside _ _ _ _ disk groups told) c.perform.ensures.leads _ (returns-clause-moved g c)
-    (with_parts _ b outside b.store.disk.now _ b.store.geometry c.args.geometry.now _ _ (search rules) later_geometry new (record { geometry_is = refl; unit = refl; image = refl; held = refl; used = refl; free = refl }))
+    (with_parts _ a outside a.store.disk.now c.args.disk.now a.store.geometry c.args.geometry.now _ _ (sym disk) (sym geometry) (sym old) (record { geometry_is = refl; unit = refl; image = refl; held = refl; used = refl; refs = refl; free = refl }))
+    (λ told. tells_at outside _ _ _ _ disk groups told) pairs_named c.perform.ensures.leads _ (returns-clause-moved g c)
+    (with_parts _ b outside b.store.disk.now _ b.store.geometry c.args.geometry.now _ _ (search rules) later_geometry new (record { geometry_is = refl; unit = refl; image = refl; held = refl; used = refl; refs = refl; free = refl }))
+
+pub returns-clause-owns : goal.returns-clause-owns
+returns-clause-owns g c =
+    let outside = g.D.World.outside in
+    let a = c.make-port.result in
+    let b = c.perform.new.volume in
+    let disk : c.args.disk.now ≡ a.store.disk.now = search rules in
+    let geometry : c.args.geometry.now ≡ a.store.geometry = search rules in
+    let later_geometry : b.store.geometry ≡ c.args.geometry.now = c.perform.ensures.leads.store.geometry ∙ sym geometry in
+    let groups : c.args.groups.now ≡ a.store.groups.now = search rules in
+    let main : a.store.index ≡ 0 = search rules in
+    let old = parts_same c.args.units.now a.store.units.now c.args.groups.now a.store.groups.now c.args.meta.now a.meta.now c.args.pages.now a.pages.now c.args.room.now a.room.now (search rules) (search rules) (search rules) (search rules) (search rules) in
+    let new = parts_same b.store.units.now _ b.store.groups.now _ b.meta.now _ b.pages.now _ b.room.now _ (search rules) (search rules) (search rules) (search rules) (search rules) in
+    let ready = ready_at outside _ _ _ _ _ _ disk geometry old c.requires.ready in
+    let fits = subst (λ (q : ℕ). Fits a.store.geometry (outside a.store.disk.now).size a.store.groups.now q a.store.units.now) (sym main) ready.fits in
+    performed_owns _ a b c.args.update.now c.perform.result c.perform.ensures.updates
+    (ready_of _ a.store a.store.geometry (outside a.store.disk.now).size (parts a.store.units.now a.store.groups.now a.meta.now a.pages.now a.room.now) refl refl fits ready)
+    (outside c.args.disk.now) c.args.geometry.now _
+    (with_parts _ a outside a.store.disk.now c.args.disk.now a.store.geometry c.args.geometry.now _ _ (sym disk) (sym geometry) (sym old) (record { geometry_is = refl; unit = refl; image = refl; held = refl; used = refl; refs = refl; free = refl }))
+    (λ told. tells_at outside _ _ _ _ disk groups told) pairs_named c.perform.ensures.leads _ (returns-clause-moved g c)
+    (with_parts _ b outside b.store.disk.now _ b.store.geometry c.args.geometry.now _ _ (search rules) later_geometry new (record { geometry_is = refl; unit = refl; image = refl; held = refl; used = refl; refs = refl; free = refl }))
 
 pub returns-clause-sound : goal.returns-clause-sound
 returns-clause-sound g c =
@@ -80,5 +102,5 @@ returns-clause-sound g c =
     performed_sound _ a c.perform.new.volume c.args.update.now c.perform.result c.perform.ensures.updates
     (ready_of _ a.store a.store.geometry (outside a.store.disk.now).size (parts a.store.units.now a.store.groups.now a.meta.now a.pages.now a.room.now) refl refl fits ready)
     (outside c.args.disk.now) c.args.geometry.now _
-    (with_parts _ a outside a.store.disk.now c.args.disk.now a.store.geometry c.args.geometry.now _ _ (sym disk) (sym geometry) (sym old) (record { geometry_is = refl; unit = refl; image = refl; held = refl; used = refl; free = refl }))
+    (with_parts _ a outside a.store.disk.now c.args.disk.now a.store.geometry c.args.geometry.now _ _ (sym disk) (sym geometry) (sym old) (record { geometry_is = refl; unit = refl; image = refl; held = refl; used = refl; refs = refl; free = refl }))
     (λ told. tells_at outside _ _ _ _ disk groups told)

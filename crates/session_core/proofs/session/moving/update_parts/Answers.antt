@@ -1,39 +1,30 @@
-use Rattle.std.proofs.Common.{◌≡◌, ℕ, Bool, true, List, nat_eq, sym, subst}
-use Rattle.std.specs.Prelude.{Contains}
-use Rattle.std.specs.Map.{lookup}
-use Rattle.ex_base.specs.declared.names.PageNo.{PageNo}
-use Rattle.volume_port.specs.Logged.{is_held}
-use Rattle.session_core.specs.Sessions.{OnlyGives, Swept, numbers_of}
-use Rattle.session_core.specs.Updates.{PortParts, WasSwept, parts_held}
 use Rattle.session_core.proofs.Moving.{parts}
-use Rattle.session_core.proofs.Sweeping.{swept_gives, swept_holds, swept_moved}
-use Rattle.session_core.proofs.Tracking.{held_there}
+use Rattle.session_core.proofs.TurnedParts.{gives_moved, swept_moved, turned_holds, with_units}
 use Rattle.session_core.proofs.session.moving.update_parts.Goals as goal
+
+pub returns-in_err-turn_roots-clause-moved : goal.returns-in_err-turn_roots-clause-moved
+returns-in_err-turn_roots-clause-moved g c =
+    let a = c.args in
+    let b = c.update_on.new in
+    let t = c.turn_roots.new in
+    let mid = parts b.units b.groups b.meta b.pages b.room in
+    gives_moved a.geometry.now (parts a.units.now a.groups.now a.meta.now a.pages.now a.room.now) mid a.kept.now t.units t.groups c.turn_roots.ensures.gives c.update_on.ensures.moved
 
 pub returns-clause-moved : goal.returns-clause-moved
 returns-clause-moved g c =
     let a = c.args in
     let b = c.update_on.new in
+    let t = c.turn_roots.new in
     let old = parts a.units.now a.groups.now a.meta.now a.pages.now a.room.now in
     let mid = parts b.units b.groups b.meta b.pages b.room in
-    let there = c.in_ok-before.before.items in
-    let known : (page : ℕ) → Contains (numbers_of there) page → is_held a.pages.now page ≡ true = λ page has.
-    held_there (lookup (nat_eq page) a.meta.now.working) (c.requires.ready.images page) ((c.in_ok-before.ensures.there page).0 has) in
-    let swept = subst (λ (pages : List PageNo). Swept (numbers_of pages) b.pages a.kept.now b.units c.sweep.new.units) c.deref.ensures.value c.sweep.ensures in
-    swept_moved a.kept.now (numbers_of there) old mid c.sweep.new.units known swept c.update_on.ensures.moved
+    swept_moved a.geometry.now old (with_units mid t.units t.groups) a.kept.now c.sweep.new.units c.sweep.ensures
+    (gives_moved a.geometry.now old mid a.kept.now t.units t.groups c.turn_roots.ensures.gives c.update_on.ensures.moved)
 
 pub returns-clause-updated : goal.returns-clause-updated
-returns-clause-updated g c = λ before has now u is asked same rows.
+returns-clause-updated g c = λ before has now u is asked roots rows.
     let a = c.args in
     let b = c.update_on.new in
-    let old = parts a.units.now a.groups.now a.meta.now a.pages.now a.room.now in
+    let t = c.turn_roots.new in
     let mid = parts b.units b.groups b.meta b.pages b.room in
-    let there = c.in_ok-before.before.items in
-    let known : (page : ℕ) → Contains (numbers_of there) page → is_held a.pages.now page ≡ true = λ page has.
-    held_there (lookup (nat_eq page) a.meta.now.working) (c.requires.ready.images page) ((c.in_ok-before.ensures.there page).0 has) in
-    let swept = subst (λ (pages : List PageNo). Swept (numbers_of pages) b.pages a.kept.now b.units c.sweep.new.units) c.deref.ensures.value c.sweep.ensures in
-    let gives = swept_gives a.kept.now (numbers_of there) old mid c.sweep.new.units known swept in
-    swept_holds before (g.D.World.outside b.disk) mid _ c.sweep.new.units
-    (subst (λ (k : List Bool). OnlyGives (λ unit. WasSwept k (parts_held before.session) mid unit → ⊥) mid.units c.sweep.new.units) (sym same)
-    (subst (λ (q : PortParts). OnlyGives (λ unit. WasSwept a.kept.now q mid unit → ⊥) mid.units c.sweep.new.units) (sym has.parts) gives))
-    (c.in_ok-done.ensures.updated before has now u is asked rows)
+    turned_holds a.geometry.now mid a.kept.now t.units c.sweep.new.units t.groups c.turn_roots.ensures.gives c.sweep.ensures before a.gained.now.items a.lost.now.items t.gained.items t.lost.items
+    c.in_ok-done.done.gone c.in_ok-done.done.come _ has.geometry roots c.in_ok-turn_roots.ensures.turned (c.in_ok-done.ensures.updated before has now u is asked rows)

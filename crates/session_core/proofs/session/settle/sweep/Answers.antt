@@ -1,40 +1,26 @@
-use Rattle.std.proofs.Common.{◌∷◌, [], false, ℕ, List, take, sym, subst, arith, slice_index_or}
-use Rattle.std.proofs.lemmas.List.{map-append, take_all, take_more}
-use Rattle.ex_base.specs.declared.geometry.Geometry.{Geometry}
-use Rattle.ex_base.specs.declared.names.PageNo.{PageNo}
-use Rattle.ex_base.specs.Area.{InPageArea}
-use Rattle.ex_base.proofs.Each.{each_at}
-use Rattle.session_core.specs.Sessions.{Swept, numbers_of}
+use Rattle.std.proofs.Common.{◌≡◌, ◌∙◌, false, sym, ap, subst, arith}
+use Rattle.std.specs.Option.{option_copied}
+use Rattle.meta_pages.specs.Overlays.{IsWorkingRow}
+use Rattle.page_alloc.specs.UnitSet.{UnitSet, used_at}
+use Rattle.volume_model.specs.Shown.{WorkingRow}
+use Rattle.session_core.specs.Sessions.{OnlyGives}
+use Rattle.session_core.proofs.Settling.{copied_some, at_row}
 use Rattle.session_core.proofs.Sweeping.{swept_next}
+use Rattle.session_core.proofs.session.settle.sweep.Goals.{in-Some, in_default}
 use Rattle.session_core.proofs.session.settle.sweep.Goals as goal
 
-abbrev none : PageNo
-none = record { 0 = 0 }
-
-pub holds-there-requires : goal.holds-there-requires
-holds-there-requires c =
-    let inside = each_at (λ (page : PageNo). InPageArea c.args.units.now.geometry page.0) c.args.before.now c.loop-page.page-index none c.loop-page-test.true c.requires.area in
-    omega (arith, inside.1, c.requires.held)
-
-pub get-requires : goal.get-requires
-get-requires c =
-    let inside = each_at (λ (page : PageNo). InPageArea c.args.units.now.geometry page.0) c.args.before.now c.loop-page.page-index none c.loop-page-test.true c.requires.area in
-    omega (arith, inside.1, c.requires.flags)
-
-pub sweep_page-requires : goal.sweep_page-requires
-sweep_page-requires c =
-    let inside = each_at (λ (page : PageNo). InPageArea c.args.units.now.geometry page.0) c.args.before.now c.loop-page.page-index none c.loop-page-test.true c.requires.area in
-    subst (λ (h : Geometry). InPageArea h (slice_index_or c.args.before.now c.loop-page.page-index none).0) (sym c.loop-page.invariant.units.geometry) inside
-
-pub loop-page-preserved : goal.loop-page-preserved
-loop-page-preserved c =
-    let before = c.args.before.now in
-    let i = c.loop-page.page-index in
-    let page = slice_index_or before i none in
-    subst (λ (ps : List PageNo). Swept (numbers_of ps) c.args.pages.now c.args.kept.now c.args.units.now c.sweep_page.new.units) (sym (take_more before i none c.loop-page-test.true))
-    (subst (λ (ns : List ℕ). Swept ns c.args.pages.now c.args.kept.now c.args.units.now c.sweep_page.new.units) (sym (map-append (λ (x : PageNo). x.0) (take i before) (page ∷ [])))
-    (swept_next (numbers_of (take i before)) page.0 c.args.pages.now c.args.kept.now c.args.units.now c.loop-page.units c.sweep_page.new.units c.holds-there.result c.get.result c.holds-there.ensures (c.get.ensures false) c.loop-page.invariant
-    c.sweep_page.ensures.units c.sweep_page.ensures.freed))
-
-pub returns : goal.returns
-returns c = subst (λ (ps : List PageNo). Swept (numbers_of ps) c.args.pages.now c.args.kept.now c.args.units.now c.loop-page.units) (take_all c.loop-page.page-index c.args.before.now c.loop-page-test.false) c.loop-page.invariant
+pub loop-index-preserved : goal.loop-index-preserved
+loop-index-preserved c =
+    let meta = c.args.meta.now in
+    let rows = c.touched-index-end.ensures.rows in
+    elim c.match-touched_at.branch [
+      | in-Some w ↦
+          let row : WorkingRow = (w.in-Some.page.0, option_copied w.in-Some.image) in
+          let inside = at_row (IsWorkingRow meta.geometry) meta.working c.loop-index.index row rows.working_pages w.in-Some.ensures in
+          swept_next meta.working c.loop-index.index row c.args.kept.now c.args.units.now c.loop-index.units c.match-touched_at.units
+          w.is_some.result w.get-flag.result rows.working_rising w.in-Some.ensures (w.is_some.ensures ∙ copied_some w.in-Some.image) (w.get-flag.ensures false)
+          c.loop-index.invariant
+          (subst (λ (u : UnitSet). OnlyGives (λ unit. (unit ≡ row.0) × (w.is_some.result ≡ false) × (w.get-flag.result ≡ false) → ⊥) c.loop-index.units u) (sym w.units-is) w.sweep_page.ensures.units)
+          (λ none off unnamed. ap (λ (u : UnitSet). used_at u row.0) w.units-is ∙ w.sweep_page.ensures.freed none off unnamed)
+      | in_default w ↦ absurd (omega (arith, w.in_default.ensures, c.loop-index-test.true, c.touched-index-end.ensures.value))
+    ]

@@ -1,6 +1,6 @@
 use Rattle.std.proofs.Common.{take}
-use Rattle.session_core.specs.Sessions.{Swept, numbers_of}
+use Rattle.session_core.specs.Sessions.{Swept}
 use Rattle.session_core.proofs.session.settle.sweep.Given as goal
 
-abbrev pub invariant-loop-page : goal.invariant-loop-page
-invariant-loop-page l = Swept (numbers_of (take l.page-index l.before)) l.pages l.kept l.initial.units l.units
+abbrev pub invariant-loop-index : goal.invariant-loop-index
+invariant-loop-index l = Swept (take l.index l.meta.working) l.kept l.initial.units l.units
