@@ -60,7 +60,7 @@ MEANINGS = {
     "long_txn": "the transaction is full (at most 512 updates and 128 pages; it has {0} and {1}): "
                 "`commit`, and go on in the next one",
     "full": "the line may need {1} {0}, and {2} are free: use a larger volume, or less in one "
-            "line; what this run's edits left is free when the volume is opened again",
+            "line; what an open transaction replaced is free after its commit",
 }
 """What each refusal means, but `syntax`; {0} on are its values."""
 

@@ -44,8 +44,8 @@ const ROWS: [Row; 9] = [
     },
     Row {
         sizes: FEW_UNITS,
-        script: "begin\nfile a\ncreate a as @x\nappend @x rep:1000:61\nappend @x hex:62\nreplace @x 0 hex:62\nread @x 0 2\n",
-        output: "ok begin 1\nok file a\nok create 258.0.1\nok append 1000\nno 23 full segs 5 4\nok replace 1000\nok read 2 6261\n",
+        script: "begin\nfile a\ncreate a as @x\nappend @x rep:1000:61\nappend @x hex:62\nreplace @x 0 hex:62\nread @x 0 2\nspace\ncommit\nbegin\ndestroy @x\ncommit\nspace\n",
+        output: "ok begin 1\nok file a\nok create 258.0.1\nok append 1000\nno 23 full segs 5 4\nok replace 1000\nok read 2 6261\nok space pages 3 of 64 segs 2 of 6\nok commit 1\nok begin 2\nok destroy 258.0.1\nok commit 2\nok space pages 1 of 64 segs 0 of 6\n",
     },
     Row {
         sizes: FEW_PAGES,

@@ -13,6 +13,8 @@ mod large;
 #[cfg(test)]
 mod older;
 #[cfg(test)]
+mod reach;
+#[cfg(test)]
 mod stops;
 #[cfg(test)]
 mod volumes;
