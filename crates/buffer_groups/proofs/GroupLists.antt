@@ -1,12 +1,14 @@
 -- Lists of groups.
 use Rattle.std.proofs.Common.{◌≡◌, ◌<◌, ◌≤◌, ◌+◌, ◌++◌, take, drop, zero, ℕ, suc, List, ◌∷◌, [], length, map, All, Option, Some, IsSome, Result, Ok, Err, OnOk, OnErr, nat_eq, slice_get, slice_set, get_or, refl, sym, ap, subst, ◌∙◌, arith}
-use Rattle.std.proofs.lemmas.List.{length-set, get_or-set_same}
+use Rattle.std.proofs.Math.Seq.{map-set_same}
+use Rattle.std.proofs.lemmas.List.{length-map, length-set, get_or-set_same}
 use Rattle.std.proofs.lemmas.List.Elements.{All-set, All-get_or}
 use Rattle.std.proofs.lemmas.Option.{get_or_from_slice_get, slice_get-get_or}
 use Rattle.std.proofs.lemmas.Result.{on_ok_weaker}
+use Rattle.std.proofs.lemmas.Simd.{map-map}
 use Rattle.std.specs.Map.{lookup}
-use Rattle.buffer_groups.specs.Frames.{Frames, Lends, KeepsLending, IsHeld, Brought, NotBrought, page_of}
-use Rattle.buffer_groups.specs.Groups.{GroupBrought, GroupNotBrought, GroupsKeep, HasFrame, AreOfSize}
+use Rattle.buffer_groups.specs.Frames.{Frames, Lends, KeepsLending, IsHeld, Brought, NotBrought, page_of, forgotten}
+use Rattle.buffer_groups.specs.Groups.{GroupBrought, GroupNotBrought, GroupsKeep, HasFrame, AreOfSize, SameKinds, kind_of, forgotten_in_all}
 
 module _ (P : Frames → Type 0) where
   pub at_index : (gs : List Frames) (index : ℕ) (f : Frames) → slice_get gs index ≡ Some f → index < length gs → All P gs → P f
@@ -16,12 +18,27 @@ slice_get-set : (gs : List Frames) (index : ℕ) (f : Frames) → index < length
 slice_get-set gs index f h =
     slice_get-get_or (slice_set gs index f) index f (omega (arith, length-set gs index f)) ∙ ap Some (get_or-set_same gs index f f h)
 
+-- ---- what the groups were made with
+
+-- there are as many of them
+pub same_count : (old new : List Frames) → SameKinds old new → length new ≡ length old
+same_count old new kinds = sym (length-map new kind_of) ∙ ap length kinds ∙ length-map old kind_of
+
+pub kinds_trans : (a b c : List Frames) → SameKinds a b → SameKinds b c → SameKinds a c
+kinds_trans a b c one two = two ∙ one
+
+pub kinds_forgotten : (page : ℕ) (groups : List Frames) → SameKinds groups (forgotten_in_all page groups)
+kinds_forgotten page groups = map-map kind_of (forgotten page) groups
+
+same_kind : (disk : Option (List ℕ)) (old new : Frames) → KeepsLending disk old new → kind_of new ≡ kind_of old
+same_kind disk old new keeps = cc (keeps.cap, keeps.policy)
+
 pub groups_keep : (disk : Option (List ℕ)) (gs : List Frames) (index : ℕ) (old new : Frames) → slice_get gs index ≡ Some old → index < length gs → KeepsLending disk old new
     → GroupsKeep disk gs (slice_set gs index new)
 groups_keep disk gs index old new is h keeps = record {
   lends = λ all. All-set (Lends disk) gs index new (keeps.lends (at_index (Lends disk) gs index old is h all)) all;
   sizes = λ n all. All-set (λ f. f.page_size ≡ n) gs index new (keeps.page_size ∙ at_index (λ f. f.page_size ≡ n) gs index old is h all) all;
-  len = length-set gs index new;
+  kinds = map-set_same kind_of gs index new old (same_kind disk old new keeps ∙ sym (ap kind_of (get_or_from_slice_get gs index old old is)));
 }
 
 some_of : {X : Type 0} (o : Option X) (x : X) → o ≡ Some x → IsSome o

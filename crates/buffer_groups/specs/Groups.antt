@@ -1,11 +1,20 @@
 -- What a contract sees of the groups of a session, a list of groups.
-use Rattle.std.specs.Prelude.{◌≡◌, ℕ, List, length, map, All, nat_eq, Option, Some, IsSome, slice_get, slice_set}
+use Rattle.std.specs.Prelude.{◌≡◌, ℕ, List, map, All, nat_eq, Option, Some, IsSome, slice_get, slice_set}
 use Rattle.std.specs.Map.{lookup}
+use Rattle.buffer_groups.specs.declared.policy.Policy.{Policy}
 use Rattle.buffer_groups.specs.Frames.{Frames, Lends, IsAbsent, Brought, NotBrought, forgotten}
 
 -- Each group without the frame of a page.
 abbrev pub forgotten_in_all : ℕ → List Frames → List Frames
 forgotten_in_all page groups = map (forgotten page) groups
+
+-- what a group is made with: the most frames that it has, and which of them gives way first
+abbrev pub kind_of : Frames → ℕ × Policy
+kind_of f = (f.cap, f.policy)
+
+-- They are as many groups, each with as many frames at most and with the policy that it had.
+abbrev pub SameKinds : List Frames → List Frames → Type 0
+SameKinds old new = map kind_of new ≡ map kind_of old
 
 -- The group at an index has a frame of the page.
 pub record HasFrame (groups : List Frames) (index page : ℕ) : Type 0 where
@@ -39,8 +48,8 @@ pub record GroupNotBrought (old new : List Frames) (index page : ℕ) : Type 0 w
   pub groups : new ≡ slice_set old index after
   pub unchanged : NotBrought before after page
 
--- Groups that lent the disk's bytes still do, and stay as many and of the same page size.
+-- Groups that lent the disk's bytes still do. They stay as many, each as it was made, and of the same page size.
 pub record GroupsKeep (disk : Option (List ℕ)) (old new : List Frames) : Type 0 where
   pub lends : All (Lends disk) old → All (Lends disk) new
   pub sizes : (n : ℕ) → All (λ (f : Frames). f.page_size ≡ n) old → All (λ (f : Frames). f.page_size ≡ n) new
-  pub len : length new ≡ length old
+  pub kinds : SameKinds old new

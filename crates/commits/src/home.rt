@@ -1,8 +1,9 @@
 //! The committed images go home, and the log is closed.
-ghost use Rattle.std.specs.Prelude.{◌≡◌, ◌≤◌, ◌<◌, ℕ, List, [], length, All, Some, IsTrue, IsOk, OnOk, OnErr};
+ghost use Rattle.std.specs.Prelude.{◌≡◌, ◌≤◌, ◌<◌, ℕ, List, [], All, Some, IsTrue, IsOk, OnOk, OnErr};
 ghost use Rattle.ex_base.specs.Sizes.{volume_bytes};
 ghost use Rattle.disk_model.specs.Outside.{DiskOnly, Leaves, Rose};
 ghost use Rattle.buffer_groups.specs.Frames.{Frames, Lends};
+ghost use Rattle.buffer_groups.specs.Groups.{SameKinds};
 ghost use Rattle.meta_pages.specs.Homes.{homes_forgotten};
 ghost use Rattle.volume_model.specs.Volume.{Decoded};
 ghost use Rattle.volume_model.specs.Committed.{Committed, Checkpointed, StandsForVolume};
@@ -51,7 +52,7 @@ pub fn checkpoint<D: Disk>(
         → All (Lends (D.outside disk.new).disk) groups.new }
     ensures behind { AreBehindLog groups.old → AreBehindLog groups.new }
     ensures sizes { All (λ (f : Frames). f.page_size ≡ meta.old.geometry.page_size) groups.new }
-    ensures len { length groups.new ≡ length groups.old }
+    ensures kinds { SameKinds groups.old groups.new }
     ensures logged { IsLogged log.old meta.old → IsLogged log.new meta.new }
 
     // The volume is what it was, no record counts, and nothing is pending that matters.

@@ -6,6 +6,7 @@ ghost use Rattle.ex_base.specs.Sizes.{volume_bytes};
 ghost use Rattle.disk_model.specs.Outside.{DiskOnly, Leaves, Rose};
 ghost use Rattle.disk_model.specs.Changes.{ChangesWithin};
 ghost use Rattle.buffer_groups.specs.Frames.{Frames, Lends};
+ghost use Rattle.buffer_groups.specs.Groups.{SameKinds};
 ghost use Rattle.meta_pages.specs.Overlays.{AreRows, committed_image};
 ghost use Rattle.op_log.specs.Records.{IsLogRecord, IsNote, record_len};
 ghost use Rattle.volume_model.specs.Volume.{Volume, Decoded};
@@ -72,7 +73,7 @@ pub fn commit<D: Disk>(
         → All (Lends (D.outside disk.new).disk) groups.new }
     ensures behind { AreBehindLog groups.old → AreBehindLog groups.new }
     ensures sizes { All (λ (f : Frames). f.page_size ≡ meta.old.geometry.page_size) groups.new }
-    ensures len { length groups.new ≡ length groups.old }
+    ensures kinds { SameKinds groups.old groups.new }
     ensures logged { IsLogged log.new meta.new }
 
     // The working volume is committed.
@@ -140,7 +141,7 @@ fn record_with_room<D: Disk>(
         → All (Lends (D.outside disk.new).disk) groups.new }
     ensures behind { AreBehindLog groups.old → AreBehindLog groups.new }
     ensures sizes { All (λ (f : Frames). f.page_size ≡ meta.old.geometry.page_size) groups.new }
-    ensures len { length groups.new ≡ length groups.old }
+    ensures kinds { SameKinds groups.old groups.new }
     ensures logged { IsLogged log.new meta.new }
     ensures done { OnOk result ((d : Decoded) (held : List ℕ) → IsTrue (D.outside disk.old).honest
         → (D.outside disk.old).disk ≡ Some held

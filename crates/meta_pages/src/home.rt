@@ -4,7 +4,7 @@ ghost use Rattle.disk_model.specs.Outside.{Outside, Rose};
 ghost use Rattle.disk_model.specs.Calls.{MakesCalls, MakesAtMost};
 ghost use Rattle.disk_model.specs.Changes.{ChangesWithin, InRange};
 ghost use Rattle.ex_base.specs.Bytes.{repl};
-ghost use Rattle.buffer_groups.specs.Groups.{AreOfSize, forgotten_in_all};
+ghost use Rattle.buffer_groups.specs.Groups.{AreOfSize, SameKinds, forgotten_in_all};
 ghost use Rattle.buffer_groups.specs.Frames.{Lends};
 ghost use Rattle.meta_pages.specs.Homes.{AreFrom, InHomes, homes_written, homes_forgotten};
 
@@ -31,7 +31,7 @@ pub fn write_rows<D: Disk>(
     ensures lends { IsTrue (D.outside disk.old).honest
         → All (Lends (D.outside disk.old).disk) groups.old
         → All (Lends (D.outside disk.new).disk) groups.new }
-    ensures len { length groups.new ≡ length groups.old }
+    ensures kinds { SameKinds groups.old groups.new }
     ensures sizes { AreOfSize size groups.new }
     ensures from { (low : ℕ) → AreFrom low groups.old → AreFrom low groups.new }
     ensures changes { ChangesWithin (InHomes size rows.now) (D.outside disk.old)
@@ -61,7 +61,7 @@ fn write_page<D: Disk>(
     ensures written { OnOk result ((d : List ℕ) → (D.outside disk.old).disk ≡ Some d
         → (D.outside disk.new).disk ≡ Some (repl d (page.0 * size) bytes.now)) }
     ensures forgotten { groups.new ≡ forgotten_in_all page.0 groups.old }
-    ensures len { length groups.new ≡ length groups.old }
+    ensures kinds { SameKinds groups.old groups.new }
     ensures sizes { AreOfSize size groups.new }
     ensures from { (low : ℕ) → AreFrom low groups.old → AreFrom low groups.new }
     ensures size { (D.outside disk.new).size ≡ (D.outside disk.old).size }

@@ -8,6 +8,7 @@ ghost use Rattle.disk_model.specs.Outside.{Outside, ReadsOnly, Rose};
 ghost use Rattle.disk_model.specs.Calls.{MakesCalls, MakesAtMost};
 ghost use Rattle.disk_model.specs.Changes.{ChangesWithin};
 ghost use Rattle.buffer_groups.specs.Frames.{Frames, Brought, NotBrought, KeepsLending, Lends, page_of};
+ghost use Rattle.buffer_groups.specs.Groups.{SameKinds};
 ghost use Rattle.buffer_groups.specs.Lending.{GroupRests};
 ghost use Rattle.buffer_groups.specs.Cause.{HasFetchCause};
 ghost use Rattle.page_entries.specs.After.{Applies, said_after};
@@ -303,7 +304,7 @@ impl Meta {
         ensures lends { IsTrue (D.outside disk.old).honest
             → All (Lends (D.outside disk.old).disk) groups.old
             → All (Lends (D.outside disk.new).disk) groups.new }
-        ensures len { length groups.new ≡ length groups.old }
+        ensures kinds { SameKinds groups.old groups.new }
         ensures sizes { All (λ (f : Frames). f.page_size ≡ self.old.geometry.page_size) groups.new }
         ensures from { (low : ℕ) → AreFrom low groups.old → AreFrom low groups.new }
         ensures changes { ChangesWithin (InHomes self.old.geometry.page_size self.old.committed)

@@ -56,6 +56,7 @@ pub fn walk_volume<D: Disk>(
         groups: &mut groups,
         room: &mut room,
         index: 0,
+        keeps_leaves: false,
         geometry: *geometry,
         meta,
         pages: &pages,

@@ -10,18 +10,18 @@ use Rattle.disk_model.specs.Calls.{Tears}
 use Rattle.disk_model.specs.Runs.{told_value}
 use Rattle.std.specs.Map.{lookup}
 use Rattle.buffer_groups.specs.Frames.{Frames, Lends, without, with_room, forgotten, page_of, Brought, NotBrought}
-use Rattle.buffer_groups.proofs.FrameLists.{length-mapped, All-with_room}
+use Rattle.buffer_groups.proofs.FrameLists.{All-with_room}
 use Rattle.buffer_groups.proofs.Kept.{part_apart, sizes_forgotten}
-use Rattle.buffer_groups.specs.Groups.{GroupBrought, GroupNotBrought}
-use Rattle.buffer_groups.proofs.GroupLists.{at_index}
+use Rattle.buffer_groups.specs.Groups.{GroupBrought, GroupNotBrought, SameKinds}
+use Rattle.buffer_groups.proofs.GroupLists.{at_index, kinds_forgotten}
 use Rattle.ex_base.specs.Area.{catalog_no}
 use Rattle.tree_store.specs.Stored.{AreFromCatalog, unit_forgotten}
 
 -- ---- groups that forgot the pages of a unit
 
-pub unit_forgotten_len : (p n : ℕ) (gs : List Frames) → length (unit_forgotten p n gs) ≡ length gs
-unit_forgotten_len p zero gs = refl
-unit_forgotten_len p (suc n) gs = length-mapped (forgotten (p + n)) (unit_forgotten p n gs) ∙ unit_forgotten_len p n gs
+pub unit_forgotten_kinds : (p n : ℕ) (gs : List Frames) → SameKinds gs (unit_forgotten p n gs)
+unit_forgotten_kinds p zero gs = refl
+unit_forgotten_kinds p (suc n) gs = kinds_forgotten (p + n) (unit_forgotten p n gs) ∙ unit_forgotten_kinds p n gs
 
 pub unit_forgotten_sizes : (p n size : ℕ) (gs : List Frames) → All (λ (f : Frames). f.page_size ≡ size) gs → All (λ (f : Frames). f.page_size ≡ size) (unit_forgotten p n gs)
 unit_forgotten_sizes p zero size gs sizes = sizes

@@ -9,9 +9,9 @@ use Rattle.disk_model.specs.Calls.{Wrote}
 use Rattle.disk_model.specs.Runs.{told_value}
 use Rattle.buffer_groups.specs.Frames.{Frames, IsHeld}
 use Rattle.buffer_groups.specs.Groups.{LacksFrame, AreOfSize}
-use Rattle.buffer_groups.proofs.GroupLists.{at_index}
+use Rattle.buffer_groups.proofs.GroupLists.{at_index, same_count}
 use Rattle.tree_store.specs.Stored.{unit_forgotten}
-use Rattle.tree_store.proofs.Forgetting.{IsNone, AreNone, unit_forgotten_none, unit_forgotten_len}
+use Rattle.tree_store.proofs.Forgetting.{IsNone, AreNone, unit_forgotten_none, unit_forgotten_kinds}
 
 none_is : (p q : ℕ) → IsNone p 1 q → p ≡ q → ⊥
 none_is p q is same = ⊎_elim (λ (lt : q < p). let no : ⊥ = omega (arith, lt, same) in no) (λ (le : p + 1 ≤ q). let no : ⊥ = omega (arith, le, same) in no) is.apart
@@ -29,7 +29,7 @@ no_frame p (e ∷ es) all =
 pub forgotten_lacks : (p index : ℕ) (gs now : List Frames) → now ≡ unit_forgotten p 1 gs → index < length gs → LacksFrame now index p
 forgotten_lacks p index gs now is lt group at =
     let here : slice_get (unit_forgotten p 1 gs) index ≡ Some group = ap (λ (l : List Frames). slice_get l index) (sym is) ∙ at in
-    no_frame p group.entries (at_index (AreNone p 1) (unit_forgotten p 1 gs) index group here (omega (arith, lt, unit_forgotten_len p 1 gs)) (unit_forgotten_none p 1 gs))
+    no_frame p group.entries (at_index (AreNone p 1) (unit_forgotten p 1 gs) index group here (omega (arith, lt, same_count gs (unit_forgotten p 1 gs) (unit_forgotten_kinds p 1 gs))) (unit_forgotten_none p 1 gs))
 
 -- The disk that was written holds these bytes of the page.
 pub written_held : (a b : Outside) (size p : ℕ) (bytes : List ℕ) → IsWorld a → Goes a b → Wrote (p * size) bytes a b → length bytes ≡ size → p * size + size ≤ a.size → IsHeld b.disk size p bytes

@@ -13,7 +13,7 @@ use Rattle.disk_model.specs.Runs.{honest_on}
 use Rattle.buffer_groups.specs.Frames.{Frames, Lends, page_of}
 use Rattle.buffer_groups.specs.Groups.{GroupsKeep}
 use Rattle.buffer_groups.proofs.FrameLists.{frame_bytes}
-use Rattle.buffer_groups.proofs.GroupLists.{at_index}
+use Rattle.buffer_groups.proofs.GroupLists.{at_index, same_count}
 use Rattle.page_alloc.specs.UnitSet.{UnitSet, used_at}
 use Rattle.tree_store.specs.Stored.{AreFromCatalog, Fits, Tells, Frees, InRest, NoUnit, unit_bytes}
 use Rattle.tree_store.proofs.Places.{page_len}
@@ -28,7 +28,7 @@ told_along a b f h only keeps told =
 
 fits_along : (g : Geometry) (m n : ℕ) (a : Option (List ℕ)) (f h : List Frames) (i : ℕ) (u : UnitSet) → n ≡ m → GroupsKeep a f h → (AreFromCatalog f → AreFromCatalog h) → Fits g m f i u → Fits g n h i u
 fits_along g m n a f h i u same keeps behind fits = record {
-  group = omega (arith, keeps.len, fits.group);
+  group = omega (arith, same_count f h keeps.kinds, fits.group);
   disk = omega (arith, same, fits.disk);
   frames = keeps.sizes g.page_size fits.frames;
   behind = behind fits.behind;
@@ -48,6 +48,7 @@ read_leads outside d e u f h i a disk groups only keeps behind = record {
   changes = changes_nothing (InRest a (used_at u.now) NoUnit) only.nothing;
   fits = fits_along a (outside d.now).size (outside e.now).size (outside d.now).disk f.now h.now i u.now only.nothing.only.goes.size keeps behind;
   told = told_along (outside d.now) (outside e.now) f.now h.now only keeps;
+  kinds = keeps.kinds;
 }
 
 -- the page lies inside the disk

@@ -15,6 +15,8 @@ use Rattle.disk_model.specs.Calls.{Wrote}
 use Rattle.disk_model.specs.Changes.{ChangesWithin, InRange, changes_refl, changes_wider}
 use Rattle.disk_model.specs.Runs.{told_value, honest_on}
 use Rattle.buffer_groups.specs.Frames.{Frames, Lends}
+use Rattle.buffer_groups.specs.Groups.{SameKinds}
+use Rattle.buffer_groups.proofs.GroupLists.{same_count}
 use Rattle.buffer_groups.proofs.Kept.{part_apart}
 use Rattle.page_alloc.specs.UnitSet.{UnitSet, used_at, refs_at, updated, free_count}
 use Rattle.tree_store.specs.Stored.{AreFromCatalog, Fits, Tells, Frees, InRest, IsCounted, NoUnit, unit_bytes, unit_len}
@@ -81,10 +83,10 @@ fresh_counted g u geometry used refs = record {
 taken_told : (a b : Outside) (f h : List Frames) → Goes a b → (IsTrue a.honest → All (Lends a.disk) f → All (Lends b.disk) h) → Tells a f → Tells b h
 taken_told a b f h goes lends told = (honest_on goes told.0, goes.disk_told ∙ told.1, lends told.0 told.2)
 
-taken_fits : (a b : Outside) (g : Geometry) (f h : List Frames) (i : ℕ) (u v : UnitSet) → Goes a b → (IsCounted g u → IsCounted g v) → length h ≡ length f → All (λ (x : Frames). x.page_size ≡ g.page_size) h
+taken_fits : (a b : Outside) (g : Geometry) (f h : List Frames) (i : ℕ) (u v : UnitSet) → Goes a b → (IsCounted g u → IsCounted g v) → SameKinds f h → All (λ (x : Frames). x.page_size ≡ g.page_size) h
     → (AreFromCatalog f → AreFromCatalog h) → Fits g a.size f i u → Fits g b.size h i v
-taken_fits a b g f h i u v goes counted long sizes behind fits = record {
-  group = omega (arith, long, fits.group);
+taken_fits a b g f h i u v goes counted kinds sizes behind fits = record {
+  group = omega (arith, same_count f h kinds, fits.group);
   disk = omega (arith, goes.size, fits.disk);
   frames = sizes;
   behind = behind fits.behind;
@@ -95,10 +97,10 @@ pub taken_leads : {D : Type 0} (outside : D → Outside) (d e : MutBor D) (u v :
     → e.ghost_name ≡ d.ghost_name → v.ghost_name ≡ u.ghost_name → h.ghost_name ≡ f.ghost_name
     → used_at v.now ≡ updated (used_at u.now) p true → (IsCounted g u.now → IsCounted g v.now) → IsUnit g p → used_at u.now p ≡ false → n ≤ unit_len g p
     → ChangesWithin (InRange (p * g.page_size) n) (outside d.now) (outside e.now)
-    → length h.now ≡ length f.now → All (λ (x : Frames). x.page_size ≡ g.page_size) h.now
+    → SameKinds f.now h.now → All (λ (x : Frames). x.page_size ≡ g.page_size) h.now
     → (IsTrue (outside d.now).honest → All (Lends (outside d.now).disk) f.now → All (Lends (outside e.now).disk) h.now) → (AreFromCatalog f.now → AreFromCatalog h.now)
     → Frees outside NoUnit d e u v f h i i g g
-taken_leads outside d e u v f h i g p n disk units frames used counted unit free room changes long sizes lends behind = record {
+taken_leads outside d e u v f h i g p n disk units frames used counted unit free room changes kinds sizes lends behind = record {
   disk = disk;
   units = units;
   frames = frames;
@@ -106,8 +108,9 @@ taken_leads outside d e u v f h i g p n disk units frames used counted unit free
   geometry = refl;
   used = λ q is stays. grows (used_at u.now) (used_at v.now) p used free q is;
   changes = changes_wider (InRange (p * g.page_size) n) (InRest g (used_at u.now) NoUnit) changes (in_rest g (used_at u.now) NoUnit p n unit free room);
-  fits = taken_fits (outside d.now) (outside e.now) g f.now h.now i u.now v.now changes.only.goes counted long sizes behind;
+  fits = taken_fits (outside d.now) (outside e.now) g f.now h.now i u.now v.now changes.only.goes counted kinds sizes behind;
   told = taken_told (outside d.now) (outside e.now) f.now h.now changes.only.goes lends;
+  kinds = kinds;
 }
 
 -- ---- the unit that was taken
@@ -138,6 +141,7 @@ counts_frees outside freed d u v f i g units used counted = record {
   changes = changes_refl (InRest g (used_at u.now) freed) (outside d.now);
   fits = same_fits g (outside d.now).size f.now i u.now v.now counted;
   told = λ told. told;
+  kinds = refl;
 }
 
 pub recounted : (g : Geometry) (u v : UnitSet) (p n : ℕ) → v.geometry ≡ u.geometry → used_at v ≡ used_at u → refs_at v ≡ updated (refs_at u) p n → n ≤ refs_most → (1 ≤ n → used_at u p ≡ true) → IsCounted g u → IsCounted g v

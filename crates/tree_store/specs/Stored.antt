@@ -10,7 +10,7 @@ use Rattle.ex_base.specs.Sizes.{leaf_bytes, volume_bytes}
 use Rattle.disk_model.specs.Outside.{Outside}
 use Rattle.disk_model.specs.Changes.{ChangesWithin, InRange, changes_refl, changes_trans, changes_wider}
 use Rattle.buffer_groups.specs.Frames.{Frames, Lends}
-use Rattle.buffer_groups.specs.Groups.{forgotten_in_all}
+use Rattle.buffer_groups.specs.Groups.{SameKinds, forgotten_in_all}
 use Rattle.page_alloc.specs.UnitSet.{UnitSet, used_at, refs_at}
 
 -- how many bytes the unit has
@@ -59,7 +59,7 @@ pub record Fits (g : Geometry) (disk_size : ℕ) (groups : List Frames) (index :
 abbrev pub Tells : Outside → List Frames → Type 0
 Tells o groups = IsTrue o.honest × IsSome o.disk × All (Lends o.disk) groups
 
--- An earlier and a later state of a store: the same references, the same geometry. Of the units that were used none became free but those of the
+-- An earlier and a later state of a store: the same references, the same geometry, each group of the kind that it was. Of the units that were used none became free but those of the
 -- set, and on the disk nothing changed but bytes of units that were free or of the set.
 pub record Frees {D : Type 0} (outside : D → Outside) (freed : ℕ → Type 0) (d e : MutBor D) (u v : MutBor UnitSet) (f h : MutBor (List Frames)) (i j : ℕ) (a b : Geometry) : Type 0 where
   pub disk : e.ghost_name ≡ d.ghost_name
@@ -71,6 +71,7 @@ pub record Frees {D : Type 0} (outside : D → Outside) (freed : ℕ → Type 0)
   pub changes : ChangesWithin (InRest a (used_at u.now) freed) (outside d.now) (outside e.now)
   pub fits : Fits a (outside d.now).size f.now i u.now → Fits b (outside e.now).size h.now j v.now
   pub told : Tells (outside d.now) f.now → Tells (outside e.now) h.now
+  pub kinds : SameKinds f.now h.now
 
 -- no unit
 abbrev pub NoUnit : ℕ → Type 0
@@ -94,6 +95,7 @@ module _ {D : Type 0} (outside : D → Outside) where
     changes = changes_refl (InRest a (used_at u.now) freed) (outside d.now);
     fits = λ x. x;
     told = λ x. x;
+    kinds = refl;
   }
 
   pub frees_on : (freed : ℕ → Type 0) (d e m : MutBor D) (u v w : MutBor UnitSet) (f h k : MutBor (List Frames)) (i j l : ℕ) (a b c : Geometry)
@@ -108,6 +110,7 @@ module _ {D : Type 0} (outside : D → Outside) where
     changes = changes_trans x.changes (changes_wider (InRest b (used_at v.now) freed) (InRest a (used_at u.now) freed) y.changes (rest_before a b u.now v.now freed x.geometry x.used));
     fits = λ s. y.fits (x.fits s);
     told = λ s. y.told (x.told s);
+    kinds = y.kinds ∙ x.kinds;
   }
 
   pub frees_wider : (few many : ℕ → Type 0) → ((p : ℕ) → few p → many p) → (d e : MutBor D) (u v : MutBor UnitSet) (f h : MutBor (List Frames)) (i j : ℕ) (a b : Geometry)
@@ -123,4 +126,5 @@ module _ {D : Type 0} (outside : D → Outside) where
         (λ q rest. record { unit = rest.unit; apart = λ p unit used stays. rest.apart p unit used (λ freed. stays (wider p freed)) });
     fits = x.fits;
     told = x.told;
+    kinds = x.kinds;
   }

@@ -6,7 +6,7 @@ ghost use Rattle.disk_model.specs.Changes.{ChangesWithin, InRange};
 ghost use Rattle.ex_base.specs.Area.{catalog_no};
 ghost use Rattle.ex_base.specs.Ports.{HasCause, IsDamage};
 ghost use Rattle.buffer_groups.specs.Frames.{Lends};
-ghost use Rattle.buffer_groups.specs.Groups.{HasFrame, AreOfSize};
+ghost use Rattle.buffer_groups.specs.Groups.{HasFrame, AreOfSize, SameKinds};
 ghost use Rattle.tree_store.specs.Stored.{AreFromCatalog, unit_forgotten};
 
 use buffer_groups::Groups;
@@ -33,7 +33,7 @@ pub fn write_unit<D: Disk>(
     ensures lends { IsTrue (D.outside disk.old).honest
         → All (Lends (D.outside disk.old).disk) groups.old
         → All (Lends (D.outside disk.new).disk) groups.new }
-    ensures len { length groups.new ≡ length groups.old }
+    ensures kinds { SameKinds groups.old groups.new }
     ensures sizes { AreOfSize size groups.new }
     ensures behind { AreFromCatalog groups.old → AreFromCatalog groups.new }
     ensures changes { ChangesWithin (InRange (page.0 * size) (length bytes.now))
@@ -70,7 +70,7 @@ pub fn write_node<D: Disk>(
     ensures lends { IsTrue (D.outside disk.old).honest
         → All (Lends (D.outside disk.old).disk) groups.old
         → All (Lends (D.outside disk.new).disk) groups.new }
-    ensures len { length groups.new ≡ length groups.old }
+    ensures kinds { SameKinds groups.old groups.new }
     ensures sizes { AreOfSize size groups.new }
     ensures behind { AreFromCatalog groups.old → AreFromCatalog groups.new }
     ensures changes { ChangesWithin (InRange (page.0 * size) size) (D.outside disk.old)

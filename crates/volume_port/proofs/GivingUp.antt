@@ -73,6 +73,7 @@ gives_trees outside freed d e u v f h j g b k l m n x fits =
       fewer = x.fewer;
       logged = x.logged;
       free = λ area. more_free u.now v.now area geometry x.fewer;
+      kinds = x.store.kinds;
     }
 
 pub none_given : (logged : ℕ → Bool) (g : Geometry) (a : Outside) (units : UnitSet) (groups : List Frames) → GivesTrees logged g a a units units groups groups
@@ -84,6 +85,7 @@ none_given logged g a units groups = record {
   fewer = λ u is. is;
   logged = λ u held is. is;
   free = λ area. omega arith;
+  kinds = refl;
 }
 
 pub given_on : (logged : ℕ → Bool) (g : Geometry) (a b c : Outside) (old mid new : UnitSet) (was then now : List Frames) → GivesTrees logged g a b old mid was then → GivesTrees logged g b c mid new then now → GivesTrees logged g a c old new was now
@@ -95,6 +97,7 @@ given_on logged g a b c old mid new was then now x y = record {
   fewer = λ u is. x.fewer u (y.fewer u is);
   logged = λ u held is. y.logged u held (x.logged u held is);
   free = λ area. omega (arith, x.free area, y.free area);
+  kinds = y.kinds ∙ x.kinds;
 }
 
 -- ---- one tree

@@ -6,3 +6,4 @@ pub mod Staying
 pub mod Giving
 pub mod GivingUp
 pub mod Owning
+pub mod LeafPieces

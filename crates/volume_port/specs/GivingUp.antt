@@ -8,6 +8,7 @@ use Rattle.ex_base.specs.Area.{IsUnit}
 use Rattle.ex_base.specs.Ports.{refs_most, times}
 use Rattle.disk_model.specs.Outside.{Outside, ReadsOnly}
 use Rattle.buffer_groups.specs.Frames.{Frames}
+use Rattle.buffer_groups.specs.Groups.{SameKinds}
 use Rattle.page_alloc.specs.UnitSet.{UnitSet, used_at, refs_at, free_count}
 use Rattle.tree_store.specs.Stored.{Fits, Tells}
 use Rattle.trees.specs.Damage.{IsWhole}
@@ -18,7 +19,7 @@ pub use Rattle.volume_port.specs.Giving.{is_logged}
 use Rattle.volume_port.specs.Logged.{LoggedSet}
 
 -- Trees were given up over the parts of a session: the disk was read at most, and units became free, but none that is logged. The parts fit as they did,
--- and each frame lends its page.
+-- each frame lends its page, and each group is of the kind that it was.
 pub record GivesTrees (held : ℕ → Bool) (g : Geometry) (a b : Outside) (old new : UnitSet) (was now : List Frames) : Type 0 where
   pub only : ReadsOnly a b
   pub told : Tells a was → Tells b now
@@ -27,6 +28,7 @@ pub record GivesTrees (held : ℕ → Bool) (g : Geometry) (a b : Outside) (old 
   pub fewer : (unit : ℕ) → used_at new unit ≡ true → used_at old unit ≡ true
   pub logged : (unit : ℕ) → held unit ≡ true → used_at old unit ≡ true → used_at new unit ≡ true
   pub free : (area : Area) → free_count old.geometry (used_at old) area ≤ free_count new.geometry (used_at new) area
+  pub kinds : SameKinds was now
 
 -- The trees of these roots are whole at home on this disk, which tells its bytes, and own their units beside others; the logged pages are these, and each
 -- that is logged is one of them.

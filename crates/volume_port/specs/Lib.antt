@@ -1,5 +1,6 @@
 pub mod Giving
 pub mod GivingUp
+pub mod LeafPieces
 pub mod Logged
 pub mod Ported
 pub mod Reading

@@ -7,6 +7,8 @@ use Rattle.ex_base.specs.Sizes.{volume_bytes}
 use Rattle.disk_model.specs.Outside.{Outside, ReadsOnly}
 use Rattle.disk_model.specs.Runs.{reads_refl, reads_trans}
 use Rattle.buffer_groups.specs.Frames.{Frames, Lends}
+use Rattle.buffer_groups.specs.Groups.{SameKinds}
+use Rattle.buffer_groups.proofs.GroupLists.{same_count}
 use Rattle.meta_pages.specs.Overlays.{Overlays}
 use Rattle.tree_store.specs.Stored.{AreFromCatalog}
 use Rattle.volume_port.specs.Logged.{LoggedSet}
@@ -24,8 +26,8 @@ pub record CanRead (g : Geometry) (disk_size : ℕ) (groups : List Frames) (inde
   pub overlay : meta.geometry ≡ g
   pub room_len : length room ≡ g.page_size
 
--- An earlier and a later state of a port for reading alone, over the same borrowed parts: the disk was read at most, and nothing changed but frames
--- and the room, which is as long as it was.
+-- An earlier and a later state of a port for reading alone, over the same borrowed parts: the disk was read at most, and nothing changed but frames,
+-- in groups of the kinds that they were, and the room, which is as long as it was.
 pub record Reads {D : Type 0} (outside : D → Outside) (d e : MutBor D) (f h : MutBor (List Frames)) (r t : MutBor (List ℕ)) (i j : ℕ) (a b : Geometry)
     (m n : Overlays) (k l : LoggedSet) : Type 0 where
   pub disk : e.ghost_name ≡ d.ghost_name
@@ -37,7 +39,7 @@ pub record Reads {D : Type 0} (outside : D → Outside) (d e : MutBor D) (f h : 
   pub pages : l ≡ k
   pub only : ReadsOnly (outside d.now) (outside e.now)
   pub sizes : (size : ℕ) → All (λ (x : Frames). x.page_size ≡ size) f.now → All (λ (x : Frames). x.page_size ≡ size) h.now
-  pub count : length h.now ≡ length f.now
+  pub kinds : SameKinds f.now h.now
   pub behind : AreFromCatalog f.now → AreFromCatalog h.now
   pub told : TellsBytes (outside d.now) f.now → TellsBytes (outside e.now) h.now
   pub room_len : length t.now ≡ length r.now
@@ -55,7 +57,7 @@ module _ {D : Type 0} (outside : D → Outside) where
     pages = refl;
     only = reads_refl (outside d.now);
     sizes = λ size h. h;
-    count = refl;
+    kinds = refl;
     behind = λ h. h;
     told = λ h. h;
     room_len = refl;
@@ -73,7 +75,7 @@ module _ {D : Type 0} (outside : D → Outside) where
     pages = two.pages ∙ one.pages;
     only = reads_trans one.only two.only;
     sizes = λ size is. two.sizes size (one.sizes size is);
-    count = two.count ∙ one.count;
+    kinds = two.kinds ∙ one.kinds;
     behind = λ is. two.behind (one.behind is);
     told = λ is. two.told (one.told is);
     room_len = two.room_len ∙ one.room_len;
@@ -86,7 +88,7 @@ module _ {D : Type 0} (outside : D → Outside) where
       subst (λ (g : Geometry). CanRead g (outside e.now).size h.now j n t.now) (sym x.geometry)
       (subst (λ (p : ℕ). CanRead a (outside e.now).size h.now p n t.now) (sym x.index)
       (record {
-        group = omega (arith, ready.group, x.count);
+        group = omega (arith, ready.group, same_count f.now h.now x.kinds);
         disk = omega (arith, ready.disk, size);
         frames = x.sizes a.page_size ready.frames;
         behind = x.behind ready.behind;

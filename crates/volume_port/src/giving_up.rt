@@ -22,8 +22,8 @@ use std::marker::Brand;
 use std::sync::ledger::{Blank, Ledger};
 use version_delete::Steps;
 
-// The group that nodes are read through.
-const MAIN: u32 = 0;
+/// The index of `main` among the groups of a session. Its nodes and logged pages are read through it.
+pub const MAIN: u32 = 0;
 
 /// Adds an owner to the tree of a root. A page that names no unit has none, and an empty tree has no page.
 pub fn own_root(units: &mut Units, geometry: &Geometry, root: &Root)

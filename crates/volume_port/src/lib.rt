@@ -14,7 +14,7 @@ mod reading;
 mod reading_port;
 
 pub use giving_port::GivingPort;
-pub use giving_up::{own_root, release_root, release_roots};
+pub use giving_up::{MAIN, own_root, release_root, release_roots};
 pub use law::committed_pages_stay;
 pub use logged::LoggedPages;
 pub use port::VolumePort;

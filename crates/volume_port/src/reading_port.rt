@@ -1,8 +1,13 @@
 //! A port for reading alone.
-ghost use Rattle.std.specs.Prelude.{◌≡◌, length, false, OnOk, IfErr, IfOk};
-ghost use Rattle.ex_base.specs.Area.{InPageArea};
+ghost use Rattle.std.specs.Prelude.{◌≡◌, ◌≤◌, ◌+◌, ◌↔◌, length, false, IsTrue, OnOk, IfErr, IfOk, IsOk};
+ghost use Rattle.ex_base.specs.Area.{InPageArea, NamesLeaf};
+ghost use Rattle.ex_base.specs.Bytes.{bytes_at};
 ghost use Rattle.ex_base.specs.Ports.{Keeps, HasCause, IsDamage};
-ghost use Rattle.buffer_groups.specs.Groups.{HasFrame};
+ghost use Rattle.ex_base.specs.Sizes.{leaf_bytes};
+ghost use Rattle.disk_model.specs.Outside.{Outside};
+ghost use Rattle.disk_model.specs.Calls.{MakesCalls, MakesAtMost};
+ghost use Rattle.buffer_groups.specs.Groups.{HasFrame, LacksFrame};
+ghost use Rattle.volume_port.specs.LeafPieces.{MayHaveFrame, IsKept, home_bytes, piece_page};
 
 use crate::logged::LoggedPages;
 use crate::reading::read_image;
@@ -22,6 +27,8 @@ pub struct ReadingPort<'a, D: Disk> {
     pub room: &'a mut [u8],
     /// The group that pages are read through.
     pub index: u32,
+    /// Whether a piece of one page of a leaf is read through a frame, so that the next piece of that page makes no call of the disk.
+    pub keeps_leaves: bool,
     pub geometry: Geometry,
     pub meta: &'a Meta,
     pub pages: &'a LoggedPages,
@@ -117,11 +124,20 @@ impl<'a, D: Disk> ReadingPort<'a, D> {
         Ok(())
     }
 
-    // Brings a page into a frame of the group.
+    // Brings a page into a frame of the group. A page that has one makes no disk call, and another one makes one.
     fn bring(&mut self, alloc: Global, page: PageNo) -> Result<(), PortFault>
         requires ready { ⟦<ReadingPort<'a, D> as Ground>⟧.ready self.old }
-        requires page { InPageArea self.old.geometry page.0 }
+        requires page { MayHaveFrame self.old.geometry page.0 }
         ensures held { OnOk result (HasFrame self.new.groups.now self.new.index page.0) }
+        ensures no_memory { HasFrame self.old.groups.now self.old.index page.0 → IsOk result }
+        ensures hit { HasFrame self.old.groups.now self.old.index page.0
+            → self.new.disk.now ≡ self.old.disk.now }
+        ensures miss { LacksFrame self.old.groups.now self.old.index page.0
+            → OnOk result (MakesCalls 1 (D.outside self.old.disk.now)
+            (D.outside self.new.disk.now)) }
+        ensures at_most_once { MakesAtMost 1 (D.outside self.old.disk.now)
+            (D.outside self.new.disk.now) }
+        ensures keeps_leaves { self.new.keeps_leaves ≡ self.old.keeps_leaves }
         ensures kept { Keeps ⟦<ReadingPort<'a, D> as Ground>⟧ self.old self.new }
         ensures no_damage { IfErr result (λ fault. IsDamage fault → ⊥) }
         ensures cause { HasCause (⟦<ReadingPort<'a, D> as Ground>⟧.faults self.old)
@@ -135,13 +151,58 @@ impl<'a, D: Disk> ReadingPort<'a, D> {
     // Lends the bytes of a page that has a frame.
     fn frame(&self, page: PageNo) -> &[u8]
         requires ready { ⟦<ReadingPort<'a, D> as Ground>⟧.ready self.now }
-        requires page { InPageArea self.now.geometry page.0 }
+        requires page { MayHaveFrame self.now.geometry page.0 }
         requires held { HasFrame self.now.groups.now self.now.index page.0 }
         ensures bytes { ⟦<ReadingPort<'a, D> as Ground>⟧.tells self.now
-            → result.now ≡ ⟦<ReadingPort<'a, D> as Ground>⟧.unit self.now page.0 }
+            → result.now ≡ home_bytes self.now.geometry (D.outside self.now.disk.now).disk page.0 }
         ensures len { length result.now ≡ self.now.geometry.page_size }
     {
         self.groups.get(self.index).frame(page)
+    }
+
+    // Whether so many bytes from a place of a leaf on are read through a frame.
+    fn is_kept(&self, from: u32, len: usize) -> bool
+        ensures { IsTrue result ↔ IsKept self.now.keeps_leaves self.now.geometry from len }
+    {
+        let size = self.geometry.page_size as usize;
+        let at = (from % self.geometry.page_size) as usize;
+        self.keeps_leaves && 1 <= len && len < size && at + len <= size
+    }
+
+    // Copies bytes of a page from its frame. Where it has none, it gets one.
+    fn piece_into(
+        &mut self,
+        alloc: Global,
+        page: PageNo,
+        at: u32,
+        out: &mut [u8],
+    ) -> Result<(), PortFault>
+        requires ready { ⟦<ReadingPort<'a, D> as Ground>⟧.ready self.old }
+        requires page { MayHaveFrame self.old.geometry page.0 }
+        requires range { at + length out.old ≤ self.old.geometry.page_size }
+        ensures bytes { OnOk result (⟦<ReadingPort<'a, D> as Ground>⟧.tells self.old
+            → out.new ≡ bytes_at (home_bytes self.old.geometry
+            (D.outside self.old.disk.now).disk page.0) at (length out.old)) }
+        ensures held { OnOk result (HasFrame self.new.groups.now self.new.index page.0) }
+        ensures no_memory { HasFrame self.old.groups.now self.old.index page.0 → IsOk result }
+        ensures hit { HasFrame self.old.groups.now self.old.index page.0
+            → self.new.disk.now ≡ self.old.disk.now }
+        ensures miss { LacksFrame self.old.groups.now self.old.index page.0
+            → OnOk result (MakesCalls 1 (D.outside self.old.disk.now)
+            (D.outside self.new.disk.now)) }
+        ensures at_most_once { MakesAtMost 1 (D.outside self.old.disk.now)
+            (D.outside self.new.disk.now) }
+        ensures keeps_leaves { self.new.keeps_leaves ≡ self.old.keeps_leaves }
+        ensures kept { Keeps ⟦<ReadingPort<'a, D> as Ground>⟧ self.old self.new }
+        ensures no_damage { IfErr result (λ fault. IsDamage fault → ⊥) }
+        ensures cause { HasCause (⟦<ReadingPort<'a, D> as Ground>⟧.faults self.old)
+            (⟦<ReadingPort<'a, D> as Ground>⟧.faults self.new) result }
+    {
+        self.bring(alloc, page)?;
+        let at = at as usize;
+        let len = out.len();
+        out.copy_from_slice(&self.frame(page)[at..at + len]);
+        Ok(())
     }
 
     // The bytes in the room.
@@ -164,16 +225,55 @@ impl<'a, D: Disk> ReadBlocks for ReadingPort<'a, D> {
 
     fn leaf_into(
         &mut self,
-        _alloc: Global,
+        alloc: Global,
         page: PageNo,
         from: u32,
         out: &mut [u8],
-    ) -> Result<(), PortFault> {
-        let at = page.0 as u64 * self.geometry.page_size as u64 + from as u64;
-        match self.disk.read(at, out) {
-            Ok(()) => Ok(()),
-            Err(_) => Err(PortFault::Disk),
+    ) -> Result<(), PortFault>
+        requires ready { ⟦<ReadingPort<'a, D> as Ground>⟧.ready self.old }
+        requires page { NamesLeaf self.old.geometry page.0 }
+        requires range { from + length out.old ≤ leaf_bytes self.old.geometry }
+        ensures bytes { OnOk result (⟦<ReadingPort<'a, D> as Ground>⟧.tells self.old
+            → out.new ≡ bytes_at (⟦<ReadingPort<'a, D> as Ground>⟧.unit self.old page.0)
+            from (length out.old)) }
+        ensures no_damage { IfErr result (λ fault. IsDamage fault → ⊥) }
+        ensures kept { Keeps ⟦<ReadingPort<'a, D> as Ground>⟧ self.old self.new }
+        ensures cause { HasCause (⟦<ReadingPort<'a, D> as Ground>⟧.faults self.old)
+            (⟦<ReadingPort<'a, D> as Ground>⟧.faults self.new) result }
+
+        // A piece of one page goes through its frame, and makes no call of the disk where it has one.
+        ensures held { IsKept self.old.keeps_leaves self.old.geometry from (length out.old)
+            → OnOk result (HasFrame self.new.groups.now self.new.index
+            (piece_page self.old.geometry page.0 from)) }
+        ensures no_memory { IsKept self.old.keeps_leaves self.old.geometry from (length out.old)
+            → HasFrame self.old.groups.now self.old.index (piece_page self.old.geometry page.0 from)
+            → IsOk result }
+        ensures hit { IsKept self.old.keeps_leaves self.old.geometry from (length out.old)
+            → HasFrame self.old.groups.now self.old.index (piece_page self.old.geometry page.0 from)
+            → self.new.disk.now ≡ self.old.disk.now }
+        ensures miss { IsKept self.old.keeps_leaves self.old.geometry from (length out.old)
+            → LacksFrame self.old.groups.now self.old.index
+            (piece_page self.old.geometry page.0 from)
+            → OnOk result (MakesCalls 1 (D.outside self.old.disk.now)
+            (D.outside self.new.disk.now)) }
+
+        // Other bytes are read past the frames, which stay.
+        ensures past { (IsKept self.old.keeps_leaves self.old.geometry from (length out.old) → ⊥)
+            → OnOk result (MakesCalls 1 (D.outside self.old.disk.now)
+            (D.outside self.new.disk.now)) }
+        ensures frames { (IsKept self.old.keeps_leaves self.old.geometry from (length out.old)
+            → ⊥) → self.new.groups.now ≡ self.old.groups.now }
+        ensures at_most_once { MakesAtMost 1 (D.outside self.old.disk.now)
+            (D.outside self.new.disk.now) }
+        ensures keeps_leaves { self.new.keeps_leaves ≡ self.old.keeps_leaves }
+    {
+        if self.is_kept(from, out.len()) {
+            let size = self.geometry.page_size;
+            return self.piece_into(alloc, PageNo(page.0 + from / size), from % size, out);
         }
+        let at = page.0 as u64 * self.geometry.page_size as u64 + from as u64;
+        self.disk.read(at, out)?;
+        Ok(())
     }
 }
 

@@ -1,8 +1,7 @@
 use Rattle.std.proofs.Common.{◌*◌, length}
 use Rattle.disk_model.specs.Changes.{changes_write}
-use Rattle.buffer_groups.specs.Frames.{forgotten}
 use Rattle.buffer_groups.proofs.Kept.{kept_groups, sizes_forgotten}
-use Rattle.buffer_groups.proofs.FrameLists.{length-mapped}
+use Rattle.buffer_groups.proofs.GroupLists.{kinds_forgotten}
 use Rattle.meta_pages.proofs.Writing.{torn_page, from_forgotten}
 use Rattle.meta_pages.proofs.home.write_page.Goals as goal
 
@@ -21,8 +20,8 @@ returns-clause-lends g c = λ honest all.
 pub returns-clause-sizes : goal.returns-clause-sizes
 returns-clause-sizes g c = rw c.forget.ensures (sizes_forgotten c.args.page.0 c.args.size c.args.groups.now c.requires.sizes)
 
-pub returns-clause-len : goal.returns-clause-len
-returns-clause-len g c = rw c.forget.ensures (length-mapped (forgotten c.args.page.0) c.args.groups.now)
+pub returns-clause-kinds : goal.returns-clause-kinds
+returns-clause-kinds g c = rw c.forget.ensures (kinds_forgotten c.args.page.0 c.args.groups.now)
 
 pub returns-clause-from : goal.returns-clause-from
 returns-clause-from g c = λ low all. rw c.forget.ensures (from_forgotten low c.args.page.0 c.args.groups.now all)

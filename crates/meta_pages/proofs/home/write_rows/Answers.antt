@@ -36,7 +36,7 @@ loop-row-preserved g c =
           ∙ sym (forgotten_push (take i rows) row c.args.groups.now)
           ∙ ap (λ (l : List (ℕ × List ℕ)). homes_forgotten l c.args.groups.now) (sym next);
       lends = λ honest all. c.write_page.ensures.lends (honest_on so_far.changes.only.goes honest) (so_far.lends honest all);
-      len = c.write_page.ensures.len ∙ so_far.len;
+      kinds = c.write_page.ensures.kinds ∙ so_far.kinds;
       sizes = c.write_page.ensures.sizes;
       from = λ low all. c.write_page.ensures.from low (so_far.from low all);
       changes = homes_next rows i row c.loop-row-test.true c.row-item.is size so_far.changes c.write_page.ensures.changes;

@@ -1,8 +1,8 @@
-use Rattle.std.proofs.Common.{◌≡◌, ℕ, List, length, take, All, IsTrue, Some}
+use Rattle.std.proofs.Common.{◌≡◌, ℕ, List, take, All, IsTrue, Some}
 use Rattle.disk_model.specs.Calls.{MakesCalls}
 use Rattle.disk_model.specs.Changes.{ChangesWithin}
 use Rattle.buffer_groups.specs.Frames.{Lends}
-use Rattle.buffer_groups.specs.Groups.{AreOfSize}
+use Rattle.buffer_groups.specs.Groups.{AreOfSize, SameKinds}
 use Rattle.meta_pages.specs.Homes.{AreFrom, InHomes, homes_written, homes_forgotten}
 use Rattle.meta_pages.proofs.home.write_rows.Given as goal
 
@@ -14,7 +14,7 @@ invariant-loop-row g l = record {
   forgotten : l.groups ≡ homes_forgotten (take l.row-index l.rows) l.initial.groups;
   lends : IsTrue (g.D.World.outside l.initial.disk).honest
       → All (Lends (g.D.World.outside l.initial.disk).disk) l.initial.groups → All (Lends (g.D.World.outside l.disk).disk) l.groups;
-  len : length l.groups ≡ length l.initial.groups;
+  kinds : SameKinds l.initial.groups l.groups;
   sizes : AreOfSize l.size l.groups;
   from : (low : ℕ) → AreFrom low l.initial.groups → AreFrom low l.groups;
   changes : ChangesWithin (InHomes l.size (take l.row-index l.rows)) (g.D.World.outside l.initial.disk) (g.D.World.outside l.disk);

@@ -22,7 +22,7 @@ returns-in_err-write_unit-clause-leads g c =
     let room : length c.args.bytes.now ≤ unit_len s.geometry p = omega (arith, c.requires.fits, leaf_len s.geometry p area) in
     taken_leads g.D.World.outside s.disk _ s.units _ s.groups _ s.index s.geometry p (length c.args.bytes.now) refl refl refl used
     (λ before. taken_counted s.geometry s.units.now c.take-page.new.self p before unit took.geometry took.used took.refs) unit free room
-    c.write_unit.ensures.changes c.write_unit.ensures.len c.write_unit.ensures.sizes c.write_unit.ensures.lends c.write_unit.ensures.behind
+    c.write_unit.ensures.changes c.write_unit.ensures.kinds c.write_unit.ensures.sizes c.write_unit.ensures.lends c.write_unit.ensures.behind
 
 pub returns-clause-leads : goal.returns-clause-leads
 returns-clause-leads g c =
@@ -36,7 +36,7 @@ returns-clause-leads g c =
     let room : length c.args.bytes.now ≤ unit_len s.geometry p = omega (arith, c.requires.fits, leaf_len s.geometry p area) in
     taken_leads g.D.World.outside s.disk _ s.units _ s.groups _ s.index s.geometry p (length c.args.bytes.now) refl refl refl used
     (λ before. taken_counted s.geometry s.units.now c.take-page.new.self p before unit took.geometry took.used took.refs) unit free room
-    c.write_unit.ensures.changes c.write_unit.ensures.len c.write_unit.ensures.sizes c.write_unit.ensures.lends c.write_unit.ensures.behind
+    c.write_unit.ensures.changes c.write_unit.ensures.kinds c.write_unit.ensures.sizes c.write_unit.ensures.lends c.write_unit.ensures.behind
 
 pub returns-clause-taken : goal.returns-clause-taken
 returns-clause-taken g c =

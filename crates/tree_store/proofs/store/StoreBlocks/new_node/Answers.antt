@@ -41,7 +41,7 @@ returns-in_err-write_node-clause-leads g c =
     let room : s.geometry.page_size ≤ unit_len s.geometry p = omega (arith, page_len s.geometry p area) in
     let counted = taken_counted s.geometry c.count_names.new.units c.take-page.new.self p named.counted unit took.geometry took.used took.refs in
     taken_leads g.D.World.outside s.disk _ s.units _ s.groups _ s.index s.geometry p s.geometry.page_size refl refl refl used (λ before. counted) unit free room
-    c.write_node.ensures.changes c.write_node.ensures.len c.write_node.ensures.sizes c.write_node.ensures.lends c.write_node.ensures.behind
+    c.write_node.ensures.changes c.write_node.ensures.kinds c.write_node.ensures.sizes c.write_node.ensures.lends c.write_node.ensures.behind
 
 pub returns-clause-leads : goal.returns-clause-leads
 returns-clause-leads g c =
@@ -56,7 +56,7 @@ returns-clause-leads g c =
     let room : s.geometry.page_size ≤ unit_len s.geometry p = omega (arith, page_len s.geometry p area) in
     let counted = taken_counted s.geometry c.count_names.new.units c.take-page.new.self p named.counted unit took.geometry took.used took.refs in
     taken_leads g.D.World.outside s.disk _ s.units _ s.groups _ s.index s.geometry p s.geometry.page_size refl refl refl used (λ before. counted) unit free room
-    c.write_node.ensures.changes c.write_node.ensures.len c.write_node.ensures.sizes c.write_node.ensures.lends c.write_node.ensures.behind
+    c.write_node.ensures.changes c.write_node.ensures.kinds c.write_node.ensures.sizes c.write_node.ensures.lends c.write_node.ensures.behind
 
 pub returns-clause-taken : goal.returns-clause-taken
 returns-clause-taken g c =
