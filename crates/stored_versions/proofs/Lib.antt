@@ -1,0 +1,16 @@
+pub mod Places
+pub mod Rows
+pub mod Turning
+pub mod Changing
+pub mod Links
+pub mod Labels
+pub mod Editing
+pub mod Creating
+pub mod Newer
+pub mod Freezing
+pub mod Numbers
+pub mod Deriving
+pub mod Dropping
+pub mod TakingOut
+pub mod RowLinks
+pub mod Within

@@ -1,0 +1,6 @@
+pub mod Stored
+pub mod Linked
+pub mod Objects
+pub mod Edits
+pub mod Updates
+pub mod Laws

@@ -1,0 +1,13 @@
+pub mod Copies
+pub mod Lists
+pub mod Sorted
+pub mod Links
+pub mod Changes
+pub mod Removal
+pub mod Contents
+pub mod Climbing
+pub mod Forming
+pub mod Trees
+pub mod Listing
+pub mod Splitting
+pub mod Members
