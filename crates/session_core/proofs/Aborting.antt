@@ -31,16 +31,17 @@ use Rattle.volume_model.specs.Homes.{home}
 use Rattle.volume_model.specs.OwnersMoved.{PagesGo}
 use Rattle.volume_model.specs.OwnersShown.{OwnersShown, committed_roots, logged_pages}
 use Rattle.volume_model.specs.Shown.{Lends, used_in}
-use Rattle.volume_model.specs.Volume.{Decoded, file_pages, reach_of, units_of}
+use Rattle.volume_model.specs.Volume.{Decoded, file_pages}
 use Rattle.volume_model.proofs.OwnersSwept.{aborted as owners_aborted, gained_first}
 use Rattle.volume_port.specs.GivingUp.{OwnRoots}
 use Rattle.volume_port.specs.Logged.{LoggedSet}
+use Rattle.session_core.specs.Commits.{committed_reach}
 use Rattle.session_core.specs.Finding.{stop_at}
 use Rattle.session_core.specs.Meant.{held_view, meant, pick_of}
 use Rattle.session_core.specs.Sessions.{IsSession, OnlyGives, SessionState, TakenBack, aborted, held, is_kept}
 use Rattle.session_core.specs.Steps.{Steps}
 use Rattle.session_core.proofs.Accepted.{took_place}
-use Rattle.session_core.proofs.Ending.{AtRest, committed_side, exact_at_rest, fewer_used, pages_go, rests_shown, same_refs}
+use Rattle.session_core.proofs.Ending.{AtRest, committed_side, exact_at_rest, fewer_used, pages_go, rests_shown, same_refs, scan_roots}
 use Rattle.session_core.proofs.Finding.{stopped_outside, stopped_so}
 use Rattle.session_core.proofs.Frames.{frames_shown}
 use Rattle.session_core.proofs.Quiet.{left_before, now_after, quiet_moments}
@@ -58,10 +59,10 @@ module _ {a : Outside} {before : View SessionState} (now : ShowsNow meant a befo
 
   -- what owns units beside the roots that the transaction gained
   abbrev others : List ℕ
-  others = root_pages (committed_roots d ++ [])
+  others = root_pages (committed_roots d ++ scan_roots s)
 
   gained_stand : StandFirst now s.gained others
-  gained_stand = record { whole = now.shows.owners.gained_whole; owned = gained_first d [] now.shows.working (used_at s.units) (refs_at s.units) s.gained s.lost before.disk now.shows.owners }
+  gained_stand = record { whole = now.shows.owners.gained_whole; owned = gained_first d (scan_roots s) now.shows.working (used_at s.units) (refs_at s.units) s.gained s.lost before.disk now.shows.owners }
 
   pub own_gained : OwnRoots s.pages s.kept s.geometry a s.groups s.units s.gained
   own_gained = own_roots now s.groups s.gained others (tells_now now session) gained_stand
@@ -81,10 +82,10 @@ module _ {a : Outside} {before : View SessionState} (now : ShowsNow meant a befo
         ((now.shows.logged.held page).1 (contains_later catalog_no page (file_pages now.shows.working) here))
         (false_from_ne_true (is_kept s.kept page) (λ flag. none ((now.shows.logged.kept page).0 flag))) unnamed)
 
-    owners : OwnersShown d (used_at units) (refs_at units) [] [] [] before.disk d.volume
+    owners : OwnersShown d (used_at units) (refs_at units) [] [] (scan_roots s) before.disk d.volume
     owners =
-        subst (λ (refs : ℕ → ℕ). OwnersShown d (used_at units) refs [] [] [] before.disk d.volume) (same_refs given units back.units)
-        (owners_aborted d [] now.shows.working (used_at given) (used_at units) (refs_at given) before.disk owned go)
+        subst (λ (refs : ℕ → ℕ). OwnersShown d (used_at units) refs [] [] (scan_roots s) before.disk d.volume) (same_refs given units back.units)
+        (owners_aborted d (scan_roots s) now.shows.working (used_at given) (used_at units) (refs_at given) before.disk owned go)
 
     -- ---- the view after it
 
@@ -146,9 +147,9 @@ module _ {a : Outside} {before : View SessionState} (now : ShowsNow meant a befo
         step = step;
       }
 
-      -- In use are exactly the units that the committed volume reaches.
-      pub abort_exact : (unit : ℕ) → (used_at units unit ≡ true) ↔ Contains (reach_of (units_of d before.disk) d.volume) unit
-      abort_exact = exact_at_rest d after (held left) before.disk rests_left refl
+      -- In use are exactly the units that the committed volume and the open scans reach.
+      pub abort_exact : (unit : ℕ) → (used_at units unit ≡ true) ↔ Contains (committed_reach d before) unit
+      abort_exact = exact_at_rest d after (held left) before.disk rests_left
 
 -- ---- as a step
 
@@ -172,7 +173,7 @@ module _ {a b : Outside} (s : SessionState) (world : IsWorld a) (is : IsSession 
 
   pub abort_left : (given : UnitSet) (groups : List Frames) (pages : LoggedSet) (units : UnitSet) → s.opened ≡ true → GaveUp a b s s.groups s.gained given groups
       → TakenBack s.meta.working s.kept s.pages pages given units → (before : View SessionState) → before.session ≡ s → (now : ShowsNow meant a before)
-      → (unit : ℕ) → (used_at units unit ≡ true) ↔ Contains (reach_of (units_of now.shows.decoded before.disk) now.shows.decoded.volume) unit
+      → (unit : ℕ) → (used_at units unit ≡ true) ↔ Contains (committed_reach now.shows.decoded before) unit
   abort_left given groups pages units opened gave back before from now =
       abort_exact now (subst IsSession (sym from) is) given groups (subst (λ (t : SessionState). GaveUp a b t t.groups t.gained given groups) (sym from) gave) pages units
       (subst (λ (t : SessionState). TakenBack t.meta.working t.kept t.pages pages given units) (sym from) back) (subst (λ (t : SessionState). volume_bytes t.geometry ≤ a.size) (sym from) room)

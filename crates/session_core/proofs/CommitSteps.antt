@@ -1,6 +1,7 @@
 -- A commit, from a view that shows to one that shows: the trees whose roots the transaction lost are given up before it.
 use Rattle.std.proofs.Common.{◌≡◌, ◌∙◌, ◌↔◌, ℕ, ◌+◌, Bool, true, List, [], ◌∷◌, ◌++◌, All, Option, Some, None, refl, sym, ap, subst}
 use Rattle.std.specs.Prelude.{IsSome, Contains}
+use Rattle.std.specs.List.{flat_map}
 use Rattle.ex_base.specs.declared.geometry.Geometry.{Geometry}
 use Rattle.ex_base.specs.declared.names.Area.TheVariants.{Page, Segment}
 use Rattle.disk_model.specs.Outside.{Outside, ReadsOnly, DiskOnly}
@@ -22,6 +23,7 @@ use Rattle.buffer_groups.specs.Frames as lent
 use Rattle.meta_pages.specs.Overlays.{Overlays}
 use Rattle.table_model.specs.declared.reply.Reply.TheVariants as reply
 use Rattle.table_model.proofs.StepsKeep.{steps_keep}
+use Rattle.session_core.specs.Commits.{working_reach}
 use Rattle.session_core.specs.Sessions.{SessionState, IsSession, Settled, held}
 use Rattle.session_core.specs.Meant.{meant, pick_of, held_view}
 use Rattle.session_core.proofs.Accepted.{took_place}
@@ -29,16 +31,18 @@ use Rattle.session_core.proofs.Frames.{frames_shown}
 use Rattle.session_core.proofs.Quiet.{left_before, shown_lends}
 use Rattle.session_core.proofs.Refusing.{commit_accepted}
 use Rattle.trees.specs.Owners.{IsOwned, root_pages}
+use Rattle.trees.specs.Trees.{root_units}
 use Rattle.volume_model.specs.Homes.{home}
-use Rattle.volume_model.specs.OwnersShown.{logged_pages}
+use Rattle.volume_model.specs.OwnersShown.{OwnedStay, logged_pages}
 use Rattle.volume_model.proofs.OwnersSwept.{lost_first}
 use Rattle.volume_model.proofs.ScansKept.{owned_stay, scans_shown}
 use Rattle.volume_port.specs.GivingUp.{OwnRoots}
 use Rattle.session_core.specs.Catalogs.{FramesLend}
 use Rattle.session_core.proofs.Releasing.{GaveUp, StandFirst, TellsDisk, given_free, left_owned, own_roots}
 use Rattle.session_core.proofs.Committing.{Commits, FramesAfter, committed_as, committed_session, commits_table, kept_left, may_commit, new_reach, numbered, numbered_pages, numbered_rows, owners_left}
-use Rattle.session_core.proofs.Ending.{AtRest, committed_side, exact_at_rest, fewer_used, rests_shown}
+use Rattle.session_core.proofs.Ending.{AtRest, committed_side, exact_at_rest, fewer_used, rests_shown, scan_roots}
 use Rattle.page_alloc.specs.UnitSet.{UnitSet, refs_at, used_at}
+use Rattle.session_core.proofs.ScansReach.{scans_reach_same}
 use Rattle.session_core.proofs.Showing.{view_of, shows_catalog, session_geometry}
 
 -- From the catalog that was read on: the trees whose roots the transaction lost are given up, and then the commit is made.
@@ -61,19 +65,19 @@ module _ {a : Outside} {before : View SessionState} (now : ShowsNow meant a befo
         holds = holds;
       }
 
-  lost_stand : StandFirst now before.session.lost (root_pages (roots_in (stored_in now.shows.working) ++ []))
+  lost_stand : StandFirst now before.session.lost (root_pages (roots_in (stored_in now.shows.working) ++ scan_roots before.session))
   lost_stand = record {
     whole = now.shows.owners.lost_whole;
-    owned = lost_first now.shows.decoded [] now.shows.working (used_at before.session.units) (refs_at before.session.units) before.session.gained before.session.lost before.disk now.shows.owners;
+    owned = lost_first now.shows.decoded (scan_roots before.session) now.shows.working (used_at before.session.units) (refs_at before.session.units) before.session.gained before.session.lost before.disk now.shows.owners;
   }
 
   pub own_lost : {i : Outside} (was : List Frames) → TellsDisk i before.disk was → OwnRoots before.session.pages before.session.kept before.session.geometry i was before.session.units before.session.lost
-  own_lost was tells = own_roots now was before.session.lost (root_pages (roots_in (stored_in now.shows.working) ++ [])) tells lost_stand
+  own_lost was tells = own_roots now was before.session.lost (root_pages (roots_in (stored_in now.shows.working) ++ scan_roots before.session)) tells lost_stand
 
   pub lost_left : {i m : Outside} (was : List Frames) (given : UnitSet) (groups : List Frames) → GaveLost a i m before.session was given groups
-      → IsOwned now.shows.decoded.geometry (home now.shows.decoded.geometry before.disk) (used_at given) (refs_at given) (logged_pages now.shows.decoded now.shows.working) (root_pages (roots_in (stored_in now.shows.working) ++ []))
+      → IsOwned now.shows.decoded.geometry (home now.shows.decoded.geometry before.disk) (used_at given) (refs_at given) (logged_pages now.shows.decoded now.shows.working) (root_pages (roots_in (stored_in now.shows.working) ++ scan_roots before.session))
   lost_left was given groups lost =
-      left_owned now was before.session.lost (root_pages (roots_in (stored_in now.shows.working) ++ [])) given groups (tells_read was lost.reads lost.lends) lost_stand lost.gave
+      left_owned now was before.session.lost (root_pages (roots_in (stored_in now.shows.working) ++ scan_roots before.session)) given groups (tells_read was lost.reads lost.lends) lost_stand lost.gave
 
   -- as the disk was read, to the call of the commit
   pub reads_on : {i m : Outside} (was : List Frames) (given : UnitSet) (groups : List Frames) → GaveLost a i m before.session was given groups → ReadsOnly a m
@@ -120,8 +124,11 @@ module _ {a i m b : Outside} {before : View SessionState} (now : ShowsNow meant 
       took_place o after request.Commit (pick_of (held_view before) request.Commit (view_of after (held left) done.0)) (reply.Commit txn)
       (commit_accepted before (pick_of (held_view before) request.Commit (view_of after (held left) done.0)) now.shows.shared.open_txn opened) told refl (record { pages = fewer.pages; segs = fewer.segs }, λ none. absurd (cc))
 
-  owned_then : IsOwned decoded.geometry (home decoded.geometry before.disk) (used_at given) (refs_at given) (logged_pages decoded now.shows.working) (root_pages (roots_in (stored_in now.shows.working) ++ []))
+  owned_then : IsOwned decoded.geometry (home decoded.geometry before.disk) (used_at given) (refs_at given) (logged_pages decoded now.shows.working) (root_pages (roots_in (stored_in now.shows.working) ++ scan_roots before.session))
   owned_then = lost_left now session was given groups lost
+
+  owners_stay : OwnedStay decoded (refs_at before.session.units) before.disk done.0
+  owners_stay = owned_stay decoded (held_view before) now.shows.working now.shows.owners now.shows.overlay done.0 done.2.homes
 
   rests : AtRest b.images e after (held left) done.0
   rests = record {
@@ -137,7 +144,7 @@ module _ {a i m b : Outside} {before : View SessionState} (now : ShowsNow meant 
     no_pages = none;
     pages = refl;
     segs = refl;
-    scans = scans_shown decoded (held_view before) now.shows.working now.shows.owners done.0 (owned_stay decoded (held_view before) now.shows.working now.shows.owners now.shows.overlay done.0 done.2.homes) now.shows.scans;
+    scans = scans_shown decoded (held_view before) now.shows.working now.shows.owners done.0 owners_stay now.shows.scans;
     owners = owners_left now.shows page session opened catalog txn before.session.notes b.images done.0 log meta.committed done.2 given owned_then kept units settled;
     held = now.shows.logged.held;
     kept = kept_left now.shows page session opened catalog txn before.session.notes b.images done.0 log meta.committed done.2 given owned_then kept units settled;
@@ -156,8 +163,12 @@ module _ {a i m b : Outside} {before : View SessionState} (now : ShowsNow meant 
     step = step;
   }
 
-  -- In use are exactly the units that the working volume reaches.
-  pub commit_exact : (unit : ℕ) → (used_at units unit ≡ true) ↔ Contains (reach_of (working_units decoded before.disk before.session.meta.working) now.shows.working) unit
+  -- In use are exactly the units that the working volume and the open scans reach.
+  pub commit_exact : (unit : ℕ) → (used_at units unit ≡ true) ↔ Contains (working_reach decoded before now.shows.working) unit
   commit_exact unit =
-      subst (λ (us : List ℕ). (used_at units unit ≡ true) ↔ Contains us unit) (new_reach now.shows page session opened catalog txn before.session.notes b.images done.0 log meta.committed done.2)
-      (exact_at_rest e after (held left) done.0 rests refl unit)
+      let volume = new_reach now.shows page session opened catalog txn before.session.notes b.images done.0 log meta.committed done.2 in
+      let scanned = scans_reach_same decoded (held_view before) now.shows.working now.shows.owners done.0 owners_stay now.shows.scans in
+      subst (λ (us : List ℕ). (used_at units unit ≡ true) ↔ Contains us unit)
+      (ap (λ (us : List ℕ). us ++ flat_map (root_units (home decoded.geometry done.0)) (scan_roots before.session)) volume
+      ∙ ap (λ (us : List ℕ). reach_of (working_units decoded before.disk before.session.meta.working) now.shows.working ++ us) scanned)
+      (exact_at_rest e after (held left) done.0 rests unit)

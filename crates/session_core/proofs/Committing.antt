@@ -30,7 +30,7 @@ use Rattle.volume_model.specs.Volume.{Volume, Decoded, table_of, units_of, file_
 use Rattle.buffer_groups.specs.Frames.{Frames}
 use Rattle.buffer_groups.specs.Frames as lent
 use Rattle.meta_pages.specs.Overlays.{Overlays}
-use Rattle.session_core.specs.Commits.{LogsCommit}
+use Rattle.session_core.specs.Commits.{LogsCommit, scans_reach}
 use Rattle.session_core.specs.Sessions.{SessionState, IsSession, IsTracked, Settled, held, is_kept}
 use Rattle.session_core.specs.Meant.{meant, held_view}
 use Rattle.session_core.proofs.Quiet.{left_before, quiet_moments}
@@ -44,7 +44,7 @@ use Rattle.volume_model.specs.Homes.{home}
 use Rattle.volume_model.specs.OwnersMoved.{PagesGo}
 use Rattle.volume_model.specs.OwnersShown.{OwnersShown, logged_pages}
 use Rattle.volume_model.proofs.OwnersSwept.{committed as owners_committed, homes_owned}
-use Rattle.session_core.proofs.Ending.{committed_side, in_second, pages_go, same_refs}
+use Rattle.session_core.proofs.Ending.{committed_side, in_second, pages_go, same_refs, scan_roots}
 use Rattle.session_core.proofs.Tracking.{kept_settled, tracked_put}
 use Rattle.std.proofs.lemmas.List.Elements.{Contains-append_left, Contains-append_cases}
 use Rattle.std.proofs.lemmas.Bool.{cases_eq, both_ways, false_from_ne_true}
@@ -146,7 +146,7 @@ module _ {may_leave : List ℕ → Type 0} {v : View SessionState} (shows : Show
             (λ (differ : number ≢ catalog_no). put_other catalog_no (Some page) rows number (λ e. differ (sym e)) ∙ gone) (cases_eq number catalog_no);
         no_tree = λ number file tree.
             shows.apart.no_tree number (Contains-append_left (file_pages d.volume) (file_pages shows.working) number file)
-            (in_second (trees_in (units_of d v.disk) d.volume) (trees_in units shows.working) [] number (subst (λ (us : List ℕ). Contains us number) trees_stay tree));
+            (in_second (trees_in (units_of d v.disk) d.volume) (trees_in units shows.working) (scans_reach d v) number (subst (λ (us : List ℕ). Contains us number) trees_stay tree));
       }
 
   -- what the working volume reaches was not given back, where it was the committed volume's
@@ -188,7 +188,7 @@ module _ {may_leave : List ℕ → Type 0} {v : View SessionState} (shows : Show
     pub new_reach : reach_of new_units w ≡ reach_of units shows.working
     new_reach = ap (λ (us : List ℕ). (catalog_no ∷ file_pages w) ++ us) (new_trees ∙ trees_stay)
 
-    module _ (given : UnitSet) (owned : IsOwned d.geometry (home d.geometry v.disk) (used_at given) (refs_at given) (logged_pages d shows.working) (root_pages (roots_in (stored_in shows.working) ++ []))) (now : List Bool) (used : UnitSet)
+    module _ (given : UnitSet) (owned : IsOwned d.geometry (home d.geometry v.disk) (used_at given) (refs_at given) (logged_pages d shows.working) (root_pages (roots_in (stored_in shows.working) ++ scan_roots v.session))) (now : List Bool) (used : UnitSet)
         (settled : Settled later v.session.kept now given used) where
       tracked : IsTracked v.session.geometry later v.session.pages v.session.kept
       tracked = tracked_put v.session.geometry rows v.session.pages v.session.kept session.pages page
@@ -205,11 +205,11 @@ module _ {may_leave : List ℕ → Type 0} {v : View SessionState} (shows : Show
           settled.freed p (⊎_elim (λ (held : is_held v.session.pages p ≡ true). absurd (both_ways _ off held)) (λ gone. gone) (tracked.known p flag)) flag unnamed)
 
       -- each unit has the owners of the working volume
-      pub owners_left : OwnersShown e (used_at used) (refs_at used) [] [] [] disk w
+      pub owners_left : OwnersShown e (used_at used) (refs_at used) [] [] (scan_roots v.session) disk w
       owners_left =
-          subst (λ (refs : ℕ → ℕ). OwnersShown e (used_at used) refs [] [] [] disk w) (same_refs given used settled.units)
-          (owners_committed d [] w (done.earlier ++ done.made ∷ []) (used_at given) (used_at used) (refs_at given) v.disk disk owned
-          (λ u area some. homes_owned d [] shows.working (held_view v) shows.overlay (used_at given) (refs_at given) (root_pages (roots_in (stored_in shows.working) ++ [])) v.disk disk owned done.homes u area some)
+          subst (λ (refs : ℕ → ℕ). OwnersShown e (used_at used) refs [] [] (scan_roots v.session) disk w) (same_refs given used settled.units)
+          (owners_committed d (scan_roots v.session) w (done.earlier ++ done.made ∷ []) (used_at given) (used_at used) (refs_at given) v.disk disk owned
+          (λ u area some. homes_owned d (scan_roots v.session) shows.working (held_view v) shows.overlay (used_at given) (refs_at given) (root_pages (roots_in (stored_in shows.working) ++ scan_roots v.session)) v.disk disk owned done.homes u area some)
           settled_go)
 
       pub kept_left : (p : ℕ) → (is_kept now p ≡ true) ↔ Contains (catalog_no ∷ file_pages w) p

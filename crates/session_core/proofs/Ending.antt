@@ -1,5 +1,5 @@
 -- Views without an open transaction, as an abort, a commit and a checkpoint leave them.
-use Rattle.std.proofs.Common.{◌≡◌, ◌∙◌, ◌↔◌, ◌≤◌, ℕ, Bool, true, false, List, [], ◌∷◌, ◌++◌, length, map, None, inl, inr, refl, sym, ap, subst, ⊎_elim, arith}
+use Rattle.std.proofs.Common.{◌≡◌, ◌∙◌, ◌↔◌, ◌≤◌, ℕ, Bool, true, false, List, [], ◌∷◌, ◌++◌, length, map, Option, Some, None, inl, inr, refl, sym, ap, subst, ⊎_elim, arith, length-append}
 use mathlib.Core.Path.{fun_ext}
 use Rattle.std.specs.Prelude.{Contains}
 use Rattle.std.specs.List.{AllByRecursion, AllZip, flat_map}
@@ -7,22 +7,22 @@ use Rattle.std.proofs.lemmas.List.Elements.{Contains-append_left, Contains-appen
 use Rattle.std.proofs.lemmas.Bool.{both_ways}
 use Rattle.ex_base.specs.declared.geometry.Geometry.{Geometry}
 use Rattle.ex_base.specs.declared.names.Area.{Area}
+use Rattle.ex_base.specs.declared.names.Root.{Root}
 use Rattle.ex_base.specs.declared.names.Area.TheVariants.{Page, Segment}
 use Rattle.ex_base.specs.Area.{catalog_no}
 use Rattle.ex_base.specs.Order.{Rising}
-use Rattle.ex_base.proofs.Members.{contains_none}
+use Rattle.open_scans.specs.OpenScans.{OpenRow, scan_of}
 use Rattle.page_alloc.specs.UnitSet.{UnitSet, free_count, refs_at, used_at}
-use Rattle.trees.specs.Trees.{Units, root_units}
+use Rattle.trees.specs.Trees.{root_units}
 use Rattle.trees.proofs.Owned.{some_of}
 use Rattle.table_model.specs.declared.machine.Machine.{Machine}
-use Rattle.table_model.specs.declared.machine.ScanRow.{ScanRow}
 use Rattle.table_model.specs.Machines.{IsMachine}
 use Rattle.session_views.specs.View.{View}
 use Rattle.volume_model.specs.Committed.{Committed, IsOverlayOf}
 use Rattle.volume_model.specs.Homes.{home}
 use Rattle.volume_model.specs.OwnersMoved.{PagesGo}
 use Rattle.volume_model.specs.OwnersShown.{OwnersOf}
-use Rattle.volume_model.specs.Shown.{Held, HeldScan, IsWorkingPage, Lends, OverlayShown, PageRow, ScanShown, Shared, Shows, WorkingRow, WorkingShown, reach_of_view, roots_here, used_in, working_units}
+use Rattle.volume_model.specs.Shown.{Held, IsWorkingPage, Lends, OverlayShown, PageRow, ScanShown, Shared, Shows, WorkingRow, WorkingShown, reach_of_view, roots_here, root_here, used_in, working_units}
 use Rattle.volume_model.specs.TreesShown.{TreesShown}
 use Rattle.volume_model.specs.Volume.{Decoded, file_pages, reach_of, table_of, units_of}
 use Rattle.volume_model.proofs.ExactView.{exact_shown, no_page_shown}
@@ -65,9 +65,29 @@ in_first a b c u h = Contains-append_left (a ++ b) c u (Contains-append_left a b
 pub in_second : (a b c : List ℕ) (u : ℕ) → Contains b u → Contains (a ++ b ++ c) u
 in_second a b c u h = Contains-append_left (a ++ b) c u (Contains-append_right a b u h)
 
--- with the same reach twice and no scan
-once : (xs : List ℕ) (u : ℕ) → Contains (xs ++ xs ++ []) u → Contains xs u
-once xs u has = ⊎_elim (λ both. ⊎_elim (λ here. here) (λ here. here) (Contains-append_cases xs xs u both)) (λ none. absurd (contains_none u none)) (Contains-append_cases (xs ++ xs) [] u has)
+-- with the same reach twice, before that of the scans
+once : (xs scans : List ℕ) (u : ℕ) → Contains (xs ++ xs ++ scans) u → Contains (xs ++ scans) u
+once xs scans u has = ⊎_elim
+    (λ both. Contains-append_left xs scans u (⊎_elim (λ here. here) (λ here. here) (Contains-append_cases xs xs u both)))
+    (λ behind. Contains-append_right xs scans u behind) (Contains-append_cases (xs ++ xs) scans u has)
+
+twice : (xs scans : List ℕ) (u : ℕ) → Contains (xs ++ scans) u → Contains (xs ++ xs ++ scans) u
+twice xs scans u has = ⊎_elim (λ here. in_first xs xs scans u here) (λ behind. Contains-append_right (xs ++ xs) scans u behind) (Contains-append_cases xs scans u has)
+
+-- ---- open scans
+
+-- the roots of the open scans
+abbrev pub scan_roots : SessionState → List Root
+scan_roots s = roots_here (map scan_of s.scans)
+
+one_root : (root : Option Root) → length (root_here root) ≤ 1
+one_root None = omega arith
+one_root (Some root) = omega arith
+
+-- each has one at most
+pub few_scan_roots : (rows : List OpenRow) → length (roots_here (map scan_of rows)) ≤ length rows
+few_scan_roots [] = omega arith
+few_scan_roots (row ∷ rows) = omega (arith, length-append (root_here row.scan.root) (roots_here (map scan_of rows)), one_root row.scan.root, few_scan_roots rows)
 
 -- ---- pages that become free
 
@@ -159,23 +179,17 @@ module _ {may_leave : List ℕ → Type 0} (d : Decoded) (m : Machine) (s : Held
     overlay = overlay_there;
   }
 
-  -- In use are exactly the units that its volume reaches, where no scan is open.
-  pub exact_at_rest : s.scans ≡ [] → (unit : ℕ) → (s.used unit ≡ true) ↔ Contains (reach_of (units_of d disk) d.volume) unit
-  exact_at_rest no_scan unit =
+  -- In use are exactly the units that its volume and the open scans reach.
+  pub exact_at_rest : (unit : ℕ) → (s.used unit ≡ true) ↔ Contains (reach_of (units_of d disk) d.volume ++ flat_map (root_units (home d.geometry disk)) (roots_here s.scans)) unit
+  exact_at_rest unit =
       let R = reach_of (units_of d disk) d.volume in
-      let reach : reach_of_view d resting d.volume ≡ R ++ R ++ [] =
-      ap (λ (rows : List WorkingRow). R ++ reach_of (working_units d disk rows) d.volume ++ flat_map (root_units (home d.geometry disk)) (roots_here s.scans)) rests.no_pages
-      ∙ ap (λ (scans : List HeldScan). R ++ R ++ flat_map (root_units (home d.geometry disk)) (roots_here scans)) no_scan in
+      let scanned = flat_map (root_units (home d.geometry disk)) (roots_here s.scans) in
+      let reach : reach_of_view d resting d.volume ≡ R ++ R ++ scanned = ap (λ (rows : List WorkingRow). R ++ reach_of (working_units d disk rows) d.volume ++ scanned) rests.no_pages in
       let exact = exact_shown d resting d.volume rests.owners trees_there unit in (
-        λ yes. once R unit (subst (λ (us : List ℕ). Contains us unit) reach (exact.0 yes)),
-        λ has. exact.1 (subst (λ (us : List ℕ). Contains us unit) (sym reach) (in_first R R [] unit has)),
+        λ yes. once R scanned unit (subst (λ (us : List ℕ). Contains us unit) reach (exact.0 yes)),
+        λ has. exact.1 (subst (λ (us : List ℕ). Contains us unit) (sym reach) (twice R scanned unit has)),
       )
 
 -- the committed side of a view that shows
 pub committed_side : {may_leave fewer : List ℕ → Type 0} {v : View Held} (shows : Shows may_leave v) → ((d : List ℕ) → fewer d → may_leave d) → Committed fewer shows.decoded v.disk v.session.log v.session.overlay
 committed_side shows inside = record { parts = shows.parts; durable = λ image left. shows.durable image (inside image left); shown = record { just = shows.overlay.just; log_is = shows.overlay.log } }
-
--- without a scan there is none over other units
-pub no_scans : (g : Geometry) (units later : Units) (rows : List ScanRow) → AllZip (ScanShown g units) rows [] → AllZip (ScanShown g later) rows []
-no_scans g units later [] h = tt
-no_scans g units later (row ∷ rows) h = absurd h

@@ -13,6 +13,7 @@ use Rattle.ex_base.specs.Ports.{Cause, IsDamage}
 use Rattle.op_log.specs.declared.record.LogRecord.{LogRecord}
 use Rattle.disk_model.specs.Outside.{Outside}
 use Rattle.buffer_groups.specs.Frames.{Frames, Lends}
+use Rattle.buffer_groups.specs.Groups.{SameKinds}
 use Rattle.tree_store.specs.Stored.{unit_bytes}
 use Rattle.meta_pages.specs.Overlays.{Overlays, over}
 use Rattle.slotted_pages.specs.FilePage.{Slot, body_of}
@@ -68,6 +69,7 @@ only_reads {a} {b} s now groups is left = record {
   same = ap (λ (t : SessionState). record t { groups = groups }) is;
   lends = λ lends. still_lend a b s.groups groups left (subst (λ (t : SessionState). All (Lends a.disk) t.groups) (sym is) lends);
   sizes = λ n. subst (λ (t : SessionState). All (λ (f : Frames). f.page_size ≡ n) t.groups → All (λ (f : Frames). f.page_size ≡ n) groups) is (left.sizes n);
+  kinds = subst (λ (t : SessionState). SameKinds t.groups groups) is left.kinds;
 }
 
 pub read_session : {a b : Outside} (s : SessionState) (groups : List Frames) → LeavesFrames a b s.groups groups → IsSession s → IsSession (record s { groups = groups })
@@ -79,7 +81,10 @@ read_session s groups left is = record {
   in_use = is.in_use;
   room = is.room;
   sizes = left.sizes s.geometry.page_size is.sizes;
-  main = omega (arith, is.main, left.count);
+  groups = left.kinds ∙ is.groups;
+  few_groups = is.few_groups;
+  scans = is.scans;
+  few_scans = is.few_scans;
   logged = is.logged;
   behind = left.behind is.behind;
   few_notes = is.few_notes;

@@ -1,5 +1,5 @@
 -- The parts that a port leaves hold the volume that its working state became.
-use Rattle.std.proofs.Common.{◌≡◌, ◌∙◌, ℕ, Bool, true, false, List, [], ◌∷◌, ◌++◌, Option, Some, None, nat_eq, sym, ap, subst, length, ◌≤◌, arith}
+use Rattle.std.proofs.Common.{◌≡◌, ◌∙◌, ℕ, Bool, true, false, List, [], ◌∷◌, ◌++◌, Option, Some, None, nat_eq, sym, ap, subst, length, map, ◌≤◌, arith}
 use Rattle.std.specs.Prelude.{Contains, unwrap_or}
 use Rattle.std.specs.Map.{lookup}
 use Rattle.std.proofs.lemmas.Bool.{both_ways}
@@ -11,7 +11,8 @@ use Rattle.disk_model.specs.Outside.{Outside}
 use Rattle.disk_model.specs.Runs.{honest_on}
 use Rattle.buffer_groups.specs.Frames.{Frames}
 use Rattle.meta_pages.specs.Overlays.{AreRows, Overlays, image_at}
-use Rattle.page_alloc.specs.UnitSet.{used_at}
+use Rattle.open_scans.specs.OpenScans.{OpenRow, scan_of}
+use Rattle.page_alloc.specs.UnitSet.{refs_at, used_at}
 use Rattle.trees.specs.Counted.{NamesPairs}
 use Rattle.trees.specs.Trees.{Units}
 use Rattle.tree_store.specs.Stored.{NoUnit, Tells, unit_bytes}
@@ -26,11 +27,13 @@ use Rattle.version_model.specs.Versions.{AreInUse}
 use Rattle.volume_edits.specs.Edits.{trees_of}
 use Rattle.volume_edits.specs.Ported.{IsApart, IsVolume, units_in}
 use Rattle.volume_model.specs.Committed.{Committed}
-use Rattle.volume_model.specs.Shown.{PageRow, working_units}
+use Rattle.volume_model.specs.OwnersShown.{OwnersShown}
+use Rattle.volume_model.specs.Shown.{PageRow, roots_here, working_units}
 use Rattle.volume_model.specs.Volume.{Decoded, Volume, file_pages, reach_of, roots_in, stored_in, table_of, units_of}
 use Rattle.volume_port.specs.Logged.{LoggedSet, is_held}
 use Rattle.volume_port.specs.Ported.{image_over}
 use Rattle.volume_port.specs.Stays.{StaysUsed, StillCommitted}
+use Rattle.session_core.specs.Commits.{scans_reach}
 use Rattle.session_core.specs.Finding.{IsPortOf, PortShows}
 use Rattle.session_core.specs.Meant.{meant}
 use Rattle.session_core.specs.Sessions.{SessionState, IsSession}
@@ -39,6 +42,7 @@ use Rattle.session_core.specs.Updates.{HasPortParts, HoldsTurned, KeepsTurned, M
 use Rattle.session_core.proofs.Bridge.{image_is, image_shown, kept_page, no_image, shows_volume, table_is, volume_kept}
 use Rattle.session_core.proofs.Ending.{in_second}
 use Rattle.session_core.proofs.Finding.{shown_tells}
+use Rattle.session_core.proofs.Homes.{home_kept}
 use Rattle.session_core.proofs.KeptOff.{trees_kept}
 use Rattle.session_core.proofs.Ruling.{image_most, volume_rules}
 use Rattle.session_core.proofs.Showing.{trees_in}
@@ -66,7 +70,7 @@ module _ {S : Type 0} (g : ground.Ghosts S) (s : S) {a : Outside} {before : View
   trees_before = trees_kept O (units_in g s) (roots_in (stored_in working)) (volume_kept g s now port).roots
 
   used_before : (u : ℕ) → Contains (reach_of O working) u → used_at before.session.units u ≡ true
-  used_before u has = (now.shows.used.reached u).1 (in_second (reach_of (units_of d before.disk) d.volume) (reach_of O working) [] u has)
+  used_before u has = (now.shows.used.reached u).1 (in_second (reach_of (units_of d before.disk) d.volume) (reach_of O working) (scans_reach d before) u has)
 
   pub is_volume : IsVolume g s d.records working
   is_volume = record {
@@ -133,7 +137,10 @@ module _ {S : Type 0} (g : ground.Ghosts S) (s : S) {a : Outside} {before : View
             lends = rest.lends (moved.told tells);
             still = subst (λ (overlay : List PageRow). Committed b.images d later before.session.log overlay) (sym committed) stays.1.1.committed;
             table = stays.1.1.table;
-            owners = owners_turned g s t names now session over p moved later_over in_use_after table gone come becomes later stays.1.0 (moved.told tells) rest.left new.units rest.swept new.gained new.lost rest.turned;
+            owners = subst (λ (roots : List Root). OwnersShown d (used_at new.units) (refs_at new.units) new.gained new.lost roots later becomes.now) (ap (λ (rows : List OpenRow). roots_here (map scan_of rows)) (sym rest.scans))
+                (owners_turned g s t names now session over p moved later_over in_use_after table gone come becomes later stays.1.0 (moved.told tells) rest.left new.units rest.swept new.gained new.lost rest.turned);
+            homes = home_kept now session moved.changes later stays.1.0;
+            scans = rest.scans;
             committed = committed ∙ moved.committed;
             kept = rest.kept;
             log = rest.log;

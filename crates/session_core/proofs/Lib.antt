@@ -43,8 +43,16 @@ mod MovedVolumes
 mod Changed
 mod Removed
 mod Making
-mod Remembered
+mod Recorded
+pub mod OtherScans
+pub mod Opening
+pub mod Closing
 mod Releasing
+mod ScansReach
 mod Aborting
 mod CommitSteps
 mod Checkpointing
+pub mod Taken
+mod ScanBytes
+pub mod HeldRows
+pub mod OtherRows

@@ -33,13 +33,13 @@ use Rattle.object_files.specs.Edits.{IsCatalogPage}
 use Rattle.object_files.specs.Reads.{catalog_on}
 use Rattle.object_files.proofs.CatalogLaws.{catalog_read}
 use Rattle.volume_model.specs.Shown.{WorkingRow}
-use Rattle.session_core.proofs.Sessions.{number_left}
+use Rattle.session_core.proofs.Sessions.{main_there, number_left}
 use Rattle.session_core.proofs.Tracking.{counted_gives, tracked_back, used_back}
 
 -- a port may be made over the parts of a session
 pub session_ready : (s : SessionState) (size : ℕ) → IsSession s → volume_bytes s.geometry ≤ size → AreReady s.geometry size (parts_held s)
 session_ready s size is room = record {
-  fits = record { group = is.main; disk = room; frames = is.sizes; behind = is.behind; counted = is.units };
+  fits = record { group = main_there s.group_rows s.groups is.groups; disk = room; frames = is.sizes; behind = is.behind; counted = is.units };
   overlay = is.meta;
   held_len = is.pages.held_len;
   room_len = is.room;
@@ -88,7 +88,10 @@ module _ {a b : Outside} (s : SessionState) (p : PortParts) (is : IsSession s) (
     in_use = used_moved;
     room = moved.ready.room_len;
     sizes = moved.ready.fits.frames;
-    main = moved.ready.fits.group;
+    groups = moved.kinds ∙ is.groups;
+    few_groups = is.few_groups;
+    scans = is.scans;
+    few_scans = is.few_scans;
     logged = logged_moved;
     behind = moved.ready.fits.behind;
     few_notes = omega (arith, length-append s.notes (note ∷ []), room);
@@ -112,7 +115,10 @@ module _ {a b : Outside} (s : SessionState) (p : PortParts) (is : IsSession s) (
     in_use = used_back s.geometry p.meta.working p.pages s.kept tracked_moved pages p.units units back used_moved;
     room = moved.ready.room_len;
     sizes = moved.ready.fits.frames;
-    main = moved.ready.fits.group;
+    groups = moved.kinds ∙ is.groups;
+    few_groups = is.few_groups;
+    scans = is.scans;
+    few_scans = is.few_scans;
     logged = (let h = logged_moved in record { images = h.images; none = h.none });
     behind = moved.ready.fits.behind;
     few_notes = is.few_notes;
@@ -157,7 +163,10 @@ with_room s room same is = record {
   in_use = is.in_use;
   room = same ∙ is.room;
   sizes = is.sizes;
-  main = is.main;
+  groups = is.groups;
+  few_groups = is.few_groups;
+  scans = is.scans;
+  few_scans = is.few_scans;
   logged = is.logged;
   behind = is.behind;
   few_notes = is.few_notes;

@@ -55,6 +55,7 @@ module _ {S : Type 0} (g : ground.Ghosts S) where
     given_back = moves.given_back;
     untouched = moves.untouched;
     committed = moves.committed;
+    kinds = frees.kinds;
     ready =
         are_ready b x (outside e.now).size (parts v.now h.now n.now l.now t.now) (now ∙ frees.geometry) is
         (subst (λ (z : Geometry). Fits z (outside e.now).size h.now 0 v.now) frees.geometry

@@ -48,6 +48,7 @@ frames_twice {a} {b} {c} {old} {mid} {new} one two = record {
       let same : b.disk ≡ a.disk = one.reads.nothing.disk in
       subst (λ (o : Option (List ℕ)). All (Lends o) new.groups) same (two.lends (subst (λ (o : Option (List ℕ)). All (Lends o) mid.groups) (sym same) (one.lends lends)));
   sizes = λ n sizes. two.sizes n (one.sizes n sizes);
+  kinds = two.kinds ∙ one.kinds;
 }
 
 pub later_stops : (a b c : Outside) (why : Stop) → ReadsOnly a b → LineStops b c why → LineStops a c why

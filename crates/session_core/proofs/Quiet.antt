@@ -131,7 +131,7 @@ pub quiet_stop : {a b : Outside} {old new : SessionState} (r : Request) (why : S
 quiet_stop r why reads geometry log down stops = record { reads = reads; geometry = geometry; log = log; down = down; stops = stops; refused = tt; stepped = λ before is now. tt }
 
 pub nothing_changed : (a : Outside) (s : SessionState) → OnlyFrames a a s s
-nothing_changed a s = record { reads = reads_refl a; same = refl; lends = λ lends. lends; sizes = λ n sizes. sizes }
+nothing_changed a s = record { reads = reads_refl a; same = refl; lends = λ lends. lends; sizes = λ n sizes. sizes; kinds = refl }
 
 pub refused_at_once : {a : Outside} (s : SessionState) (r : Request) (why : Refusal) → IsSession s → ((before : View SessionState) → before.session ≡ s → ShowsNow meant a before → (q : Pick) → refusal_of before.machine r q ≡ Some why)
     → StepsQuietly a a s s r (Ok (reply.No why))

@@ -9,7 +9,7 @@ use Rattle.buffer_groups.proofs.FrameLists.{All-with_room}
 use Rattle.buffer_groups.proofs.GroupLists.{at_index}
 use Rattle.ex_base.specs.declared.geometry.Geometry.{Geometry}
 use Rattle.disk_model.specs.Outside.{Outside, ReadsOnly}
-use Rattle.buffer_groups.specs.Groups.{GroupsKeep}
+use Rattle.buffer_groups.specs.Groups.{GroupsKeep, SameKinds}
 use Rattle.commits.specs.Room.{AreBehindLog}
 use Rattle.session_core.specs.Sessions.{SessionState, IsSession}
 use Rattle.session_core.specs.Catalogs.{FramesLend, catalog_over, catalog_bytes}
@@ -46,7 +46,10 @@ other_frames s groups disk keeps behind is = record {
   in_use = is.in_use;
   room = is.room;
   sizes = keeps.sizes s.geometry.page_size is.sizes;
-  main = omega (arith, is.main, keeps.len);
+  groups = keeps.kinds ∙ is.groups;
+  few_groups = is.few_groups;
+  scans = is.scans;
+  few_scans = is.few_scans;
   logged = is.logged;
   behind = behind is.behind;
   few_notes = is.few_notes;
@@ -65,6 +68,7 @@ only_frames {a} {b} s now groups is reads keeps = record {
   same = ap (λ (t : SessionState). record t { groups = groups }) is;
   lends = subst (λ (t : SessionState). FramesLend a t → All (Lends a.disk) groups) is keeps.lends;
   sizes = λ n. subst (λ (t : SessionState). All (λ (f : Frames). f.page_size ≡ n) t.groups → All (λ (f : Frames). f.page_size ≡ n) groups) is (keeps.sizes n);
+  kinds = subst (λ (t : SessionState). SameKinds t.groups groups) is keeps.kinds;
 }
 
 pub bytes_read : {T E : Type 0} (result : Result T E) (items : T → List ℕ) (w : Outside) (s now : SessionState) → s ≡ now → s.meta.geometry ≡ s.geometry

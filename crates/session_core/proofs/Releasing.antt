@@ -25,6 +25,7 @@ use Rattle.session_core.specs.Meant.{meant}
 use Rattle.session_core.specs.Sessions.{IsSession, SessionState, is_kept}
 use Rattle.session_core.proofs.Ending.{AsFree}
 use Rattle.session_core.proofs.Quiet.{shown_lends}
+use Rattle.session_core.proofs.Sessions.{main_there}
 use Rattle.session_core.proofs.Showing.{session_geometry}
 
 -- Of a session with these frames the trees of these roots were given up: the units and the frames after it.
@@ -64,7 +65,7 @@ logged_either pages kept page is = by (is_held pages page) refl is
 -- ---- the session after it
 
 pub fits_session : (s : SessionState) (size : ℕ) → IsSession s → volume_bytes s.geometry ≤ size → Fits s.geometry size s.groups 0 s.units
-fits_session s size is room = record { group = is.main; disk = room; frames = is.sizes; behind = is.behind; counted = is.units }
+fits_session s size is room = record { group = main_there s.group_rows s.groups is.groups; disk = room; frames = is.sizes; behind = is.behind; counted = is.units }
 
 pub given_session : {a b : Outside} (s : SessionState) (units : UnitSet) (groups : List Frames) → IsSession s → volume_bytes s.geometry ≤ a.size → GivesTrees (is_logged s.pages s.kept) s.geometry a b s.units units s.groups groups
     → IsSession (record s { units = units; groups = groups })
@@ -81,7 +82,10 @@ given_session {a} {b} s units groups is room gives =
       };
       room = is.room;
       sizes = fits.frames;
-      main = fits.group;
+      groups = gives.kinds ∙ is.groups;
+      few_groups = is.few_groups;
+      scans = is.scans;
+      few_scans = is.few_scans;
       logged = is.logged;
       behind = fits.behind;
       few_notes = is.few_notes;

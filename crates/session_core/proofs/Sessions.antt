@@ -23,9 +23,13 @@ use Rattle.page_alloc.specs.UnitSet.{UnitSet}
 use Rattle.session_core.proofs.Tracking.{tracked_back, tracked_put, tracked_settled, used_back, used_settled, counted_gives}
 use Rattle.commits.specs.Room.{IsLogged, HasCatalog, AreBehindLog}
 use Rattle.buffer_groups.specs.Frames.{Frames}
+use Rattle.buffer_groups.specs.declared.policy.Policy.{Policy}
+use Rattle.buffer_groups.specs.Groups.{SameKinds, kind_of}
 use Rattle.ex_base.specs.declared.geometry.Geometry.{Geometry}
 use Rattle.op_log.specs.State.{LogState}
+use Rattle.open_scans.specs.GroupRows.{AreGroupsOf, kind_of_row, main_kind}
 use Rattle.table_model.specs.declared.machine.BoundName.{BoundName}
+use Rattle.table_model.specs.declared.machine.GroupRow.{GroupRow}
 use Rattle.ex_base.specs.Order.{Rising}
 use Rattle.ex_base.specs.declared.notes.NoteKind.{NoteKind}
 use Rattle.std.proofs.lemmas.List.{length-map}
@@ -33,6 +37,10 @@ use Rattle.std.proofs.lemmas.Bool.{both_ways}
 use Rattle.session_core.specs.Steps.{OnlyFrames}
 use Rattle.disk_model.specs.Outside.{Outside}
 use Rattle.session_core.proofs.Working.{lookup_put, length_put, firsts_put}
+
+-- `main` is among the groups
+pub main_there : (rows : List GroupRow) (groups : List Frames) → AreGroupsOf rows groups → 0 < length groups
+main_there rows groups are = (let many : length groups ≡ length (main_kind ∷ map kind_of_row rows) = sym (length-map groups kind_of) ∙ ap (λ (kinds : List (ℕ × Policy)). length kinds) are in omega (arith, many))
 
 -- with other working pages and notes
 abbrev pub working_on : SessionState → Overlays → List OpNote → Bool → SessionState
@@ -55,7 +63,10 @@ works_on s rows notes opened meta is same few_rows noted rising work tracked idl
   in_use = is.in_use;
   room = is.room;
   sizes = is.sizes;
-  main = is.main;
+  groups = is.groups;
+  few_groups = is.few_groups;
+  scans = is.scans;
+  few_scans = is.few_scans;
   logged = record { images = is.logged.images; none = is.logged.none };
   behind = is.behind;
   few_notes = noted.few;
@@ -178,7 +189,7 @@ pub record LeftByCommit (s : SessionState) (edited : Overlays) (log : LogState) 
   pub log_is : log.geometry ≡ s.log.geometry
   pub meta_is : meta.geometry ≡ edited.geometry
   pub sizes : All (λ (f : Frames). f.page_size ≡ edited.geometry.page_size) later
-  pub len : length later ≡ length groups
+  pub kinds : SameKinds groups later
   pub logged : IsLogged log meta
   pub behind : AreBehindLog groups → AreBehindLog later
   pub none : meta.working ≡ []
@@ -206,7 +217,10 @@ after_commit s edited page log meta later kept units notes gained lost names is 
       in_use = used_settled s.geometry rows s.pages s.kept (tracked_put s.geometry s.meta.working s.pages s.kept is.pages page) kept s.units units settled is.in_use;
       room = is.room;
       sizes = subst (λ (g : Geometry). All (λ (f : Frames). f.page_size ≡ g.page_size) later) (left.edit ∙ is.meta) left.sizes;
-      main = omega (arith, is.main, left.len);
+      groups = left.kinds ∙ is.groups;
+      few_groups = is.few_groups;
+      scans = is.scans;
+      few_scans = is.few_scans;
       logged = left.logged;
       behind = left.behind is.behind;
       few_notes = none_left.few;
@@ -234,7 +248,10 @@ after_abort s meta pages units notes gained lost names is same back none no_gain
       in_use = used_back s.geometry s.meta.working s.pages s.kept is.pages pages s.units units back is.in_use;
       room = is.room;
       sizes = is.sizes;
-      main = is.main;
+      groups = is.groups;
+      few_groups = is.few_groups;
+      scans = is.scans;
+      few_scans = is.few_scans;
       logged = record { images = is.logged.images; none = is.logged.none };
       behind = is.behind;
       few_notes = omega arith;

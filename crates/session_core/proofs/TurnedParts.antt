@@ -36,6 +36,7 @@ gives_moved {a} {b} {c} g old mid kept left groups gives moved =
       given_back = moved.given_back;
       untouched = moved.untouched;
       committed = moved.committed;
+      kinds = gives.kinds ∙ moved.kinds;
       ready = record {
         fits = gives.fits is.fits;
         overlay = is.overlay;
@@ -60,6 +61,7 @@ swept_moved {a} {c} g old p kept units swept moved =
       given_back = moved.given_back;
       untouched = moved.untouched;
       committed = moved.committed;
+      kinds = moved.kinds;
       ready = record {
         fits = (let fits = is.fits in record { group = fits.group; disk = fits.disk; frames = fits.frames; behind = fits.behind; counted = counted_gives g _ p.units units fits.counted swept.units });
         overlay = is.overlay;
@@ -103,6 +105,7 @@ module _ {b c : Outside} (g : Geometry) (mid : PortParts) (kept : List Bool) (le
           geometry = rest.geometry;
           log = rest.log;
           kept = rest.kept;
+          scans = rest.scans;
         }
         ) with shared);
   }
@@ -113,6 +116,7 @@ pub counts_first : {a b : Outside} (held : ℕ → Bool) (g : Geometry) (come : 
 counts_first held g come old mid new was now counts counted gives = record {
   only = gives.only;
   told = gives.told;
+  kinds = gives.kinds;
   fits = λ fits. gives.fits (record { group = fits.group; disk = fits.disk; frames = fits.frames; behind = fits.behind; counted = counted g fits.counted });
   geometry = gives.geometry ∙ counts.geometry;
   fewer = λ unit is. sym (ap (λ (f : ℕ → Bool). f unit) counts.used) ∙ gives.fewer unit is;

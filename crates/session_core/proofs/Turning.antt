@@ -41,7 +41,7 @@ use Rattle.session_core.specs.Sessions.{IsSession, SessionState, Swept, is_kept}
 use Rattle.session_core.specs.TableUpdates.{BecomesVolume}
 use Rattle.session_core.specs.Turning.{RootsTurned, TakenOut, WasCommitted, WasGained}
 use Rattle.session_core.specs.Updates.{Moved, PortParts, parts_held}
-use Rattle.session_core.proofs.Ending.{pages_go, same_refs}
+use Rattle.session_core.proofs.Ending.{few_scan_roots, pages_go, same_refs, scan_roots}
 use Rattle.session_core.proofs.Homes.{home_is, home_kept}
 use Rattle.session_core.proofs.PortParts.{IsPortWith}
 use Rattle.session_core.proofs.Showing.{session_geometry}
@@ -88,14 +88,17 @@ module _ {S : Type 0} (g : ground.Ghosts S) (s t : S) (names : NamesPairs g) {a 
   abbrev A : Units
   A = home d.geometry later
 
-  -- the logged pages and the roots of before
+  -- the logged pages and the roots of before, those of the open scans among them
   abbrev L : List ℕ
   L = logged_pages d working
 
-  abbrev R : List ℕ
-  R = root_pages (roots_held d old.gained [])
+  abbrev scans : List Root
+  scans = scan_roots old
 
-  owners : OwnersShown d (used_at old.units) (refs_at old.units) old.gained old.lost [] before.disk working
+  abbrev R : List ℕ
+  R = root_pages (roots_held d old.gained scans)
+
+  owners : OwnersShown d (used_at old.units) (refs_at old.units) old.gained old.lost scans before.disk working
   owners = now.shows.owners
 
   geometry_is : old.geometry ≡ d.geometry
@@ -137,13 +140,13 @@ module _ {S : Type 0} (g : ground.Ghosts S) (s t : S) (names : NamesPairs g) {a 
       (λ free. inr free) (becomes.pages page has)
 
   went_own : (u : ℕ) → 1 ≤ times u (root_pages (root_here gone)) → 1 ≤ refs_at old.units u
-  went_own u has = working_own d (used_at old.units) (refs_at old.units) old.gained old.lost [] before.disk working owners u (omega (arith, has, becomes.turned.there u))
+  went_own u has = working_own d (used_at old.units) (refs_at old.units) old.gained old.lost scans before.disk working owners u (omega (arith, has, becomes.turned.there u))
 
   owner : (u : ℕ) → 1 ≤ times u (root_pages (root_here gone)) → 1 ≤ g.refs s u
   owner u has = subst (λ (f : ℕ → ℕ). 1 ≤ f u) (sym over.refs) (went_own u has)
 
   few : length (root_pages (root_here come) ++ R) ≤ 1500000000
-  few = omega (arith, length-append (root_pages (root_here come)) R, few_owners d before.disk old.gained [] now.shows.parts, session.few_gained, session.few_notes, one_here come)
+  few = omega (arith, length-append (root_pages (root_here come)) R, few_owners d before.disk old.gained scans now.shows.parts, few_scan_roots old.scans, session.few_scans, session.few_gained, session.few_notes, one_here come)
 
   same : g.geometry t ≡ g.geometry s
   same = later_over.geometry_is ∙ sym over.geometry_is
@@ -215,18 +218,18 @@ module _ {S : Type 0} (g : ground.Ghosts S) (s t : S) (names : NamesPairs g) {a 
   own_at counted rest counts out = record {
     disk = later;
     logged = L ++ file_pages w;
-    others = root_pages (roots_held d (rest ++ root_here come) []);
+    others = root_pages (roots_held d (rest ++ root_here come) scans);
     told = told;
     holds = holds;
     listed = listed;
     whole = went_still;
-    owned = gone_first d (used_at old.units) (refs_at old.units) old.gained old.lost [] before.disk working owners w gone come becomes.turned.roots becomes.turned.there (rest ++ root_here come)
+    owned = gone_first d (used_at old.units) (refs_at old.units) old.gained old.lost scans before.disk working owners w gone come becomes.turned.roots becomes.turned.there (rest ++ root_here come)
         (λ u. omega (arith, out.pages u, pages_both u rest (root_here come))) A (used_at counted) (refs_at counted) (L ++ file_pages w) (owned_counted counted counts);
   }
 
   -- once it is given up, the other roots own what is left
   released_own : (counted left : UnitSet) (rest : List Root) → CountsRoot come p.units counted → TakenOut old.gained rest gone → ReleasesRoots p.pages old.kept old.geometry b p.groups counted left (root_here gone)
-      → IsOwned d.geometry A (used_at left) (refs_at left) (L ++ file_pages w) (root_pages (roots_held d (rest ++ root_here come) []))
+      → IsOwned d.geometry A (used_at left) (refs_at left) (L ++ file_pages w) (root_pages (roots_held d (rest ++ root_here come) scans))
   unfolding own_at
   released_own counted left rest counts out released =
       subst (λ (h : Geometry). ReleasesRoots p.pages old.kept h b p.groups counted left (root_here gone)) geometry_is released (own_at counted rest counts out)
@@ -271,10 +274,10 @@ module _ {S : Type 0} (g : ground.Ghosts S) (s t : S) (names : NamesPairs g) {a 
 
     -- Each unit of a tree has as many references as owners again.
     pub owners_turned : (gains loses : List Root) → RootsTurned p.pages old.kept old.geometry b p.groups p.units left old.gained gains old.lost loses gone come
-        → OwnersShown d (used_at units) (refs_at units) gains loses [] later w
+        → OwnersShown d (used_at units) (refs_at units) gains loses scans later w
     owners_turned gains loses turned =
-        subst (λ (c : ℕ → ℕ). OwnersShown d (used_at units) c gains loses [] later w) (same_refs left units swept.units)
-        (subst (λ (roots : List Root). OwnersShown d (used_at units) (refs_at left) roots loses [] later w) (sym turned.gained_now) (⊎_elim was_gained was_committed turned.went))
+        subst (λ (c : ℕ → ℕ). OwnersShown d (used_at units) c gains loses scans later w) (same_refs left units swept.units)
+        (subst (λ (roots : List Root). OwnersShown d (used_at units) (refs_at left) roots loses scans later w) (sym turned.gained_now) (⊎_elim was_gained was_committed turned.went))
       where
         counted : UnitSet
         counted = turned.counted
@@ -282,18 +285,18 @@ module _ {S : Type 0} (g : ground.Ghosts S) (s t : S) (names : NamesPairs g) {a 
         rest : List Root
         rest = turned.rest
 
-        was_gained : WasGained p.pages old.kept old.geometry b p.groups counted left old.gained rest old.lost loses gone → OwnersShown d (used_at units) (refs_at left) (rest ++ root_here come) loses [] later w
+        was_gained : WasGained p.pages old.kept old.geometry b p.groups counted left old.gained rest old.lost loses gone → OwnersShown d (used_at units) (refs_at left) (rest ++ root_here come) loses scans later w
         was_gained x =
             let released = released_own counted left rest turned.counts x.taken_out x.released in
-            subst (λ (roots : List Root). OwnersShown d (used_at units) (refs_at left) (rest ++ root_here come) roots [] later w) (sym x.lost_stay)
-            (shown_released d (used_at old.units) (refs_at old.units) old.gained old.lost [] before.disk working owners w gone come becomes.turned.roots becomes.turned.there later stays_home came
+            subst (λ (roots : List Root). OwnersShown d (used_at units) (refs_at left) (rest ++ root_here come) roots scans later w) (sym x.lost_stay)
+            (shown_released d (used_at old.units) (refs_at old.units) old.gained old.lost scans before.disk working owners w gone come becomes.turned.roots becomes.turned.there later stays_home came
             (used_at counted) (refs_at counted) (owned_counted counted turned.counts) rest x.taken_out.pages (each_from (IsWhole d.geometry B) rest (λ r has. each_of (IsWhole d.geometry B) old.gained r owners.gained_whole (x.taken_out.others r has))) (used_at left) (refs_at left) (λ is. released)
-            (used_at units) (pages_freed (root_pages (roots_held d (rest ++ root_here come) [])) released))
+            (used_at units) (pages_freed (root_pages (roots_held d (rest ++ root_here come) scans)) released))
 
-        was_committed : WasCommitted counted left old.gained rest old.lost loses gone → OwnersShown d (used_at units) (refs_at left) (rest ++ root_here come) loses [] later w
+        was_committed : WasCommitted counted left old.gained rest old.lost loses gone → OwnersShown d (used_at units) (refs_at left) (rest ++ root_here come) loses scans later w
         was_committed x =
             let owned = subst (λ (u : UnitSet). IsOwned d.geometry A (used_at u) (refs_at u) (L ++ file_pages w) (root_pages (root_here come) ++ R)) (sym x.units) (owned_counted counted turned.counts) in
-            subst (λ (roots : List Root). OwnersShown d (used_at units) (refs_at left) (roots ++ root_here come) loses [] later w) (sym x.stays)
-            (subst (λ (roots : List Root). OwnersShown d (used_at units) (refs_at left) (old.gained ++ root_here come) roots [] later w) (sym x.lost_now)
-            (shown_lost d (used_at old.units) (refs_at old.units) old.gained old.lost [] before.disk working owners w gone come becomes.turned.roots becomes.turned.there later stays_home came
+            subst (λ (roots : List Root). OwnersShown d (used_at units) (refs_at left) (roots ++ root_here come) loses scans later w) (sym x.stays)
+            (subst (λ (roots : List Root). OwnersShown d (used_at units) (refs_at left) (old.gained ++ root_here come) roots scans later w) (sym x.lost_now)
+            (shown_lost d (used_at old.units) (refs_at old.units) old.gained old.lost scans before.disk working owners w gone come becomes.turned.roots becomes.turned.there later stays_home came
             (used_at left) (refs_at left) owned x.none went (used_at units) (pages_freed (root_pages (root_here come) ++ R) owned)))

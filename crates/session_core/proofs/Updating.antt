@@ -17,6 +17,7 @@ use Rattle.disk_model.specs.Runs.{leaves_wider}
 use Rattle.op_log.specs.declared.record.LogRecord.{LogRecord}
 use Rattle.buffer_groups.specs.Frames.{Frames, Lends}
 use Rattle.meta_pages.specs.Rows.{IsAbove, IsRising}
+use Rattle.open_scans.specs.OpenScans.{OpenRow, scan_of}
 use Rattle.page_alloc.specs.UnitSet.{refs_at, used_at}
 use Rattle.trees.specs.Trees.{Units}
 use Rattle.tree_store.specs.Stored.{InRest, IsCounted, NoUnit, unit_bytes}
@@ -36,17 +37,19 @@ use Rattle.volume_model.specs.TreesShown.{TreesShown}
 use Rattle.volume_model.specs.Volume.{Decoded, Volume, file_pages, reach_of, table_of, units_of}
 use Rattle.volume_model.proofs.ExactView.{exact_shown, no_page_shown}
 use Rattle.volume_model.proofs.FilePages.{file_pages_are}
+use Rattle.volume_model.proofs.ScansKept.{scans_used}
 use Rattle.volume_edits.specs.Ported.{IsVolume, units_in}
 use Rattle.volume_port.specs.Logged.{is_held}
 use Rattle.volume_port.specs.Ported.{image_over}
 use Rattle.volume_port.specs.Stays.{ReachIsOf, StaysUsed, StillCommitted}
 use Rattle.volume_port.proofs.Staying.{stays_on, stands_meanwhile}
 use Rattle.session_core.specs.Sessions.{SessionState, IsSession, held, is_kept}
+use Rattle.session_core.specs.Commits.{scans_reach}
 use Rattle.session_core.specs.Finding.{IsPortOf}
 use Rattle.session_core.specs.Updates.{MachineWith, WritesUnused}
 use Rattle.session_core.specs.Meant.{meant}
 use Rattle.session_core.proofs.Bridge.{same_unit, units_over}
-use Rattle.session_core.proofs.Ending.{in_first, no_scans}
+use Rattle.session_core.proofs.Ending.{in_first, scan_roots}
 use Rattle.session_core.proofs.Frames.{frames_shown}
 use Rattle.session_core.proofs.Sessions.{firsts_rise}
 use Rattle.session_core.proofs.Settling.{here_is, here_or}
@@ -94,7 +97,9 @@ pub record LeavesVolume {S : Type 0} (g : ground.Ghosts S) (t : S) (b : Outside)
   pub lends : All (Lends b.disk) new.groups
   pub still : Committed b.images d later before.session.log new.meta.committed
   pub table : table_of (units_of d later) d.volume ≡ table_of (units_of d before.disk) d.volume
-  pub owners : OwnersShown d (used_at new.units) (refs_at new.units) new.gained new.lost [] later now
+  pub owners : OwnersShown d (used_at new.units) (refs_at new.units) new.gained new.lost (scan_roots new) later now
+  pub homes : (unit : ℕ) → used_at before.session.units unit ≡ true → home d.geometry later unit ≡ home d.geometry before.disk unit
+  pub scans : new.scans ≡ before.session.scans
   pub committed : new.meta.committed ≡ before.session.meta.committed
   pub kept : new.kept ≡ before.session.kept
   pub log : new.log ≡ before.session.log
@@ -180,15 +185,21 @@ module _ {S : Type 0} (g : ground.Ghosts S) (t : S) {a b : Outside} {before : Vi
       (λ gone. gone)
       (session.pages.known page ((kept_shown page).1 (Contains-append_right (catalog_no ∷ []) (file_pages d.volume) page has)))
 
+  -- The open scans show what they did, since used units keep their bytes.
+  still_scanned : AllZip (ScanShown d.geometry (home d.geometry later)) before.machine.scans (map scan_of new.scans)
+  still_scanned =
+      let old = before.session in
+      subst (λ (rows : List OpenRow). AllZip (ScanShown d.geometry (home d.geometry later)) before.machine.scans (map scan_of rows)) (sym left.scans)
+      (scans_used d (used_at old.units) (refs_at old.units) old.gained old.lost (map scan_of old.scans) before.disk now.shows.working now.shows.owners later left.homes before.machine.scans now.shows.scans)
+
   -- The session shows the volume that the port has.
   pub updates_show : (m : Machine) (table : Table) → MachineWith before.machine m new table → table ≡ table_of (units_in g t) working → Shared (view_of m (held new) later)
       → Shows b.images (view_of m (held new) later)
   updates_show m table with same shared =
       let v = view_of m (held new) later in
       let worked : WorkingShown d v working m.working = subst (λ (o : Option Table). WorkingShown d v working o) (sym with.working) (record { parts = whole; same = same ∙ sym table_shown }) in
-      let scanned : AllZip (ScanShown d.geometry (home d.geometry later)) m.scans [] =
-      subst (λ (rows : List ScanRow). AllZip (ScanShown d.geometry (home d.geometry later)) rows []) (sym with.scans)
-      (no_scans d.geometry (home d.geometry before.disk) (home d.geometry later) before.machine.scans now.shows.scans) in
+      let scanned : AllZip (ScanShown d.geometry (home d.geometry later)) m.scans (map scan_of new.scans) =
+      subst (λ (rows : List ScanRow). AllZip (ScanShown d.geometry (home d.geometry later)) rows (map scan_of new.scans)) (sym with.scans) still_scanned in
       let overlaid : OverlayShown d v = record {
         just = left.still.shown.just;
         in_order = subst (λ (rows : List PageRow). Rising (map (λ (row : PageRow). row.0) rows)) (sym left.committed) now.shows.overlay.in_order;
@@ -232,7 +243,7 @@ module _ {a : Outside} {before : View SessionState} (now : ShowsNow meant a befo
   -- each unit that the committed volume reaches is used
   pub reach_settled : ReachIsOf (IsSettled before.session) now.shows.decoded before.disk
   reach_settled unit reached =
-      ((now.shows.used.reached unit).1 (in_first (reach_of (units_of now.shows.decoded before.disk) now.shows.decoded.volume) (reach_of (working_units now.shows.decoded before.disk before.session.meta.working) now.shows.working) [] unit reached), λ none. none)
+      ((now.shows.used.reached unit).1 (in_first (reach_of (units_of now.shows.decoded before.disk) now.shows.decoded.volume) (reach_of (working_units now.shows.decoded before.disk before.session.meta.working) now.shows.working) (scans_reach now.shows.decoded before) unit reached), λ none. none)
 
   pub committed_now : Committed a.images now.shows.decoded before.disk before.session.log before.session.meta.committed
   committed_now = record { parts = now.shows.parts; durable = now.shows.durable; shown = record { just = now.shows.overlay.just; log_is = now.shows.overlay.log } }

@@ -27,7 +27,7 @@ use Rattle.table_model.specs.declared.reply.Reply.TheVariants as reply
 use Rattle.session_core.specs.Sessions.{SessionState, IsSession, Settled}
 use Rattle.page_alloc.specs.UnitSet.{UnitSet, used_at}
 use Rattle.session_core.specs.Catalogs.{FramesLend}
-use Rattle.session_core.specs.Commits.{LogsCommit, stop_of}
+use Rattle.session_core.specs.Commits.{LogsCommit, stop_of, working_reach}
 use Rattle.session_core.specs.Meant.{meant}
 use Rattle.session_core.specs.Finding.{IsOutside, LineStops, stop_at}
 use Rattle.session_core.specs.Steps.{Steps}
@@ -38,8 +38,6 @@ use Rattle.session_core.proofs.Checkpointing.{GoesHome, HomeMoments, checkpoint_
 use Rattle.session_core.proofs.Committing.{Moments, Commits, FramesAfter, numbered, numbered_pages, numbered_rows, committed_session, commit_moments, commit_logs}
 use Rattle.session_core.proofs.CommitSteps.{GaveLost, commit_exact, commit_steps, own_lost, tells_read}
 use Rattle.session_core.proofs.Releasing.{GaveUp}
-use Rattle.volume_model.specs.Shown.{working_units}
-use Rattle.volume_model.specs.Volume.{reach_of}
 use Rattle.volume_port.specs.GivingUp.{OwnRoots}
 
 -- ---- checkpoints
@@ -202,7 +200,7 @@ module _ {a i m b : Outside} {before : View SessionState} (page image : List ℕ
       subst (λ (n : ℕ). Stepped meant before request.Commit (reply.Commit n) new b) (sym number_is)
       (commit_steps now image kept.session kept.only kept.opened catalog was given groups made.lost log meta commits_now made.none later frames_now flags units made.settled new same)
 
-  pub made_exact : (unit : ℕ) → (used_at units unit ≡ true) ↔ Contains (reach_of (working_units now.shows.decoded before.disk s.meta.working) now.shows.working) unit
+  pub made_exact : (unit : ℕ) → (used_at units unit ≡ true) ↔ Contains (working_reach now.shows.decoded before now.shows.working) unit
   made_exact = commit_exact now image kept.session kept.only kept.opened catalog was given groups made.lost log meta commits_now made.none later frames_now flags units made.settled
 
   pub made_logs : LogsCommit now.shows.decoded now.shows.working s b
@@ -232,7 +230,7 @@ module _ {a i m b : Outside} (old : SessionState) (page image : List ℕ) (numbe
       (subst (λ (t : SessionState). WasMade a i m b t image number was groups later given units log meta flags) (sym from) made))
 
   pub commit_left : (before : View SessionState) → before.session ≡ old → (now : ShowsNow meant a before)
-      → (unit : ℕ) → (used_at units unit ≡ true) ↔ Contains (reach_of (working_units now.shows.decoded before.disk before.session.meta.working) now.shows.working) unit
+      → (unit : ℕ) → (used_at units unit ≡ true) ↔ Contains (working_reach now.shows.decoded before now.shows.working) unit
   commit_left before from now =
       made_exact page image number was groups later given units log meta flags now (subst (λ (t : SessionState). WasKept a m b t page image number) (sym from) kept)
       (subst (λ (t : SessionState). WasMade a i m b t image number was groups later given units log meta flags) (sym from) made)

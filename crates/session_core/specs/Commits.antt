@@ -1,5 +1,6 @@
 -- What a commit leaves in the log and of the units, and what a session stops at where a transaction could not be committed.
-use Rattle.std.specs.Prelude.{◌≡◌, ◌⊎◌, ◌↔◌, ℕ, ◌+◌, true, Contains, List, [], ◌∷◌, ◌++◌, Some}
+use Rattle.std.specs.Prelude.{◌≡◌, ◌⊎◌, ◌↔◌, ℕ, ◌+◌, true, Contains, List, [], ◌∷◌, ◌++◌, Some, map}
+use Rattle.std.specs.List.{flat_map}
 use Rattle.ex_base.specs.Area.{catalog_no}
 use Rattle.disk_model.specs.Outside.{Outside}
 use Rattle.object_files.specs.Catalog.{CatalogOf}
@@ -11,6 +12,10 @@ use Rattle.op_log.specs.declared.record.LogRecord.{LogRecord}
 use Rattle.volume_model.specs.Committed.{HasNoRoom, IsRecordOf}
 use Rattle.page_alloc.specs.UnitSet.{UnitSet, used_at}
 use Rattle.session_views.specs.View.{View}
+use Rattle.open_scans.specs.OpenScans.{scan_of}
+use Rattle.trees.specs.Trees.{root_units}
+use Rattle.volume_model.specs.Held.{roots_here}
+use Rattle.volume_model.specs.Homes.{home}
 use Rattle.volume_model.specs.Shown.{working_units}
 use Rattle.volume_model.specs.Volume.{Decoded, Volume, reach_of, units_of}
 use Rattle.session_core.specs.Sessions.{SessionState}
@@ -39,10 +44,14 @@ pub record LogsCommit (d : Decoded) (working : Volume) (s : SessionState) (w : O
 abbrev pub JustReached : UnitSet → List ℕ → Type 0
 JustReached units reached = (unit : ℕ) → (used_at units unit ≡ true) ↔ Contains reached unit
 
--- what the committed volume reaches on a disk that decodes so
-abbrev pub committed_reach : Decoded → List ℕ → List ℕ
-committed_reach d disk = reach_of (units_of d disk) d.volume
+-- what the open scans reach: the units of their trees
+abbrev pub scans_reach : Decoded → View SessionState → List ℕ
+scans_reach d before = flat_map (root_units (home d.geometry before.disk)) (roots_here (map scan_of before.session.scans))
 
--- what the working volume of a session reaches, over its working pages
+-- what the committed volume and the open scans reach
+abbrev pub committed_reach : Decoded → View SessionState → List ℕ
+committed_reach d before = reach_of (units_of d before.disk) d.volume ++ scans_reach d before
+
+-- what the working volume, over the working pages, and the open scans reach
 abbrev pub working_reach : Decoded → View SessionState → Volume → List ℕ
-working_reach d before working = reach_of (working_units d before.disk before.session.meta.working) working
+working_reach d before working = reach_of (working_units d before.disk before.session.meta.working) working ++ scans_reach d before

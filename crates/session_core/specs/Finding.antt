@@ -11,6 +11,7 @@ use Rattle.ex_base.specs.declared.names.Oid.{Oid}
 use Rattle.ex_base.specs.declared.names.Root.{Root}
 use Rattle.disk_model.specs.Outside.{Outside, ReadsOnly, Rose}
 use Rattle.buffer_groups.specs.Frames.{Frames}
+use Rattle.buffer_groups.specs.Groups.{SameKinds}
 use Rattle.commits.specs.Room.{AreBehindLog}
 use Rattle.tree_store.specs.Stored.{unit_bytes}
 use Rattle.volume_port.specs.Logged.{LoggedSet, is_held}
@@ -108,11 +109,11 @@ pub record PortShows {S : Type 0} (g : ground.Ghosts S) (s : S) (v : View Sessio
   pub image : (page : ℕ) → InPageArea (g.geometry s) page → g.image s page ≡ held_image (held_view v).session v.disk page
   pub tells : g.tells s
 
--- What was read at most: the frames are of the sizes that they were, and go on telling the bytes of their pages.
+-- What was read at most: the groups are as they were made, and their frames go on telling the bytes of their pages.
 pub record LeavesFrames (a b : Outside) (f h : List Frames) : Type 0 where
   pub only : ReadsOnly a b
   pub sizes : (size : ℕ) → All (λ (x : Frames). x.page_size ≡ size) f → All (λ (x : Frames). x.page_size ≡ size) h
-  pub count : length h ≡ length f
+  pub kinds : SameKinds f h
   pub behind : AreBehindLog f → AreBehindLog h
   pub told : TellsBytes a f → TellsBytes b h
 

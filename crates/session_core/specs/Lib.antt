@@ -8,7 +8,8 @@ pub mod Needs
 pub mod TableUpdates
 pub mod Performed
 pub mod Turning
-pub mod Rooms
 pub mod Updates
 pub mod Commits
 pub mod Summaries
+pub mod ScanRows
+pub mod Opening

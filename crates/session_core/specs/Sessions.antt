@@ -18,16 +18,19 @@ use Rattle.object_files.specs.Edits.{IsCatalogPage}
 use Rattle.object_files.specs.Reads.{catalog_on}
 use Rattle.table_model.specs.declared.machine.BoundName.{BoundName}
 use Rattle.meta_pages.specs.Rows.{with_row, IsRising}
-use Rattle.table_model.specs.Machines.{updates_most, touched_most, kept, no_oid}
+use Rattle.table_model.specs.declared.machine.GroupRow.{GroupRow}
+use Rattle.table_model.specs.Machines.{updates_most, touched_most, scans_most, groups_most, kept, no_oid}
 use Rattle.table_model.specs.Steps.{note}
 use Rattle.volume_model.specs.Shown.{Held, WorkingRow}
 use Rattle.volume_port.specs.Logged.{LoggedSet, is_held}
 use Rattle.volume_port.specs.Ported.{IsUsed}
 use Rattle.commits.specs.Room.{IsLogged, AreBehindLog}
+use Rattle.open_scans.specs.GroupRows.{AreGroupsOf}
+use Rattle.open_scans.specs.OpenScans.{OpenRow, IsOpenScan, scan_of}
 
 -- the value of a session: its parts, the logged pages of the working state and of the committed one, a page that the port lends, the notes of the open
 -- transaction's updates, the roots of trees that these made and that the working state has still, those of the committed state that it lost, the bound names,
--- whether a transaction is open, and whether the session is down
+-- the open scans, the groups that were made besides `main`, whether a transaction is open, and whether the session is down
 pub record SessionState : Type 0 where
   pub geometry : Geometry
   pub log : LogState
@@ -41,6 +44,8 @@ pub record SessionState : Type 0 where
   pub gained : List Root
   pub lost : List Root
   pub names : List BoundName
+  pub scans : List OpenRow
+  pub group_rows : List GroupRow
   pub opened : Bool
   pub down : Bool
 
@@ -48,15 +53,15 @@ pub record SessionState : Type 0 where
 abbrev pub is_kept : List Bool → ℕ → Bool
 is_kept kept page = slice_index_or kept page false
 
--- What it holds of a volume. No scan can be opened yet, and no group made besides `main`.
+-- what it holds of a volume
 abbrev pub held : SessionState → Held
 held s = record {
   geometry = s.geometry;
   notes = s.notes;
   names = s.names;
   working_pages = s.meta.working;
-  scans = [];
-  group_rows = [];
+  scans = map scan_of s.scans;
+  group_rows = s.group_rows;
   frames = map (λ (f : Frames). f.entries) s.groups;
   used = used_at s.units;
   refs = refs_at s.units;
@@ -70,7 +75,7 @@ held s = record {
   down = s.down;
 }
 
--- a session with no transaction and no bound name: the committed state has the pages that the working one has
+-- a session with no transaction, no bound name, no scan and `main` alone: the committed state has the pages that the working one has
 abbrev pub fresh_session : Geometry → LogState → Overlays → LoggedSet → UnitSet → List Frames → SessionState
 fresh_session geometry log meta pages units groups = record {
   geometry = geometry;
@@ -85,6 +90,8 @@ fresh_session geometry log meta pages units groups = record {
   gained = [];
   lost = [];
   names = [];
+  scans = [];
+  group_rows = [];
   opened = false;
   down = false;
 }
@@ -191,9 +198,9 @@ pub record ArePagesUsed (used : ℕ → Bool) (pages : LoggedSet) (kept : List B
   pub working : (page : ℕ) → IsUsed used pages page
   pub committed : (page : ℕ) → is_kept kept page ≡ true → used page ≡ true
 
--- What holds of every session: its parts are of one geometry, and `main` is among the groups; its logged pages are used; log, overlay and frames are such
--- that a commit can be made; an open transaction is within its limits, and has a working catalog; each of its updates gains and loses one root at most.
--- Without one no page is touched, and no root is gained or lost.
+-- What holds of every session: its parts are of one geometry; the groups are `main` and those that were made, each with its frames and its policy; its
+-- logged pages are used; log, overlay and frames are such that a commit can be made; scans and groups are within their limits; an open transaction is within
+-- its own, and has a working catalog; each of its updates gains and loses one root at most. Without one no page is touched, and no root is gained or lost.
 pub record IsSession (s : SessionState) : Type 0 where
   pub log : s.log.geometry ≡ s.geometry
   pub meta : s.meta.geometry ≡ s.geometry
@@ -202,7 +209,10 @@ pub record IsSession (s : SessionState) : Type 0 where
   pub in_use : ArePagesUsed (used_at s.units) s.pages s.kept
   pub room : length s.room ≡ s.geometry.page_size
   pub sizes : All (λ (f : Frames). f.page_size ≡ s.geometry.page_size) s.groups
-  pub main : 0 < length s.groups
+  pub groups : AreGroupsOf s.group_rows s.groups
+  pub few_groups : length s.group_rows ≤ groups_most
+  pub scans : All (IsOpenScan s.geometry (length s.group_rows)) s.scans
+  pub few_scans : length s.scans ≤ scans_most
   pub logged : IsLogged s.log s.meta
   pub behind : AreBehindLog s.groups
   pub few_notes : length s.notes ≤ updates_most

@@ -2,6 +2,7 @@
 use Rattle.std.specs.Prelude.{◌≡◌, ℕ, All, Result, IfOk, IfErr, IsTrue, Bool, true, false}
 use Rattle.disk_model.specs.Outside.{Outside, DiskOnly, Leaves, ReadsOnly}
 use Rattle.buffer_groups.specs.Frames.{Frames}
+use Rattle.buffer_groups.specs.Groups.{SameKinds}
 use Rattle.table_model.specs.declared.reply.Reply.{Reply}
 use Rattle.table_model.specs.declared.reply.Reply.TheVariants as reply
 use Rattle.table_model.specs.declared.reply.Refusal.{Refusal}
@@ -14,13 +15,14 @@ use Rattle.session_core.specs.Catalogs.{FramesLend, ReadingStops, catalog_bytes}
 use Rattle.session_core.specs.Finding.{IfShown, IsOutside, LineStops}
 use Rattle.session_core.specs.Meant.{meant}
 
--- The disk was read at most, and nothing of the session changed but its frames, which still have the bytes of their pages, and are
--- of the sizes that they were.
+-- The disk was read at most, and nothing of the session changed but its frames, which still have the bytes of their pages, in groups that are as they were
+-- made.
 pub record OnlyFrames (a b : Outside) (old new : SessionState) : Type 0 where
   pub reads : ReadsOnly a b
   pub same : new ≡ record old { groups = new.groups }
   pub lends : FramesLend a old → FramesLend a new
   pub sizes : (n : ℕ) → All (λ (f : Frames). f.page_size ≡ n) old.groups → All (λ (f : Frames). f.page_size ≡ n) new.groups
+  pub kinds : SameKinds old.groups new.groups
 
 -- why a step stops
 abbrev pub Stops : Outside → Outside → SessionState → Stop → Type 0

@@ -12,6 +12,7 @@ use Rattle.disk_model.specs.Outside.{Outside}
 use Rattle.ex_base.specs.declared.names.Root.{Root}
 use Rattle.disk_model.specs.Changes.{ChangesWithin}
 use Rattle.buffer_groups.specs.Frames.{Frames, Lends}
+use Rattle.buffer_groups.specs.Groups.{SameKinds}
 use Rattle.meta_pages.specs.Overlays.{Overlays}
 use Rattle.page_alloc.specs.UnitSet.{UnitSet, used_at}
 use Rattle.tree_store.specs.Stored.{Fits, InRest, NoUnit, Tells}
@@ -64,7 +65,7 @@ abbrev pub IsLoose : LoggedSet → List Bool → ℕ → Type 0
 IsLoose pages kept unit = is_logged pages kept unit ≡ false
 
 -- What an update leaves of the parts of a port: no unit was given back that isn't of the set, on the disk nothing changed but bytes of units that weren't in
--- use, and the committed images are the same. A page that is there no more was given back, and one that is there untouched was so before.
+-- use, and the committed images and the groups of frames are as they were. A page that is there no more was given back, and one that is there untouched was so before.
 pub record Moved (freed : ℕ → Type 0) (a b : Outside) (g : Geometry) (old new : PortParts) : Type 0 where
   pub changes : ChangesWithin (InRest g (used_at old.units) NoUnit) a b
   pub told : Tells a old.groups → Tells b new.groups
@@ -72,6 +73,7 @@ pub record Moved (freed : ℕ → Type 0) (a b : Outside) (g : Geometry) (old ne
   pub given_back : (page : ℕ) → IsKnown old.meta old.pages page → is_held new.pages page ≡ false → lookup (nat_eq page) new.meta.working ≡ Some None
   pub untouched : (page : ℕ) → IsUntouched new.meta new.pages page → IsUntouched old.meta old.pages page
   pub committed : new.meta.committed ≡ old.meta.committed
+  pub kinds : SameKinds old.groups new.groups
   pub ready : AreReady g b.size new
 
 -- On the disk nothing changed but bytes of units that are not in use.
@@ -113,6 +115,7 @@ pub record KeepsRest (old new : SessionState) (p : PortParts) (gains loses : Lis
   pub geometry : new.geometry ≡ old.geometry
   pub log : new.log ≡ old.log
   pub kept : new.kept ≡ old.kept
+  pub scans : new.scans ≡ old.scans
 
 -- The parts hold a volume with this table, which keeps the rules, and these roots were gained and lost: each session that has them shows it, on what the
 -- disk holds, with a machine that has it as its working table.
@@ -135,6 +138,7 @@ pub record KeepsTurned (old new : SessionState) (b : Outside) (p : PortParts) (g
   pub geometry : new.geometry ≡ old.geometry
   pub log : new.log ≡ old.log
   pub kept : new.kept ≡ old.kept
+  pub scans : new.scans ≡ old.scans
 
 -- Where the root that went was gained, it owns its tree beside others, also once the one that came is counted.
 abbrev pub OwnsGone : View SessionState → Outside → PortParts → Option Root → Option Root → Type 0

@@ -5,26 +5,31 @@ mod catalog;
 mod commit;
 mod counts;
 mod digests;
+mod groups;
 mod moving;
 mod objects;
+mod opening;
+mod pieces;
 mod settle;
 mod shapes;
 mod summary;
 mod turning;
 
-use crate::updates::Rooms;
 use bound_names::NameMap;
 use buffer_groups::Groups;
 pub use catalog::view_of;
 use ex_base::{Geometry, OpNote, Root};
+use file_rooms::Rooms;
 use meta_pages::Meta;
 pub use moving::Limit;
 pub use objects::Named;
 use op_log::OpLog;
+use open_scans::OpenScans;
 use page_alloc::{Filled, Units};
 use std::alloc::{AllocError, Global};
 use std::marker::Model;
 pub use summary::Summary;
+use table_model::GroupRows;
 use volume_port::LoggedPages;
 
 /// The index of `main` among the groups. Logged pages are read through it.
@@ -63,6 +68,9 @@ pub struct Session {
     // roots of the committed state that the open transaction gave up
     lost: Vec<Root>,
     names: NameMap,
+    scans: OpenScans,
+    // the groups that were made besides `main`
+    group_rows: GroupRows,
     // of the working state's files, and no part of what contracts see
     rooms: Rooms,
     // a transaction is open
@@ -76,9 +84,9 @@ impl Model for Session {
 
     ghost Value = { SessionState };
 
-    ghost view = { λ s. record { geometry = s.geometry; log = s.log; meta = s.meta; pages = s.pages; kept = s.kept; units = s.units; groups = s.groups; room = s.room.items; notes = s.notes.items; gained = s.gained.items; lost = s.lost.items; names = s.names; opened = s.opened; down = s.down } };
+    ghost view = { λ s. record { geometry = s.geometry; log = s.log; meta = s.meta; pages = s.pages; kept = s.kept; units = s.units; groups = s.groups; room = s.room.items; notes = s.notes.items; gained = s.gained.items; lost = s.lost.items; names = s.names; scans = s.scans; group_rows = s.group_rows; opened = s.opened; down = s.down } };
 
-    ghost invariant = { λ s. IsSession (record { geometry = s.geometry; log = s.log; meta = s.meta; pages = s.pages; kept = s.kept; units = s.units; groups = s.groups; room = s.room.items; notes = s.notes.items; gained = s.gained.items; lost = s.lost.items; names = s.names; opened = s.opened; down = s.down }) };
+    ghost invariant = { λ s. IsSession (record { geometry = s.geometry; log = s.log; meta = s.meta; pages = s.pages; kept = s.kept; units = s.units; groups = s.groups; room = s.room.items; notes = s.notes.items; gained = s.gained.items; lost = s.lost.items; names = s.names; scans = s.scans; group_rows = s.group_rows; opened = s.opened; down = s.down }) };
 }
 
 impl Session {
@@ -90,9 +98,10 @@ impl Session {
     ghost use Rattle.volume_port.specs.Ported.{IsUsed};
     ghost use Rattle.buffer_groups.specs.Frames.{Frames};
     ghost use Rattle.commits.specs.Room.{IsLogged, AreBehindLog};
+    ghost use Rattle.open_scans.specs.GroupRows.{AreGroupsOf};
     ghost use Rattle.session_core.specs.Sessions.{fresh_session};
 
-    /// A session over these parts, with no transaction, no scan and no bound name. The parts are of one geometry, `main` is among the groups, no page
+    /// A session over these parts, with no transaction, no scan and no bound name. The parts are of one geometry, `main` is the one group, no page
     /// is touched, the catalog is among the logged pages and each of these is used, each committed image has its place in the log, and no frame is
     /// of a page of the log.
     pub fn make(alloc: Global, parts: Parts) -> Result<Session, AllocError>
@@ -102,9 +111,9 @@ impl Session {
         requires held { length parts.pages ≡ area_end parts.geometry }
         requires catalog { is_held parts.pages catalog_no ≡ true }
         requires in_use { (page : ℕ) → IsUsed (used_at parts.units) parts.pages page }
-        requires groups { All (λ (f : Frames). f.page_size
+        requires sizes { All (λ (f : Frames). f.page_size
             ≡ parts.geometry.page_size) parts.groups }
-        requires main { 0 < length parts.groups }
+        requires groups { AreGroupsOf [] parts.groups }
         requires untouched { parts.meta.working ≡ [] }
         requires logged { IsLogged parts.log parts.meta }
         requires behind { AreBehindLog parts.groups }
@@ -134,6 +143,8 @@ impl Session {
             gained: Vec::new(alloc),
             lost: Vec::new(alloc),
             names: NameMap::new(alloc),
+            scans: OpenScans::new(alloc),
+            group_rows: GroupRows::make(alloc),
             rooms: Rooms::new(alloc),
             opened: false,
             down: false,

@@ -4,18 +4,17 @@ ghost use Rattle.ex_base.specs.Ports.{HasCause};
 ghost use Rattle.ex_base.specs.declared.names.Area.TheVariants.{Page};
 ghost use Rattle.session_core.specs.TableUpdates.{TableUpdate, Updates};
 ghost use Rattle.session_core.specs.Performed.{CanPerform, IsUpdate, NamesOid};
-ghost use Rattle.session_core.specs.Rooms.{ChangesOne};
+ghost use Rattle.file_rooms.specs.Rooms.{ChangesOne};
 
 mod changing;
 mod creating;
 mod removing;
-mod rooms;
 
 use changing::change;
 use creating::create;
 use ex_base::{Oid, PortFault, Root, Volume};
+use file_rooms::Rooms;
 use removing::remove;
-pub use rooms::Rooms;
 use std::alloc::Global;
 use versions::Edit;
 

@@ -35,6 +35,6 @@ pub fn is_built(command: &Command) -> bool
         Command::Group { .. }
         | Command::Scan { .. }
         | Command::Next { .. }
-        | Command::Close { .. } => false,
+        | Command::Close { .. } => true,
     }
 }

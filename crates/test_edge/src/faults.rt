@@ -128,10 +128,10 @@ fn short_and_interrupted_calls_move_all_bytes(rt: HostRuntime) -> Result<(), Fai
     let file = SlowFile::make(SIZE);
     let mut host = FileHost::over(Some(file), SIZE as u64, NOTHING, nothing_yet(rt.alloc()));
     let mut bytes = [7u8; 6];
-    assert_eq!(rt; host.write(3, b"exsm"), Ok(()));
-    assert_eq!(rt; host.read(2, &mut bytes), Ok(()));
-    assert_eq!(rt; bytes, *b"\0exsm\0");
-    assert_eq!(rt; host.disk_faults().count, 0);
+    assert!(rt; host.write(3, b"exsm") == Ok(()));
+    assert!(rt; host.read(2, &mut bytes) == Ok(()));
+    assert!(rt; bytes == *b"\0exsm\0");
+    assert!(rt; host.disk_faults().count == 0);
     Ok(())
 }
 
@@ -146,16 +146,13 @@ fn a_refused_write_is_a_fault_of_the_disk_and_its_reason_stays(
         NOTHING,
         nothing_yet(rt.alloc()),
     );
-    assert_eq!(rt; host.write(3, b"exsm"), Err(Failed));
-    assert_eq!(rt; host.read(SIZE as u64, &mut [0u8; 2]), Err(Failed));
+    assert!(rt; host.write(3, b"exsm") == Err(Failed));
+    assert!(rt; host.read(SIZE as u64, &mut [0u8; 2]) == Err(Failed));
     let faults = host.disk_faults();
-    assert_eq!(rt; faults.count, 2);
-    assert_eq!(rt;
-        faults.cause.and_then(|cause| cause.raw_os_error()),
-        Some(NO_SPACE)
-    );
-    assert_eq!(rt; host.source_faults().count, 0);
-    assert_eq!(rt; host.sink_faults().count, 0);
+    assert!(rt; faults.count == 2);
+    assert!(rt; faults.cause.and_then(|cause| cause.raw_os_error()) == Some(NO_SPACE));
+    assert!(rt; host.source_faults().count == 0);
+    assert!(rt; host.sink_faults().count == 0);
     Ok(())
 }
 
@@ -165,12 +162,12 @@ fn an_output_that_accepts_nothing_has_failed(rt: HostRuntime) -> Result<(), Fail
     let input = Ended { interrupted: false };
     let output = Ended { interrupted: false };
     let mut host = FileHost::over(Some(SlowFile::make(0)), 0, input, output);
-    assert_eq!(rt; host.take(&mut [0u8; 4]), Ok(0));
-    assert_eq!(rt; host.source_faults().count, 0);
-    assert_eq!(rt; host.put(b""), Ok(0));
-    assert_eq!(rt; host.put(b"ok"), Err(Failed));
+    assert!(rt; host.take(&mut [0u8; 4]) == Ok(0));
+    assert!(rt; host.source_faults().count == 0);
+    assert!(rt; host.put(b"") == Ok(0));
+    assert!(rt; host.put(b"ok") == Err(Failed));
     let faults = host.sink_faults();
-    assert_eq!(rt; faults.count, 1);
+    assert!(rt; faults.count == 1);
     assert!(rt;
         faults
             .cause

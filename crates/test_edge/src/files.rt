@@ -27,10 +27,10 @@ fn a_file_that_is_not_there_is_a_fault(rt: HostRuntime) -> Result<(), Fail> {
     let name = "file_host_missing.tmp";
     let output = nothing_yet(rt.alloc());
     let mut host = FileHost::open(rt.alloc(), &rt, Some(name), None, NOTHING, output)?;
-    assert_eq!(rt; host.size(), 0);
-    assert_eq!(rt; host.sync(), Err(Failed));
+    assert!(rt; host.size() == 0);
+    assert!(rt; host.sync() == Err(Failed));
     let faults = host.disk_faults();
-    assert_eq!(rt; faults.count, 1);
+    assert!(rt; faults.count == 1);
     assert!(rt;
         faults
             .cause
@@ -46,22 +46,22 @@ fn a_new_file_has_its_name_once_it_is_whole(rt: HostRuntime) -> Result<(), Fail>
     let output = nothing_yet(rt.alloc());
     let mut host = FileHost::open(rt.alloc(), &rt, Some(name), Some(SIZE), SCRIPT, output)?;
     let mut bytes = [7u8; 4];
-    assert_eq!(rt; host.size(), SIZE);
-    assert_eq!(rt; host.read(SIZE - 4, &mut bytes), Ok(()));
-    assert_eq!(rt; bytes, [0u8; 4]);
-    assert_eq!(rt; host.write(8, b"rest"), Ok(()));
-    assert_eq!(rt; host.sync(), Ok(()));
+    assert!(rt; host.size() == SIZE);
+    assert!(rt; host.read(SIZE - 4, &mut bytes) == Ok(()));
+    assert!(rt; bytes == [0u8; 4]);
+    assert!(rt; host.write(8, b"rest") == Ok(()));
+    assert!(rt; host.sync() == Ok(()));
     assert!(rt; !fs::exists(&rt, name)?);
-    assert_eq!(rt; host.write(0, b"EXSMVOL1"), Ok(()));
+    assert!(rt; host.write(0, b"EXSMVOL1") == Ok(()));
     assert!(rt; !fs::exists(&rt, name)?);
-    assert_eq!(rt; host.sync(), Ok(()));
+    assert!(rt; host.sync() == Ok(()));
     assert!(rt; fs::exists(&rt, name)?);
     assert!(rt; !fs::exists(&rt, TEMPORARY)?);
 
     let mut taken = [0u8; 8];
-    assert_eq!(rt; host.take(&mut taken), Ok(3));
-    assert_eq!(rt; host.take(&mut taken), Ok(0));
-    assert_eq!(rt; host.put(b"ok log 0"), Ok(8));
+    assert!(rt; host.take(&mut taken) == Ok(3));
+    assert!(rt; host.take(&mut taken) == Ok(0));
+    assert!(rt; host.put(b"ok log 0") == Ok(8));
     fs::remove_file(&rt, name)?;
     Ok(())
 }
@@ -79,7 +79,7 @@ fn a_file_that_is_there_keeps_its_bytes_and_is_for_one_run(rt: HostRuntime) -> R
         NOTHING,
         first_output,
     )?;
-    assert_eq!(rt; first.size(), 6);
+    assert!(rt; first.size() == 6);
     let mut second = FileHost::open(
         rt.alloc(),
         &rt,
@@ -88,8 +88,8 @@ fn a_file_that_is_there_keeps_its_bytes_and_is_for_one_run(rt: HostRuntime) -> R
         NOTHING,
         second_output,
     )?;
-    assert_eq!(rt; second.size(), SIZE);
-    assert_eq!(rt; second.write(0, b"x"), Err(Failed));
+    assert!(rt; second.size() == SIZE);
+    assert!(rt; second.write(0, b"x") == Err(Failed));
     let faults = second.disk_faults();
     assert!(rt;
         faults
@@ -100,9 +100,9 @@ fn a_file_that_is_there_keeps_its_bytes_and_is_for_one_run(rt: HostRuntime) -> R
     let output = nothing_yet(rt.alloc());
     let mut third = FileHost::open(rt.alloc(), &rt, Some(name), None, NOTHING, output)?;
     let mut bytes = [0u8; 6];
-    assert_eq!(rt; third.size(), 6);
-    assert_eq!(rt; third.read(0, &mut bytes), Ok(()));
-    assert_eq!(rt; bytes, *b"a file");
+    assert!(rt; third.size() == 6);
+    assert!(rt; third.read(0, &mut bytes) == Ok(()));
+    assert!(rt; bytes == *b"a file");
     fs::remove_file(&rt, name)?;
     Ok(())
 }

@@ -72,67 +72,64 @@ fn after(alloc: Global, bytes: &[u8], page: &[u8]) -> Result<Option<Image>, Allo
 
 #[test]
 fn forms_have_their_numbers(rt: HostRuntime) -> Result<(), AllocError> {
-    assert_eq!(rt; EntryForm::SlotChanges.number(), 2);
-    assert_eq!(rt; EntryForm::of_number(3), Some(EntryForm::FileChanges));
-    assert_eq!(rt; EntryForm::of_number(0), None);
-    assert_eq!(rt; EntryForm::of_number(4), None);
+    assert!(rt; EntryForm::SlotChanges.number() == 2);
+    assert!(rt; EntryForm::of_number(3) == Some(EntryForm::FileChanges));
+    assert!(rt; EntryForm::of_number(0) == None);
+    assert!(rt; EntryForm::of_number(4) == None);
     let fields = Fields::of(rt.alloc(), &no_files())?;
-    assert_eq!(rt; fields.as_slice().len(), 20);
+    assert!(rt; fields.as_slice().len() == 20);
     Ok(())
 }
 
 #[test]
 fn entries_take_25_and_51_bytes(rt: HostRuntime) {
     let catalog = fields_len(EntryForm::FileChanges, &no_files(), SIZE);
-    assert_eq!(rt; catalog, Some(25 - ENTRY_HEAD));
+    assert!(rt; catalog == Some(25 - ENTRY_HEAD));
     let slot = fields_len(EntryForm::SlotChanges, &one_slot(), SIZE);
-    assert_eq!(rt; slot, Some(51 - ENTRY_HEAD));
+    assert!(rt; slot == Some(51 - ENTRY_HEAD));
     let image = fields_len(EntryForm::Image, &[0; 600], SIZE);
-    assert_eq!(rt; image, Some(517 - ENTRY_HEAD));
-    assert_eq!(rt;
-        fields_len(EntryForm::FileChanges, &one_file(), SIZE),
-        Some(72)
-    );
+    assert!(rt; image == Some(517 - ENTRY_HEAD));
+    assert!(rt; fields_len(EntryForm::FileChanges, &one_file(), SIZE) == Some(72));
 }
 
 #[test]
 fn a_page_is_not_cut(rt: HostRuntime) {
-    assert_eq!(rt; fields_len(EntryForm::Image, &[0; 511], SIZE), None);
+    assert!(rt; fields_len(EntryForm::Image, &[0; 511], SIZE) == None);
 }
 
 #[test]
 fn damaged_changes_of_slots_are_none(rt: HostRuntime) {
     let whole = one_slot();
-    assert_eq!(rt; fields_len(EntryForm::SlotChanges, cut(&whole), SIZE), None);
+    assert!(rt; fields_len(EntryForm::SlotChanges, cut(&whole), SIZE) == None);
     let mut gap = whole;
     gap[2] = 1;
-    assert_eq!(rt; fields_len(EntryForm::SlotChanges, &gap, SIZE), None);
+    assert!(rt; fields_len(EntryForm::SlotChanges, &gap, SIZE) == None);
     let mut longer = whole;
     longer[9] = 37;
-    assert_eq!(rt; fields_len(EntryForm::SlotChanges, &longer, SIZE), None);
+    assert!(rt; fields_len(EntryForm::SlotChanges, &longer, SIZE) == None);
     // One slot twice.
     let twice = [0, 0, 0, 0, 0, 2, 0, 1, 0, 0, 0, 1, 0, 0];
-    assert_eq!(rt; fields_len(EntryForm::SlotChanges, &twice, SIZE), None);
+    assert!(rt; fields_len(EntryForm::SlotChanges, &twice, SIZE) == None);
 }
 
 #[test]
 fn damaged_changes_of_files_are_none(rt: HostRuntime) {
     let whole = one_file();
-    assert_eq!(rt; fields_len(EntryForm::FileChanges, cut(&whole), SIZE), None);
+    assert!(rt; fields_len(EntryForm::FileChanges, cut(&whole), SIZE) == None);
     let mut both = whole;
     both[67] = 1;
-    assert_eq!(rt; fields_len(EntryForm::FileChanges, &both, SIZE), None);
+    assert!(rt; fields_len(EntryForm::FileChanges, &both, SIZE) == None);
     let mut named = whole;
     named[25] = b'A';
-    assert_eq!(rt; fields_len(EntryForm::FileChanges, &named, SIZE), None);
+    assert!(rt; fields_len(EntryForm::FileChanges, &named, SIZE) == None);
     let mut next = whole;
     next[7] = 0;
-    assert_eq!(rt; fields_len(EntryForm::FileChanges, &next, SIZE), None);
+    assert!(rt; fields_len(EntryForm::FileChanges, &next, SIZE) == None);
     // Eleven files are more than a page of 512 bytes has room for.
     let mut many = [0; 600];
     many[7] = 2;
     many[19] = 11;
-    assert_eq!(rt; fields_len(EntryForm::FileChanges, &many, SIZE), None);
+    assert!(rt; fields_len(EntryForm::FileChanges, &many, SIZE) == None);
 }
 
 #[test]
@@ -145,8 +142,8 @@ fn slots_are_set_emptied_and_added(rt: HostRuntime) -> Result<(), AllocError> {
         Some(page) => match SlottedView::of(page.as_slice()) {
             None => assert!(rt; false),
             Some(view) => {
-                assert_eq!(rt; view.file_no(), 9);
-                assert_eq!(rt; view.slots(), 4);
+                assert!(rt; view.file_no() == 9);
+                assert!(rt; view.slots() == 4);
                 assert!(rt; view.body(0).is_none());
                 assert!(rt; view.body(1) == Some(&[4, 5]));
                 assert!(rt; view.body(2).is_none());
@@ -164,7 +161,7 @@ fn last_slots_that_are_emptied_go(rt: HostRuntime) -> Result<(), AllocError> {
         None => assert!(rt; false),
         Some(page) => match SlottedView::of(page.as_slice()) {
             None => assert!(rt; false),
-            Some(view) => assert_eq!(rt; view.slots(), 1),
+            Some(view) => assert!(rt; view.slots() == 1),
         },
     }
     Ok(())

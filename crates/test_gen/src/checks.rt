@@ -19,9 +19,9 @@ fn the_numbers_are_those_of_the_table(rt: HostRuntime) -> Result<(), Fail> {
     let empty = formatted(&rt, alloc, SMALL)?;
     let filled = left_on(&done_whole(&rt, alloc, "run v", &empty, SCRIPT)?)?;
     let counted = done_whole(&rt, alloc, "check v", &empty, b"")?;
-    assert_eq!(rt; counted.sent_bytes(), EMPTY);
+    assert!(rt; counted.sent_bytes() == EMPTY);
     let counted = done_whole(&rt, alloc, "check v", &filled, b"")?;
-    assert_eq!(rt; counted.sent_bytes(), FILLED);
+    assert!(rt; counted.sent_bytes() == FILLED);
     Ok(())
 }
 
@@ -31,7 +31,7 @@ fn a_bad_volume_sends_nothing(rt: HostRuntime) -> Result<(), Fail> {
     let zeros = vec![in alloc; 0u8; 4096]?;
     for line in ["check v", "gen v --seed 1 --count 200"] {
         let (status, host) = done(alloc, line, &zeros, b"", 0)?;
-        assert_eq!(rt; status, Status::BadVolume { part: Part::Super });
+        assert!(rt; status == (Status::BadVolume { part: Part::Super }));
         assert!(rt; host.sent_bytes().is_empty());
         assert!(rt; left_on(&host)? == zeros);
     }
@@ -45,10 +45,10 @@ fn an_output_that_fails_has_a_front(rt: HostRuntime) -> Result<(), Fail> {
     // The line takes two puts, which come last.
     let calls = done_whole(&rt, alloc, "check v", &empty, b"")?.calls();
     let (status, host) = done(alloc, "check v", &empty, b"", calls)?;
-    assert_eq!(rt; status, Status::OutputFault);
-    assert_eq!(rt; host.sent_bytes(), &EMPTY[..40]);
+    assert!(rt; status == Status::OutputFault);
+    assert!(rt; host.sent_bytes() == &EMPTY[..40]);
     let (status, host) = done(alloc, "check v", &empty, b"", calls.saturating_sub(1))?;
-    assert_eq!(rt; status, Status::OutputFault);
+    assert!(rt; status == Status::OutputFault);
     assert!(rt; host.sent_bytes().is_empty());
     Ok(())
 }

@@ -85,6 +85,6 @@ fn the_replies_are_those_of_the_slow_reference(rt: HostRuntime) -> Result<(), Fa
     let line = line_by(alloc, 1, 200, told.sent_bytes())?;
     assert!(rt; line.starts_with("ok gen 214 "));
     let host = done_whole(&rt, alloc, "gen v --seed 1 --count 200", &volume, b"")?;
-    assert_eq!(rt; host.sent_bytes(), line.as_bytes());
+    assert!(rt; host.sent_bytes() == line.as_bytes());
     Ok(())
 }

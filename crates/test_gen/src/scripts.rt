@@ -62,8 +62,8 @@ fn the_lines_are_those_of_another_program(rt: HostRuntime) -> Result<(), Fail> {
     ];
     for (seed, count, lines, digest) in rows {
         let (script, got) = made(alloc, seed, count)?;
-        assert_eq!(rt; got, lines);
-        assert_eq!(rt; digest_of(alloc, &script)?.as_str(), digest);
+        assert!(rt; got == lines);
+        assert!(rt; digest_of(alloc, &script)?.as_str() == digest);
     }
     Ok(())
 }

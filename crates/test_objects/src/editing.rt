@@ -83,10 +83,10 @@ fn objects_are_found_again(rt: HostRuntime) -> Result<(), Fail> {
     let first =
         "begin\nfile a\nfile b\ncreate a as @p\ncreate b as @q\ncommit\nbegin\ndestroy @p\ncommit\nbegin\nappend @q rep:1000:61\ncommit\n";
     let (status, host) = run_on(alloc, &volume, first.as_bytes(), None)?;
-    assert_eq!(rt; status, Status::Done);
-    assert_eq!(rt;
-        host.sent_bytes(),
-        b"ok begin 1\nok file a\nok file b\nok create 258.0.1\nok create 259.0.2\nok commit 1\nok begin 2\nok destroy 258.0.1\nok commit 2\nok begin 3\nok append 1000\nok commit 3\n".as_slice()
+    assert!(rt; status == Status::Done);
+    assert!(rt;
+        host.sent_bytes()
+            == b"ok begin 1\nok file a\nok file b\nok create 258.0.1\nok create 259.0.2\nok commit 1\nok begin 2\nok destroy 258.0.1\nok commit 2\nok begin 3\nok append 1000\nok commit 3\n".as_slice()
     );
     let image = host.image_at(host.calls(), Choice::Before)?;
     answers(
@@ -113,7 +113,7 @@ fn objects_are_found_again(rt: HostRuntime) -> Result<(), Fail> {
     ];
     let wide = made_by(alloc, &line, (257 + 1024) * 512)?;
     let (status, host) = run_on(alloc, &wide, filled_and_emptied(alloc)?.as_bytes(), None)?;
-    assert_eq!(rt; status, Status::Done);
+    assert!(rt; status == Status::Done);
     assert!(rt; has_line(host.sent_bytes(), b"ok space pages 105 of 1024 segs 0 of 0"));
     assert!(rt;
         host.sent_bytes()

@@ -141,7 +141,7 @@ fn the_largest_object_is_opened_at_once(rt: HostRuntime) -> Result<(), Fail> {
     output.push_str("\nok begin 2\nno 19 too_large\n")?;
     answers(&rt, alloc, &image, script, &output)?;
     let (status, host) = run_on(alloc, &image, b"stat 258.0.1\n", None)?;
-    assert_eq!(rt; status, Status::Done);
+    assert!(rt; status == Status::Done);
     assert!(rt; host.calls() <= 400);
     Ok(())
 }
@@ -191,7 +191,7 @@ fn a_day_of_work_keeps_its_limits(rt: HostRuntime) -> Result<(), Fail> {
     writeln!(script, "append @d rep:16777217:00")?;
     writeln!(script, "read @d 5999999 3")?;
     let (status, host) = run_on(alloc, &volume, script.as_bytes(), None)?;
-    assert_eq!(rt; status, Status::Done);
+    assert!(rt; status == Status::Done);
     for line in [
         "ok create 258.0.1",
         "ok append 12582912",

@@ -15,6 +15,8 @@ mod older;
 #[cfg(test)]
 mod reach;
 #[cfg(test)]
+mod scans;
+#[cfg(test)]
 mod stops;
 #[cfg(test)]
 mod volumes;

@@ -34,7 +34,7 @@ fn an_older_volume_is_read_and_edited(rt: HostRuntime) -> Result<(), Fail> {
     let script = "read 258.0.1 499 2\n";
     answers(&rt, alloc, &older, script, "ok read 2 6161\n")?;
     let edited = left_by(&rt, alloc, &older, EDIT)?;
-    assert_eq!(rt; edited.len(), SMALL.bytes);
+    assert!(rt; edited.len() == SMALL.bytes);
     assert!(rt; edited[FORMAT..].starts_with(&[1]));
     assert!(rt; edited[NODE..].starts_with(&OLDER_NODE));
     assert!(rt; edited[NODE + PAGE..].starts_with(&NEWER_NODE));

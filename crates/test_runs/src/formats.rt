@@ -64,15 +64,15 @@ fn a_volume_is_made_once(rt: HostRuntime) -> Result<(), Fail> {
     let alloc = rt.alloc();
     let words = words_of(alloc, FORMAT)?;
     let mut host = blank(alloc, SIZE, &[], None)?;
-    assert_eq!(rt; run(alloc, &words, &mut host), Status::Done);
-    assert_eq!(rt; host.sent_bytes(), b"ok format 172544\n".as_slice());
+    assert!(rt; run(alloc, &words, &mut host) == Status::Done);
+    assert!(rt; host.sent_bytes() == b"ok format 172544\n".as_slice());
     assert!(rt; host.calls() == CALLS);
     let image = host.image_at(CALLS, Choice::Fill(9))?;
     assert!(rt; is_empty_volume(&rt, &image));
     let again = run(alloc, &words, &mut host);
-    assert_eq!(rt; again, Status::AlreadyVolume);
-    assert_eq!(rt; again.code(), 9);
-    assert_eq!(rt; host.sent_bytes(), b"ok format 172544\n".as_slice());
+    assert!(rt; again == Status::AlreadyVolume);
+    assert!(rt; again.code() == 9);
+    assert!(rt; host.sent_bytes() == b"ok format 172544\n".as_slice());
     Ok(())
 }
 
@@ -93,11 +93,11 @@ fn faults_and_refusals(rt: HostRuntime) -> Result<(), Fail> {
     for (size, failing, status, code, name) in rows {
         let mut host = blank(alloc, size, &[failing], None)?;
         let ended = run(alloc, &words, &mut host);
-        assert_eq!(rt; ended, status);
-        assert_eq!(rt; ended.code(), code);
+        assert!(rt; ended == status);
+        assert!(rt; ended.code() == code);
         let text = format!(in alloc; "{ended}")?;
-        assert_eq!(rt; text.as_str(), name);
-        assert_eq!(rt; host.sent_bytes(), b"".as_slice());
+        assert!(rt; text.as_str() == name);
+        assert!(rt; host.sent_bytes() == b"".as_slice());
     }
     Ok(())
 }
@@ -122,8 +122,8 @@ fn words_outside_of_the_grammar(rt: HostRuntime) -> Result<(), Fail> {
         let words = words_of(alloc, line)?;
         assert!(rt; file_of(alloc, &words)?.is_none(), "{line}");
         let mut host = blank(alloc, 8, &[], None)?;
-        assert_eq!(rt; run(alloc, &words, &mut host), Status::Usage, "{line}");
-        assert_eq!(rt; host.calls(), 0);
+        assert!(rt; run(alloc, &words, &mut host) == Status::Usage, "{line}");
+        assert!(rt; host.calls() == 0);
     }
     let words = words_of(
         alloc,
@@ -133,8 +133,8 @@ fn words_outside_of_the_grammar(rt: HostRuntime) -> Result<(), Fail> {
         assert!(rt; false);
         return Ok(());
     };
-    assert_eq!(rt; file.path, "v");
-    assert_eq!(rt; file.make, Some(172_544));
+    assert!(rt; file.path == "v");
+    assert!(rt; file.make == Some(172_544));
     Ok(())
 }
 
@@ -145,7 +145,7 @@ fn a_stop_leaves_no_volume_or_the_empty_one(rt: HostRuntime) -> Result<(), Fail>
     for stop in 0..=CALLS {
         let mut host = blank(alloc, SIZE, &[], Some(stop))?;
         let status = run(alloc, &words, &mut host);
-        assert_eq!(rt; status == Status::Done, stop == CALLS);
+        assert!(rt; (status == Status::Done) == (stop == CALLS));
         assert!(rt; stop <= host.calls());
         let sent = host.sent_at(stop)?;
         for choice in [
@@ -181,7 +181,7 @@ fn the_first_size_that_breaks_its_limit_is_named(rt: HostRuntime) -> Result<(), 
             return Err("a size that breaks its limit was taken".into());
         };
         let text = fault.to_string(rt.alloc())?;
-        assert_eq!(rt; text.as_str(), name);
+        assert!(rt; text.as_str() == name);
     }
     Ok(())
 }

@@ -98,7 +98,7 @@ pub fn left_by(
     script: &[u8],
 ) -> Result<Vec<u8>, AllocError> {
     let (status, host) = run_on(alloc, disk, script, &[], None)?;
-    assert_eq!(rt; status, Status::Done);
+    assert!(rt; status == Status::Done);
     host.image_at(host.calls(), Choice::After)
 }
 
@@ -181,8 +181,8 @@ fn scripts_are_answered_line_by_line(rt: HostRuntime) -> Result<(), Fail> {
     ];
     for (disk, script, output) in rows {
         let (status, host) = run_on(alloc, disk, script.as_bytes(), &[], None)?;
-        assert_eq!(rt; status, Status::Done, "{script}");
-        assert_eq!(rt; host.sent_bytes(), output.as_bytes(), "{script}");
+        assert!(rt; status == Status::Done, "{script}");
+        assert!(rt; host.sent_bytes() == output.as_bytes(), "{script}");
     }
     Ok(())
 }
@@ -196,7 +196,7 @@ fn what_was_committed_is_found_again(rt: HostRuntime) -> Result<(), Fail> {
 
     let unfinished = left_by(&rt, alloc, &volume, b"begin\nfile a\n")?;
     let (_, host) = run_on(alloc, &unfinished, b"files\n", &[], None)?;
-    assert_eq!(rt; host.sent_bytes(), b"ok files 0\n".as_slice());
+    assert!(rt; host.sent_bytes() == b"ok files 0\n".as_slice());
 
     let one = left_by(&rt, alloc, &volume, b"begin\nfile a\ncommit\n")?;
     assert!(rt; has_at(&one, PAGE, &[1, 2, 0, 0, 2, 0x38]));
@@ -213,8 +213,8 @@ fn what_was_committed_is_found_again(rt: HostRuntime) -> Result<(), Fail> {
     // The last record is as long as the first one, so a closed gate stands where the second one had its open gate.
     assert!(rt; has_at(&again, PAGE + 537, &[0, 2, 0, 0, 0, 45]));
     let (status, host) = run_on(alloc, &again, b"log\nbegin\n", &[], None)?;
-    assert_eq!(rt; status, Status::Done);
-    assert_eq!(rt; host.sent_bytes(), b"ok log 0\nok begin 4\n".as_slice());
+    assert!(rt; status == Status::Done);
+    assert!(rt; host.sent_bytes() == b"ok log 0\nok begin 4\n".as_slice());
 
     let mut script = Vec::new(alloc);
     for _ in 0..300 {
@@ -222,7 +222,7 @@ fn what_was_committed_is_found_again(rt: HostRuntime) -> Result<(), Fail> {
     }
     let many = left_by(&rt, alloc, &volume, &script)?;
     let (_, host) = run_on(alloc, &many, b"begin\n", &[], None)?;
-    assert_eq!(rt; host.sent_bytes(), b"ok begin 301\n".as_slice());
+    assert!(rt; host.sent_bytes() == b"ok begin 301\n".as_slice());
     Ok(())
 }
 
@@ -252,9 +252,9 @@ fn a_run_ends_as_its_cause_says(rt: HostRuntime) -> Result<(), Fail> {
     ];
     for (disk, ended) in rows {
         let (status, host) = run_on(alloc, disk, b"begin\n", &[], None)?;
-        assert_eq!(rt; status, ended);
+        assert!(rt; status == ended);
         let opened = ended == Status::Done;
-        assert_eq!(rt; host.sent_bytes().is_empty(), !opened);
+        assert!(rt; host.sent_bytes().is_empty() == !opened);
         let left = host.image_at(host.calls(), Choice::After)?;
         assert!(rt; opened || left == *disk);
     }
@@ -272,9 +272,9 @@ fn a_run_ends_as_its_cause_says(rt: HostRuntime) -> Result<(), Fail> {
     for (from_end, ended, code, output) in faults {
         let failing = calls.saturating_sub(from_end).saturating_add(1);
         let (status, host) = run_on(alloc, &volume, b"begin\n", &[failing], None)?;
-        assert_eq!(rt; status, ended);
-        assert_eq!(rt; status.code(), code);
-        assert_eq!(rt; host.sent_bytes(), output.as_bytes());
+        assert!(rt; status == ended);
+        assert!(rt; status.code() == code);
+        assert!(rt; host.sent_bytes() == output.as_bytes());
     }
     Ok(())
 }
@@ -293,7 +293,7 @@ fn acknowledged(sent: &[u8]) -> usize {
 // How many commits a run finds on a disk.
 fn commits_on(rt: &impl Abort, alloc: Global, disk: &[u8]) -> Result<usize, AllocError> {
     let (status, host) = run_on(alloc, disk, b"begin\n", &[], None)?;
-    assert_eq!(rt; status, Status::Done);
+    assert!(rt; status == Status::Done);
     Ok(match host.sent_bytes() {
         b"ok begin 1\n" => 0,
         b"ok begin 2\n" => 1,

@@ -49,7 +49,7 @@ fn lines_say_what_they_spell(rt: HostRuntime) {
         ("file abcdefghijklmnopqrstuvwxyz_012345", "syntax"),
         ("file abcdefghijklmnopqrstuvwxyz_01234", "command"),
     ] {
-        assert_eq!(rt; kind(line.as_bytes()), want, "of {line}");
+        assert!(rt; kind(line.as_bytes()) == want, "of {line}");
     }
 }
 
@@ -62,9 +62,9 @@ fn words_of_a_command_are_those_of_its_line(rt: HostRuntime) -> Result<(), Fail>
         return Err("no name".into());
     };
     let (want_name, want_given): (&[u8], &[u8]) = (b"abc", b"hex:00ff");
-    assert_eq!(rt; name, want_name);
-    assert_eq!(rt; pos, 7);
-    assert_eq!(rt; given, want_given);
+    assert!(rt; name == want_name);
+    assert!(rt; pos == 7);
+    assert!(rt; given == want_given);
     Ok(())
 }
 
@@ -99,9 +99,9 @@ fn replies_are_spelled_in_words(rt: HostRuntime) -> Result<(), Fail> {
     push_reply(&mut out, &Reply::No(scans))?;
     let want: &[u8] =
         b"ok begin 1\nok create 300.1.5\nok read 0\nok next 2 00ff\nno 23 full segs 20 19\nno 20 too_many scans\n";
-    assert_eq!(rt; out.as_slice(), want);
+    assert!(rt; out.as_slice() == want);
     let text = reply_text(alloc, &Reply::Abort)?;
     let abort: &[u8] = b"ok abort\n";
-    assert_eq!(rt; text.as_bytes(), abort);
+    assert!(rt; text.as_bytes() == abort);
     Ok(())
 }

@@ -13,7 +13,7 @@ use Rattle.session_core.specs.Sessions.{SessionState, IsSession}
 use Rattle.session_core.specs.Catalogs.{IsDamaged, catalog_bytes}
 use Rattle.transactions.specs.Commands.{Answers, IsOfCatalog, asks_objects, changes_objects}
 use Rattle.session_core.specs.Finding.{IfShown, IsOutside, LineStops}
-use Rattle.transactions.specs.Lines.{ReadsLine, UpdatesLine}
+use Rattle.transactions.specs.Lines.{ReadsLine, ScansLine, UpdatesLine}
 use Rattle.session_core.specs.Meant.{meant}
 use Rattle.session_core.specs.Steps.{IsQuiet, IsRefused, OnlyFrames, Steps, Stops, StepsQuietly}
 use Rattle.session_core.specs.Updates.{WritesUnused}
@@ -78,6 +78,32 @@ of_read {a} {b} {old} {new} r s result is asks world line = subst (λ (t : Reque
     any_of : (o : Result Reply Stop) → OnlyFrames a b old new → IfOk o (λ told. IsRefused told → OnlyFrames a b old new)
     any_of (Ok told) frames = λ _. frames
     any_of (Err why) frames = tt
+
+-- on scans and groups
+pub of_scans : {a b : Outside} {old new : SessionState} (r s : Request) (result : Result Reply Stop) → r ≡ s → IsWorld a → (IsOfCatalog s → IfErr result (Stops a b old)) → ScansLine a b old new s result → Answers a b old new r result
+of_scans {a} {b} {old} {new} r s result is world catalog line = subst (λ (t : Request). Answers a b old new t result) (sym is) (record {
+  only = line.reads.nothing.only;
+  geometry = line.geometry;
+  down = line.down;
+  stops = line.stops;
+  sound = line.sound;
+  catalog = catalog;
+  refused = line.refused;
+  quiet = λ _. line.log;
+  writes = λ _. writes_nowhere old line.reads;
+  reads = λ _. line.reads;
+  stepped = each_view a b old new s result line.stepped;
+  any_moment = λ before same now. quiet_moments s world line.reads before now;
+})
+
+-- what asks more of the volume than its catalog
+pub asks_more : (a b : Outside) (old : SessionState) (r : Request) (result : Result Reply Stop) → asks_objects r ≡ true → IsOfCatalog r → IfErr result (Stops a b old)
+asks_more a b old r result asks none = absurd (true≢false (sym asks ∙ none.0))
+
+-- and what stops for want of memory alone
+pub memory_alone : (a b : Outside) (old : SessionState) (result : Result Reply Stop) → IfErr result (λ why. why ≡ stop.Memory) → IfErr result (Stops a b old)
+memory_alone a b old (Ok told) alone = tt
+memory_alone a b old (Err why) alone = subst (Stops a b old) (sym alone) tt
 
 -- on what changes objects
 pub of_update : {a b : Outside} {old new : SessionState} (r s : Request) (result : Result Reply Stop) → r ≡ s → changes_objects s ≡ true → asks_objects s ≡ true → UpdatesLine a b old new s result → Answers a b old new r result

@@ -1,9 +1,8 @@
 -- How a line that makes an object is answered.
 use Rattle.std.proofs.Common.{◌≡◌, ◌≤◌, ◌<◌, ◌∙◌, ◌+◌, ◌-◌, ◌^◌, ℕ, arith, Bool, true, false, true≢false, List, [], ◌∷◌, ◌++◌, All, Option, Some, None, is_some, Ok, Err, refl, sym, ap, subst, inl, inr}
 use Rattle.std.specs.Prelude.{Contains, IsTrue, ◌==◌, ◌||◌, bytes_eq, find, if◌then◌else◌, is_none, nat_lt}
-use Rattle.std.specs.List.{AllZip, list_any}
+use Rattle.std.specs.List.{list_any}
 use Rattle.std.specs.Option.{option_or}
-use Rattle.std.proofs.lemmas.Bool.{cases_Bool}
 use Rattle.std.proofs.lemmas.Slice.Eq.{bytes_eq-Decides}
 use Rattle.ex_base.specs.declared.names.Area.TheVariants.{Page, Segment}
 use Rattle.ex_base.specs.declared.names.Oid.{Oid}
@@ -18,16 +17,16 @@ use Rattle.object_files.specs.Reads.{catalog_on}
 use Rattle.session_core.specs.declared.updates.ObjectUpdate.TheVariants as update
 use Rattle.session_core.specs.TableUpdates.{AsksFile, Makes, updated}
 use Rattle.bound_names.specs.Bindings.{is_bound}
+use Rattle.open_scans.specs.GroupRows.{group_index}
+use Rattle.open_scans.specs.OpenScans.{is_named}
 use Rattle.table_model.specs.declared.machine.BoundName.{BoundName}
-use Rattle.table_model.specs.declared.machine.GroupRow.{GroupRow}
 use Rattle.table_model.specs.declared.machine.Machine.{Machine}
 use Rattle.table_model.specs.declared.machine.Pick.{Pick}
-use Rattle.table_model.specs.declared.machine.ScanRow.{ScanRow}
 use Rattle.table_model.specs.declared.reply.Refusal.{Refusal}
 use Rattle.table_model.specs.declared.reply.Refusal.TheVariants as refusal
 use Rattle.table_model.specs.declared.reply.Reply.TheVariants as reply
 use Rattle.table_model.specs.declared.table.Table.{Table}
-use Rattle.table_model.specs.Machines.{IsMachine, is_taken, main, shown}
+use Rattle.table_model.specs.Machines.{IsMachine, is_taken, shown}
 use Rattle.table_model.specs.Refusals.{refusal_of, when}
 use Rattle.table_model.specs.Requests.{Request}
 use Rattle.table_model.specs.Requests as request
@@ -40,15 +39,15 @@ use Rattle.session_views.specs.View.{View, ShowsNow, Stepped}
 use Rattle.session_views.specs.declared.engine.Stop.{Stop}
 use Rattle.session_views.specs.declared.engine.Stop.TheVariants as stop
 use Rattle.volume_edits.proofs.Finding.{find_in}
-use Rattle.volume_model.specs.Shown.{Shows}
 use Rattle.transactions.specs.declared.creation.NewObject.{NewObject}
 use Rattle.transactions.specs.declared.edits.Need.{Need}
-use Rattle.transactions.specs.Editing.{full_in, is_taken_by, limit_of, new_object_in, place_if, room_refusal}
+use Rattle.transactions.specs.Editing.{full_in, limit_of, new_object_in, place_if, room_refusal}
 use Rattle.session_core.specs.Finding.{IsOutside, LineStops}
 use Rattle.transactions.specs.Lines.{UpdatesLine}
 use Rattle.session_core.specs.Meant.{held_view, meant, pick_of, place_bound}
 use Rattle.session_core.specs.Counts.{free_in}
 use Rattle.transactions.specs.Refused.{long_txn}
+use Rattle.session_core.specs.ScanRows.{takes_name}
 use Rattle.session_core.specs.Sessions.{SessionState, IsSession}
 use Rattle.session_core.specs.Steps.{OnlyFrames}
 use Rattle.session_core.specs.Updates.{HasRoomFor, HoldsTable, IfUpdated, Noted, parts_held}
@@ -59,6 +58,7 @@ use Rattle.session_core.proofs.Quiet.{shown_lends, with_groups}
 use Rattle.transactions.proofs.Refusing.{missing, same_counts}
 use Rattle.session_core.proofs.Refusing.{none_is_false}
 use Rattle.session_core.proofs.Showing.{shows_catalog}
+use Rattle.session_core.proofs.Taken.{taken_as}
 use Rattle.transactions.proofs.UpdateLines.{WentOn, counted_then, line_refused, opened_then, update_done, update_stopped}
 use Rattle.transactions.proofs.Updated.{KeptTo, machine_then, noted_steps, pick_then, same_machine, within_need}
 use Rattle.transactions.proofs.Vacancy.{vacant}
@@ -66,38 +66,6 @@ use Rattle.transactions.proofs.Vacancy.{vacant}
 -- what a new object may take
 abbrev pub creation_need : Need
 creation_need = record { charge = 16; pages = 16; segs = 0 }
-
--- ---- the names that are taken
-
-none_beside : {A B : Type 0} (R : A → B → Type 0) (xs : List A) → AllZip R xs [] → xs ≡ []
-none_beside R [] h = refl
-none_beside R (x ∷ xs) h = absurd h
-
-same_either : (a b : List ℕ) → bytes_eq a b ≡ bytes_eq b a
-same_either a b = elim (cases_Bool (bytes_eq b a)) [
-  | inl same ↦ (bytes_eq-Decides a b).1 (sym ((bytes_eq-Decides b a).0 same)) ∙ sym same
-  | inr other ↦ elim (cases_Bool (bytes_eq a b)) [
-    | inl same ↦ absurd (let back : bytes_eq b a ≡ true = (bytes_eq-Decides b a).1 (sym ((bytes_eq-Decides a b).0 same)) in cc)
-    | inr differ ↦ differ ∙ sym other
-  ]
-]
-
-names_or_main : (a b c : Bool) → b ≡ c → (a || false || (b || false)) ≡ (c || a)
-names_or_main true true c same = rw (← same) refl
-names_or_main true false c same = rw (← same) refl
-names_or_main false true c same = rw (← same) refl
-names_or_main false false c same = rw (← same) refl
-
-abbrev binds_name : List ℕ → List BoundName → Bool
-binds_name name names = list_any (λ (b : BoundName). bytes_eq b.name name) names
-
--- no scan is open, and no group is made besides main
-pub taken_as : {may_leave : List ℕ → Type 0} (v : View SessionState) (shows : Shows may_leave (held_view v)) (name : List ℕ) → is_taken v.machine name ≡ is_taken_by v.session.names name
-taken_as {may_leave} v shows name =
-    ap (λ (scans : List ScanRow). binds_name name v.machine.names || list_any (λ (s : ScanRow). bytes_eq s.name name) scans || (bytes_eq main name || list_any (λ (g : GroupRow). bytes_eq g.name name) v.machine.groups)) (none_beside _ v.machine.scans shows.scans)
-    ∙ ap (λ (groups : List GroupRow). binds_name name v.machine.names || false || (bytes_eq main name || list_any (λ (g : GroupRow). bytes_eq g.name name) groups)) shows.shared.group_rows
-    ∙ names_or_main (binds_name name v.machine.names) (bytes_eq main name) (bytes_eq name main) (same_either main name)
-    ∙ ap (λ (names : List BoundName). bytes_eq name main || binds_name name names) shows.shared.names
 
 -- ---- why it is refused
 
@@ -111,12 +79,12 @@ same_told a b c d e = cc (a, b, c, d, e)
 
 -- why no object is made in a file of the catalog, and its name bound, in an open transaction
 abbrev pub create_refusal : SessionState → Catalog → List ℕ → List ℕ → Option Refusal
-create_refusal s c file name = told_by false (is_taken_by s.names name) (is_none (find (has_name file) c.entries)) (c.next_unique == 2 ^ 64 - 1) (room_refusal s creation_need)
+create_refusal s c file name = told_by false (takes_name s name) (is_none (find (has_name file) c.entries)) (c.next_unique == 2 ^ 64 - 1) (room_refusal s creation_need)
 
 -- what a view gives of the machine for a new object
 pub record GivesRoom (v : View SessionState) (c : Catalog) (file name : List ℕ) : Type 0 where
   pub has_work : is_some v.machine.working ≡ true
-  pub taken : is_taken v.machine name ≡ is_taken_by v.session.names name
+  pub taken : is_taken v.machine name ≡ takes_name v.session name
   pub absent : is_none (file_at (shown v.machine) file) ≡ is_none (find (has_name file) c.entries)
   pub next : (shown v.machine).next_unique ≡ c.next_unique
   pub counts : UpdateCounts v
@@ -200,12 +168,12 @@ module _ {a b : Outside} {old mid : SessionState} (file name : List ℕ) (world 
       create_told before now.shows.working.catalog file name q (gives_room now file name (units_counted is before same) (opens opened before same))
       ∙ ap (λ (s : SessionState). create_refusal s now.shows.working.catalog file name) same
 
-  pub create_taken : is_taken_by old.names name ≡ true → UpdatesLine a b old mid line (Ok (reply.No refusal.NameTaken))
+  pub create_taken : takes_name old name ≡ true → UpdatesLine a b old mid line (Ok (reply.No refusal.NameTaken))
   create_taken taken = line_refused line world only refusal.NameTaken is (λ before same now after.
       answered before (pick_of (held_view before) line after) same now
       ∙ ap (λ (t : Bool). told_by false t (is_none (find (has_name file) now.shows.working.catalog.entries)) (now.shows.working.catalog.next_unique == 2 ^ 64 - 1) (room_refusal old creation_need)) taken)
 
-  module _ (page : List ℕ) (reads : ReadsCatalog a old page) (untaken : is_taken_by old.names name ≡ false) where
+  module _ (page : List ℕ) (reads : ReadsCatalog a old page) (untaken : takes_name old name ≡ false) where
     -- with the catalog that was read
     answered_on : (before : View SessionState) (q : Pick) → before.session ≡ old → (now : ShowsNow meant a before)
         → refusal_of before.machine line q ≡ told_by false false (is_none (find (has_name file) (catalog_on page).entries)) ((catalog_on page).next_unique == 2 ^ 64 - 1) (room_refusal old creation_need)
@@ -233,15 +201,15 @@ pub bound_session : {mid s new : SessionState} (noted : OpNote) (b : BoundName) 
 bound_session {mid} {s} {new} noted b did bound = ap (λ (ns : List BoundName). record s { names = ns ++ b ∷ [] }) (sym (ap (λ (t : SessionState). t.names) did.same)) ∙ sym bound
 
 -- a name that wasn't taken is still unbound after the update
-pub unbound_still : {a b : Outside} {old mid s : SessionState} {noted : OpNote} (name : List ℕ) → OnlyFrames a b old mid → Noted mid s noted → is_taken_by old.names name ≡ false
+pub unbound_still : {a b : Outside} {old mid s : SessionState} {noted : OpNote} (name : List ℕ) → OnlyFrames a b old mid → Noted mid s noted → takes_name old name ≡ false
     → is_bound s.names name ≡ false
 unbound_still {s = s} name read did untaken =
-    let taken : SessionState → Bool = λ t. is_taken_by t.names name in
-    or_no _ (is_bound s.names name) (ap taken did.same ∙ ap taken read.same ∙ untaken)
+    let taken : SessionState → Bool = λ t. takes_name t name in
+    first_no (is_bound s.names name) (list_any (is_named name) s.scans) (is_some (group_index s.group_rows name)) (ap taken did.same ∙ ap taken read.same ∙ untaken)
   where
-    or_no : (a b : Bool) → (a || b) ≡ false → b ≡ false
-    or_no false b untaken = untaken
-    or_no true b untaken = absurd (true≢false untaken)
+    first_no : (a b c : Bool) → (a || b || c) ≡ false → a ≡ false
+    first_no false b c untaken = refl
+    first_no true b c untaken = absurd (true≢false untaken)
 
 pub bound_went : {b c : Outside} {mid s new : SessionState} (names : List BoundName) → new ≡ record s { names = names } → WentOn b c mid s → WentOn b c mid new
 bound_went names is went = record {
@@ -268,15 +236,15 @@ abbrev pub bound_to : List ℕ → Oid → BoundName
 bound_to name oid = record { name = name; oid = oid; marked = true }
 
 module _ {a b c : Outside} {old mid new : SessionState} (file name page : List ℕ) (made : NewObject) (world : IsWorld a) (is : IsSession old) (read : OnlyFrames a b old mid) (opened : old.opened ≡ true) (reads : ReadsCatalog a old page)
-    (spelled : IsTrue (is_name name)) (untaken : is_taken_by old.names name ≡ false) (placed_there : Ok made ≡ new_object_in (catalog_on page) file) (room : None ≡ room_refusal mid creation_need) (went : WentOn b c mid new) where
+    (spelled : IsTrue (is_name name)) (untaken : takes_name old name ≡ false) (placed_there : Ok made ≡ new_object_in (catalog_on page) file) (room : None ≡ room_refusal mid creation_need) (went : WentOn b c mid new) where
   abbrev its_line : Request
   its_line = request.Create file name
 
   at : PlacedIn (find (has_name file) (catalog_on page).entries) (catalog_on page).next_unique made
   at = placed (find (has_name file) (catalog_on page).entries) (catalog_on page).next_unique made placed_there
 
-  still_free : is_taken_by mid.names name ≡ false
-  still_free = ap (λ (s : SessionState). is_taken_by s.names name) read.same ∙ untaken
+  still_free : takes_name mid name ≡ false
+  still_free = ap (λ (s : SessionState). takes_name s name) read.same ∙ untaken
 
   module _ (before : View SessionState) (same : before.session ≡ old) (now : ShowsNow meant a before) (later : ShowsNow meant b (with_groups before mid)) where
     abbrev catalog : Catalog

@@ -1,3 +1,4 @@
+mod Aborts
 mod Accepted
 mod Changed
 mod Commanding
@@ -11,7 +12,10 @@ mod Filed
 mod Files
 mod Listing
 mod Naming
+mod Opened
+mod Closed
 mod Refusing
+mod ScanLines
 mod Shaping
 mod Unfiled
 mod UpdateLines

@@ -48,7 +48,10 @@ renamed s names is = record {
   in_use = is.in_use;
   room = is.room;
   sizes = is.sizes;
-  main = is.main;
+  groups = is.groups;
+  few_groups = is.few_groups;
+  scans = is.scans;
+  few_scans = is.few_scans;
   logged = is.logged;
   behind = is.behind;
   few_notes = is.few_notes;
@@ -170,13 +173,14 @@ module _ {a b : Outside} {before : View SessionState} (now : ShowsNow meant a be
             geometry = ap (λ (s : SessionState). s.geometry) did.same;
             log = ap (λ (s : SessionState). s.log) did.same;
             kept = ap (λ (s : SessionState). s.kept) did.same;
+            scans = ap (λ (s : SessionState). s.scans) did.same;
           })
           (record { rules = rules_then opened last named; geometry = refl; committed = refl; scans = refl; working = refl; pages = refl; segs = refl; touched = refl })
           (record {
             geometry = sym same_geometry;
             notes = same_notes;
             names = refl;
-            group_rows = now.shows.shared.group_rows;
+            group_rows = now.shows.shared.group_rows ∙ sym (ap (λ (s : SessionState). s.group_rows) did.same);
             open_txn = sym opened ∙ sym (ap (λ (s : SessionState). s.opened) did.same);
             up = ap (λ (s : SessionState). s.down) did.same ∙ now.shows.shared.up;
           });

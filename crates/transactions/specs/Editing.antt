@@ -131,10 +131,6 @@ has_older head = is_some head.older
 abbrev pub destroy_refusal : Found → Option Refusal
 destroy_refusal found = first (when (is_frozen found.head.state) refusal.Frozen ∷ when (has_older found.head) refusal.HasVersions ∷ [])
 
--- whether a version is bound to a name, or the name is that of the group that every session has
-abbrev pub is_taken_by : List BoundName → List ℕ → Bool
-is_taken_by names name = bytes_eq name main || list_any (λ (b : BoundName). bytes_eq b.name name) names
-
 -- the number of the file that a new object is put into and the object's unique number, or why there is none
 abbrev pub place_if : Option FileEntry → ℕ → Result NewObject Refusal
 place_if None unique = Err refusal.NoFile

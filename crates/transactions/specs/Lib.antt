@@ -3,3 +3,4 @@ pub mod Lines
 pub mod Commands
 pub mod Editing
 pub mod Asking
+pub mod Scanning

@@ -1,6 +1,6 @@
 -- What lines that read or change objects promise.
 use Rattle.std.specs.Prelude.{◌≡◌, Result, IfOk, IfErr}
-use Rattle.disk_model.specs.Outside.{Outside, DiskOnly, Leaves}
+use Rattle.disk_model.specs.Outside.{Outside, DiskOnly, Leaves, ReadsOnly}
 use Rattle.table_model.specs.declared.reply.Reply.{Reply}
 use Rattle.table_model.specs.Requests.{Request}
 use Rattle.session_views.specs.declared.engine.Stop.{Stop}
@@ -17,6 +17,18 @@ pub record ReadsLine (a b : Outside) (old new : SessionState) (r : Request) (res
   pub only : OnlyFrames a b old new
   pub stops : IfErr result (LineStops a b)
   pub sound : IfErr result (λ why. IfShown a old (λ before. IsOutside why))
+  pub stepped : IfOk result (λ told. IfShown a old (λ before. Stepped meant before r told new b))
+
+-- A line on scans and groups. It writes nothing and leaves the log; a refusal leaves the session but for its frames. From a view that shows it steps as the
+-- machine does, or the stop is no fault of the volume.
+pub record ScansLine (a b : Outside) (old new : SessionState) (r : Request) (result : Result Reply Stop) : Type 0 where
+  pub reads : ReadsOnly a b
+  pub geometry : new.geometry ≡ old.geometry
+  pub log : new.log ≡ old.log
+  pub down : new.down ≡ old.down
+  pub stops : IfErr result (LineStops a b)
+  pub sound : IfErr result (λ why. IfShown a old (λ before. IsOutside why))
+  pub refused : IfOk result (λ told. IsRefused told → OnlyFrames a b old new)
   pub stepped : IfOk result (λ told. IfShown a old (λ before. Stepped meant before r told new b))
 
 -- A line that changes objects. Of the disk it writes but units that are not in use, so that a crash at any moment leaves the committed table; the log

@@ -24,8 +24,11 @@ ghost use Rattle.transactions.specs.Commands.{Answers, IsOfCatalog, ReadsAlone, 
 
 use crate::changes::{append, delete, insert, replace};
 use crate::creation::create;
+use crate::groups::group;
+use crate::pieces::next;
 use crate::reads::{digest, list, read, size, stat};
 use crate::removal::destroy;
+use crate::scan_lines::{close, scan};
 use crate::tell::{files, log, space};
 use crate::updates::{file, unfile};
 use disk_model::Host;
@@ -70,8 +73,11 @@ fn answer<H: Host>(
     ensures reached_back { request_of command.now ≡ request.Abort → (before : View SessionState)
         → before.session ≡ session.old → (shown : ShowsNow meant (H.outside host.old) before)
         → session.old.opened ≡ true → OnOk result (JustReached session.new.units
-        (committed_reach shown.shows.decoded before.disk)) }
+        (committed_reach shown.shows.decoded before)) }
     ensures idle { request_of command.now ≡ request.Abort
+        → OnOk result (free_in session.new Page ≡ free_in session.old Page
+        → host.new ≡ host.old) }
+    ensures idle_close { (name : List ℕ) → request_of command.now ≡ request.Close name
         → OnOk result (free_in session.new Page ≡ free_in session.old Page
         → host.new ≡ host.old) }
 {
@@ -85,6 +91,8 @@ fn answer<H: Host>(
         Command::Space => Ok(space(session)),
         Command::File { name } => file(session, alloc, host, name),
         Command::Unfile { name } => unfile(session, alloc, host, name),
+        Command::Group { name, frames, mru } => group(session, alloc, host, name, *frames, *mru),
+        Command::Close { name } => close(session, alloc, host, name),
         _ => answer_objects(session, alloc, host, command),
     }
 }
@@ -115,6 +123,8 @@ fn answer_objects<H: Host>(
         Command::Append { x, given } => append(session, alloc, host, x, given),
         Command::Replace { x, pos, given } => replace(session, alloc, host, x, *pos, given),
         Command::Delete { x, pos, len } => delete(session, alloc, host, x, *pos, *len),
+        Command::Scan { x, name, group } => scan(session, alloc, host, x, name, *group),
+        Command::Next { name, len } => next(session, alloc, host, name, *len),
         _ => unreachable!(),
     }
 }
@@ -196,8 +206,8 @@ pub fn step<H: Host>(
     ensures taken_back { request_of command.now ≡ request.Abort → session.old.opened ≡ true
         → OnOk result (FreesTaken session.old session.new) }
 
-    // After a commit in use are exactly the units that the working volume reached, so that what a dropped version alone reached is free, and after an
-    // abort those that the committed volume reaches.
+    // After a commit in use are exactly the units that the working volume reached and the open scans reach, so that what a removed version alone reached is
+    // free, and after an abort those that the committed volume and the open scans reach.
     ensures reached { request_of command.now ≡ request.Commit → (before : View SessionState)
         → before.session ≡ session.old → (shown : ShowsNow meant (H.outside host.old) before)
         → session.old.opened ≡ true → OnOk result (JustReached session.new.units
@@ -205,10 +215,13 @@ pub fn step<H: Host>(
     ensures reached_back { request_of command.now ≡ request.Abort → (before : View SessionState)
         → before.session ≡ session.old → (shown : ShowsNow meant (H.outside host.old) before)
         → session.old.opened ≡ true → OnOk result (JustReached session.new.units
-        (committed_reach shown.shows.decoded before.disk)) }
+        (committed_reach shown.shows.decoded before)) }
 
-    // Where an abort frees no page, the host was not called.
+    // Where an abort or a close frees no page, the host was not called.
     ensures idle { request_of command.now ≡ request.Abort
+        → OnOk result (free_in session.new Page ≡ free_in session.old Page
+        → host.new ≡ host.old) }
+    ensures idle_close { (name : List ℕ) → request_of command.now ≡ request.Close name
         → OnOk result (free_in session.new Page ≡ free_in session.old Page
         → host.new ≡ host.old) }
 

@@ -2,7 +2,7 @@
 ghost use Rattle.std.specs.Prelude.{◌≡◌, ◌≤◌, ◌++◌, ◌∷◌, [], IsTrue, true, OnOk};
 ghost use Rattle.ex_base.specs.Sizes.{volume_bytes};
 ghost use Rattle.table_model.specs.Words.{is_name};
-ghost use Rattle.transactions.specs.Editing.{is_taken_by, new_object_in};
+ghost use Rattle.transactions.specs.Editing.{new_object_in};
 ghost use Rattle.table_model.specs.Requests as request;
 ghost use Rattle.transactions.specs.Lines.{UpdatesLine};
 
@@ -16,9 +16,6 @@ use session_core::{ObjectUpdate, Session, view_of};
 use session_views::Stop;
 use std::alloc::Global;
 use table_model::{Refusal, Reply};
-
-/// The name of the group that every session has.
-const MAIN_NAME: &[u8] = b"main";
 
 /// What a new object may take: the pages of its record and of its file's index, and as many logged pages that it touches.
 const CREATION_NEED: Need = Need {
@@ -51,13 +48,6 @@ fn new_object(catalog: &CatalogView<'_>, file: &[u8]) -> Result<NewObject, Refus
     })
 }
 
-/// Whether a version is bound to a name, or the name is that of the group that every session has.
-fn is_taken(session: &Session, name: &[u8]) -> bool
-    ensures { result ≡ is_taken_by session.now.names name.now }
-{
-    name == MAIN_NAME || session.is_bound(name)
-}
-
 /// Makes an object without bytes in a file, and binds a name to it.
 pub(crate) fn create<H: Host>(
     session: &mut Session,
@@ -75,7 +65,7 @@ pub(crate) fn create<H: Host>(
     if !session.is_open() {
         return Ok(Reply::No(Refusal::NoTxn));
     }
-    if is_taken(session, name) {
+    if session.is_taken(name) {
         return Ok(Reply::No(Refusal::NameTaken));
     }
     let page = match session.catalog(alloc, host) {

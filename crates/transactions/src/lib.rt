@@ -6,10 +6,13 @@ mod changes;
 mod commands;
 mod creation;
 mod edits;
+mod groups;
 mod needs;
+mod pieces;
 mod reads;
 mod refuse;
 mod removal;
+mod scan_lines;
 mod tell;
 mod updates;
 

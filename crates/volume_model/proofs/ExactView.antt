@@ -122,7 +122,7 @@ module _ (d : Decoded) (used : ℕ → Bool) (refs : ℕ → ℕ) (gained lost s
       committed_kept : AllByRecursion (RootKept (units_of d disk) (home d.geometry disk)) (committed_roots d)
       committed_kept = trees_at_home (units_of d disk) after_home (committed_roots d) committed (λ u has. omega (arith, has, roots_of u))
 
-      working_kept : AllByRecursion (RootKept (working_units d disk rows) (home d.geometry disk)) (roots_in (stored_in working))
+      pub working_kept : AllByRecursion (RootKept (working_units d disk rows) (home d.geometry disk)) (roots_in (stored_in working))
       working_kept = trees_at_home (working_units d disk rows) working_home (roots_in (stored_in working)) worked (λ u has. omega (arith, has, roots_of u))
 
       named_home : (over : Units) (rs : List Root) → AllByRecursion (RootKept over (home d.geometry disk)) rs → AreNamed d.geometry over rs → AreNamed d.geometry (home d.geometry disk) rs
@@ -265,4 +265,11 @@ module _ (d : Decoded) (v : View Held) (working : Volume) (owners : OwnersOf d v
   pub no_page_shown : (page : ℕ) → Contains (file_pages d.volume ++ file_pages working) page → ¬ Contains (trees_of_view d v working) page
   no_page_shown =
       no_page_in_tree d v working owners trees.overlay trees.images committed_named (working_named d v working v.machine.working committed_named trees.working_shown)
+      (scans_named d.geometry (home d.geometry v.disk) v.machine.scans v.session.scans trees.scans)
+
+  -- The trees of the working volume are at home what they are over the working pages.
+  pub working_at_home : AllByRecursion (RootKept (working_units d v.disk v.session.working_pages) (home d.geometry v.disk)) (roots_in (stored_in working))
+  working_at_home =
+      working_kept d v.session.used v.session.refs v.session.gained v.session.lost (roots_here v.session.scans) v.disk working owners v.session.working_pages (log_apart d v working trees.overlay)
+      (rows_apart d working v.session.working_pages trees.images) committed_named (working_named d v working v.machine.working committed_named trees.working_shown)
       (scans_named d.geometry (home d.geometry v.disk) v.machine.scans v.session.scans trees.scans)

@@ -18,3 +18,4 @@ pub mod OwnersTurned
 pub mod OwnersSwept
 pub mod OwnersUpdated
 pub mod FewRoots
+pub mod OwnersScanned

@@ -18,7 +18,7 @@ use Rattle.volume_model.specs.Volume.{Volume, Decoded}
 use Rattle.volume_model.proofs.ExactView.{log_apart, times_joined}
 
 -- the pages of the roots of a scan and of those behind it
-roots_more : (u : ℕ) (scan : HeldScan) (scans : List HeldScan) → times u (root_pages (roots_here (scan ∷ scans))) ≡ times u (root_pages (root_here scan.root)) + times u (root_pages (roots_here scans))
+pub roots_more : (u : ℕ) (scan : HeldScan) (scans : List HeldScan) → times u (root_pages (roots_here (scan ∷ scans))) ≡ times u (root_pages (root_here scan.root)) + times u (root_pages (roots_here scans))
 roots_more u scan scans =
     ap (times u) (flat_map-append (λ (root : Root). page_here root.page) (root_here scan.root) (roots_here scans)) ∙ times-append u (root_pages (root_here scan.root)) (root_pages (roots_here scans))
 

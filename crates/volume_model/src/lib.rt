@@ -204,3 +204,31 @@ pub fn a_volume_has_few_roots()
         → AllByRecursion (HoldsOf g records units v) content_parts
         → length (roots_in (stored_in v)) ≤ volume_roots_most }
 {}
+
+/// Where a session shows who owns each unit, it does so once a scan of a version of the working volume is opened, whose root is counted; and once a scan is
+/// closed, whose root is given up. No count of references reaches its end.
+pub fn a_scan_keeps_owners()
+    ensures opened { (d : Decoded) (used : ℕ → Bool) (refs : ℕ → ℕ) (gained lost scans : List
+        Root) (disk : List ℕ) (working : Volume)
+        → OwnersShown d used refs gained lost scans disk working → (root : Option Root) → ((u : ℕ)
+        → 1 ≤ times u (root_pages (root_here root))
+        → 1 ≤ times u (root_pages (roots_in (stored_in working)))) → (counts : ℕ → ℕ) → ((u : ℕ)
+        → counts u ≡ refs u + times u (root_pages (root_here root)))
+        → OwnersShown d used counts gained lost (scans ++ root_here root) disk working }
+    ensures counted { (d : Decoded) (used : ℕ → Bool) (refs : ℕ → ℕ) (gained lost scans : List
+        Root) (disk : List ℕ) (working : Volume)
+        → OwnersShown d used refs gained lost scans disk working
+        → length (root_pages (roots_held d gained scans)) ≤ roots_most
+        → (u : ℕ) → refs u < refs_most }
+    ensures closed { (d : Decoded) (used : ℕ → Bool) (refs : ℕ → ℕ) (gained lost scans : List
+        Root) (disk : List ℕ) (working : Volume)
+        → OwnersShown d used refs gained lost scans disk working → (root : Option Root)
+        → (others : List Root) → ((u : ℕ) → times u (root_pages others)
+        + times u (root_pages (root_here root)) ≡ times u (root_pages scans))
+        → (left : ℕ → Bool) (fewer : ℕ → ℕ)
+        → (IsOwned d.geometry (home d.geometry disk) used refs (logged_pages d working)
+        (root_pages (root_here root) ++ root_pages (roots_held d gained others))
+        → IsOwned d.geometry (home d.geometry disk) left fewer (logged_pages d working)
+        (root_pages (roots_held d gained others)))
+        → OwnersShown d left fewer gained lost others disk working }
+{}

@@ -56,11 +56,11 @@ impl Session {
         // The pages that the transaction took are free.
         ensures freed { self.old.opened ≡ true → OnOk result (FreesTaken self.old self.new) }
 
-        // In use are exactly the units that the committed volume reaches.
+        // In use are exactly the units that the committed volume and the open scans reach.
         ensures exact { (before : View SessionState) → before.session ≡ self.old
             → (shown : ShowsNow meant (H.outside host.old) before) → self.old.opened ≡ true
             → OnOk result (JustReached self.new.units
-            (committed_reach shown.shows.decoded before.disk)) }
+            (committed_reach shown.shows.decoded before)) }
 
         // Where no page became free, the host was not called.
         ensures idle { OnOk result (free_in self.new Page ≡ free_in self.old Page

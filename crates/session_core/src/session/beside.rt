@@ -95,6 +95,7 @@ fn room_on<D: Disk>(
         groups,
         room,
         index: MAIN,
+        keeps_leaves: false,
         geometry: *geometry,
         meta,
         pages,

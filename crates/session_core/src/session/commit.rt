@@ -70,7 +70,7 @@ impl Session {
         ensures freed { self.old.opened ≡ true
             → OnOk result (FreesGivenBack self.old self.new) }
 
-        // In use are exactly the units that the working volume reached: where a version was dropped, what nothing else reaches became free.
+        // In use are exactly the units that the working volume reached and the open scans reach: what nothing else reaches became free.
         ensures exact { (before : View SessionState) → before.session ≡ self.old
             → (shown : ShowsNow meant (H.outside host.old) before) → self.old.opened ≡ true
             → OnOk result (JustReached self.new.units

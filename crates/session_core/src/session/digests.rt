@@ -71,6 +71,7 @@ fn digest_on<D: Disk>(
         groups,
         room,
         index: MAIN,
+        keeps_leaves: false,
         geometry: *geometry,
         meta,
         pages,

@@ -68,6 +68,7 @@ fn shape_on<D: Disk>(
         groups,
         room,
         index: MAIN,
+        keeps_leaves: false,
         geometry: *geometry,
         meta,
         pages,

@@ -5,9 +5,10 @@ ghost use Rattle.ex_base.specs.Ports.{HasCause, IsDamage};
 ghost use Rattle.volume_model.specs.Held.{root_here};
 ghost use Rattle.ex_base.specs.declared.geometry.Geometry.{Geometry};
 ghost use Rattle.ex_base.specs.declared.names.Root.{Root};
-ghost use Rattle.page_alloc.specs.UnitSet.{UnitSet};
+ghost use Rattle.ex_base.specs.declared.names.Area.TheVariants.{Page};
+ghost use Rattle.page_alloc.specs.UnitSet.{UnitSet, free_count, refs_at, used_at};
 ghost use Rattle.trees.specs.Owners.{page_here};
-ghost use Rattle.volume_port.specs.GivingUp.{CountsRoot, GivesTrees, OwnRoots};
+ghost use Rattle.volume_port.specs.GivingUp.{CountsRoot, GivesTrees, OwnRoots, ReleasesRoots};
 ghost use Rattle.volume_port.specs.Giving.{is_logged};
 ghost use Rattle.tree_store.specs.Stored.{Fits, IsCounted};
 ghost use Rattle.session_core.specs.Turning.{NonePaged, RootWent, RootsTurned, TakenOut};
@@ -69,13 +70,50 @@ fn add_here(roots: &mut Vec<Root>, root: &Option<Root>) -> Result<(), AllocError
 }
 
 /// Adds an owner to the tree of a root, where there is one.
-fn own_here(units: &mut Units, geometry: &Geometry, root: &Option<Root>)
+pub(super) fn own_here(units: &mut Units, geometry: &Geometry, root: &Option<Root>)
     requires geometry { units.old.geometry ≡ geometry.now }
     ensures counts { CountsRoot root.now units.old units.new }
     ensures counted { (g : Geometry) → IsCounted g units.old → IsCounted g units.new }
 {
     if let Some(root) = root {
         own_root(units, geometry, root);
+    }
+}
+
+/// Takes an owner away from the tree of a root, where there is one. Where no page became free, the disk wasn't called.
+///
+/// # Errors
+/// `Memory` for want of memory, `Disk` where a node could not be read, `Damaged` where one is not what names it.
+pub(super) fn release_here<D: Disk>(
+    alloc: Global,
+    disk: &mut D,
+    units: &mut Units,
+    groups: &mut Groups,
+    geometry: &Geometry,
+    pages: &LoggedPages,
+    kept: &Filled<bool>,
+    root: &Option<Root>,
+) -> Result<(), PortFault>
+    requires ready { Fits geometry.now (D.outside disk.old).size groups.old 0 units.old }
+    requires held { length pages.now ≡ area_end geometry.now }
+    requires flags { length kept.now ≡ area_end geometry.now }
+    ensures gives { GivesTrees (is_logged pages.now kept.now) geometry.now (D.outside disk.old)
+        (D.outside disk.new) units.old units.new groups.old groups.new }
+    ensures released { OnOk result (ReleasesRoots pages.now kept.now geometry.now
+        (D.outside disk.old) groups.old units.old units.new (root_here root.now)) }
+    ensures sound { IfErr result (λ fault. IsDamage fault
+        → OwnRoots pages.now kept.now geometry.now (D.outside disk.old) groups.old units.old
+        (root_here root.now) → ⊥) }
+    ensures refs { (unit : ℕ) → refs_at units.new unit ≤ refs_at units.old unit }
+    ensures quiet { OnOk result (free_count units.new.geometry (used_at units.new) Page
+        ≡ free_count units.old.geometry (used_at units.old) Page
+        → disk.new ≡ disk.old) }
+    ensures cause { HasCause (D.outside disk.old).disk_faults
+        (D.outside disk.new).disk_faults result }
+{
+    match root {
+        Some(root) => release_root(alloc, disk, units, groups, geometry, pages, kept, root),
+        None => Ok(()),
     }
 }
 

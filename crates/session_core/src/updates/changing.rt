@@ -2,12 +2,12 @@
 ghost use Rattle.std.specs.Prelude.{◌≡◌, IfOk};
 ghost use Rattle.ex_base.specs.Ports.{HasCause};
 ghost use Rattle.versions.specs.Edited.{change_of};
-ghost use Rattle.session_core.specs.Rooms.{ChangesOne};
+ghost use Rattle.file_rooms.specs.Rooms.{ChangesOne};
 ghost use Rattle.session_core.specs.TableUpdates.{Changes, Updates};
 
 use super::Done;
-use super::rooms::Rooms;
 use ex_base::{Oid, PortFault, Volume};
+use file_rooms::Rooms;
 use std::alloc::Global;
 use versions::{Edit, apply};
 
@@ -34,7 +34,7 @@ pub fn change<V: Volume>(
                 gone: edited.gone,
                 come: edited.come,
             };
-            rooms.look_at(volume, alloc, done)
+            rooms.look_at(volume, alloc, oid.page, done)
         }
         Err(fault) => Err(fault),
     }

@@ -9,12 +9,12 @@ ghost use Rattle.file_bodies.specs.Damage.{IsCatalogFault};
 ghost use Rattle.object_files.specs.Edits.{IsCatalogPage};
 ghost use Rattle.object_files.specs.Reads.{catalog_on};
 ghost use Rattle.volume_edits.specs.Edits.{WritesCatalog, catalog_numbered};
-ghost use Rattle.session_core.specs.Rooms.{ChangesOne};
+ghost use Rattle.file_rooms.specs.Rooms.{ChangesOne};
 ghost use Rattle.session_core.specs.TableUpdates.{Makes, Updates};
 
 use super::Done;
-use super::rooms::Rooms;
 use ex_base::{PageNo, PortFault, Seen, Volume};
+use file_rooms::Rooms;
 use object_files::{CatalogView, set_numbers};
 use std::alloc::Global;
 use versions::create as create_version;

@@ -1,12 +1,12 @@
 //! An object is removed.
 ghost use Rattle.std.specs.Prelude.{◌≡◌, IfOk};
 ghost use Rattle.ex_base.specs.Ports.{HasCause};
-ghost use Rattle.session_core.specs.Rooms.{ChangesOne};
+ghost use Rattle.file_rooms.specs.Rooms.{ChangesOne};
 ghost use Rattle.session_core.specs.TableUpdates.{Removes, Updates};
 
 use super::Done;
-use super::rooms::Rooms;
 use ex_base::{Oid, PortFault, Volume};
+use file_rooms::Rooms;
 use std::alloc::Global;
 use versions::destroy;
 
@@ -31,7 +31,7 @@ pub fn remove<V: Volume>(
                 gone,
                 come: None,
             };
-            rooms.look_at(volume, alloc, done)
+            rooms.look_at(volume, alloc, oid.page, done)
         }
         Err(fault) => Err(fault),
     }

@@ -3,8 +3,9 @@ use Rattle.table_model.specs.Requests.{request_of}
 use Rattle.table_model.specs.Requests as request
 use Rattle.table_model.specs.declared.reply.Reply.{Reply}
 use Rattle.session_core.specs.Steps.{StepsQuietly}
+use Rattle.transactions.proofs.Aborts.{is_abort}
 use Rattle.transactions.proofs.Accepted.{log_quietly, space_quietly}
-use Rattle.transactions.proofs.Commanding.{disk_alone, of_quiet, of_step}
+use Rattle.transactions.proofs.Commanding.{disk_alone, memory_alone, of_quiet, of_scans, of_step}
 use Rattle.transactions.proofs.commands.answer.Goals as goal
 
 pub returns-in-Begin-clause-answers : goal.returns-in-Begin-clause-answers
@@ -42,3 +43,15 @@ returns-in-Space-clause-answers g c =
 
 pub returns-in_default-clause-answers : goal.returns-in_default-clause-answers
 returns-in_default-clause-answers g c = c.answer_objects.ensures
+
+pub returns-in-Group-clause-answers : goal.returns-in-Group-clause-answers
+returns-in-Group-clause-answers g c =
+    of_scans (request_of c.args.command.now) (request.Group c.in-Group.name.now c.in-Group.frames c.in-Group.mru) c.group.result (ap request_of c.in-Group.is) (g.H.World.is_world c.args.host.now)
+    (λ _. memory_alone (g.H.World.outside c.args.host.now) (g.H.World.outside c.args.host.now) c.args.session.now c.group.result c.group.ensures.memory) c.group.ensures.line
+
+pub returns-in-Close-clause-answers : goal.returns-in-Close-clause-answers
+returns-in-Close-clause-answers g c =
+    of_scans (request_of c.args.command.now) (request.Close c.in-Close.name.now) c.close.result (ap request_of c.in-Close.is) (g.H.World.is_world c.args.host.now) (λ of. absurd (true≢false of.1)) c.close.ensures.line
+
+pub returns-in_default-clause-reached_back : goal.returns-in_default-clause-reached_back
+returns-in_default-clause-reached_back g c aborts before same now opened = absurd (c.in_default.not-Abort (is_abort c.args.command.now aborts))

@@ -1,7 +1,8 @@
 use Rattle.std.proofs.Common.{ap, refl}
-use Rattle.table_model.specs.Requests.{request_of, reference_of}
+use Rattle.std.specs.Prelude.{option_map}
+use Rattle.table_model.specs.Requests.{Request, request_of, reference_of}
 use Rattle.table_model.specs.Requests as request
-use Rattle.transactions.proofs.Commanding.{of_read, of_update}
+use Rattle.transactions.proofs.Commanding.{asks_more, of_read, of_scans, of_update}
 use Rattle.transactions.proofs.commands.answer_objects.Goals as goal
 
 pub returns-in-List : goal.returns-in-List
@@ -36,3 +37,14 @@ returns-in-Replace g c = of_update (request_of c.args.command.now) (request.Repl
 
 pub returns-in-Delete : goal.returns-in-Delete
 returns-in-Delete g c = of_update (request_of c.args.command.now) (request.Delete (reference_of c.in-Delete.x) c.in-Delete.pos c.in-Delete.len) c.delete.result (ap request_of c.in-Delete.is) refl refl c.delete.ensures
+
+pub returns-in-Next : goal.returns-in-Next
+returns-in-Next g c =
+    of_scans (request_of c.args.command.now) (request.Next c.in-Next.name.now c.in-Next.len) c.next.result (ap request_of c.in-Next.is) (g.H.World.is_world c.args.host.now)
+    (asks_more (g.H.World.outside c.args.host.now) (g.H.World.outside c.next.new.host) c.args.session.now (request.Next c.in-Next.name.now c.in-Next.len) c.next.result refl) c.next.ensures
+
+pub returns-in-Scan : goal.returns-in-Scan
+returns-in-Scan g c =
+    let r : Request = request.Scan (reference_of c.in-Scan.x) c.in-Scan.name.now (option_map (λ name. name.now) c.in-Scan.group) in
+    of_scans (request_of c.args.command.now) r c.scan.result (ap request_of c.in-Scan.is) (g.H.World.is_world c.args.host.now)
+    (asks_more (g.H.World.outside c.args.host.now) (g.H.World.outside c.scan.new.host) c.args.session.now r c.scan.result refl) c.scan.ensures

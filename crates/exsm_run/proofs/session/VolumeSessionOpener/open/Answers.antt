@@ -1,5 +1,7 @@
-use Rattle.std.proofs.Common.{◌≤◌, ◌∙◌, ap, sym, subst, Err, refl}
+use Rattle.std.proofs.Common.{◌≤◌, ◌∙◌, List, map, ap, sym, subst, Err, refl}
 use Rattle.ex_base.specs.Sizes.{volume_bytes}
+use Rattle.buffer_groups.specs.Frames.{Frames}
+use Rattle.buffer_groups.specs.Groups.{kind_of}
 use Rattle.disk_model.specs.Runs.{honest_on}
 use Rattle.talks.specs.Opening.{Opened}
 use Rattle.exsm_run.specs.Fresh.{IsFresh}
@@ -30,6 +32,9 @@ returns-in-Ok-make-clause-any_moment g c image honest holds = leaves_opening ima
 
 pub returns-in-Err-make-clause-any_moment : goal.returns-in-Err-make-clause-any_moment
 returns-in-Err-make-clause-any_moment g c image honest holds = leaves_opening image (c.open_volume.ensures.any_moment image honest holds)
+
+pub make-requires-clause-groups : goal.make-requires-clause-groups
+make-requires-clause-groups g c = ap (λ (groups : List Frames). map kind_of groups) c.in-Ok.ensures.parts.fresh.groups
 
 pub make-requires-clause-in_use : goal.make-requires-clause-in_use
 make-requires-clause-in_use g c = c.in-Ok.ensures.parts.fresh.reached.in_use

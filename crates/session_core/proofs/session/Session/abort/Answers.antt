@@ -33,6 +33,13 @@ returns-in-Err-clause-steps g c =
     (record s { units = c.release_roots.new.units; groups = c.release_roots.new.groups }) c.in-Err.fault c.stopped.result c.stopped.ensures c.release_roots.ensures.gives.only c.in-Err.ensures.cause
     (λ damage owns. c.in-Err.ensures.sound damage (subst (λ (roots : List Root). OwnRoots s.pages s.kept s.geometry a s.groups s.units roots) (sym c.deref.ensures.value) owns)) refl)
 
+pub invariant_of-self : goal.invariant_of-self
+invariant_of-self g c =
+    let s = session.the_view c.self.inside in
+    let a = g.H.World.outside c.args.host.now in
+    let room = subst (λ (t : SessionState). volume_bytes t.geometry ≤ a.size) (sym c.self.view_is) c.requires.room in
+    given_session s c.release_roots.new.units c.release_roots.new.groups c.self.invariant room c.release_roots.ensures.gives
+
 pub invariant_of-self-2 : goal.invariant_of-self-2
 invariant_of-self-2 g c =
     let s = session.the_view c.self.inside in

@@ -74,6 +74,11 @@ returns-in-Err-release_roots-clause-steps g c =
     (subst (λ (roots : List Root). OwnRoots two.pages two.kept two.geometry i two.groups two.units roots) (sym c.deref.ensures.value) (own_at s mid two only.same c.self-2.view_is own)))
     (ap (λ (t : SessionState). t.geometry) (c.self-2.view_is ∙ only.same)) (ap (λ (t : SessionState). t.down) (c.self-2.view_is ∙ only.same))
 
+pub returns-in-Err-release_roots-clause-unwritten : goal.returns-in-Err-release_roots-clause-unwritten
+returns-in-Err-release_roots-clause-unwritten g c _ =
+    let only = c.catalog.ensures.frames in
+    (reads_trans only.reads c.release_roots.ensures.gives.only, ap (λ (t : SessionState). t.log) (c.self-2.view_is ∙ only.same))
+
 pub invariant_of-self-then-is_err : goal.invariant_of-self-then-is_err
 invariant_of-self-then-is_err g c =
     let s = c.args.self.now in
@@ -222,7 +227,7 @@ invariant_of-self-in-Err-commit g c =
       log_is = c.commit.ensures.log_geometry;
       meta_is = ap (λ (o : Overlays). o.geometry) c.undo.ensures ∙ c.commit.ensures.same_geometry;
       sizes = c.commit.ensures.sizes;
-      len = c.commit.ensures.len;
+      kinds = c.commit.ensures.kinds;
       logged = subst (λ (o : Overlays). IsLogged c.commit.new.log o) (sym c.undo.ensures) (record { images = c.commit.ensures.logged.images; none = c.commit.ensures.logged.none });
       behind = c.commit.ensures.behind;
       none = ap (λ (o : Overlays). o.working) c.undo.ensures;
@@ -295,7 +300,7 @@ invariant_of-self-2 g c =
       log_is = c.commit.ensures.log_geometry;
       meta_is = c.commit.ensures.same_geometry;
       sizes = c.commit.ensures.sizes;
-      len = c.commit.ensures.len;
+      kinds = c.commit.ensures.kinds;
       logged = c.commit.ensures.logged;
       behind = c.commit.ensures.behind;
       none = c.in_default-commit.ensures.working;

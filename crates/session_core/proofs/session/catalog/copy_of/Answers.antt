@@ -5,6 +5,18 @@ use Rattle.buffer_groups.proofs.GroupLists.{groups_keep, at_index}
 use Rattle.session_core.proofs.Reading.{all_read, behind_read}
 use Rattle.session_core.proofs.session.catalog.copy_of.Goals as goal
 
+pub returns-in_err-bytes-clause-keeps : goal.returns-in_err-bytes-clause-keeps
+returns-in_err-bytes-clause-keeps g c = groups_keep (g.D.World.outside c.args.disk.now).disk c.args.groups.now 0 c.at.result.now c.image.follows.lender-at-none c.at.ensures.value c.requires.main c.image.follows.holds-at-none.0
+
+pub returns-in_err-bytes-clause-behind : goal.returns-in_err-bytes-clause-behind
+returns-in_err-bytes-clause-behind g c = λ far behind.
+    behind_read c.args.groups.now c.at.result.now c.image.follows.lender-at-none c.at.ensures.value c.requires.main
+    (all_read (λ (e : ℕ × List ℕ). catalog_no ≤ e.0) _ c.image.result (λ s. s.now) (g.D.World.outside c.args.disk.now).disk c.at.result.now c.image.follows.lender-at-none c.args.page.0 c.image.follows.holds-at-none.1 (λ b. far))
+    behind
+
+pub returns-in_err-to_vec-clause-keeps : goal.returns-in_err-to_vec-clause-keeps
+returns-in_err-to_vec-clause-keeps g c = groups_keep (g.D.World.outside c.args.disk.now).disk c.args.groups.now 0 c.at.result.now c.image.follows.lender-at-none c.at.ensures.value c.requires.main c.image.follows.holds-at-none.0
+
 pub returns-clause-keeps : goal.returns-clause-keeps
 returns-clause-keeps g c = groups_keep (g.D.World.outside c.args.disk.now).disk c.args.groups.now 0 c.at.result.now c.image.follows.lender-at-none c.at.ensures.value c.requires.main c.image.follows.holds-at-none.0
 

@@ -2,7 +2,7 @@ use Rattle.versions.specs.Edited.{change_of}
 use Rattle.session_core.specs.TableUpdates.{Changes}
 use Rattle.session_core.proofs.Changed.{change_failed, version_changed}
 use Rattle.session_core.proofs.MovedVolumes.{still_updated}
-use Rattle.session_core.proofs.Remembered.{one_lowered}
+use Rattle.file_rooms.proofs.Remembered.{one_lowered}
 use Rattle.session_core.proofs.updates.changing.change.Goals as goal
 
 pub returns-in-Ok-clause-updates : goal.returns-in-Ok-clause-updates

@@ -2,7 +2,7 @@ use Rattle.std.proofs.Common.{None}
 use Rattle.session_core.specs.TableUpdates.{Removes}
 use Rattle.session_core.proofs.Removed.{object_removed, removal_failed}
 use Rattle.session_core.proofs.MovedVolumes.{still_updated}
-use Rattle.session_core.proofs.Remembered.{one_lowered}
+use Rattle.file_rooms.proofs.Remembered.{one_lowered}
 use Rattle.session_core.proofs.updates.removing.remove.Goals as goal
 
 pub returns-in-Ok-clause-updates : goal.returns-in-Ok-clause-updates

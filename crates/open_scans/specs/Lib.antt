@@ -1,0 +1,2 @@
+pub mod OpenScans
+pub mod GroupRows

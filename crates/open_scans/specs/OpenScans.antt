@@ -1,0 +1,50 @@
+-- The open scans of a session, each with the group of frames that it reads through.
+use Rattle.std.specs.Prelude.{◌≡◌, ◌≤◌, ℕ, Bool, List, IfSome, bytes_eq, position, slice_get, Option, Some}
+use Rattle.ex_base.specs.declared.geometry.Geometry.{Geometry}
+use Rattle.scans.specs.Scans.{Position, scan_size, next_len, moved_by}
+use Rattle.trees.specs.Roots.{IsRootFor}
+use Rattle.volume_model.specs.Held.{HeldScan}
+
+-- an open scan and the index of its group: `main` is the first of the groups
+pub record OpenRow : Type 0 where
+  pub scan : HeldScan
+  pub group : ℕ
+
+abbrev pub scan_of : OpenRow → HeldScan
+scan_of row = row.scan
+
+abbrev pub is_named : List ℕ → OpenRow → Bool
+is_named name row = bytes_eq row.scan.name name
+
+-- the scan without its name
+abbrev pub position_of : HeldScan → Position
+position_of held = record { root = held.root; small = held.small; pos = held.pos }
+
+-- The root is one that a tree of the volume may have, no more bytes were given than there are, and the group is `main` or one of so many others.
+pub record IsOpenScan (g : Geometry) (groups : ℕ) (row : OpenRow) : Type 0 where
+  pub root : IfSome row.scan.root (IsRootFor g)
+  pub inside : row.scan.pos ≤ scan_size (position_of row.scan)
+  pub group : row.group ≤ groups
+
+-- the index of the first scan that has a name
+abbrev pub scan_index : List OpenRow → List ℕ → Option ℕ
+scan_index rows name = position (is_named name) rows
+
+-- the open scan under a name that has this position
+abbrev pub at_position : List ℕ → ℕ → Position → OpenRow
+at_position name group place = record {
+  scan = record { name = name; root = place.root; small = place.small; pos = place.pos };
+  group = group;
+}
+
+-- how many bytes a scan gives next, where so many are asked
+abbrev pub given_len : ℕ → OpenRow → ℕ
+given_len n row = next_len n (position_of row.scan)
+
+-- the scan behind what it gives next, where so many bytes are asked
+abbrev pub row_after : ℕ → OpenRow → OpenRow
+row_after n row = at_position row.scan.name row.group (moved_by (given_len n row) (position_of row.scan))
+
+-- A fact of the scan at an index.
+abbrev pub AtRow : List OpenRow → ℕ → (OpenRow → Type 0) → Type 0
+AtRow rows index Fact = (row : OpenRow) → slice_get rows index ≡ Some row → Fact row

@@ -1,0 +1,17 @@
+use Rattle.std.proofs.Common.{◌≡◌, ◌∙◌, length, ap, arith}
+use Rattle.std.specs.Prelude.{drop}
+use Rattle.open_scans.specs.OpenScans.{OpenRow}
+use Rattle.session_core.proofs.Opening.{all_read}
+use Rattle.session_core.proofs.session.Session.small_scan.Goals as goal
+
+pub returns-in-Err-clause-sound : goal.returns-in-Err-clause-sound
+returns-in-Err-clause-sound g c = λ before same now told.
+    let long : length c.deref_mut.result.now ≡ c.args.version.now.found.size = omega (arith, c.deref_mut.ensures.len, c.in-Ok.ensures.len, ap length c.deref_mut.ensures.value) in
+    c.in-Err.ensures.sound before same now told.version told.is (omega (arith, long, told.size))
+
+pub returns-in-Ok-of_small-clause-bytes : goal.returns-in-Ok-of_small-clause-bytes
+returns-in-Ok-of_small-clause-bytes g c = λ before same now told.
+    let long : length c.deref_mut.result.now ≡ c.args.version.now.found.size = omega (arith, c.deref_mut.ensures.len, c.in-Ok.ensures.len, ap length c.deref_mut.ensures.value) in
+    let whole : length c.read_bytes.new.out ≡ c.in-Ok.bytes.len = omega (arith, c.read_bytes.auto.out, c.deref_mut.ensures.len) in
+    all_read c.in-Ok.bytes.len c.deref_mut.result.now c.read_bytes.new.out (drop (length c.read_bytes.new.out) c.in-Ok.bytes.items) told.version.bytes c.deref.result.now c.in-Ok-of_small.scan.scan.small
+    (ap (λ (r : OpenRow). r.scan.small) c.in-Ok-of_small.ensures) c.deref.ensures.value whole (omega (arith, long, told.size)) (c.in-Ok-read_bytes.ensures.bytes before same now told.version told.is)

@@ -1,0 +1,38 @@
+//! An open scan gives its next bytes.
+ghost use Rattle.std.specs.Prelude.{◌≤◌, IsTrue};
+ghost use Rattle.ex_base.specs.Sizes.{volume_bytes};
+ghost use Rattle.table_model.specs.Requests.{is_request};
+ghost use Rattle.table_model.specs.Requests as request;
+ghost use Rattle.transactions.specs.Lines.{ScansLine};
+
+use disk_model::Host;
+use ex_base::Items;
+use session_core::Session;
+use session_views::Stop;
+use std::alloc::Global;
+use table_model::{Refusal, Reply};
+
+/// Gives the next `len` bytes of the scan of a name, or all that are left where they are fewer.
+pub(crate) fn next<H: Host>(
+    session: &mut Session,
+    alloc: Global,
+    host: &mut H,
+    name: &[u8],
+    len: u32,
+) -> Result<Reply, Stop>
+    requires room { volume_bytes session.old.geometry ≤ (H.outside host.old).size }
+    requires form { IsTrue (is_request (request.Next name.now len)) }
+    ensures { ScansLine (H.outside host.old) (H.outside host.new) session.old session.new
+        (request.Next name.now len) result }
+{
+    let index = match session.scan_index(name) {
+        Some(index) => index,
+        None => return Ok(Reply::No(Refusal::NoScan)),
+    };
+    match session.next_piece(alloc, host, index, len) {
+        Ok(bytes) => Ok(Reply::Next {
+            bytes: Items::of(bytes),
+        }),
+        Err(stop) => Err(stop),
+    }
+}
