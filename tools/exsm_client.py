@@ -144,6 +144,28 @@ def leave_output() -> None:
     os.dup2(os.open(os.devnull, os.O_WRONLY), sys.stdout.fileno())
 
 
+class Scan:
+    """An open scan: the bytes of an object as they were when it was opened, whatever becomes of the object. At most 64 are open at once."""
+
+    def __init__(self, store: Store, name: str, oid: str) -> None:
+        self._store, self._name = store, name
+        self.size = int(store.ask(f"scan {oid} as {name}")[1])
+        """How many bytes it gives in all."""
+
+    def next(self, length: int) -> bytes:
+        """The next bytes, or all that are left where they are fewer."""
+        words = self._store.ask(f"next {self._name} {length}")
+        return bytes.fromhex(words[1]) if len(words) > 1 else b""
+
+    def __iter__(self) -> Iterator[bytes]:
+        while piece := self.next(READ_PIECE):
+            yield piece
+
+    def close(self) -> None:
+        """Closes it: what it alone kept in use is free."""
+        self._store.ask(f"close {self._name}")
+
+
 class Store:
     """One run of `exsm run VOLUME`. No other run may have the volume meanwhile."""
 
@@ -325,3 +347,19 @@ class Store:
     def read(self, oid: str, position: int = 0, length: Optional[int] = None) -> bytes:
         """The bytes from a position on, as many as told or all."""
         return b"".join(self.pieces(oid, position, length))
+
+    # Scans.
+
+    @contextmanager
+    def scan(self, oid: str) -> Iterator[Scan]:
+        """Opens a scan of an object's bytes as they are now, and closes it at the end of the block."""
+        scan = Scan(self, f"client_scan_{next(self._names)}", oid)
+        try:
+            yield scan
+        finally:
+            if self.is_usable():
+                scan.close()
+
+    def is_usable(self) -> bool:
+        """Whether lines can be sent: the run goes on, and each reply was read."""
+        return not self._waits and self._run.poll() is None

@@ -102,8 +102,10 @@ class Completion:
             return list(FORMS)
         form = FORMS.get(before[0], "").split()
         wanted = form[len(before)] if len(before) < len(form) else ""
-        if wanted == "as":
-            return ["as"]
+        if wanted in ("as", "in"):
+            return [wanted]
+        if wanted == "RULE":
+            return ["lru", "mru"]
         if wanted == "X":
             return self.runner.bound
         if wanted == "FILE" or before[0] == "unfile":

@@ -24,15 +24,24 @@ FORMS = {
     "append": "append X DATA",
     "replace": "replace X POS DATA",
     "delete": "delete X POS LEN",
+    "scan": "scan X as SCAN in GROUP",
+    "next": "next SCAN LEN",
+    "close": "close SCAN",
+    "group": "group GROUP FRAMES RULE",
 }
 """The lines that the program takes, by their first word."""
 
-LATER = ("freeze", "versions", "drop", "group", "scan", "next", "close")
+LATER = ("freeze", "versions", "drop")
 """Lines of docs/RULES.md that the program doesn't take yet."""
 
 WORDS = ("X is @NAME or page.slot.unique; DATA is hex:DIGITS, two a byte, or rep:COUNT:BYTE; "
-         "NAME and FILE are 1 to 32 of a-z 0-9 _")
-"""What the words of the forms stand for."""
+         "NAME, FILE, SCAN and GROUP are 1 to 32 of a-z 0-9 _")
+
+WORDS_OF = {
+    "scan": "`in GROUP` may be left out",
+    "group": "FRAMES is 1 to 1024; RULE is lru or mru",
+}
+"""What the words of the forms stand for: of all of them, and what is said of some lines besides."""
 
 MEANINGS = {
     "line_long": "a line has at most 1,048,576 bytes: give data in pieces of at most 524,000 bytes",
@@ -41,8 +50,8 @@ MEANINGS = {
     "txn_open": "a transaction is open: `commit` or `abort` it first",
     "no_name": "no `create` of this run bound the name: names last for one run, and those of an "
                "aborted transaction are gone; `list FILE` tells identifiers",
-    "name_taken": "the name is bound already in this run, also where its object is gone: take "
-                  "another",
+    "name_taken": "the name is taken in this run, by an object, also where that is gone, by an "
+                  "open scan or by a group: take another",
     "no_file": "there is no such file: `files` tells them",
     "file_exists": "the file is there already",
     "files_full": "the catalog is full: a volume has at most (page size - 32) / 48 files",
@@ -51,11 +60,11 @@ MEANINGS = {
     "current": "this is the object's current version: `destroy` removes the object",
     "not_empty": "the file has objects: `destroy` them first",
     "has_versions": "the object has frozen versions: `drop` them first",
-    "no_scan": "no open scan has the name",
-    "no_group": "no group of frames has the name",
+    "no_scan": "no open scan has the name: `scan X as SCAN` opens one",
+    "no_group": "no group of frames has the name: `group GROUP FRAMES RULE` makes one",
     "range": "the place is behind the end: `size X` tells the size",
     "too_large": "an object has at most 1,099,511,627,775 bytes",
-    "too_many": "there are as many {0} as there may be: `close` one first",
+    "too_many": "a run has at most 64 {0}: `close` a scan that is read, and share groups",
     "ids_spent": "the numbers of this volume are spent",
     "long_txn": "the transaction is full (at most 512 updates and 128 pages; it has {0} and {1}): "
                 "`commit`, and go on in the next one",
@@ -80,7 +89,7 @@ def syntax_meaning(line: str) -> str:
     """What is wrong with a line that spells no command: its form, or the word that was meant."""
     word = (line.split() or [""])[0]
     if word in FORMS:
-        return f"the form is `{FORMS[word]}`; {WORDS}"
+        return "; ".join([f"the form is `{FORMS[word]}`", *filter(None, [WORDS_OF.get(word)]), WORDS])
     if word in LATER:
         return f"`{word}` isn't built yet"
     near = difflib.get_close_matches(word.lower(), list(FORMS), 1)

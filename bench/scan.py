@@ -1,0 +1,90 @@
+#!/usr/bin/env python3
+"""Times scans of large objects, beside reads of as many bytes and beside reading the volume file.
+
+    python3 bench/scan.py PROGRAM [PROGRAM ..] [--folder FOLDER] [--sizes MIB ..] [--runs N]
+
+Each PROGRAM is a built exsm, so that two builds can be compared. Volumes lie in a new folder below FOLDER (/dev/shm where there is none given). A run opens a
+scan and takes all bytes in pieces of one length; its replies, two digits a byte, go to /dev/null. What is told is the processor time of the process without
+that of a run of no piece, the least of N runs, as MiB a second of the object's bytes, and the most memory that the process had. Beside it stand `read` lines
+of the same pieces, and `cat` of the volume file, by its wall time.
+"""
+import argparse
+import os
+import subprocess
+import sys
+import tempfile
+import time
+
+MIB = 1 << 20
+PAGE, FAN = 4096, 169
+LENGTHS = (64 << 10, MIB)
+
+
+def process(words, script=b""):
+    """Runs a program on a script, and returns its processor seconds and the most memory that it had, in MiB."""
+    with tempfile.TemporaryFile() as lines:
+        lines.write(script)
+        lines.seek(0)
+        run = subprocess.Popen(list(map(str, words)), stdin=lines, stdout=subprocess.DEVNULL)
+        _, status, used = os.wait4(run.pid, 0)
+    if status != 0:
+        sys.exit(f"scan.py: {words} ended with {status}")
+    return used.ru_utime + used.ru_stime, used.ru_maxrss / 1024
+
+
+def volume_of(program, path, size):
+    """Makes a volume with one object of so many MiB, each of another byte."""
+    segs = size * (MIB // PAGE) + 4096
+    process([program, "format", path, "--page-size", PAGE, "--pages", 8192, "--segs", segs, "--seg-len", 1, "--fan", FAN])
+    lines = ["begin", "file docs", "create docs as @d", *[f"append @d rep:{MIB}:{index % 256:02x}" for index in range(size)], "commit", "checkpoint"]
+    process([program, "run", path], "".join(f"{line}\n" for line in lines).encode())
+
+
+def pieces(kind, size, length):
+    """The lines that take all bytes of the object."""
+    count = size * MIB // length
+    if kind == "scan":
+        return ["group g 8 mru", "scan 258.0.1 as s in g", *[f"next s {length}"] * count, "close s"]
+    return [f"read 258.0.1 {index * length} {length}" for index in range(count)]
+
+
+def timed(program, path, lines, runs):
+    """The least processor time of some runs of the lines, without that of an empty script, and the most memory."""
+    script = "".join(f"{line}\n" for line in lines).encode()
+    empty = min(process([program, "run", path])[0] for _ in range(runs))
+    all_runs = [process([program, "run", path], script) for _ in range(runs)]
+    return min(seconds for seconds, _ in all_runs) - empty, max(memory for _, memory in all_runs)
+
+
+def file_rate(path, runs):
+    """The MiB a second at which `cat` reads the volume file."""
+    times = []
+    for _ in range(runs):
+        start = time.perf_counter()
+        subprocess.run(["cat", path], stdout=subprocess.DEVNULL, check=True)
+        times.append(time.perf_counter() - start)
+    return os.path.getsize(path) / MIB / min(times)
+
+
+def main():
+    words = argparse.ArgumentParser(description=__doc__.splitlines()[0])
+    words.add_argument("programs", nargs="+", metavar="PROGRAM")
+    words.add_argument("--folder", default="/dev/shm")
+    words.add_argument("--sizes", nargs="+", type=int, default=[16, 256], metavar="MIB")
+    words.add_argument("--runs", type=int, default=3)
+    given = words.parse_args()
+    with tempfile.TemporaryDirectory(dir=given.folder) as room:
+        path = os.path.join(room, "v")
+        for program in given.programs:
+            for size in given.sizes:
+                volume_of(program, path, size)
+                print(f"{program}, an object of {size} MiB; cat of the file {file_rate(path, given.runs):,.0f} MiB/s")
+                for length in LENGTHS:
+                    for kind in ("scan", "read"):
+                        seconds, memory = timed(program, path, pieces(kind, size, length), given.runs)
+                        print(f"  {kind} in pieces of {length // 1024:,} KiB: {size / seconds:,.0f} MiB/s, {memory:.1f} MiB of memory")
+                os.remove(path)
+
+
+if __name__ == "__main__":
+    main()
