@@ -15,7 +15,7 @@ mod older;
 #[cfg(test)]
 mod reach;
 #[cfg(test)]
-mod scans;
+mod scanning;
 #[cfg(test)]
 mod stops;
 #[cfg(test)]
