@@ -1,2 +1,4 @@
 pub mod Status
 pub mod Texts
+pub mod UsageText
+pub mod UsageLaws

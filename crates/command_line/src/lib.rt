@@ -2,10 +2,12 @@
 #![tactic(auto)]
 
 mod explanation;
+mod laws;
 mod seen;
 mod status;
 mod usage;
 
 pub use explanation::{Explanation, StatusLine};
+pub use laws::usage_tells_the_grammar;
 pub use status::Status;
 pub use usage::Usage;

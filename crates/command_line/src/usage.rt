@@ -1,4 +1,7 @@
 //! How the program is called.
+ghost use Rattle.std.specs.Prelude.{◌≡◌, Some};
+ghost use Rattle.command_line.specs.UsageText.{grammar_text, usage_text};
+
 use command_words::CommandWord;
 use std::fmt;
 
@@ -7,18 +10,23 @@ use std::fmt;
 pub struct Usage(pub Option<CommandWord>);
 
 impl fmt::Display for Usage {
+    ghost output = { λ usage. Some (usage_text usage.0) };
+
     fn fmt<W: fmt::Write>(&self, f: &mut fmt::Formatter<W>) -> fmt::Result {
-        f.write_str("usage: exsm ")?;
         match self.0 {
-            Some(command) => f.write_str(grammar_of(command)),
+            Some(command) => {
+                let grammar = grammar_of(command);
+                write!(f, "usage: exsm {grammar}")
+            }
             None => {
-                f.write_str(FORMAT)?;
-                f.write_str("\n       exsm ")?;
-                f.write_str(RUN)?;
-                f.write_str("\n       exsm ")?;
-                f.write_str(CHECK)?;
-                f.write_str("\n       exsm ")?;
-                f.write_str(GEN)
+                let format = grammar_of(CommandWord::Format);
+                let run = grammar_of(CommandWord::Run);
+                let check = grammar_of(CommandWord::Check);
+                let generate = grammar_of(CommandWord::Gen);
+                write!(
+                    f,
+                    "usage: exsm {format}\n       exsm {run}\n       exsm {check}\n       exsm {generate}"
+                )
             }
         }
     }
@@ -35,7 +43,10 @@ const CHECK: &str = "check VOLUME";
 
 const GEN: &str = "gen VOLUME --seed N --count 1..1000000";
 
-fn grammar_of(command: CommandWord) -> &'static str {
+/// How a command is called, behind the program's name.
+fn grammar_of(command: CommandWord) -> &'static str
+    ensures { result.now ≡ grammar_text command }
+{
     match command {
         CommandWord::Format => FORMAT,
         CommandWord::Run => RUN,

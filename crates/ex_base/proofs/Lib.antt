@@ -16,6 +16,7 @@ pub mod Places
 pub mod Reading
 pub mod Results
 pub mod Rows
+pub mod SamePlaces
 pub mod Spread
 pub mod Supers
 pub mod Writing

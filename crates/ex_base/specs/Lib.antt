@@ -9,6 +9,7 @@ pub mod Limits
 pub mod Needs
 pub mod NoteKinds
 pub mod Order
+pub mod Places
 pub mod Ports
 pub mod Seen
 pub mod Sizes

@@ -15,3 +15,4 @@ kind_number note_kind.Replaced = 7
 kind_number note_kind.Deleted = 8
 kind_number note_kind.Frozen = 9
 kind_number note_kind.Dropped = 10
+kind_number note_kind.Derived = 11

@@ -23,6 +23,8 @@ pub enum NoteKind {
     Frozen = 9,
     /// A frozen version was removed.
     Dropped = 10,
+    /// A current version was derived from a frozen one.
+    Derived = 11,
 }
 
 impl NoteKind {
@@ -31,7 +33,7 @@ impl NoteKind {
     ghost use Rattle.ex_base.specs.NoteKinds.{kind_number};
 
     /// Every kind.
-    pub const ALL: [NoteKind; 10] = [
+    pub const ALL: [NoteKind; 11] = [
         NoteKind::FileMade,
         NoteKind::FileRemoved,
         NoteKind::ObjectMade,
@@ -42,6 +44,7 @@ impl NoteKind {
         NoteKind::Deleted,
         NoteKind::Frozen,
         NoteKind::Dropped,
+        NoteKind::Derived,
     ];
 
     /// The number that stands for the kind.

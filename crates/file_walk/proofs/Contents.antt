@@ -1,42 +1,43 @@
 -- The files as they read.
-use Rattle.std.proofs.Common.{◌≡◌, ℕ, List, [], ◌∷◌, ◌++◌, map, None, refl, sym, ap, subst, ◌∙◌}
+use Rattle.std.proofs.Common.{◌≡◌, ℕ, List, [], ◌∷◌, ◌++◌, map, refl, sym, ap, subst, ◌∙◌}
 use Rattle.std.specs.List.{flat_map, AllByRecursion, AllZip, zip}
-use Rattle.std.specs.List.Sorted.{IsPermutation}
-use Rattle.std.proofs.lemmas.List.Sorted.{All-permutation, IsPermutation-sym}
-use Rattle.std.proofs.lemmas.List.Elements.{All-from_recursion, recursion_from_All}
 use Rattle.ex_base.specs.declared.geometry.Geometry.{Geometry}
 use Rattle.ex_base.specs.declared.names.Place.{Place}
-use Rattle.ex_base.proofs.Rows.{each-append}
 use Rattle.slotted_pages.specs.FilePage.{FilePage}
 use Rattle.slotted_pages.specs.Reads.{page_on}
 use Rattle.slotted_pages.proofs.PageLaws.{page_read_is}
-use Rattle.object_records.specs.declared.State.TheVariants.{Current}
+use Rattle.object_records.specs.Record.{Record}
+use Rattle.object_records.specs.Reads.{record_on}
+use Rattle.object_records.proofs.RecordLaws.{record_read}
+use Rattle.record_links.specs.declared.Linked.{Linked}
+use Rattle.record_links.specs.Labels.{LabelsObjects}
+use Rattle.record_links.specs.Links as kept
 use Rattle.file_index.specs.Index.{keys_of, pages_of}
 use Rattle.object_files.specs.Catalog.{FileEntry}
 use Rattle.trees.specs.Trees.{Units}
-use Rattle.volume_model.specs.Volume.{Stored, Line, FileContent, line_records}
-use Rattle.volume_model.specs.Parts.{HasIndex, HasPage, HasPages, HasLines, IsLine, IsUnfrozen, IsStored, Linked, bodies_in, bodies_from}
+use Rattle.volume_model.specs.Volume.{Stored, FileContent}
+use Rattle.volume_model.specs.Links.{AreLinked}
+use Rattle.volume_model.specs.Parts.{HasBodies, HasIndex, HasPage, HasPages, IsStored, bodies_in, bodies_from}
 use Rattle.file_walk.specs.Indexes.{IsEntryIndex}
-use Rattle.file_walk.specs.Parts.{IsListed}
-use Rattle.file_walk.specs.Records.{IsGoodRow, stored_at, IsPageOf, rows_on, rows_among}
-use Rattle.file_walk.proofs.Rows.{good_record}
-use Rattle.file_walk.proofs.Sorting.{sorted, sorted_moves, sorted_each, sorted_in_order, line_at, lines_back}
+use Rattle.file_walk.specs.Objects.{AreObjects, linked_of, links_of}
+use Rattle.file_walk.specs.Records.{IsGoodFile, IsGoodRow, standing_at, stored_at, IsPageOf, rows_on, rows_among}
+use Rattle.file_walk.proofs.Rows.{good_row}
+use Rattle.file_walk.proofs.SameLinks.{kept_links, kept_objects, linked_all, links_kept}
 
 -- ---- a file as it reads
 
 abbrev pub keys_in : Units → FileEntry → List ℕ
 keys_in images e = keys_of images e.level e.root
 
-abbrev pub stored_of : Units → List ℕ → List Stored
-stored_of images ns = map stored_at (rows_among images ns)
+abbrev pub stored_among : Units → List ℕ → List Stored
+stored_among images ns = map stored_at (rows_among images ns)
 
 abbrev pub content : Units → FileEntry → FileContent
 content images e = record {
   numbers = keys_in images e;
   index_pages = pages_of images e.level e.root;
   pages = map (λ (n : ℕ). page_on (images n)) (keys_in images e);
-  stored = stored_of images (keys_in images e);
-  lines = map line_at (sorted (stored_of images (keys_in images e)));
+  stored = stored_among images (keys_in images e);
 }
 
 bodies_back : (images : Units) (ns : List ℕ) → flat_map (λ (row : ℕ × FilePage). bodies_from row.0 0 row.1.slots) (zip ns (map (λ (n : ℕ). page_on (images n)) ns)) ≡ rows_among images ns
@@ -49,23 +50,18 @@ pages_zip images e (n ∷ ns) h = (h.0, pages_zip images e ns h.1)
 
 stored_zip : (rows : List (Place × List ℕ)) → AllByRecursion IsGoodRow rows → AllZip IsStored rows (map stored_at rows)
 stored_zip [] h = tt
-stored_zip (row ∷ rows) h = ((refl, h.0.spelled), stored_zip rows h.1)
+stored_zip (row ∷ rows) h = ((refl, h.0), stored_zip rows h.1)
 
--- the only version of its object
-abbrev IsOnly : Stored → Type 0
-IsOnly s = (s.body.head.state ≡ Current) × (s.body.head.older ≡ None) × (s.body.head.newer ≡ None)
+-- what is kept of the records of bodies
+links_rows : (rows : List (Place × List ℕ)) → links_of (map standing_at rows) ≡ linked_all (map stored_at rows)
+links_rows [] = refl
+links_rows (row ∷ rows) = ap (λ (t : List Linked). linked_of (stored_at row) ∷ t) (links_rows rows)
 
-only_each : (rows : List (Place × List ℕ)) → AllByRecursion IsGoodRow rows → AllByRecursion IsOnly (map stored_at rows)
-only_each [] h = tt
-only_each (row ∷ rows) h = ((h.0.current, h.0.oldest, h.0.newest), only_each rows h.1)
+pub good_links : (rows : List (Place × List ℕ)) → IsGoodFile rows → AreLinked (map stored_at rows)
+good_links rows good = kept_links (map stored_at rows) (subst kept.AreLinked (links_rows rows) good.linked)
 
-lines_each : (ss : List Stored) → AllByRecursion IsOnly ss → AllByRecursion IsLine (map line_at ss)
-lines_each [] h = tt
-lines_each (s ∷ ss) h = (record { linked = h.0; numbers = tt }, lines_each ss h.1)
-
-unfrozen_each : (ss : List Stored) → AllByRecursion IsUnfrozen (map line_at ss)
-unfrozen_each [] = tt
-unfrozen_each (s ∷ ss) = (refl, unfrozen_each ss)
+pub label_objects : (rows : List (Place × List ℕ)) (label : Place → ℕ) → LabelsObjects (links_of (map standing_at rows)) label → AreObjects (map stored_at rows) label
+label_objects rows label labels = kept_objects (map stored_at rows) label (subst (λ (links : List Linked). LabelsObjects links label) (links_rows rows) labels)
 
 pub content_index : (g : Geometry) (images : Units) (e : FileEntry) → IsEntryIndex g images e → HasIndex g images e (content images e)
 content_index g images e whole = record { whole = whole; numbers = refl; index_pages = refl }
@@ -73,20 +69,13 @@ content_index g images e whole = record { whole = whole; numbers = refl; index_p
 pub content_pages : (images : Units) (e : FileEntry) → AllByRecursion (IsPageOf images e) (keys_in images e) → HasPages images e (content images e)
 content_pages images e h = pages_zip images e (keys_in images e) h
 
-pub content_lines : (images : Units) (e : FileEntry) → AllByRecursion IsGoodRow (rows_among images (keys_in images e)) → HasLines (content images e)
-content_lines images e good =
-    let ns : List ℕ = keys_in images e in
-    let ss : List Stored = stored_of images (keys_in images e) in
+pub content_bodies : (images : Units) (e : FileEntry) → IsGoodFile (rows_among images (keys_in images e)) → HasBodies (content images e)
+content_bodies images e good =
     let back : rows_among images (keys_in images e) ≡ bodies_in (content images e) = sym (bodies_back images (keys_in images e)) in
     record {
-      records = subst (λ (rows : List (Place × List ℕ)). AllZip IsStored rows (stored_of images (keys_in images e))) back (stored_zip (rows_among images (keys_in images e)) good);
-      lines = lines_each (sorted (stored_of images (keys_in images e))) (sorted_each IsOnly (stored_of images (keys_in images e)) (only_each (rows_among images (keys_in images e)) good));
-      unfrozen = unfrozen_each (sorted (stored_of images (keys_in images e)));
-      each_once = subst (IsPermutation (stored_of images (keys_in images e))) (sym (lines_back (sorted (stored_of images (keys_in images e))))) (sorted_moves (stored_of images (keys_in images e)));
+      records = subst (λ (rows : List (Place × List ℕ)). AllZip IsStored rows (stored_among images (keys_in images e))) back (stored_zip (rows_among images (keys_in images e)) good.good);
+      linked = good_links (rows_among images (keys_in images e)) good;
     }
-
-pub content_listed : (images : Units) (e : FileEntry) → IsListed (content images e)
-content_listed images e = sorted_in_order (stored_of images (keys_in images e))
 
 -- ---- any file that has a part
 
@@ -104,28 +93,28 @@ pages_read images e (n ∷ ns) (p ∷ ps) h =
 pub has_pages : (g : Geometry) (images : Units) (e : FileEntry) (file : FileContent) → HasIndex g images e file → HasPages images e file → AllByRecursion (IsPageOf images e) (keys_in images e)
 has_pages g images e file index pages = subst (AllByRecursion (IsPageOf images e)) index.numbers (pages_read images e file.numbers file.pages pages).0
 
-only_line : (line : Line) → IsLine line → IsUnfrozen line → AllByRecursion IsOnly (line_records line)
-only_line line is unfrozen =
-    let alone : line_records line ≡ line.current ∷ [] = ap (λ (t : List Stored). t ++ (line.current ∷ [])) unfrozen in
-    let linked : Linked None (line.current ∷ []) = subst (Linked None) alone is.linked in
-    subst (AllByRecursion IsOnly) (sym alone) (linked, tt)
+stored_back : (rows : List (Place × List ℕ)) (ss : List Stored) → AllZip IsStored rows ss → AllByRecursion IsGoodRow rows × (ss ≡ map stored_at rows)
+stored_back [] [] h = (tt, refl)
+stored_back [] (s ∷ ss) h = absurd h
+stored_back (row ∷ rows) [] h = absurd h
+stored_back (row ∷ rows) (s ∷ ss) h =
+    let rest = stored_back rows ss h.1 in
+    let read : s.body ≡ record_on row.1 = sym (record_read row.1 s.body h.0.1) in
+    let same : s ≡ stored_at row = ap (λ (p : Place). made p s.body) (sym h.0.0) ∙ ap (made row.0) read in (
+      (good_row row.0 row.1 s.body h.0.1, rest.0),
+      ap (λ (t : Stored). t ∷ ss) same ∙ ap (λ (t : List Stored). stored_at row ∷ t) rest.1,
+    )
+  where
+    made : Place → Record → Stored
+    made place body = record { place = place; body = body }
 
-only_lines : (lines : List Line) → AllByRecursion IsLine lines → AllByRecursion IsUnfrozen lines → AllByRecursion IsOnly (flat_map line_records lines)
-only_lines [] is unfrozen = tt
-only_lines (line ∷ lines) is unfrozen = each-append IsOnly (line_records line) (flat_map line_records lines) (only_line line is.0 unfrozen.0) (only_lines lines is.1 unfrozen.1)
-
-rows_good : (rows : List (Place × List ℕ)) (ss : List Stored) → AllZip IsStored rows ss → AllByRecursion IsOnly ss → AllByRecursion IsGoodRow rows
-rows_good [] ss h only = tt
-rows_good (row ∷ rows) [] h only = absurd h
-rows_good (row ∷ rows) (s ∷ ss) h only = (good_record row.1 s.body h.0.1 only.0.0 only.0.1, rows_good rows ss h.1 only.1)
-
-pub has_lines : (g : Geometry) (images : Units) (e : FileEntry) (file : FileContent) → HasIndex g images e file → HasPages images e file → HasLines file → AllByRecursion IsGoodRow (rows_among images (keys_in images e))
-has_lines g images e file index pages lines =
-    let only : AllByRecursion IsOnly file.stored =
-    recursion_from_All IsOnly file.stored (All-permutation IsOnly (flat_map line_records file.lines) file.stored (IsPermutation-sym file.stored (flat_map line_records file.lines) lines.each_once)
-    (All-from_recursion IsOnly (flat_map line_records file.lines) (only_lines file.lines lines.lines lines.unfrozen))) in
+pub has_bodies : (g : Geometry) (images : Units) (e : FileEntry) (file : FileContent) → HasIndex g images e file → HasPages images e file → HasBodies file → IsGoodFile (rows_among images (keys_in images e))
+has_bodies g images e file index pages bodies =
     let read = pages_read images e file.numbers file.pages pages in
-    let rows : bodies_in file ≡ rows_among images file.numbers =
-    ap (λ (ps : List FilePage). flat_map (λ (row : ℕ × FilePage). bodies_from row.0 0 row.1.slots) (zip file.numbers ps)) read.1 ∙ bodies_back images file.numbers in
-    let good : AllByRecursion IsGoodRow (bodies_in file) = rows_good (bodies_in file) file.stored lines.records only in
-    subst (λ (ns : List ℕ). AllByRecursion IsGoodRow (rows_among images ns)) index.numbers (subst (AllByRecursion IsGoodRow) rows good)
+    let rows : bodies_in file ≡ rows_among images (keys_in images e) =
+    ap (λ (ps : List FilePage). flat_map (λ (row : ℕ × FilePage). bodies_from row.0 0 row.1.slots) (zip file.numbers ps)) read.1 ∙ bodies_back images file.numbers ∙ ap (rows_among images) index.numbers in
+    let back = stored_back (rows_among images (keys_in images e)) file.stored (subst (λ (t : List (Place × List ℕ)). AllZip IsStored t file.stored) rows bodies.records) in
+    record {
+      good = back.0;
+      linked = subst kept.AreLinked (sym (links_rows (rows_among images (keys_in images e)))) (links_kept (map stored_at (rows_among images (keys_in images e))) (subst AreLinked back.1 bodies.linked));
+    }

@@ -3,9 +3,12 @@ pub mod Times
 pub mod Units
 pub mod Levels
 pub mod Walking
+pub mod Order
 pub mod Rows
+pub mod Labelled
 pub mod Reading
 pub mod Runs
-pub mod Sorting
+pub mod SameLinks
 pub mod Contents
+pub mod Joined
 pub mod Parts

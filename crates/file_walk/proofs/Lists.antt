@@ -1,9 +1,10 @@
 -- What is left of a list behind an item, and lists that are gathered item by item.
 use Rattle.std.proofs.Common.{◌≡◌, ◌≤◌, ◌+◌, ℕ, zero, suc, List, [], ◌∷◌, ◌++◌, length, drop, Option, Some, None, sym, ap, ◌∙◌, arith, append_assoc}
-use Rattle.std.specs.Prelude.{slice_get, map, OnSome}
+use Rattle.std.specs.Prelude.{slice_get, map, Contains, OnSome}
 use Rattle.std.specs.List.{flat_map}
 use Rattle.std.proofs.lemmas.List.{append-nil, map-append, drop_all}
 use Rattle.ex_base.specs.declared.names.PageNo.{PageNo}
+use Rattle.version_lists.proofs.Lists.{contains_has, has_contains, has_map}
 use Rattle.file_walk.specs.Walk.{page_numbers}
 
 pub drop_get : {A : Type 0} (xs : List A) (i : ℕ) (x : A) → slice_get xs i ≡ Some x → drop i xs ≡ x ∷ drop (i + 1) xs
@@ -32,6 +33,11 @@ collect_step {A} {B} f all now next xs i x here before is =
 
 pub collect_end : {A B : Type 0} (f : A → B) (all now : List B) (xs : List A) (i : ℕ) → length xs ≤ i → all ≡ now ++ map f (drop i xs) → now ≡ all
 collect_end {A} f all now xs i le before = sym (before ∙ ap (λ (t : List A). now ++ map f t) (drop_all i xs le) ∙ append-nil now)
+
+-- ---- what stands in a list
+
+pub contains_map : {A B : Type 0} (f : A → B) (xs : List A) (x : A) → Contains xs x → Contains (map f xs) (f x)
+contains_map f xs x there = has_contains (map f xs) (f x) (has_map f xs x (contains_has xs x there))
 
 -- ---- what a clause says of an option that is known
 

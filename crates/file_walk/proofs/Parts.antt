@@ -19,18 +19,19 @@ use Rattle.file_index.proofs.Counts.{count_most, count_is, is_counted}
 use Rattle.object_files.specs.Catalog.{FileEntry}
 use Rattle.session_views.specs.declared.part.Part.TheVariants.{File, Page, Body}
 use Rattle.trees.specs.Trees.{Units}
-use Rattle.volume_model.specs.Volume.{FileContent, pages_of_file}
-use Rattle.volume_model.specs.Parts.{HasIndex, HasPages, HasLines}
+use Rattle.volume_model.specs.Volume.{FileContent, Stored, pages_of_file}
+use Rattle.volume_model.specs.Parts.{HasBodies, HasIndex, HasPages}
 use Rattle.file_walk.specs.declared.Found.{Found}
 use Rattle.file_walk.specs.declared.WalkedFiles.{WalkedFiles}
 use Rattle.file_walk.specs.declared.indexes.FilePages.{FilePages}
 use Rattle.file_walk.specs.Walk.{page_numbers, CountsUsed}
 use Rattle.file_walk.specs.Indexes.{IsWalked, IsEntryIndex, AreFreeIndexes, walked_pages, pages_named}
-use Rattle.file_walk.specs.Parts.{HasFilePart, HasPagePart, HasWalked, IsBadFiles, IsListed, found_of}
-use Rattle.file_walk.specs.Records.{IsGoodRow, found_at, stored_at, AddsRows, AreFilePages, IsPageOf, rows_of, rows_among}
-use Rattle.file_walk.proofs.Contents.{content, keys_in, content_index, content_pages, content_lines, content_listed, has_pages, has_lines}
+use Rattle.file_walk.specs.Objects.{AreObjects, found_of}
+use Rattle.file_walk.specs.Parts.{HasFilePart, HasPagePart, HasWalked, IsBadFiles, stored_of}
+use Rattle.file_walk.specs.Records.{AddsFiles, AreFilePages, IsGoodFile, IsPageOf, files_rows, rows_among}
+use Rattle.file_walk.proofs.Contents.{content, keys_in, content_index, content_pages, content_bodies, has_pages, has_bodies}
+use Rattle.file_walk.proofs.Joined.{all_stored, files_apart, joined_files, joined_objects, stored_in}
 use Rattle.file_walk.proofs.Levels.{under_may}
-use Rattle.file_walk.proofs.Rows.{good_front, good_back}
 use Rattle.file_walk.proofs.Times.{never}
 
 -- the files as they read
@@ -135,27 +136,27 @@ bad_page g images u v entries files walked counted never = record {
 
 -- ---- Body
 
-rows_each : (g : Geometry) (images : Units) (entries : List FileEntry) (files : List FilePages) → AllZip (IsWalked g images) entries files → AllByRecursion IsGoodRow (flat_map (rows_of images) files) → AllByRecursion HasLines (contents images entries)
-rows_each g images [] files walked good = tt
-rows_each g images (e ∷ entries) [] walked good = absurd walked
-rows_each g images (e ∷ entries) (f ∷ files) walked good = (
-  content_lines images e (subst (λ (ns : List ℕ). AllByRecursion IsGoodRow (rows_among images ns)) walked.0.numbers (good_front (rows_of images f) (flat_map (rows_of images) files) good)),
-  rows_each g images entries files walked.1 (good_back (rows_of images f) (flat_map (rows_of images) files) good),
+bodies_each : (g : Geometry) (images : Units) (entries : List FileEntry) (files : List FilePages) → AllZip (IsWalked g images) entries files → AllByRecursion IsGoodFile (files_rows images files) → AllByRecursion HasBodies (contents images entries)
+bodies_each g images [] files walked good = tt
+bodies_each g images (e ∷ entries) [] walked good = absurd walked
+bodies_each g images (e ∷ entries) (f ∷ files) walked good = (
+  content_bodies images e (subst (λ (ns : List ℕ). IsGoodFile (rows_among images ns)) walked.0.numbers good.0),
+  bodies_each g images entries files walked.1 good.1,
 )
 
 part_rows : (g : Geometry) (images : Units) (entries : List FileEntry) (files : List FilePages) (fs : List FileContent) → AllZip (IsWalked g images) entries files → AllZip (HasIndex g images) entries fs → AllZip (HasPages images) entries fs
-    → AllByRecursion HasLines fs → AllByRecursion IsGoodRow (flat_map (rows_of images) files)
-part_rows g images [] [] fs walked index pages lines = tt
-part_rows g images [] (f ∷ files) fs walked index pages lines = absurd walked
-part_rows g images (e ∷ entries) [] fs walked index pages lines = absurd walked
-part_rows g images (e ∷ entries) (f ∷ files) [] walked index pages lines = absurd index
-part_rows g images (e ∷ entries) (f ∷ files) (c ∷ fs) walked index pages lines =
-    each-append IsGoodRow (rows_of images f) (flat_map (rows_of images) files)
-    (subst (λ (ns : List ℕ). AllByRecursion IsGoodRow (rows_among images ns)) (sym walked.0.numbers) (has_lines g images e c index.0 pages.0 lines.0))
-    (part_rows g images entries files fs walked.1 index.1 pages.1 lines.1)
+    → AllByRecursion HasBodies fs → AllByRecursion IsGoodFile (files_rows images files)
+part_rows g images [] [] fs walked index pages bodies = tt
+part_rows g images [] (f ∷ files) fs walked index pages bodies = absurd walked
+part_rows g images (e ∷ entries) [] fs walked index pages bodies = absurd walked
+part_rows g images (e ∷ entries) (f ∷ files) [] walked index pages bodies = absurd index
+part_rows g images (e ∷ entries) (f ∷ files) (c ∷ fs) walked index pages bodies = (
+  subst (λ (ns : List ℕ). IsGoodFile (rows_among images ns)) (sym walked.0.numbers) (has_bodies g images e c index.0 pages.0 bodies.0),
+  part_rows g images entries files fs walked.1 index.1 pages.1 bodies.1,
+)
 
 pub bad_body : (g : Geometry) (images : Units) (u v : UnitSet) (entries : List FileEntry) (files : List FilePages) → AllZip (IsWalked g images) entries files → CountsUsed u v [] (flat_map walked_pages files)
-    → AllZip (AreFilePages images) entries files → (AllByRecursion IsGoodRow (flat_map (rows_of images) files) → ⊥) → IsBadFiles g images entries Body
+    → AllZip (AreFilePages images) entries files → (AllByRecursion IsGoodFile (files_rows images files) → ⊥) → IsBadFiles g images entries Body
 bad_body g images u v entries files walked counted pages never = record {
   files = contents images entries;
   earlier = (has_file_part g images u v entries files walked counted, has_page_part g images entries files walked pages);
@@ -164,38 +165,35 @@ bad_body g images u v entries files walked counted pages never = record {
 
 -- ---- all three
 
-listed_each : (images : Units) (entries : List FileEntry) → AllByRecursion IsListed (contents images entries)
-listed_each images [] = tt
-listed_each images (e ∷ entries) = (content_listed images e, listed_each images entries)
+files_good : (old new : List Found) (files : List (List (Place × List ℕ))) → AddsFiles old new files → AllByRecursion IsGoodFile files
+files_good old new [] adds = tt
+files_good old new (rows ∷ files) (mid, here, more) = (here.good, files_good mid new files more)
 
-found_each : (rows : List (Place × List ℕ)) → map found_at rows ≡ map found_of (map stored_at rows)
-found_each [] = refl
-found_each (row ∷ rows) = ap (λ (t : List Found). found_at row ∷ t) (found_each rows)
-
-found_all : (g : Geometry) (images : Units) (entries : List FileEntry) (files : List FilePages) → AllZip (IsWalked g images) entries files
-    → map found_at (flat_map (rows_of images) files) ≡ map found_of (flat_map (λ (file : FileContent). file.stored) (contents images entries))
-found_all g images [] [] walked = refl
-found_all g images [] (f ∷ files) walked = absurd walked
-found_all g images (e ∷ entries) [] walked = absurd walked
-found_all g images (e ∷ entries) (f ∷ files) walked =
-    let here : map found_at (rows_of images f) ≡ map found_of (content images e).stored =
-    ap (λ (ns : List ℕ). map found_at (rows_among images ns)) walked.0.numbers ∙ found_each (rows_among images (keys_in images e)) in
-    map-append found_at (rows_of images f) (flat_map (rows_of images) files)
-    ∙ ap (λ (t : List Found). t ++ map found_at (flat_map (rows_of images) files)) here
-    ∙ ap (λ (t : List Found). map found_of (content images e).stored ++ t) (found_all g images entries files walked.1)
-    ∙ sym (map-append found_of (content images e).stored (flat_map (λ (file : FileContent). file.stored) (contents images entries)))
+stored_all : (g : Geometry) (images : Units) (entries : List FileEntry) (files : List FilePages) → AllZip (IsWalked g images) entries files → all_stored (files_rows images files) ≡ stored_of (contents images entries)
+stored_all g images [] [] walked = refl
+stored_all g images [] (f ∷ files) walked = absurd walked
+stored_all g images (e ∷ entries) [] walked = absurd walked
+stored_all g images (e ∷ entries) (f ∷ files) walked =
+    ap (λ (ns : List ℕ). stored_in (rows_among images ns) ++ all_stored (files_rows images files)) walked.0.numbers
+    ∙ ap (λ (t : List Stored). (content images e).stored ++ t) (stored_all g images entries files walked.1)
 
 pub has_walked : (g : Geometry) (images : Units) (u v : UnitSet) (entries : List FileEntry) (files : List FilePages) (walked : WalkedFiles) → AllZip (IsWalked g images) entries files → CountsUsed u v [] (flat_map walked_pages files)
-    → AllZip (AreFilePages images) entries files → AddsRows [] walked.records.items (flat_map (rows_of images) files) → page_numbers walked.pages.items ≡ flat_map walked_pages files → HasWalked g images entries walked
-has_walked g images u v entries files walked is counted pages rows listed = record {
-  files = contents images entries;
-  file = has_file_part g images u v entries files is counted;
-  page = has_page_part g images entries files is pages;
-  body = rows_each g images entries files is rows.good;
-  listed = listed_each images entries;
-  pages = listed ∙ pages_listed g images entries files is;
-  records = rows.records ∙ found_all g images entries files is;
-}
+    → AllZip (AreFilePages images) entries files → AddsFiles [] walked.records.items (files_rows images files) → page_numbers walked.pages.items ≡ flat_map walked_pages files → HasWalked g images entries walked
+has_walked g images u v entries files walked is counted pages adds listed =
+    let rows = files_rows images files in
+    let apart = files_apart images files (λ page. omega (arith, counted page, count_most (used_at v page))) in
+    let joined = joined_files [] walked.records.items rows apart adds in
+    let same = stored_all g images entries files is in
+    record {
+      files = contents images entries;
+      file = has_file_part g images u v entries files is counted;
+      page = has_page_part g images entries files is pages;
+      body = bodies_each g images entries files is (files_good [] walked.records.items rows adds);
+      pages = listed ∙ pages_listed g images entries files is;
+      object = joined.object;
+      objects = subst (λ (t : List Stored). AreObjects t joined.object) same (joined_objects [] walked.records.items rows joined);
+      records = joined.added ∙ ap (map (found_of joined.object)) same;
+    }
 
 -- ---- the pages in use
 

@@ -1,6 +1,5 @@
 -- Records that are gathered body by body, and pages page by page.
-use Rattle.std.proofs.Common.{◌≡◌, ◌≤◌, ◌+◌, ℕ, suc, true, false, List, [], ◌∷◌, ◌++◌, length, drop, map, Option, Some, None, refl, sym, ap, subst, ◌∙◌, arith, append_assoc, ◌⊎◌, inl, inr}
-use Rattle.std.specs.Option.{is_some}
+use Rattle.std.proofs.Common.{◌≡◌, ◌≤◌, ◌+◌, ℕ, suc, true, false, List, [], ◌∷◌, ◌++◌, length, drop, map, Option, Some, None, refl, sym, ap, subst, ◌∙◌, arith, append_assoc}
 use Rattle.std.specs.List.{AllByRecursion}
 use Rattle.std.proofs.lemmas.List.{append-nil, map-append}
 use Rattle.ex_base.specs.declared.names.Place.{Place}
@@ -9,43 +8,27 @@ use Rattle.ex_base.proofs.Rows.{each-append}
 use Rattle.slotted_pages.specs.FilePage.{FilePage, SlotsOf, Slot}
 use Rattle.slotted_pages.specs.Reads.{Viewed, viewed_on, page_on}
 use Rattle.slotted_pages.proofs.PageLaws.{page_read_is}
-use Rattle.object_records.specs.declared.State.{State}
-use Rattle.object_records.specs.declared.State.TheVariants.{Current, Frozen}
-use Rattle.object_records.specs.Record.{Record, BodyOf, Content, Small, Large, IsContent, IsRootField, NewerFits}
+use Rattle.object_records.specs.declared.Head.{Head}
+use Rattle.object_records.specs.Record.{Record, BodyOf, Content, Small, Large, IsContent, IsRootField}
 use Rattle.object_records.specs.Reads.{record_on}
 use Rattle.object_records.proofs.RecordLaws.{record_read}
 use Rattle.volume_model.specs.Parts.{bodies_from}
-use Rattle.file_walk.specs.declared.Found.{Found}
-use Rattle.file_walk.specs.Parts.{root_found}
-use Rattle.file_walk.specs.Records.{HasRootFields, AreRooted, IsGoodRecord, IsGoodRow, found_at, AddsRows, ShowsFile}
+use Rattle.file_walk.specs.declared.records.Standing.{Standing}
+use Rattle.file_walk.specs.Objects.{root_found}
+use Rattle.file_walk.specs.Records.{AreRooted, HasFields, IsGoodRow, standing_at, AddsRows, ShowsFile}
 
 -- ---- one record
 
-pub current_or_frozen : (s : State) → (s ≡ Current) ⊎ (s ≡ Frozen)
-current_or_frozen Current = inl refl
-current_or_frozen Frozen = inr refl
+pub good_row : (place : Place) (body : List ℕ) (r : Record) → BodyOf body r → IsGoodRow (place, body)
+good_row place body r is = subst (BodyOf body) (sym (record_read body r is)) is
 
-pub some_isnt : {A : Type 0} (o : Option A) → is_some o ≡ true → o ≡ None → ⊥
-some_isnt None e n = absurd (let f : false ≡ true = e in cc)
-some_isnt (Some x) e n = absurd cc
-
--- a body is one record alone
-pub one_record : (body : List ℕ) (r s : Record) → BodyOf body r → BodyOf body s → r ≡ s
-one_record body r s one other = sym (record_read body r one) ∙ record_read body s other
-
-pub good_record : (body : List ℕ) (r : Record) → BodyOf body r → r.head.state ≡ Current → r.head.older ≡ None → IsGoodRecord body (record_on body)
-good_record body r is current oldest =
-    let newest : NewerFits Current r.head.newer = subst (λ (s : State). NewerFits s r.head.newer) current is.fits.newer_fits in
-    let good : IsGoodRecord body r = record { spelled = is; current = current; oldest = oldest; newest = newest } in
-    subst (IsGoodRecord body) (sym (record_read body r is)) good
-
-pub found_is : (place : Place) (body : List ℕ) (r : Record) (unique : ℕ) (root : Option Root) → BodyOf body r → unique ≡ r.head.unique → root ≡ root_found r.content → record { place = place; unique = unique; root = root } ≡ found_at (place, body)
-found_is place body r unique root is same_unique same_root =
-    let one : Found = record { place = place; unique = unique; root = root } in
-    let from_record : Record → Found = λ x. record { place = place; unique = x.head.unique; root = root_found x.content } in
-    let to_unique : one ≡ record { place = place; unique = r.head.unique; root = root } = ap (λ (n : ℕ). record { place = place; unique = n; root = root }) same_unique in
-    let to_root : record { place = place; unique = r.head.unique; root = root } ≡ from_record r = ap (λ (o : Option Root). record { place = place; unique = r.head.unique; root = o }) same_root in
-    to_unique ∙ to_root ∙ ap from_record (sym (record_read body r is))
+pub standing_is : (place : Place) (body : List ℕ) (r : Record) (head : Head) (root : Option Root) → BodyOf body r → head ≡ r.head → root ≡ root_found r.content
+    → record { linked = record { place = place; head = head }; root = root } ≡ standing_at (place, body)
+standing_is place body r head root is same_head same_root =
+    ap (λ (h : Head). made h root) same_head ∙ ap (made r.head) same_root ∙ ap (λ (x : Record). made x.head (root_found x.content)) (sym (record_read body r is))
+  where
+    made : Head → Option Root → Standing
+    made h o = record { linked = record { place = place; head = h }; root = o }
 
 -- a good record has the fields of a root where it has one
 good_rooted : (r : Record) (root : Root) → IsContent r.content → root_found r.content ≡ Some root → IsRootField root
@@ -55,22 +38,25 @@ good_rooted r root content is = content_rooted r.content root content is
     content_rooted (Small bytes) root content is = absurd (cc)
     content_rooted (Large other) root content is = let same : other ≡ root = cc in subst IsRootField same content
 
-rows_rooted : (rows : List (Place × List ℕ)) → AllByRecursion IsGoodRow rows → AreRooted (map found_at rows)
+rows_rooted : (rows : List (Place × List ℕ)) → AllByRecursion IsGoodRow rows → AreRooted (map standing_at rows)
 rows_rooted [] good = tt
-rows_rooted (row ∷ rows) good = ((λ root is. good_rooted (record_on row.1) root good.0.spelled.fits.content is), rows_rooted rows good.1)
+rows_rooted (row ∷ rows) good = ((λ root is. good_rooted (record_on row.1) root good.0.fits.content is), rows_rooted rows good.1)
 
-pub adds_rooted : (old new : List Found) (rows : List (Place × List ℕ)) → AddsRows old new rows → AreRooted old → AreRooted new
-adds_rooted old new rows adds rooted = subst AreRooted (sym adds.records) (each-append HasRootFields old (map found_at rows) rooted (rows_rooted rows adds.good))
+abbrev IsRooted : Standing → Type 0
+IsRooted x = HasFields x.root
+
+pub adds_rooted : (old new : List Standing) (rows : List (Place × List ℕ)) → AddsRows old new rows → AreRooted old → AreRooted new
+adds_rooted old new rows adds rooted = subst AreRooted (sym adds.records) (each-append IsRooted old (map standing_at rows) rooted (rows_rooted rows adds.good))
 
 -- ---- records gathered
 
 -- records were gathered of rows, of which these are left
-pub record RowsTo (old now : List Found) (all left : List (Place × List ℕ)) : Type 0 where
-  pub records : old ++ map found_at all ≡ now ++ map found_at left
+pub record RowsTo (old now : List Standing) (all left : List (Place × List ℕ)) : Type 0 where
+  pub records : old ++ map standing_at all ≡ now ++ map standing_at left
   pub each : AllByRecursion IsGoodRow left → AllByRecursion IsGoodRow all
   pub rest : AllByRecursion IsGoodRow all → AllByRecursion IsGoodRow left
 
-pub rows_start : (old : List Found) (all : List (Place × List ℕ)) → RowsTo old old all all
+pub rows_start : (old : List Standing) (all : List (Place × List ℕ)) → RowsTo old old all all
 rows_start old all = record { records = refl; each = λ h. h; rest = λ h. h }
 
 pub good_front : (xs ys : List (Place × List ℕ)) → AllByRecursion IsGoodRow (xs ++ ys) → AllByRecursion IsGoodRow xs
@@ -81,20 +67,20 @@ pub good_back : (xs ys : List (Place × List ℕ)) → AllByRecursion IsGoodRow 
 good_back [] ys h = h
 good_back (x ∷ xs) ys h = good_back xs ys h.1
 
-pub rows_step : (old now next : List Found) (all rows left : List (Place × List ℕ)) → RowsTo old now all (rows ++ left) → AddsRows now next rows → RowsTo old next all left
+pub rows_step : (old now next : List Standing) (all rows left : List (Place × List ℕ)) → RowsTo old now all (rows ++ left) → AddsRows now next rows → RowsTo old next all left
 rows_step old now next all rows left to adds = record {
-  records = to.records ∙ ap (λ (t : List Found). now ++ t) (map-append found_at rows left) ∙ sym (append_assoc now (map found_at rows) (map found_at left)) ∙ ap (λ (t : List Found). t ++ map found_at left) (sym adds.records);
+  records = to.records ∙ ap (λ (t : List Standing). now ++ t) (map-append standing_at rows left) ∙ sym (append_assoc now (map standing_at rows) (map standing_at left)) ∙ ap (λ (t : List Standing). t ++ map standing_at left) (sym adds.records);
   each = λ h. to.each (each-append IsGoodRow rows left adds.good h);
   rest = λ h. good_back rows left (to.rest h);
 }
 
-pub rows_end : (old now : List Found) (all : List (Place × List ℕ)) → RowsTo old now all [] → AddsRows old now all
+pub rows_end : (old now : List Standing) (all : List (Place × List ℕ)) → RowsTo old now all [] → AddsRows old now all
 rows_end old now all to = record { good = to.each tt; records = sym (to.records ∙ append-nil now) }
 
-pub rows_bad : (old now : List Found) (all rows left : List (Place × List ℕ)) → RowsTo old now all (rows ++ left) → (AllByRecursion IsGoodRow rows → ⊥) → AllByRecursion IsGoodRow all → ⊥
+pub rows_bad : (old now : List Standing) (all rows left : List (Place × List ℕ)) → RowsTo old now all (rows ++ left) → (AllByRecursion IsGoodRow rows → ⊥) → AllByRecursion IsGoodRow all → ⊥
 rows_bad old now all rows left to never good = never (good_front rows left (to.rest good))
 
-pub rows_as : (old now : List Found) (all left same : List (Place × List ℕ)) → left ≡ same → RowsTo old now all left → RowsTo old now all same
+pub rows_as : (old now : List Standing) (all left same : List (Place × List ℕ)) → left ≡ same → RowsTo old now all left → RowsTo old now all same
 rows_as old now all left same e to = subst (RowsTo old now all) e to
 
 -- ---- the slots of a page

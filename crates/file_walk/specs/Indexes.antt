@@ -3,6 +3,7 @@ use Rattle.std.specs.Prelude.{◌≡◌, ◌≤◌, ◌+◌, ℕ, Bool, List, �
 use Rattle.std.specs.List.{flat_map, AllByRecursion}
 use Rattle.ex_base.specs.declared.geometry.Geometry.{Geometry}
 use Rattle.ex_base.specs.Area.{InPageArea}
+use Rattle.ex_base.specs.Order.{Rising}
 use Rattle.ex_base.specs.Ports.{times}
 use Rattle.page_alloc.specs.UnitSet.{UnitSet}
 use Rattle.file_index.specs.Changes.{count_of}
@@ -66,6 +67,10 @@ pub record IsWalked (g : Geometry) (units : Units) (entry : FileEntry) (file : F
 -- the file's pages with records, and those of its index, lie in the page area
 abbrev pub IsInArea : Geometry → FilePages → Type 0
 IsInArea g file = AllByRecursion (InPageArea g) (page_numbers file.numbers.items) × AllByRecursion (InPageArea g) (page_numbers file.index_pages.items)
+
+-- the numbers of a file's pages with records rise
+abbrev pub HasRisingPages : FilePages → Type 0
+HasRisingPages file = Rising (page_numbers file.numbers.items)
 
 -- The indexes of the entries are whole, and name each of their pages once and none that is used.
 pub record AreFreeIndexes (g : Geometry) (units : Units) (used : ℕ → Bool) (entries : List FileEntry) : Type 0 where

@@ -1,4 +1,5 @@
 pub mod Walk
+pub mod Objects
 pub mod Parts
 pub mod Indexes
 pub mod Records

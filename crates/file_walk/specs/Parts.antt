@@ -1,18 +1,17 @@
 -- The parts of a volume that its files hold, and which of them fails first.
-use Rattle.std.specs.Prelude.{◌≡◌, ◌≤◌, ℕ, List, map, Option, Some, None}
+use Rattle.std.specs.Prelude.{◌≡◌, ℕ, List, map}
 use Rattle.std.specs.List.{flat_map, AllByRecursion, AllZip}
 use Rattle.ex_base.specs.declared.geometry.Geometry.{Geometry}
-use Rattle.ex_base.specs.declared.names.Root.{Root}
-use Rattle.ex_base.specs.Order.{InOrder, AllDiffer}
-use Rattle.object_records.specs.Record.{Content, Small, Large}
+use Rattle.ex_base.specs.declared.names.Place.{Place}
+use Rattle.ex_base.specs.Order.{AllDiffer}
 use Rattle.object_files.specs.Catalog.{FileEntry}
 use Rattle.session_views.specs.declared.part.Part.{Part}
 use Rattle.session_views.specs.declared.part.Part.TheVariants.{File, Page, Body}
 use Rattle.trees.specs.Trees.{Units}
-use Rattle.volume_model.specs.Volume.{Stored, FileContent, pages_of_file, line_number}
-use Rattle.volume_model.specs.Parts.{HasIndex, HasPages, HasLines}
-use Rattle.file_walk.specs.declared.Found.{Found}
+use Rattle.volume_model.specs.Volume.{Stored, FileContent, pages_of_file}
+use Rattle.volume_model.specs.Parts.{HasIndex, HasPages, HasBodies}
 use Rattle.file_walk.specs.declared.WalkedFiles.{WalkedFiles}
+use Rattle.file_walk.specs.Objects.{AreObjects, found_of}
 use Rattle.file_walk.specs.Walk.{page_numbers}
 
 -- Each file's index is whole, and no page is named twice.
@@ -24,9 +23,9 @@ pub record HasFilePart (g : Geometry) (units : Units) (entries : List FileEntry)
 abbrev pub HasPagePart : Units → List FileEntry → List FileContent → Type 0
 HasPagePart units entries files = AllZip (HasPages units) entries files
 
--- Each record is in its grammar, and an object of its own.
+-- Each record is in its grammar, and names records of its file as its older and its newer one.
 abbrev pub HasBodyPart : List FileContent → Type 0
-HasBodyPart files = AllByRecursion HasLines files
+HasBodyPart files = AllByRecursion HasBodies files
 
 -- the files' parts that are tested before a part
 abbrev pub FirstParts : Geometry → Units → List FileEntry → List FileContent → Part → Type 0
@@ -47,25 +46,17 @@ pub record IsBadFiles (g : Geometry) (units : Units) (entries : List FileEntry) 
   pub earlier : FirstParts g units entries files part
   pub fails : (files : List FileContent) → FirstParts g units entries files part → ThisPart g units entries files part → ⊥
 
--- the root of a large record
-abbrev pub root_found : Content → Option Root
-root_found (Small bytes) = None
-root_found (Large root) = Some root
+-- all records, file by file
+abbrev pub stored_of : List FileContent → List Stored
+stored_of files = flat_map (λ (file : FileContent). file.stored) files
 
--- a record as the walk lists it
-abbrev pub found_of : Stored → Found
-found_of s = record { place = s.place; unique = s.body.head.unique; root = root_found s.body.content }
-
--- the objects of a file stand in order of their numbers
-abbrev pub IsListed : FileContent → Type 0
-IsListed file = InOrder (λ (x y : ℕ). x ≤ y) (map line_number file.lines)
-
--- The files have all three parts, and these are their pages and their records.
+-- The files have all three parts, and these are their pages and their records, each with its object.
 pub record HasWalked (g : Geometry) (units : Units) (entries : List FileEntry) (walked : WalkedFiles) : Type 0 where
   pub files : List FileContent
   pub file : HasFilePart g units entries files
   pub page : HasPagePart units entries files
   pub body : HasBodyPart files
-  pub listed : AllByRecursion IsListed files
   pub pages : page_numbers walked.pages.items ≡ flat_map pages_of_file files
-  pub records : walked.records.items ≡ map found_of (flat_map (λ (file : FileContent). file.stored) files)
+  pub object : Place → ℕ
+  pub objects : AreObjects (stored_of files) object
+  pub records : walked.records.items ≡ map (found_of object) (stored_of files)

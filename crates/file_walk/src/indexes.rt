@@ -9,7 +9,7 @@ ghost use Rattle.file_index.specs.Index.{IsFilesPage};
 ghost use Rattle.object_files.specs.Reads.{entry_of};
 ghost use Rattle.trees.specs.Trees.{Units as Images};
 ghost use Rattle.file_walk.specs.Walk.{Tells, page_numbers, CountsUsed, KeepsUnits};
-ghost use Rattle.file_walk.specs.Indexes.{IsFreeIndex, IsFreeRoot, AddsIndex, AddsRoot, AddsPages, IsWalked, IsInArea, AreFreeIndexes, walked_pages};
+ghost use Rattle.file_walk.specs.Indexes.{HasRisingPages, IsFreeIndex, IsFreeRoot, AddsIndex, AddsRoot, AddsPages, IsWalked, IsInArea, AreFreeIndexes, walked_pages};
 
 use crate::named::{Named, entries_at, has_key};
 use ex_base::{PageNo, PortFault, ReadPages};
@@ -172,6 +172,7 @@ fn walk_index<P: ReadPages>(
     ensures used { IfOk result
         (λ found. IfSome found (λ file. CountsUsed units.old units.new [] (walked_pages file))) }
     ensures area { IfOk result (λ found. IfSome found (IsInArea (P.geometry pages.old))) }
+    ensures rising { IfOk result (λ found. IfSome found HasRisingPages) }
     ensures bad { IfOk result (λ found. IfNone found ((images : Images)
         → Tells P.Ground pages.old images
         → AreFreeIndexes (P.geometry pages.old) images (used_at units.old) (entry_of entry.now ∷ [])
@@ -217,6 +218,8 @@ pub fn walk_indexes<P: ReadPages>(
     ensures area { IfOk result
         (λ found. IfSome found (λ files. AllByRecursion
         (IsInArea (P.geometry pages.old)) files.items)) }
+    ensures rising { IfOk result
+        (λ found. IfSome found (λ files. AllByRecursion HasRisingPages files.items)) }
     ensures len { IfOk result (λ found. IfSome found (λ files. length files.items
         ≡ length catalog.now.entries)) }
     ensures bad { IfOk result (λ found. IfNone found ((images : Images)

@@ -1,27 +1,36 @@
 //! The pages with records of all files, and the records on them.
-ghost use Rattle.std.specs.Prelude.{◌≡◌, ◌≤◌, ℕ, false, length, IfOk, IfErr, IfSome, IfNone, OnSome, IsTrue};
-ghost use Rattle.std.specs.List.{AllByRecursion, AllZip, flat_map};
+ghost use Rattle.std.specs.Prelude.{◌≡◌, ◌≤◌, ◌+◌, ℕ, [], false, length, IfOk, IfErr, IfSome, IfNone, OnSome, IsTrue};
+ghost use Rattle.std.specs.List.{AllByRecursion};
 ghost use Rattle.ex_base.specs.Area.{InPageArea};
+ghost use Rattle.ex_base.specs.Order.{Rising};
 ghost use Rattle.ex_base.specs.Ports.{Keeps, HasCause, IsDamage};
 ghost use Rattle.slotted_pages.specs.Reads.{page_on, viewed_on};
 ghost use Rattle.slotted_pages.specs.FilePage.{FilePage, SlotsOf};
-ghost use Rattle.object_records.specs.Record.{Record};
+ghost use Rattle.object_records.specs.Record.{BodyOf, Record};
+ghost use Rattle.record_links.specs.Links.{InPlaceOrder};
 ghost use Rattle.object_records.specs.Reads.{content_of};
 ghost use Rattle.object_files.specs.Reads.{entry_of};
 ghost use Rattle.trees.specs.Trees.{Units as Images};
-ghost use Rattle.volume_model.specs.Parts.{bodies_from, HasPage};
+ghost use Rattle.volume_model.specs.Parts.{bodies_from};
 ghost use Rattle.file_walk.specs.Walk.{Tells, page_numbers};
 ghost use Rattle.file_walk.specs.Indexes.{IsInArea};
-ghost use Rattle.file_walk.specs.Parts.{root_found};
-ghost use Rattle.file_walk.specs.Records.{IsGoodRecord, IsGoodRow, found_at, rows_on, rows_among, IsPageOf, AddsRows, AreRooted, ShowsFile, AreFilePages, rows_of};
+ghost use Rattle.file_walk.specs.Objects.{StandBefore, links_of, root_found};
+ghost use Rattle.file_walk.specs.Records.{IsGoodRow, standing_at, rows_on, rows_among, IsPageOf, AddsRows, AreRooted, ShowsFile, AreFilePages, rows_of};
 
-use crate::Found;
 use crate::indexes::FilePages;
 use ex_base::{PageNo, Place, PortFault, ReadPages, Root};
-use object_files::{CatalogView, Entry};
-use object_records::{Payload, RecordView, State};
+use object_files::Entry;
+use object_records::{Payload, RecordView};
+use record_links::Linked;
 use slotted_pages::SlottedView;
 use std::alloc::{AllocError, Global};
+
+/// A record of a file that is read: where it stands and its head, and the root of a large one.
+#[derive(Clone, Copy, Debug)]
+pub struct Standing {
+    pub linked: Linked,
+    pub root: Option<Root>,
+}
 
 /// The root of a large record.
 fn root_in(payload: Payload) -> Option<Root>
@@ -33,42 +42,41 @@ fn root_in(payload: Payload) -> Option<Root>
     }
 }
 
-/// The record of a body at a place. None where the body is none, or isn't the only version of its object.
-fn found_in(place: Place, body: &[u8]) -> Option<Found>
+/// The record of a body at a place. None where the body is none.
+fn standing_in(place: Place, body: &[u8]) -> Option<Standing>
     ensures good { OnSome result (IsGoodRow (place, body.now)) }
-    ensures found { IfSome result (λ found. found ≡ found_at (place, body.now)) }
-    ensures none { IfNone result ((r : Record) → IsGoodRecord body.now r → ⊥) }
+    ensures found { IfSome result (λ found. found ≡ standing_at (place, body.now)) }
+    ensures none { IfNone result ((r : Record) → BodyOf body.now r → ⊥) }
 {
     let record = RecordView::of(body)?;
-    let head = record.head();
-    if head.state != State::Current || head.older.is_some() {
-        return None;
-    }
-    Some(Found {
+    let linked = Linked {
         place,
-        unique: head.unique,
-        root: root_in(record.payload()),
-    })
+        head: record.head(),
+    };
+    let root = root_in(record.payload());
+    Some(Standing { linked, root })
 }
 
 /// Adds the records of a page. False where one of its bodies is no good record.
 fn add_records(
     page: PageNo,
     view: &SlottedView,
-    records: &mut Vec<Found>,
+    records: &mut Vec<Standing>,
 ) -> Result<bool, AllocError>
     ensures good { IfOk result (λ good. IsTrue good
         → AddsRows records.old.items records.new.items (bodies_from page.0 0 view.now.page.slots)) }
     ensures bad { IfOk result (λ good. good ≡ false
         → AllByRecursion IsGoodRow (bodies_from page.0 0 view.now.page.slots) → ⊥) }
+    ensures order { IfOk result (λ good. IsTrue good → StandBefore records.old.items page.0 0
+        → StandBefore records.new.items (page.0 + 1) 0) }
 {
     for slot in 0..view.slots() {
         let Some(body) = view.body(slot) else {
             continue;
         };
-        match found_in(Place { page, slot }, body) {
+        match standing_in(Place { page, slot }, body) {
             None => return Ok(false),
-            Some(found) => records.push(found)?,
+            Some(standing) => records.push(standing)?,
         }
     }
     Ok(true)
@@ -94,7 +102,7 @@ fn read_page<P: ReadPages>(
     alloc: Global,
     page: PageNo,
     entry: &Entry,
-    records: &mut Vec<Found>,
+    records: &mut Vec<Standing>,
 ) -> Result<Option<bool>, PortFault>
     requires ready { P.ready pages.old }
     requires area { InPageArea (P.geometry pages.old) page.0 }
@@ -110,6 +118,8 @@ fn read_page<P: ReadPages>(
     ensures bad { IfOk result (λ found. IfSome found (λ good. good ≡ false → (images : Images)
         → Tells P.Ground pages.old images
         → AllByRecursion IsGoodRow (rows_on images page.0) → ⊥)) }
+    ensures order { IfOk result (λ found. IfSome found (λ good. IsTrue good
+        → StandBefore records.old.items page.0 0 → StandBefore records.new.items (page.0 + 1) 0)) }
     ensures no_damage { IfErr result (λ fault. IsDamage fault → ⊥) }
     ensures kept { Keeps P.Ground pages.old pages.new }
     ensures cause { HasCause (P.faults pages.old) (P.faults pages.new) result }
@@ -122,12 +132,12 @@ fn read_page<P: ReadPages>(
 }
 
 /// Adds the records of the file of an entry. None where a page isn't one of the file; false where a body is no good record.
-fn read_file<P: ReadPages>(
+pub(crate) fn read_file<P: ReadPages>(
     pages: &mut P,
     alloc: Global,
     entry: &Entry,
     file: &FilePages,
-    records: &mut Vec<Found>,
+    records: &mut Vec<Standing>,
 ) -> Result<Option<bool>, PortFault>
     requires ready { P.ready pages.old }
     requires area { IsInArea (P.geometry pages.old) file.now }
@@ -144,6 +154,9 @@ fn read_file<P: ReadPages>(
     ensures bad { IfOk result (λ found. IfSome found (λ good. good ≡ false → (images : Images)
         → Tells P.Ground pages.old images
         → AllByRecursion IsGoodRow (rows_of images file.now) → ⊥)) }
+    ensures order { IfOk result (λ found. IfSome found (λ good. IsTrue good
+        → Rising (page_numbers file.now.numbers.items) → records.old.items ≡ []
+        → InPlaceOrder (links_of records.new.items))) }
     ensures no_damage { IfErr result (λ fault. IsDamage fault → ⊥) }
     ensures kept { Keeps P.Ground pages.old pages.new }
     ensures cause { HasCause (P.faults pages.old) (P.faults pages.new) result }
@@ -156,52 +169,6 @@ fn read_file<P: ReadPages>(
             Err(fault) => return Err(fault),
         };
         if page_good {
-            continue;
-        }
-        good = false;
-    }
-    Ok(Some(good))
-}
-
-/// Adds the records of all files. None where a page isn't one of its file; false where a body is no good record.
-pub fn read_files<P: ReadPages>(
-    pages: &mut P,
-    alloc: Global,
-    catalog: &CatalogView,
-    files: &[FilePages],
-    records: &mut Vec<Found>,
-) -> Result<Option<bool>, PortFault>
-    requires ready { P.ready pages.old }
-    requires area { AllByRecursion (IsInArea (P.geometry pages.old)) files.now }
-    requires len { length files.now ≡ length catalog.now.entries }
-    ensures of_files { IfOk result (λ found. OnSome found ((images : Images)
-        → Tells P.Ground pages.old images
-        → AllZip (AreFilePages images) catalog.now.entries files.now)) }
-    ensures none { IfOk result (λ found. IfNone found ((images : Images)
-        → Tells P.Ground pages.old images
-        → AllZip (AreFilePages images) catalog.now.entries files.now → ⊥)) }
-    ensures good { IfOk result (λ found. IfSome found (λ good. IsTrue good → (images : Images)
-        → Tells P.Ground pages.old images
-        → AddsRows records.old.items records.new.items (flat_map (rows_of images) files.now))) }
-    ensures roots { IfOk result (λ found. IfSome found (λ good. IsTrue good
-        → AreRooted records.old.items → AreRooted records.new.items)) }
-    ensures bad { IfOk result (λ found. IfSome found (λ good. good ≡ false → (images : Images)
-        → Tells P.Ground pages.old images
-        → AllByRecursion IsGoodRow (flat_map (rows_of images) files.now) → ⊥)) }
-    ensures no_damage { IfErr result (λ fault. IsDamage fault → ⊥) }
-    ensures kept { Keeps P.Ground pages.old pages.new }
-    ensures cause { HasCause (P.faults pages.old) (P.faults pages.new) result }
-{
-    let mut good = true;
-    for at in 0..catalog.len() {
-        let entry = catalog.entry(at);
-        let file = &files[at as usize];
-        let file_good = match read_file(pages, alloc, &entry, file, records) {
-            Ok(Some(file_good)) => file_good,
-            Ok(None) => return Ok(None),
-            Err(fault) => return Err(fault),
-        };
-        if file_good {
             continue;
         }
         good = false;

@@ -13,8 +13,8 @@ ghost use Rattle.file_walk.specs.Parts.{HasWalked, IsBadFiles};
 ghost use Rattle.file_walk.specs.Walk.{Tells, page_numbers, KeepsUnits, IsCause};
 
 use crate::WalkedFiles;
+use crate::files::read_files;
 use crate::indexes::{FilePages, walk_indexes};
-use crate::records::read_files;
 use ex_base::{PageNo, PortFault, ReadPages};
 use object_files::CatalogView;
 use page_alloc::Units;
@@ -46,8 +46,8 @@ fn pages_of(alloc: Global, files: &[FilePages]) -> Result<Vec<PageNo>, AllocErro
     Ok(pages)
 }
 
-/// Walks over all files of a catalog: tests their indexes, then their pages and last the records on them, and lists their pages and records. Each page of a
-/// file comes into use.
+/// Walks over all files of a catalog: tests their indexes, then their pages and last the records on them and their links, and lists their pages and
+/// records. Each page of a file comes into use.
 pub fn walk_files<P: ReadPages>(
     pages: &mut P,
     alloc: Global,

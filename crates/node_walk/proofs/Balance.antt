@@ -10,12 +10,7 @@ use Rattle.trees.specs.Shape.{IsHalfFull, IsRoot}
 use Rattle.trees.specs.Trees.{Units, IsNamed, HasSize, EachChild, for_each_child, shape_on}
 use Rattle.trees.specs.declared.rows.Part.{Part}
 use Rattle.trees.specs.Rows.{parts_of}
-use Rattle.node_walk.specs.declared.least.Least.{Least}
-use Rattle.node_walk.specs.Walk.{IsFull, below_least}
-
--- the least of a root
-abbrev pub root_least : Least
-root_least = record { pairs = 2; bytes = 1 }
+use Rattle.node_walk.specs.Walk.{IsFull, below_least, root_least}
 
 -- a leaf has some bytes
 half_some : (g : Geometry) → 1 ≤ leaf_bytes g / 2

@@ -2,19 +2,18 @@
 use Rattle.std.proofs.Common.{◌≡◌, ◌≢◌, ◌⊎◌, ◌≤◌, ◌+◌, ℕ, zero, suc, Bool, true, false, List, [], ◌∷◌, ◌++◌, map, min, eqb, eq-eqb, inl, inr, refl, sym, ap, subst, ◌∙◌, true≢false, arith}
 use Rattle.std.proofs.lemmas.Grind.{flat_map-append}
 use Rattle.ex_base.specs.declared.geometry.Geometry.{Geometry}
-use Rattle.ex_base.specs.Area.{InPageArea, IsUnit}
+use Rattle.ex_base.specs.Area.{InPageArea}
 use Rattle.ex_base.specs.Ports.{times, refs_most}
-use Rattle.ex_base.proofs.Rows.{each-append}
 use Rattle.ex_base.proofs.Counts.{none_or_some, same_or_not, not_equal, times-append, times_here, times_apart}
 use Rattle.count_nodes.specs.declared.Pair.{Pair}
 use Rattle.count_nodes.specs.Names.{page_of_pair}
 use Rattle.count_nodes.specs.Node.{pairs_on}
-use Rattle.trees.specs.Owners.{StandsAt, IsInner, named_on, all_named}
+use Rattle.trees.specs.Owners.{StandsAt, named_on, all_named}
 use Rattle.trees.specs.Trees.{Units}
 use Rattle.trees.specs.declared.rows.Part.{Part}
 use Rattle.trees.specs.Rows.{parts_of}
 use Rattle.node_walk.specs.declared.nodes.Met.{Met}
-use Rattle.node_walk.specs.Counts.{Came, Counts, CountsMet, CountsTrees, counted_at}
+use Rattle.node_walk.specs.Counts.{Came, Counts, CountsMet, counted_at}
 use Rattle.node_walk.specs.Walk.{Notes, IsKnown, MetAgain, MetFirst, Meets, row_at}
 use Rattle.node_walk.proofs.Levels.{page_or_leaf}
 
@@ -49,12 +48,12 @@ pub counted_else : (refs : ℕ → ℕ) (page unit : ℕ) → unit ≢ page → 
 counted_else refs page unit differ = let test : eqb unit page ≡ false = not_equal unit page differ in rw test refl
 
 module _ (g : Geometry) (u : Units) where
-  named_more : (unit : ℕ) (xs ys : List ℕ) → times unit (all_named u (xs ++ ys)) ≡ times unit (all_named u xs) + times unit (all_named u ys)
+  pub named_more : (unit : ℕ) (xs ys : List ℕ) → times unit (all_named u (xs ++ ys)) ≡ times unit (all_named u xs) + times unit (all_named u ys)
   named_more unit xs ys = ap (times unit) (flat_map-append (named_on u) xs ys) ∙ times-append unit (all_named u xs) (all_named u ys)
 
   -- ---- walks that follow on one another
 
-  pub counts_none : (used : ℕ → Bool) (refs : ℕ → ℕ) → ((unit : ℕ) → refs unit ≤ refs_most) → Counts g u [] used refs used refs
+  unfoldable pub counts_none : (used : ℕ → Bool) (refs : ℕ → ℕ) → ((unit : ℕ) → refs unit ≤ refs_most) → Counts g u [] used refs used refs
   counts_none used refs few = record {
     nodes = [];
     still = λ unit is. is;
@@ -73,7 +72,7 @@ module _ (g : Geometry) (u : Units) where
         by true was = absurd (both (mid p) (one.still p was) is)
         by false was = was
 
-    once_both : (page : ℕ) → times page one.nodes + times page two.nodes ≤ 1
+    pub once_both : (page : ℕ) → times page one.nodes + times page two.nodes ≤ 1
     once_both page = elim (none_or_some (times page one.nodes)) [
       | inl none ↦ omega (arith, none, two.once page)
       | inr some ↦ elim (none_or_some (times page two.nodes)) [
@@ -82,13 +81,13 @@ module _ (g : Geometry) (u : Units) where
       ]
     ]
 
-    came_both : (page : ℕ) → 1 ≤ times page one.nodes + times page two.nodes → Came used after page × InPageArea g page
+    pub came_both : (page : ℕ) → 1 ≤ times page one.nodes + times page two.nodes → Came used after page × InPageArea g page
     came_both page some = elim (none_or_some (times page one.nodes)) [
       | inr first ↦ let is = one.came page first in ((is.0.0, two.still page is.0.1), is.1)
       | inl none ↦ let is = two.came page (omega (arith, some, none)) in ((free_first page is.0.0, is.0.1), is.1)
     ]
 
-    pub counts_more : Counts g u (names ++ more) used refs after later
+    unfoldable pub counts_more : Counts g u (names ++ more) used refs after later
     counts_more = record {
       nodes = one.nodes ++ two.nodes;
       still = λ unit is. two.still unit (one.still unit is);
@@ -269,43 +268,3 @@ module _ (g : Geometry) (u : Units) where
       ]
     ];
   }
-
-  -- ---- whole trees
-
-  pub trees_none : (used : ℕ → Bool) (refs : ℕ → ℕ) → ((unit : ℕ) → refs unit ≤ refs_most) → CountsTrees g u [] used refs used refs
-  unfolding counts_none
-  trees_none used refs few = record {
-    counts = counts_none used refs few;
-    inner = tt;
-    others = λ unit is. refl;
-    once = λ unit. omega arith;
-    roots = λ unit some. absurd (omega (arith, some));
-  }
-
-  module _ (names more : List ℕ) (used mid after : ℕ → Bool) (refs between later : ℕ → ℕ) (one : CountsTrees g u names used refs mid between) (two : CountsTrees g u more mid between after later) where
-    roots_once : (unit : ℕ) → times unit names + times unit more ≤ 1
-    roots_once unit = elim (none_or_some (times unit names)) [
-      | inl none ↦ omega (arith, none, two.once unit)
-      | inr some ↦ elim (none_or_some (times unit more)) [
-        | inl none ↦ omega (arith, none, one.once unit)
-        | inr again ↦ absurd (both (mid unit) (one.roots unit some).0.1 (two.roots unit again).0.0)
-      ]
-    ]
-
-    roots_came : (unit : ℕ) → 1 ≤ times unit names + times unit more → Came used after unit × IsUnit g unit
-    roots_came unit some = elim (none_or_some (times unit names)) [
-      | inr first ↦ let is = one.roots unit first in ((is.0.0, two.counts.still unit is.0.1), is.1)
-      | inl none ↦
-          let is = two.roots unit (omega (arith, some, none)) in
-          ((free_first names more used mid after refs between later one.counts two.counts unit is.0.0, is.0.1), is.1)
-    ]
-
-    pub trees_more : CountsTrees g u (names ++ more) used refs after later
-    unfolding counts_more
-    trees_more = record {
-      counts = counts_more names more used mid after refs between later one.counts two.counts;
-      inner = each-append (IsInner g u) one.counts.nodes two.counts.nodes one.inner two.inner;
-      others = λ unit is. two.others unit (one.counts.still unit is) ∙ one.others unit is;
-      once = λ unit. omega (arith, roots_once unit, times-append unit names more);
-      roots = λ unit some. roots_came unit (omega (arith, some, times-append unit names more));
-    }

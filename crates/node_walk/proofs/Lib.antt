@@ -6,7 +6,11 @@ pub mod Facts
 pub mod Tracking
 pub mod Loops
 pub mod Marks
-pub mod Whole
 pub mod Balance
+pub mod Whole
+pub mod Trees
+pub mod Grouped
+pub mod CountedTrees
 pub mod Roots
 pub mod Owning
+pub mod Regrouped

@@ -1,27 +1,18 @@
 -- Trees that were counted own their units.
-use Rattle.std.proofs.Common.{◌≡◌, ◌≤◌, ◌<◌, ◌+◌, ◌*◌, inl, inr, ℕ, Bool, true, List, length, min, refl, sym, ap, ◌∙◌, true≢false, arith}
-use Rattle.std.proofs.Math.Nat.{mul-le-mul, mul-le-mul_right}
+use Rattle.std.proofs.Common.{◌≡◌, ◌≤◌, ◌+◌, inl, inr, ℕ, Bool, true, List, length, min, refl, sym, ap, ◌∙◌, true≢false, arith}
+use Rattle.std.proofs.lemmas.List.{length-map}
 use Rattle.ex_base.specs.declared.geometry.Geometry.{Geometry}
-use Rattle.ex_base.specs.Area.{InPageArea, IsUnit}
+use Rattle.ex_base.specs.Area.{InPageArea}
 use Rattle.ex_base.specs.Ports.{times, refs_most}
-use Rattle.ex_base.proofs.Counts.{contains_times, few_once, none_or_some}
-use Rattle.ex_base.proofs.Each.{each_from}
-use Rattle.trees.specs.Owners.{IsOwned, all_named}
+use Rattle.ex_base.proofs.Counts.{none_or_some}
+use Rattle.trees.specs.Owners.{IsOwned, all_named, root_pages}
 use Rattle.trees.specs.Trees.{Units}
 use Rattle.trees.proofs.FewOwners.{references_below_end}
+use Rattle.volume_model.proofs.FewRoots.{fewer_pages}
+use Rattle.volume_model.specs.OwnersMoved.{roots_most}
+use Rattle.node_walk.specs.declared.ObjectRoot.{ObjectRoot}
 use Rattle.node_walk.specs.Counts.{AreUsed, CountsTrees}
-
--- a unit has a number below this one
-abbrev units_end : Geometry → ℕ
-units_end g = 257 + (g.pages + g.segs * g.seg_len + 1)
-
-unit_below : (g : Geometry) (unit : ℕ) → IsUnit g unit → (257 ≤ unit) × (unit < units_end g)
-unit_below g unit is = elim is [
-  | inl area ↦ (area.0, omega (arith, area.1))
-  | inr leaf ↦
-      let inside = mul-le-mul_right {m = leaf.0} {n = g.segs} g.seg_len (omega (arith, leaf.1)) in
-      (omega (arith, leaf.2), omega (arith, leaf.2, inside))
-]
+use Rattle.node_walk.specs.TreesNamed.{tree_in, trees_in}
 
 module _ (g : Geometry) (u : Units) (names logged : List ℕ) (used after : ℕ → Bool) (refs later : ℕ → ℕ) (fresh : refs ≡ (λ _. 0)) (is_used : AreUsed used logged)
     (has_used : (unit : ℕ) → 1 ≤ later unit → after unit ≡ true) (h : CountsTrees g u names used refs after later) where
@@ -77,12 +68,9 @@ module _ (g : Geometry) (u : Units) (names logged : List ℕ) (used after : ℕ 
     apart = λ page has. omega (arith, used_unowned page ((is_used page).1 has), is page, counted_owners page);
   }
 
-  few_roots : length names ≤ 1500000000
-  few_roots =
-      let few = few_once 257 (g.pages + g.segs * g.seg_len + 1) names (each_from (λ unit. (257 ≤ unit) × (unit < units_end g)) names (λ unit here. unit_below g unit (h.roots unit (contains_times unit names here)).1)) h.once in
-      let room = mul-le-mul {n₁ = g.segs} {m₁ = g.seg_len} {n₂ = 4000000} {m₂ = 16} g.few_segs g.short in
-      omega (arith, few, room, g.few_pages)
-
   -- so few are the owners that each is counted
-  pub all_owned : IsOwned g u after later logged names
-  all_owned = owned_by later (λ unit. omega (arith, counted_owners unit, references_below_end g u after owners_of logged names unit (owned_by owners_of (λ q. refl)) few_roots))
+  pub all_owned : length names ≤ roots_most → IsOwned g u after later logged names
+  all_owned few = owned_by later (λ unit. omega (arith, counted_owners unit, references_below_end g u after owners_of logged names unit (owned_by owners_of (λ q. refl)) few))
+
+pub few_trees : (roots : List ObjectRoot) → length roots ≤ roots_most → length (root_pages (trees_in roots)) ≤ roots_most
+few_trees roots few = omega (arith, fewer_pages (trees_in roots), length-map roots tree_in, few)

@@ -42,12 +42,11 @@ pub record CountsMet (g : Geometry) (units : Units) (names : List ℕ) (used : �
   pub counts : Counts g units names used refs after later
   pub others : (unit : ℕ) → (later unit ≡ refs unit) ⊎ IsKnown noted unit
 
--- Whole trees were counted, whose roots have these names: each name is of a unit that came, and no two are the same. What was in use keeps its count.
+-- Whole trees were counted, whose roots have these names: each name is of a unit that came. What was in use keeps its count.
 pub record CountsTrees (g : Geometry) (units : Units) (names : List ℕ) (used : ℕ → Bool) (refs : ℕ → ℕ) (after : ℕ → Bool) (later : ℕ → ℕ) : Type 0 where
   pub counts : Counts g units names used refs after later
   pub inner : AllByRecursion (IsInner g units) counts.nodes
   pub others : (unit : ℕ) → used unit ≡ true → later unit ≡ refs unit
-  pub once : (unit : ℕ) → times unit names ≤ 1
   pub roots : (unit : ℕ) → 1 ≤ times unit names → Came used after unit × IsUnit g unit
 
 -- Each unit that has a note is one in use, and counts hold.

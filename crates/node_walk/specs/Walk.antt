@@ -1,8 +1,10 @@
 -- What the walk of a tree knows of the units that it met.
-use Rattle.std.specs.Prelude.{◌≡◌, ◌⊎◌, ℕ, zero, suc, ◌/◌, ◌≤◌, Bool, true, false, List, [], length, Option, Some, None, nat_eq, Contains}
+use Rattle.std.specs.Prelude.{◌≡◌, ◌⊎◌, ◌↔◌, ℕ, zero, suc, ◌/◌, ◌≤◌, Bool, true, false, List, [], ◌∷◌, length, Option, Some, None, nat_eq, Contains}
 use Rattle.std.specs.List.{AllByRecursion}
 use Rattle.ex_base.specs.declared.geometry.Geometry.{Geometry}
-use Rattle.ex_base.specs.Sizes.{leaf_bytes}
+use Rattle.ex_base.specs.declared.names.PageNo.{PageNo}
+use Rattle.ex_base.specs.declared.names.Root.{Root}
+use Rattle.ex_base.specs.Sizes.{leaf_bytes, object_most}
 use Rattle.count_nodes.specs.Node.{PairsOf, pairs_on, total_of}
 use Rattle.page_alloc.specs.UnitSet.{UnitSet, used_at, refs_at}
 use Rattle.trees.specs.Owners.{StandsAt}
@@ -53,6 +55,10 @@ IsMet known level page = (met : Met) × (known page ≡ Some met) × (met.level 
 -- the least of a tree below a node
 abbrev pub below_least : Geometry → Least
 below_least g = record { pairs = g.fan; bytes = leaf_bytes g / 2 }
+
+-- the least of a root: so many pairs where it is a node, and so many bytes where it is a leaf
+abbrev pub root_least : Least
+root_least = record { pairs = 2; bytes = 1 }
 
 -- A leaf of so many bytes, or a node of them, has its least.
 pub record IsAsked (g : Geometry) (least : Least) (met : Met) (size : ℕ) : Type 0 where
@@ -121,6 +127,25 @@ pub record MetFirst (g : Geometry) (units : Units) (level page : ℕ) (met : Met
 abbrev pub Meets : Geometry → Units → ℕ → ℕ → Met → List Part → (ℕ → Bool) → Notes → (ℕ → Bool) → Notes → Type 0
 Meets g units level page met below used known after noted =
     MetAgain level page met below used known after noted ⊎ MetFirst g units level page met below used known after noted
+
+-- the tree of a root, where it has one
+abbrev pub row_here : ℕ → Option PageNo → List Part
+row_here size None = []
+row_here size (Some page) = record { size = size; page = page } ∷ []
+
+abbrev pub root_row : Root → List Part
+root_row root = row_here root.size root.page
+
+-- The tree of a root was walked. It is balanced as far as it wasn't met before, and not above the largest size.
+pub record RootWalked (g : Geometry) (units : Units) (root : Root) (used : ℕ → Bool) (known : Notes) (after : ℕ → Bool) (noted : Notes) (balanced : Bool) : Type 0 where
+  pub full : Bool
+  pub walked : Walked g units root.height root_least (root_row root) used known after noted full
+  pub is : (balanced ≡ true) ↔ ((full ≡ true) × (root.size ≤ object_most))
+
+-- The notes of an object stay where it is the same one, and else there are none.
+pub record TurnsTo (was : ℕ) (known : Notes) (now : ℕ) (noted : Notes) : Type 0 where
+  pub same : was ≡ now → noted ≡ known
+  pub other : (was ≡ now → ⊥) → (page : ℕ) → noted page ≡ None
 
 -- no unit in use is given back
 abbrev pub StayUsed : UnitSet → UnitSet → Type 0

@@ -10,3 +10,11 @@ mod tree;
 mod walk;
 
 pub use all_trees::walk_trees;
+use ex_base::Root;
+
+/// The root of a tree, and the object that it is a version of.
+#[derive(Clone, Copy, Debug, PartialEq, Eq)]
+pub struct ObjectRoot {
+    pub object: usize,
+    pub root: Root,
+}

@@ -42,7 +42,7 @@ older_index rs olders j k order are m l named = by (get_or olders k None) refl (
 -- ---- labels that follow them
 
 pub followed_labels : (rs : List Linked) (olders : List (Option ℕ)) (labels : List ℕ) → InPlaceOrder rs → AreOlders rs olders → AreFollowed olders labels → AreLabels rs labels
-followed_labels rs olders labels order are follow = record { len = same; objects = record { joined = joined; one_first = one_first } }
+followed_labels rs olders labels order are follow = record { len = same; within = λ k l. omega (arith, follow.own.within k (omega (arith, l, are.len)), are.len); objects = record { joined = joined; one_first = one_first } }
   where
     same : length labels ≡ length rs
     same = follow.own.len ∙ are.len

@@ -93,9 +93,10 @@ abbrev pub taken : Option ℕ → ℕ → List ℕ → List ℕ
 taken None at labels = labels
 taken (Some older) at labels = slice_set labels at (slice_index labels older)
 
--- One that has no older one has its index as its label.
+-- Each label is an index, and that of one that has no older one is its own.
 pub record AreOwn (olders : List (Option ℕ)) (labels : List ℕ) : Type 0 where
   pub len : length labels ≡ length olders
+  pub within : (k : ℕ) → k < length olders → slice_index labels k < length olders
   pub own : (k : ℕ) → k < length olders → slice_index_or olders k None ≡ None → slice_index labels k ≡ k
 
 -- the record at an index has the label of its older one

@@ -1,5 +1,5 @@
 -- Labels that say which records are of one object.
-use Rattle.std.specs.Prelude.{ℕ, ◌≡◌, List, [], ◌∷◌, length, if◌then◌else◌, Some, None, Contains}
+use Rattle.std.specs.Prelude.{ℕ, ◌≡◌, ◌<◌, List, [], ◌∷◌, length, slice_index, if◌then◌else◌, Some, None, Contains}
 use Rattle.ex_base.specs.declared.names.Place.{Place}
 use Rattle.record_links.specs.declared.Linked.{Linked}
 use Rattle.record_links.specs.Links.{same_place}
@@ -15,7 +15,8 @@ label_at [] labels place = 0
 label_at (r ∷ records) [] place = 0
 label_at (r ∷ records) (label ∷ labels) place = if same_place r.place place then label else label_at records labels place
 
--- one label a record, by which they are objects
+-- one label a record, by which they are objects: the index of one of them
 pub record AreLabels (records : List Linked) (labels : List ℕ) : Type 0 where
   pub len : length labels ≡ length records
+  pub within : (k : ℕ) → k < length records → slice_index labels k < length records
   pub objects : LabelsObjects records (label_at records labels)

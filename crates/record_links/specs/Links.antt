@@ -3,6 +3,7 @@ use Rattle.std.specs.Prelude.{◌≡◌, ◌<◌, ◌≤◌, ◌⊎◌, Bool, fa
 use Rattle.std.specs.List.{AllByRecursion}
 use Rattle.ex_base.specs.declared.names.Place.{Place}
 use Rattle.ex_base.specs.Order.{InOrder}
+pub use Rattle.ex_base.specs.Places.{is_place, same_place}
 use Rattle.object_records.specs.declared.State.{State}
 use Rattle.object_records.specs.declared.State.TheVariants.{Current, Frozen}
 use Rattle.record_links.specs.declared.Linked.{Linked}
@@ -16,13 +17,6 @@ IsBefore a b = (a.page.0 < b.page.0) ⊎ ((a.page.0 ≡ b.page.0) × (a.slot < b
 -- in rising order of their places
 abbrev pub InPlaceOrder : List Linked → Type 0
 InPlaceOrder records = InOrder (λ (r s : Linked). IsBefore r.place s.place) records
-
-abbrev pub same_place : Place → Place → Bool
-same_place a b = (a.page.0 == b.page.0) && (a.slot == b.slot)
-
-abbrev pub is_place : Place → Option Place → Bool
-is_place place None = false
-is_place place (Some other) = same_place other place
 
 -- its older place is this one
 abbrev pub names_older : Place → Linked → Bool
@@ -56,6 +50,10 @@ NewerIs Frozen derived newer = (1 ≤ length derived) × (newer ≡ only_place d
 pub record IsLinked (records : List Linked) (r : Linked) : Type 0 where
   pub older : IfSome r.head.older (IsOlder records r)
   pub newer : NewerIs r.head.state (derived_from r.place records) r.head.newer
+
+-- each names a record of these as its older one, or none
+abbrev pub HaveOlders : List Linked → Type 0
+HaveOlders records = AllByRecursion (λ (r : Linked). IfSome r.head.older (IsOlder records r)) records
 
 -- Each names records of these as its older and its newer one.
 abbrev pub AreLinked : List Linked → Type 0

@@ -30,12 +30,11 @@ fn with_one(derived: Derived, place: Place) -> Derived
 }
 
 /// Counts the record at a place as derived from its older one.
-fn count(older: Option<u32>, place: Place, derived: &mut Vec<Derived>)
+fn count(older: Option<usize>, place: Place, derived: &mut Vec<Derived>)
     requires { IfSome older (λ at. at < length derived.old.items) }
     ensures { derived.new.items ≡ counted older place derived.old.items }
 {
     if let Some(at) = older {
-        let at = at as usize;
         derived[at] = with_one(derived[at], place);
     }
 }
@@ -55,7 +54,7 @@ fn nothing_yet(alloc: Global, len: usize) -> Result<Vec<Derived>, AllocError>
 fn derived_from_each(
     alloc: Global,
     records: &[Linked],
-    olders: &[Option<u32>],
+    olders: &[Option<usize>],
 ) -> Result<Vec<Derived>, AllocError>
     requires ordered { InPlaceOrder records.now }
     requires olders { AreOlders records.now olders.now }
@@ -108,7 +107,7 @@ fn are_newer(records: &[Linked], derived: &[Derived]) -> bool
 pub(crate) fn has_newer_places(
     alloc: Global,
     records: &[Linked],
-    olders: &[Option<u32>],
+    olders: &[Option<usize>],
 ) -> Result<bool, AllocError>
     requires ordered { InPlaceOrder records.now }
     requires olders { AreOlders records.now olders.now }

@@ -20,9 +20,8 @@ fn may_be_from(linked: &Linked, older: &Linked) -> bool
 }
 
 /// The index of the record at the older place of one. Nothing where no record that may be is at that place.
-fn named_older(records: &[Linked], linked: &Linked, place: Place) -> Option<Option<u32>>
+fn named_older(records: &[Linked], linked: &Linked, place: Place) -> Option<Option<usize>>
     requires ordered { InPlaceOrder records.now }
-    requires few { length records.now < 2 ^ 32 }
     requires named { linked.now.head.older ≡ Some place }
     ensures found { IfSome result (OlderIs records.now linked.now) }
     ensures none { IfNone result
@@ -32,7 +31,7 @@ fn named_older(records: &[Linked], linked: &Linked, place: Place) -> Option<Opti
         None => None,
         Some(at) => {
             if may_be_from(linked, &records[at]) {
-                Some(Some(at as u32))
+                Some(Some(at))
             } else {
                 None
             }
@@ -41,9 +40,8 @@ fn named_older(records: &[Linked], linked: &Linked, place: Place) -> Option<Opti
 }
 
 /// The index of a record's older one, none of a record without an older place. Nothing where no record that may be is at that place.
-fn older_of(records: &[Linked], linked: &Linked) -> Option<Option<u32>>
+fn older_of(records: &[Linked], linked: &Linked) -> Option<Option<usize>>
     requires ordered { InPlaceOrder records.now }
-    requires few { length records.now < 2 ^ 32 }
     ensures found { IfSome result (OlderIs records.now linked.now) }
     ensures none { IfNone result
         (IfSome linked.now.head.older (IsOlder records.now linked.now) → ⊥) }
@@ -58,9 +56,8 @@ fn older_of(records: &[Linked], linked: &Linked) -> Option<Option<u32>>
 pub(crate) fn olders_of(
     alloc: Global,
     records: &[Linked],
-) -> Result<Option<Vec<Option<u32>>>, AllocError>
+) -> Result<Option<Vec<Option<usize>>>, AllocError>
     requires ordered { InPlaceOrder records.now }
-    requires few { length records.now < 2 ^ 32 }
     ensures found { IfOk result
         (λ found. IfSome found (λ olders. AreOlders records.now olders.items)) }
     ensures none { IfOk result (λ found. IfNone found (AreLinked records.now → ⊥)) }

@@ -15,6 +15,7 @@ use Rattle.ex_base.proofs.Each.{each_at}
 use Rattle.file_walk.specs.declared.Found.{Found}
 use Rattle.file_walk.specs.Records.{HasRootFields}
 use Rattle.file_walk.specs.Walk.{page_numbers}
+use Rattle.node_walk.specs.declared.ObjectRoot.{ObjectRoot}
 use Rattle.object_records.specs.Record.{IsRootField}
 use Rattle.volume_port.specs.Logged.{LoggedSet, is_held}
 use Rattle.restart.specs.Content.{AreHeld, root_list, roots_found}
@@ -65,22 +66,31 @@ adopted_next g s files p inside so_far = record {
 
 -- ---- roots
 
-pub roots_more : (records : List Found) (i : ℕ) (d : Found) → i < length records → roots_found (take (i + 1) records) ≡ roots_found (take i records) ++ root_list (get_or records i d).root
+abbrev here : List Found → ℕ → Found → List ObjectRoot
+here records i d = root_list (get_or records i d).object (get_or records i d).root
+
+abbrev pub HasRoot : ObjectRoot → Type 0
+HasRoot r = IsRootField r.root
+
+pub roots_more : (records : List Found) (i : ℕ) (d : Found) → i < length records → roots_found (take (i + 1) records) ≡ roots_found (take i records) ++ here records i d
 roots_more records i d inside =
     ap roots_found (take_more records i d inside)
-    ∙ flat_map-append (λ (found : Found). root_list found.root) (take i records) (get_or records i d ∷ [])
-    ∙ ap (λ (tail : List Root). roots_found (take i records) ++ tail) (append-nil (root_list (get_or records i d).root))
+    ∙ flat_map-append (λ (found : Found). root_list found.object found.root) (take i records) (get_or records i d ∷ [])
+    ∙ ap (λ (tail : List ObjectRoot). roots_found (take i records) ++ tail) (append-nil (here records i d))
 
-pub some_more : (records : List Found) (i : ℕ) (d : Found) (root : Root) (roots : List Root) → i < length records → AllByRecursion HasRootFields records → (get_or records i d).root ≡ Some root
-    → (roots ≡ roots_found (take i records)) × AllByRecursion IsRootField roots → (roots ++ root ∷ [] ≡ roots_found (take (i + 1) records)) × AllByRecursion IsRootField (roots ++ root ∷ [])
-some_more records i d root roots inside fields is so_far = (
-  ap (λ (rs : List Root). rs ++ root ∷ []) so_far.0 ∙ ap (λ (r : Option Root). roots_found (take i records) ++ root_list r) (sym is) ∙ sym (roots_more records i d inside),
-  each-append IsRootField roots (root ∷ []) so_far.1 (each_at HasRootFields records i d inside fields root is, tt),
-)
+pub some_more : (records : List Found) (i : ℕ) (d : Found) (root : Root) (roots : List ObjectRoot) → i < length records → AllByRecursion HasRootFields records → (get_or records i d).root ≡ Some root
+    → (roots ≡ roots_found (take i records)) × AllByRecursion HasRoot roots
+    → (roots ++ record { object = (get_or records i d).object; root = root } ∷ [] ≡ roots_found (take (i + 1) records)) × AllByRecursion HasRoot (roots ++ record { object = (get_or records i d).object; root = root } ∷ [])
+some_more records i d root roots inside fields is so_far =
+    let object = (get_or records i d).object in (
+      ap (λ (rs : List ObjectRoot). rs ++ record { object = object; root = root } ∷ []) so_far.0
+          ∙ ap (λ (r : Option Root). roots_found (take i records) ++ root_list object r) (sym is) ∙ sym (roots_more records i d inside),
+      each-append HasRoot roots (record { object = object; root = root } ∷ []) so_far.1 (each_at HasRootFields records i d inside fields root is, tt),
+    )
 
-pub none_more : (records : List Found) (i : ℕ) (d : Found) (roots : List Root) → i < length records → (get_or records i d).root ≡ None
-    → (roots ≡ roots_found (take i records)) × AllByRecursion IsRootField roots → (roots ≡ roots_found (take (i + 1) records)) × AllByRecursion IsRootField roots
+pub none_more : (records : List Found) (i : ℕ) (d : Found) (roots : List ObjectRoot) → i < length records → (get_or records i d).root ≡ None
+    → (roots ≡ roots_found (take i records)) × AllByRecursion HasRoot roots → (roots ≡ roots_found (take (i + 1) records)) × AllByRecursion HasRoot roots
 none_more records i d roots inside is so_far = (
-  so_far.0 ∙ sym (append-nil (roots_found (take i records))) ∙ ap (λ (r : Option Root). roots_found (take i records) ++ root_list r) (sym is) ∙ sym (roots_more records i d inside),
+  so_far.0 ∙ sym (append-nil (roots_found (take i records))) ∙ ap (λ (r : Option Root). roots_found (take i records) ++ root_list (get_or records i d).object r) (sym is) ∙ sym (roots_more records i d inside),
   so_far.1,
 )

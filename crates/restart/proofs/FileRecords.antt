@@ -1,132 +1,116 @@
--- The records of files are those of their lines in another order, so what the trees and the numbers of the ones have, those of the others have.
-use Rattle.std.proofs.Common.{◌≡◌, ℕ, List, [], ◌∷◌, ◌++◌, sum_by, refl, sym, ap, subst, ◌∙◌, arith, IsPermutation}
-use Rattle.std.specs.Prelude.{map, Contains}
+-- The records of files as the walks list them: their roots, each with its object.
+use Rattle.std.proofs.Common.{◌≡◌, ℕ, List, [], ◌∷◌, ◌++◌, map, IfSome, refl, ap, subst, ◌∙◌}
+use Rattle.std.specs.Prelude.{Contains}
 use Rattle.std.specs.List.{AllByRecursion, flat_map}
-use Rattle.std.proofs.lemmas.List.{append-nil, map-append}
-use Rattle.std.proofs.lemmas.List.Concat.{flat_map-append}
-use Rattle.std.proofs.lemmas.List.Sums.{sum_by-cons}
-use Rattle.std.proofs.lemmas.List.Sorted.{IsPermutation-append, IsPermutation-map, IsPermutation-refl, sum_by-IsPermutation}
-use Rattle.ex_base.proofs.Rows.{each-append}
-use Rattle.ex_base.proofs.Counts.{contains_times, times_contains, times_flat}
-use Rattle.ex_base.proofs.Each.{each_joined, each_parted}
+use Rattle.std.proofs.lemmas.List.{map-append}
+use Rattle.ex_base.specs.declared.names.Place.{Place}
 use Rattle.ex_base.specs.declared.names.Root.{Root}
-use Rattle.ex_base.specs.Ports.{times}
+use Rattle.ex_base.proofs.Each.{each_mapped}
 use Rattle.file_walk.specs.Numbers.{uniques}
-use Rattle.file_walk.specs.Parts.{found_of, root_found}
+use Rattle.file_walk.specs.Objects.{AreObjects, found_of, linked_of, root_found}
+use Rattle.file_walk.specs.Parts.{stored_of}
+use Rattle.file_walk.proofs.SameLinks.{linked_all, objects_kept}
+use Rattle.file_walk.proofs.Lists.{contains_map}
+use Rattle.node_walk.specs.declared.ObjectRoot.{ObjectRoot}
+use Rattle.node_walk.specs.TreesNamed.{tree_in, trees_in}
 use Rattle.object_records.specs.Record.{Content, Small, Large}
-use Rattle.trees.specs.Trees.{Units, root_units}
-use Rattle.volume_model.specs.Parts.{AllApart, HasLines, IsUnfrozen}
-use Rattle.volume_model.specs.Volume.{FileContent, Line, Stored, line_number, line_records, line_units, root_in, roots_in, unique_of}
+use Rattle.record_links.specs.declared.Linked.{Linked}
+use Rattle.record_links.specs.Links as kept
+use Rattle.record_links.proofs.Alike.{alike}
+use Rattle.version_lists.proofs.Lists.{Has, contains_has, has_contains, has_flat, has_flat_from, has_map, has_map_from}
+use Rattle.volume_model.specs.Parts.{HasBodies}
+use Rattle.volume_model.specs.Volume.{FileContent, Stored, root_in, roots_in, unique_of}
+use Rattle.volume_model.proofs.Links.{if_some, linked_olders, older_at}
+use Rattle.volume_model.proofs.Places.{each_has, has_each}
 use Rattle.restart.specs.Content.{root_list, roots_found}
-use Rattle.restart.proofs.Permuted.{apart_once, each_permuted, has, once_apart}
 
--- all records, file by file
-abbrev pub stored_of : List FileContent → List Stored
-stored_of files = flat_map (λ (file : FileContent). file.stored) files
+-- ---- numbers
 
-abbrev pub all_lines : List FileContent → List Line
-all_lines files = flat_map (λ (file : FileContent). file.lines) files
+pub numbers_listed : (object : Place → ℕ) (stored : List Stored) → uniques (map (found_of object) stored) ≡ map unique_of stored
+numbers_listed object [] = refl
+numbers_listed object (s ∷ stored) = ap (λ (rest : List ℕ). unique_of s ∷ rest) (numbers_listed object stored)
 
--- ---- the order
+-- ---- roots
 
-pub permuted : (files : List FileContent) → AllByRecursion HasLines files → IsPermutation (stored_of files) (flat_map line_records (all_lines files))
-permuted [] body = IsPermutation-refl []
-permuted (file ∷ files) body =
-    subst (IsPermutation (stored_of (file ∷ files))) (sym (flat_map-append line_records file.lines (all_lines files)))
-    (IsPermutation-append file.stored (flat_map line_records file.lines) (stored_of files) (flat_map line_records (all_lines files)) body.0.each_once (permuted files body.1))
+abbrev with_object : ℕ → Root → ObjectRoot
+with_object object root = record { object = object; root = root }
 
-pub all_unfrozen : (files : List FileContent) → AllByRecursion HasLines files → AllByRecursion IsUnfrozen (all_lines files)
-all_unfrozen [] body = tt
-all_unfrozen (file ∷ files) body = each-append IsUnfrozen file.lines (all_lines files) body.0.unfrozen (all_unfrozen files body.1)
+-- the root of a large record, with its object
+abbrev roots_of : (Place → ℕ) → Stored → List ObjectRoot
+roots_of object s = map (with_object (object s.place)) (root_in s.body.content)
 
--- a line without frozen versions is its current record
-its_record : (line : Line) → IsUnfrozen line → line_records line ≡ line.current ∷ []
-its_record line unfrozen = ap (λ (frozen : List Stored). frozen ++ line.current ∷ []) unfrozen
+abbrev pub object_roots : (Place → ℕ) → List Stored → List ObjectRoot
+object_roots object stored = flat_map (roots_of object) stored
 
-pub numbers_are : (lines : List Line) → AllByRecursion IsUnfrozen lines → map unique_of (flat_map line_records lines) ≡ map line_number lines
-numbers_are [] unfrozen = refl
-numbers_are (line ∷ lines) unfrozen =
-    map-append unique_of (line_records line) (flat_map line_records lines)
-    ∙ ap (λ (front : List Stored). map unique_of front ++ map unique_of (flat_map line_records lines)) (its_record line unfrozen.0)
-    ∙ ap (λ (rest : List ℕ). line_number line ∷ rest) (numbers_are lines unfrozen.1)
+found_root : (object : ℕ) (content : Content) → root_list object (root_found content) ≡ map (with_object object) (root_in content)
+found_root object (Small bytes) = refl
+found_root object (Large root) = refl
 
--- ---- as the walk lists them
+pub roots_listed : (object : Place → ℕ) (stored : List Stored) → roots_found (map (found_of object) stored) ≡ object_roots object stored
+roots_listed object [] = refl
+roots_listed object (s ∷ stored) =
+    ap (λ (front : List ObjectRoot). front ++ roots_found (map (found_of object) stored)) (found_root (object s.place) s.body.content) ∙ ap (λ (rest : List ObjectRoot). roots_of object s ++ rest) (roots_listed object stored)
 
-found_root : (content : Content) → root_list (root_found content) ≡ root_in content
-found_root (Small bytes) = refl
-found_root (Large root) = refl
+tree_of : (object : ℕ) (roots : List Root) → trees_in (map (with_object object) roots) ≡ roots
+tree_of object [] = refl
+tree_of object (root ∷ roots) = ap (λ (rest : List Root). root ∷ rest) (tree_of object roots)
 
-pub roots_listed : (stored : List Stored) → roots_found (map found_of stored) ≡ roots_in stored
-roots_listed [] = refl
-roots_listed (s ∷ stored) = ap (λ (front : List Root). front ++ roots_found (map found_of stored)) (found_root s.body.content) ∙ ap (λ (rest : List Root). root_in s.body.content ++ rest) (roots_listed stored)
+pub trees_listed : (object : Place → ℕ) (stored : List Stored) → trees_in (object_roots object stored) ≡ roots_in stored
+trees_listed object [] = refl
+trees_listed object (s ∷ stored) =
+    map-append tree_in (roots_of object s) (object_roots object stored)
+    ∙ ap (λ (front : List Root). front ++ trees_in (object_roots object stored)) (tree_of (object s.place) (root_in s.body.content))
+    ∙ ap (λ (rest : List Root). root_in s.body.content ++ rest) (trees_listed object stored)
 
-pub numbers_listed : (stored : List Stored) → uniques (map found_of stored) ≡ map unique_of stored
-numbers_listed [] = refl
-numbers_listed (s ∷ stored) = ap (λ (rest : List ℕ). unique_of s ∷ rest) (numbers_listed stored)
+pub root_there : (object : Place → ℕ) (stored : List Stored) (s : Stored) (root : Root) → Contains stored s → Has (root_in s.body.content) root → Contains (object_roots object stored) (with_object (object s.place) root)
+root_there object stored s root there inside =
+    has_contains (object_roots object stored) (with_object (object s.place) root)
+    (has_flat (roots_of object) stored s (with_object (object s.place) root) (contains_has stored s there) (has_map (with_object (object s.place)) (root_in s.body.content) root inside))
 
--- ---- the trees
+-- the record of a root
+pub record RecordOf (object : Place → ℕ) (stored : List Stored) (r : ObjectRoot) : Type 0 where
+  pub record_of : Stored
+  pub there : Contains stored record_of
+  pub root : Has (root_in record_of.body.content) r.root
+  pub object_is : object record_of.place ≡ r.object
 
-module _ (units : Units) where
-  abbrev record_units : Stored → List ℕ
-  record_units s = flat_map (root_units units) (root_in s.body.content)
+pub root_from : (object : Place → ℕ) (stored : List Stored) (r : ObjectRoot) → Contains (object_roots object stored) r → RecordOf object stored r
+root_from object stored r there =
+    let s = has_flat_from (roots_of object) stored r (contains_has (object_roots object stored) r there) in
+    let root = has_map_from (with_object (object s.0.place)) (root_in s.0.body.content) r s.2 in
+    record {
+      record_of = s.0;
+      there = has_contains stored s.0 s.1;
+      root = subst (Has (root_in s.0.body.content)) (ap tree_in root.2) root.1;
+      object_is = ap (λ (o : ObjectRoot). o.object) root.2;
+    }
 
-  content_counts : (u : ℕ) (content : Content) (roots : List Root) (rest : List (List ℕ)) → sum_by (has u) rest ≡ sum_by (has u) (map (root_units units) roots)
-      → sum_by (has u) (flat_map (root_units units) (root_in content) ∷ rest) ≡ sum_by (has u) (map (root_units units) (root_in content ++ roots))
-  content_counts u (Small bytes) roots rest same = omega (arith, sum_by-cons (has u) [] rest, same)
-  content_counts u (Large root) roots rest same = omega (
-    arith,
-    sum_by-cons (has u) (root_units units root ++ []) rest,
-    sum_by-cons (has u) (root_units units root) (map (root_units units) roots),
-    same,
-    ap (has u) (append-nil (root_units units root)),
-  )
+-- ---- objects
 
-  record_counts : (u : ℕ) (stored : List Stored) → sum_by (has u) (map record_units stored) ≡ sum_by (has u) (map (root_units units) (roots_in stored))
-  record_counts u [] = refl
-  record_counts u (s ∷ stored) = content_counts u s.body.content (roots_in stored) (map record_units stored) (record_counts u stored)
+abbrev Named : List Linked → Linked → Type 0
+Named all l = IfSome l.head.older (kept.IsOlder all l)
 
-  line_is : (lines : List Line) → AllByRecursion IsUnfrozen lines → map (line_units units) lines ≡ map record_units (flat_map line_records lines)
-  line_is [] unfrozen = refl
-  line_is (line ∷ lines) unfrozen =
-      let own = its_record line unfrozen.0 in
-      let here : line_units units line ≡ record_units line.current = ap (λ (records : List Stored). flat_map (root_units units) (roots_in records)) own ∙ ap (flat_map (root_units units)) (append-nil (root_in line.current.body.content)) in
-      ap (λ (front : List ℕ). front ∷ map (line_units units) lines) here
-      ∙ ap (λ (rest : List (List ℕ)). record_units line.current ∷ rest) (line_is lines unfrozen.1)
-      ∙ ap (λ (records : List Stored). map record_units (records ++ flat_map line_records lines)) (sym own)
+-- the older one of each record of the files is one of them
+pub olders_there : (files : List FileContent) → AllByRecursion HasBodies files → kept.HaveOlders (linked_all (stored_of files))
+olders_there files bodies =
+    each_mapped (Named (linked_all (stored_of files))) linked_of (stored_of files) (has_each (λ (s : Stored). Named (linked_all (stored_of files)) (linked_of s)) (stored_of files) one)
+  where
+    one : (s : Stored) → Has (stored_of files) s → Named (linked_all (stored_of files)) (linked_of s)
+    one s h =
+        let file = has_flat_from (λ (f : FileContent). f.stored) files s h in
+        if_some (kept.IsOlder (linked_all (stored_of files)) (linked_of s)) s.body.head.older (λ place named.
+        let o = older_at file.0.stored (linked_olders file.0.stored (each_has HasBodies files bodies file.0 file.1).linked) s file.2 place named in
+        let there = has_flat (λ (f : FileContent). f.stored) files file.0 o.older file.1 (contains_has file.0.stored o.older o.there) in
+        record {
+          older = linked_of o.older;
+          there = contains_map linked_of (stored_of files) o.older (has_contains (stored_of files) o.older there);
+          place_is = o.place_is;
+          frozen = o.frozen;
+          lower = o.lower;
+        })
 
-  module _ (stored : List Stored) (lines : List Line) (same : IsPermutation stored (flat_map line_records lines)) where
-    counts : AllByRecursion IsUnfrozen lines → (u : ℕ) → sum_by (has u) (map (line_units units) lines) ≡ sum_by (has u) (map (root_units units) (roots_in stored))
-    counts unfrozen u =
-        ap (sum_by (has u)) (line_is lines unfrozen)
-        ∙ sum_by-IsPermutation (has u) (map record_units stored) (map record_units (flat_map line_records lines)) (IsPermutation-map record_units stored (flat_map line_records lines) same)
-        ∙ record_counts u stored
-
-    pub lines_apart : AllByRecursion IsUnfrozen lines → AllApart (map (root_units units) (roots_in stored)) → AllApart (map (line_units units) lines)
-    lines_apart unfrozen apart = once_apart (map (line_units units) lines) (λ u. omega (arith, counts unfrozen u, apart_once (map (root_units units) (roots_in stored)) apart u))
-
-    pub roots_apart : AllByRecursion IsUnfrozen lines → AllApart (map (line_units units) lines) → AllApart (map (root_units units) (roots_in stored))
-    roots_apart unfrozen apart = once_apart (map (root_units units) (roots_in stored)) (λ u. omega (arith, counts unfrozen u, apart_once (map (line_units units) lines) apart u))
-
-  flat_units : (stored : List Stored) → flat_map (root_units units) (roots_in stored) ≡ flat_map record_units stored
-  flat_units [] = refl
-  flat_units (s ∷ stored) = flat_map-append (root_units units) (root_in s.body.content) (roots_in stored) ∙ ap (λ (rest : List ℕ). record_units s ++ rest) (flat_units stored)
-
-  units_counts : (u : ℕ) (stored : List Stored) → times u (flat_map (root_units units) (roots_in stored)) ≡ sum_by (λ (s : Stored). times u (record_units s)) stored
-  units_counts u stored = ap (times u) (flat_units stored) ∙ times_flat u record_units stored
-
-  -- the same units stand in the trees
-  pub units_permuted : (xs ys : List Stored) → IsPermutation xs ys → (u : ℕ) → Contains (flat_map (root_units units) (roots_in xs)) u → Contains (flat_map (root_units units) (roots_in ys)) u
-  units_permuted xs ys same u here =
-      times_contains u (flat_map (root_units units) (roots_in ys)) (omega (
-        arith,
-        contains_times u (flat_map (root_units units) (roots_in xs)) here,
-        units_counts u xs,
-        units_counts u ys,
-        sum_by-IsPermutation (λ (s : Stored). times u (record_units s)) xs ys same,
-      ))
-
--- what holds of each root
-pub roots_permuted : (P : Root → Type 0) (xs ys : List Stored) → IsPermutation xs ys → AllByRecursion P (roots_in xs) → AllByRecursion P (roots_in ys)
-roots_permuted P xs ys same each =
-    each_joined P (λ (s : Stored). root_in s.body.content) ys
-    (each_permuted (λ (s : Stored). AllByRecursion P (root_in s.body.content)) xs ys same (each_parted P (λ (s : Stored). root_in s.body.content) xs each))
+-- any two ways to tell objects apart agree
+pub objects_agree : (stored : List Stored) (one other : Place → ℕ) (s t : Stored) → kept.HaveOlders (linked_all stored) → AreObjects stored one → AreObjects stored other → Contains stored s → Contains stored t
+    → one s.place ≡ one t.place → other s.place ≡ other t.place
+objects_agree stored one other s t olders a b there here =
+    alike (linked_all stored) one other (linked_of s) (linked_of t) olders (objects_kept stored one a) (objects_kept stored other b) (contains_map linked_of stored s there) (contains_map linked_of stored t here)

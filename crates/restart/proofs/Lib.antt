@@ -10,4 +10,3 @@ pub mod FileRecords
 pub mod FilesTested
 pub mod LastRecord
 pub mod Opened
-pub mod Permuted

@@ -1,4 +1,4 @@
--- The owners of units, of roots in another order and of pages that are kept.
+-- The owners of units of pages that are kept.
 use Rattle.std.proofs.Common.{◌≡◌, ◌↔◌, ℕ, suc, Bool, true, List, [], ◌∷◌, ◌++◌, IsPermutation, sum_by, refl, sym, ap, subst, ◌∙◌, arith}
 use Rattle.std.specs.List.{flat_map, AllByRecursion}
 use Rattle.std.specs.Prelude.{Contains}
@@ -14,37 +14,6 @@ use Rattle.trees.specs.Owners.{IsInner, IsOwned, StandsAt, named_on, page_here, 
 use Rattle.trees.specs.Trees.{Units}
 use Rattle.trees.proofs.Released.{each_kept, stands_kept}
 use Rattle.volume_model.specs.Volume.{Stored, root_in, roots_in}
-
--- ---- roots in another order
-
-pages_listed : (stored : List Stored) → root_pages (roots_in stored) ≡ flat_map (λ (s : Stored). root_pages (root_in s.body.content)) stored
-pages_listed [] = refl
-pages_listed (s ∷ stored) =
-    flat_map-append (λ (root : Root). page_here root.page) (root_in s.body.content) (roots_in stored)
-    ∙ ap (λ (rest : List ℕ). root_pages (root_in s.body.content) ++ rest) (pages_listed stored)
-
-pages_counted : (unit : ℕ) (stored : List Stored) → times unit (root_pages (roots_in stored)) ≡ sum_by (λ (s : Stored). times unit (root_pages (root_in s.body.content))) stored
-pages_counted unit stored = ap (times unit) (pages_listed stored) ∙ times_flat unit (λ (s : Stored). root_pages (root_in s.body.content)) stored
-
-pages_permuted : (xs ys : List Stored) → IsPermutation xs ys → (unit : ℕ) → times unit (root_pages (roots_in ys)) ≡ times unit (root_pages (roots_in xs))
-pages_permuted xs ys same unit =
-    let sums = sum_by-IsPermutation (λ (s : Stored). times unit (root_pages (root_in s.body.content))) xs ys same in
-    omega (arith, pages_counted unit xs, pages_counted unit ys, sums)
-
-pub owned_permuted : (g : Geometry) (units : Units) (used : ℕ → Bool) (refs : ℕ → ℕ) (logged : List ℕ) (xs ys : List Stored) → IsPermutation xs ys → IsOwned g units used refs logged (root_pages (roots_in xs))
-    → IsOwned g units used refs logged (root_pages (roots_in ys))
-owned_permuted g units used refs logged xs ys same is = record {
-  nodes = is.nodes;
-  inner = is.inner;
-  once = is.once;
-  owners = λ unit. omega (arith, is.owners unit, pages_permuted xs ys same unit);
-  listed = is.listed;
-  owned = is.owned;
-  in_use = is.in_use;
-  apart = is.apart;
-}
-
--- ---- pages that are kept
 
 module _ (g : Geometry) (units later : Units) (kept : (page : ℕ) → InPageArea g page → later page ≡ units page) where
   inner_kept : (page : ℕ) → IsInner g units page → IsInner g later page

@@ -6,6 +6,7 @@ use Rattle.ex_base.specs.declared.names.Root.{Root}
 use Rattle.ex_base.specs.Area.{area_end, catalog_no}
 use Rattle.object_files.specs.Catalog.{Catalog}
 use Rattle.file_walk.specs.declared.Found.{Found}
+use Rattle.node_walk.specs.declared.ObjectRoot.{ObjectRoot}
 use Rattle.page_alloc.specs.UnitSet.{used_at, refs_at}
 use Rattle.session_views.specs.declared.part.Part.{Part}
 use Rattle.session_views.specs.declared.part.Part.TheVariants.{File, Page, Body, Node, Balance, Unique}
@@ -35,13 +36,13 @@ pub record IsFirstBad (g : Geometry) (units : Units) (c : Catalog) (part : Part)
   pub earlier : FilesHold g units c (rank part - 3) files
   pub fails : (files : List FileContent) → FilesHold g units c (rank part - 2) files → ⊥
 
--- the roots of large records
-abbrev pub root_list : Option Root → List Root
-root_list None = []
-root_list (Some root) = root ∷ []
+-- the roots of large records, each with its object
+abbrev pub root_list : ℕ → Option Root → List ObjectRoot
+root_list object None = []
+root_list object (Some root) = record { object = object; root = root } ∷ []
 
-abbrev pub roots_found : List Found → List Root
-roots_found records = flat_map (λ (found : Found). root_list found.root) records
+abbrev pub roots_found : List Found → List ObjectRoot
+roots_found records = flat_map (λ (found : Found). root_list found.object found.root) records
 
 -- the pages that are there are the catalog and these
 abbrev pub AreHeld : LoggedSet → List ℕ → Type 0

@@ -7,14 +7,15 @@ ghost use Rattle.ex_base.specs.Faults.{Rose};
 ghost use Rattle.file_walk.specs.Records.{HasRootFields};
 ghost use Rattle.file_walk.specs.Walk.{page_numbers};
 ghost use Rattle.node_walk.specs.TreesNamed.{ShowsPages};
+ghost use Rattle.node_walk.specs.declared.ObjectRoot.{ObjectRoot as RootOfObject};
 ghost use Rattle.object_records.specs.Record.{IsRootField};
 ghost use Rattle.trees.specs.Trees.{Units as Bytes};
 ghost use Rattle.volume_port.specs.Logged.{is_held};
 ghost use Rattle.restart.specs.Content.{FilesReached, IsFirstBad, AreHeld, IsReached, roots_found};
 
-use ex_base::{Geometry, PageNo, ReadPages, Root};
+use ex_base::{Geometry, PageNo, ReadPages};
 use file_walk::{Found, has_good_numbers, walk_files};
-use node_walk::walk_trees;
+use node_walk::{ObjectRoot, walk_trees};
 use object_files::CatalogView;
 use page_alloc::Units;
 use session_views::{OpenFault, Part};
@@ -57,7 +58,7 @@ pub fn read_content<P: ReadPages>(
     let Ok(roots) = roots_of(alloc, &walked.records) else {
         return Err(OpenFault::Memory);
     };
-    match walk_trees(pages, alloc, geometry, &mut units, &roots) {
+    match walk_trees(pages, alloc, geometry, &mut units, roots) {
         Ok(()) => {}
         Err(fault) => return Err(fault),
     }
@@ -72,16 +73,20 @@ pub fn read_content<P: ReadPages>(
     }
 }
 
-// The roots of the large records.
-fn roots_of(alloc: Global, records: &[Found]) -> Result<Vec<Root>, AllocError>
+// The roots of the large records, each with its object.
+fn roots_of(alloc: Global, records: &[Found]) -> Result<Vec<ObjectRoot>, AllocError>
     requires { AllByRecursion HasRootFields records.now }
     ensures roots { IfOk result (λ roots. roots.items ≡ roots_found records.now) }
-    ensures fields { IfOk result (λ roots. AllByRecursion IsRootField roots.items) }
+    ensures fields { IfOk result
+        (λ roots. AllByRecursion (λ (r : RootOfObject). IsRootField r.root) roots.items) }
 {
     let mut roots = Vec::new(alloc);
     for record in records {
         if let Some(root) = record.root {
-            roots.push(root)?;
+            roots.push(ObjectRoot {
+                object: record.object,
+                root,
+            })?;
         }
     }
     Ok(roots)

@@ -71,6 +71,7 @@ request_kept (request.Append x given) k w = and_from _ _ k.1.0 (and_from _ _ k.1
 request_kept (request.Replace x pos given) k w = and_from _ _ (and_from _ _ k.1.0 k.1.1.0) (and_from _ _ k.1.1.1.0 w)
 request_kept (request.Delete x pos len) k w = and_from _ _ (and_from _ _ k.1.0 k.1.1.0) k.1.1.1.0
 request_kept (request.Freeze x bind) k w = and_from _ _ k.1.0 k.1.1.1.0
+request_kept (request.Derive x bind) k w = and_from _ _ k.1.0 k.1.1.1.0
 request_kept (request.Group name frames mru) k w = and_from _ _ (and_from _ _ k.1.0 (and_first _ _ k.1.1.0)) (and_second _ _ k.1.1.0)
 request_kept (request.Scan x name None) k w = and_from _ _ (and_from _ _ k.1.0 k.1.1.1.0) refl
 request_kept (request.Scan x name (Some group)) k w = and_from _ _ (and_from _ _ k.1.0 k.1.1.1.0) k.1.1.1.1.1.0

@@ -10,7 +10,7 @@ use Rattle.script_lang.specs.declared.verbs.Verb.{Verb}
 use Rattle.script_lang.specs.declared.verbs.Verb.TheVariants as verb
 use Rattle.script_lang.specs.Forms.{◌>>=◌}
 use Rattle.script_lang.specs.Grammar.{Slot, Key, Name, At, Number, Frames, Of, Given, policy, spells, within}
-use Rattle.script_lang.specs.Reading.{Reading, Silent, Asks, Fails, is_comment, Says, every}
+use Rattle.script_lang.specs.Reading.{Reading, Silent, Asks, Fails, is_comment, Says}
 use Rattle.script_lang.specs.Verbs.{word_of, verb_of_request}
 use Rattle.script_lang.specs.Spoken.{alone, only_name, only_reference, name_as, reference_as, range, edit, addition, advance, long_scan, short_scan_or, plain, asks, at_most, read_said, insert_said, replace_said, append_said, next_said, said}
 use Rattle.script_lang.proofs.Slots.{same_bytes, equal_bytes, Gives}
@@ -60,6 +60,7 @@ spelled (request.Versions x) words h = found verb.Versions (request.Versions x) 
 spelled (request.DropVersion x) words h = found verb.Drop (request.DropVersion x) (Of x ∷ []) words (λ ws f. ap (λ o. asks (o >>= (λ x. Some (request.DropVersion x)))) (only_reference_reads x ws f)) h
 spelled (request.Create n b) words h = found verb.Create (request.Create n b) (Name n ∷ Key (codes "as") ∷ At b ∷ []) words (λ ws f. ap (λ o. asks (o >>= (λ p. Some (request.Create p.0 p.1)))) (name_as_reads n b ws f)) h
 spelled (request.Freeze x b) words h = found verb.Freeze (request.Freeze x b) (Of x ∷ Key (codes "as") ∷ At b ∷ []) words (λ ws f. ap (λ o. asks (o >>= (λ p. Some (request.Freeze p.0 p.1)))) (reference_as_reads x b ws f)) h
+spelled (request.Derive x b) words h = found verb.Derive (request.Derive x b) (Of x ∷ Key (codes "as") ∷ At b ∷ []) words (λ ws f. ap (λ o. asks (o >>= (λ p. Some (request.Derive p.0 p.1)))) (reference_as_reads x b ws f)) h
 spelled (request.Delete x pos len) words h = found verb.Delete (request.Delete x pos len) (Of x ∷ Number pos ∷ Number len ∷ []) words (λ ws f. ap (λ o. asks (o >>= (λ p. Some (request.Delete p.0 p.1 p.2)))) (range_reads x pos len ws f)) h
 spelled (request.Group n frames mru) words h = found verb.Group (request.Group n frames mru) (Name n ∷ Frames frames ∷ Key (policy mru) ∷ []) words (λ ws f. ap asks (group_reads n frames mru ws f)) h
 spelled (request.Scan x n None) words h = found verb.Scan (request.Scan x n None) (Of x ∷ Key (codes "as") ∷ Name n ∷ []) words (λ ws f. scan_short x n ws f) h
@@ -119,6 +120,7 @@ plain_sound verb.Versions ws = map_gives (only_reference ws) (λ x. request.Vers
 plain_sound verb.Drop ws = map_gives (only_reference ws) (λ x. request.DropVersion x) _ _ (λ x f. (f, refl)) (only_reference_spells ws)
 plain_sound verb.Create ws = map_gives (name_as ws) (λ p. request.Create p.0 p.1) _ _ (λ p f. (f, refl)) (name_as_spells ws)
 plain_sound verb.Freeze ws = map_gives (reference_as ws) (λ p. request.Freeze p.0 p.1) _ _ (λ p f. (f, refl)) (reference_as_spells ws)
+plain_sound verb.Derive ws = map_gives (reference_as ws) (λ p. request.Derive p.0 p.1) _ _ (λ p f. (f, refl)) (reference_as_spells ws)
 plain_sound verb.Delete ws = map_gives (range ws) (λ p. request.Delete p.0 p.1 p.2) _ _ (λ p f. (f, refl)) (range_spells ws)
 plain_sound verb.Group ws = group_spells ws
 plain_sound verb.Scan ws = scan_spells ws
@@ -175,6 +177,7 @@ no_comment verb.Versions = refl
 no_comment verb.Drop = refl
 no_comment verb.Create = refl
 no_comment verb.Freeze = refl
+no_comment verb.Derive = refl
 no_comment verb.Read = refl
 no_comment verb.Insert = refl
 no_comment verb.Append = refl
@@ -205,6 +208,7 @@ verb_of w =
     cond (bytes_eq w (codes "drop")) verb.Drop (
     cond (bytes_eq w (codes "create")) verb.Create (
     cond (bytes_eq w (codes "freeze")) verb.Freeze (
+    cond (bytes_eq w (codes "derive")) verb.Derive (
     cond (bytes_eq w (codes "read")) verb.Read (
     cond (bytes_eq w (codes "insert")) verb.Insert (
     cond (bytes_eq w (codes "append")) verb.Append (
@@ -212,7 +216,7 @@ verb_of w =
     cond (bytes_eq w (codes "delete")) verb.Delete (
     cond (bytes_eq w (codes "group")) verb.Group (
     cond (bytes_eq w (codes "scan")) verb.Scan (
-    verb.Next))))))))))))))))))))))))))
+    verb.Next)))))))))))))))))))))))))))
 
 verb_back : (v : Verb) → verb_of (word_of v) ≡ v
 verb_back verb.Begin = refl
@@ -234,6 +238,7 @@ verb_back verb.Versions = refl
 verb_back verb.Drop = refl
 verb_back verb.Create = refl
 verb_back verb.Freeze = refl
+verb_back verb.Derive = refl
 verb_back verb.Read = refl
 verb_back verb.Insert = refl
 verb_back verb.Append = refl
@@ -267,20 +272,6 @@ spelled_said v ws r h = go (spelled r (word_of v ∷ ws) h)
         let rest : ws ≡ ws' = ap tail_of e in
         (λ k. said (first k) (rest k)) ∙ says
 
--- what begins with the word of a verb spells commands of that verb alone
-pub spelled_verb : (v : Verb) (ws : List (List ℕ)) (r : Request) → spells (word_of v ∷ ws) r ≡ true → v ≡ verb_of_request r
-spelled_verb v ws r h = go (spelled r (word_of v ∷ ws) h)
-  where
-    go : Spoken (word_of v ∷ ws) r → v ≡ verb_of_request r
-    go (ws', e, says) = same_verb v (verb_of_request r) (ap head_of e)
-
--- what spells a command begins with the word of its verb
-pub spelled_first : (words : List (List ℕ)) (r : Request) → spells words r ≡ true → (ws : List (List ℕ)) × (words ≡ word_of (verb_of_request r) ∷ ws)
-spelled_first words r h = go (spelled r words h)
-  where
-    go : Spoken words r → (ws : List (List ℕ)) × (words ≡ word_of (verb_of_request r) ∷ ws)
-    go (ws, e, says) = (ws, e)
-
 no_syntax : (r : Request) → limited r ≡ Fails refusal.Syntax → ⊥
 no_syntax r e = go (within r) e
   where
@@ -288,30 +279,30 @@ no_syntax r e = go (within r) e
     go true e = cc
     go false e = cc
 
-pub says : (v : Verb) (ws : List (List ℕ)) → Says every (word_of v ∷ ws) (said v ws)
+pub says : (v : Verb) (ws : List (List ℕ)) → Says (word_of v ∷ ws) (said v ws)
 says v ws = go (said v ws) refl (said_sound v ws)
   where
-    go : (x : Reading) → said v ws ≡ x → Sound (word_of v ∷ ws) x → Says every (word_of v ∷ ws) x
+    go : (x : Reading) → said v ws ≡ x → Sound (word_of v ∷ ws) x → Says (word_of v ∷ ws) x
     go Silent e h = absurd h
-    go (Asks r) e h = (h.0, h.1, refl)
-    go (Fails refusal.DataLimit) e (r, h, limit) = (r, h, limit, refl)
-    go (Fails refusal.Syntax) e h = (no_comment v, λ r has. unspelled r (spells (word_of v ∷ ws) r) refl)
+    go (Asks r) e h = h
+    go (Fails refusal.DataLimit) e h = h
+    go (Fails refusal.Syntax) e h = (no_comment v, λ r. unspelled r (spells (word_of v ∷ ws) r) refl)
       where
         unspelled : (r : Request) (b : Bool) → spells (word_of v ∷ ws) r ≡ b → b ≡ false
         unspelled r true s = absurd (no_syntax r (sym (spelled_said v ws r s) ∙ e))
         unspelled r false s = refl
     go (Fails _) e h = absurd h
 
-pub says_one : (v : Verb) (ws : List (List ℕ)) (y : Reading) → Says every (word_of v ∷ ws) y → y ≡ said v ws
+pub says_one : (v : Verb) (ws : List (List ℕ)) (y : Reading) → Says (word_of v ∷ ws) y → y ≡ said v ws
 says_one v ws Silent h = absurd (true≢false (sym h ∙ no_comment v))
 says_one v ws (Asks r) h = sym (spelled_said v ws r h.0 ∙ ap (λ b. cond b (Asks r) (Fails refusal.DataLimit)) h.1)
-says_one v ws (Fails refusal.DataLimit) (r, h, limit, has) = sym (spelled_said v ws r h ∙ ap (λ b. cond b (Asks r) (Fails refusal.DataLimit)) limit)
+says_one v ws (Fails refusal.DataLimit) (r, h, limit) = sym (spelled_said v ws r h ∙ ap (λ b. cond b (Asks r) (Fails refusal.DataLimit)) limit)
 says_one v ws (Fails refusal.Syntax) h = go (said v ws) (said_sound v ws)
   where
     go : (x : Reading) → Sound (word_of v ∷ ws) x → Fails refusal.Syntax ≡ x
     go Silent s = absurd s
-    go (Asks r) s = absurd (true≢false (sym s.0 ∙ h.1 r refl))
-    go (Fails refusal.DataLimit) (r, s, limit) = absurd (true≢false (sym s ∙ h.1 r refl))
+    go (Asks r) s = absurd (true≢false (sym s.0 ∙ h.1 r))
+    go (Fails refusal.DataLimit) (r, s, limit) = absurd (true≢false (sym s ∙ h.1 r))
     go (Fails refusal.Syntax) s = refl
     go (Fails _) s = absurd s
 says_one v ws (Fails _) h = absurd h
@@ -328,24 +319,24 @@ unknown w ws r other h = go (spelled r (w ∷ ws) h)
         let v : Verb = verb_of_request r in
         true≢false (sym (equal_bytes (word_of v)) ∙ ap (λ l. bytes_eq l (word_of v)) (sym (ap head_of e)) ∙ other v)
 
-pub unknown_says : (w : List ℕ) (ws : List (List ℕ)) → is_comment w ≡ false → NoVerb w → Says every (w ∷ ws) (Fails refusal.Syntax)
-unknown_says w ws c other = (c, λ r has. go r (spells (w ∷ ws) r) refl)
+pub unknown_says : (w : List ℕ) (ws : List (List ℕ)) → is_comment w ≡ false → NoVerb w → Says (w ∷ ws) (Fails refusal.Syntax)
+unknown_says w ws c other = (c, λ r. go r (spells (w ∷ ws) r) refl)
   where
     go : (r : Request) (b : Bool) → spells (w ∷ ws) r ≡ b → b ≡ false
     go r true h = absurd (unknown w ws r other h)
     go r false h = refl
 
-pub unknown_one : (w : List ℕ) (ws : List (List ℕ)) (y : Reading) → is_comment w ≡ false → NoVerb w → Says every (w ∷ ws) y → y ≡ Fails refusal.Syntax
+pub unknown_one : (w : List ℕ) (ws : List (List ℕ)) (y : Reading) → is_comment w ≡ false → NoVerb w → Says (w ∷ ws) y → y ≡ Fails refusal.Syntax
 unknown_one w ws Silent c other h = absurd (true≢false (sym h ∙ c))
 unknown_one w ws (Asks r) c other h = absurd (unknown w ws r other h.0)
-unknown_one w ws (Fails refusal.DataLimit) c other (r, h, limit, has) = absurd (unknown w ws r other h)
+unknown_one w ws (Fails refusal.DataLimit) c other (r, h, limit) = absurd (unknown w ws r other h)
 unknown_one w ws (Fails refusal.Syntax) c other h = refl
 unknown_one w ws (Fails _) c other h = absurd h
 
 -- ---- a line
 
 abbrev pub OneReading : List (List ℕ) → Reading → Type 0
-OneReading words x = Says every words x × ((y : Reading) → Says every words y → y ≡ x)
+OneReading words x = Says words x × ((y : Reading) → Says words y → y ≡ x)
 
 pub line_unknown : (words : List (List ℕ)) (w : List ℕ) (ws : List (List ℕ)) → words ≡ w ∷ ws → is_comment w ≡ false → NoVerb w → OneReading words (Fails refusal.Syntax)
 line_unknown words w ws e c other =

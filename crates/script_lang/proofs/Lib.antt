@@ -3,5 +3,4 @@ pub mod DataParts
 pub mod Slots
 pub mod Rows
 pub mod Laws
-pub mod Built
 pub mod Keeps

@@ -58,6 +58,7 @@ row (request.Append x given) = Key (codes "append") ∷ Of x ∷ Given given ∷
 row (request.Replace x pos given) = Key (codes "replace") ∷ Of x ∷ Number pos ∷ Given given ∷ []
 row (request.Delete x pos len) = Key (codes "delete") ∷ Of x ∷ Number pos ∷ Number len ∷ []
 row (request.Freeze x bind) = Key (codes "freeze") ∷ Of x ∷ Key (codes "as") ∷ At bind ∷ []
+row (request.Derive x bind) = Key (codes "derive") ∷ Of x ∷ Key (codes "as") ∷ At bind ∷ []
 row (request.Group name frames mru) = Key (codes "group") ∷ Name name ∷ Frames frames ∷ Key (policy mru) ∷ []
 row (request.Scan x name group) = Key (codes "scan") ∷ Of x ∷ Key (codes "as") ∷ Name name ∷ in_group group
 row (request.Next name len) = Key (codes "next") ∷ Name name ∷ Number len ∷ []

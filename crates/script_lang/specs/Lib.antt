@@ -5,4 +5,3 @@ pub mod Forms
 pub mod Verbs
 pub mod Spoken
 pub mod Parsed
-pub mod Begins

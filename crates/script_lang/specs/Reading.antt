@@ -3,7 +3,6 @@ use Rattle.std.specs.Prelude.{ℕ, ◌≡◌, List, [], ◌∷◌, Bool, true, f
 use Rattle.table_model.specs.declared.reply.Refusal.{Refusal}
 use Rattle.table_model.specs.declared.reply.Refusal.TheVariants as refusal
 use Rattle.table_model.specs.Requests.{Request}
-use Rattle.table_model.specs.Built.{is_built}
 use Rattle.script_lines.specs.Lines.{Line, Short, Long}
 use Rattle.script_lang.specs.LineWords.{words_of}
 use Rattle.script_lang.specs.Grammar.{spells, within}
@@ -23,27 +22,15 @@ abbrev pub is_silent : List (List ℕ) → Bool
 is_silent [] = true
 is_silent (word ∷ words) = is_comment word
 
--- The words say this, in the language of the commands that pass a test. Words that spell none of these are a fault of syntax.
-abbrev pub Says : (Request → Bool) → List (List ℕ) → Reading → Type 0
-Says has words Silent = IsTrue (is_silent words)
-Says has words (Asks r) = IsTrue (spells words r) × IsTrue (within r) × IsTrue (has r)
-Says has words (Fails refusal.DataLimit) = (r : Request) × IsTrue (spells words r) × IsFalse (within r) × IsTrue (has r)
-Says has words (Fails refusal.Syntax) = IsFalse (is_silent words) × ((r : Request) → IsTrue (has r) → IsFalse (spells words r))
-Says has words (Fails _) = ⊥
+-- The words say this. Words that spell no command are a fault of syntax.
+abbrev pub Says : List (List ℕ) → Reading → Type 0
+Says words Silent = IsTrue (is_silent words)
+Says words (Asks r) = IsTrue (spells words r) × IsTrue (within r)
+Says words (Fails refusal.DataLimit) = (r : Request) × IsTrue (spells words r) × IsFalse (within r)
+Says words (Fails refusal.Syntax) = IsFalse (is_silent words) × ((r : Request) → IsFalse (spells words r))
+Says words (Fails _) = ⊥
 
 -- A line says this.
-abbrev pub ReadsIn : (Request → Bool) → Line → Reading → Type 0
-ReadsIn has (Short bytes) reading = Says has (words_of bytes) reading
-ReadsIn has Long reading = reading ≡ Fails refusal.LineLong
-
--- each command
-abbrev pub every : Request → Bool
-every r = true
-
--- the same in the whole language
-abbrev pub ReadsAny : Line → Reading → Type 0
-ReadsAny = ReadsIn every
-
--- the same in the language of the commands that the product has
 abbrev pub Reads : Line → Reading → Type 0
-Reads = ReadsIn is_built
+Reads (Short bytes) reading = Says (words_of bytes) reading
+Reads Long reading = reading ≡ Fails refusal.LineLong

@@ -186,6 +186,9 @@ plain verb.Create ws = do
 plain verb.Freeze ws = do
   p ← reference_as ws
   Some (request.Freeze p.0 p.1)
+plain verb.Derive ws = do
+  p ← reference_as ws
+  Some (request.Derive p.0 p.1)
 plain verb.Delete ws = do
   p ← range ws
   Some (request.Delete p.0 p.1 p.2)

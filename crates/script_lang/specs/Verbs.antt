@@ -1,8 +1,8 @@
 -- The first word of each command.
-use Rattle.std.specs.Prelude.{ℕ, List, [], codes, false, None}
+use Rattle.std.specs.Prelude.{ℕ, List, codes}
 use Rattle.script_lang.specs.declared.verbs.Verb.{Verb}
 use Rattle.script_lang.specs.declared.verbs.Verb.TheVariants as verb
-use Rattle.table_model.specs.Requests.{Request, Reference, Bound}
+use Rattle.table_model.specs.Requests.{Request}
 use Rattle.table_model.specs.Requests as request
 
 abbrev pub word_of : Verb → List ℕ
@@ -25,6 +25,7 @@ word_of verb.Versions = codes "versions"
 word_of verb.Drop = codes "drop"
 word_of verb.Create = codes "create"
 word_of verb.Freeze = codes "freeze"
+word_of verb.Derive = codes "derive"
 word_of verb.Read = codes "read"
 word_of verb.Insert = codes "insert"
 word_of verb.Append = codes "append"
@@ -55,6 +56,7 @@ verb_of_request (request.Versions x) = verb.Versions
 verb_of_request (request.DropVersion x) = verb.Drop
 verb_of_request (request.Create file bind) = verb.Create
 verb_of_request (request.Freeze x bind) = verb.Freeze
+verb_of_request (request.Derive x bind) = verb.Derive
 verb_of_request (request.Read x pos len) = verb.Read
 verb_of_request (request.Insert x pos given) = verb.Insert
 verb_of_request (request.Append x given) = verb.Append
@@ -63,33 +65,3 @@ verb_of_request (request.Delete x pos len) = verb.Delete
 verb_of_request (request.Group name frames mru) = verb.Group
 verb_of_request (request.Scan x name group) = verb.Scan
 verb_of_request (request.Next name len) = verb.Next
-
--- a command of a verb, of nothing
-abbrev pub bare : Verb → Request
-bare verb.Begin = request.Begin
-bare verb.Commit = request.Commit
-bare verb.Abort = request.Abort
-bare verb.Checkpoint = request.Checkpoint
-bare verb.Log = request.Log
-bare verb.Files = request.Files
-bare verb.Space = request.Space
-bare verb.File = request.File []
-bare verb.Unfile = request.Unfile []
-bare verb.List = request.ListFile []
-bare verb.Close = request.Close []
-bare verb.Destroy = request.Destroy (Bound [])
-bare verb.Size = request.Size (Bound [])
-bare verb.Stat = request.Stat (Bound [])
-bare verb.Digest = request.Digest (Bound [])
-bare verb.Versions = request.Versions (Bound [])
-bare verb.Drop = request.DropVersion (Bound [])
-bare verb.Create = request.Create [] []
-bare verb.Freeze = request.Freeze (Bound []) []
-bare verb.Read = request.Read (Bound []) 0 0
-bare verb.Insert = request.Insert (Bound []) 0 []
-bare verb.Append = request.Append (Bound []) []
-bare verb.Replace = request.Replace (Bound []) 0 []
-bare verb.Delete = request.Delete (Bound []) 0 0
-bare verb.Group = request.Group [] 0 false
-bare verb.Scan = request.Scan (Bound []) [] None
-bare verb.Next = request.Next [] 0

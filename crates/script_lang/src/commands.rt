@@ -317,6 +317,10 @@ fn plain(verb: Verb, words: Words<'_>) -> Option<Command<'_>>
             let (x, bind) = subject_as(words)?;
             Some(Command::Freeze { x, bind })
         }
+        Verb::Derive => {
+            let (x, bind) = subject_as(words)?;
+            Some(Command::Derive { x, bind })
+        }
         Verb::Delete => {
             let (x, pos, len) = range(words)?;
             Some(Command::Delete { x, pos, len })

@@ -7,4 +7,4 @@ mod parser;
 mod verbs;
 mod words;
 
-pub use parser::{parse, parse_any};
+pub use parser::parse;

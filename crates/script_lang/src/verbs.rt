@@ -2,12 +2,9 @@
 
 ghost use Rattle.std.specs.Prelude.{◌≡◌, bytes_eq, true, false, MatchOption};
 ghost use Rattle.script_lang.specs.declared.verbs.Verb.{Verb};
-ghost use Rattle.table_model.specs.Requests.{request_of};
-ghost use Rattle.table_model.specs.Built.{is_built};
-ghost use Rattle.script_lang.specs.Verbs.{word_of, bare};
+ghost use Rattle.script_lang.specs.Verbs.{word_of};
 
 use crate::forms::is_word;
-use table_model::{Command, Subject, is_built};
 
 /// What a command does, by its first word.
 #[derive(Clone, Copy)]
@@ -31,6 +28,7 @@ pub enum Verb {
     Drop,
     Create,
     Freeze,
+    Derive,
     Read,
     Insert,
     Append,
@@ -84,6 +82,8 @@ pub(crate) fn verb_of(word: &[u8]) -> Option<Verb>
         Some(Verb::Create)
     } else if is_word(word, "freeze") {
         Some(Verb::Freeze)
+    } else if is_word(word, "derive") {
+        Some(Verb::Derive)
     } else if is_word(word, "read") {
         Some(Verb::Read)
     } else if is_word(word, "insert") {
@@ -103,91 +103,4 @@ pub(crate) fn verb_of(word: &[u8]) -> Option<Verb>
     } else {
         None
     }
-}
-
-/// A command of the verb, of nothing.
-fn bare(verb: Verb) -> Command<'static>
-    ensures { request_of result ≡ bare verb }
-{
-    match verb {
-        Verb::Begin => Command::Begin,
-        Verb::Commit => Command::Commit,
-        Verb::Abort => Command::Abort,
-        Verb::Checkpoint => Command::Checkpoint,
-        Verb::Log => Command::Log,
-        Verb::Files => Command::Files,
-        Verb::Space => Command::Space,
-        Verb::File => Command::File { name: b"" },
-        Verb::Unfile => Command::Unfile { name: b"" },
-        Verb::List => Command::List { name: b"" },
-        Verb::Close => Command::Close { name: b"" },
-        Verb::Destroy => Command::Destroy {
-            x: Subject::Name(b""),
-        },
-        Verb::Size => Command::Size {
-            x: Subject::Name(b""),
-        },
-        Verb::Stat => Command::Stat {
-            x: Subject::Name(b""),
-        },
-        Verb::Digest => Command::Digest {
-            x: Subject::Name(b""),
-        },
-        Verb::Versions => Command::Versions {
-            x: Subject::Name(b""),
-        },
-        Verb::Drop => Command::DropVersion {
-            x: Subject::Name(b""),
-        },
-        Verb::Create => Command::Create {
-            file: b"",
-            bind: b"",
-        },
-        Verb::Freeze => Command::Freeze {
-            x: Subject::Name(b""),
-            bind: b"",
-        },
-        Verb::Read => Command::Read {
-            x: Subject::Name(b""),
-            pos: 0,
-            len: 0,
-        },
-        Verb::Insert => Command::Insert {
-            x: Subject::Name(b""),
-            pos: 0,
-            given: b"",
-        },
-        Verb::Append => Command::Append {
-            x: Subject::Name(b""),
-            given: b"",
-        },
-        Verb::Replace => Command::Replace {
-            x: Subject::Name(b""),
-            pos: 0,
-            given: b"",
-        },
-        Verb::Delete => Command::Delete {
-            x: Subject::Name(b""),
-            pos: 0,
-            len: 0,
-        },
-        Verb::Group => Command::Group {
-            name: b"",
-            frames: 0,
-            mru: false,
-        },
-        Verb::Scan => Command::Scan {
-            x: Subject::Name(b""),
-            name: b"",
-            group: None,
-        },
-        Verb::Next => Command::Next { name: b"", len: 0 },
-    }
-}
-
-/// Whether the commands of the verb are built.
-pub(crate) fn is_built_verb(verb: Verb) -> bool
-    ensures { result ≡ is_built (bare verb) }
-{
-    is_built(&bare(verb))
 }

@@ -52,6 +52,8 @@ refusal_words (refusal.TooMany scans) = codes "20" ∷ codes "too_many" ∷ (if 
 refusal_words refusal.IdsSpent = codes "21" ∷ codes "ids_spent" ∷ []
 refusal_words (refusal.LongTxn updates touched) = codes "22" ∷ codes "long_txn" ∷ decimal updates ∷ decimal touched ∷ []
 refusal_words (refusal.Full area need free) = codes "23" ∷ codes "full" ∷ area_word area ∷ decimal need ∷ decimal free ∷ []
+refusal_words (refusal.Branches derived) = codes "24" ∷ codes "branches" ∷ decimal derived ∷ []
+refusal_words (refusal.Busy client) = codes "25" ∷ codes "busy" ∷ decimal client ∷ []
 
 abbrev pub ok : List ℕ → List (List ℕ) → List (List ℕ)
 ok word items = codes "ok" ∷ word ∷ items
@@ -78,6 +80,7 @@ reply_words (reply.Append size) = ok (codes "append") (decimal size ∷ [])
 reply_words (reply.Replace size) = ok (codes "replace") (decimal size ∷ [])
 reply_words (reply.Delete size) = ok (codes "delete") (decimal size ∷ [])
 reply_words (reply.Freeze oid) = ok (codes "freeze") (oid_word oid ∷ [])
+reply_words (reply.Derive oid) = ok (codes "derive") (oid_word oid ∷ [])
 reply_words (reply.Versions oids) = ok (codes "versions") (counted_words (map oid_word oids))
 reply_words (reply.DropVersion oid) = ok (codes "drop") (oid_word oid ∷ [])
 reply_words (reply.Group name) = ok (codes "group") (name ∷ [])

@@ -265,6 +265,8 @@ fn refusal_name(why: &Refusal) -> &'static str
         Refusal::IdsSpent => "21 ids_spent",
         Refusal::LongTxn { .. } => "22 long_txn",
         Refusal::Full { .. } => "23 full",
+        Refusal::Branches { .. } => "24 branches",
+        Refusal::Busy { .. } => "25 busy",
     }
 }
 
@@ -293,6 +295,8 @@ fn push_values(out: &mut Vec<u8>, why: &Refusal) -> Result<(), AllocError>
             push_count(out, *need)?;
             push_count(out, *free)
         }
+        Refusal::Branches { derived } => push_count(out, *derived),
+        Refusal::Busy { client } => push_count(out, u64::from(*client)),
         _ => Ok(()),
     }
 }
@@ -448,6 +452,7 @@ pub fn push_reply(out: &mut Vec<u8>, reply: &Reply) -> Result<(), AllocError>
         Reply::Replace { size } => push_with_number(out, "replace", *size),
         Reply::Delete { size } => push_with_number(out, "delete", *size),
         Reply::Freeze { oid } => push_with_oid(out, "freeze", *oid),
+        Reply::Derive { oid } => push_with_oid(out, "derive", *oid),
         Reply::Versions { oids } => push_with_oids(out, "versions", oids.as_slice()),
         Reply::DropVersion { oid } => push_with_oid(out, "drop", *oid),
         Reply::Group { name } => push_with_name(out, "group", name.as_slice()),

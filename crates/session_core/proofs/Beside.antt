@@ -18,7 +18,6 @@ use Rattle.object_records.specs.Record.{Record}
 use Rattle.disk_model.specs.Outside.{Outside}
 use Rattle.session_views.specs.View.{View, ShowsNow}
 use Rattle.session_views.specs.declared.engine.Stop.{Stop}
-use Rattle.version_model.specs.Versions.{lone_head}
 use Rattle.session_core.specs.Sessions.{SessionState}
 use Rattle.session_core.specs.Meant.{meant}
 use Rattle.session_core.specs.Finding.{PortShows, IfLive, IfShown, IsOutside, stop_at}
@@ -58,6 +57,6 @@ module _ {S : Type 0} (g : ground.Ghosts S) (s : S) {before : View SessionState}
       → IfLive before oid (λ bytes. IfErr result (λ fault. IsDamage fault → ⊥))
   room_sound oid result sound version is =
       let reads = reads_live g s shows oid version is in
-      let record_is : Record = record { head = lone_head oid.unique; content = reads.content } in
+      let record_is : Record = record { head = reads.head; content = reads.content } in
       let of : IsOfFile g s oid.page.0 = record { index = reads.index; file = reads.stored.stands.file; named = reads.stored.stands.named } in
       IfErr-weaker result _ _ (λ fault sound damage. sound damage shows.tells (page_lies g s shows reads.index oid record_is reads.stored) (of_page g s oid.page.0 of)) sound

@@ -1,5 +1,5 @@
 -- The change of a version as an update of the volume.
-use Rattle.std.proofs.Common.{◌≡◌, ◌≤◌, ℕ, List, length, Option, None, sym, subst, arith, inl, inr}
+use Rattle.std.proofs.Common.{◌≡◌, ◌≤◌, ℕ, List, length, Option, None, sym, subst, ◌∙◌, arith, inl, inr}
 use Rattle.std.proofs.lemmas.Bool.{cases_lt}
 use Rattle.std.specs.Prelude.{Ok, Err}
 use Rattle.ex_base.specs.declared.faults.PortFault.{PortFault}
@@ -9,23 +9,26 @@ use Rattle.ex_base.specs.declared.names.Root.{Root}
 use Rattle.ex_base.specs.Ports.{IsDamage, Keeps}
 use Rattle.index_pages.specs.declared.Index.{Index}
 use Rattle.object_records.specs.Record.{Content}
+use Rattle.object_records.specs.declared.Head.{Head}
+use Rattle.object_records.specs.declared.State.TheVariants.{Current}
 use Rattle.op_log.specs.declared.record.LogRecord.{LogRecord}
 use Rattle.table_model.specs.declared.table.Table.{Table}
 use Rattle.table_model.specs.Tables.{with_bytes}
 use Rattle.versions.specs.Edited.{HasNeed, TurnsVersion}
-use Rattle.version_model.specs.Versions.{AreInUse, Change, HasVersion, InRange, changed, count_of, place_of, root_of}
+use Rattle.versions.specs.Versions.{AreInUse, Change, HasVersion, InRange, changed, count_of, place_of, root_of}
 use Rattle.volume_edits.specs.Ported.{IsApart, IsVolume, units_in}
 use Rattle.volume_edits.proofs.Changing.{changes_volume}
 use Rattle.volume_edits.proofs.Showing.{version_found}
 use Rattle.volume_model.specs.Volume.{Volume, table_of}
 use Rattle.session_core.specs.TableUpdates.{AsksChange, BecomesVolume, Changes, Updates}
-use Rattle.session_core.proofs.Tables.{bytes_stay, nothing_changed}
+use Rattle.session_core.proofs.States.{is_current}
+use Rattle.session_core.proofs.Tables.{bytes_stay, nothing_changed, table_formed}
 use Rattle.session_core.proofs.MovedVolumes.{changed_volume, in_use, kept_volume}
 
 -- an edit of the version, whose new bytes are those that the change makes, with the roots that go and come
 abbrev EditsBytes : {S : Type 0} → ground.Ghosts S → S → S → Oid → Change → Option Root → Option Root → Type 0
-EditsBytes g old new oid change gone come = g.tells old → AreInUse g old → (index : Index) (content : Content) (bytes : List ℕ) → HasVersion g old index oid content bytes
-    → TurnsVersion g old new index oid content change (changed change bytes) gone come
+EditsBytes g old new oid change gone come = g.tells old → AreInUse g old → (index : Index) (head : Head) (content : Content) (bytes : List ℕ) → HasVersion g old index oid head content bytes
+    → TurnsVersion g old new index oid head content change (changed change bytes) gone come
 
 -- without bytes no root goes, and none comes
 abbrev NoRoot : Change → Option Root → Option Root → Type 0
@@ -41,14 +44,14 @@ module _ {S : Type 0} (g : ground.Ghosts S) (old new : S) (oid : Oid) (change : 
         let away = no_root none in
         subst (λ (r : Option Root). BecomesVolume g old new records v (with_bytes oid (changed change) (table_of (units_in g old) v)) r come) (sym away.0)
         (subst (λ (r : Option Root). BecomesVolume g old new records v (with_bytes oid (changed change) (table_of (units_in g old) v)) None r) (sym away.1)
-        (subst (λ (t : Table). BecomesVolume g old new records v t None None) (sym (bytes_stay oid (changed change) (nothing_changed change none) (table_of (units_in g old) v))) (kept_volume g old records v vol new (nothing none))))
+        (subst (λ (t : Table). BecomesVolume g old new records v t None None) (sym (bytes_stay oid (changed change) (nothing_changed change none) (table_of (units_in g old) v) (table_formed (g.geometry old) records (units_in g old) v vol.shows.parts))) (kept_volume g old records v vol new (nothing none))))
     | inr some ↦
         let found = version_found g old records v vol.shows vol oid asks.version asks.is in
-        let turns = edited some tells (in_use g old records v vol) found.index found.content asks.version.bytes found.stands in
+        let turns = edited some tells (in_use g old records v vol) found.index found.head found.content asks.version.bytes found.stands in
         subst (λ (r : Option Root). BecomesVolume g old new records v (with_bytes oid (changed change) (table_of (units_in g old) v)) r come) (sym turns.went)
         (subst (λ (r : Option Root). BecomesVolume g old new records v (with_bytes oid (changed change) (table_of (units_in g old) v)) (root_of found.content) r) (sym turns.came)
         (changed_volume g old records v vol new oid asks.version (changed change) (root_of found.content) (root_of turns.edit.now) asks.is
-        (changes_volume g old new records v vol found.index oid found.content change asks.version.bytes (changed change asks.version.bytes) (g.leads_geometry old new leads) apart found.stands turns.edit)))
+        (changes_volume g old new records v vol found.index oid found.head found.content change asks.version.bytes (changed change asks.version.bytes) (g.leads_geometry old new leads) apart found.stands turns.edit)))
   ]
 
   pub version_changed : (gone come : Option Root) → g.leads old new → (count_of change ≡ 0 → Keeps g old new) → NoRoot change gone come → (1 ≤ count_of change → EditsBytes g old new oid change gone come)
@@ -59,13 +62,13 @@ module _ {S : Type 0} (g : ground.Ghosts S) (old new : S) (oid : Oid) (change : 
   }
 
   pub change_failed : (fault : PortFault)
-      → (IsDamage fault → g.tells old → AreInUse g old → (index : Index) (content : Content) (bytes : List ℕ) → HasVersion g old index oid content bytes → InRange change (length bytes)
+      → (IsDamage fault → g.tells old → AreInUse g old → (index : Index) (head : Head) (content : Content) (bytes : List ℕ) → HasVersion g old index oid head content bytes → head.state ≡ Current → InRange change (length bytes)
       → HasNeed g old (place_of oid) content change (length (changed change bytes)) → ⊥)
       → Updates g old new (Changes oid change) (Err fault)
   change_failed fault sound = record {
     done = tt;
     sound = λ damage records v tells vol asks room.
         let found = version_found g old records v vol.shows vol oid asks.version asks.is in
-        sound damage tells (in_use g old records v vol) found.index found.content asks.version.bytes found.stands asks.inside
-        (room found.index found.content asks.version.bytes found.stands);
+        sound damage tells (in_use g old records v vol) found.index found.head found.content asks.version.bytes found.stands (is_current found.head.state (found.frozen ∙ asks.current)) asks.inside
+        (room found.index found.head found.content asks.version.bytes found.stands);
   }

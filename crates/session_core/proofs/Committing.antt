@@ -83,8 +83,8 @@ others_numbered g records units v (file, (page, (body, (node, (balance, (unique,
     (
       body,
       (
-        record { named = node.named; no_file_page = node.no_file_page; one_object = node.one_object },
-        (balance, (record { differ = unique.differ; some = unique.some; below = unique.below; listed = unique.listed }, tt)),
+        record { named = node.named; no_file_page = node.no_file_page; objects = node.objects },
+        (balance, (record { differ = unique.differ; some = unique.some; below = unique.below }, tt)),
       ),
     ),
   ),

@@ -1,6 +1,6 @@
 -- What a port over a session that shows finds of a version.
 use Rattle.std.proofs.Common.{◌≡◌, ◌∙◌, ℕ, ◌<◌, ◌≤◌, List, length, All, Option, Some, None, Result, Ok, Err, refl, sym, ap, subst, arith, inl, inr}
-use Rattle.std.specs.Prelude.{slice_index_or, IsSome, IfOk, IfErr, IfSome}
+use Rattle.std.specs.Prelude.{◌↔◌, slice_index_or, IsSome, IfOk, IfErr, IfSome}
 use Rattle.ex_base.specs.declared.ground.Ground as ground
 use Rattle.ex_base.specs.declared.geometry.Geometry.{Geometry}
 use Rattle.ex_base.specs.declared.faults.PortFault.{PortFault}
@@ -22,15 +22,16 @@ use Rattle.index_pages.specs.declared.Index.{Index}
 use Rattle.file_index.specs.Index.{IsFilesPage}
 use Rattle.file_index.proofs.Heights.{keys_of_pages}
 use Rattle.file_bodies.specs.Bodies.{bodies_of, pages_in}
-use Rattle.file_bodies.specs.Files.{HasFiles, HasFileOf, HasBody}
+use Rattle.file_bodies.specs.Files.{HasFiles, HasFileOf}
 use Rattle.file_bodies.proofs.Belonging.{file_of_all}
-use Rattle.object_records.specs.Record.{Content, Small, Large, Record, BodyOf}
+use Rattle.object_records.specs.Record.{Content, Small, Large, Record}
 use Rattle.object_records.specs.Reads.{record_on}
 use Rattle.object_records.proofs.RecordLaws.{record_read}
 use Rattle.table_model.specs.declared.table.Table.{Table}
-use Rattle.table_model.specs.declared.table.Version.{Version}
+use Rattle.version_lists.specs.declared.version.Version.{Version}
 use Rattle.table_model.specs.Machines.{shown}
-use Rattle.table_model.specs.Tables.{version_at, is_current}
+use Rattle.table_model.specs.Tables.{version_at, versions_of}
+use Rattle.table_model.specs.Refusals.{branches_if}
 use Rattle.session_views.specs.declared.engine.Stop.{Stop}
 use Rattle.session_views.specs.View.{View, ShowsNow}
 use Rattle.versions.specs.Found as found_words
@@ -39,20 +40,22 @@ use Rattle.ex_base.specs.Sizes.{object_most}
 use Rattle.ex_base.proofs.Members.{In, in_contains, of_each}
 use Rattle.versions.proofs.Roots.{root_is_for}
 use Rattle.versions.specs.Found.{HasLimits, IsReadable, found_of, root_of}
-use Rattle.version_model.specs.Versions.{HasRecord, HoldsVersion, Spells, Stands, lone_head}
+use Rattle.versions.specs.Versions.{HasRecord, HoldsVersion, Spells, Stands}
+use Rattle.object_records.specs.declared.Head.{Head}
 use Rattle.versions.specs.declared.finding.Found.{Found}
 use Rattle.volume_port.specs.Logged.{LoggedSet, is_held}
 use Rattle.volume_port.specs.Ported.{image_over}
 use Rattle.volume_port.specs.Reading.{TellsBytes}
-use Rattle.volume_model.specs.Volume.{Volume, oid_of, table_of}
+use Rattle.volume_model.specs.Volume.{Volume, content_in, is_frozen, table_of}
 use Rattle.volume_edits.specs.Ported.{ShowsVolume, index_named, units_in}
 use Rattle.volume_edits.specs.Shown.{ReadsVersion}
 use Rattle.volume_edits.proofs.Contents.{content_of, found_at, has_files}
-use Rattle.volume_edits.proofs.Finding.{found_or_not, stands_row, stored_row}
-use Rattle.volume_edits.proofs.Showing.{current_here, none_there, version_read, version_there}
+use Rattle.volume_edits.proofs.Finding.{found_or_not, into_volume, stands_row, stored_row}
+use Rattle.volume_edits.proofs.Showing.{content_spells, none_there, roots_here, version_read}
+use Rattle.volume_edits.proofs.Standings.{first_in_table, newer_in_table}
 use Rattle.session_core.specs.Sessions.{SessionState, IsSession}
 use Rattle.session_core.specs.Meant.{meant, held_view}
-use Rattle.session_core.specs.Finding.{HasParts, IsPortOver, PortShows, LeavesFrames, IfShown, LineStops, IsOutside, IsFound, TellsVersion, held_image, content_named, stop_at}
+use Rattle.session_core.specs.Finding.{HasParts, IsPortOver, PortShows, LeavesFrames, IfShown, LineStops, IsOutside, IsFound, TellsVersion, held_image, content_named, record_named, stop_at}
 use Rattle.session_core.specs.Steps.{OnlyFrames}
 use Rattle.session_core.proofs.Bridge.{shows_volume, table_is, image_shown, session_geometry}
 use Rattle.session_core.proofs.Frames.{frames_lent}
@@ -112,14 +115,14 @@ no_damage (fault.Damaged page want got) never = absurd (never tt)
 -- ---- a version
 
 -- what the port reads of a version, as `find` and `read_at` ask it
-pub held_version : {S : Type 0} (g : ground.Ghosts S) (s : S) (oid : Oid) (version : Version) (reads : ReadsVersion g s oid version) → HoldsVersion g s reads.index oid reads.content version.bytes
+pub held_version : {S : Type 0} (g : ground.Ghosts S) (s : S) (oid : Oid) (version : Version) (reads : ReadsVersion g s oid version) → HoldsVersion g s reads.index oid reads.head reads.content version.bytes
 held_version g s oid version reads = record { stored = reads.stored; spells = reads.spells; apart = reads.apart }
 
 -- what `find` says of its result
 pub record FindsBy {S : Type 0} (g : ground.Ghosts S) (s : S) (oid : Oid) (result : Option Found) : Type 0 where
   pub stands : IfSome result (λ _. g.tells s → HasFileOf g s oid.page.0 → Stands g s oid)
   pub told : g.tells s → (index : Index) (is : Record) → HasRecord g s index oid is → result ≡ Some (found_of is)
-  pub size : g.tells s → (index : Index) (content : Content) (bytes : List ℕ) → HoldsVersion g s index oid content bytes
+  pub size : g.tells s → (index : Index) (head : Head) (content : Content) (bytes : List ℕ) → HoldsVersion g s index oid head content bytes
       → IfSome result (λ found. found.size ≡ length bytes)
 
 module _ {S : Type 0} (g : ground.Ghosts S) (s : S) {v : View SessionState} (shows : PortShows g s v) where
@@ -151,40 +154,49 @@ module _ {S : Type 0} (g : ground.Ghosts S) (s : S) {v : View SessionState} (sho
       (keys_of_pages (g.geometry s) index.file_no (g.image s) index.level index.root has.stands.file.whole)
       (in_contains oid.page.0 (pages_in (g.image s) index) has.stands.named)).0
 
-  pub named_content : (index : Index) (oid : Oid) (is : Record) → HasRecord g s index oid is → content_named (held_view v) oid ≡ is.content
-  named_content index oid is has =
+  pub named_record : (index : Index) (oid : Oid) (is : Record) → HasRecord g s index oid is → record_named (held_view v) oid ≡ is
+  named_record index oid is has =
       let image : g.image s oid.page.0 ≡ held_image (held_view v).session v.disk oid.page.0 = shows.image oid.page.0 (page_lies index oid is has) in
       let slot : slice_index_or (slots_of (held_image (held_view v).session v.disk oid.page.0)) oid.slot None ≡ Some has.body =
       ap (λ (bytes : List ℕ). slice_index_or (slots_of bytes) oid.slot None) (sym image) ∙ has.stands.stands in
-      ap (λ (o : Slot). (record_on (body_of o)).content) slot ∙ ap (λ (r : Record). r.content) (record_read has.body is has.spelled)
+      ap (λ (o : Slot). record_on (body_of o)) slot ∙ record_read has.body is has.spelled
+
+  pub named_content : (index : Index) (oid : Oid) (is : Record) → HasRecord g s index oid is → content_named (held_view v) oid ≡ is.content
+  named_content index oid is has = ap (λ (r : Record). r.content) (named_record index oid is has)
 
   missing : (oid : Oid) → FindsBy g s oid None → version_at table oid ≡ None
   missing oid finds = (none_there g s records working volume oid).1 (λ st. absurd (let told = finds.told tells st.index st.is st.has in cc))
 
   -- what stands in the record of a version that the table has is told of it
   pub tells_version : (oid : Oid) (found : Found) (version : Version) (is : version_at table oid ≡ Some version) (reads : ReadsVersion g s oid version)
-      → found ≡ found_of (record { head = lone_head oid.unique; content = reads.content }) → found.size ≡ length version.bytes → TellsVersion v oid found
+      → found ≡ found_of (record { head = reads.head; content = reads.content }) → found.size ≡ length version.bytes → TellsVersion v oid found
   tells_version oid found version is reads one size =
-      let own : Record = record { head = lone_head oid.unique; content = reads.content } in
+      let own : Record = record { head = reads.head; content = reads.content } in
       let content = sym (named_content reads.index oid own reads.stored) in
+      let head : found.head ≡ reads.head = ap (λ (f : Found). f.head) one in
       record {
         version = version;
         is = ap (λ (t : Table). version_at t oid) same ∙ is;
         size = size;
-        head = ap (λ (f : Found). f.head) one;
+        head = head ∙ ap (λ (r : Record). r.head) (sym (named_record reads.index oid own reads.stored));
+        frozen = ap (λ (h : Head). is_frozen h.state) head ∙ reads.frozen;
+        first = subst (λ (h : Head). (h.older ≡ None) ↔ (version.older ≡ None)) (sym head) (first_in_table g s records working volume oid version reads.index own is reads.stored);
+        one = λ frozen.
+            subst (λ (h : Head). IsSome h.newer ↔ (branches_if (versions_of (shown v.machine)) (Some version) ≡ 1)) (sym head)
+            (subst (λ (t : Table). IsSome reads.head.newer ↔ (branches_if (versions_of t) (Some version) ≡ 1)) (sym same)
+            (let has = newer_in_table g s records working volume oid version reads.index own is reads.stored frozen in (has.1, has.0)));
         root = ap (λ (f : Found). f.root) one ∙ ap root_of content;
         content = ap (λ (f : Found). f.size) one ∙ ap found_words.size_of content;
         named = reads.named;
-        current = ap (λ (t : Table). is_current t oid) same ∙ current_here g s records working volume oid version is;
         lies = subst (λ (h : Geometry). InPageArea h oid.page.0) shows.geometry (page_lies reads.index oid own reads.stored);
       }
 
   present : (oid : Oid) (found : Found) → FindsBy g s oid (Some found) → (version : Version) → version_at table oid ≡ Some version → TellsVersion v oid found
   present oid found finds version is =
       let reads = version_read g s records working volume oid version is in
-      let told : Some found ≡ Some (found_of (record { head = lone_head oid.unique; content = reads.content })) = finds.told tells reads.index (record { head = lone_head oid.unique; content = reads.content }) reads.stored in
-      let one : found ≡ found_of (record { head = lone_head oid.unique; content = reads.content }) = cc in
-      tells_version oid found version is reads one (finds.size tells reads.index reads.content version.bytes (held_version g s oid version reads))
+      let told : Some found ≡ Some (found_of (record { head = reads.head; content = reads.content })) = finds.told tells reads.index (record { head = reads.head; content = reads.content }) reads.stored in
+      let one : found ≡ found_of (record { head = reads.head; content = reads.content }) = cc in
+      tells_version oid found version is reads one (finds.size tells reads.index reads.head reads.content version.bytes (held_version g s oid version reads))
 
   pub finds_here : (oid : Oid) (result : Option Found) → FindsBy g s oid result → IsFound v oid result
   finds_here oid None finds = ap (λ (t : Table). version_at t oid) same ∙ missing oid finds
@@ -206,17 +218,9 @@ module _ {S : Type 0} (g : ground.Ghosts S) (s : S) {v : View SessionState} (sho
       let inside : In (place, body) (bodies_of (g.image s) (index_named at.e)) =
       subst (λ (i : Index). In (place, body) (bodies_of (g.image s) i)) (sym at.named) (stands_row (g.image s) (pages_in (g.image s) some.index) place body (has.named, has.stands)) in
       let own = stored_row (place, body) (bodies_of (g.image s) (index_named at.e)) at.f.stored content.records inside in
-      let oid = oid_of own.0 in
-      let there : HasRecord g s some.index oid own.0.body = record { body = body; stands = subst (λ (p : Place). HasBody g s some.index p body) own.2.0 has; spelled = own.2.1; number = refl } in
-      let version = version_there g s records working volume some.index oid own.0.body there in
-      let reads = version_read g s records working volume oid version.0 version.1 in
-      let slot : Some reads.stored.body ≡ Some body = sym reads.stored.stands.stands ∙ there.stands.stands in
-      let same_body : reads.stored.body ≡ body = cc in
-      record {
-        is = record { head = lone_head oid.unique; content = reads.content };
-        spelled = subst (λ (b : List ℕ). BodyOf b (record { head = lone_head oid.unique; content = reads.content })) same_body reads.stored.spelled;
-        limits = limits_of reads.content version.0.bytes reads.spells;
-      }
+      let inside_volume = into_volume working at.e at.f own.0 at.beside own.1 in
+      let spells = content_spells g s records working volume own.0.body.content (roots_here g s records working volume own.0 inside_volume) in
+      record { is = own.0.body; spelled = own.2.1; limits = limits_of own.0.body.content (content_in (units_in g s) own.0.body.content) spells }
 
 -- ---- over the session that a step begins with
 
@@ -262,7 +266,7 @@ module _ {S : Type 0} (g : ground.Ghosts S) (s : S) {before : View SessionState}
   pub looked : (oid : Oid) (result : Result (Option Found) PortFault)
       → IfOk result (λ found. IfSome found (λ _. g.tells s → HasFileOf g s oid.page.0 → Stands g s oid))
       → IfOk result (λ found. g.tells s → (index : Index) (is : Record) → HasRecord g s index oid is → found ≡ Some (found_of is))
-      → IfOk result (λ found. g.tells s → (index : Index) (content : Content) (bytes : List ℕ) → HoldsVersion g s index oid content bytes
+      → IfOk result (λ found. g.tells s → (index : Index) (head : Head) (content : Content) (bytes : List ℕ) → HoldsVersion g s index oid head content bytes
       → IfSome found (λ f. f.size ≡ length bytes))
       → IfOk result (IsFound before oid)
   looked oid (Ok found) stands told size = finds_here g s shows oid found (record { stands = stands; told = told; size = size })

@@ -1,5 +1,5 @@
 -- The parts that a port leaves hold the volume that its working state became.
-use Rattle.std.proofs.Common.{◌≡◌, ◌∙◌, ℕ, Bool, true, false, List, [], ◌∷◌, ◌++◌, Option, Some, None, nat_eq, sym, ap, subst, length, map, ◌≤◌, arith}
+use Rattle.std.proofs.Common.{◌≡◌, ◌∙◌, ℕ, Bool, true, false, List, ◌∷◌, ◌++◌, Option, Some, None, nat_eq, sym, ap, subst, length, map, ◌≤◌, arith}
 use Rattle.std.specs.Prelude.{Contains, unwrap_or}
 use Rattle.std.specs.Map.{lookup}
 use Rattle.std.proofs.lemmas.Bool.{both_ways}
@@ -23,7 +23,7 @@ use Rattle.ex_base.specs.declared.names.Area.{Area}
 use Rattle.session_core.specs.TableUpdates.{BecomesVolume}
 use Rattle.op_log.specs.declared.record.LogRecord.{LogRecord}
 use Rattle.session_views.specs.View.{View, ShowsNow}
-use Rattle.version_model.specs.Versions.{AreInUse}
+use Rattle.versions.specs.Versions.{AreInUse}
 use Rattle.volume_edits.specs.Edits.{trees_of}
 use Rattle.volume_edits.specs.Ported.{IsApart, IsVolume, units_in}
 use Rattle.volume_model.specs.Committed.{Committed}

@@ -39,11 +39,18 @@ pub mod Volumes
 pub mod Working
 mod Writing
 mod Tables
+mod Tallies
 mod MovedVolumes
 mod Changed
 mod Removed
+mod States
+mod Copied
+mod Relatives
+pub mod TakingPages
+mod OlderVersion
 mod Making
 mod Recorded
+mod Records
 pub mod OtherScans
 pub mod Opening
 pub mod Closing

@@ -1,7 +1,7 @@
 -- What a port that shows a view lists of a file, and the catalog that was read before.
 use Rattle.std.proofs.Common.{◌≡◌, ◌∙◌, ℕ, All, List, [], ◌∷◌, Some, Result, Ok, Err, refl, sym, ap, subst, inl, inr}
 use Rattle.std.specs.Prelude.{Contains, IfOk, IfErr, IsPermutation}
-use Rattle.std.specs.List.{AllZip, flat_map}
+use Rattle.std.specs.List.{AllZip}
 use Rattle.ex_base.specs.declared.ground.Ground as ground
 use Rattle.ex_base.specs.declared.faults.PortFault.{PortFault}
 use Rattle.ex_base.specs.declared.names.Oid.{Oid}
@@ -14,12 +14,11 @@ use Rattle.file_bodies.specs.Bodies.{Row, bodies_of}
 use Rattle.file_bodies.specs.Files.{HasFile}
 use Rattle.object_files.specs.Catalog.{FileEntry}
 use Rattle.object_files.specs.Reads.{catalog_on}
-use Rattle.table_model.specs.declared.table.Object.{Object}
 use Rattle.table_model.specs.declared.table.Table.{Table}
-use Rattle.table_model.specs.Steps.{current_oids, objects_if}
-use Rattle.table_model.specs.Tables.{current, file_at}
+use Rattle.table_model.specs.Steps.{current_if, oids}
+use Rattle.table_model.specs.Tables.{file_at}
 use Rattle.session_views.specs.View.{View, ShowsNow}
-use Rattle.version_model.specs.Listed.{AreByNumber, AreReadable, oids_of}
+use Rattle.versions.specs.Listed.{AreByNumber, AreReadable, oids_of}
 use Rattle.volume_model.specs.Parts.{IsStored}
 use Rattle.volume_model.specs.Volume.{FileContent, Stored, Volume}
 use Rattle.volume_edits.specs.Ported.{HasContent, index_named}
@@ -56,19 +55,19 @@ module _ {S : Type 0} (g : ground.Ghosts S) (s : S) where
         → IfOk result (λ oids. g.tells s → (index : Index) → HasFile g s index → index.file_no ≡ file_no → IsPermutation (oids_of (bodies_of (g.image s) index)) (items oids))
         → IfOk result (λ oids. AreByNumber (items oids)) → IfOk result (λ oids. IfPortFile g s file_no (λ before name. items oids ≡ oids_listed before.machine name))
     lists_here (Err fault) moves sorted = tt
-    lists_here (Ok oids) moves sorted = λ before shows e there number.
+    lists_here (Ok found) moves sorted = λ before shows e there number.
         let content = content_here shows e there in
         let file = content.1.file in
-        file_listed g s shows.records shows.working shows.volume e (index_named e) (items oids) there file refl (moves shows.tells (index_named e) file number) sorted
-        ∙ sym (ap (λ (t : Table). flat_map (λ (o : Object). current_oids (current o.versions)) (objects_if (file_at t e.name))) shows.table)
+        file_listed g s shows.records shows.working shows.volume e (index_named e) (items found) there file refl (moves shows.tells (index_named e) file number) sorted
+        ∙ sym (ap (λ (t : Table). oids (current_if (file_at t e.name))) shows.table)
 
-    pub lists_sound : (result : Result T PortFault)
-        → IfErr result (λ fault. IsDamage fault → g.tells s → (index : Index) → HasFile g s index → index.file_no ≡ file_no → AreReadable (bodies_of (g.image s) index) → ⊥)
-        → IfErr result (λ fault. IfPortFile g s file_no (λ before name. IsDamage fault → ⊥))
-    lists_sound (Ok oids) sound = tt
-    lists_sound (Err fault) sound = λ before shows e there number damage.
-        let content = content_here shows e there in
-        sound damage shows.tells (index_named e) content.1.file number (stored_readable (bodies_of (g.image s) (index_named e)) content.0.stored content.1.records)
+  pub lists_sound : {T : Type 0} (file_no : ℕ) (result : Result T PortFault)
+      → IfErr result (λ fault. IsDamage fault → g.tells s → (index : Index) → HasFile g s index → index.file_no ≡ file_no → AreReadable (bodies_of (g.image s) index) → ⊥)
+      → IfErr result (λ fault. IfPortFile g s file_no (λ before name. IsDamage fault → ⊥))
+  lists_sound file_no (Ok found) sound = tt
+  lists_sound file_no (Err fault) sound = λ before shows e there number damage.
+      let content = content_here shows e there in
+      sound damage shows.tells (index_named e) content.1.file number (stored_readable (bodies_of (g.image s) (index_named e)) content.0.stored content.1.records)
 
   -- what holds of the files of a port over a session holds of those that the session shows
   pub file_on : {w : Outside} {old : SessionState} → IsPortOver g s w old → (file_no : ℕ) (P : View SessionState → List ℕ → Type 0) → IfPortFile g s file_no P → IfFile w old file_no P

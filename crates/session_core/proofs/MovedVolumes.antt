@@ -1,41 +1,34 @@
 -- A volume that a call on versions keeps, edits or moves is one that the port's working state becomes.
-use Rattle.std.proofs.Common.{◌≡◌, ℕ, Bool, true, List, [], ◌∷◌, Option, Some, None, sym, ap, subst, ◌∙◌, inl, inr}
-use Rattle.std.specs.Prelude.{Contains, if◌then◌else◌, map, nat_lt, Result, Ok, Err, IfOk, IfErr}
+use Rattle.std.proofs.Common.{◌≡◌, ℕ, Bool, true, List, ◌∷◌, Option, Some, None, sym, ap, subst, ◌∙◌, inl}
+use Rattle.std.specs.Prelude.{Contains, if◌then◌else◌, nat_lt, Result, Ok, Err, IfOk, IfErr}
 use Rattle.ex_base.specs.declared.ground.Ground as ground
 use Rattle.ex_base.specs.declared.geometry.Geometry.{Geometry}
 use Rattle.ex_base.specs.declared.faults.PortFault.{PortFault}
 use Rattle.ex_base.specs.declared.names.Oid.{Oid}
 use Rattle.ex_base.specs.declared.names.Root.{Root}
 use Rattle.ex_base.specs.Area.{InPageArea, area_end, catalog_no}
-use Rattle.ex_base.specs.Order.{AllDiffer}
 use Rattle.ex_base.specs.Ports.{IsDamage, Keeps}
 use Rattle.ex_base.proofs.Members.{In, contains_in, in_contains, in_left}
 use Rattle.op_log.specs.declared.record.LogRecord.{LogRecord}
 use Rattle.trees.specs.Trees.{Units}
 use Rattle.table_model.specs.declared.table.Table.{Table}
-use Rattle.table_model.specs.declared.table.Version.{Version}
-use Rattle.table_model.specs.Tables.{has_oid, version_at, versions_of, with_bytes}
-use Rattle.version_model.specs.Versions.{AreInUse}
+use Rattle.version_lists.specs.declared.version.Version.{Version}
+use Rattle.table_model.specs.Tables.{version_at, versions_of, with_bytes}
+use Rattle.version_lists.specs.Versions.{has_oid}
+use Rattle.version_lists.specs.Versions.{unique_of as number_of}
+use Rattle.version_lists.proofs.Lists.{contains_has, find_has}
+use Rattle.version_lists.proofs.Links.{number_from_oid}
+use Rattle.versions.specs.Versions.{AreInUse}
 use Rattle.volume_edits.specs.Edits.{ChangesVolume, MovesVolume, trees_of}
 use Rattle.volume_edits.specs.Ported.{IsApart, IsVolume, units_in}
-use Rattle.volume_edits.proofs.Contents.{pairs}
-use Rattle.volume_edits.proofs.Finding.{find_in, from_map, into_map, oid_same, versions_are}
+use Rattle.volume_edits.proofs.Showing.{apart_versions}
 use Rattle.volume_edits.proofs.Staying.{kept_reach, stays_whole}
 use Rattle.volume_edits.proofs.Turned.{turned_kept, turned_later}
-use Rattle.volume_model.specs.Volume.{Stored, Volume, file_pages, reach_of, stored_in, table_of, unique_of, version_of}
+use Rattle.volume_model.specs.Volume.{Volume, file_pages, reach_of, table_of}
+use Rattle.volume_model.proofs.Places.{sep_one}
 use Rattle.session_core.specs.declared.updates.Done.{Done}
 use Rattle.session_core.specs.TableUpdates.{BecomesVolume, TableUpdate, Updates, updated}
 use Rattle.session_core.proofs.Tables.{bytes_agree}
-
--- ---- versions under one OID
-
--- of items whose numbers differ, two with the same number are one
-only_one : {A : Type 0} (key : A → ℕ) (x y : A) (xs : List A) → AllDiffer (map key xs) → In x xs → In y xs → key x ≡ key y → x ≡ y
-only_one key x y [] differ a b same = absurd a
-only_one key x y (z ∷ xs) differ (inl a) (inl b) same = a ∙ sym b
-only_one key x y (z ∷ xs) differ (inl a) (inr b) same = absurd (differ.0 (contains_in (key z) (map key xs) (subst (λ (n : ℕ). In n (map key xs)) (sym same ∙ ap key a) (into_map key y xs b))))
-only_one key x y (z ∷ xs) differ (inr a) (inl b) same = absurd (differ.0 (contains_in (key z) (map key xs) (subst (λ (n : ℕ). In n (map key xs)) (same ∙ ap key b) (into_map key x xs a))))
-only_one key x y (z ∷ xs) differ (inr a) (inr b) same = only_one key x y xs differ.1 a b same
 
 module _ {S : Type 0} (g : ground.Ghosts S) (old : S) (records : List LogRecord) (v : Volume) (vol : IsVolume g old records v) where
   abbrev U : Units
@@ -45,20 +38,13 @@ module _ {S : Type 0} (g : ground.Ghosts S) (old : S) (records : List LogRecord)
   pub in_use : AreInUse g old
   in_use page held = vol.used page (contains_in page (reach_of U v) (in_left page (catalog_no ∷ file_pages v) (trees_of U v) (in_contains page (catalog_no ∷ file_pages v) ((vol.shows.held page).0 held))))
 
-  -- the record of a version of the table under an OID
-  record_of : (oid : Oid) (w : Version) → In w (versions_of (table_of U v)) → has_oid oid w ≡ true → (x : Stored) × In x (stored_in v) × (unique_of x ≡ oid.unique) × (w ≡ version_of U x)
-  record_of oid w inside has =
-      let own = from_map (version_of U) w (stored_in v) (subst (λ (t : List Version). In w t) (versions_are U v (pairs g old records v vol.shows)) inside) in
-      (own.0, own.1, ap (λ (o : Version). o.oid.unique) (sym own.2) ∙ ap (λ (o : Oid). o.unique) (oid_same w.oid oid has), own.2)
-
   -- no other version of the table has its OID
   pub one_version : (oid : Oid) (version w : Version) → version_at (table_of U v) oid ≡ Some version → In w (versions_of (table_of U v)) → has_oid oid w ≡ true → w ≡ version
   one_version oid version w is inside has =
-      let found = find_in (has_oid oid) (versions_of (table_of U v)) version is in
-      let mine = record_of oid version found.0 found.1 in
-      let its = record_of oid w inside has in
-      let same = only_one unique_of its.0 mine.0 (stored_in v) vol.shows.parts.1.1.1.1.1.1.0.differ its.1 mine.1 (its.2 ∙ sym mine.2) in
-      its.3 ∙ ap (version_of U) same ∙ sym mine.3
+      let versions = versions_of (table_of U v) in
+      let found = find_has (has_oid oid) versions version is in
+      sep_one number_of versions w version (apart_versions g old records v vol.shows) (contains_has versions w (contains_in w versions inside)) found.0
+      (number_from_oid oid w has ∙ sym (number_from_oid oid version found.1))
 
   -- ---- what the working state becomes
 
@@ -97,8 +83,8 @@ module _ {S : Type 0} (g : ground.Ghosts S) (old : S) (records : List LogRecord)
       turned = changes.turned;
     }
 
-    pub moved_volume : (gone : Option Root) (table : Table) → MovesVolume g old new records v gone table → BecomesVolume g old new records v table gone None
-    moved_volume gone table moves = record {
+    pub moved_volume : (gone come : Option Root) (table : Table) → MovesVolume g old new records v gone come table → BecomesVolume g old new records v table gone come
+    moved_volume gone come table moves = record {
       now = moves.now;
       volume = moves.volume;
       shows = moves.shows;

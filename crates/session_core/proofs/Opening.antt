@@ -1,7 +1,7 @@
 -- A session that shows, once a scan of a version was opened.
-use Rattle.std.proofs.Common.{◌≡◌, ◌∙◌, ◌≤◌, ◌<◌, ◌+◌, ℕ, Bool, true, List, [], ◌∷◌, ◌++◌, map, length, take, Option, Some, None, refl, sym, ap, subst, arith}
+use Rattle.std.proofs.Common.{◌≡◌, ◌∙◌, ◌≤◌, ◌<◌, ℕ, Bool, true, List, [], ◌∷◌, ◌++◌, map, length, take, Option, Some, None, refl, sym, ap, subst, arith}
 use Rattle.std.specs.List.{AllZip}
-use Rattle.std.specs.Prelude.{IfSome, All}
+use Rattle.std.specs.Prelude.{IfSome}
 use Rattle.std.proofs.lemmas.List.{length-append, map-append}
 use Rattle.std.proofs.lemmas.List.Elements.{All-append}
 use Rattle.disk_model.specs.Outside.{Outside}
@@ -15,16 +15,15 @@ use Rattle.meta_pages.specs.Overlays.{AreRows}
 use Rattle.open_scans.specs.OpenScans.{IsOpenScan, OpenRow, scan_of}
 use Rattle.page_alloc.specs.UnitSet.{UnitSet, refs_at, used_at}
 use Rattle.session_views.specs.View.{View, ShowsNow}
-use Rattle.table_model.specs.declared.machine.Machine.{Machine}
 use Rattle.table_model.specs.declared.machine.ScanRow.{ScanRow}
-use Rattle.table_model.specs.Machines.{IsMachine, scans_most}
+use Rattle.table_model.specs.Machines.{scans_most}
 use Rattle.tree_store.specs.Stored.{IsCounted}
 use Rattle.trees.specs.Owners.{root_pages}
 use Rattle.trees.specs.Roots.{IsRootFor}
 use Rattle.trees.specs.Shown.{BytesShown}
 use Rattle.volume_model.specs.Homes.{home}
 use Rattle.volume_model.specs.OwnersShown.{OwnersShown, roots_held}
-use Rattle.volume_model.specs.Shown.{HeldScan, ScanShown, root_here, roots_here, used_in}
+use Rattle.volume_model.specs.Shown.{ScanShown, root_here, roots_here, used_in}
 use Rattle.volume_model.specs.Volume.{Decoded, Volume, roots_in, stored_in}
 use Rattle.volume_model.proofs.FewRoots.{few_owners}
 use Rattle.volume_model.proofs.OwnersScanned as scanned
@@ -37,10 +36,9 @@ use Rattle.session_core.specs.Sessions.{IsSession, SessionState}
 use Rattle.session_core.specs.Steps.{OnlyFrames}
 use Rattle.session_core.proofs.Ending.{few_scan_roots, scan_roots}
 use Rattle.session_core.proofs.Frames.{all_of_each}
-use Rattle.session_core.proofs.OtherScans.{counting, rescanned, scanning}
-use Rattle.session_core.proofs.Quiet.{AreSizes, same_view}
+use Rattle.session_core.proofs.OtherScans.{rescanned, scanning}
+use Rattle.session_core.proofs.Quiet.{same_view}
 use Rattle.session_core.proofs.Recorded.{root_there, shown_home, spelled_home}
-use Rattle.session_core.proofs.Showing.{session_geometry}
 
 -- ---- one more at the end
 

@@ -1,5 +1,5 @@
 -- A view that shows, with other open scans, other owners of units and other units in use.
-use Rattle.std.proofs.Common.{◌≡◌, ◌∙◌, ℕ, Bool, List, [], ◌∷◌, ◌++◌, map, Option, Some, None, refl, sym, ap, subst}
+use Rattle.std.proofs.Common.{◌≡◌, ℕ, List, map, Option, Some, None}
 use Rattle.std.specs.List.{AllZip}
 use Rattle.disk_model.specs.Outside.{Outside}
 use Rattle.ex_base.specs.declared.names.Area.TheVariants.{Page, Segment}

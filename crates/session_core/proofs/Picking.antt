@@ -12,7 +12,7 @@ use Rattle.slotted_pages.specs.Edits.{slots_of}
 use Rattle.object_records.specs.Record.{Content, Small, Large}
 use Rattle.object_records.specs.Reads.{record_on}
 use Rattle.session_views.specs.View.{View}
-use Rattle.version_model.specs.Versions.{record_len}
+use Rattle.versions.specs.Versions.{record_len}
 use Rattle.versions.specs.Found.{root_of, size_of}
 use Rattle.versions.specs.declared.finding.Found.{Found}
 use Rattle.volume_model.specs.Shown.{Held, laid_over_page}

@@ -1,7 +1,7 @@
 -- Where the record of a version of a shown table stands, and what its tree is at home.
 use Rattle.std.proofs.Common.{◌≡◌, ◌∙◌, ◌+◌, ◌≤◌, ◌<◌, ℕ, zero, suc, List, [], ◌∷◌, length, Option, Some, None, refl, sym, ap, subst, arith, inl, inr, nat_lt, nat_eq}
 use Rattle.std.specs.Prelude.{slice_index_or, unwrap_or}
-use Rattle.std.specs.List.{AllByRecursion, AllZip, zip}
+use Rattle.std.specs.List.{AllZip, zip}
 use Rattle.std.specs.Map.{lookup}
 use Rattle.std.proofs.lemmas.Bool.{cond-true, lt-ltb}
 use Rattle.std.proofs.lemmas.List.{length-append}
@@ -12,10 +12,8 @@ use Rattle.ex_base.specs.declared.names.Root.{Root}
 use Rattle.ex_base.specs.Area.{InPageArea, area_end, leaf_at, page_at}
 use Rattle.ex_base.specs.Ports.{times}
 use Rattle.ex_base.specs.Sizes.{object_most}
-use Rattle.ex_base.proofs.Each.{zip_as}
 use Rattle.ex_base.proofs.Members.{In, from_flat, into_flat, of_each}
 use Rattle.meta_pages.specs.Overlays.{AreRows, over}
-use Rattle.object_files.specs.Catalog.{FileEntry}
 use Rattle.object_records.specs.Record.{BodyOf, Content, Large, Record, Small}
 use Rattle.object_records.specs.Reads.{record_on}
 use Rattle.object_records.proofs.RecordLaws.{record_read}
@@ -25,12 +23,12 @@ use Rattle.slotted_pages.specs.Edits.{slots_of}
 use Rattle.slotted_pages.specs.FilePage.{FilePage, Slot, SlotsOf, bodies, body_of}
 use Rattle.file_bodies.proofs.Pages.{slots_are}
 use Rattle.session_views.specs.View.{View}
-use Rattle.table_model.specs.declared.table.Version.{Version}
+use Rattle.version_lists.specs.declared.version.Version.{Version}
 use Rattle.table_model.specs.Machines.{shown}
-use Rattle.table_model.specs.Tables.{has_oid, version_at, versions_of}
+use Rattle.table_model.specs.Tables.{version_at}
 use Rattle.table_model.specs.declared.table.Table.{Table}
 use Rattle.tree_store.specs.Stored.{unit_bytes}
-use Rattle.trees.specs.Owners.{page_here, root_pages}
+use Rattle.trees.specs.Owners.{root_pages}
 use Rattle.trees.specs.Shown.{BytesShown}
 use Rattle.trees.specs.Trees.{RootNamed, RootSpells, Units, root_bytes}
 use Rattle.trees.proofs.KeptRoots.{RootKept, spelled_root}
@@ -38,21 +36,20 @@ use Rattle.versions.specs.Found.{root_of}
 use Rattle.versions.proofs.Puts.{body_long}
 use Rattle.versions.proofs.Standing.{large_content}
 use Rattle.volume_edits.proofs.Contents.{at_beside}
-use Rattle.volume_edits.proofs.Finding.{find_in, from_map, oid_same, row_stored, standing, versions_are}
-use Rattle.volume_edits.proofs.Lists.{Paired}
+use Rattle.volume_edits.proofs.Finding.{row_stored}
 use Rattle.volume_model.specs.Held.{root_here}
 use Rattle.volume_model.specs.Homes.{home}
-use Rattle.volume_model.specs.Parts.{HasBalance, HasIndex, HasLines, HasPage, HasPages, IsStored, bodies_from, bodies_in}
+use Rattle.volume_model.specs.Parts.{HasBalance, HasBodies, HasPage, HasPages, bodies_from, bodies_in}
 use Rattle.volume_model.specs.Shown.{Held, Shows, laid_over_page, working_units}
 use Rattle.volume_model.specs.TreesShown.{TreesShown}
-use Rattle.volume_model.specs.Volume.{Decoded, FileContent, Stored, Volume, content_in, oid_of, root_in, roots_in, stored_in, table_of, version_of}
+use Rattle.volume_model.specs.Volume.{Decoded, Stored, Volume, content_in, root_in, roots_in, stored_in, table_of}
 use Rattle.volume_model.proofs.ExactView.{working_at_home}
 use Rattle.volume_model.proofs.OwnersAlike.{first_pages}
-use Rattle.volume_port.specs.Ported.{image_over}
-use Rattle.session_core.specs.Finding.{TellsVersion, content_named, held_image}
+use Rattle.session_core.specs.Finding.{content_named, held_image}
 use Rattle.session_core.specs.Meant.{held_view}
 use Rattle.session_core.specs.Sessions.{SessionState}
 use Rattle.session_core.proofs.Bridge.{image_is, page_bytes, session_geometry}
+use Rattle.session_core.proofs.Records.{record_of}
 use Rattle.session_core.proofs.Ruling.{image_most}
 use Rattle.session_core.proofs.Volumes.{Parts, shown_parts, shown_table}
 
@@ -87,11 +84,11 @@ zip_at R (x ∷ xs) (y ∷ ys) pair each (inr has) = zip_at R xs ys pair each.1 
 
 -- ---- the record of a version
 
--- The version is that of this record of the volume, whose body stands in its slot on a page of a file.
+-- The version has the bytes of this record of the volume, whose body stands in its slot on a page of a file.
 pub record IsRecorded (units : Units) (v : Volume) (oid : Oid) (version : Version) : Type 0 where
   pub stored : Stored
   pub inside : In stored (stored_in v)
-  pub version_is : version ≡ version_of units stored
+  pub bytes_are : version.bytes ≡ content_in units stored.body.content
   pub page : FilePage
   pub spelled : SlotsOf (units oid.page.0) page
   pub body : List ℕ
@@ -99,42 +96,28 @@ pub record IsRecorded (units : Units) (v : Volume) (oid : Oid) (version : Versio
   pub body_is : BodyOf body stored.body
 
 module _ (g : Geometry) (records : List LogRecord) (units : Units) (v : Volume) (parts : Parts g records units v) where
-  paired : Paired v.catalog.entries v.files
-  paired = zip_as (HasIndex g units) (λ e f. Unit {0}) v.catalog.entries v.files (λ e f has. tt) parts.1.0.0
-
   pub recorded : (oid : Oid) (version : Version) → version_at (table_of units v) oid ≡ Some version → IsRecorded units v oid version
   recorded oid version is =
-      let there = find_in (has_oid oid) (versions_of (table_of units v)) version is in
-      let own = from_map (version_of units) version (stored_in v) (subst (λ (t : List Version). In version t) (versions_are units v paired) there.0) in
-      let x = own.0 in
-      let same : oid_of x ≡ oid = ap (λ (w : Version). w.oid) (sym own.2) ∙ oid_same version.oid oid there.1 in
-      let st = standing v x paired parts.1.1.1.0 own.1 in
-      let pages : HasPages units st.e st.f = at_beside (HasPages units) v.catalog.entries v.files st.e st.f st.beside parts.1.1.0 in
-      let lines : HasLines st.f = at_beside (λ e f. HasLines f) v.catalog.entries v.files st.e st.f st.beside (lines_beside v.catalog.entries v.files paired parts.1.1.1.0) in
-      let row = row_stored x (bodies_in st.f) st.f.stored lines.records st.stored in
-      let pair = from_flat (λ (r : ℕ × FilePage). bodies_from r.0 0 r.1.slots) row.0 (zip st.f.numbers st.f.pages) row.1 in
+      let own = record_of g records units v parts oid version is in
+      let pages : HasPages units own.e own.f = at_beside (HasPages units) v.catalog.entries v.files own.e own.f own.beside parts.1.1.0 in
+      let whole : HasBodies own.f = of_each HasBodies own.f v.files parts.1.1.1.0 own.file in
+      let row = row_stored own.x (bodies_in own.f) own.f.stored whole.records own.stored in
+      let pair = from_flat (λ (r : ℕ × FilePage). bodies_from r.0 0 r.1.slots) row.0 (zip own.f.numbers own.f.pages) row.1 in
       let slot = slot_in pair.0.0 0 pair.0.1.slots row.0 pair.2 in
-      let page : HasPage units st.e pair.0.0 pair.0.1 = zip_at (HasPage units st.e) st.f.numbers st.f.pages pair.0 pages pair.1 in
-      let place : row.0.0 ≡ x.place = row.2.0 in
-      let number : oid.page.0 ≡ pair.0.0 = ap (λ (o : Oid). o.page.0) (sym same) ∙ ap (λ (p : Place). p.page.0) (sym place) ∙ slot.0 in
+      let page : HasPage units own.e pair.0.0 pair.0.1 = zip_at (HasPage units own.e) own.f.numbers own.f.pages pair.0 pages pair.1 in
+      let number : oid.page.0 ≡ pair.0.0 = ap (λ (o : Oid). o.page.0) (sym own.named) ∙ ap (λ (p : Place). p.page.0) (sym row.2.0) ∙ slot.0 in
       let own_slot : row.0.0.slot ≡ slot.1.0 = (let e = slot.1.1 in omega arith) in
-      let slot_is : oid.slot ≡ slot.1.0 = ap (λ (o : Oid). o.slot) (sym same) ∙ ap (λ (p : Place). p.slot) (sym place) ∙ own_slot in
+      let slot_is : oid.slot ≡ slot.1.0 = ap (λ (o : Oid). o.slot) (sym own.named) ∙ ap (λ (p : Place). p.slot) (sym row.2.0) ∙ own_slot in
       record {
-        stored = x;
-        inside = own.1;
-        version_is = own.2;
+        stored = own.x;
+        inside = own.inside;
+        bytes_are = ap (λ (w : Version). w.bytes) (sym own.is);
         page = pair.0.1;
         spelled = subst (λ (n : ℕ). SlotsOf (units n) pair.0.1) (sym number) page.0;
         body = row.0.1;
         stands = subst (λ (k : ℕ). slice_index_or pair.0.1.slots k None ≡ Some row.0.1) (sym slot_is) slot.1.2;
         body_is = row.2.1;
       }
-    where
-      lines_beside : (entries : List FileEntry) (files : List FileContent) → Paired entries files → AllByRecursion HasLines files → AllZip (λ (e : FileEntry) (f : FileContent). HasLines f) entries files
-      lines_beside [] [] both lines = tt
-      lines_beside [] (f ∷ files) both lines = absurd both
-      lines_beside (e ∷ entries) [] both lines = absurd both
-      lines_beside (e ∷ entries) (f ∷ files) both lines = (lines.0, lines_beside entries files both.1 lines.1)
 
   -- the tree of a root of the volume spells its bytes
   spelled_here : (root : Root) → In root (roots_in (stored_in v)) → RootSpells g units root (root_bytes units root) × (root.size ≤ object_most)
@@ -217,7 +200,7 @@ module _ {may_leave : List ℕ → Type 0} (before : View SessionState) (shows :
         let inside = root_inside root rooted in
         let spells = spelled_here d.geometry d.records U shows.working (shown_parts shows) root inside in
         let kept : RootKept U H root = of_each (RootKept U H) root (roots_in (stored_in shows.working)) (working_at_home d v shows.working shows.owners trees) inside in
-        let bytes : version.bytes ≡ root_bytes U root = ap (λ (w : Version). w.bytes) stands.version_is ∙ ap (content_in U) large in
+        let bytes : version.bytes ≡ root_bytes U root = stands.bytes_are ∙ ap (content_in U) large in
         (subst (RootSpells d.geometry H root) (sym bytes) (spelled_root d.geometry U H root (root_bytes U root) kept spells.0), spells.1)
 
     -- A small one has fewer bytes than a page.
@@ -238,7 +221,7 @@ module _ {may_leave : List ℕ → Type 0} (before : View SessionState) (shows :
           by (Small bytes) small none =
               let own : BodyOf stands.body (record { head = stands.stored.body.head; content = Small bytes }) =
               subst (λ (c : Content). BodyOf stands.body (record { head = stands.stored.body.head; content = c })) small stands.body_is in
-              let is_bytes : version.bytes ≡ bytes = ap (λ (w : Version). w.bytes) stands.version_is ∙ ap (content_in U) small in
+              let is_bytes : version.bytes ≡ bytes = stands.bytes_are ∙ ap (content_in U) small in
               omega (
                 arith,
                 ap length is_bytes,

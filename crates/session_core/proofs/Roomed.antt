@@ -9,19 +9,20 @@ use Rattle.ex_base.specs.declared.names.Area.{Area}
 use Rattle.ex_base.specs.declared.names.Oid.{Oid}
 use Rattle.index_pages.specs.declared.Index.{Index}
 use Rattle.object_records.specs.Record.{Content, Small, Large, Record}
-use Rattle.session_core.specs.TableUpdates.{Asks, Changes, HasRoom, Makes, Removes, TableUpdate}
+use Rattle.object_records.specs.declared.Head.{Head}
+use Rattle.session_core.specs.TableUpdates.{Asks, Changes, HasRoom, TableUpdate}
 use Rattle.session_views.specs.View.{View}
 use Rattle.slotted_pages.specs.Edits.{slots_of}
 use Rattle.slotted_pages.specs.FilePage.{room_of}
 use Rattle.table_model.specs.declared.table.Table.{Table}
-use Rattle.table_model.specs.declared.table.Version.{Version}
+use Rattle.version_lists.specs.declared.version.Version.{Version}
 use Rattle.table_model.specs.Machines.{shown}
 use Rattle.table_model.specs.Tables.{version_at}
 use Rattle.versions.specs.declared.finding.Found.{Found}
 use Rattle.versions.specs.Edited.{HasNeed}
 use Rattle.versions.specs.Found.{found_of, root_of, size_of}
 use Rattle.versions.specs.Needs.{edit_need, height_in, most_need}
-use Rattle.version_model.specs.Versions.{Appends, Change, Deletes, HasVersion, Inserts, InRange, Replaces, StaysSmall, changed, count_of, lone_head, place_of, record_len}
+use Rattle.versions.specs.Versions.{Appends, Change, Deletes, HasVersion, Inserts, InRange, Replaces, StaysSmall, changed, count_of, place_of, record_len}
 use Rattle.versions.proofs.Standing.{holds_of, version_size}
 use Rattle.volume_edits.specs.Shown.{ReadsVersion}
 use Rattle.volume_model.specs.Volume.{Volume}
@@ -31,7 +32,7 @@ use Rattle.session_core.specs.Counts.{free_in}
 use Rattle.session_core.specs.Sessions.{SessionState}
 use Rattle.session_core.specs.Updates.{HasRoomFor}
 use Rattle.session_core.proofs.Beside.{beside}
-use Rattle.session_core.proofs.Finding.{held_version, named_content, page_lies, reads_live, tells_version}
+use Rattle.session_core.proofs.Finding.{held_version, named_record, page_lies, reads_live, tells_version}
 
 -- ---- the bytes after a change, and what it needs
 
@@ -63,27 +64,30 @@ module _ {S : Type 0} (g : ground.Ghosts S) (s : S) {before : View SessionState}
       subst (λ (k : ℕ). record_len n ≤ record_len (length held) + k) is (leb-true (record_len n) (record_len (length held) + room) fits)
   stays_by oid (Large root) n room is fits = absurd (cc)
 
-  module _ (ready : g.ready s) (oid : Oid) (version : Version) (is : version_at (shown before.machine) oid ≡ Some version) (index : Index) (content : Content) (bytes : List ℕ) (has : HasVersion g s index oid content bytes) where
+  module _ (ready : g.ready s) (oid : Oid) (version : Version) (is : version_at (shown before.machine) oid ≡ Some version) (index : Index) (head : Head) (content : Content) (bytes : List ℕ) (has : HasVersion g s index oid head content bytes) where
     abbrev own : Record
-    own = record { head = lone_head oid.unique; content = content }
+    own = record { head = head; content = content }
 
     reads : ReadsVersion g s oid version
     reads = reads_live g s shows oid version is
 
     -- one record stands where the OID leads
+    same_record : own ≡ record { head = reads.head; content = reads.content }
+    same_record = sym (named_record g s shows index oid own has.stored) ∙ named_record g s shows reads.index oid (record { head = reads.head; content = reads.content }) reads.stored
+
     same_content : content ≡ reads.content
-    same_content = sym (named_content g s shows index oid own has.stored) ∙ named_content g s shows reads.index oid (record { head = lone_head oid.unique; content = reads.content }) reads.stored
+    same_content = ap (λ (r : Record). r.content) same_record
 
     size_here : length bytes ≡ size_of content
-    size_here = version_size g s index oid content bytes ready shows.tells (holds_of g s index oid content bytes has)
+    size_here = version_size g s index oid head content bytes ready shows.tells (holds_of g s index oid head content bytes has)
 
     size_live : length version.bytes ≡ size_of content
-    size_live = version_size g s reads.index oid reads.content version.bytes ready shows.tells (held_version g s oid version reads) ∙ ap size_of (sym same_content)
+    size_live = version_size g s reads.index oid reads.head reads.content version.bytes ready shows.tells (held_version g s oid version reads) ∙ ap size_of (sym same_content)
 
     told : TellsVersion before oid (found_of own)
     told =
         tells_version g s shows oid (found_of own) version (ap (λ (t : Table). version_at t oid) (sym shows.table) ∙ is) reads
-        (ap (λ (c : Content). found_of (record { head = lone_head oid.unique; content = c })) same_content) (sym size_live)
+        (ap found_of same_record) (sym size_live)
 
     room_here : room_beside before oid ≡ room_of (g.geometry s).page_size (slots_of (g.image s oid.page.0))
     room_here = sym (beside g s shows oid (room_of (g.geometry s).page_size (slots_of (g.image s oid.page.0))) (page_lies g s shows index oid own has.stored) refl)
@@ -107,6 +111,5 @@ module _ {S : Type 0} (g : ground.Ghosts S) (s : S) {before : View SessionState}
 
   -- an update that a session has room for has its room in the port
   pub has_room : g.ready s → ((area : Area) → g.free s area ≡ free_in before.session area) → (u : TableUpdate) (v : Volume) → Asks u v (shown before.machine) → HasRoomFor before u → HasRoom g s u
-  has_room ready free (Makes name file_no unique) v asks room = tt
-  has_room ready free (Changes oid change) v asks room = λ index content bytes has. has_need ready oid asks.version asks.is index content bytes has change asks.inside free room
-  has_room ready free (Removes oid) v asks room = tt
+  has_room ready free (Changes oid change) v asks room = λ index head content bytes has. has_need ready oid asks.version asks.is index head content bytes has change asks.inside free room
+  has_room ready free _ v asks room = tt

@@ -16,12 +16,12 @@ use Rattle.count_nodes.specs.Node.{pairs_on}
 use Rattle.trees.specs.Shape.{Subtree, leaves_of}
 use Rattle.trees.specs.Trees.{Units, IsNamed, RootNamed, RootSpells, for_each_child, root_shape, root_shape_at, root_units_at, shape_on, units_on}
 use Rattle.object_records.specs.Record.{Content, Large, Record}
-use Rattle.table_model.specs.declared.table.Version.{Version}
+use Rattle.version_lists.specs.declared.version.Version.{Version}
 use Rattle.table_model.specs.Machines.{shown}
 use Rattle.table_model.specs.Tables.{version_at}
 use Rattle.session_views.specs.View.{View}
 use Rattle.versions.specs.Found.{root_of}
-use Rattle.version_model.specs.Versions.{HoldsVersion, lone_head}
+use Rattle.versions.specs.Versions.{HoldsVersion}
 use Rattle.versions.proofs.Standing.{large_content}
 use Rattle.volume_edits.specs.Shown.{ReadsVersion}
 use Rattle.volume_model.specs.Shown.{Held}
@@ -65,14 +65,14 @@ module _ {S : Type 0} (g : ground.Ghosts S) (s : S) {before : View SessionState}
   reads = reads_live g s shows oid version is
 
   abbrev its_record : Record
-  its_record = record { head = lone_head oid.unique; content = reads.content }
+  its_record = record { head = reads.head; content = reads.content }
 
   content_is : content_named v oid ≡ Large root
   content_is = large_content (content_named v oid) root rooted
 
-  pub holds : HoldsVersion g s reads.index oid (Large root) version.bytes
+  pub holds : HoldsVersion g s reads.index oid reads.head (Large root) version.bytes
   holds =
-      subst (λ (content : Content). HoldsVersion g s reads.index oid content version.bytes) (sym (named_content g s shows reads.index oid its_record reads.stored) ∙ content_is)
+      subst (λ (content : Content). HoldsVersion g s reads.index oid reads.head content version.bytes) (sym (named_content g s shows reads.index oid its_record reads.stored) ∙ content_is)
       (held_version g s oid version reads)
 
   -- a node has the bytes that the session has

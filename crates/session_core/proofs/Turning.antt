@@ -21,14 +21,14 @@ use Rattle.trees.specs.Counted.{NamesPairs}
 use Rattle.trees.specs.Damage.{IsWhole}
 use Rattle.trees.specs.Owners.{IsOwned, root_pages}
 use Rattle.trees.specs.Trees.{Units}
-use Rattle.version_model.specs.Versions.{AreInUse}
+use Rattle.versions.specs.Versions.{AreInUse}
 use Rattle.volume_edits.specs.Edits.{units_under}
 use Rattle.volume_edits.proofs.Owning as owning
 use Rattle.volume_model.specs.Held.{root_here}
 use Rattle.volume_model.specs.Homes.{home}
 use Rattle.volume_model.specs.OwnersMoved.{PagesGo, UnitsMade}
 use Rattle.volume_model.specs.OwnersShown.{OwnersShown, logged_pages, roots_held}
-use Rattle.volume_model.specs.Volume.{Decoded, Volume, file_pages}
+use Rattle.volume_model.specs.Volume.{Decoded, Volume, file_pages, roots_in, stored_in}
 use Rattle.volume_model.proofs.FewRoots.{few_owners, fewer_pages}
 use Rattle.volume_model.proofs.OwnersMade.{few_counted, page_in_tree}
 use Rattle.volume_model.proofs.OwnersTurned.{all_whole, gone_first, pages_both, working_own}
@@ -142,8 +142,9 @@ module _ {S : Type 0} (g : ground.Ghosts S) (s t : S) (names : NamesPairs g) {a 
   went_own : (u : ℕ) → 1 ≤ times u (root_pages (root_here gone)) → 1 ≤ refs_at old.units u
   went_own u has = working_own d (used_at old.units) (refs_at old.units) old.gained old.lost scans before.disk working owners u (omega (arith, has, becomes.turned.there u))
 
-  owner : (u : ℕ) → 1 ≤ times u (root_pages (root_here gone)) → 1 ≤ g.refs s u
-  owner u has = subst (λ (f : ℕ → ℕ). 1 ≤ f u) (sym over.refs) (went_own u has)
+  -- each root of the working volume is an owner
+  owner : (u : ℕ) → 1 ≤ times u (root_pages (roots_in (stored_in working))) → 1 ≤ g.refs s u
+  owner u has = subst (λ (f : ℕ → ℕ). 1 ≤ f u) (sym over.refs) (working_own d (used_at old.units) (refs_at old.units) old.gained old.lost scans before.disk working owners u has)
 
   few : length (root_pages (root_here come) ++ R) ≤ 1500000000
   few = omega (arith, length-append (root_pages (root_here come)) R, few_owners d before.disk old.gained scans now.shows.parts, few_scan_roots old.scans, session.few_scans, session.few_gained, session.few_notes, one_here come)

@@ -1,6 +1,5 @@
 -- What a session finds of the objects of its volume, and why it stops.
-use Rattle.std.specs.Prelude.{true, ◌≡◌, ◌≢◌, ◌⊎◌, ◌≤◌, ◌^◌, ◌++◌, ℕ, List, length, take, drop, All, Option, Some, None, unwrap_or, slice_index_or, nat_eq, bytes_eq, find, option_map, Contains, Result, Ok, Err, ⊤}
-use Rattle.std.specs.List.{flat_map}
+use Rattle.std.specs.Prelude.{true, ◌≡◌, ◌≢◌, ◌⊎◌, ◌≤◌, ◌^◌, ◌++◌, ◌↔◌, ℕ, List, [], ◌∷◌, IsPermutation, IsSome, length, take, drop, All, Option, Some, None, unwrap_or, slice_index_or, nat_eq, bytes_eq, find, option_map, Contains, Result, Ok, Err, ⊤}
 use Rattle.std.specs.Map.{lookup}
 use Rattle.ex_base.specs.Area.{InPageArea, page_at}
 use Rattle.ex_base.specs.declared.geometry.Geometry.{Geometry}
@@ -21,30 +20,33 @@ use Rattle.meta_pages.specs.Overlays.{Overlays, over}
 use Rattle.slotted_pages.specs.FilePage.{body_of}
 use Rattle.slotted_pages.specs.Edits.{slots_of}
 use Rattle.object_files.specs.Catalog.{FileEntry}
-use Rattle.object_records.specs.Record.{Content}
+use Rattle.object_records.specs.Record.{Content, Record}
 use Rattle.object_records.specs.Reads.{record_on}
 use Rattle.table_model.specs.declared.machine.BoundName.{BoundName}
 use Rattle.table_model.specs.declared.machine.Machine.{Machine}
 use Rattle.table_model.specs.declared.reply.Refusal.{Refusal}
 use Rattle.table_model.specs.declared.reply.Refusal.TheVariants as refusal
-use Rattle.table_model.specs.declared.table.Object.{Object}
-use Rattle.table_model.specs.declared.table.Version.{Version}
+use Rattle.version_lists.specs.declared.version.Version.{Version}
 use Rattle.table_model.specs.Machines.{oid_of, shown}
 use Rattle.table_model.specs.Requests.{Reference, Bound, Numbered}
-use Rattle.table_model.specs.Steps.{current_oids, objects_if}
-use Rattle.table_model.specs.Tables.{current, file_at, version_at, is_current}
+use Rattle.table_model.specs.Refusals.{branches_if}
+use Rattle.table_model.specs.Steps.{current_if, oids, versions_if}
+use Rattle.table_model.specs.Tables.{file_at, object_at, version_at, versions_of}
+use Rattle.version_lists.specs.Versions.{derived_from, listed, numbered_in, unique_of}
 use Rattle.session_views.specs.declared.engine.Stop.{Stop}
 use Rattle.session_views.specs.declared.engine.Stop.TheVariants as stop
 use Rattle.session_views.specs.View.{View, ShowsNow}
 use Rattle.versions.specs.Found.{root_of}
 use Rattle.versions.specs.Found as found_words
-use Rattle.version_model.specs.Versions.{lone_head}
+use Rattle.versions.specs.Listed.{AreByNumber}
 use Rattle.versions.specs.declared.finding.Found.{Found}
 use Rattle.op_log.specs.declared.record.LogRecord.{LogRecord}
 use Rattle.volume_edits.specs.Ported.{ShowsVolume, units_in}
 use Rattle.volume_model.specs.Shown.{Held}
-use Rattle.volume_model.specs.Volume.{Volume, table_of}
+use Rattle.volume_model.specs.Volume.{Volume, is_frozen, table_of}
 use Rattle.session_core.specs.declared.session.objects.Named.{Named}
+use Rattle.session_core.specs.declared.session.relatives.Relation.{Relation}
+use Rattle.session_core.specs.declared.session.relatives.Relation.TheVariants as relation
 use Rattle.session_core.specs.Meant.{meant, held_view, units_held, content_at, lengths_of}
 use Rattle.session_core.specs.Sessions.{SessionState, IsSession}
 
@@ -119,21 +121,27 @@ pub record LeavesFrames (a b : Outside) (f h : List Frames) : Type 0 where
 
 -- ---- the versions that are found
 
--- what the record says whose place the OID names
-abbrev pub content_named : View Held → Oid → Content
-content_named v oid = (record_on (body_of (slice_index_or (slots_of (held_image v.session v.disk oid.page.0)) oid.slot None))).content
+-- the record at the place that the OID names
+abbrev pub record_named : View Held → Oid → Record
+record_named v oid = record_on (body_of (slice_index_or (slots_of (held_image v.session v.disk oid.page.0)) oid.slot None))
 
--- It is told of the version under the OID: its size, its head and its root. It is the current version of its object, and its record lies on a page of the
--- page area.
+-- what it says
+abbrev pub content_named : View Held → Oid → Content
+content_named v oid = (record_named v oid).content
+
+-- It is told of the version under the OID: its size, its head and its root. The head says whether the version is frozen, whether it is a first one, and of
+-- a frozen one whether just one is derived from it. Its record lies on a page of the page area.
 pub record TellsVersion (before : View SessionState) (oid : Oid) (found : Found) : Type 0 where
   pub version : Version
   pub is : version_at (shown before.machine) oid ≡ Some version
   pub size : found.size ≡ length version.bytes
-  pub head : found.head ≡ lone_head oid.unique
+  pub head : found.head ≡ (record_named (held_view before) oid).head
+  pub frozen : is_frozen found.head.state ≡ version.frozen
+  pub first : (found.head.older ≡ None) ↔ (version.older ≡ None)
+  pub one : version.frozen ≡ true → IsSome found.head.newer ↔ (branches_if (versions_of (shown before.machine)) (Some version) ≡ 1)
   pub root : found.root ≡ root_of (content_named (held_view before) oid)
   pub content : found.size ≡ found_words.size_of (content_named (held_view before) oid)
   pub named : version.oid ≡ oid
-  pub current : is_current (shown before.machine) oid ≡ true
   pub lies : InPageArea before.session.geometry oid.page.0
 
 -- it is found just where the shown table has it
@@ -144,6 +152,24 @@ IsFound before oid (Some found) = TellsVersion before oid found
 -- what holds of the bytes of the version under the OID, where there is one
 abbrev pub IfLive : View SessionState → Oid → (List ℕ → Type 0) → Type 0
 IfLive before oid P = (version : Version) → version_at (shown before.machine) oid ≡ Some version → P version.bytes
+
+-- ---- the relatives of a version
+
+-- the OID as a list, if there is one
+abbrev pub oids_if : Option Oid → List Oid
+oids_if None = []
+oids_if (Some oid) = oid ∷ []
+
+-- These are relatives of the version: all versions of its object, as they are listed; those that are derived from it, in order of their numbers; or the one
+-- that it is derived from, if it is derived from one.
+abbrev pub AreRelatives : Machine → Version → Relation → List Oid → Type 0
+AreRelatives m v relation.Object found = found ≡ oids (listed (versions_if (object_at (shown m) v.oid)))
+AreRelatives m v relation.Derived found = IsPermutation (oids (derived_from (unique_of v) (versions_of (shown m)))) found × AreByNumber found
+AreRelatives m v relation.Older found = found ≡ oids_if (option_map (λ (w : Version). w.oid) (numbered_in (versions_of (shown m)) v.older))
+
+-- what holds of the version under the OID, where there is one
+abbrev pub IfVersion : View SessionState → Oid → (Version → Type 0) → Type 0
+IfVersion before oid P = (version : Version) → version_at (shown before.machine) oid ≡ Some version → P version
 
 -- ---- the shape of a version
 
@@ -162,9 +188,9 @@ pub record TellsShape (before : View SessionState) (oid : Oid) (leaves : ℕ) (r
 
 -- ---- the objects of a file
 
--- the OIDs of the current versions of a file's objects, as the shown table has them
+-- the OIDs of the current versions of a file, as the shown table has them
 abbrev pub oids_listed : Machine → List ℕ → List Oid
-oids_listed m name = flat_map (λ (o : Object). current_oids (current o.versions)) (objects_if (file_at (shown m) name))
+oids_listed m name = oids (current_if (file_at (shown m) name))
 
 -- what holds of the name of each file of the port's volume that has this number
 abbrev pub IfPortFile : {S : Type 0} → ground.Ghosts S → S → ℕ → (View SessionState → List ℕ → Type 0) → Type 0

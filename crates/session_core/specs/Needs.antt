@@ -8,7 +8,7 @@ use Rattle.versions.specs.declared.finding.Found.{Found}
 use Rattle.slotted_pages.specs.FilePage.{room_of}
 use Rattle.slotted_pages.specs.Edits.{slots_of}
 use Rattle.session_views.specs.View.{View}
-use Rattle.version_model.specs.Versions.{record_len, Change, Inserts, Appends, Replaces, Deletes, count_of}
+use Rattle.versions.specs.Versions.{record_len, Change, Inserts, Appends, Replaces, Deletes, count_of}
 use Rattle.versions.specs.Needs.{most_need}
 use Rattle.session_core.specs.declared.session.objects.Named.{Named}
 use Rattle.session_core.specs.Finding.{held_image}

@@ -4,9 +4,8 @@ use Rattle.std.specs.List.{remove}
 use Rattle.ex_base.specs.declared.names.Area.TheVariants.{Page, Segment}
 use Rattle.ex_base.specs.declared.names.Root.{Root}
 use Rattle.disk_model.specs.Outside.{Outside}
-use Rattle.buffer_groups.specs.Frames.{Frames}
 use Rattle.open_scans.specs.OpenScans.{OpenRow, at_position}
-use Rattle.page_alloc.specs.UnitSet.{UnitSet, used_at}
+use Rattle.page_alloc.specs.UnitSet.{used_at}
 use Rattle.session_views.specs.View.{View, ShowsNow}
 use Rattle.table_model.specs.declared.machine.Machine.{Machine}
 use Rattle.table_model.specs.Machines.{IsMachine}

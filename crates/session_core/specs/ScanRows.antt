@@ -1,5 +1,5 @@
 -- What a session has under a name, and how its groups become more and its scans move on.
-use Rattle.std.specs.Prelude.{◌≡◌, ℕ, List, [], ◌∷◌, ◌++◌, Bool, ◌||◌, is_some, map, min, slice_get, Option, Some}
+use Rattle.std.specs.Prelude.{◌≡◌, ℕ, List, [], ◌∷◌, ◌++◌, Bool, ◌||◌, is_some, map, min, slice_get, Some}
 use Rattle.std.specs.List.{AllByRecursion, AllZip, list_any}
 use Rattle.bound_names.specs.Bindings.{is_bound}
 use Rattle.ex_base.specs.declared.ground.Ground as ground

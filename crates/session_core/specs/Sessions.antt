@@ -124,6 +124,10 @@ pub record OnlyGives (safe : ℕ → Type 0) (old new : UnitSet) : Type 0 where
   pub refs : (unit : ℕ) → refs_at new unit ≡ refs_at old unit
   pub free : (area : Area) → free_count old.geometry (used_at old) area ≤ free_count new.geometry (used_at new) area
 
+-- Each unit that came into use is a logged page of the working state: none is of a tree.
+pub record TakesLogged (old new : UnitSet) (pages : LoggedSet) : Type 0 where
+  pub taken : (unit : ℕ) → used_at old unit ≡ false → used_at new unit ≡ true → is_held pages unit ≡ true
+
 -- whether a touched page is there: it has an image
 abbrev pub is_there : Option (Option (List ℕ)) → Bool
 is_there None = false

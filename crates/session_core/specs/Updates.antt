@@ -25,7 +25,7 @@ use Rattle.session_views.specs.View.{View, ShowsNow}
 use Rattle.session_core.specs.declared.updates.Done.{Done}
 use Rattle.session_core.specs.declared.updates.ObjectUpdate.{ObjectUpdate}
 use Rattle.session_core.specs.Performed.{IsUpdate}
-use Rattle.session_core.specs.TableUpdates.{TableUpdate, Makes, Changes, Removes, Asks}
+use Rattle.session_core.specs.TableUpdates.{TableUpdate, Changes, Asks}
 use Rattle.versions.specs.declared.finding.Found.{Found}
 use Rattle.volume_model.specs.Shown.{Shared, Shows, used_in}
 use Rattle.session_core.specs.Needs.{fits_beside, size_after, units_need}
@@ -185,10 +185,9 @@ pub record Noted (old new : SessionState) (noted : OpNote) : Type 0 where
 
 -- The units are free that the change of a version may take, as the machine counts them. The other updates take what they find.
 abbrev pub HasRoomFor : View SessionState → TableUpdate → Type 0
-HasRoomFor before (Makes name file_no unique) = ⊤
 HasRoomFor before (Changes oid change) = (found : Found) → TellsVersion before oid found → (area : Area)
     → units_need before.session.geometry found change (fits_beside before (record { oid = oid; found = found }) (size_after change found.size)) area ≤ free_in before.session area
-HasRoomFor before (Removes oid) = ⊤
+HasRoomFor before _ = ⊤
 
 -- what holds of each view that shows what stands outside, of a session with these parts, and whose volume and table have what the update asks
 abbrev pub IfAsked : Outside → Geometry → PortParts → ObjectUpdate → (View SessionState → TableUpdate → Type 0) → Type 0

@@ -1,20 +1,24 @@
 //! Objects are made, changed and removed in a volume, over any port: what is done to the volume's pages is the same as what is done to its table.
-ghost use Rattle.std.specs.Prelude.{◌≡◌, ℕ, List, IfOk};
+ghost use Rattle.std.specs.Prelude.{◌≡◌, ℕ, List, IfOk, OnOk};
 ghost use Rattle.ex_base.specs.Ports.{HasCause};
 ghost use Rattle.ex_base.specs.declared.names.Area.TheVariants.{Page};
 ghost use Rattle.session_core.specs.TableUpdates.{TableUpdate, Updates};
-ghost use Rattle.session_core.specs.Performed.{CanPerform, IsUpdate, NamesOid};
+ghost use Rattle.session_core.specs.Performed.{CanPerform, IsCopying, IsUpdate, NamesOid};
+ghost use Rattle.file_index.specs.Taking.{OnlyTakes};
 ghost use Rattle.file_rooms.specs.Rooms.{ChangesOne};
 
 mod changing;
+mod copying;
 mod creating;
 mod removing;
 
 use changing::change;
+pub use copying::Copying;
+use copying::copy;
 use creating::create;
 use ex_base::{Oid, PortFault, Root, Volume};
 use file_rooms::Rooms;
-use removing::remove;
+use removing::{drop_frozen, remove};
 use std::alloc::Global;
 use versions::Edit;
 
@@ -22,11 +26,29 @@ use versions::Edit;
 #[derive(Clone, Copy, Debug)]
 pub enum ObjectUpdate<'a> {
     /// Makes an object without bytes in the file of this number, under this unique number, which is the next of the catalog.
-    Create { file_no: u32, unique: u64 },
+    Create {
+        file_no: u32,
+        unique: u64,
+    },
     /// Changes the bytes of a version.
-    Change { oid: Oid, edit: Edit<'a> },
-    /// Removes the object of a version that is its only one.
-    Remove { oid: Oid },
+    Change {
+        oid: Oid,
+        edit: Edit<'a>,
+    },
+    /// Removes a current version, from whose older one others are derived too, if it has one.
+    Remove {
+        oid: Oid,
+    },
+    /// Copies a version under this unique number, which is the next of the catalog.
+    Copy {
+        copying: Copying,
+        oid: Oid,
+        unique: u64,
+    },
+    /// Removes a frozen version from which just one is derived.
+    Drop {
+        oid: Oid,
+    },
 }
 
 /// What an update did.
@@ -36,7 +58,7 @@ pub struct Done {
     pub oid: Oid,
     /// The root that the version had and has no more, if it had one.
     pub gone: Option<Root>,
-    /// The root that the version got, if it got one.
+    /// The root that the version got, if it got one. A copy gets that of the version that it copies.
     pub come: Option<Root>,
 }
 
@@ -58,6 +80,8 @@ pub fn perform<V: Volume>(
     ensures named { IfOk result (λ done. NamesOid update.now done.oid) }
     ensures updates { (u : TableUpdate) → IsUpdate update.now u
         → Updates V.Ground volume.old volume.new u result }
+    ensures shares { IsCopying update.now
+        → OnOk result (OnlyTakes V.Ground volume.old volume.new) }
     ensures rooms { ChangesOne rooms.old rooms.new }
     ensures leads { V.leads volume.old volume.new }
     ensures cause { HasCause (V.faults volume.old) (V.faults volume.new) result }
@@ -66,5 +90,11 @@ pub fn perform<V: Volume>(
         ObjectUpdate::Create { file_no, unique } => create(volume, alloc, rooms, *file_no, *unique),
         ObjectUpdate::Change { oid, edit } => change(volume, alloc, rooms, oid, edit),
         ObjectUpdate::Remove { oid } => remove(volume, alloc, rooms, oid),
+        ObjectUpdate::Copy {
+            copying,
+            oid,
+            unique,
+        } => copy(volume, alloc, rooms, *copying, oid, *unique),
+        ObjectUpdate::Drop { oid } => drop_frozen(volume, alloc, rooms, oid),
     }
 }

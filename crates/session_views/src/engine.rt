@@ -1,7 +1,6 @@
 //! What a run needs of a session.
 ghost use Rattle.std.specs.Prelude.{◌≡◌, ◌≢◌, ◌⊎◌, ℕ, Err, IsTrue, IfOk, OnOk};
 ghost use Rattle.disk_model.specs.Outside.{DiskOnly, Leaves, ReadsOnly, Rose};
-ghost use Rattle.table_model.specs.Built.{is_built};
 ghost use Rattle.table_model.specs.Requests.{request_of, is_request};
 ghost use Rattle.table_model.specs.Requests as request;
 ghost use Rattle.session_views.specs.View.{View, Meaning, ShowsNow, Stepped, StandsDuring};
@@ -35,7 +34,7 @@ pub trait Engine {
     /// A disk of so many bytes is as large as the volume that it was opened on.
     ghost fits: { Self → ℕ → Type 0 };
 
-    /// Steps on a command that is built, to its reply. Refusals are replies.
+    /// Steps on a command, to its reply. Refusals are replies.
     fn step<H: Host>(
         &mut self,
         alloc: Global,
@@ -43,7 +42,6 @@ pub trait Engine {
         command: &Command<'_>,
     ) -> Result<Reply, Stop>
         requires form { IsTrue (is_request (request_of command.now)) }
-        requires built { IsTrue (is_built (request_of command.now)) }
         requires room { fits self.old (H.outside host.old).size }
         ensures room { fits self.new (H.outside host.new).size }
         ensures only { DiskOnly (H.outside host.old) (H.outside host.new) }

@@ -1,17 +1,110 @@
-//! What the updates that add or remove files and objects make of a table. Each builds the changed lists anew.
+//! What the updates make of a table. Each builds the changed lists anew.
 
 ghost use Rattle.std.specs.Prelude.{◌≡◌, ◌≤◌, ◌<◌, ◌+◌, ◌^◌, map, filter, not, insert, length, IfOk};
-ghost use Rattle.table_model.specs.Tables.{has_name, is_current_of, with_objects, object_added, with_object, with_file, file_inserted, numbered, without_file, without_object};
+ghost use Rattle.table_model.specs.Tables.{has_name, with_versions, in_each_file, object_added, with_object, with_file, file_inserted, numbered, with_bytes, with_frozen, with_derived, without_file, without_version};
 ghost use Rattle.table_model.specs.declared.table.TableFile.{TableFile};
 ghost use Rattle.table_lists.specs.Keys.{oid_of_key};
+ghost use Rattle.table_lists.specs.Edited.{edit_of};
+ghost use Rattle.table_lists.specs.Changed.{versions_after};
 
-use crate::find::{Key, is_current_in, same_bytes};
+use crate::change::{VersionChange, versions_changed};
+use crate::edit::Edit;
+use crate::find::{Key, same_bytes};
+use crate::form::{all_in, objects_formed};
 use ex_base::{Items, Oid};
 use std::alloc::{AllocError, Global};
 use std::cmp::Ordering;
-use table_model::{Object, Table, TableFile, Version};
+use table_model::{Table, TableFile};
 
-/// The file with a new object at its end.
+/// The file with its versions changed, and its objects formed of what is left.
+fn file_changed(
+    alloc: Global,
+    file: &TableFile,
+    change: &VersionChange,
+) -> Result<TableFile, AllocError>
+    ensures { IfOk result (λ changed. changed
+        ≡ with_versions (versions_after change.now) file.now) }
+{
+    let versions = all_in(alloc, file)?;
+    let changed = versions_changed(alloc, &versions, change)?;
+    let objects = objects_formed(alloc, &changed)?;
+    Ok(TableFile {
+        name: Items::of_bytes(alloc, file.name.as_slice())?,
+        objects: Items::of(objects),
+    })
+}
+
+fn files_changed(
+    alloc: Global,
+    files: &[TableFile],
+    change: &VersionChange,
+) -> Result<Vec<TableFile>, AllocError>
+    ensures { IfOk result (λ changed. changed.items
+        ≡ map (with_versions (versions_after change.now)) files.now) }
+{
+    let mut out = Vec::new(alloc);
+    for file in files {
+        out.push(file_changed(alloc, file, change)?)?;
+    }
+    Ok(out)
+}
+
+/// The table with the versions of each file changed.
+fn in_each_file(alloc: Global, table: &Table, change: &VersionChange) -> Result<Table, AllocError>
+    ensures { IfOk result (λ changed. changed
+        ≡ in_each_file (versions_after change.now) table.now) }
+{
+    let files = files_changed(alloc, table.files.as_slice(), change)?;
+    Ok(Table {
+        next_unique: table.next_unique,
+        last: table.last,
+        files: Items::of(files),
+    })
+}
+
+/// The table with one version's bytes edited.
+pub fn with_bytes(alloc: Global, table: &Table, key: &Key, edit: &Edit) -> Result<Table, AllocError>
+    ensures { IfOk result (λ changed. changed
+        ≡ with_bytes (oid_of_key key.now) (edit_of edit.now) table.now) }
+{
+    in_each_file(alloc, table, &VersionChange::Edit(*key, *edit))
+}
+
+/// The table with a frozen copy of the version between it and its older one. The copy's number is used up.
+pub fn with_frozen(alloc: Global, table: &Table, key: &Key, copy: &Oid) -> Result<Table, AllocError>
+    requires { table.now.next_unique + 1 < 2 ^ 64 }
+    ensures { IfOk result (λ changed. changed
+        ≡ numbered (with_frozen (oid_of_key key.now) copy.now table.now)) }
+{
+    let mut changed = in_each_file(alloc, table, &VersionChange::Freeze(*key, *copy))?;
+    changed.next_unique = table.next_unique + 1;
+    Ok(changed)
+}
+
+/// The table with a current copy derived from the version. The copy's number is used up.
+pub fn with_derived(
+    alloc: Global,
+    table: &Table,
+    key: &Key,
+    copy: &Oid,
+) -> Result<Table, AllocError>
+    requires { table.now.next_unique + 1 < 2 ^ 64 }
+    ensures { IfOk result (λ changed. changed
+        ≡ numbered (with_derived (oid_of_key key.now) copy.now table.now)) }
+{
+    let mut changed = in_each_file(alloc, table, &VersionChange::Derive(*key, *copy))?;
+    changed.next_unique = table.next_unique + 1;
+    Ok(changed)
+}
+
+/// The table without the version. What was derived from it is derived from its older one instead.
+pub fn without_version(alloc: Global, table: &Table, key: &Key) -> Result<Table, AllocError>
+    ensures { IfOk result (λ changed. changed ≡ without_version (oid_of_key key.now) table.now) }
+{
+    in_each_file(alloc, table, &VersionChange::Without(*key))
+}
+
+/// The file with a new object, where it has the name.
 fn object_added(
     alloc: Global,
     file: &TableFile,
@@ -20,20 +113,11 @@ fn object_added(
 ) -> Result<TableFile, AllocError>
     ensures { IfOk result (λ changed. changed ≡ object_added oid.now name.now file.now) }
 {
-    if !same_bytes(file.name.as_slice(), name) {
-        return file.clone();
+    if same_bytes(file.name.as_slice(), name) {
+        file_changed(alloc, file, &VersionChange::Create(*oid))
+    } else {
+        file.clone()
     }
-    let mut versions = Items::make(alloc);
-    versions.push(Version {
-        oid: *oid,
-        bytes: Items::make(alloc),
-    })?;
-    let mut objects = file.objects.clone()?;
-    objects.push(Object { versions })?;
-    Ok(TableFile {
-        name: file.name.clone()?,
-        objects,
-    })
 }
 
 fn files_with_object(
@@ -97,50 +181,6 @@ pub fn with_file(alloc: Global, table: &Table, name: &[u8]) -> Result<Table, All
             objects: Items::make(alloc),
         },
     )?;
-    Ok(Table {
-        next_unique: table.next_unique,
-        last: table.last,
-        files: Items::of(files),
-    })
-}
-
-fn objects_without(alloc: Global, objects: &[Object], key: &Key) -> Result<Vec<Object>, AllocError>
-    ensures { IfOk result (λ changed. changed.items
-        ≡ filter (λ o. not (is_current_of (oid_of_key key.now) o)) objects.now) }
-{
-    let mut out = Vec::new(alloc);
-    for object in objects {
-        if !is_current_in(object, key) {
-            out.push(object.clone()?)?;
-        }
-    }
-    Ok(out)
-}
-
-fn files_without_object(
-    alloc: Global,
-    files: &[TableFile],
-    key: &Key,
-) -> Result<Vec<TableFile>, AllocError>
-    ensures { IfOk result (λ changed. changed.items
-        ≡ map (with_objects (filter (λ o. not (is_current_of (oid_of_key key.now) o)))) files.now) }
-{
-    let mut out = Vec::new(alloc);
-    for file in files {
-        let objects = objects_without(alloc, file.objects.as_slice(), key)?;
-        out.push(TableFile {
-            name: Items::of_bytes(alloc, file.name.as_slice())?,
-            objects: Items::of(objects),
-        })?;
-    }
-    Ok(out)
-}
-
-/// The table without the object whose current version has the identifier.
-pub fn without_object(alloc: Global, table: &Table, key: &Key) -> Result<Table, AllocError>
-    ensures { IfOk result (λ changed. changed ≡ without_object (oid_of_key key.now) table.now) }
-{
-    let files = files_without_object(alloc, table.files.as_slice(), key)?;
     Ok(Table {
         next_unique: table.next_unique,
         last: table.last,

@@ -1,8 +1,9 @@
 //! Looking things up in a table, by going over its items from the first on.
 
-ghost use Rattle.std.specs.Prelude.{◌≡◌, length, bytes_eq, option_copied, find, flat_map, is_some};
+ghost use Rattle.std.specs.Prelude.{◌≡◌, bytes_eq, option_copied, find, flat_map};
 ghost use Rattle.std.specs.List.{list_any};
-ghost use Rattle.table_model.specs.Tables.{has_oid, has_name, current, is_current_of, is_current, objects_of, versions_in, version_at, object_at, file_at};
+ghost use Rattle.table_model.specs.Tables.{has_name, versions_in, version_at, object_at, file_at};
+ghost use Rattle.version_lists.specs.Versions.{has_oid};
 ghost use Rattle.table_lists.specs.Keys.{oid_of_key};
 
 use ex_base::Oid;
@@ -43,7 +44,8 @@ pub fn is_at(version: &Version, key: &Key) -> bool
         && version.oid.unique == key.unique
 }
 
-fn in_versions<'a>(versions: &'a [Version], key: &Key) -> Option<&'a Version>
+/// The version that has the identifier.
+pub(crate) fn in_versions<'a>(versions: &'a [Version], key: &Key) -> Option<&'a Version>
     ensures { option_copied result ≡ find (has_oid (oid_of_key key.now)) versions.now }
 {
     for version in versions {
@@ -128,46 +130,6 @@ pub fn find_object<'a>(table: &'a Table, key: &Key) -> Option<&'a Object>
     ensures { option_copied result ≡ object_at table.now (oid_of_key key.now) }
 {
     object_in_files(table.files.as_slice(), key)
-}
-
-/// Whether the object's current version has the identifier.
-pub fn is_current_in(object: &Object, key: &Key) -> bool
-    ensures { result ≡ is_current_of (oid_of_key key.now) object.now }
-{
-    match object.versions.as_slice().last() {
-        Some(version) => is_at(version, key),
-        None => false,
-    }
-}
-
-fn is_current_among(objects: &[Object], key: &Key) -> bool
-    ensures { result ≡ list_any (is_current_of (oid_of_key key.now)) objects.now }
-{
-    for object in objects {
-        if is_current_in(object, key) {
-            return true;
-        }
-    }
-    false
-}
-
-fn is_current_in_files(files: &[TableFile], key: &Key) -> bool
-    ensures { result ≡ list_any (is_current_of (oid_of_key key.now)) (flat_map
-        (λ f. f.objects) files.now) }
-{
-    for file in files {
-        if is_current_among(file.objects.as_slice(), key) {
-            return true;
-        }
-    }
-    false
-}
-
-/// Whether the version is the current one of its object.
-pub fn is_current_version(table: &Table, key: &Key) -> bool
-    ensures { result ≡ is_current table.now (oid_of_key key.now) }
-{
-    is_current_in_files(table.files.as_slice(), key)
 }
 
 fn file_among<'a>(files: &'a [TableFile], name: &[u8]) -> Option<&'a TableFile>

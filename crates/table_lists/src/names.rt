@@ -1,12 +1,15 @@
 //! The names of a session, and lists of names and identifiers that replies give.
 
-ghost use Rattle.std.specs.Prelude.{◌≡◌, [], ◌∷◌, ◌++◌, map, flat_map, find, bytes_eq, true, option_copied, IfOk};
+ghost use Rattle.std.specs.Prelude.{◌≡◌, [], ◌∷◌, ◌++◌, map, find, bytes_eq, true, option_copied, IfOk};
 ghost use Rattle.std.specs.List.{list_any};
-ghost use Rattle.table_model.specs.Tables.{current};
 ghost use Rattle.table_model.specs.Machines.{unmarked, kept};
-ghost use Rattle.table_model.specs.Steps.{current_oids, oids};
+ghost use Rattle.version_lists.specs.Versions.{listed};
+ghost use Rattle.table_model.specs.Tables.{current_in};
+ghost use Rattle.table_model.specs.Steps.{oids};
 
 use crate::find::same_bytes;
+use crate::form::current_in;
+use crate::tree::listed;
 use ex_base::{Items, Oid};
 use std::alloc::{AllocError, Global};
 use table_model::{BoundName, BoundNames, GroupRow, Name, Object, TableFile, Version};
@@ -115,23 +118,8 @@ pub fn file_names(alloc: Global, files: &[TableFile]) -> Result<Vec<Name>, Alloc
     Ok(out)
 }
 
-/// The identifiers of the objects' current versions, in the order of the objects.
-pub fn current_oids(alloc: Global, objects: &[Object]) -> Result<Vec<Oid>, AllocError>
-    ensures { IfOk result (λ found. found.items
-        ≡ flat_map (λ o. current_oids (current o.versions)) objects.now) }
-{
-    let mut out = Vec::new(alloc);
-    for object in objects {
-        match object.versions.as_slice().last() {
-            Some(version) => out.push(version.oid)?,
-            None => {}
-        }
-    }
-    Ok(out)
-}
-
 /// The identifiers of the versions, in their order.
-pub fn oids(alloc: Global, versions: &[Version]) -> Result<Vec<Oid>, AllocError>
+fn oids(alloc: Global, versions: &[Version]) -> Result<Vec<Oid>, AllocError>
     ensures { IfOk result (λ found. found.items ≡ oids versions.now) }
 {
     let mut out = Vec::new(alloc);
@@ -139,4 +127,20 @@ pub fn oids(alloc: Global, versions: &[Version]) -> Result<Vec<Oid>, AllocError>
         out.push(version.oid)?;
     }
     Ok(out)
+}
+
+/// The identifiers of the file's current versions, in order of their numbers.
+pub fn current_oids(alloc: Global, file: &TableFile) -> Result<Vec<Oid>, AllocError>
+    ensures { IfOk result (λ found. found.items ≡ oids (current_in file.now)) }
+{
+    let versions = current_in(alloc, file)?;
+    oids(alloc, &versions)
+}
+
+/// The identifiers of the object's versions, each before those that are derived from it.
+pub fn listed_oids(alloc: Global, object: &Object) -> Result<Vec<Oid>, AllocError>
+    ensures { IfOk result (λ found. found.items ≡ oids (listed object.now.versions)) }
+{
+    let versions = listed(alloc, object.versions.as_slice())?;
+    oids(alloc, &versions)
 }

@@ -1,10 +1,12 @@
 pub mod Copies
 pub mod Lists
 pub mod TableRules
-pub mod Updates
 pub mod NewVersions
+pub mod Updates
 pub mod Files
 pub mod Stepping
+pub mod Found
 pub mod Sizes
 pub mod Keeping
 pub mod StepsKeep
+pub mod FrozenStays

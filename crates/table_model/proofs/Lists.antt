@@ -1,10 +1,12 @@
--- Lists with some items left out, and lists with one item more.
-use Rattle.std.proofs.Common.{◌≡◌, suc, ◌≤◌, List, [], ◌∷◌, ◌++◌, length, map, All, AllPairs, refl, ap, subst, ◌∙◌, arith, Bool, true, false, cond}
+-- Lists with some items left out, lists with one item more, and lists of lists.
+use Rattle.std.proofs.Common.{◌≡◌, suc, ◌≤◌, List, [], ◌∷◌, ◌++◌, length, map, All, AllPairs, refl, ap, sym, subst, ◌∙◌, arith, Bool, true, false, cond, inl, inr}
 use Rattle.std.specs.Prelude.{flat_map, filter}
-use Rattle.std.proofs.lemmas.Grind.{flat_map-append}
-use Rattle.std.proofs.lemmas.List.{map-append}
-use Rattle.std.proofs.lemmas.List.Elements.{All-nil, All-cons, All-head, All-tail, All-append, All-map}
+use Rattle.std.specs.List.Sorted.{IsPermutation}
+use Rattle.std.proofs.lemmas.List.{map-append, append_assoc}
+use Rattle.std.proofs.lemmas.List.Elements.{All-nil, All-cons, All-head, All-tail, All-append, All-map, filter-append}
 use Rattle.std.proofs.lemmas.List.Kept.{AllPairs-cons}
+use Rattle.std.proofs.lemmas.List.Sorted.{IsPermutation-refl, IsPermutation-trans, IsPermutation-append, IsPermutation-append_comm, IsPermutation-append_left, IsPermutation-append_right}
+use Rattle.version_lists.proofs.Lists.{Has}
 
 -- ---- two lists joined
 
@@ -42,6 +44,11 @@ pairs_cross R [] ys all = All-nil (λ x. All (R x) ys)
 pairs_cross R (x ∷ xs) ys all =
     All-cons (λ x. All (R x) ys) x xs (all_back (R x) xs ys (pairs_head R x (xs ++ ys) all)) (pairs_cross R xs ys (pairs_tail R x (xs ++ ys) all))
 
+pub pairs_front : {A : Type 0} (R : A → A → Type 0) (xs ys : List A) → AllPairs R (xs ++ ys) → AllPairs R xs
+pairs_front R [] ys all = pairs_nil R
+pairs_front R (x ∷ xs) ys all =
+    AllPairs-cons R x xs (all_front (R x) xs ys (pairs_head R x (xs ++ ys) all)) (pairs_front R xs ys (pairs_tail R x (xs ++ ys) all))
+
 pub pairs_back : {A : Type 0} (R : A → A → Type 0) (xs ys : List A) → AllPairs R (xs ++ ys) → AllPairs R ys
 pairs_back R [] ys all = all
 pairs_back R (x ∷ xs) ys all = pairs_back R xs ys (pairs_tail R x (xs ++ ys) all)
@@ -59,8 +66,22 @@ all_parted P f [] all = All-nil (λ x. All P (f x))
 all_parted P f (x ∷ xs) all =
     All-cons (λ x. All P (f x)) x xs (all_front P (f x) (flat_map f xs) all) (all_parted P f xs (all_back P (f x) (flat_map f xs) all))
 
-pub all_both : {A : Type 0} (P Q : A → Type 0) (xs : List A) → All P xs → All Q xs → All (λ x. P x × Q x) xs
-all_both P Q xs p q = λ k d h. (p k d h, q k d h)
+pub pairs_parted : {A B : Type 0} (R : B → B → Type 0) (f : A → List B) (xs : List A) → AllPairs R (flat_map f xs) → All (λ x. AllPairs R (f x)) xs
+pairs_parted R f [] all = All-nil (λ x. AllPairs R (f x))
+pairs_parted R f (x ∷ xs) all =
+    All-cons (λ x. AllPairs R (f x)) x xs (pairs_front R (f x) (flat_map f xs) all) (pairs_parted R f xs (pairs_back R (f x) (flat_map f xs) all))
+
+-- what holds of the images of items
+pub all_unmapped : {A B : Type 0} (P : B → Type 0) (f : A → B) (xs : List A) → All P (map f xs) → All (λ x. P (f x)) xs
+all_unmapped P f [] all = All-nil (λ x. P (f x))
+all_unmapped P f (x ∷ xs) all =
+    All-cons (λ x. P (f x)) x xs (All-head P (f x) (map f xs) all) (all_unmapped P f xs (All-tail P (f x) (map f xs) all))
+
+pub pairs_unmapped : {A B : Type 0} (R : B → B → Type 0) (f : A → B) (xs : List A) → AllPairs R (map f xs) → AllPairs (λ x y. R (f x) (f y)) xs
+pairs_unmapped R f [] all = pairs_nil (λ x y. R (f x) (f y))
+pairs_unmapped R f (x ∷ xs) all =
+    AllPairs-cons (λ x y. R (f x) (f y)) x xs (all_unmapped (R (f x)) f xs (pairs_head R (f x) (map f xs) all))
+    (pairs_unmapped R f xs (pairs_tail R (f x) (map f xs) all))
 
 pub map_map : {A B C : Type 0} (g : B → C) (f : A → B) (xs : List A) → map g (map f xs) ≡ map (λ x. g (f x)) xs
 map_map g f [] = refl
@@ -73,17 +94,6 @@ maps_agree f g (x ∷ xs) all =
     let rest = maps_agree f g xs (All-tail (λ x. f x ≡ g x) x xs all) in
     ap (λ y. y ∷ map f xs) (All-head (λ x. f x ≡ g x) x xs all) ∙ ap (λ rest. g x ∷ rest) rest
 
-pub flat_maps_agree : {A B : Type 0} (f g : A → List B) (xs : List A) → All (λ x. f x ≡ g x) xs → flat_map f xs ≡ flat_map g xs
-flat_maps_agree f g [] all = refl
-flat_maps_agree f g (x ∷ xs) all =
-    let rest = flat_maps_agree f g xs (All-tail (λ x. f x ≡ g x) x xs all) in
-    ap (λ y. y ++ flat_map f xs) (All-head (λ x. f x ≡ g x) x xs all) ∙ ap (λ rest. g x ++ rest) rest
-
--- lists of lists of lists, joined from either end
-pub flat_flat : {A B C : Type 0} (g : B → List C) (f : A → List B) (xs : List A) → flat_map g (flat_map f xs) ≡ flat_map (λ x. flat_map g (f x)) xs
-flat_flat g f [] = refl
-flat_flat g f (x ∷ xs) = flat_map-append g (f x) (flat_map f xs) ∙ ap (λ rest. flat_map g (f x) ++ rest) (flat_flat g f xs)
-
 pub flat_map_of_map : {A B C : Type 0} (g : B → List C) (f : A → B) (xs : List A) → flat_map g (map f xs) ≡ flat_map (λ x. g (f x)) xs
 flat_map_of_map g f [] = refl
 flat_map_of_map g f (x ∷ xs) = ap (λ rest. g (f x) ++ rest) (flat_map_of_map g f xs)
@@ -91,6 +101,40 @@ flat_map_of_map g f (x ∷ xs) = ap (λ rest. g (f x) ++ rest) (flat_map_of_map 
 pub map_of_flat_map : {A B C : Type 0} (g : B → C) (f : A → List B) (xs : List A) → map g (flat_map f xs) ≡ flat_map (λ x. map g (f x)) xs
 map_of_flat_map g f [] = refl
 map_of_flat_map g f (x ∷ xs) = map-append g (f x) (flat_map f xs) ∙ ap (λ rest. map g (f x) ++ rest) (map_of_flat_map g f xs)
+
+pub filter_of_flat_map : {A B : Type 0} (p : B → Bool) (f : A → List B) (xs : List A) → filter p (flat_map f xs) ≡ flat_map (λ x. filter p (f x)) xs
+filter_of_flat_map p f [] = refl
+filter_of_flat_map p f (x ∷ xs) = filter-append p (f x) (flat_map f xs) ∙ ap (λ rest. filter p (f x) ++ rest) (filter_of_flat_map p f xs)
+
+-- each list in another order
+pub flat_permuted : {A B : Type 0} (f g : A → List B) (xs : List A) → ((x : A) → Has xs x → IsPermutation (f x) (g x)) → IsPermutation (flat_map f xs) (flat_map g xs)
+flat_permuted f g [] each = IsPermutation-refl []
+flat_permuted f g (x ∷ xs) each =
+    IsPermutation-append (f x) (g x) (flat_map f xs) (flat_map g xs) (each x (inl refl)) (flat_permuted f g xs (λ y m. each y (inr m)))
+
+-- the fronts of all lists, and then their backs
+pub flat_parted : {A B : Type 0} (f g : A → List B) (xs : List A) → IsPermutation (flat_map (λ x. f x ++ g x) xs) (flat_map f xs ++ flat_map g xs)
+flat_parted f g [] = IsPermutation-refl []
+flat_parted {A} {B} f g (x ∷ xs) =
+    IsPermutation-trans ((f x ++ g x) ++ flat_map (λ x. f x ++ g x) xs) ((f x ++ g x) ++ (fronts ++ backs)) ((f x ++ fronts) ++ (g x ++ backs))
+    (IsPermutation-append_right (f x ++ g x) (flat_map (λ x. f x ++ g x) xs) (fronts ++ backs) (flat_parted f g xs))
+    (subst (λ l. IsPermutation l ((f x ++ fronts) ++ (g x ++ backs))) (sym apart) (subst (IsPermutation (f x ++ ((g x ++ fronts) ++ backs))) together moved))
+  where
+    fronts : List B
+    fronts = flat_map f xs
+
+    backs : List B
+    backs = flat_map g xs
+
+    apart : (f x ++ g x) ++ (fronts ++ backs) ≡ f x ++ ((g x ++ fronts) ++ backs)
+    apart = append_assoc (f x) (g x) (fronts ++ backs) ∙ ap (λ l. f x ++ l) (sym (append_assoc (g x) fronts backs))
+
+    together : f x ++ ((fronts ++ g x) ++ backs) ≡ (f x ++ fronts) ++ (g x ++ backs)
+    together = ap (λ l. f x ++ l) (append_assoc fronts (g x) backs) ∙ sym (append_assoc (f x) fronts (g x ++ backs))
+
+    moved : IsPermutation (f x ++ ((g x ++ fronts) ++ backs)) (f x ++ ((fronts ++ g x) ++ backs))
+    moved = IsPermutation-append_right (f x) ((g x ++ fronts) ++ backs) ((fronts ++ g x) ++ backs)
+        (IsPermutation-append_left backs (g x ++ fronts) (fronts ++ g x) (IsPermutation-append_comm (g x) fronts))
 
 -- ---- a list with some items left out
 
@@ -152,14 +196,6 @@ pub data More {A : Type 0} (v : A) : List A → List A → Type 0 where
   here : {xs : List A} → More v xs (v ∷ xs)
   past : {x : A} {xs ys : List A} → More v xs ys → More v (x ∷ xs) (x ∷ ys)
 
-pub more_before : {A : Type 0} {v : A} {xs ys : List A} (zs : List A) → More v xs ys → More v (zs ++ xs) (zs ++ ys)
-more_before [] m = m
-more_before (z ∷ zs) m = past (more_before zs m)
-
-pub more_after : {A : Type 0} {v : A} {xs ys : List A} (zs : List A) → More v xs ys → More v (xs ++ zs) (ys ++ zs)
-more_after zs here = here
-more_after zs (past m) = past (more_after zs m)
-
 pub more_end : {A : Type 0} {v : A} (xs : List A) → More v xs (xs ++ v ∷ [])
 more_end [] = here
 more_end (x ∷ xs) = past (more_end xs)
@@ -177,9 +213,6 @@ more_pairs {A} {v} R (past {x} {xs} {ys} m) after before all =
 pub more_length : {A : Type 0} {v : A} {xs ys : List A} → More v xs ys → length ys ≡ suc (length xs)
 more_length here = refl
 more_length (past m) = ap suc (more_length m)
-
-pub more_joined : {A B : Type 0} {v : B} (f g : A → List B) (x : A) (xs : List A) → f x ≡ g x → More v (flat_map f xs) (flat_map g xs) → More v (flat_map f (x ∷ xs)) (flat_map g (x ∷ xs))
-more_joined {A} {B} {v} f g x xs same m = subst (λ (front : List B). More v (f x ++ flat_map f xs) (front ++ flat_map g xs)) same (more_before (f x) m)
 
 -- an item that has none of its own adds none
 pub more_flat : {A B : Type 0} {v : A} {xs ys : List A} (f : A → List B) → More v xs ys → f v ≡ [] → flat_map f ys ≡ flat_map f xs

@@ -12,7 +12,7 @@ use Rattle.table_model.specs.declared.reply.Refusal.{Refusal}
 use Rattle.table_model.specs.Requests.{Request}
 use Rattle.table_model.specs.Machines.{updates_most, touched_most}
 use Rattle.table_model.specs.Needs.{need, charge, is_update, free}
-use Rattle.table_model.specs.Refusals.{refusal_of, refusals, tests, limits, first, when, no_txn, full_in}
+use Rattle.table_model.specs.Refusals.{refusal_of, refusals, tests, limits, last_tests, first, when, no_txn, full_in}
 use Rattle.table_model.specs.Steps.{Step, Allows, reply_to, machine_after, answer_of, next_of}
 
 module _ (m : Machine) (r : Request) (q : Pick) where
@@ -67,14 +67,15 @@ pub record PassesUpdate (m : Machine) (r : Request) (q : Pick) : Type 0 where
 
 pub passes_update : (m : Machine) (r : Request) (q : Pick) → is_update r ≡ true → None ≡ refusal_of m r q → PassesUpdate m r q
 passes_update m r q is none =
-    let listed : refusals m r q ≡ no_txn m ∷ (tests m r ++ limits m r q) = ap (λ (b : Bool). cond b (no_txn m ∷ (tests m r ++ limits m r q)) (tests m r)) is in
-    let all = passes (no_txn m ∷ (tests m r ++ limits m r q)) (none ∙ ap first listed) in
-    let room = passes_back (tests m r) (limits m r q) all.1 in
+    let listed : refusals m r q ≡ no_txn m ∷ (tests m r ++ limits m r q ++ last_tests m r) = ap (λ (b : Bool). cond b (no_txn m ∷ (tests m r ++ limits m r q ++ last_tests m r)) (tests m r)) is in
+    let all = passes (no_txn m ∷ (tests m r ++ limits m r q ++ last_tests m r)) (none ∙ ap first listed) in
+    let front = passes_front (tests m r ++ limits m r q) (last_tests m r) all.1 in
+    let room = passes_back (tests m r) (limits m r q) front in
     let long = or_parts (nat_le updates_most (length m.notes)) (nat_lt touched_most (m.touched + charge r)) (unmet _ _ room.0) in
     let units = passes (full_in m (need m.geometry r q Page) Page ∷ full_in m (need m.geometry r q Segment) Segment ∷ []) room.1.0 in
     record {
       working = unmet _ _ all.0;
-      own = passes_front (tests m r) (limits m r q) all.1;
+      own = passes_front (tests m r) (limits m r q) front;
       updates = leb-false updates_most (length m.notes) long.0;
       touched = ltb-false touched_most (m.touched + charge r) long.1;
       pages = ltb-false (free m Page) (need m.geometry r q Page) (unmet _ _ units.0);
@@ -84,4 +85,4 @@ passes_update m r q is none =
 -- what the tests of a command that is no update say
 pub passes_other : (m : Machine) (r : Request) (q : Pick) → is_update r ≡ false → None ≡ refusal_of m r q → Passes (tests m r)
 passes_other m r q isnt none =
-    passes (tests m r) (none ∙ ap first (ap (λ (b : Bool). cond b (no_txn m ∷ (tests m r ++ limits m r q)) (tests m r)) isnt))
+    passes (tests m r) (none ∙ ap first (ap (λ (b : Bool). cond b (no_txn m ∷ (tests m r ++ limits m r q ++ last_tests m r)) (tests m r)) isnt))

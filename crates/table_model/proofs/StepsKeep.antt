@@ -1,11 +1,11 @@
 -- Each command that is accepted keeps the rules of machines, and so does each step.
 use Rattle.std.proofs.Common.{◌≡◌, ℕ, ◌+◌, ◌-◌, ◌^◌, ◌<◌, ◌≤◌, List, [], ◌∷◌, length, min, All, refl, sym, ap, subst, ◌∙◌, arith, Option, Some, None, IsTrue, Bool, true, false, cond, not, ◌&&◌, inl, inr}
 use Rattle.std.specs.Prelude.{find, bytes_eq, is_some, nat_le, ◌==◌}
-use Rattle.std.specs.List.{list_any}
-use Rattle.std.proofs.lemmas.Bool.{cases_Bool, and_parts, ltb-false, leb-false, leb-true, eqb-false, not-true, or_parts}
+use Rattle.std.proofs.lemmas.Bool.{cases_Bool, and_parts, ltb-false, leb-false, leb-true, eqb-false, not-true}
 use Rattle.std.proofs.lemmas.List.{length-append, length-map}
 use Rattle.std.proofs.lemmas.List.Elements.{All-nil, All-cons, All-map, All-weaker, All-push, All-filter, filter_passes}
 use Rattle.std.proofs.lemmas.List.Sums.{count_by-le-length, length-filter}
+use Rattle.ex_base.specs.declared.names.Oid.{Oid}
 use Rattle.ex_base.specs.Sizes.{object_most, files_most}
 use Rattle.ex_base.specs.Edits.{inserted, deleted, replaced, appended}
 use Rattle.table_model.specs.declared.machine.Machine.{Machine}
@@ -15,33 +15,29 @@ use Rattle.table_model.specs.declared.machine.ScanRow.{ScanRow}
 use Rattle.table_model.specs.declared.machine.GroupRow.{GroupRow}
 use Rattle.table_model.specs.declared.reply.Refusal.{Refusal}
 use Rattle.table_model.specs.Words.{is_name, data_bytes, data_count}
-use Rattle.table_model.specs.Tables.{has_name, objects_of, is_current_of}
+use Rattle.table_model.specs.Tables.{IsTable, has_name, numbered, versions_of, with_derived, with_frozen, without_version}
 use Rattle.table_model.specs.Requests.{Request, Reference, is_request, is_reference, frames_most}
 use Rattle.table_model.specs.Requests as request
-use Rattle.table_model.specs.Machines.{IsMachine, IsScan, IsGroup, shown, the_oid, bytes_of, kept, scans_most, groups_most}
-use Rattle.table_model.specs.Refusals.{refusal_of}
+use Rattle.table_model.specs.Machines.{IsMachine, IsScan, IsGroup, shown, version_of, bytes_of, kept, scans_most, groups_most}
+use Rattle.table_model.specs.Refusals.{refusal_of, is_only_one}
 use Rattle.table_model.specs.Laws.{StepsKeepTheRules}
 use Rattle.table_model.specs.Steps.{IsAllowed, IfAccepted, next_of, machine_after, updated, moved, rest, new_oid, TakesNone}
 use Rattle.table_model.proofs.Stepping.{passes_update, passes_other, unmet}
-use Rattle.table_model.proofs.Files.{file_keeps, unfile_keeps, destroy_keeps, create_keeps}
-use Rattle.table_model.proofs.NewVersions.{freeze_keeps}
-use Rattle.table_model.proofs.Updates.{drop_keeps}
+use Rattle.table_model.proofs.Files.{file_keeps, unfile_keeps}
+use Rattle.table_model.proofs.Updates.{create_keeps, derive_keeps, freeze_keeps, without_keeps}
+use Rattle.table_model.proofs.Found.{finds, frozen_leaves, none_current, none_frozen, not_current, not_frozen, other_leaves}
 use Rattle.table_model.proofs.Sizes.{edit_keeps, bytes_fit, length-inserted, length-replaced, length-deleted}
 use Rattle.table_model.proofs.Keeping.{updated_keeps, bound_keeps, is_working, shown_is, push_counted, map_counted, filter_counted, one_use_more}
 
 -- ---- what tests say that don't apply
 
 -- nothing is found
-none_found : {A : Type 0} (p : A → Bool) (xs : List A) → is_some (find p xs) ≡ false → All (λ x. p x ≡ false) xs
+pub none_found : {A : Type 0} (p : A → Bool) (xs : List A) → is_some (find p xs) ≡ false → All (λ x. p x ≡ false) xs
 none_found p [] none = All-nil (λ x. p x ≡ false)
 none_found p (x ∷ xs) none = elim (cases_Bool (p x)) [
   | inl here ↦ let found : is_some (find p (x ∷ xs)) ≡ true = ap (λ (b : Bool). is_some (cond b (Some x) (find p xs))) here in cc
   | inr isnt ↦ All-cons (λ x. p x ≡ false) x xs isnt (none_found p xs (sym (ap (λ (b : Bool). is_some (cond b (Some x) (find p xs))) isnt) ∙ none))
 ]
-
-none_any : {A : Type 0} (p : A → Bool) (xs : List A) → list_any p xs ≡ false → All (λ x. p x ≡ false) xs
-none_any p [] none = All-nil (λ x. p x ≡ false)
-none_any p (x ∷ xs) none = let both = or_parts (p x) (list_any p xs) none in All-cons (λ x. p x ≡ false) x xs both.0 (none_any p xs both.1)
 
 -- a number below 2 ^ 64 that isn't the last one
 room_for : (n : ℕ) → n < 2 ^ 64 → (n == 2 ^ 64 - 1) ≡ false → n < 2 ^ 64 - 1
@@ -82,7 +78,7 @@ commit_keeps m q is none takes =
         names = was.table.names;
         sorted = was.table.sorted;
         ordered = was.table.ordered;
-        lines = was.table.lines;
+        trees = was.table.trees;
         numbers = was.table.numbers;
         distinct = was.table.distinct;
         apart = was.table.apart;
@@ -236,14 +232,20 @@ module _ (m : Machine) (q : Pick) (is : IsMachine m) where
   destroy_step : (x : Reference) → None ≡ refusal_of m (request.Destroy x) q → IsAllowed m (request.Destroy x) q → IsMachine (machine_after m (request.Destroy x) q)
   destroy_step x none allowed =
       let passed = passes_update m (request.Destroy x) q refl none in
-      updated_keeps m (request.Destroy x) q is passed (allowed.1 refl) (destroy_keeps m.geometry (shown m) (the_oid m x) (shown_is m is)) refl refl
+      let own = passed.own in
+      let found = finds m x (unmet _ _ own.1.0) in
+      let others = ap (is_only_one (versions_of (shown m))) (sym found.is) ∙ unmet _ _ own.1.1.1.0 in
+      let kept = without_keeps found.version.oid m.geometry (shown m) (shown_is m is) (other_leaves m.geometry (shown m) (shown_is m is) found.version found.there others) in
+      updated_keeps m (request.Destroy x) q is passed (allowed.1 refl) (subst (λ (oid : Oid). IsTable m.geometry (without_version oid (shown m))) (sym found.oid_is) kept) refl refl
 
   drop_step : (x : Reference) → None ≡ refusal_of m (request.DropVersion x) q → IsAllowed m (request.DropVersion x) q → IsMachine (machine_after m (request.DropVersion x) q)
   drop_step x none allowed =
       let passed = passes_update m (request.DropVersion x) q refl none in
       let own = passed.own in
-      updated_keeps m (request.DropVersion x) q is passed (allowed.1 refl)
-      (drop_keeps (the_oid m x) m.geometry (shown m) (shown_is m is) (none_any (is_current_of (the_oid m x)) (objects_of (shown m)) (unmet _ _ own.1.1.0))) refl refl
+      let found = finds m x (unmet _ _ own.1.0) in
+      let frozen = not_current found.version (version_of m x) found.is (unmet _ _ own.1.1.0) in
+      let kept = without_keeps found.version.oid m.geometry (shown m) (shown_is m is) (frozen_leaves m.geometry (shown m) (shown_is m is) found.version found.there frozen) in
+      updated_keeps m (request.DropVersion x) q is passed (allowed.1 refl) (subst (λ (oid : Oid). IsTable m.geometry (without_version oid (shown m))) (sym found.oid_is) kept) refl refl
 
   create_step : (file name : List ℕ) → IsTrue (is_name name) → None ≡ refusal_of m (request.Create file name) q → IsAllowed m (request.Create file name) q → IsMachine (machine_after m (request.Create file name) q)
   create_step file name spelled none allowed =
@@ -260,10 +262,26 @@ module _ (m : Machine) (q : Pick) (is : IsMachine m) where
       let passed = passes_update m (request.Freeze x name) q refl none in
       let own = passed.own in
       let table = shown_is m is in
+      let found = finds m x (unmet _ _ own.1.1.0) in
+      let current = not_frozen found.version (version_of m x) found.is (unmet _ _ own.1.1.1.0) in
       let room : (shown m).next_unique < 2 ^ 64 - 1 = room_for (shown m).next_unique table.next (unmet _ _ own.1.1.1.1.0) in
+      let kept = freeze_keeps found.version.oid (new_oid m q) m.geometry (shown m) table (omega (arith, room)) refl allowed.0 (none_frozen m.geometry (shown m) table found.version found.there current) in
       let made = updated_keeps m (request.Freeze x name) q is passed (allowed.1 refl)
-      (freeze_keeps (the_oid m x) (new_oid m q) m.geometry (shown m) table (omega (arith, room)) refl allowed.0) refl refl in
+      (subst (λ (oid : Oid). IsTable m.geometry (numbered (with_frozen oid (new_oid m q) (shown m)))) (sym found.oid_is) kept) refl refl in
       bound_keeps (updated m (request.Freeze x name) q) name (new_oid m q) made spelled (unmet _ _ own.1.0) refl
+
+  derive_step : (x : Reference) (name : List ℕ) → IsTrue (is_name name) → None ≡ refusal_of m (request.Derive x name) q → IsAllowed m (request.Derive x name) q → IsMachine (machine_after m (request.Derive x name) q)
+  derive_step x name spelled none allowed =
+      let passed = passes_update m (request.Derive x name) q refl none in
+      let own = passed.own in
+      let table = shown_is m is in
+      let found = finds m x (unmet _ _ own.1.1.0) in
+      let frozen = not_current found.version (version_of m x) found.is (unmet _ _ own.1.1.1.0) in
+      let room : (shown m).next_unique < 2 ^ 64 - 1 = room_for (shown m).next_unique table.next (unmet _ _ own.1.1.1.1.0) in
+      let kept = derive_keeps found.version.oid (new_oid m q) m.geometry (shown m) table (omega (arith, room)) refl allowed.0 (none_current m.geometry (shown m) table found.version found.there frozen) in
+      let made = updated_keeps m (request.Derive x name) q is passed (allowed.1 refl)
+      (subst (λ (oid : Oid). IsTable m.geometry (numbered (with_derived oid (new_oid m q) (shown m)))) (sym found.oid_is) kept) refl refl in
+      bound_keeps (updated m (request.Derive x name) q) name (new_oid m q) made spelled (unmet _ _ own.1.0) refl
 
   insert_step : (x : Reference) (pos : ℕ) (given : List ℕ) → None ≡ refusal_of m (request.Insert x pos given) q → IsAllowed m (request.Insert x pos given) q → IsMachine (machine_after m (request.Insert x pos given) q)
   insert_step x pos given none allowed =
@@ -300,34 +318,26 @@ module _ (m : Machine) (q : Pick) (is : IsMachine m) where
 
 -- ---- each step
 
-accepted_keeps : (m : Machine) (r : Request) (q : Pick) → IsMachine m → IsTrue (is_request r) → None ≡ refusal_of m r q → IsAllowed m r q → IsMachine (machine_after m r q)
+pub accepted_keeps : (m : Machine) (r : Request) (q : Pick) → IsMachine m → IsTrue (is_request r) → None ≡ refusal_of m r q → IsAllowed m r q → IsMachine (machine_after m r q)
 accepted_keeps m request.Begin q is form none allowed = begin_keeps m q is none
 accepted_keeps m request.Commit q is form none allowed = commit_keeps m q is none allowed.0
 accepted_keeps m request.Abort q is form none allowed = abort_keeps m q is allowed.0
-accepted_keeps m request.Checkpoint q is form none allowed = is
-accepted_keeps m request.Log q is form none allowed = is
-accepted_keeps m request.Files q is form none allowed = is
-accepted_keeps m request.Space q is form none allowed = is
 accepted_keeps m (request.File name) q is form none allowed = file_step m q is name form none allowed
 accepted_keeps m (request.Unfile name) q is form none allowed = unfile_step m q is name none allowed
-accepted_keeps m (request.ListFile name) q is form none allowed = is
 accepted_keeps m (request.Create file bind) q is form none allowed = create_step m q is file bind (and_parts (is_name file) (is_name bind) form).1 none allowed
 accepted_keeps m (request.Destroy x) q is form none allowed = destroy_step m q is x none allowed
-accepted_keeps m (request.Size x) q is form none allowed = is
-accepted_keeps m (request.Stat x) q is form none allowed = is
-accepted_keeps m (request.Digest x) q is form none allowed = is
-accepted_keeps m (request.Versions x) q is form none allowed = is
 accepted_keeps m (request.DropVersion x) q is form none allowed = drop_step m q is x none allowed
-accepted_keeps m (request.Read x pos len) q is form none allowed = is
 accepted_keeps m (request.Insert x pos given) q is form none allowed = insert_step m q is x pos given none allowed
 accepted_keeps m (request.Append x given) q is form none allowed = append_step m q is x given none allowed
 accepted_keeps m (request.Replace x pos given) q is form none allowed = replace_step m q is x pos given none allowed
 accepted_keeps m (request.Delete x pos len) q is form none allowed = delete_step m q is x pos len none allowed
 accepted_keeps m (request.Freeze x bind) q is form none allowed = freeze_step m q is x bind (and_parts (is_reference x) (is_name bind) form).1 none allowed
+accepted_keeps m (request.Derive x bind) q is form none allowed = derive_step m q is x bind (and_parts (is_reference x) (is_name bind) form).1 none allowed
 accepted_keeps m (request.Group name frames mru) q is form none allowed = group_keeps m name frames mru q is form none
 accepted_keeps m (request.Scan x name group) q is form none allowed = scan_keeps m x name group q is form none
 accepted_keeps m (request.Next name len) q is form none allowed = next_keeps name len m q is
 accepted_keeps m (request.Close name) q is form none allowed = close_keeps m name q is allowed.0
+accepted_keeps m _ q is form none allowed = is
 
 either_keeps : (o : Option Refusal) (m n : Machine) (A : Type 0) → IsMachine m → (None ≡ o → A → IsMachine n) → IfAccepted o A → IsMachine (next_of o m n)
 either_keeps None m n A is accepted allowed = accepted refl allowed

@@ -1,7 +1,6 @@
 pub mod Words
 pub mod Tables
 pub mod Requests
-pub mod Built
 pub mod Machines
 pub mod Needs
 pub mod Refusals

@@ -27,6 +27,7 @@ need g (request.Replace x pos given) q area = edit_need (data_count given) q (re
 need g (request.Delete x pos len) q area = edit_need len q (delete_need q.height area)
 need g (request.Create file bind) q area = pages_need 16 area
 need g (request.Freeze x bind) q area = pages_need 16 area
+need g (request.Derive x bind) q area = pages_need 16 area
 need g (request.File name) q area = pages_need 2 area
 need g _ q area = 0
 
@@ -38,6 +39,7 @@ charge (request.Replace x pos given) = 1
 charge (request.Delete x pos len) = 1
 charge (request.Create file bind) = 16
 charge (request.Freeze x bind) = 16
+charge (request.Derive x bind) = 16
 charge (request.File name) = 2
 charge (request.Unfile name) = 2
 charge (request.Destroy x) = 16

@@ -8,14 +8,15 @@ use Rattle.ex_base.specs.declared.names.Area.TheVariants.{Page, Segment}
 use Rattle.table_model.specs.declared.machine.Machine.{Machine}
 use Rattle.table_model.specs.declared.machine.Pick.{Pick}
 use Rattle.table_model.specs.declared.table.TableFile.{TableFile}
-use Rattle.table_model.specs.declared.table.Object.{Object}
+use Rattle.version_lists.specs.declared.version.Version.{Version}
+use Rattle.version_lists.specs.Versions.{derived_from, unique_of}
 use Rattle.table_model.specs.declared.reply.Refusal.{Refusal}
 use Rattle.table_model.specs.declared.reply.Refusal.TheVariants as refusal
 use Rattle.table_model.specs.Words.{data_count}
-use Rattle.table_model.specs.Tables.{file_at, object_at, is_current}
+use Rattle.table_model.specs.Tables.{file_at, is_current, versions_of}
 use Rattle.table_model.specs.Requests.{Request, Reference}
 use Rattle.table_model.specs.Requests as request
-use Rattle.table_model.specs.Machines.{shown, oid_of, the_oid, version_of, size_of, scan_at, has_group, is_taken, updates_most, touched_most, scans_most, groups_most}
+use Rattle.table_model.specs.Machines.{shown, oid_of, version_of, size_of, scan_at, has_group, is_taken, updates_most, touched_most, scans_most, groups_most}
 use Rattle.table_model.specs.Needs.{need, charge, is_update, free}
 
 abbrev pub when : Bool → Refusal → Option Refusal
@@ -47,11 +48,19 @@ files_full m = when (nat_le (files_most m.geometry) (length (shown m).files)) re
 abbrev pub no_object : Machine → Reference → Option Refusal
 no_object m x = when (is_none (version_of m x)) refusal.NoObject
 
+abbrev pub frozen_if : Option Version → Bool
+frozen_if None = false
+frozen_if (Some v) = v.frozen
+
 abbrev pub frozen : Machine → Reference → Option Refusal
-frozen m x = when (not (is_current (shown m) (the_oid m x))) refusal.Frozen
+frozen m x = when (frozen_if (version_of m x)) refusal.Frozen
+
+abbrev pub current_if : Option Version → Bool
+current_if None = false
+current_if (Some v) = is_current v
 
 abbrev pub current : Machine → Reference → Option Refusal
-current m x = when (is_current (shown m) (the_oid m x)) refusal.Current
+current m x = when (current_if (version_of m x)) refusal.Current
 
 abbrev pub has_objects : Option TableFile → Bool
 has_objects None = false
@@ -60,12 +69,30 @@ has_objects (Some f) = nat_lt 0 (length f.objects)
 abbrev pub not_empty : Machine → List ℕ → Option Refusal
 not_empty m name = when (has_objects (file_at (shown m) name)) refusal.NotEmpty
 
-abbrev pub has_frozen : Option Object → Bool
-has_frozen None = false
-has_frozen (Some o) = nat_lt 1 (length o.versions)
+-- at most one version is derived from the one with this number, if there is a number
+abbrev pub has_one : List Version → Option ℕ → Bool
+has_one vs None = false
+has_one vs (Some number) = nat_le (length (derived_from number vs)) 1
 
+abbrev pub is_only_one : List Version → Option Version → Bool
+is_only_one vs None = false
+is_only_one vs (Some v) = has_one vs v.older
+
+-- The version has an older one from which no other is derived.
 abbrev pub has_versions : Machine → Reference → Option Refusal
-has_versions m x = when (has_frozen (object_at (shown m) (the_oid m x))) refusal.HasVersions
+has_versions m x = when (is_only_one (versions_of (shown m)) (version_of m x)) refusal.HasVersions
+
+abbrev pub branches_if : List Version → Option Version → ℕ
+branches_if vs None = 0
+branches_if vs (Some v) = length (derived_from (unique_of v) vs)
+
+-- how many versions are derived from this one
+abbrev pub branches_of : Machine → Reference → ℕ
+branches_of m x = branches_if (versions_of (shown m)) (version_of m x)
+
+-- Two or more are.
+abbrev pub branches : Machine → Reference → Option Refusal
+branches m x = when (nat_le 2 (branches_of m x)) (refusal.Branches (branches_of m x))
 
 abbrev pub no_scan : Machine → List ℕ → Option Refusal
 no_scan m name = when (is_none (scan_at m name)) refusal.NoScan
@@ -142,14 +169,20 @@ tests m (request.Append x given) = no_name m x ∷ no_object m x ∷ frozen m x 
 tests m (request.Replace x pos given) = no_name m x ∷ no_object m x ∷ frozen m x ∷ range m x (pos + data_count given) ∷ []
 tests m (request.Delete x pos len) = no_name m x ∷ no_object m x ∷ frozen m x ∷ range m x (pos + len) ∷ []
 tests m (request.Freeze x bind) = no_name m x ∷ name_taken m bind ∷ no_object m x ∷ frozen m x ∷ ids_spent (shown m).next_unique ∷ []
+tests m (request.Derive x bind) = no_name m x ∷ name_taken m bind ∷ no_object m x ∷ current m x ∷ ids_spent (shown m).next_unique ∷ []
 tests m (request.Group name frames mru) = name_taken m name ∷ too_many_groups m ∷ []
 tests m (request.Scan x name group) = no_name m x ∷ name_taken m name ∷ no_object m x ∷ no_group m group ∷ too_many_scans m ∷ []
 tests m (request.Next name len) = no_scan m name ∷ []
 tests m (request.Close name) = no_scan m name ∷ []
 
--- an update asks for a transaction first, and for room last
+-- what is asked of some behind their room
+abbrev pub last_tests : Machine → Request → List (Option Refusal)
+last_tests m (request.DropVersion x) = branches m x ∷ []
+last_tests m _ = []
+
+-- an update asks for a transaction first, and for room behind its own tests
 abbrev pub refusals : Machine → Request → Pick → List (Option Refusal)
-refusals m r q = if is_update r then no_txn m ∷ (tests m r ++ limits m r q) else tests m r
+refusals m r q = if is_update r then no_txn m ∷ (tests m r ++ limits m r q ++ last_tests m r) else tests m r
 
 abbrev pub refusal_of : Machine → Request → Pick → Option Refusal
 refusal_of m r q = first (refusals m r q)

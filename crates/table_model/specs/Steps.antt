@@ -1,5 +1,5 @@
 -- What a command does: its reply and the machine after it, given what the volume decides.
-use Rattle.std.specs.Prelude.{ℕ, ◌+◌, ◌-◌, ◌≤◌, ◌≡◌, min, List, [], ◌∷◌, ◌++◌, length, map, filter, flat_map, not, bytes_eq, if◌then◌else◌, Option, Some, None, IsTrue, All, take, ⊤}
+use Rattle.std.specs.Prelude.{ℕ, ◌+◌, ◌-◌, ◌≤◌, ◌≡◌, min, List, [], ◌∷◌, ◌++◌, length, map, filter, not, bytes_eq, if◌then◌else◌, Option, Some, None, IsTrue, All, take, ⊤}
 use Rattle.sha2.specs.Sha256.{sha256}
 use Rattle.ex_base.specs.Bytes.{bytes_at}
 use Rattle.ex_base.specs.Edits.{inserted, deleted, replaced, appended}
@@ -10,8 +10,10 @@ use Rattle.ex_base.specs.declared.notes.NoteKind.{NoteKind}
 use Rattle.ex_base.specs.declared.notes.NoteKind.TheVariants as note_kind
 use Rattle.table_model.specs.declared.table.Table.{Table}
 use Rattle.table_model.specs.declared.table.TableFile.{TableFile}
-use Rattle.table_model.specs.declared.table.Object.{Object}
-use Rattle.table_model.specs.declared.table.Version.{Version}
+use Rattle.version_lists.specs.declared.version.Version.{Version}
+use Rattle.version_lists.specs.declared.version.Object.{Object}
+use Rattle.version_lists.specs.Versions.{listed}
+use Rattle.version_lists.specs.Changes.{new_version}
 use Rattle.table_model.specs.declared.machine.Machine.{Machine}
 use Rattle.table_model.specs.declared.machine.ScanRow.{ScanRow}
 use Rattle.table_model.specs.declared.machine.Pick.{Pick}
@@ -19,7 +21,7 @@ use Rattle.table_model.specs.declared.reply.Refusal.{Refusal}
 use Rattle.table_model.specs.declared.reply.Reply.{Reply}
 use Rattle.table_model.specs.declared.reply.Reply.TheVariants as reply
 use Rattle.table_model.specs.Words.{data_bytes, data_count}
-use Rattle.table_model.specs.Tables.{current, file_at, object_at, versions_of, SamePlace, with_file, without_file, numbered, with_object, without_object, with_bytes, with_frozen, without_version}
+use Rattle.table_model.specs.Tables.{current_in, file_at, object_at, versions_of, SamePlace, with_file, without_file, numbered, with_object, with_bytes, with_derived, with_frozen, without_version}
 use Rattle.table_model.specs.Requests.{Request, Reference}
 use Rattle.table_model.specs.Requests as request
 use Rattle.table_model.specs.Machines.{shown, the_oid, bytes_of, size_of, scan_at, bound, unmarked, kept, no_oid}
@@ -31,7 +33,7 @@ use Rattle.table_model.specs.Refusals.{refusal_of}
 abbrev pub note : NoteKind → Oid → ℕ → ℕ → OpNote
 note kind oid first second = record { kind = kind; oid = oid; first = first; second = second }
 
--- the identifier of the version that `create` and `freeze` make
+-- the identifier of the version that `create`, `freeze` and `derive` make
 abbrev pub new_oid : Machine → Pick → Oid
 new_oid m q = record { page = q.place.page; slot = q.place.slot; unique = (shown m).next_unique }
 
@@ -45,6 +47,7 @@ notes_of m (request.Append x given) q = note note_kind.Appended (the_oid m x) (s
 notes_of m (request.Replace x pos given) q = note note_kind.Replaced (the_oid m x) pos (data_count given) ∷ []
 notes_of m (request.Delete x pos len) q = note note_kind.Deleted (the_oid m x) pos len ∷ []
 notes_of m (request.Freeze x bind) q = note note_kind.Frozen (new_oid m q) 0 0 ∷ []
+notes_of m (request.Derive x bind) q = note note_kind.Derived (new_oid m q) 0 0 ∷ []
 notes_of m (request.DropVersion x) q = note note_kind.Dropped (the_oid m x) 0 0 ∷ []
 notes_of m _ q = []
 
@@ -54,12 +57,13 @@ abbrev pub table_after : Machine → Request → Pick → Table
 table_after m (request.File name) q = with_file name (shown m)
 table_after m (request.Unfile name) q = without_file name (shown m)
 table_after m (request.Create file bind) q = numbered (with_object (new_oid m q) file (shown m))
-table_after m (request.Destroy x) q = without_object (the_oid m x) (shown m)
+table_after m (request.Destroy x) q = without_version (the_oid m x) (shown m)
 table_after m (request.Insert x pos given) q = with_bytes (the_oid m x) (λ bytes. inserted bytes pos (data_bytes given)) (shown m)
 table_after m (request.Append x given) q = with_bytes (the_oid m x) (λ bytes. appended bytes (data_bytes given)) (shown m)
 table_after m (request.Replace x pos given) q = with_bytes (the_oid m x) (λ bytes. replaced bytes pos (data_bytes given)) (shown m)
 table_after m (request.Delete x pos len) q = with_bytes (the_oid m x) (λ bytes. deleted bytes pos len) (shown m)
 table_after m (request.Freeze x bind) q = numbered (with_frozen (the_oid m x) (new_oid m q) (shown m))
+table_after m (request.Derive x bind) q = numbered (with_derived (the_oid m x) (new_oid m q) (shown m))
 table_after m (request.DropVersion x) q = without_version (the_oid m x) (shown m)
 table_after m _ q = shown m
 
@@ -91,6 +95,7 @@ moved name len s = if bytes_eq s.name name then record s { pos = s.pos + min len
 abbrev pub binds : Request → Oid → Machine → Machine
 binds (request.Create file bind) oid m = bound bind oid m
 binds (request.Freeze x bind) oid m = bound bind oid m
+binds (request.Derive x bind) oid m = bound bind oid m
 binds _ oid m = m
 
 -- of the commands that are no updates
@@ -112,13 +117,10 @@ machine_after m r q = if is_update r then binds r (new_oid m q) (updated m r q) 
 abbrev pub oids : List Version → List Oid
 oids vs = map (λ v. v.oid) vs
 
-abbrev pub current_oids : Option Version → List Oid
-current_oids None = []
-current_oids (Some v) = v.oid ∷ []
-
-abbrev pub objects_if : Option TableFile → List Object
-objects_if None = []
-objects_if (Some f) = f.objects
+-- the current versions of a file
+abbrev pub current_if : Option TableFile → List Version
+current_if None = []
+current_if (Some f) = current_in f
 
 abbrev pub versions_if : Option Object → List Version
 versions_if None = []
@@ -142,13 +144,13 @@ reply_to m request.Files q = reply.Files (map (λ f. f.name) (shown m).files)
 reply_to m request.Space q = reply.Space m.pages_used m.geometry.pages m.segs_used m.geometry.segs
 reply_to m (request.File name) q = reply.File name
 reply_to m (request.Unfile name) q = reply.Unfile name
-reply_to m (request.ListFile name) q = reply.List (flat_map (λ o. current_oids (current o.versions)) (objects_if (file_at (shown m) name)))
+reply_to m (request.ListFile name) q = reply.List (oids (current_if (file_at (shown m) name)))
 reply_to m (request.Create file bind) q = reply.Create (new_oid m q)
 reply_to m (request.Destroy x) q = reply.Destroy (the_oid m x)
 reply_to m (request.Size x) q = reply.Size (size_of m x)
 reply_to m (request.Stat x) q = stat_reply (size_of m x) q
 reply_to m (request.Digest x) q = reply.Digest (sha256 (bytes_of m x))
-reply_to m (request.Versions x) q = reply.Versions (oids (versions_if (object_at (shown m) (the_oid m x))))
+reply_to m (request.Versions x) q = reply.Versions (oids (listed (versions_if (object_at (shown m) (the_oid m x)))))
 reply_to m (request.DropVersion x) q = reply.DropVersion (the_oid m x)
 reply_to m (request.Read x pos len) q = reply.Read (bytes_at (bytes_of m x) pos len)
 reply_to m (request.Insert x pos given) q = reply.Insert (size_of m x + data_count given)
@@ -156,6 +158,7 @@ reply_to m (request.Append x given) q = reply.Append (size_of m x + data_count g
 reply_to m (request.Replace x pos given) q = reply.Replace (size_of m x)
 reply_to m (request.Delete x pos len) q = reply.Delete (size_of m x - len)
 reply_to m (request.Freeze x bind) q = reply.Freeze (new_oid m q)
+reply_to m (request.Derive x bind) q = reply.Derive (new_oid m q)
 reply_to m (request.Group name frames mru) q = reply.Group name
 reply_to m (request.Scan x name group) q = reply.Scan name (size_of m x)
 reply_to m (request.Next name len) q = reply.Next (next_bytes (scan_at m name) len)
@@ -165,7 +168,7 @@ reply_to m (request.Close name) q = reply.Close name
 
 -- a new version is put where none is
 abbrev pub IsVacant : Machine → Pick → Type 0
-IsVacant m q = All (λ v. SamePlace v (record { oid = new_oid m q; bytes = [] }) → ⊥) (versions_of (shown m))
+IsVacant m q = All (λ v. SamePlace v (new_version (new_oid m q)) → ⊥) (versions_of (shown m))
 
 -- an update takes at most its need and touches at most its charge
 pub record WithinNeed (m : Machine) (r : Request) (q : Pick) : Type 0 where
@@ -185,6 +188,7 @@ Asks m request.Abort q = TakesNone m q
 Asks m (request.Close name) q = TakesNone m q
 Asks m (request.Create file bind) q = IsVacant m q
 Asks m (request.Freeze x bind) q = IsVacant m q
+Asks m (request.Derive x bind) q = IsVacant m q
 Asks m _ q = ⊤
 
 abbrev pub IsAllowed : Machine → Request → Pick → Type 0

@@ -43,7 +43,7 @@ pub enum Command<'a> {
         file: &'a [u8],
         bind: &'a [u8],
     },
-    /// Removes an object.
+    /// Removes a current version, and its object with the last one.
     Destroy {
         x: Subject<'a>,
     },
@@ -59,7 +59,7 @@ pub enum Command<'a> {
     Digest {
         x: Subject<'a>,
     },
-    /// Lists the versions of an object, the current one last.
+    /// Lists the versions of an object: each one before those that are derived from it.
     Versions {
         x: Subject<'a>,
     },
@@ -96,8 +96,13 @@ pub enum Command<'a> {
         pos: u64,
         len: u64,
     },
-    /// Keeps the current version as a frozen one, and binds a name to that.
+    /// Keeps the bytes of a current version as a frozen one, and binds a name to that.
     Freeze {
+        x: Subject<'a>,
+        bind: &'a [u8],
+    },
+    /// Makes a current version with the bytes of a frozen one, derived from that, and binds a name to it.
+    Derive {
         x: Subject<'a>,
         bind: &'a [u8],
     },

@@ -2,7 +2,6 @@
 //! but by its number, so that all that a session answers can be held against it.
 #![tactic(auto)]
 
-mod built;
 mod command;
 mod laws;
 mod limits;
@@ -10,12 +9,12 @@ mod machine;
 mod reply;
 mod table;
 
-pub use built::is_built;
 pub use command::{Command, Subject};
-pub use laws::{rules_hold_at_the_start, steps_keep_the_rules};
+pub use laws::{a_frozen_version_stays, rules_hold_at_the_start, steps_keep_the_rules};
 pub use limits::{DATA_MOST, FRAMES_MOST, GROUPS_MOST, SCANS_MOST};
 pub use machine::{
     BoundName, BoundNames, GroupRow, GroupRows, Lengths, Machine, NoteList, Pick, ScanRow, ScanRows,
 };
 pub use reply::{Names, OidList, Refusal, Reply};
-pub use table::{Bytes, Name, Object, Objects, Table, TableFile, TableFiles, Version, Versions};
+pub use table::{Bytes, Name, Objects, Table, TableFile, TableFiles};
+pub use version_lists::{Object, Version};

@@ -10,7 +10,8 @@ pub type Names = Items<Name>;
 /// Identifiers of versions.
 pub type OidList = Items<Oid>;
 
-/// Why a line was refused. The refusals have the numbers 1 to 23, in this order, and of those that apply the first is given.
+/// Why a line was refused. The refusals have the numbers 1 to 25, in this order. Of those that apply the first one is given, but
+/// that a busy session is told behind the limit of a line's bytes.
 #[derive(Clone, Copy, Debug, PartialEq, Eq)]
 pub enum Refusal {
     /// The line is over its limit.
@@ -37,11 +38,11 @@ pub enum Refusal {
     NoObject,
     /// The version is frozen.
     Frozen,
-    /// The version is the current one of its object.
+    /// The version is a current one.
     Current,
     /// The file has an object.
     NotEmpty,
-    /// The object has a frozen version.
+    /// The version has an older one from which no other is derived.
     HasVersions,
     /// No open scan has the name.
     NoScan,
@@ -59,6 +60,10 @@ pub enum Refusal {
     LongTxn { updates: u32, touched: u32 },
     /// The command may need more units of the area than are free.
     Full { area: Area, need: u64, free: u64 },
+    /// So many versions are derived from this one, two or more.
+    Branches { derived: u64 },
+    /// The transaction of another client is open. A session of one client never answers it.
+    Busy { client: u8 },
 }
 
 /// What a line is answered: a reply for each command, two for `stat`, and one for a refusal.
@@ -87,7 +92,7 @@ pub enum Reply {
     Files {
         names: Names,
     },
-    /// The current versions of the file's objects.
+    /// The current versions of the file, in order of their unique numbers.
     List {
         oids: OidList,
     },
@@ -135,7 +140,11 @@ pub enum Reply {
     Freeze {
         oid: Oid,
     },
-    /// The versions from the oldest to the current one.
+    /// The version that was derived.
+    Derive {
+        oid: Oid,
+    },
+    /// The versions of the object, each one before those that are derived from it.
     Versions {
         oids: OidList,
     },

@@ -1,9 +1,10 @@
-//! What a volume holds: files of objects, each object its versions.
+//! What a volume holds: files of objects, each object a tree of versions.
 
 ghost use Rattle.std.specs.Prelude.{◌≡◌};
 
-use ex_base::{Items, Oid};
+use ex_base::Items;
 use std::alloc::AllocError;
+use version_lists::Object;
 
 /// The bytes of a name of a file, an object, a scan or a group.
 pub type Name = Items<u8>;
@@ -11,27 +12,11 @@ pub type Name = Items<u8>;
 /// The bytes of a version.
 pub type Bytes = Items<u8>;
 
-/// The versions of an object, the current one last.
-pub type Versions = Items<Version>;
-
-/// The objects of a file, in order of the unique numbers of their current versions.
+/// The objects of a file, in order of the least unique numbers of their versions.
 pub type Objects = Items<Object>;
 
 /// The files of a volume, in byte order of their names.
 pub type TableFiles = Items<TableFile>;
-
-/// A version of an object.
-#[derive(Drop)]
-pub struct Version {
-    pub oid: Oid,
-    pub bytes: Bytes,
-}
-
-/// An object: the frozen versions, which no command changes, and the current one.
-#[derive(Drop)]
-pub struct Object {
-    pub versions: Versions,
-}
 
 /// A file of objects.
 #[derive(Drop)]
@@ -48,29 +33,6 @@ pub struct Table {
     /// The number of the last committed transaction.
     pub last: u64,
     pub files: TableFiles,
-}
-
-impl Clone for Version {
-    ghost is_clone = { λ a b. b ≡ a };
-
-    #[tactic(auto, using(crate::proofs::Copies::same_items))]
-    fn clone(&self) -> Result<Self, AllocError> {
-        Ok(Version {
-            oid: self.oid,
-            bytes: self.bytes.clone()?,
-        })
-    }
-}
-
-impl Clone for Object {
-    ghost is_clone = { λ a b. b ≡ a };
-
-    #[tactic(auto, using(crate::proofs::Copies::same_items))]
-    fn clone(&self) -> Result<Self, AllocError> {
-        Ok(Object {
-            versions: self.versions.clone()?,
-        })
-    }
 }
 
 impl Clone for TableFile {

@@ -7,7 +7,8 @@ use Rattle.std.proofs.lemmas.Bool.{and_parts, and_from, or_parts, leb-true, eq-e
 use Rattle.std.proofs.lemmas.List.Elements.{All-nil, All-cons, All-weaker}
 use Rattle.ex_base.specs.declared.names.Place.{Place}
 use Rattle.ex_base.specs.declared.names.Area.TheVariants.{Page, Segment}
-use Rattle.table_model.specs.declared.table.Version.{Version}
+use Rattle.version_lists.specs.declared.version.Version.{Version}
+use Rattle.version_lists.specs.Changes.{new_version}
 use Rattle.table_model.specs.declared.machine.Machine.{Machine}
 use Rattle.table_model.specs.declared.machine.Pick.{Pick}
 use Rattle.table_model.specs.declared.reply.Refusal.{Refusal}
@@ -28,7 +29,7 @@ none_lies place (v ∷ vs) none =
 
 vacant_by : (m : Machine) (q : Pick) → is_vacant m q ≡ true → IsVacant m q
 vacant_by m q h =
-    All-weaker (λ (v : Version). lies_at q.place v ≡ false) (λ (v : Version). SamePlace v (record { oid = new_oid m q; bytes = [] }) → ⊥)
+    All-weaker (λ (v : Version). lies_at q.place v ≡ false) (λ (v : Version). SamePlace v (new_version (new_oid m q)) → ⊥)
     (λ v isnt same. true≢false (sym (and_from (v.oid.page.0 == q.place.page.0) (v.oid.slot == q.place.slot) (eq-eqb (v.oid.page.0) (q.place.page.0) same.0) (eq-eqb (v.oid.slot) (q.place.slot) same.1)) ∙ isnt))
     (versions_of (shown m)) (none_lies q.place (versions_of (shown m)) (not-true (list_any (lies_at q.place) (versions_of (shown m))) h))
 
@@ -43,6 +44,7 @@ asks_by m request.Abort q h = takes_by m q h
 asks_by m (request.Close name) q h = takes_by m q h
 asks_by m (request.Create file bind) q h = vacant_by m q h
 asks_by m (request.Freeze x bind) q h = vacant_by m q h
+asks_by m (request.Derive x bind) q h = vacant_by m q h
 asks_by m _ q h = tt
 
 within_by : (m : Machine) (r : Request) (q : Pick) → within_need m r q ≡ true → WithinNeed m r q

@@ -3,7 +3,7 @@ use Rattle.std.specs.Prelude.{◌+◌, Bool, true, not, ◌&&◌, ◌||◌, ◌=
 use Rattle.std.specs.List.{list_any}
 use Rattle.ex_base.specs.declared.names.Place.{Place}
 use Rattle.ex_base.specs.declared.names.Area.TheVariants.{Page, Segment}
-use Rattle.table_model.specs.declared.table.Version.{Version}
+use Rattle.version_lists.specs.declared.version.Version.{Version}
 use Rattle.table_model.specs.declared.machine.Machine.{Machine}
 use Rattle.table_model.specs.declared.machine.Pick.{Pick}
 use Rattle.table_model.specs.Tables.{versions_of}
@@ -31,6 +31,7 @@ asks m request.Abort q = takes_none m q
 asks m (request.Close name) q = takes_none m q
 asks m (request.Create file bind) q = is_vacant m q
 asks m (request.Freeze x bind) q = is_vacant m q
+asks m (request.Derive x bind) q = is_vacant m q
 asks m _ q = true
 
 -- what the command takes is within its need, what it touches within its charge

@@ -70,7 +70,9 @@ fn asks(machine: &Machine, command: &Command, pick: &Pick) -> bool
 {
     match command {
         Command::Commit | Command::Abort | Command::Close { .. } => takes_none(machine, pick),
-        Command::Create { .. } | Command::Freeze { .. } => is_vacant(machine, pick),
+        Command::Create { .. } | Command::Freeze { .. } | Command::Derive { .. } => {
+            is_vacant(machine, pick)
+        }
         Command::Begin
         | Command::Checkpoint
         | Command::Log
@@ -134,7 +136,9 @@ fn need_of(
             Ok(edit_need(n, pick, most))
         }
         Command::Delete { len, .. } => Ok(edit_need(*len, pick, delete_need(pick.height, area))),
-        Command::Create { .. } | Command::Freeze { .. } => Ok(pages_need(RECORD_PAGES, area)),
+        Command::Create { .. } | Command::Freeze { .. } | Command::Derive { .. } => {
+            Ok(pages_need(RECORD_PAGES, area))
+        }
         Command::File { .. } => Ok(pages_need(FILE_PAGES, area)),
         Command::Begin
         | Command::Commit
@@ -170,6 +174,7 @@ fn charge_of(command: &Command) -> u32
         | Command::Delete { .. } => EDIT_CHARGE,
         Command::Create { .. }
         | Command::Freeze { .. }
+        | Command::Derive { .. }
         | Command::Destroy { .. }
         | Command::DropVersion { .. } => RECORD_CHARGE,
         Command::File { .. } | Command::Unfile { .. } => FILE_CHARGE,

@@ -12,7 +12,7 @@ use crate::refuse::{no_name, no_object, range, shown, size_named, the_key, versi
 use ex_base::Items;
 use sha2::{Digest, Sha256};
 use std::alloc::{AllocError, Global};
-use table_lists::{find_object, index_of, oids, part};
+use table_lists::{find_object, index_of, listed_oids, part};
 use table_model::{Bytes, Machine, Pick, Refusal, Reply, Subject};
 
 /// How many of a tree's leaves `stat` tells the lengths of.
@@ -146,7 +146,7 @@ pub(crate) fn step_versions(
         return Ok(Reply::No(why));
     }
     let found = match find_object(shown(machine), &the_key(machine, x)) {
-        Some(object) => oids(alloc, object.versions.as_slice())?,
+        Some(object) => listed_oids(alloc, object)?,
         None => Vec::new(alloc),
     };
     Ok(Reply::Versions {

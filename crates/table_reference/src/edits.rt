@@ -3,14 +3,11 @@
 ghost use Rattle.std.specs.Prelude.{◌≡◌, ◌≤◌, ◌<◌, ◌+◌, ◌^◌, IfOk, OnErr};
 ghost use Rattle.std.specs.Option.{option_or};
 ghost use Rattle.table_model.specs.Words.{data_count, data_most};
-ghost use Rattle.table_model.specs.Tables.{with_bytes};
 ghost use Rattle.table_model.specs.Requests.{reference_of};
 ghost use Rattle.table_model.specs.Requests as request;
 ghost use Rattle.table_model.specs.Machines.{IsMachine, size_of};
 ghost use Rattle.table_model.specs.Refusals.{refusal_of, no_txn, no_name, no_object, frozen};
 ghost use Rattle.table_model.specs.Steps.{Step, Allows, reply_to, machine_after};
-ghost use Rattle.table_lists.specs.Keys.{oid_of_key};
-ghost use Rattle.table_lists.specs.Edited.{edit_of};
 
 use crate::need::{EDIT_CHARGE, edit_need};
 use crate::refuse::{
@@ -21,16 +18,8 @@ use crate::update::{note, update};
 use data_words::data_bytes;
 use ex_base::{Area, NoteKind, delete_need, growth_need, replace_need};
 use std::alloc::{AllocError, Global};
-use table_lists::{Edit, Key, VersionChange, data_count, in_each_object};
-use table_model::{Machine, Pick, Refusal, Reply, Subject, Table};
-
-/// The table with one version's bytes edited.
-fn with_bytes(alloc: Global, table: &Table, key: &Key, edit: &Edit) -> Result<Table, AllocError>
-    ensures { IfOk result (λ changed. changed
-        ≡ with_bytes (oid_of_key key.now) (edit_of edit.now) table.now) }
-{
-    in_each_object(alloc, table, &VersionChange::Edit(*key, *edit))
-}
+use table_lists::{Edit, data_count, with_bytes};
+use table_model::{Machine, Pick, Refusal, Reply, Subject};
 
 /// The refusals that the edits have in common, before one's own.
 fn edit_refusal(machine: &Machine, x: &Subject, own: Option<Refusal>) -> Option<Refusal>

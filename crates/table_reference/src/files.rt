@@ -1,6 +1,6 @@
 //! The steps of `file`, `unfile`, `files` and `list`.
 
-ghost use Rattle.std.specs.Prelude.{◌≡◌, ◌≤◌, length, map, IfOk, OnErr};
+ghost use Rattle.std.specs.Prelude.{◌≡◌, ◌≤◌, length, IfOk, OnErr};
 ghost use Rattle.table_model.specs.Requests as request;
 ghost use Rattle.table_model.specs.Machines.{IsMachine, shown, updates_most};
 ghost use Rattle.table_model.specs.Refusals.{refusal_of};
@@ -114,7 +114,7 @@ pub(crate) fn step_list(
         return Ok(Reply::No(why));
     }
     let found = match find_file(shown(machine), name) {
-        Some(file) => current_oids(alloc, file.objects.as_slice())?,
+        Some(file) => current_oids(alloc, file)?,
         None => Vec::new(alloc),
     };
     Ok(Reply::List {

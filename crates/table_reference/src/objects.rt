@@ -1,24 +1,23 @@
-//! The steps of `create`, `destroy`, `freeze` and `drop`.
+//! The steps of `create`, `destroy`, `freeze`, `derive` and `drop`.
 
-ghost use Rattle.std.specs.Prelude.{◌≡◌, ◌≤◌, ◌<◌, ◌+◌, ◌-◌, ◌^◌, length, IfOk, OnErr};
+ghost use Rattle.std.specs.Prelude.{◌≡◌, ◌≤◌, ◌<◌, ◌-◌, ◌^◌, length, IfOk, OnErr};
+ghost use Rattle.std.specs.Option.{option_or};
 ghost use Rattle.table_model.specs.Requests.{reference_of};
 ghost use Rattle.table_model.specs.Requests as request;
 ghost use Rattle.table_model.specs.Machines.{IsMachine, shown, updates_most};
-ghost use Rattle.table_model.specs.Refusals.{refusal_of};
+ghost use Rattle.table_model.specs.Refusals.{refusal_of, no_txn, no_name, name_taken, no_object};
 ghost use Rattle.table_model.specs.Steps.{Step, Allows, reply_to, machine_after, new_oid};
-ghost use Rattle.table_model.specs.Tables.{numbered, with_frozen, without_version};
-ghost use Rattle.table_lists.specs.Keys.{oid_of_key};
 
 use crate::need::{RECORD_CHARGE, RECORD_PAGES};
 use crate::refuse::{
-    current, frozen, has_versions, ids_spent, limits, name_taken, no_file, no_name, no_object,
-    no_txn, shown, the_key, the_oid,
+    branches, current, frozen, full, has_versions, ids_spent, limits, long_txn, name_taken,
+    no_file, no_name, no_object, no_txn, shown, the_key, the_oid,
 };
 use crate::update::{note, update};
-use ex_base::{Items, NoteKind, Oid};
+use ex_base::{NoteKind, Oid};
 use std::alloc::{AllocError, Global};
-use table_lists::{Key, VersionChange, in_each_object, with_bound, with_object, without_object};
-use table_model::{Machine, Pick, Refusal, Reply, Subject, Table};
+use table_lists::{with_bound, with_derived, with_frozen, with_object, without_version};
+use table_model::{Machine, Pick, Refusal, Reply, Subject};
 
 /// The identifier of the version that the update makes.
 fn new_oid(machine: &Machine, pick: &Pick) -> Oid
@@ -95,13 +94,13 @@ pub(crate) fn step_destroy(
     ensures kept { OnErr result (machine.new ≡ machine.old) }
 {
     let room = limits(machine, RECORD_CHARGE, 0, 0);
-    let own = frozen(machine, x).or(has_versions(machine, x).or(room));
+    let own = frozen(machine, x).or(has_versions(alloc, machine, x)?.or(room));
     let named = no_name(machine, x).or(no_object(machine, x).or(own));
     if let Some(why) = no_txn(machine).or(named) {
         return Ok(Reply::No(why));
     }
     let oid = the_oid(machine, x);
-    let table = without_object(alloc, shown(machine), &the_key(machine, x))?;
+    let table = without_version(alloc, shown(machine), &the_key(machine, x))?;
     update(
         machine,
         table,
@@ -111,14 +110,20 @@ pub(crate) fn step_destroy(
     Ok(Reply::Destroy { oid })
 }
 
-fn with_frozen(alloc: Global, table: &Table, key: &Key, copy: &Oid) -> Result<Table, AllocError>
-    requires { table.now.next_unique + 1 < 2 ^ 64 }
-    ensures { IfOk result (λ changed. changed
-        ≡ numbered (with_frozen (oid_of_key key.now) copy.now table.now)) }
+/// The refusals that `freeze` and `derive` have in common, before one's own.
+fn copy_refusal(
+    machine: &Machine,
+    x: &Subject,
+    bind: &[u8],
+    own: Option<Refusal>,
+) -> Option<Refusal>
+    ensures { result ≡ option_or (no_txn machine.now)
+        (option_or (no_name machine.now (reference_of x.now))
+        (option_or (name_taken machine.now bind.now)
+        (option_or (no_object machine.now (reference_of x.now)) own))) }
 {
-    let mut changed = in_each_object(alloc, table, &VersionChange::Freeze(*key, *copy))?;
-    changed.next_unique = table.next_unique + 1;
-    Ok(changed)
+    let live = name_taken(machine, bind).or(no_object(machine, x).or(own));
+    no_txn(machine).or(no_name(machine, x).or(live))
 }
 
 fn refuse_freeze(machine: &Machine, x: &Subject, bind: &[u8], pick: &Pick) -> Option<Refusal>
@@ -128,8 +133,7 @@ fn refuse_freeze(machine: &Machine, x: &Subject, bind: &[u8], pick: &Pick) -> Op
 {
     let room = limits(machine, RECORD_CHARGE, RECORD_PAGES, 0);
     let spent = ids_spent(shown(machine).next_unique).or(room);
-    let live = no_object(machine, x).or(frozen(machine, x).or(spent));
-    no_txn(machine).or(no_name(machine, x).or(name_taken(machine, bind).or(live)))
+    copy_refusal(machine, x, bind, frozen(machine, x).or(spent))
 }
 
 fn freeze(
@@ -175,19 +179,73 @@ pub(crate) fn step_freeze(
     }
 }
 
-fn without_version(alloc: Global, table: &Table, key: &Key) -> Result<Table, AllocError>
-    ensures { IfOk result (λ changed. changed ≡ without_version (oid_of_key key.now) table.now) }
+fn refuse_derive(machine: &Machine, x: &Subject, bind: &[u8], pick: &Pick) -> Option<Refusal>
+    requires { IsMachine machine.now }
+    ensures { result ≡ refusal_of machine.now
+        (request.Derive (reference_of x.now) bind.now) pick.now }
 {
-    in_each_object(alloc, table, &VersionChange::Without(*key))
+    let room = limits(machine, RECORD_CHARGE, RECORD_PAGES, 0);
+    let spent = ids_spent(shown(machine).next_unique).or(room);
+    copy_refusal(machine, x, bind, current(machine, x).or(spent))
 }
 
-fn refuse_drop_version(machine: &Machine, x: &Subject, pick: &Pick) -> Option<Refusal>
-    requires { IsMachine machine.now }
-    ensures { result ≡ refusal_of machine.now (request.DropVersion (reference_of x.now)) pick.now }
+fn derive(
+    alloc: Global,
+    machine: &mut Machine,
+    x: &Subject,
+    bind: &[u8],
+    pick: &Pick,
+) -> Result<Reply, AllocError>
+    requires { (shown machine.old).next_unique < 2 ^ 64 - 1 }
+    ensures reply { IfOk result (λ told. told
+        ≡ reply_to machine.old (request.Derive (reference_of x.now) bind.now) pick.now) }
+    ensures machine { IfOk result (λ _. machine.new
+        ≡ machine_after machine.old (request.Derive (reference_of x.now) bind.now) pick.now) }
+    ensures kept { OnErr result (machine.new ≡ machine.old) }
 {
-    let own = current(machine, x).or(limits(machine, RECORD_CHARGE, 0, 0));
+    let oid = new_oid(machine, pick);
+    let key = the_key(machine, x);
+    let table = with_derived(alloc, shown(machine), &key, &oid)?;
+    let bound = with_bound(alloc, machine.names.as_slice(), bind, oid)?;
+    update(machine, table, note(NoteKind::Derived, oid, 0, 0), pick)?;
+    machine.names = bound;
+    Ok(Reply::Derive { oid })
+}
+
+pub(crate) fn step_derive(
+    alloc: Global,
+    machine: &mut Machine,
+    x: &Subject,
+    bind: &[u8],
+    pick: &Pick,
+) -> Result<Reply, AllocError>
+    requires machine { IsMachine machine.old }
+    requires allowed { Allows machine.old (request.Derive (reference_of x.now) bind.now) pick.now }
+    ensures step { IfOk result
+        (λ told. Step machine.old (request.Derive
+        (reference_of x.now) bind.now) pick.now told machine.new) }
+    ensures kept { OnErr result (machine.new ≡ machine.old) }
+{
+    match refuse_derive(machine, x, bind, pick) {
+        Some(why) => Ok(Reply::No(why)),
+        None => derive(alloc, machine, x, bind, pick),
+    }
+}
+
+fn refuse_drop_version(
+    alloc: Global,
+    machine: &Machine,
+    x: &Subject,
+    pick: &Pick,
+) -> Result<Option<Refusal>, AllocError>
+    requires { IsMachine machine.now }
+    ensures { IfOk result (λ found. found
+        ≡ refusal_of machine.now (request.DropVersion (reference_of x.now)) pick.now) }
+{
+    let last = full(machine, 0, 0).or(branches(alloc, machine, x)?.or(None));
+    let own = current(machine, x).or(long_txn(machine, RECORD_CHARGE).or(last));
     let named = no_name(machine, x).or(no_object(machine, x).or(own));
-    no_txn(machine).or(named)
+    Ok(no_txn(machine).or(named))
 }
 
 fn drop_version(
@@ -222,7 +280,7 @@ pub(crate) fn step_drop_version(
         (reference_of x.now)) pick.now told machine.new) }
     ensures kept { OnErr result (machine.new ≡ machine.old) }
 {
-    match refuse_drop_version(machine, x, pick) {
+    match refuse_drop_version(alloc, machine, x, pick)? {
         Some(why) => Ok(Reply::No(why)),
         None => drop_version(alloc, machine, x, pick),
     }

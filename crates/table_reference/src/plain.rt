@@ -8,7 +8,7 @@ ghost use Rattle.table_model.specs.Steps.{Step, Allows};
 use crate::contents::{step_digest, step_read, step_size, step_stat, step_versions};
 use crate::edits::{step_append, step_delete, step_insert, step_replace};
 use crate::files::{step_file, step_files, step_list, step_unfile};
-use crate::objects::{step_create, step_destroy, step_drop_version, step_freeze};
+use crate::objects::{step_create, step_derive, step_destroy, step_drop_version, step_freeze};
 use crate::scans::{step_close, step_group, step_next, step_scan};
 use crate::session::{step_abort, step_begin, step_checkpoint, step_commit, step_log, step_space};
 use std::alloc::{AllocError, Global};
@@ -52,6 +52,7 @@ fn step_of(
         Command::Replace { x, pos, given } => step_replace(alloc, machine, x, *pos, given, pick),
         Command::Delete { x, pos, len } => step_delete(alloc, machine, x, *pos, *len, pick),
         Command::Freeze { x, bind } => step_freeze(alloc, machine, x, bind, pick),
+        Command::Derive { x, bind } => step_derive(alloc, machine, x, bind, pick),
         Command::Group { name, frames, mru } => {
             step_group(alloc, machine, name, *frames, *mru, pick)
         }

@@ -1,17 +1,17 @@
 //! Why a command is refused: each refusal as a test of its own.
 
-ghost use Rattle.std.specs.Prelude.{◌≡◌, ◌+◌, ◌-◌, ◌≤◌, ◌∷◌, [], length, option_copied, option_map};
-ghost use Rattle.table_model.specs.Tables.{is_current};
+ghost use Rattle.std.specs.Prelude.{◌≡◌, ◌+◌, ◌-◌, ◌≤◌, ◌∷◌, [], length, option_copied, option_map, IfOk};
 ghost use Rattle.table_model.specs.Requests.{reference_of};
 ghost use Rattle.table_model.specs.Machines.{shown, oid_of, the_oid, version_of, size_of, has_group, updates_most};
 ghost use Rattle.table_model.specs.Needs.{free};
-ghost use Rattle.table_model.specs.Refusals.{when, no_txn, txn_open, no_name, name_taken, no_file, file_exists, files_full, no_object, frozen, current, not_empty, has_versions, no_scan, no_group, range, too_large, too_many_scans, too_many_groups, ids_spent, long_txn, full_in, full, first};
+ghost use Rattle.table_model.specs.Refusals.{when, no_txn, txn_open, no_name, name_taken, no_file, file_exists, files_full, no_object, frozen, current, not_empty, has_versions, branches, no_scan, no_group, range, too_large, too_many_scans, too_many_groups, ids_spent, long_txn, full_in, full, first};
 ghost use Rattle.table_lists.specs.Keys.{oid_of_key};
 
 use ex_base::{Area, OBJECT_MOST, Oid, TOUCHED_MOST, UPDATES_MOST};
+use std::alloc::{AllocError, Global};
 use table_lists::{
-    Key, bound_named, find_file, find_object, find_version, is_bound, is_current_version, is_group,
-    is_scan, key_at, same_bytes, scan_named,
+    Key, bound_named, count_derived, find_file, find_version, has_one, is_bound, is_group, is_scan,
+    key_at, same_bytes, scan_named,
 };
 use table_model::{GROUPS_MOST, Machine, Refusal, SCANS_MOST, Subject, Table, Version};
 
@@ -144,22 +144,24 @@ pub(crate) fn the_key(machine: &Machine, x: &Subject) -> Key
     key_at(&the_oid(machine, x))
 }
 
-fn is_current_named(machine: &Machine, x: &Subject) -> bool
-    ensures { result ≡ is_current (shown machine.now) (the_oid machine.now (reference_of x.now)) }
-{
-    is_current_version(shown(machine), &the_key(machine, x))
-}
-
 pub(crate) fn frozen(machine: &Machine, x: &Subject) -> Option<Refusal>
     ensures { result ≡ frozen machine.now (reference_of x.now) }
 {
-    when(!is_current_named(machine, x), Refusal::Frozen)
+    let is_frozen = match version_named(machine, x) {
+        Some(version) => version.frozen,
+        None => false,
+    };
+    when(is_frozen, Refusal::Frozen)
 }
 
 pub(crate) fn current(machine: &Machine, x: &Subject) -> Option<Refusal>
     ensures { result ≡ current machine.now (reference_of x.now) }
 {
-    when(is_current_named(machine, x), Refusal::Current)
+    let is_current = match version_named(machine, x) {
+        Some(version) => !version.frozen,
+        None => false,
+    };
+    when(is_current, Refusal::Current)
 }
 
 pub(crate) fn not_empty(machine: &Machine, name: &[u8]) -> Option<Refusal>
@@ -172,14 +174,33 @@ pub(crate) fn not_empty(machine: &Machine, name: &[u8]) -> Option<Refusal>
     when(has_objects, Refusal::NotEmpty)
 }
 
-pub(crate) fn has_versions(machine: &Machine, x: &Subject) -> Option<Refusal>
-    ensures { result ≡ has_versions machine.now (reference_of x.now) }
+pub(crate) fn has_versions(
+    alloc: Global,
+    machine: &Machine,
+    x: &Subject,
+) -> Result<Option<Refusal>, AllocError>
+    ensures { IfOk result (λ found. found ≡ has_versions machine.now (reference_of x.now)) }
 {
-    let has_frozen = match find_object(shown(machine), &the_key(machine, x)) {
-        Some(object) => object.versions.len() > 1,
+    let holds = match version_named(machine, x) {
+        Some(version) => has_one(alloc, shown(machine), version.older)?,
         None => false,
     };
-    when(has_frozen, Refusal::HasVersions)
+    Ok(when(holds, Refusal::HasVersions))
+}
+
+/// Two or more versions are derived from the one that is named.
+pub(crate) fn branches(
+    alloc: Global,
+    machine: &Machine,
+    x: &Subject,
+) -> Result<Option<Refusal>, AllocError>
+    ensures { IfOk result (λ found. found ≡ branches machine.now (reference_of x.now)) }
+{
+    let derived = match version_named(machine, x) {
+        Some(version) => count_derived(alloc, shown(machine), version.oid.unique)?,
+        None => 0,
+    };
+    Ok(when(derived >= 2, Refusal::Branches { derived }))
 }
 
 /// The command names bytes up to the position `end`.
@@ -215,7 +236,7 @@ pub(crate) fn name_taken(machine: &Machine, name: &[u8]) -> Option<Refusal>
 }
 
 /// The update may touch `more` pages more.
-fn long_txn(machine: &Machine, more: u32) -> Option<Refusal>
+pub(crate) fn long_txn(machine: &Machine, more: u32) -> Option<Refusal>
     requires { length machine.now.notes ≤ updates_most }
     ensures { result ≡ long_txn machine.now more }
 {
@@ -247,7 +268,7 @@ fn full_in(machine: &Machine, need: u64, area: Area) -> Option<Refusal>
 }
 
 /// The update may take so many pages and segment units.
-fn full(machine: &Machine, pages: u64, segs: u64) -> Option<Refusal>
+pub(crate) fn full(machine: &Machine, pages: u64, segs: u64) -> Option<Refusal>
     ensures { result ≡ full machine.now pages segs }
 {
     full_in(machine, pages, Area::Page).or(full_in(machine, segs, Area::Segment).or(None))

@@ -1,7 +1,6 @@
 -- What a line asks for, as plain values.
 use Rattle.std.specs.Prelude.{IsTrue}
 use Rattle.table_model.specs.Requests.{request_of, is_request}
-use Rattle.table_model.specs.Built.{is_built}
 use Rattle.script_lang.specs.Reading.{Reading, Silent, Asks, Fails}
 use Rattle.talks.specs.declared.talk.Asked.{Asked}
 use Rattle.talks.specs.declared.talk.Asked.TheVariants as asked
@@ -12,8 +11,8 @@ reading_of asked.Nothing = Silent
 reading_of (asked.Step command) = Asks (request_of command)
 reading_of (asked.Refused why) = Fails why
 
--- What is to be stepped is a request, of a command that is built.
+-- What is to be stepped keeps the forms and limits of a line's words.
 abbrev pub IsFormed : Asked → Type 0
 IsFormed asked.Nothing = Unit {0}
-IsFormed (asked.Step command) = IsTrue (is_request (request_of command)) × IsTrue (is_built (request_of command))
+IsFormed (asked.Step command) = IsTrue (is_request (request_of command))
 IsFormed (asked.Refused why) = Unit {0}

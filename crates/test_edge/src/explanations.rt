@@ -2,7 +2,7 @@
 
 use command_line::{Explanation, Status, StatusLine, Usage};
 use command_words::CommandWord;
-use ex_base::{Geometry, PageNo, Seen};
+use ex_base::{PageNo, Seen};
 use session_views::Part;
 use std::alloc::{AllocError, Global};
 use std::io;
@@ -47,17 +47,6 @@ fn wrong_words_are_told_by_the_grammar_of_their_command(rt: HostRuntime) -> Resu
         let usage = Usage(command);
         let wanted = format!(in alloc; "exsm: {text}\n{usage}")?;
         assert!(rt; format!(in alloc; "{told}")?.as_str() == wanted.as_str());
-    }
-    Ok(())
-}
-
-// The limits that the grammar of `format` names are those that geometries keep.
-#[test]
-fn limits_that_texts_name_are_kept(rt: HostRuntime) -> Result<(), Fail> {
-    for page_size in [512, 1024, 2048, 4096, 8192] {
-        for (pages, segs, seg_len) in [(1, 0, 1), (4_000_000, 4_000_000, 16)] {
-            assert!(rt; Geometry::make(page_size, pages, segs, seg_len, 2).is_ok());
-        }
     }
     Ok(())
 }

@@ -5,13 +5,13 @@ use memory_host::Choice;
 use session_views::Part;
 use std::test::Fail;
 
-/// Two files, a small object, a large one of two leaves and an empty one.
+/// Two files, a small object, a large one of two leaves with a frozen version and one derived from that, and an empty one.
 const SCRIPT: &[u8] =
-    b"begin\nfile a\nfile b\ncreate a as @x\nappend @x hex:616263\ncreate b as @y\nappend @y rep:1000:61\ncommit\nbegin\ncreate b as @z\ncommit\n";
+    b"begin\nfile a\nfile b\ncreate a as @x\nappend @x hex:616263\ncreate b as @y\nappend @y rep:1000:61\ncommit\nbegin\ncreate b as @z\nfreeze @y as @v\nderive @v as @w\ncommit\n";
 
 const EMPTY: &[u8] = b"ok check last 0 files 0 objects 0 versions 0 pages 1 segs 0\n";
 
-const FILLED: &[u8] = b"ok check last 2 files 2 objects 3 versions 3 pages 4 segs 2\n";
+const FILLED: &[u8] = b"ok check last 2 files 2 objects 3 versions 5 pages 4 segs 2\n";
 
 #[test]
 fn the_numbers_are_those_of_the_table(rt: HostRuntime) -> Result<(), Fail> {

@@ -83,7 +83,8 @@ fn the_replies_are_those_of_the_slow_reference(rt: HostRuntime) -> Result<(), Fa
     let script = watched(alloc, 1, 200)?;
     let told = done_whole(&rt, alloc, "run v", &volume, &script)?;
     let line = line_by(alloc, 1, 200, told.sent_bytes())?;
-    assert!(rt; line.starts_with("ok gen 214 "));
+    // No line is refused.
+    assert!(rt; line.starts_with("ok gen 214 214 0 "));
     let host = done_whole(&rt, alloc, "gen v --seed 1 --count 200", &volume, b"")?;
     assert!(rt; host.sent_bytes() == line.as_bytes());
     Ok(())

@@ -426,3 +426,35 @@ fn a_branch_is_listed_behind_its_version(rt: HostRuntime) -> Result<(), Fail> {
     let volume = &mut MemoryVolume::make(alloc, &sizes()?)?;
     list_branches(&rt, alloc, volume)
 }
+
+/// Freezes a version under each number from 2 to one below `end`, and gives its versions as they stand in line.
+fn long_line<V: Volume>(volume: &mut V, alloc: Global, end: u64) -> Result<Vec<Oid>, Fail>
+    requires { V.ready volume.old }
+    ensures { V.leads volume.old volume.new }
+{
+    write_catalog(volume, alloc)?;
+    let current = made(volume, alloc)?;
+    let mut line = Vec::new(alloc);
+    for unique in 2..end {
+        let before = frozen(volume, alloc, &current, unique)?;
+        line.push(before)?;
+    }
+    line.push(current)?;
+    Ok(line)
+}
+
+/// A long line is listed from each of its versions.
+fn list_long_line<V: Volume>(rt: &impl Abort, alloc: Global, volume: &mut V) -> Result<(), Fail>
+    requires { V.ready volume.old }
+{
+    let line = long_line(volume, alloc, 60)?;
+    assert!(rt; are_listed(volume, alloc, &line)?);
+    Ok(())
+}
+
+#[test]
+fn a_long_line_is_listed(rt: HostRuntime) -> Result<(), Fail> {
+    let alloc = rt.alloc();
+    let volume = &mut MemoryVolume::make(alloc, &sizes()?)?;
+    list_long_line(&rt, alloc, volume)
+}

@@ -3,12 +3,13 @@ ghost use Rattle.std.specs.List.{AllByRecursion};
 ghost use Rattle.memory_ports.specs.InMemory.{IsVolume};
 ghost use Rattle.object_records.specs.Record.{IsRootField};
 ghost use Rattle.page_alloc.specs.UnitSet.{refs_at};
+ghost use Rattle.node_walk.specs.declared.ObjectRoot.{ObjectRoot as RootOfObject};
 
 use count_nodes::Pair;
 use count_nodes::write::write_node;
 use ex_base::{Geometry, OBJECT_MOST, PageNo, ReadVolume, Root, Volume};
 use memory_ports::{MemoryVolume, put_at};
-use node_walk::walk_trees;
+use node_walk::{ObjectRoot, walk_trees};
 use page_alloc::Units;
 use session_views::{OpenFault, Part};
 use std::alloc::Global;
@@ -29,6 +30,13 @@ type RootRow = (u8, u32, u64);
 
 /// No root.
 const NO_ROOT: RootRow = (0, 0, 0);
+
+/// Whether each root is of an object of its own, or all are versions of one.
+#[derive(Clone, Copy)]
+enum Objects {
+    Own,
+    One,
+}
 
 /// Nodes, a page of a file, roots, and the part that the walk blames, none where all trees are whole.
 #[derive(Clone, Copy)]
@@ -217,6 +225,49 @@ const CASES: [Case; 24] = [
     },
 ];
 
+/// Trees of versions of one object, on the volume of `CASES`.
+const VERSIONS: [Case; 6] = [
+    // One tree of two versions, and a leaf that two trees share.
+    Case {
+        nodes: [GOOD, NO_NODE, NO_NODE],
+        file_page: 0,
+        roots: [(1, 258, 600), (1, 258, 600)],
+        want: None,
+    },
+    Case {
+        nodes: [GOOD, (259, 1, [(300, 275), (600, 274)]), NO_NODE],
+        file_page: 0,
+        roots: [(1, 258, 600), (1, 259, 600)],
+        want: None,
+    },
+    // A shared node at another level, and one that is a page of a file.
+    Case {
+        nodes: [GOOD, (259, 2, [(600, 258), (1200, 258)]), NO_NODE],
+        file_page: 0,
+        roots: [(1, 258, 600), (1, 259, 1200)],
+        want: Some(Part::Node),
+    },
+    Case {
+        nodes: [GOOD, NO_NODE, NO_NODE],
+        file_page: 258,
+        roots: [(1, 258, 600), (1, 258, 600)],
+        want: Some(Part::Node),
+    },
+    // A shared leaf of too few bytes in the second tree, and a shared node over one in both.
+    Case {
+        nodes: [GOOD, (259, 1, [(100, 274), (500, 275)]), NO_NODE],
+        file_page: 0,
+        roots: [(1, 258, 600), (1, 259, 500)],
+        want: Some(Part::Balance),
+    },
+    Case {
+        nodes: [(258, 1, [(255, 273), (600, 274)]), NO_NODE, NO_NODE],
+        file_page: 0,
+        roots: [(1, 258, 600), (1, 258, 600)],
+        want: Some(Part::Balance),
+    },
+];
+
 /// Trees on a volume of the pages 257 to 272 and the leaves 273 to 472: two leaves far from each other, which two nodes name in turn, in one tree and
 /// with another tree that has one of them.
 const FAR_CASES: [Case; 2] = [
@@ -297,16 +348,26 @@ fn put_rows<V: Volume>(volume: &mut V, alloc: Global, nodes: &[NodeRow]) -> Resu
     Ok(())
 }
 
+/// The object of the root behind so many others.
+fn object_of(objects: Objects, before: usize) -> usize {
+    match objects {
+        Objects::Own => before,
+        Objects::One => 0,
+    }
+}
+
 /// The roots of a case.
-fn roots_of(alloc: Global, rows: &[RootRow]) -> Result<Vec<Root>, Fail> {
+fn roots_of(alloc: Global, objects: Objects, rows: &[RootRow]) -> Result<Vec<ObjectRoot>, Fail> {
     let mut roots = Vec::new(alloc);
     for (height, page, size) in rows {
         if *page != 0 {
-            roots.push(Root {
+            let root = Root {
                 height: *height,
                 page: Some(PageNo(*page)),
                 size: *size,
-            })?;
+            };
+            let object = object_of(objects, roots.len());
+            roots.push(ObjectRoot { object, root })?;
         }
     }
     Ok(roots)
@@ -324,11 +385,12 @@ fn has_tree(root: &Root) -> bool
 }
 
 /// Whether each root has a page and some bytes.
-fn have_trees(roots: &[Root]) -> bool
-    ensures { IsTrue result → AllByRecursion IsRootField roots.now }
+fn have_trees(roots: &[ObjectRoot]) -> bool
+    ensures { IsTrue result
+        → AllByRecursion (λ (r : RootOfObject). IsRootField r.root) roots.now }
 {
     for root in roots {
-        if !has_tree(root) {
+        if !has_tree(&root.root) {
             return false;
         }
     }
@@ -340,6 +402,7 @@ fn blamed<V: ReadVolume>(
     volume: &mut V,
     alloc: Global,
     units: &mut Units,
+    objects: Objects,
     rows: &[RootRow],
 ) -> Result<Option<Part>, Fail>
     requires ready { V.ready volume.old }
@@ -348,12 +411,12 @@ fn blamed<V: ReadVolume>(
     ensures leads { V.leads volume.old volume.new }
     ensures units { units.new.geometry ≡ units.old.geometry }
 {
-    let roots = roots_of(alloc, rows)?;
+    let roots = roots_of(alloc, objects, rows)?;
     if !have_trees(&roots) {
         return Err("no root")?;
     }
     let geometry = volume.geometry();
-    match walk_trees(volume, alloc, &geometry, units, &roots) {
+    match walk_trees(volume, alloc, &geometry, units, roots) {
         Ok(()) => Ok(None),
         Err(OpenFault::BadVolume { part }) => Ok(Some(part)),
         Err(_) => Err("a fault")?,
@@ -378,13 +441,18 @@ fn adopt_file<V: ReadVolume>(volume: &V, units: &mut Units, page: u32) -> Result
 }
 
 /// Writes a case, and says which part the walk blames.
-fn blamed_in<V: Volume>(volume: &mut V, alloc: Global, case: &Case) -> Result<Option<Part>, Fail>
+fn blamed_in<V: Volume>(
+    volume: &mut V,
+    alloc: Global,
+    objects: Objects,
+    case: &Case,
+) -> Result<Option<Part>, Fail>
     requires { V.ready volume.old }
 {
     put_rows(volume, alloc, &case.nodes)?;
     let mut units = Units::make(alloc, &volume.geometry())?;
     adopt_file(volume, &mut units, case.file_page)?;
-    blamed(volume, alloc, &mut units, &case.roots)
+    blamed(volume, alloc, &mut units, objects, &case.roots)
 }
 
 /// A fresh volume of so many pages of 512 bytes and so many leaves.
@@ -397,15 +465,21 @@ fn fresh(alloc: Global, pages: u32, leaves: u32) -> Result<MemoryVolume, Fail>
 }
 
 /// Whether the walk blames what a case says, on a fresh volume with so many leaves.
-fn is_answered(alloc: Global, leaves: u32, case: &Case) -> Result<bool, Fail> {
+fn is_answered(alloc: Global, leaves: u32, objects: Objects, case: &Case) -> Result<bool, Fail> {
     let volume = &mut fresh(alloc, 16, leaves)?;
-    Ok(blamed_in(volume, alloc, case)? == case.want)
+    Ok(blamed_in(volume, alloc, objects, case)? == case.want)
 }
 
 /// Takes each case.
-fn check_cases(rt: &impl Abort, alloc: Global, leaves: u32, cases: &[Case]) -> Result<(), Fail> {
+fn check_cases(
+    rt: &impl Abort,
+    alloc: Global,
+    leaves: u32,
+    objects: Objects,
+    cases: &[Case],
+) -> Result<(), Fail> {
     for case in cases {
-        assert!(rt; is_answered(alloc, leaves, case)?);
+        assert!(rt; is_answered(alloc, leaves, objects, case)?);
     }
     Ok(())
 }
@@ -417,12 +491,17 @@ fn cases() -> [Case; 24] {
 
 #[test]
 fn crafted_trees_are_answered(rt: HostRuntime) -> Result<(), Fail> {
-    check_cases(&rt, rt.alloc(), 16, &cases())
+    check_cases(&rt, rt.alloc(), 16, Objects::Own, &cases())
+}
+
+#[test]
+fn versions_of_an_object_share_units(rt: HostRuntime) -> Result<(), Fail> {
+    check_cases(&rt, rt.alloc(), 16, Objects::One, &VERSIONS)
 }
 
 #[test]
 fn leaves_far_apart_are_told_from_each_other(rt: HostRuntime) -> Result<(), Fail> {
-    check_cases(&rt, rt.alloc(), 200, &FAR_CASES)
+    check_cases(&rt, rt.alloc(), 200, Objects::Own, &FAR_CASES)
 }
 
 /// A page, and how often roots and nodes name its unit.
@@ -504,6 +583,7 @@ fn are_counted(geometry: &Geometry, units: &Units, counts: &[CountRow]) -> Resul
 fn counts_as_wanted<V: Volume>(
     volume: &mut V,
     alloc: Global,
+    objects: Objects,
     case: &CountCase,
 ) -> Result<bool, Fail>
     requires { V.ready volume.old }
@@ -511,21 +591,63 @@ fn counts_as_wanted<V: Volume>(
     put_rows(volume, alloc, &case.nodes)?;
     let geometry = volume.geometry();
     let mut units = Units::make(alloc, &geometry)?;
-    let blamed = blamed(volume, alloc, &mut units, &case.roots)?;
+    let blamed = blamed(volume, alloc, &mut units, objects, &case.roots)?;
     Ok(blamed.is_none() && are_counted(&geometry, &units, &case.counts)?)
 }
 
 /// Takes each case on a fresh volume.
-fn check_counts(rt: &impl Abort, alloc: Global, cases: &[CountCase]) -> Result<(), Fail> {
+fn check_counts(
+    rt: &impl Abort,
+    alloc: Global,
+    objects: Objects,
+    cases: &[CountCase],
+) -> Result<(), Fail> {
     for case in cases {
-        assert!(rt; counts_as_wanted(&mut fresh(alloc, 16, 16)?, alloc, case)?);
+        assert!(rt; counts_as_wanted(&mut fresh(alloc, 16, 16)?, alloc, objects, case)?);
     }
     Ok(())
 }
 
 #[test]
 fn each_unit_counts_the_roots_and_pairs_that_name_it(rt: HostRuntime) -> Result<(), Fail> {
-    check_counts(&rt, rt.alloc(), &COUNT_CASES)
+    check_counts(&rt, rt.alloc(), Objects::Own, &COUNT_CASES)
+}
+
+/// Two versions of one tree, and two trees that share a leaf.
+const VERSION_COUNTS: [CountCase; 2] = [
+    CountCase {
+        nodes: [GOOD, NO_NODE, NO_NODE],
+        roots: [(1, 258, 600), (1, 258, 600)],
+        counts: [
+            (257, 0),
+            (258, 2),
+            (259, 0),
+            (260, 0),
+            (272, 0),
+            (273, 1),
+            (274, 1),
+            (275, 0),
+        ],
+    },
+    CountCase {
+        nodes: [GOOD, (259, 1, [(300, 275), (600, 274)]), NO_NODE],
+        roots: [(1, 258, 600), (1, 259, 600)],
+        counts: [
+            (257, 0),
+            (258, 1),
+            (259, 1),
+            (260, 0),
+            (272, 0),
+            (273, 1),
+            (274, 2),
+            (275, 1),
+        ],
+    },
+];
+
+#[test]
+fn shared_units_count_each_version(rt: HostRuntime) -> Result<(), Fail> {
+    check_counts(&rt, rt.alloc(), Objects::One, &VERSION_COUNTS)
 }
 
 /// Whether a page lies in the page area and is used.
@@ -648,7 +770,13 @@ fn is_largest_read<V: Volume>(volume: &mut V, alloc: Global) -> Result<bool, Fai
 {
     put_largest(volume, alloc)?;
     let mut units = Units::make(alloc, &volume.geometry())?;
-    let blamed = blamed(volume, alloc, &mut units, &[(3, 262, OBJECT_MOST)])?;
+    let blamed = blamed(
+        volume,
+        alloc,
+        &mut units,
+        Objects::Own,
+        &[(3, 262, OBJECT_MOST)],
+    )?;
     Ok(blamed.is_none() && uses_largest(volume, &units))
 }
 
@@ -694,7 +822,7 @@ fn blamed_in_chain<V: Volume>(volume: &mut V, alloc: Global) -> Result<Option<Pa
 {
     put_chain(volume, alloc)?;
     let mut units = Units::make(alloc, &volume.geometry())?;
-    blamed(volume, alloc, &mut units, &[(200, 457, 5)])
+    blamed(volume, alloc, &mut units, Objects::Own, &[(200, 457, 5)])
 }
 
 #[test]

@@ -1,4 +1,4 @@
-//! Large objects: the largest one there is, and a day's work on one of twelve megabytes.
+//! Large objects: the largest one there is, and a day's work on one of twelve megabytes, of which a version is frozen.
 use crate::volumes::{answers, has_line, left_by, made_by, run_on, with_bytes};
 use exsm_run::Status;
 use std::alloc::{AllocError, Global};
@@ -169,6 +169,9 @@ const DIGITS: usize = 1_048_562;
 
 const UPDATES: u32 = 512;
 
+/// How many of them come before the freeze.
+const FROZEN_AT: u32 = 400;
+
 #[test]
 fn a_day_of_work_keeps_its_limits(rt: HostRuntime) -> Result<(), Fail> {
     let alloc = rt.alloc();
@@ -177,10 +180,15 @@ fn a_day_of_work_keeps_its_limits(rt: HostRuntime) -> Result<(), Fail> {
     script.push_str(
         "begin\nfile docs\ncreate docs as @d\nappend @d rep:12582912:61\ncommit\nbegin\n",
     )?;
-    for _ in 0..=UPDATES {
-        script.push_str("insert @d 6000000 hex:2a\n")?;
+    // The freeze is an update as the inserts are, and the last one of these is one too many.
+    for update in 0..=UPDATES {
+        if update == FROZEN_AT {
+            script.push_str("freeze @d as @v\n")?;
+        } else {
+            script.push_str("insert @d 6000000 hex:2a\n")?;
+        }
     }
-    script.push_str("commit\nsize @d\nbegin\n")?;
+    script.push_str("commit\nsize @v\nread @v 6000399 2\nsize @d\nbegin\n")?;
     for more in 0..2 {
         script.push_str("append @d hex:")?;
         for _ in 0..DIGITS + more {
@@ -195,11 +203,15 @@ fn a_day_of_work_keeps_its_limits(rt: HostRuntime) -> Result<(), Fail> {
     for line in [
         "ok create 258.0.1",
         "ok append 12582912",
-        "ok insert 12583424",
+        "ok insert 12583312",
+        "ok freeze 258.1.2",
+        "ok insert 12583423",
         "no 22 long_txn 512 2",
         "ok commit 2",
-        "ok size 12583424",
-        "ok append 13107705",
+        "ok size 12583312",
+        "ok read 2 2a61",
+        "ok size 12583423",
+        "ok append 13107704",
         "no 1 line_long",
         "no 3 data_limit",
         "ok read 3 612a2a",

@@ -14,19 +14,36 @@ const CHOICES: [Choice; 5] = [
     Choice::Fill(7),
 ];
 
+/// A script with commits, lines that read, and what they are answered after so many of the commits.
+struct Story {
+    script: &'static str,
+    read: &'static str,
+    shown: &'static [&'static str],
+}
+
 /// Commits a small object, then a large one, then an edit in its middle.
-const SCRIPT: &str =
-    "begin\nfile a\ncreate a as @x\nappend @x rep:100:61\ncommit\nbegin\nappend @x rep:900:61\ncommit\nbegin\ninsert @x 500 hex:62\ncommit\n";
+const EDITS: Story = Story {
+    script: "begin\nfile a\ncreate a as @x\nappend @x rep:100:61\ncommit\nbegin\nappend @x rep:900:61\ncommit\nbegin\ninsert @x 500 hex:62\ncommit\n",
+    read: "size 258.0.1\nread 258.0.1 500 1\n",
+    shown: &[
+        "no 11 no_object\nno 11 no_object\n",
+        "ok size 100\nno 18 range\n",
+        "ok size 1000\nok read 1 61\n",
+        "ok size 1001\nok read 1 62\n",
+    ],
+};
 
-/// What the object shows after so many commits: its bytes at the place of the last edit.
-const READ: &str = "size 258.0.1\nread 258.0.1 500 1\n";
-
-const SHOWN: [&str; 4] = [
-    "no 11 no_object\nno 11 no_object\n",
-    "ok size 100\nno 18 range\n",
-    "ok size 1000\nok read 1 61\n",
-    "ok size 1001\nok read 1 62\n",
-];
+/// Commits an object, then two branches of it, of which the first one ends.
+const BRANCHES: Story = Story {
+    script: "begin\nfile a\ncreate a as @x\nappend @x rep:1000:61\ncommit\nbegin\nfreeze @x as @v\nderive @v as @y\nreplace @y 0 hex:42\ncommit\nbegin\ndestroy @x\ndrop @v\ncommit\n",
+    read: "versions 258.2.3\nread 258.0.1 0 1\nread 258.2.3 0 1\n",
+    shown: &[
+        "no 11 no_object\nno 11 no_object\nno 11 no_object\n",
+        "no 11 no_object\nok read 1 61\nno 11 no_object\n",
+        "ok versions 3 258.1.2 258.0.1 258.2.3\nok read 1 61\nok read 1 42\n",
+        "ok versions 1 258.2.3\nno 11 no_object\nok read 1 42\n",
+    ],
+};
 
 // How many commits of the script were acknowledged.
 fn acknowledged(sent: &[u8]) -> usize {
@@ -40,10 +57,16 @@ fn acknowledged(sent: &[u8]) -> usize {
 }
 
 // After how many commits the disk shows what it shows.
-fn commits_on(rt: &impl Abort, alloc: Global, disk: &[u8]) -> Result<usize, AllocError> {
-    let (status, host) = run_on(alloc, disk, READ.as_bytes(), None)?;
+fn commits_on(
+    rt: &impl Abort,
+    alloc: Global,
+    story: &Story,
+    disk: &[u8],
+) -> Result<usize, AllocError> {
+    let (status, host) = run_on(alloc, disk, story.read.as_bytes(), None)?;
     assert!(rt; status == Status::Done);
-    let found = SHOWN
+    let found = story
+        .shown
         .iter()
         .position(|shown| host.sent_bytes() == shown.as_bytes());
     assert!(rt; found.is_some());
@@ -69,6 +92,7 @@ fn images_after(alloc: Global, host: &MemoryHost, call: u64) -> Result<Vec<Vec<u
 fn keeps_in_openings(
     rt: &impl Abort,
     alloc: Global,
+    story: &Story,
     disk: &[u8],
     commits: usize,
 ) -> Result<(), AllocError> {
@@ -76,18 +100,17 @@ fn keeps_in_openings(
     for stop in 0..=opening.calls() {
         for left in images_after(alloc, &opening, stop)? {
             if left.as_slice() != disk {
-                assert!(rt; commits_on(rt, alloc, &left)? == commits);
+                assert!(rt; commits_on(rt, alloc, story, &left)? == commits);
             }
         }
     }
     Ok(())
 }
 
-#[test]
-fn a_stop_at_any_call_loses_no_acknowledged_edit(rt: HostRuntime) -> Result<(), Fail> {
-    let alloc = rt.alloc();
+// A stop at any call of the script leaves what was acknowledged, or one commit more.
+fn loses_nothing(rt: &impl Abort, alloc: Global, story: &Story) -> Result<(), AllocError> {
     let volume = formatted(alloc, SMALL)?;
-    let (_, whole) = run_on(alloc, &volume, SCRIPT.as_bytes(), None)?;
+    let (_, whole) = run_on(alloc, &volume, story.script.as_bytes(), None)?;
     let mut seen: Vec<(Vec<u8>, usize)> = Vec::new(alloc);
     for stop in 0..=whole.calls() {
         assert!(rt; stop <= whole.calls());
@@ -96,8 +119,8 @@ fn a_stop_at_any_call_loses_no_acknowledged_edit(rt: HostRuntime) -> Result<(), 
             let found = match seen.iter().find(|shown| shown.0 == image) {
                 Some(shown) => shown.1,
                 None => {
-                    let found = commits_on(&rt, alloc, &image)?;
-                    keeps_in_openings(&rt, alloc, &image, found)?;
+                    let found = commits_on(rt, alloc, story, &image)?;
+                    keeps_in_openings(rt, alloc, story, &image, found)?;
                     seen.push((image, found))?;
                     found
                 }
@@ -108,5 +131,17 @@ fn a_stop_at_any_call_loses_no_acknowledged_edit(rt: HostRuntime) -> Result<(), 
             );
         }
     }
+    Ok(())
+}
+
+#[test]
+fn a_stop_at_any_call_loses_no_acknowledged_edit(rt: HostRuntime) -> Result<(), Fail> {
+    loses_nothing(&rt, rt.alloc(), &EDITS)?;
+    Ok(())
+}
+
+#[test]
+fn a_stop_at_any_call_loses_no_acknowledged_version(rt: HostRuntime) -> Result<(), Fail> {
+    loses_nothing(&rt, rt.alloc(), &BRANCHES)?;
     Ok(())
 }

@@ -1,14 +1,14 @@
 //! What single lines say, and texts of replies.
 
 use ex_base::{Area, Items, Oid, PageNo};
-use script_lang::{parse, parse_any};
+use script_lang::parse;
 use script_replies::{push_reply, reply_text};
 use std::test::Fail;
 use table_model::{Command, Refusal, Reply, Subject};
 
 // What the line says, where only its kind is of interest.
 fn kind(line: &[u8]) -> &'static str {
-    match parse_any(line) {
+    match parse(line) {
         Ok(None) => "silent",
         Ok(Some(_)) => "command",
         Err(Refusal::Syntax) => "syntax",
@@ -28,6 +28,7 @@ fn lines_say_what_they_spell(rt: HostRuntime) {
         ("\tbegin ", "command"),
         ("begin now", "syntax"),
         ("Begin", "syntax"),
+        ("beginn", "syntax"),
         ("begin\r", "syntax"),
         ("create f as @a", "command"),
         ("create f as a", "syntax"),
@@ -46,6 +47,15 @@ fn lines_say_what_they_spell(rt: HostRuntime) {
         ("group g 1025 lru", "syntax"),
         ("scan 300.0.5 as s in g", "command"),
         ("scan 300.0.5 as s in", "syntax"),
+        ("freeze @x as @v", "command"),
+        ("derive @v as @y", "command"),
+        ("derive 300.0.5 as @y", "command"),
+        ("derive @v as y", "syntax"),
+        ("derive @v", "syntax"),
+        ("versions 300.0.5", "command"),
+        ("versions", "syntax"),
+        ("drop @v", "command"),
+        ("drop @v @y", "syntax"),
         ("file abcdefghijklmnopqrstuvwxyz_012345", "syntax"),
         ("file abcdefghijklmnopqrstuvwxyz_01234", "command"),
     ] {
@@ -55,7 +65,7 @@ fn lines_say_what_they_spell(rt: HostRuntime) {
 
 #[test]
 fn words_of_a_command_are_those_of_its_line(rt: HostRuntime) -> Result<(), Fail> {
-    let Ok(Some(Command::Insert { x, pos, given })) = parse_any(b"insert @abc 7 hex:00ff") else {
+    let Ok(Some(Command::Insert { x, pos, given })) = parse(b"insert @abc 7 hex:00ff") else {
         return Err("no insert".into());
     };
     let Subject::Name(name) = x else {
@@ -69,12 +79,6 @@ fn words_of_a_command_are_those_of_its_line(rt: HostRuntime) -> Result<(), Fail>
 }
 
 #[test]
-fn comments_say_nothing_in_the_product_too(rt: HostRuntime) {
-    assert!(rt; matches!(parse(b"# begin"), Ok(None)));
-    assert!(rt; matches!(parse(b"beginn"), Err(Refusal::Syntax)));
-}
-
-#[test]
 fn replies_are_spelled_in_words(rt: HostRuntime) -> Result<(), Fail> {
     let alloc = rt.alloc();
     let oid = Oid {
@@ -85,6 +89,7 @@ fn replies_are_spelled_in_words(rt: HostRuntime) -> Result<(), Fail> {
     let mut out = Vec::new(alloc);
     push_reply(&mut out, &Reply::Begin { number: 1 })?;
     push_reply(&mut out, &Reply::Create { oid })?;
+    push_reply(&mut out, &Reply::Derive { oid })?;
     let empty = Items::make(alloc);
     push_reply(&mut out, &Reply::Read { bytes: empty })?;
     let bytes = Items::of_bytes(alloc, b"\x00\xff")?;
@@ -97,8 +102,12 @@ fn replies_are_spelled_in_words(rt: HostRuntime) -> Result<(), Fail> {
     push_reply(&mut out, &Reply::No(full))?;
     let scans = Refusal::TooMany { scans: true };
     push_reply(&mut out, &Reply::No(scans))?;
+    let branches = Refusal::Branches { derived: 2 };
+    push_reply(&mut out, &Reply::No(branches))?;
+    let busy = Refusal::Busy { client: 1 };
+    push_reply(&mut out, &Reply::No(busy))?;
     let want: &[u8] =
-        b"ok begin 1\nok create 300.1.5\nok read 0\nok next 2 00ff\nno 23 full segs 20 19\nno 20 too_many scans\n";
+        b"ok begin 1\nok create 300.1.5\nok derive 300.1.5\nok read 0\nok next 2 00ff\nno 23 full segs 20 19\nno 20 too_many scans\nno 24 branches 2\nno 25 busy 1\n";
     assert!(rt; out.as_slice() == want);
     let text = reply_text(alloc, &Reply::Abort)?;
     let abort: &[u8] = b"ok abort\n";

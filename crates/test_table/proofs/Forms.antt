@@ -12,7 +12,7 @@ use Rattle.table_model.specs.Requests as request
 use Rattle.script_lines.specs.Lines.{Short}
 use Rattle.script_lang.specs.LineWords.{words_of}
 use Rattle.script_lang.specs.Grammar.{Slot, Key, Name, At, Number, Frames, Of, Given, fits, row, within}
-use Rattle.script_lang.specs.Reading.{ReadsAny}
+use Rattle.script_lang.specs.Reading.{Reads}
 use Rattle.script_lang.specs.Parsed.{reading_of}
 use Rattle.ex_base.proofs.Booleans.{three_true}
 
@@ -94,6 +94,7 @@ from_forms (request.Append x given) f w = and_from (is_reference x) (is_given gi
 from_forms (request.Replace x pos given) f w = three_true (is_reference x) (is_position pos) (is_given given) f.1.0 f.1.1.0 (and_from (is_data given) (nat_le (data_count given) data_most) f.1.1.1.0 w)
 from_forms (request.Delete x pos len) f w = three_true (is_reference x) (is_position pos) (is_position len) f.1.0 f.1.1.0 f.1.1.1.0
 from_forms (request.Freeze x bind) f w = and_from (is_reference x) (is_name bind) f.1.0 f.1.1.1.0
+from_forms (request.Derive x bind) f w = and_from (is_reference x) (is_name bind) f.1.0 f.1.1.1.0
 from_forms (request.Group name frames mru) f w =
     let parts = and_parts (nat_le 1 frames) (nat_le frames frames_most) f.1.1.0 in
     three_true (is_name name) (nat_le 1 frames) (nat_le frames frames_most) f.1.0 parts.0 parts.1
@@ -101,7 +102,7 @@ from_forms (request.Scan x name group) f w = group_form x name group f
 from_forms (request.Next name len) f w = and_from (is_name name) (nat_le len data_most) f.1.0 w
 from_forms (request.Close name) f w = f.1.0
 
-pub read_form : (line : List ℕ) (said : Result (Option Command) Refusal) → ReadsAny (Short line) (reading_of said) → IfOk said (λ o. IfSome o (λ c. IsTrue (is_request (request_of c))))
+pub read_form : (line : List ℕ) (said : Result (Option Command) Refusal) → Reads (Short line) (reading_of said) → IfOk said (λ o. IfSome o (λ c. IsTrue (is_request (request_of c))))
 read_form line (Err why) says = tt
 read_form line (Ok None) says = tt
 read_form line (Ok (Some c)) says = from_forms (request_of c) (all_forms (row (request_of c)) (words_of line) says.0) says.1

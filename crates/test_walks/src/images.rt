@@ -1,5 +1,5 @@
 //! Pages spelled byte by byte.
-use ex_base::{put_u16, put_u32};
+use ex_base::{PageNo, Place, put_u16, put_u32};
 
 /// A page of a volume of pages of 512 bytes.
 pub type Image = [u8; 512];
@@ -53,6 +53,52 @@ pub fn file_page(file_no: u8, uniques: &[u8]) -> Image {
         end -= 4;
         put_u16(&mut image, end, at as u16);
         put_u16(&mut image, end + 2, RECORD as u16);
+        at += RECORD;
+    }
+    image
+}
+
+/// Whether a version is frozen, and the places of its older and its newer one.
+#[derive(Clone, Copy)]
+pub struct Links {
+    pub frozen: bool,
+    pub older: Option<Place>,
+    pub newer: Option<Place>,
+}
+
+/// A current version without an older one.
+pub const ALONE: Links = Links {
+    frozen: false,
+    older: None,
+    newer: None,
+};
+
+/// The place of a record, which is page 0 where there is none.
+fn spelled(place: Option<Place>) -> Place {
+    match place {
+        Some(place) => place,
+        None => Place {
+            page: PageNo(0),
+            slot: 0,
+        },
+    }
+}
+
+/// A page of a file with the record of an empty version for each number, with links of its own.
+pub fn linked_page(file_no: u8, uniques: &[u8], links: &[Links]) -> Image {
+    let mut image = file_page(file_no, uniques);
+    let mut at = 16;
+    for link in links {
+        if at + RECORD > image.len() {
+            break;
+        }
+        image[at + 1] = if link.frozen { 2 } else { 1 };
+        let older = spelled(link.older);
+        put_u32(&mut image, at + 10, older.page.0);
+        put_u16(&mut image, at + 14, older.slot);
+        let newer = spelled(link.newer);
+        put_u32(&mut image, at + 16, newer.page.0);
+        put_u16(&mut image, at + 20, newer.slot);
         at += RECORD;
     }
     image

@@ -2,8 +2,8 @@
 ghost use Rattle.std.specs.Prelude.{IfOk};
 ghost use Rattle.memory_ports.specs.InMemory.{IsVolume};
 
-use crate::images::{Image, Root, catalog, file_page, index_page};
-use ex_base::{Geometry, PageNo, ReadVolume, Volume};
+use crate::images::{ALONE, Image, Links, Root, catalog, file_page, index_page, linked_page};
+use ex_base::{Geometry, PageNo, Place, ReadVolume, Volume};
 use file_walk::{WalkedFiles, has_good_numbers, walk_files};
 use memory_ports::{MemoryVolume, put_at};
 use object_files::CatalogView;
@@ -378,19 +378,186 @@ fn a_page_has_its_files_number_and_a_record(rt: HostRuntime) -> Result<(), Fail>
 }
 
 #[test]
-fn a_record_has_a_form_and_no_older_version(rt: HostRuntime) -> Result<(), Fail> {
-    let alloc = rt.alloc();
-    // A form that there isn't.
-    check_page(&rt, alloc, spoiled(&[(16, 3)]), Part::Body)?;
-    // A current version with an older one.
-    check_page(&rt, alloc, spoiled(&[(29, 1)]), Part::Body)
+fn a_record_has_a_form_that_there_is(rt: HostRuntime) -> Result<(), Fail> {
+    check_page(&rt, rt.alloc(), spoiled(&[(16, 3)]), Part::Body)
+}
+
+/// A slot of the first page.
+fn on_first(slot: u16) -> Place {
+    Place {
+        page: PageNo(FIRST),
+        slot,
+    }
+}
+
+/// A current version that is derived from the one at a place.
+fn derived(older: Place) -> Links {
+    Links {
+        older: Some(older),
+        ..ALONE
+    }
+}
+
+/// A frozen version without an older one, whose newer one is at a place.
+fn frozen(newer: Option<Place>) -> Links {
+    Links {
+        frozen: true,
+        older: None,
+        newer,
+    }
+}
+
+/// Three versions on one page, with the numbers 7, 5 and 3, and the part that the walk blames.
+type LinkRow = ([Links; 3], Option<Part>);
+
+/// Links that form trees: versions one after the other, and two that are derived from one.
+fn trees() -> [LinkRow; 3] {
+    [
+        (
+            [derived(on_first(1)), frozen(Some(on_first(0))), ALONE],
+            None,
+        ),
+        (
+            [
+                derived(on_first(1)),
+                Links {
+                    older: Some(on_first(2)),
+                    ..frozen(Some(on_first(0)))
+                },
+                frozen(Some(on_first(1))),
+            ],
+            None,
+        ),
+        (
+            [derived(on_first(2)), derived(on_first(2)), frozen(None)],
+            None,
+        ),
+    ]
+}
+
+/// Older places of a current record, of none, on a page of no file, and of a frozen record with a higher number.
+fn bad_older_places() -> [LinkRow; 4] {
+    [
+        ([derived(on_first(1)), ALONE, ALONE], Some(Part::Body)),
+        ([derived(on_first(3)), ALONE, ALONE], Some(Part::Body)),
+        (
+            [
+                derived(Place {
+                    page: PageNo(FIRST + 7),
+                    slot: 0,
+                }),
+                ALONE,
+                ALONE,
+            ],
+            Some(Part::Body),
+        ),
+        (
+            [
+                frozen(Some(on_first(1))),
+                Links {
+                    older: Some(on_first(0)),
+                    ..frozen(Some(on_first(2)))
+                },
+                derived(on_first(1)),
+            ],
+            Some(Part::Body),
+        ),
+    ]
+}
+
+/// Newer places: none where one is derived, one where none or two are, another one, and one of a current version.
+fn bad_newer_places() -> [LinkRow; 5] {
+    [
+        (
+            [derived(on_first(1)), frozen(None), ALONE],
+            Some(Part::Body),
+        ),
+        ([ALONE, frozen(Some(on_first(0))), ALONE], Some(Part::Body)),
+        (
+            [
+                derived(on_first(2)),
+                derived(on_first(2)),
+                frozen(Some(on_first(0))),
+            ],
+            Some(Part::Body),
+        ),
+        (
+            [derived(on_first(1)), frozen(Some(on_first(2))), ALONE],
+            Some(Part::Body),
+        ),
+        (
+            [
+                Links {
+                    newer: Some(on_first(1)),
+                    ..ALONE
+                },
+                ALONE,
+                ALONE,
+            ],
+            Some(Part::Body),
+        ),
+    ]
+}
+
+/// Takes the walk over each row of links, on a fresh volume.
+fn check_links(rt: &impl Abort, alloc: Global, rows: &[LinkRow]) -> Result<(), Fail> {
+    for (links, want) in rows {
+        let image = linked_page(7, &[7, 5, 3], links);
+        check_pages(rt, alloc, &[image], &[ONE_PAGE], *want)?;
+    }
+    Ok(())
 }
 
 #[test]
-fn no_frozen_version_stands_in_a_volume(rt: HostRuntime) -> Result<(), Fail> {
-    // The newer version is at slot 1 of the page.
-    let image = spoiled(&[(17, 2), (34, 1), (35, 2), (37, 1)]);
-    check_page(&rt, rt.alloc(), image, Part::Body)
+fn versions_form_trees(rt: HostRuntime) -> Result<(), Fail> {
+    check_links(&rt, rt.alloc(), &trees())
+}
+
+#[test]
+fn an_older_place_is_that_of_a_frozen_version_before(rt: HostRuntime) -> Result<(), Fail> {
+    check_links(&rt, rt.alloc(), &bad_older_places())
+}
+
+#[test]
+fn a_newer_place_is_that_of_the_only_derived_version(rt: HostRuntime) -> Result<(), Fail> {
+    check_links(&rt, rt.alloc(), &bad_newer_places())
+}
+
+#[test]
+fn a_version_is_not_derived_from_one_of_another_file(rt: HostRuntime) -> Result<(), Fail> {
+    let images = [
+        linked_page(7, &[5, 3], &[derived(on_first(1)), frozen(None)]),
+        linked_page(8, &[6], &[derived(on_first(1))]),
+    ];
+    check_pages(
+        &rt,
+        rt.alloc(),
+        &images,
+        &[ONE_PAGE, NEXT_PAGE],
+        Some(Part::Body),
+    )
+}
+
+/// Whether the walk finds that the first two of five versions in two files are of one object, and all others of objects of their own.
+fn has_four_objects<V: Volume>(volume: &mut V, alloc: Global) -> Result<bool, Fail>
+    requires { V.ready volume.old }
+{
+    let links = [derived(on_first(1)), frozen(Some(on_first(0))), ALONE];
+    put(volume, alloc, FIRST, &linked_page(7, &[7, 5, 3], &links))?;
+    put(volume, alloc, FIRST + 1, &file_page(8, &[6, 4]))?;
+    let found = walked(volume, alloc, &[ONE_PAGE, NEXT_PAGE])?;
+    let mut objects = Vec::new(alloc);
+    for record in &found.records {
+        objects.push(record.object)?;
+    }
+    Ok(objects.as_slice() == [1, 1, 2, 3, 4].as_slice())
+}
+
+#[test]
+fn objects_of_all_files_are_told_apart(rt: HostRuntime) -> Result<(), Fail> {
+    let alloc = rt.alloc();
+    assert!(rt; has_four_objects(&mut fresh(alloc)?, alloc)?);
+    Ok(())
 }
 
 /// The root of the file with number 8 on a page outside of the page area.

@@ -1,6 +1,7 @@
 -- Accepted commands on files and counts. None writes.
 use Rattle.std.proofs.Common.{◌≡◌, ◌≢◌, ◌∙◌, ℕ, true, List, [], ◌∷◌, ◌++◌, length, map, Option, Some, None, nat_eq, Ok, ⊎_elim, refl, sym, ap, subst, inl, arith}
 use Rattle.std.specs.Prelude.{IsTrue, Contains, find}
+use Rattle.std.specs.List.{AllZip}
 use Rattle.std.specs.Map.{lookup}
 use Rattle.std.proofs.lemmas.List.{length-map}
 use Rattle.ex_base.specs.declared.geometry.Geometry.{Geometry}
@@ -30,7 +31,9 @@ use Rattle.table_model.specs.Tables.{with_file, without_file}
 use Rattle.session_views.specs.View.{View, ShowsNow, Stepped}
 use Rattle.volume_model.specs.Shown.{WorkingRow, WorkingShown, IsWorkingPage, working_units}
 use Rattle.volume_model.specs.Parts.{IsLastOf, HasIndex}
-use Rattle.volume_model.specs.Volume.{Stored, Volume, file_pages, stored_in, roots_in, table_of}
+use Rattle.volume_model.specs.Volume.{Stored, Volume, file_pages, stored_in, roots_in, table_of, unique_of}
+use Rattle.volume_model.proofs.Places.{sep_from}
+use Rattle.volume_edits.proofs.FileVersions.{files_are}
 use Rattle.session_core.specs.Sessions.{SessionState, held, IsSession, updated}
 use Rattle.session_core.specs.Catalogs.{FramesLend}
 use Rattle.session_core.specs.Meant.{meant, pick_of, held_view}
@@ -38,7 +41,7 @@ use Rattle.session_core.specs.Counts.{used_of}
 use Rattle.transactions.specs.Refused.{file_refusal, unfile_refusal, entry_of, has_pages}
 use Rattle.table_model.specs.Tables as tables
 use Rattle.transactions.proofs.Files.{no_pages_there}
-use Rattle.transactions.proofs.Unfiled.{volume_without, all_of, not_empty_as, gone_of, pages_without, stored_without, others_without, table_without_file}
+use Rattle.transactions.proofs.Unfiled.{HasAll, volume_without, all_of, not_empty_as, gone_of, pages_without, stored_without, others_without, table_without_file}
 use Rattle.session_core.specs.Steps.{OnlyFrames, StepsQuietly}
 use Rattle.session_core.proofs.Volumes.{names_shown, shown_parts}
 use Rattle.session_core.proofs.KeptOff.{Others, others_kept, table_off}
@@ -138,6 +141,17 @@ file_steps {a} {b} {before} now new groups page image name file_no same frames o
     (subst (λ (o : Catalog). CatalogOf image (edits.with_entries o (edits.entry_inserted (edits.new_file name file_no) o.entries))) on catalog)
     refl (pages_with name file_no now.shows.working) (stored_with name file_no now.shows.working) (λ others. others_with d.geometry d.records later name file_no now.shows.working others) table refl refl)
 
+-- the parts of the files of a shown volume
+shown_all : {w : Outside} {before : View SessionState} (now : ShowsNow meant w before)
+    → AllZip (HasAll now.shows.decoded.geometry (working_units now.shows.decoded before.disk before.session.meta.working)) now.shows.working.catalog.entries now.shows.working.files
+shown_all {w} {before} now =
+    let d = now.shows.decoded in
+    let v = now.shows.working in
+    let units = working_units d before.disk before.session.meta.working in
+    let parts = (shown_parts now.shows).1 in
+    all_of d.geometry units v.catalog.entries v.files parts.0.0 parts.1.0 parts.1.1.0
+    (files_are units v.catalog.entries v.files parts.1.0 parts.1.1.0 (sep_from unique_of (stored_in v) parts.1.1.1.1.1.0.differ))
+
 pub unfile_steps : {a b : Outside} {before : View SessionState} (now : ShowsNow meant a before) (new : SessionState) (groups : List Frames) (page image name : List ℕ) → updated (record before.session { groups = groups }) image note_kind.FileRemoved ≡ new
     → LaterFrames a b before.session groups → before.session.opened ≡ true → before.session.units.geometry ≡ before.session.geometry → HasImage before.session → ReadsCatalog a before.session page → FramesLend a before.session
     → IsTrue (is_name name) → unfile_refusal before.session (catalog_on page) name ≡ None
@@ -154,7 +168,7 @@ unfile_steps {a} {b} {before} now new groups page image name same frames opened 
     let later = working_units d before.disk (with_row catalog_no (Some image) rows) in
     let w = volume_without name now.shows.working in
     let was = (shown_parts now.shows).1 in
-    let all = all_of d.geometry now_units old.entries now.shows.working.files was.0.0 was.1.0 was.1.1.0 in
+    let all = shown_all now in
     let off = same_off d before.disk image rows in
     let s = updated (record before.session { groups = groups }) image note_kind.FileRemoved in
     let after : Machine = record m { working = Some (without_file name (shown m)); notes = m.notes ++ note note_kind.FileRemoved no_oid 0 0 ∷ [] } in
@@ -207,9 +221,8 @@ not_empty_shown : {a : Outside} {before : View SessionState} (now : ShowsNow mea
 not_empty_shown {a} {before} now name =
     let d = now.shows.decoded in
     let units = working_units d before.disk before.session.meta.working in
-    let was = (shown_parts now.shows).1 in
     ap (λ (t : Table). has_objects (find (tables.has_name name) t.files)) (shows_catalog now.shows).table
-    ∙ not_empty_as d.geometry units name now.shows.working.catalog.entries now.shows.working.files (all_of d.geometry units now.shows.working.catalog.entries now.shows.working.files was.0.0 was.1.0 was.1.1.0)
+    ∙ not_empty_as d.geometry units name now.shows.working.catalog.entries now.shows.working.files (shown_all now)
 
 pub unfile_no : {a b : Outside} (old mid : SessionState) (page name : List ℕ) (why : Refusal) (c : Catalog) → IsSession old → OnlyFrames a b old mid → old.opened ≡ true → ReadsCatalog a old page → c ≡ catalog_on page
     → Some why ≡ unfile_refusal mid c name → StepsQuietly a b old mid (request.Unfile name) (Ok (reply.No why))

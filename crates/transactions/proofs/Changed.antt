@@ -19,7 +19,7 @@ use Rattle.table_model.specs.declared.reply.Refusal.{Refusal}
 use Rattle.table_model.specs.declared.reply.Refusal.TheVariants as refusal
 use Rattle.table_model.specs.declared.reply.Reply.{Reply}
 use Rattle.table_model.specs.declared.reply.Reply.TheVariants as reply
-use Rattle.table_model.specs.declared.table.Version.{Version}
+use Rattle.version_lists.specs.declared.version.Version.{Version}
 use Rattle.table_model.specs.Machines.{shown, the_oid, size_of}
 use Rattle.table_model.specs.Needs.{charge}
 use Rattle.table_model.specs.Needs as needs
@@ -36,12 +36,13 @@ use Rattle.versions.specs.declared.editing.Edit.{Edit}
 use Rattle.versions.specs.declared.finding.Found.{Found}
 use Rattle.versions.specs.Edited.{change_of}
 use Rattle.versions.specs.Needs.{most_need}
-use Rattle.version_model.specs.Versions.{Change, Inserts, Appends, Replaces, Deletes, InRange, changed, count_of, record_len}
+use Rattle.volume_model.specs.Volume.{is_frozen}
+use Rattle.versions.specs.Versions.{Change, Inserts, Appends, Replaces, Deletes, InRange, changed, count_of, record_len}
 use Rattle.transactions.specs.declared.edits.Admitted.{Admitted}
 use Rattle.transactions.specs.declared.edits.Need.{Need}
 use Rattle.session_core.specs.declared.session.moving.Limit.{Limit}
 use Rattle.session_core.specs.declared.session.objects.Named.{Named}
-use Rattle.transactions.specs.Editing.{AsksFor, IsAdmitted, IsAnswered, IsWithin, bytes_refusal, edit_note, edit_reply, is_frozen, is_outside, limit_of, room_refusal}
+use Rattle.transactions.specs.Editing.{AsksFor, IsAdmitted, IsAnswered, IsWithin, bytes_refusal, edit_note, edit_reply, is_outside, limit_of, room_refusal}
 use Rattle.session_core.specs.Needs.{fits_beside, room_beside, root_height, size_after}
 use Rattle.session_core.specs.Finding.{IfShown, IsOutside, LineStops, NamesVersion, TellsVersion}
 use Rattle.transactions.specs.Lines.{UpdatesLine}
@@ -54,8 +55,10 @@ use Rattle.session_core.specs.TableUpdates as update
 use Rattle.transactions.proofs.EditRefusals.{pick_fits, pick_tall, same_units, units_told}
 use Rattle.transactions.proofs.Naming.{the_oid_named, the_size_named}
 use Rattle.session_core.proofs.Quiet.{with_groups}
-use Rattle.transactions.proofs.Updated.{KeptTo, machine_with, noted_steps, own_names, pick_then, room_left, same_machine, same_session, view_then, within_need}
-use Rattle.transactions.proofs.UpdateLines.{WentOn, counted_then, frames_of, line_refused, opened_then, update_done, update_stopped}
+use Rattle.transactions.specs.Editing.{KeptTo}
+use Rattle.transactions.proofs.Updated.{machine_with, noted_steps, own_names, pick_then, room_left, same_machine, same_session, view_then, within_need}
+use Rattle.transactions.specs.Lines.{WentOn}
+use Rattle.transactions.proofs.UpdateLines.{counted_then, frames_of, line_refused, opened_then, update_done, update_stopped}
 
 -- ---- where the session read
 
@@ -65,10 +68,12 @@ told_on before s oid found same t = subst (λ (u : SessionState). TellsVersion (
   is = t.is;
   size = t.size;
   head = t.head;
+  frozen = t.frozen;
+  first = t.first;
+  one = t.one;
   root = t.root;
   content = t.content;
   named = t.named;
-  current = t.current;
   lies = t.lies;
 })
 
@@ -107,17 +112,18 @@ range_of (Appends given) size outside large = ltb-false object_most (size + leng
 range_of (Replaces pos given) size outside large = ltb-false size (pos + length given) outside
 range_of (Deletes pos len) size outside large = ltb-false size (pos + len) outside
 
--- a change that is not refused for its bytes lies inside
-in_range : (found : Found) (change : Change) → bytes_refusal found change ≡ None → InRange change found.size
+-- a change that is not refused for its bytes is of a current version, and lies inside
+in_range : (found : Found) (change : Change) → bytes_refusal found change ≡ None → (is_frozen found.head.state ≡ false) × InRange change found.size
 in_range found change none =
     let all = passes (when (is_frozen found.head.state) refusal.Frozen ∷ when (is_outside change found.size) refusal.Range ∷ when (nat_lt object_most (size_after change found.size)) refusal.TooLarge ∷ []) (sym none) in
-    range_of change found.size (unmet _ _ all.1.0) (unmet _ _ all.1.1.0)
+    (unmet _ _ all.0, range_of change found.size (unmet _ _ all.1.0) (unmet _ _ all.1.1.0))
 
 pub asks_change : (before : View SessionState) (x : Reference) (change : Change) (version : Named) → NamesVersion before x version → bytes_refusal version.found change ≡ None → AsksChange (shown before.machine) version.oid change
 asks_change before x change version names none = record {
   version = names.told.version;
   is = names.told.is;
-  inside = subst (InRange change) names.told.size (in_range version.found change none);
+  current = sym names.told.frozen ∙ (in_range version.found change none).0;
+  inside = subst (InRange change) names.told.size (in_range version.found change none).1;
 }
 
 -- two that are told of one version are the same in what counts

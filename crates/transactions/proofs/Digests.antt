@@ -5,7 +5,7 @@ use Rattle.disk_model.specs.Outside.{Outside}
 use Rattle.session_views.specs.declared.engine.Stop.{Stop}
 use Rattle.table_model.specs.declared.reply.Refusal.{Refusal}
 use Rattle.table_model.specs.declared.reply.Reply.TheVariants as reply
-use Rattle.table_model.specs.declared.table.Version.{Version}
+use Rattle.version_lists.specs.declared.version.Version.{Version}
 use Rattle.table_model.specs.Machines.{bytes_if}
 use Rattle.table_model.specs.Requests.{Reference}
 use Rattle.table_model.specs.Requests as request

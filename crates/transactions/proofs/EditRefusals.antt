@@ -1,28 +1,27 @@
 -- Why a line that edits a version is refused: the session tells it as the machine does.
 use Rattle.std.proofs.Common.{◌≡◌, ◌∙◌, ◌+◌, ◌-◌, ◌≤◌, ℕ, Bool, true, false, List, ◌∷◌, length, Option, Some, None, is_some, Result, Ok, refl, sym, ap, subst, arith}
-use Rattle.std.specs.Prelude.{IfOk, nat_lt, nat_le, not, ◌==◌, ◌||◌, if◌then◌else◌}
+use Rattle.std.specs.Prelude.{IfOk, nat_lt, nat_le, ◌==◌, ◌||◌, if◌then◌else◌}
 use Rattle.std.specs.Option.{option_or}
 use Rattle.ex_base.specs.declared.geometry.Geometry.{Geometry}
 use Rattle.ex_base.specs.declared.names.Area.{Area}
 use Rattle.ex_base.specs.declared.names.Area.TheVariants.{Page, Segment}
 use Rattle.ex_base.specs.declared.names.Oid.{Oid}
 use Rattle.ex_base.specs.Sizes.{object_most}
-use Rattle.object_records.specs.declared.Head.{Head}
 use Rattle.page_alloc.specs.UnitSet.{free_count, used_at}
 use Rattle.table_model.specs.declared.machine.Machine.{Machine}
 use Rattle.table_model.specs.declared.machine.Pick.{Pick}
 use Rattle.table_model.specs.declared.reply.Refusal.{Refusal}
 use Rattle.table_model.specs.declared.reply.Refusal.TheVariants as refusal
-use Rattle.table_model.specs.Machines.{shown, size_of, the_oid, updates_most, touched_most}
+use Rattle.table_model.specs.Machines.{size_of, the_oid, updates_most, touched_most, version_of}
 use Rattle.table_model.specs.Needs.{free, need}
-use Rattle.table_model.specs.Refusals.{first, when, no_txn, no_name, no_object, frozen, range, too_large, limits, refusal_of}
+use Rattle.table_model.specs.Refusals.{first, when, frozen_if, no_txn, no_name, no_object, frozen, range, too_large, limits, refusal_of}
 use Rattle.table_model.specs.Requests.{Request, Reference}
 use Rattle.table_model.specs.Requests as request
-use Rattle.table_model.specs.Tables.{is_current}
 use Rattle.table_model.specs.Words.{data_bytes}
 use Rattle.disk_model.specs.Outside.{Outside}
 use Rattle.session_views.specs.View.{View, ShowsNow}
-use Rattle.version_model.specs.Versions.{Change, Inserts, Appends, Replaces, Deletes, count_of}
+use Rattle.volume_model.specs.Volume.{is_frozen}
+use Rattle.versions.specs.Versions.{Change, Inserts, Appends, Replaces, Deletes, count_of}
 use Rattle.versions.specs.Needs.{most_need}
 use Rattle.versions.specs.declared.finding.Found.{Found}
 use Rattle.volume_model.specs.Shown.{Held, Shows}
@@ -35,9 +34,9 @@ use Rattle.session_core.specs.Finding.{IfLive, IfShown, IsOutside, NamesVersion,
 use Rattle.session_core.specs.Steps.{OnlyFrames}
 use Rattle.session_views.specs.declared.engine.Stop.{Stop}
 use Rattle.session_core.proofs.Quiet.{same_view, with_groups}
-use Rattle.transactions.specs.Editing.{AsksFor, IsAdmitted, IsAnswered, is_outside, is_frozen, bytes_refusal, room_refusal, edit_need, edit_refusal}
+use Rattle.transactions.specs.Editing.{AsksFor, IsAdmitted, IsAnswered, is_outside, bytes_refusal, room_refusal, edit_need, edit_refusal}
 use Rattle.session_core.specs.Needs.{fits_beside, size_after, root_height}
-use Rattle.transactions.proofs.Naming.{names_pass, refuses_missing, the_oid_named, the_size_named}
+use Rattle.transactions.proofs.Naming.{names_pass, refuses_missing, the_oid_named, the_size_named, the_version}
 use Rattle.session_core.proofs.Picking.{pick_small, pick_height}
 use Rattle.session_core.proofs.Refusing.{free_left, none_is_false}
 use Rattle.session_core.proofs.Showing.{session_geometry}
@@ -96,80 +95,81 @@ room_is v n charge pages segs counts one p s =
 
 -- ---- the bytes
 
-abbrev tests_told : Bool → Bool → Option Refusal → Option Refusal
-tests_told outside large rest = option_or (when outside refusal.Range) (option_or (when large refusal.TooLarge) rest)
+abbrev tests_told : Bool → Bool → Bool → Option Refusal → Option Refusal
+tests_told solid outside large rest = option_or (when solid refusal.Frozen) (option_or (when outside refusal.Range) (option_or (when large refusal.TooLarge) rest))
 
-joined : (a b rest : Option Refusal) → option_or a (option_or b rest) ≡ option_or (option_or a (option_or b None)) rest
-joined None None rest = refl
-joined None (Some why) rest = refl
-joined (Some why) b rest = refl
+pub joined : (a b c rest : Option Refusal) → option_or a (option_or b (option_or c rest)) ≡ option_or (option_or a (option_or b (option_or c None))) rest
+joined None None None rest = refl
+joined None None (Some why) rest = refl
+joined None (Some why) c rest = refl
+joined (Some why) b c rest = refl
 
-bytes_told : (found : Found) (change : Change) (outside large : Bool) (rest : Option Refusal) → is_frozen found.head.state ≡ false → outside ≡ is_outside change found.size → large ≡ nat_lt object_most (size_after change found.size)
-    → tests_told outside large rest ≡ option_or (bytes_refusal found change) rest
-bytes_told found change outside large rest thawed out big =
-    joined (when outside refusal.Range) (when large refusal.TooLarge) rest
-    ∙ ap (λ (b : Bool). option_or (option_or (when b refusal.Range) (option_or (when large refusal.TooLarge) None)) rest) out
-    ∙ ap (λ (b : Bool). option_or (option_or (when (is_outside change found.size) refusal.Range) (option_or (when b refusal.TooLarge) None)) rest) big
-    ∙ ap (λ (b : Bool). option_or (option_or (when b refusal.Frozen) (option_or (when (is_outside change found.size) refusal.Range) (option_or (when (nat_lt object_most (size_after change found.size)) refusal.TooLarge) None))) rest) (sym thawed)
+same_tests : {solid outside large solid' outside' large' : Bool} → solid ≡ solid' → outside ≡ outside' → large ≡ large' → tests_told solid outside large None ≡ tests_told solid' outside' large' None
+same_tests one two three = cc (one, two, three)
+
+bytes_told : (found : Found) (change : Change) (solid outside large : Bool) (rest : Option Refusal) → solid ≡ is_frozen found.head.state → outside ≡ is_outside change found.size → large ≡ nat_lt object_most (size_after change found.size)
+    → tests_told solid outside large rest ≡ option_or (bytes_refusal found change) rest
+bytes_told found change solid outside large rest thaw out big =
+    joined (when solid refusal.Frozen) (when outside refusal.Range) (when large refusal.TooLarge) rest
+    ∙ ap (λ (o : Option Refusal). option_or o rest) (same_tests thaw out big)
 
 within : (size most : ℕ) → size ≤ most → false ≡ nat_lt most size
 within size most h = grind arith
 
 -- ---- a line
 
--- a version that is named is the current one, so that it passes the first tests of a line that changes it
-pub names_current : (v : View SessionState) (x : Reference) (version : Named) → is_some v.machine.working ≡ true → NamesVersion v x version → (rest : List (Option Refusal))
-    → option_or (no_txn v.machine) (first (no_name v.machine x ∷ no_object v.machine x ∷ frozen v.machine x ∷ rest)) ≡ first rest
-names_current v x version opened names rest =
+-- a version that is named passes the first tests of a line that changes it
+pub names_live : (v : View SessionState) (x : Reference) (version : Named) → is_some v.machine.working ≡ true → NamesVersion v x version → (rest : List (Option Refusal))
+    → option_or (no_txn v.machine) (first (no_name v.machine x ∷ no_object v.machine x ∷ rest)) ≡ first rest
+names_live v x version opened names rest =
     let m = v.machine in
-    let current : is_current (shown m) (the_oid m x) ≡ true = ap (λ (oid : Oid). is_current (shown m) oid) (the_oid_named v x version names) ∙ names.told.current in
-    ap (λ (b : Bool). option_or (when b refusal.NoTxn) (first (no_name m x ∷ no_object m x ∷ frozen m x ∷ rest))) (none_is_false m.working opened)
-    ∙ names_pass m x version.oid names.told.version (frozen m x ∷ rest) names.named_by names.told.is
-    ∙ ap (λ (b : Bool). option_or (when (not b) refusal.Frozen) (first rest)) current
+    ap (λ (b : Bool). option_or (when b refusal.NoTxn) (first (no_name m x ∷ no_object m x ∷ rest))) (none_is_false m.working opened)
+    ∙ names_pass m x version.oid names.told.version rest names.named_by names.told.is
+
+-- whether it is frozen, as the session has found
+pub names_frozen : (v : View SessionState) (x : Reference) (version : Named) → NamesVersion v x version → frozen_if (version_of v.machine x) ≡ is_frozen version.found.head.state
+names_frozen v x version names = ap frozen_if (the_version v.machine x version.oid names.told.version names.named_by names.told.is) ∙ sym names.told.frozen
 
 module _ (v : View SessionState) (x : Reference) (version : Named) (counts : UpdateCounts v) (opened : is_some v.machine.working ≡ true) (names : NamesVersion v x version) (limit : version.found.size ≤ object_most)
     (small : Bool) (q : Pick) (fits : q.small ≡ small) (height : q.height ≡ root_height version.found.root) where
   abbrev m : Machine
   m = v.machine
 
-  thawed : is_frozen version.found.head.state ≡ false
-  thawed = ap (λ (h : Head). is_frozen h.state) names.told.head
-
   size : size_of m x ≡ version.found.size
   size = the_size_named v x version names
 
-  passes : (rest : List (Option Refusal)) → option_or (no_txn m) (first (no_name m x ∷ no_object m x ∷ frozen m x ∷ rest)) ≡ first rest
-  passes = names_current v x version opened names
+  passes : (rest : List (Option Refusal)) → option_or (no_txn m) (first (no_name m x ∷ no_object m x ∷ rest)) ≡ first rest
+  passes = names_live v x version opened names
 
   room_for : (change : Change) → room_told 1 (length m.notes) m.touched (units_told m.geometry change q.small q.height Page) (units_told m.geometry change q.small q.height Segment) (free m Page) (free m Segment)
       ≡ room_refusal v.session (edit_need v.session.geometry version.found change small)
   room_for change = room_is v (edit_need v.session.geometry version.found change small) 1 _ _ counts refl (same_units change Page counts.geometry fits height) (same_units change Segment counts.geometry fits height)
 
   told_for : (change : Change) (outside large : Bool) → outside ≡ is_outside change version.found.size → large ≡ nat_lt object_most (size_after change version.found.size)
-      → tests_told outside large (room_told 1 (length m.notes) m.touched (units_told m.geometry change q.small q.height Page) (units_told m.geometry change q.small q.height Segment) (free m Page) (free m Segment))
+      → tests_told (frozen_if (version_of m x)) outside large (room_told 1 (length m.notes) m.touched (units_told m.geometry change q.small q.height Page) (units_told m.geometry change q.small q.height Segment) (free m Page) (free m Segment))
       ≡ edit_refusal v.session version.found change small
   told_for change outside large out big =
-      ap (λ (o : Option Refusal). tests_told outside large o) (room_for change)
-      ∙ bytes_told version.found change outside large (room_refusal v.session (edit_need v.session.geometry version.found change small)) thawed out big
+      ap (λ (o : Option Refusal). tests_told (frozen_if (version_of m x)) outside large o) (room_for change)
+      ∙ bytes_told version.found change (frozen_if (version_of m x)) outside large (room_refusal v.session (edit_need v.session.geometry version.found change small)) (names_frozen v x version names) out big
 
   insert_told : (pos : ℕ) (given : List ℕ) → refusal_of m (request.Insert x pos given) q ≡ edit_refusal v.session version.found (Inserts pos (data_bytes given)) small
   insert_told pos given =
-      passes (range m x pos ∷ too_large m x (length (data_bytes given)) ∷ limits m (request.Insert x pos given) q) ∙ told_for (Inserts pos (data_bytes given)) (nat_lt (size_of m x) pos) (nat_lt object_most (size_of m x + length (data_bytes given)))
+      passes (frozen m x ∷ range m x pos ∷ too_large m x (length (data_bytes given)) ∷ limits m (request.Insert x pos given) q) ∙ told_for (Inserts pos (data_bytes given)) (nat_lt (size_of m x) pos) (nat_lt object_most (size_of m x + length (data_bytes given)))
       (ap (λ (n : ℕ). nat_lt n pos) size) (ap (λ (n : ℕ). nat_lt object_most (n + length (data_bytes given))) size)
 
   append_told : (given : List ℕ) → refusal_of m (request.Append x given) q ≡ edit_refusal v.session version.found (Appends (data_bytes given)) small
   append_told given =
-      passes (too_large m x (length (data_bytes given)) ∷ limits m (request.Append x given) q) ∙ told_for (Appends (data_bytes given)) false (nat_lt object_most (size_of m x + length (data_bytes given)))
+      passes (frozen m x ∷ too_large m x (length (data_bytes given)) ∷ limits m (request.Append x given) q) ∙ told_for (Appends (data_bytes given)) false (nat_lt object_most (size_of m x + length (data_bytes given)))
       refl (ap (λ (n : ℕ). nat_lt object_most (n + length (data_bytes given))) size)
 
   replace_told : (pos : ℕ) (given : List ℕ) → refusal_of m (request.Replace x pos given) q ≡ edit_refusal v.session version.found (Replaces pos (data_bytes given)) small
   replace_told pos given =
-      passes (range m x (pos + length (data_bytes given)) ∷ limits m (request.Replace x pos given) q) ∙ told_for (Replaces pos (data_bytes given)) (nat_lt (size_of m x) (pos + length (data_bytes given))) false
+      passes (frozen m x ∷ range m x (pos + length (data_bytes given)) ∷ limits m (request.Replace x pos given) q) ∙ told_for (Replaces pos (data_bytes given)) (nat_lt (size_of m x) (pos + length (data_bytes given))) false
       (ap (λ (n : ℕ). nat_lt n (pos + length (data_bytes given))) size) (within version.found.size object_most limit)
 
   delete_told : (pos len : ℕ) → refusal_of m (request.Delete x pos len) q ≡ edit_refusal v.session version.found (Deletes pos len) small
   delete_told pos len =
-      passes (range m x (pos + len) ∷ limits m (request.Delete x pos len) q) ∙ told_for (Deletes pos len) (nat_lt (size_of m x) (pos + len)) false
+      passes (frozen m x ∷ range m x (pos + len) ∷ limits m (request.Delete x pos len) q) ∙ told_for (Deletes pos len) (nat_lt (size_of m x) (pos + len)) false
       (ap (λ (n : ℕ). nat_lt n (pos + len)) size) (within (version.found.size - len) object_most (omega (arith, limit)))
 
 -- ---- as a session that shows tells it

@@ -3,24 +3,24 @@ use Rattle.std.proofs.Common.{◌≡◌, ℕ, ◌<◌, ◌≤◌, true, false, c
 use Rattle.std.specs.List.{flat_map, AllByRecursion, AllZip, zip}
 use Rattle.std.specs.Cmp.Lexicographic.{slice_cmp}
 use Rattle.std.specs.Ordering.{nat_cmp, is_lt}
-use Rattle.std.proofs.lemmas.List.Sorted.{IsPermutation-refl}
 use Rattle.ex_base.specs.declared.geometry.Geometry.{Geometry}
 use Rattle.ex_base.specs.declared.names.Root.{Root}
 use Rattle.ex_base.specs.Area.{catalog_no}
-use Rattle.ex_base.specs.Order.{AllDiffer, Rising}
+use Rattle.ex_base.specs.Order.{AllDiffer}
 use Rattle.op_log.specs.declared.record.LogRecord.{LogRecord}
 use Rattle.object_files.specs.Catalog.{FileEntry}
 use Rattle.object_files.specs.Edits.{new_file, entry_inserted, with_entries}
 use Rattle.trees.specs.Trees.{Units, RootNamed, root_units}
 use Rattle.table_model.specs.declared.table.TableFile.{TableFile}
 use Rattle.table_model.specs.Tables.{file_inserted, with_file}
-use Rattle.volume_model.specs.Parts.{HasIndex, HasPages, HasLines, Apart, AllApart, HasBalance}
-use Rattle.volume_model.specs.Volume.{Stored, Line, FileContent, Volume, line_records, lines_of, stored_in, pages_of_file, file_pages, roots_in, unique_of, line_number, line_units, file_of, table_of}
+use Rattle.volume_model.specs.Parts.{HasIndex, HasPages, HasBodies, HasBalance}
+use Rattle.volume_model.specs.Links.{Apart, HasObjects}
+use Rattle.volume_model.specs.Volume.{Stored, FileContent, Volume, stored_in, pages_of_file, file_pages, roots_in, unique_of, file_of, table_of}
 use Rattle.session_core.proofs.KeptOff.{Others}
 
 -- a file without pages
 abbrev pub empty_file : FileContent
-empty_file = record { numbers = []; index_pages = []; pages = []; stored = []; lines = [] }
+empty_file = record { numbers = []; index_pages = []; pages = []; stored = [] }
 
 -- it is put in where its entry is
 abbrev pub files_with : List ℕ → List FileEntry → List FileContent → List FileContent
@@ -63,11 +63,8 @@ flat_inserted F name (e ∷ es) (f ∷ fs) none =
 pub pages_with : (name : List ℕ) (number : ℕ) (v : Volume) → file_pages (volume_with name number v) ≡ file_pages v
 pages_with name number v = flat_inserted pages_of_file name v.catalog.entries v.files refl
 
-lines_with : (name : List ℕ) (number : ℕ) (v : Volume) → lines_of (volume_with name number v) ≡ lines_of v
-lines_with name number v = flat_inserted (λ (file : FileContent). file.lines) name v.catalog.entries v.files refl
-
 pub stored_with : (name : List ℕ) (number : ℕ) (v : Volume) → stored_in (volume_with name number v) ≡ stored_in v
-stored_with name number v = ap (λ (lines : List Line). flat_map line_records lines) (lines_with name number v)
+stored_with name number v = flat_inserted (λ (file : FileContent). file.stored) name v.catalog.entries v.files refl
 
 empty_index : (g : Geometry) (units : Units) (name : List ℕ) (number : ℕ) → HasIndex g units (new_file name number) empty_file
 empty_index g units name number = record { whole = record { whole = refl; rising = tt; once = λ page. omega arith }; numbers = refl; index_pages = refl }
@@ -80,14 +77,14 @@ others_with g records units name number v (file, (page, (body, (node, (balance, 
       (
         zip_inserted (HasPages units) name number es v.files tt page,
         (
-          each_inserted HasLines name es v.files (record { records = tt; lines = tt; unfrozen = tt; each_once = IsPermutation-refl [] }) body,
+          each_inserted HasBodies name es v.files (record { records = tt; linked = tt }) body,
           (
             record {
               named = subst (λ (rs : List Root). AllByRecursion (λ (root : Root). RootNamed g units root.height root.page) rs) (sym roots) node.named;
               no_file_page =
                   subst (λ (rs : List Root). AllByRecursion (λ (root : Root). Apart (root_units units root) (catalog_no ∷ file_pages (volume_with name number v))) rs) (sym roots)
                   (subst (λ (pages : List ℕ). AllByRecursion (λ (root : Root). Apart (root_units units root) (catalog_no ∷ pages)) (roots_in (stored_in v))) (sym (pages_with name number v)) node.no_file_page);
-              one_object = subst (λ (ls : List Line). AllApart (map (line_units units) ls)) (sym (lines_with name number v)) node.one_object;
+              objects = subst (HasObjects units) (sym (stored_with name number v)) node.objects;
             },
             (
               subst (λ (rs : List Root). AllByRecursion (HasBalance g units) rs) (sym roots) balance,
@@ -96,7 +93,6 @@ others_with g records units name number v (file, (page, (body, (node, (balance, 
                   differ = subst (λ (ss : List Stored). AllDiffer (map unique_of ss)) (sym (stored_with name number v)) unique.differ;
                   some = subst (λ (ss : List Stored). AllByRecursion (λ (s : Stored). 1 ≤ unique_of s) ss) (sym (stored_with name number v)) unique.some;
                   below = subst (λ (ss : List Stored). AllByRecursion (λ (s : Stored). unique_of s < v.catalog.next_unique) ss) (sym (stored_with name number v)) unique.below;
-                  listed = each_inserted (λ (f : FileContent). Rising (map line_number f.lines)) name es v.files tt unique.listed;
                 },
                 tt,
               ),

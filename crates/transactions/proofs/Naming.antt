@@ -12,7 +12,7 @@ use Rattle.table_model.specs.declared.reply.Refusal.{Refusal}
 use Rattle.table_model.specs.declared.reply.Refusal.TheVariants as refusal
 use Rattle.table_model.specs.declared.reply.Reply.{Reply}
 use Rattle.table_model.specs.declared.reply.Reply.TheVariants as reply
-use Rattle.table_model.specs.declared.table.Version.{Version}
+use Rattle.version_lists.specs.declared.version.Version.{Version}
 use Rattle.table_model.specs.Machines.{oid_of, shown, version_if, version_of, bytes_if, oid_if, size_of, the_oid}
 use Rattle.table_model.specs.Refusals.{first, no_name, no_object, range, refusal_of, when}
 use Rattle.table_model.specs.Requests.{Request, Reference}

@@ -22,7 +22,7 @@ use Rattle.table_model.specs.declared.reply.Refusal.{Refusal}
 use Rattle.table_model.specs.declared.reply.Refusal.TheVariants as refusal
 use Rattle.table_model.specs.declared.reply.Reply.{Reply}
 use Rattle.table_model.specs.declared.reply.Reply.TheVariants as reply
-use Rattle.table_model.specs.declared.table.Version.{Version}
+use Rattle.version_lists.specs.declared.version.Version.{Version}
 use Rattle.table_model.specs.Machines.{IsMachine, bytes_if, bytes_of, has_group, is_taken, main, oid_of, scans_most, shown, size_of, version_if, version_of}
 use Rattle.table_model.specs.Refusals.{first, lacks_group, name_taken, no_group, no_name, no_object, refusal_of, too_many_scans, when}
 use Rattle.table_model.specs.Requests.{Reference, Request, is_request}

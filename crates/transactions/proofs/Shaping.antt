@@ -18,7 +18,7 @@ use Rattle.session_views.specs.View.{View, ShowsNow, Stepped}
 use Rattle.session_views.specs.declared.engine.Stop.{Stop}
 use Rattle.versions.specs.Found as found_words
 use Rattle.versions.specs.Found.{root_of}
-use Rattle.version_model.specs.Versions.{record_len}
+use Rattle.versions.specs.Versions.{record_len}
 use Rattle.versions.proofs.Standing.{large_content}
 use Rattle.volume_model.specs.Shown.{Held}
 use Rattle.session_core.specs.declared.session.objects.Named.{Named}

@@ -2,18 +2,16 @@
 use Rattle.std.proofs.Common.{◌≡◌, ◌∙◌, ℕ, zero, suc, ◌<◌, ◌≤◌, true, false, cond, not, List, [], ◌∷◌, ◌++◌, length, map, filter, Option, Some, None, is_some, refl, sym, ap, subst, arith}
 use Rattle.std.specs.Prelude.{bytes_eq, find, nat_lt}
 use Rattle.std.specs.List.{flat_map, AllByRecursion, AllZip, zip}
-use Rattle.std.specs.List.Sorted.{IsPermutation}
 use Rattle.std.specs.Cmp.Lexicographic.{slice_cmp, nat_list_cmp_total}
 use Rattle.std.specs.Ordering.{nat_cmp, ordering_reverse}
 use Rattle.std.specs.declared.cmp.Ordering.TheVariants.{Less, Greater}
-use Rattle.std.proofs.lemmas.List.{length-append, length-map}
-use Rattle.std.proofs.lemmas.List.Sorted.{length_permutation}
+use Rattle.std.proofs.lemmas.List.{length-append}
 use Rattle.std.proofs.lemmas.Slice.Eq.{bytes_eq-Decides}
 use Rattle.ex_base.specs.declared.geometry.Geometry.{Geometry}
 use Rattle.ex_base.specs.declared.names.PageNo.{PageNo}
 use Rattle.ex_base.specs.declared.names.Root.{Root}
 use Rattle.ex_base.specs.Area.{catalog_no}
-use Rattle.ex_base.specs.Order.{AllDiffer, Rising, RisingTexts}
+use Rattle.ex_base.specs.Order.{AllDiffer, RisingTexts}
 use Rattle.ex_base.proofs.Lists.{texts_tail}
 use Rattle.op_log.specs.declared.record.LogRecord.{LogRecord}
 use Rattle.index_pages.specs.declared.Entry.{Entry}
@@ -26,8 +24,12 @@ use Rattle.trees.specs.Trees.{Units, RootNamed, root_units}
 use Rattle.table_model.specs.declared.table.TableFile.{TableFile}
 use Rattle.table_model.specs.Tables as tables
 use Rattle.table_model.specs.Refusals.{has_objects}
-use Rattle.volume_model.specs.Parts.{HasIndex, HasPage, HasPages, HasLines, IsStored, bodies_from, bodies_in, Apart, AllApart, HasBalance}
-use Rattle.volume_model.specs.Volume.{Stored, Line, FileContent, Volume, line_records, lines_of, stored_in, pages_of_file, file_pages, roots_in, unique_of, line_number, line_units, object_of, file_of, table_of}
+use Rattle.volume_model.specs.Parts.{HasIndex, HasPage, HasPages, HasBodies, IsStored, bodies_from, bodies_in, HasBalance}
+use Rattle.volume_model.specs.Links.{Apart, HasObjects}
+use Rattle.volume_model.specs.Volume.{Stored, FileContent, Volume, stored_in, pages_of_file, file_pages, roots_in, unique_of, versions_stored, file_of, table_of}
+use Rattle.version_lists.specs.Objects.{objects_formed}
+use Rattle.volume_edits.proofs.Emptied.{as_many, none_formed}
+use Rattle.volume_edits.proofs.FileVersions.{IsFile, linked_file}
 use Rattle.transactions.specs.Refused.{has_pages}
 use Rattle.session_core.proofs.KeptOff.{Others}
 use Rattle.transactions.proofs.Filed.{empty_file}
@@ -44,24 +46,23 @@ no_stored : (stored : List Stored) → AllZip IsStored [] stored → stored ≡ 
 no_stored [] h = refl
 no_stored (s ∷ stored) h = absurd h
 
-no_lines : (lines : List Line) → IsPermutation [] (flat_map line_records lines) → lines ≡ []
-no_lines [] h = refl
-no_lines (line ∷ lines) h = let long = length_permutation [] (flat_map line_records (line ∷ lines)) h in absurd (omega (arith, long, length-append (line_records line) (flat_map line_records lines), length-append line.frozen (line.current ∷ [])))
+abbrev content_of : List ℕ → List ℕ → List FilePage → List Stored → FileContent
+content_of numbers index pages stored = record { numbers = numbers; index_pages = index; pages = pages; stored = stored }
 
-abbrev content_of : List ℕ → List ℕ → List FilePage → List Stored → List Line → FileContent
-content_of numbers index pages stored lines = record { numbers = numbers; index_pages = index; pages = pages; stored = stored; lines = lines }
-
-abbrev pub HasAll : Geometry → Units → FileEntry → FileContent → Type 0
-HasAll g units e f = HasIndex g units e f × HasPages units e f × HasLines f
+-- the parts of a file
+pub record HasAll (g : Geometry) (units : Units) (e : FileEntry) (f : FileContent) : Type 0 where
+  pub index : HasIndex g units e f
+  pub pages : HasPages units e f
+  pub bodies : HasBodies f
+  pub whole : IsFile f
 
 rootless : (g : Geometry) (units : Units) (e : FileEntry) (f : FileContent) → HasAll g units e f → e.root ≡ None → f ≡ empty_file
-rootless g units e f (index, pages, lines) none =
-    let numbers : f.numbers ≡ [] = index.numbers ∙ ap (λ (r : Option PageNo). keys_of units e.level r) none in
-    let index_pages : f.index_pages ≡ [] = index.index_pages ∙ ap (λ (r : Option PageNo). pages_of units e.level r) none in
-    let no_page : f.pages ≡ [] = no_pages units e f.pages (subst (λ (ns : List ℕ). AllZip (HasPage units e) ns f.pages) numbers pages) in
-    let no_record : f.stored ≡ [] = no_stored f.stored (subst (λ (ns : List ℕ). AllZip IsStored (flat_map (λ (row : ℕ × FilePage). bodies_from row.0 0 row.1.slots) (zip ns f.pages)) f.stored) numbers lines.records) in
-    let no_line : f.lines ≡ [] = no_lines f.lines (subst (λ (s : List Stored). IsPermutation s (flat_map line_records f.lines)) no_record lines.each_once) in
-    let same : content_of f.numbers f.index_pages f.pages f.stored f.lines ≡ content_of [] [] [] [] [] = cc (numbers, index_pages, no_page, no_record, no_line) in
+rootless g units e f all none =
+    let numbers : f.numbers ≡ [] = all.index.numbers ∙ ap (λ (r : Option PageNo). keys_of units e.level r) none in
+    let index_pages : f.index_pages ≡ [] = all.index.index_pages ∙ ap (λ (r : Option PageNo). pages_of units e.level r) none in
+    let no_page : f.pages ≡ [] = no_pages units e f.pages (subst (λ (ns : List ℕ). AllZip (HasPage units e) ns f.pages) numbers all.pages) in
+    let no_record : f.stored ≡ [] = no_stored f.stored (subst (λ (ns : List ℕ). AllZip IsStored (flat_map (λ (row : ℕ × FilePage). bodies_from row.0 0 row.1.slots) (zip ns f.pages)) f.stored) numbers all.bodies.records) in
+    let same : content_of f.numbers f.index_pages f.pages f.stored ≡ content_of [] [] [] [] = cc (numbers, index_pages, no_page, no_record) in
     same
 
 first_key : (g : Geometry) (number : ℕ) (units : Units) (level : ℕ) → ((least : Option ℕ) (page : ℕ) → IsUnder g number units level least page → 1 ≤ length (keys_under units level page))
@@ -99,36 +100,39 @@ as_long R [] (y ∷ ys) h = absurd h
 as_long R (x ∷ xs) [] h = absurd h
 as_long R (x ∷ xs) (y ∷ ys) h = ap suc (as_long R xs ys h.1)
 
-some_lines : (lines : List Line) → 1 ≤ length (flat_map line_records lines) → 1 ≤ length lines
-some_lines [] some = some
-some_lines (line ∷ lines) some = omega arith
+rooted : (g : Geometry) (units : Units) (e : FileEntry) (f : FileContent) → HasAll g units e f → is_some e.root ≡ true → 1 ≤ length f.stored
+rooted g units e f all some =
+    let numbers : 1 ≤ length f.numbers = subst (λ (ns : List ℕ). 1 ≤ length ns) (sym all.index.numbers) (some_keys g e.file_no units e.level e.root all.index.whole.whole some) in
+    let bodies = some_bodies units e f.numbers f.pages numbers all.pages in
+    let stored = as_long IsStored (bodies_in f) f.stored all.bodies.records in
+    omega (arith, bodies, stored)
 
-rooted : (g : Geometry) (units : Units) (e : FileEntry) (f : FileContent) → HasAll g units e f → is_some e.root ≡ true → 1 ≤ length f.lines
-rooted g units e f (index, pages, lines) some =
-    let numbers : 1 ≤ length f.numbers = subst (λ (ns : List ℕ). 1 ≤ length ns) (sym index.numbers) (some_keys g e.file_no units e.level e.root index.whole.whole some) in
-    let bodies = some_bodies units e f.numbers f.pages numbers pages in
-    let stored = as_long IsStored (bodies_in f) f.stored lines.records in
-    let once = length_permutation f.stored (flat_map line_records f.lines) lines.each_once in
-    some_lines f.lines (omega (arith, bodies, stored, once))
+-- where records stand there are objects
+formed : (units : Units) (f : FileContent) → IsFile f → 1 ≤ length f.stored → 1 ≤ length (objects_formed (versions_stored units f.stored))
+formed units f whole some = by (length (objects_formed (versions_stored units f.stored))) refl
+  where
+    by : (n : ℕ) → length (objects_formed (versions_stored units f.stored)) ≡ n → 1 ≤ n
+    by zero none = absurd (omega (arith, some, as_many units f.stored, none_formed (versions_stored units f.stored) (linked_file units f whole) none))
+    by (suc n) is = omega arith
 
 positive : (n : ℕ) → 1 ≤ n → nat_lt 0 n ≡ true
 positive n some = grind (arith, some)
 
-objects_as_root : (g : Geometry) (units : Units) (e : FileEntry) (f : FileContent) → HasAll g units e f → nat_lt 0 (length (map (object_of units) f.lines)) ≡ is_some e.root
+objects_as_root : (g : Geometry) (units : Units) (e : FileEntry) (f : FileContent) → HasAll g units e f → nat_lt 0 (length (objects_formed (versions_stored units f.stored))) ≡ is_some e.root
 objects_as_root g units e f all = by e.root refl
   where
-    by : (o : Option PageNo) → e.root ≡ o → nat_lt 0 (length (map (object_of units) f.lines)) ≡ is_some e.root
-    by None is = ap (λ (c : FileContent). nat_lt 0 (length (map (object_of units) c.lines))) (rootless g units e f all is) ∙ ap (λ (r : Option PageNo). is_some r) (sym is)
+    by : (o : Option PageNo) → e.root ≡ o → nat_lt 0 (length (objects_formed (versions_stored units f.stored))) ≡ is_some e.root
+    by None is = ap (λ (c : FileContent). nat_lt 0 (length (objects_formed (versions_stored units c.stored)))) (rootless g units e f all is) ∙ ap (λ (r : Option PageNo). is_some r) (sym is)
     by (Some page) is =
         let some : is_some e.root ≡ true = ap (λ (r : Option PageNo). is_some r) is in
-        let long = rooted g units e f all some in
-        positive (length (map (object_of units) f.lines)) (omega (arith, long, length-map f.lines (object_of units))) ∙ sym some
+        positive (length (objects_formed (versions_stored units f.stored))) (formed units f all.whole (rooted g units e f all some)) ∙ sym some
 
-pub all_of : (g : Geometry) (units : Units) (es : List FileEntry) (fs : List FileContent) → AllZip (HasIndex g units) es fs → AllZip (HasPages units) es fs → AllByRecursion HasLines fs → AllZip (HasAll g units) es fs
-all_of g units [] [] index pages lines = tt
-all_of g units [] (f ∷ fs) index pages lines = absurd index
-all_of g units (e ∷ es) [] index pages lines = absurd index
-all_of g units (e ∷ es) (f ∷ fs) index pages lines = ((index.0, pages.0, lines.0), all_of g units es fs index.1 pages.1 lines.1)
+pub all_of : (g : Geometry) (units : Units) (es : List FileEntry) (fs : List FileContent) → AllZip (HasIndex g units) es fs → AllZip (HasPages units) es fs → AllByRecursion HasBodies fs → AllByRecursion IsFile fs
+    → AllZip (HasAll g units) es fs
+all_of g units [] [] index pages bodies whole = tt
+all_of g units [] (f ∷ fs) index pages bodies whole = absurd index
+all_of g units (e ∷ es) [] index pages bodies whole = absurd index
+all_of g units (e ∷ es) (f ∷ fs) index pages bodies whole = (record { index = index.0; pages = pages.0; bodies = bodies.0; whole = whole.0 }, all_of g units es fs index.1 pages.1 bodies.1 whole.1)
 
 pub not_empty_as : (g : Geometry) (units : Units) (name : List ℕ) (es : List FileEntry) (fs : List FileContent) → AllZip (HasAll g units) es fs
     → has_objects (find (tables.has_name name) (map (file_of units) (zip es fs))) ≡ has_pages (find (edits.has_name name) es)
@@ -220,11 +224,8 @@ module _ (name : List ℕ) (v : Volume) (gone : AllZip (IsGone name) v.catalog.e
   pub pages_without : file_pages (volume_without name v) ≡ file_pages v
   pages_without = flat_without pages_of_file name v.catalog.entries v.files refl gone
 
-  lines_without : lines_of (volume_without name v) ≡ lines_of v
-  lines_without = flat_without (λ (file : FileContent). file.lines) name v.catalog.entries v.files refl gone
-
   pub stored_without : stored_in (volume_without name v) ≡ stored_in v
-  stored_without = ap (λ (lines : List Line). flat_map line_records lines) lines_without
+  stored_without = flat_without (λ (file : FileContent). file.stored) name v.catalog.entries v.files refl gone
 
   pub others_without : (g : Geometry) (records : List LogRecord) (units : Units) → Others g records units v → Others g records units (volume_without name v)
   others_without g records units (file, (page, (body, (node, (balance, (unique, end)))))) =
@@ -234,14 +235,14 @@ module _ (name : List ℕ) (v : Volume) (gone : AllZip (IsGone name) v.catalog.e
         (
           zip_without (HasPages units) name es v.files page,
           (
-            each_without HasLines name es v.files body,
+            each_without HasBodies name es v.files body,
             (
               record {
                 named = subst (λ (rs : List Root). AllByRecursion (λ (root : Root). RootNamed g units root.height root.page) rs) (sym roots) node.named;
                 no_file_page =
                     subst (λ (rs : List Root). AllByRecursion (λ (root : Root). Apart (root_units units root) (catalog_no ∷ file_pages (volume_without name v))) rs) (sym roots)
                     (subst (λ (pages : List ℕ). AllByRecursion (λ (root : Root). Apart (root_units units root) (catalog_no ∷ pages)) (roots_in (stored_in v))) (sym pages_without) node.no_file_page);
-                one_object = subst (λ (ls : List Line). AllApart (map (line_units units) ls)) (sym lines_without) node.one_object;
+                objects = subst (HasObjects units) (sym stored_without) node.objects;
               },
               (
                 subst (λ (rs : List Root). AllByRecursion (HasBalance g units) rs) (sym roots) balance,
@@ -250,7 +251,6 @@ module _ (name : List ℕ) (v : Volume) (gone : AllZip (IsGone name) v.catalog.e
                     differ = subst (λ (ss : List Stored). AllDiffer (map unique_of ss)) (sym stored_without) unique.differ;
                     some = subst (λ (ss : List Stored). AllByRecursion (λ (s : Stored). 1 ≤ unique_of s) ss) (sym stored_without) unique.some;
                     below = subst (λ (ss : List Stored). AllByRecursion (λ (s : Stored). unique_of s < v.catalog.next_unique) ss) (sym stored_without) unique.below;
-                    listed = each_without (λ (f : FileContent). Rising (map line_number f.lines)) name es v.files unique.listed;
                   },
                   tt,
                 ),

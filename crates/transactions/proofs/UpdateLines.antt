@@ -1,6 +1,6 @@
 -- The ways of a line that changes objects: it reads, and is refused, stops, or goes on to an update.
 use Rattle.std.proofs.Common.{◌≡◌, ◌∙◌, Option, Some, Ok, Err, refl, sym, ap, subst}
-use Rattle.disk_model.specs.Outside.{Outside, DiskOnly, IsWorld, Leaves}
+use Rattle.disk_model.specs.Outside.{Outside, IsWorld, Leaves}
 use Rattle.disk_model.specs.Runs.{disk_trans, leaves_trans}
 use Rattle.table_model.specs.declared.machine.Machine.{Machine}
 use Rattle.table_model.specs.declared.machine.Pick.{Pick}
@@ -14,10 +14,10 @@ use Rattle.table_model.specs.Steps.{IsAllowed, IfAccepted}
 use Rattle.table_model.proofs.Stepping.{refused}
 use Rattle.session_views.specs.declared.engine.Stop.{Stop}
 use Rattle.session_views.specs.View.{View, ShowsNow, StandsDuring, Stepped}
-use Rattle.std.specs.Prelude.{is_some, true, false}
+use Rattle.std.specs.Prelude.{is_some, true, false, IfErr, IfOk, Result}
 use Rattle.volume_model.specs.Shown.{Held}
 use Rattle.session_core.specs.Finding.{IfShown, IsOutside, LineStops}
-use Rattle.transactions.specs.Lines.{UpdatesLine}
+use Rattle.transactions.specs.Lines.{UpdatesLine, WentOn}
 use Rattle.session_core.specs.Meant.{meant, pick_of, held_view}
 use Rattle.session_core.specs.Sessions.{SessionState, IsSession}
 use Rattle.session_core.specs.Steps.{OnlyFrames}
@@ -26,6 +26,14 @@ use Rattle.session_core.proofs.Undisturbed.{writes_nowhere}
 use Rattle.disk_model.specs.Changes.{changes_trans}
 use Rattle.session_core.proofs.Naming.{later_stops}
 use Rattle.session_core.proofs.Quiet.{nothing_changed, quiet_moments, same_view, with_groups}
+
+-- ---- what a line was admitted with
+
+pub admitted_with : {A : Type 0} (P : A → Type 0) (given : A) (told : Result A Refusal) → told ≡ Ok given → IfOk told P → P given
+admitted_with {A} P given told is holds = subst (λ (t : Result A Refusal). IfOk t P) is holds
+
+pub refused_with : {A : Type 0} (P : Refusal → Type 0) (why : Refusal) (told : Result A Refusal) → told ≡ Err why → IfErr told P → P why
+refused_with {A} P why told is holds = subst (λ (t : Result A Refusal). IfErr t P) is holds
 
 -- ---- a line that read at most
 
@@ -74,15 +82,6 @@ line_closed {a} s r world is closed refuses =
     (λ before same now after. refuses before.machine (pick_of (held_view before) r after) (now.shows.shared.open_txn ∙ ap (λ (t : SessionState). t.opened) same ∙ closed))
 
 -- ---- a line that goes on to an update
-
--- what an update leaves, however it ended
-pub record WentOn (b c : Outside) (mid new : SessionState) : Type 0 where
-  pub only : DiskOnly b c
-  pub writes : WritesUnused b c mid
-  pub geometry : new.geometry ≡ mid.geometry
-  pub log : new.log ≡ mid.log
-  pub down : new.down ≡ mid.down
-  pub moments : (before : View SessionState) → before.session ≡ mid → ShowsNow meant b before → (r : Request) → Leaves b c (StandsDuring meant before.machine r)
 
 -- the session that was read, over the view before it
 pub frames_of : {a b : Outside} {old mid : SessionState} (before : View SessionState) → before.session ≡ old → OnlyFrames a b old mid → mid ≡ record before.session { groups = mid.groups }

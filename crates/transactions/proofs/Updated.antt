@@ -27,8 +27,7 @@ use Rattle.table_model.proofs.Stepping.{passes, unmet}
 use Rattle.session_views.specs.View.{View, ShowsNow, Stepped}
 use Rattle.volume_model.specs.Shown.{used_in}
 use Rattle.transactions.specs.declared.edits.Need.{Need}
-use Rattle.session_core.specs.declared.session.moving.Limit.{Limit}
-use Rattle.transactions.specs.Editing.{full_in, limit_of, room_refusal}
+use Rattle.transactions.specs.Editing.{KeptTo, full_in, limit_of, room_refusal}
 use Rattle.session_core.specs.Meant.{meant, held_view, pick_of}
 use Rattle.session_core.specs.Counts.{free_in}
 use Rattle.transactions.specs.Refused.{long_txn}
@@ -90,10 +89,6 @@ pub same_machine : (m : Machine) {table same_table : Table} {notes same_notes : 
     → machine_with m table notes names q ≡ machine_with m same_table same_notes same_names q
 same_machine m {table} {same_table} {notes} {same_notes} {names} {same_names} q one two three =
     ap (λ (t : Table). machine_with m t notes names q) one ∙ ap (λ (ns : List OpNote). machine_with m same_table ns names q) two ∙ ap (λ (ns : List BoundName). machine_with m same_table same_notes ns q) three
-
--- what is left of the units and the touched pages keeps to the limit
-abbrev pub KeptTo : Limit → SessionState → Type 0
-KeptTo limit s = (length s.meta.working ≤ limit.touched) × (limit.pages ≤ free_count s.units.geometry (used_at s.units) Page) × (limit.segs ≤ free_count s.units.geometry (used_at s.units) Segment)
 
 module _ {a b : Outside} {before : View SessionState} (now : ShowsNow meant a before) (mid : SessionState) (noted : OpNote) (names : List BoundName) (table : Table) (did : Noted before.session mid noted)
     (holds : HoldsTable before b (parts_held mid) mid.gained mid.lost table) where

@@ -1,7 +1,7 @@
 -- What a line asks of a version's bytes, before its data is decoded.
 use Rattle.std.specs.Prelude.{◌≡◌, ◌≤◌, ℕ, List, []}
 use Rattle.table_model.specs.Words.{data_bytes, data_count, data_most}
-use Rattle.version_model.specs.Versions.{Change, Inserts, Appends, Replaces, Deletes, count_of}
+use Rattle.versions.specs.Versions.{Change, Inserts, Appends, Replaces, Deletes, count_of}
 use Rattle.transactions.specs.declared.asked.Asked.{Asked}
 use Rattle.transactions.specs.declared.asked.Asked.TheVariants.{Insert, Append, Replace, Delete}
 

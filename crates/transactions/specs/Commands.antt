@@ -1,5 +1,5 @@
 -- What a step on any command promises.
-use Rattle.std.specs.Prelude.{◌≡◌, Bool, true, false, Result, IfOk, IfErr}
+use Rattle.std.specs.Prelude.{⊤, ◌≡◌, Bool, true, false, Result, IfOk, IfErr}
 use Rattle.disk_model.specs.Outside.{Outside, DiskOnly, Leaves, ReadsOnly}
 use Rattle.table_model.specs.declared.reply.Reply.{Reply}
 use Rattle.table_model.specs.Requests.{Request}
@@ -21,8 +21,15 @@ changes_objects (request.Append x given) = true
 changes_objects (request.Replace x pos given) = true
 changes_objects (request.Delete x pos len) = true
 changes_objects (request.Freeze x bind) = true
+changes_objects (request.Derive x bind) = true
 changes_objects (request.DropVersion x) = true
 changes_objects r = false
+
+-- The command makes a copy of a version, which shares the tree of a large one.
+abbrev pub IsCopy : Request → Type 0
+IsCopy (request.Freeze x bind) = ⊤
+IsCopy (request.Derive x bind) = ⊤
+IsCopy r = ⊥
 
 -- The command reads records or trees: it asks more of the volume than its catalog.
 abbrev pub asks_objects : Request → Bool

@@ -1,10 +1,9 @@
 -- What a line that edits a version asks for, why it is refused, and what it leaves.
-use Rattle.std.specs.Prelude.{◌≡◌, ◌≤◌, ◌^◌, ℕ, ◌+◌, ◌-◌, ◌==◌, ◌||◌, List, [], ◌∷◌, length, Bool, true, false, nat_lt, if◌then◌else◌, Option, Some, None, is_some, find, bytes_eq, Result, Ok, Err}
-use Rattle.std.specs.List.{list_any}
+use Rattle.std.specs.Prelude.{◌≡◌, ◌≤◌, ◌^◌, ℕ, ◌+◌, ◌-◌, ◌==◌, List, [], ◌∷◌, length, Bool, false, nat_lt, if◌then◌else◌, Option, Some, None, find, Result, Ok, Err}
 use Rattle.std.specs.Option.{option_or}
+use Rattle.page_alloc.specs.UnitSet.{free_count, used_at}
 use Rattle.object_files.specs.Catalog.{Catalog, FileEntry}
 use Rattle.object_files.specs.Edits.{has_name}
-use Rattle.table_model.specs.declared.machine.BoundName.{BoundName}
 use Rattle.transactions.specs.declared.creation.NewObject.{NewObject}
 use Rattle.ex_base.specs.Sizes.{object_most}
 use Rattle.ex_base.specs.declared.geometry.Geometry.{Geometry}
@@ -13,14 +12,11 @@ use Rattle.ex_base.specs.declared.names.Area.TheVariants.{Page, Segment}
 use Rattle.ex_base.specs.declared.names.Oid.{Oid}
 use Rattle.ex_base.specs.declared.names.OpNote.{OpNote}
 use Rattle.ex_base.specs.declared.notes.NoteKind.TheVariants as note_kind
-use Rattle.object_records.specs.declared.Head.{Head}
-use Rattle.object_records.specs.declared.State.{State}
-use Rattle.object_records.specs.declared.State.TheVariants.{Current, Frozen}
 use Rattle.table_model.specs.declared.reply.Reply.{Reply}
 use Rattle.table_model.specs.declared.reply.Reply.TheVariants as reply
 use Rattle.table_model.specs.declared.reply.Refusal.{Refusal}
 use Rattle.table_model.specs.declared.reply.Refusal.TheVariants as refusal
-use Rattle.table_model.specs.Machines.{main, touched_most}
+use Rattle.table_model.specs.Machines.{touched_most}
 use Rattle.table_model.specs.Refusals.{when, first, refusal_of}
 use Rattle.table_model.specs.Requests.{Request, Reference}
 use Rattle.table_model.specs.Requests as request
@@ -28,10 +24,11 @@ use Rattle.table_model.specs.Steps.{note}
 use Rattle.table_model.specs.Words.{data_bytes}
 use Rattle.versions.specs.declared.finding.Found.{Found}
 use Rattle.session_views.specs.View.{View}
-use Rattle.version_model.specs.Versions.{Change, Inserts, Appends, Replaces, Deletes, count_of}
+use Rattle.versions.specs.Versions.{Change, Inserts, Appends, Replaces, Deletes, count_of}
 use Rattle.transactions.specs.declared.edits.Need.{Need}
 use Rattle.session_core.specs.declared.session.moving.Limit.{Limit}
 use Rattle.volume_model.specs.Shown.{Held}
+use Rattle.volume_model.specs.Volume.{is_frozen}
 use Rattle.transactions.specs.declared.edits.Admitted.{Admitted}
 use Rattle.session_core.specs.Finding.{NamesVersion}
 use Rattle.session_core.specs.Needs.{fits_beside, size_after, units_need}
@@ -69,10 +66,6 @@ edit_reply (Appends given) size = reply.Append size
 edit_reply (Replaces pos given) size = reply.Replace size
 edit_reply (Deletes pos len) size = reply.Delete size
 
-abbrev pub is_frozen : State → Bool
-is_frozen Current = false
-is_frozen Frozen = true
-
 -- why the bytes of a version, of which this was found, are not changed so
 abbrev pub bytes_refusal : Found → Change → Option Refusal
 bytes_refusal found change =
@@ -100,6 +93,11 @@ room_refusal s need = first (long_txn s need.charge ∷ full_in s Page need.page
 abbrev pub limit_of : SessionState → Need → Limit
 limit_of s need = record { touched = length s.meta.working + need.charge; pages = free_in s Page - need.pages; segs = free_in s Segment - need.segs }
 
+-- what is left of the units and the touched pages keeps to the limit
+abbrev pub KeptTo : Limit → SessionState → Type 0
+KeptTo limit s = (length s.meta.working ≤ limit.touched) × (limit.pages ≤ free_count s.units.geometry (used_at s.units) Page)
+    × (limit.segs ≤ free_count s.units.geometry (used_at s.units) Segment)
+
 -- The machine answers a line that asks for the change of the version so: by this refusal, or by none where it accepts the line, whatever the view after.
 abbrev pub IsAnswered : View SessionState → Reference → Change → Option Refusal → Type 0
 IsAnswered before x change why = (r : Request) (after : View Held) → AsksFor r x change → refusal_of before.machine r (pick_of (held_view before) r after) ≡ why
@@ -122,14 +120,7 @@ pub record IsWithin (s : SessionState) (change : Change) (given : Admitted) : Ty
   pub room : room_refusal s given.need ≡ None
   pub charge : given.need.charge ≡ 1
 
--- ---- the other updates of objects
-
-abbrev pub has_older : Head → Bool
-has_older head = is_some head.older
-
--- why the object of a version, of which this was found, is not removed
-abbrev pub destroy_refusal : Found → Option Refusal
-destroy_refusal found = first (when (is_frozen found.head.state) refusal.Frozen ∷ when (has_older found.head) refusal.HasVersions ∷ [])
+-- ---- a new object
 
 -- the number of the file that a new object is put into and the object's unique number, or why there is none
 abbrev pub place_if : Option FileEntry → ℕ → Result NewObject Refusal

@@ -4,3 +4,6 @@ pub mod Commands
 pub mod Editing
 pub mod Asking
 pub mod Scanning
+pub mod Making
+pub mod Copies
+pub mod Removing

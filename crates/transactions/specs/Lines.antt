@@ -1,7 +1,11 @@
 -- What lines that read or change objects promise.
-use Rattle.std.specs.Prelude.{◌≡◌, Result, IfOk, IfErr}
+use Rattle.std.specs.Prelude.{◌≡◌, Option, Result, IfOk, IfErr}
 use Rattle.disk_model.specs.Outside.{Outside, DiskOnly, Leaves, ReadsOnly}
+use Rattle.table_model.specs.declared.machine.Machine.{Machine}
+use Rattle.table_model.specs.declared.machine.Pick.{Pick}
+use Rattle.table_model.specs.declared.reply.Refusal.{Refusal}
 use Rattle.table_model.specs.declared.reply.Reply.{Reply}
+use Rattle.table_model.specs.Refusals.{refusal_of}
 use Rattle.table_model.specs.Requests.{Request}
 use Rattle.session_views.specs.declared.engine.Stop.{Stop}
 use Rattle.session_views.specs.View.{View, ShowsNow, StandsDuring, Stepped}
@@ -10,6 +14,10 @@ use Rattle.session_core.specs.Sessions.{SessionState}
 use Rattle.session_core.specs.Steps.{IsRefused, OnlyFrames}
 use Rattle.session_core.specs.Updates.{WritesUnused}
 use Rattle.session_core.specs.Finding.{IfShown, LineStops, IsOutside}
+
+-- The machine refuses the line so, or accepts it, whatever the volume decides.
+abbrev pub Answered : Machine → Request → Option Refusal → Type 0
+Answered m r why = (q : Pick) → refusal_of m r q ≡ why
 
 -- A line that reads objects: it writes nothing and leaves the session but for its frames. From a view that shows it steps as the machine does, or the
 -- stop is no fault of the volume.
@@ -44,3 +52,13 @@ pub record UpdatesLine (a b : Outside) (old new : SessionState) (r : Request) (r
   pub refused : IfOk result (λ told. IsRefused told → OnlyFrames a b old new)
   pub stepped : IfOk result (λ told. IfShown a old (λ before. Stepped meant before r told new b))
   pub any_moment : (before : View SessionState) → before.session ≡ old → ShowsNow meant a before → Leaves a b (StandsDuring meant before.machine r)
+
+-- What an update leaves, however it ended: of the disk nothing was written but units that are not in use, so that a crash at any moment leaves the committed
+-- table; the log stays.
+pub record WentOn (b c : Outside) (mid new : SessionState) : Type 0 where
+  pub only : DiskOnly b c
+  pub writes : WritesUnused b c mid
+  pub geometry : new.geometry ≡ mid.geometry
+  pub log : new.log ≡ mid.log
+  pub down : new.down ≡ mid.down
+  pub moments : (before : View SessionState) → before.session ≡ mid → ShowsNow meant b before → (r : Request) → Leaves b c (StandsDuring meant before.machine r)

@@ -9,30 +9,30 @@ ghost use Rattle.disk_model.specs.Outside.{DiskOnly, Leaves, ReadsOnly, Rose};
 ghost use Rattle.op_log.specs.Log.{SaysLog};
 ghost use Rattle.op_log.specs.declared.record.LogRecord.{LogRecord};
 ghost use Rattle.volume_model.specs.Durable.{IsDurable};
-ghost use Rattle.table_model.specs.Built.{is_built};
 ghost use Rattle.table_model.specs.Requests.{request_of, is_request};
 ghost use Rattle.table_model.specs.Requests as request;
 ghost use Rattle.session_views.specs.declared.engine.Stop.{Stop};
 ghost use Rattle.session_views.specs.View.{View, ShowsNow, Stepped, StandsDuring};
-ghost use Rattle.session_core.specs.Sessions.{FreesGivenBack, FreesTaken, IsSession, SessionState};
+ghost use Rattle.session_core.specs.Sessions.{FreesGivenBack, FreesTaken, IsSession, SessionState, TakesLogged};
 ghost use Rattle.session_core.specs.Catalogs.{IsDamaged, catalog_bytes};
 ghost use Rattle.session_core.specs.Commits.{JustReached, LogsCommit, committed_reach, working_reach};
 ghost use Rattle.session_core.specs.Counts.{free_in};
 ghost use Rattle.session_core.specs.Meant.{meant};
 ghost use Rattle.session_core.specs.Steps.{IsRefused, OnlyFrames, IsQuiet};
-ghost use Rattle.transactions.specs.Commands.{Answers, IsOfCatalog, ReadsAlone, asks_objects};
+ghost use Rattle.transactions.specs.Commands.{Answers, IsCopy, IsOfCatalog, ReadsAlone, asks_objects};
 
 use crate::changes::{append, delete, insert, replace};
+use crate::copying::copy;
 use crate::creation::create;
 use crate::groups::group;
 use crate::pieces::next;
-use crate::reads::{digest, list, read, size, stat};
-use crate::removal::destroy;
+use crate::reads::{digest, list, read, size, stat, versions};
+use crate::removal::{destroy, drop_version};
 use crate::scan_lines::{close, scan};
 use crate::tell::{files, log, space};
 use crate::updates::{file, unfile};
 use disk_model::Host;
-use session_core::Session;
+use session_core::{Copying, Session};
 use session_views::Stop;
 use std::alloc::Global;
 use table_model::{Command, Reply};
@@ -47,7 +47,6 @@ fn answer<H: Host>(
     requires session { IsSession session.old }
     requires room { volume_bytes session.old.geometry ≤ (H.outside host.old).size }
     requires form { IsTrue (is_request (request_of command.now)) }
-    requires built { IsTrue (is_built (request_of command.now)) }
     ensures answers { Answers (H.outside host.old) (H.outside host.new) session.old session.new
         (request_of command.now) result }
     ensures none_counts { request_of command.now ≡ request.Checkpoint
@@ -80,6 +79,8 @@ fn answer<H: Host>(
     ensures idle_close { (name : List ℕ) → request_of command.now ≡ request.Close name
         → OnOk result (free_in session.new Page ≡ free_in session.old Page
         → host.new ≡ host.old) }
+    ensures shares { IsCopy (request_of command.now) → OnOk result
+        (TakesLogged session.old.units session.new.units session.new.pages) }
 {
     match command {
         Command::Begin => session.begin(alloc, host),
@@ -106,10 +107,11 @@ fn answer_objects<H: Host>(
 ) -> Result<Reply, Stop>
     requires room { volume_bytes session.old.geometry ≤ (H.outside host.old).size }
     requires form { IsTrue (is_request (request_of command.now)) }
-    requires built { IsTrue (is_built (request_of command.now)) }
     requires objects { asks_objects (request_of command.now) ≡ true }
-    ensures { Answers (H.outside host.old) (H.outside host.new) session.old session.new
+    ensures answers { Answers (H.outside host.old) (H.outside host.new) session.old session.new
         (request_of command.now) result }
+    ensures shares { IsCopy (request_of command.now) → OnOk result
+        (TakesLogged session.old.units session.new.units session.new.pages) }
 {
     match command {
         Command::List { name } => list(session, alloc, host, name),
@@ -118,11 +120,15 @@ fn answer_objects<H: Host>(
         Command::Size { x } => size(session, alloc, host, x),
         Command::Stat { x } => stat(session, alloc, host, x),
         Command::Digest { x } => digest(session, alloc, host, x),
+        Command::Versions { x } => versions(session, alloc, host, x),
+        Command::DropVersion { x } => drop_version(session, alloc, host, x),
         Command::Read { x, pos, len } => read(session, alloc, host, x, *pos, *len),
         Command::Insert { x, pos, given } => insert(session, alloc, host, x, *pos, given),
         Command::Append { x, given } => append(session, alloc, host, x, given),
         Command::Replace { x, pos, given } => replace(session, alloc, host, x, *pos, given),
         Command::Delete { x, pos, len } => delete(session, alloc, host, x, *pos, *len),
+        Command::Freeze { x, bind } => copy(session, alloc, host, Copying::Freeze, x, bind),
+        Command::Derive { x, bind } => copy(session, alloc, host, Copying::Derive, x, bind),
         Command::Scan { x, name, group } => scan(session, alloc, host, x, name, *group),
         Command::Next { name, len } => next(session, alloc, host, name, *len),
         _ => unreachable!(),
@@ -137,7 +143,6 @@ pub fn step<H: Host>(
     command: &Command<'_>,
 ) -> Result<Reply, Stop>
     requires form { IsTrue (is_request (request_of command.now)) }
-    requires built { IsTrue (is_built (request_of command.now)) }
     requires room { volume_bytes session.old.geometry ≤ (H.outside host.old).size }
     ensures geometry { session.new.geometry ≡ session.old.geometry }
     ensures only { DiskOnly (H.outside host.old) (H.outside host.new) }
@@ -224,6 +229,10 @@ pub fn step<H: Host>(
     ensures idle_close { (name : List ℕ) → request_of command.now ≡ request.Close name
         → OnOk result (free_in session.new Page ≡ free_in session.old Page
         → host.new ≡ host.old) }
+
+    // A copy of a version shares its tree: each unit that comes into use is a logged page.
+    ensures shares { IsCopy (request_of command.now) → OnOk result
+        (TakesLogged session.old.units session.new.units session.new.pages) }
 
     // To a command that asks of no objects and gives no tree up, only a catalog that is outside of its grammar is damaged.
     ensures catalog { IsOfCatalog (request_of command.now) → (page : PageNo) (want got : Seen)

@@ -1,28 +1,21 @@
 //! An object is made.
-ghost use Rattle.std.specs.Prelude.{◌≡◌, ◌≤◌, ◌++◌, ◌∷◌, [], IsTrue, true, OnOk};
+ghost use Rattle.std.specs.Prelude.{◌≡◌, ◌≤◌, IsTrue};
 ghost use Rattle.ex_base.specs.Sizes.{volume_bytes};
 ghost use Rattle.table_model.specs.Words.{is_name};
 ghost use Rattle.transactions.specs.Editing.{new_object_in};
 ghost use Rattle.table_model.specs.Requests as request;
 ghost use Rattle.transactions.specs.Lines.{UpdatesLine};
 
-use crate::edits::{Need, limit, refuses_room};
+use crate::edits::refuses_room;
+use crate::making::{MAKING_NEED, make, next_number};
 use crate::refuse::entry_named;
-use crate::removal::object_note;
 use disk_model::Host;
-use ex_base::{NoteKind, Oid};
+use ex_base::NoteKind;
 use object_files::CatalogView;
 use session_core::{ObjectUpdate, Session, view_of};
 use session_views::Stop;
 use std::alloc::Global;
 use table_model::{Refusal, Reply};
-
-/// What a new object may take: the pages of its record and of its file's index, and as many logged pages that it touches.
-const CREATION_NEED: Need = Need {
-    charge: 16,
-    pages: 16,
-    segs: 0,
-};
 
 /// The file that a new object is put into, and its number.
 #[derive(Clone, Copy)]
@@ -38,13 +31,9 @@ fn new_object(catalog: &CatalogView<'_>, file: &[u8]) -> Result<NewObject, Refus
     let Some(entry) = entry_named(catalog, file) else {
         return Err(Refusal::NoFile);
     };
-    let unique = catalog.next_unique();
-    if unique == u64::MAX {
-        return Err(Refusal::IdsSpent);
-    }
     Ok(NewObject {
         file_no: entry.file_no,
-        unique,
+        unique: next_number(catalog)?,
     })
 }
 
@@ -76,21 +65,15 @@ pub(crate) fn create<H: Host>(
         Ok(made) => made,
         Err(why) => return Ok(Reply::No(why)),
     };
-    if let Some(why) = refuses_room(session, &CREATION_NEED) {
+    if let Some(why) = refuses_room(session, &MAKING_NEED) {
         return Ok(Reply::No(why));
     }
-    let limit = limit(session, &CREATION_NEED);
-    let note = object_note(NoteKind::ObjectMade, &Oid::NONE);
     let update = ObjectUpdate::Create {
         file_no: made.file_no,
         unique: made.unique,
     };
-    let oid = match session.update_objects(alloc, host, &update, &note, &limit) {
-        Ok(oid) => oid,
-        Err(stop) => return Err(stop),
-    };
-    match session.bind(alloc, name, oid) {
-        Ok(()) => Ok(Reply::Create { oid }),
-        Err(_) => Err(Stop::Memory),
+    match make(session, alloc, host, &update, NoteKind::ObjectMade, name) {
+        Ok(oid) => Ok(Reply::Create { oid }),
+        Err(stop) => Err(stop),
     }
 }

@@ -3,7 +3,7 @@ ghost use Rattle.std.specs.Prelude.{◌≡◌, ◌≤◌, ◌+◌, true, false, 
 ghost use Rattle.ex_base.specs.Sizes.{object_most, volume_bytes};
 ghost use Rattle.session_core.specs.Finding.{IfLive, IfShown, IsOutside, LineStops};
 ghost use Rattle.transactions.specs.Asking.{CountsItsBytes, asked_change, asked_count};
-ghost use Rattle.version_model.specs.Versions.{count_of, record_len};
+ghost use Rattle.versions.specs.Versions.{count_of, record_len};
 ghost use Rattle.transactions.specs.Editing.{bytes_refusal, is_outside};
 ghost use Rattle.session_core.specs.Needs.{root_height, fits_beside, size_after};
 ghost use Rattle.table_model.specs.Machines.{touched_most};
@@ -14,10 +14,9 @@ ghost use Rattle.transactions.specs.Editing.{IsAnswered, IsAdmitted, IsWithin, I
 
 use crate::asked::Asked;
 use crate::needs::{is_inside, size_after, units_need};
-use crate::refuse::refuses_touching;
+use crate::refuse::{is_frozen, refuses_touching};
 use disk_model::{Disk, Host};
 use ex_base::{Area, OBJECT_MOST};
-use object_records::State;
 use session_core::{Limit, Named, Session};
 use session_views::Stop;
 use std::alloc::Global;
@@ -64,7 +63,7 @@ fn refuses_bytes(found: &Found, asked: &Asked<'_>) -> Option<Refusal>
         → size_after (asked_change asked.now) found.now.size ≤ object_most }
     ensures count { result ≡ None → count_of (asked_change asked.now) ≤ object_most }
 {
-    if found.head.state == State::Frozen {
+    if is_frozen(found) {
         return Some(Refusal::Frozen);
     }
     if !is_inside(asked, found.size) {

@@ -4,9 +4,11 @@
 mod asked;
 mod changes;
 mod commands;
+mod copying;
 mod creation;
 mod edits;
 mod groups;
+mod making;
 mod needs;
 mod pieces;
 mod reads;

@@ -1,7 +1,7 @@
 //! What an edit asks for.
 ghost use Rattle.std.specs.Prelude.{◌≡◌, ◌≤◌, ◌^◌, not, false};
 ghost use Rattle.ex_base.specs.Sizes.{object_most};
-ghost use Rattle.version_model.specs.Versions.{count_of};
+ghost use Rattle.versions.specs.Versions.{count_of};
 ghost use Rattle.versions.specs.Needs.{most_need};
 ghost use Rattle.transactions.specs.Asking.{CountsItsBytes, asked_change, asked_count};
 ghost use Rattle.transactions.specs.Editing.{is_outside, edit_note, edit_reply};

@@ -10,7 +10,7 @@ ghost use Rattle.transactions.specs.Lines.{ReadsLine};
 use crate::refuse::entry_named;
 use disk_model::Host;
 use ex_base::Items;
-use session_core::{Session, view_of};
+use session_core::{Relation, Session, view_of};
 use session_views::Stop;
 use std::alloc::Global;
 use table_model::{Refusal, Reply, Subject};
@@ -84,7 +84,7 @@ pub(crate) fn read<H: Host>(
     }
 }
 
-/// Lists the objects of a file.
+/// Lists the current versions of a file.
 pub(crate) fn list<H: Host>(
     session: &mut Session,
     alloc: Global,
@@ -105,6 +105,30 @@ pub(crate) fn list<H: Host>(
     };
     match session.objects_of(alloc, host, file_no) {
         Ok(oids) => Ok(Reply::List {
+            oids: Items::of(oids),
+        }),
+        Err(stop) => Err(stop),
+    }
+}
+
+/// Lists the versions of the object that a version is of.
+pub(crate) fn versions<H: Host>(
+    session: &mut Session,
+    alloc: Global,
+    host: &mut H,
+    x: &Subject<'_>,
+) -> Result<Reply, Stop>
+    requires room { volume_bytes session.old.geometry ≤ (H.outside host.old).size }
+    ensures { ReadsLine (H.outside host.old) (H.outside host.new) session.old session.new
+        (request.Versions (reference_of x.now)) result }
+{
+    let version = match session.named(alloc, host, x) {
+        Ok(Ok(version)) => version,
+        Ok(Err(why)) => return Ok(Reply::No(why)),
+        Err(stop) => return Err(stop),
+    };
+    match session.relatives(alloc, host, &version.oid, Relation::Object) {
+        Ok(oids) => Ok(Reply::Versions {
             oids: Items::of(oids),
         }),
         Err(stop) => Err(stop),

@@ -2,12 +2,15 @@
 ghost use Rattle.std.specs.Prelude.{◌≡◌, ◌≤◌, find, option_map};
 ghost use Rattle.object_files.specs.Edits.{has_name};
 ghost use Rattle.object_files.specs.Reads.{entry_of};
+ghost use Rattle.volume_model.specs.Volume.{is_frozen};
 ghost use Rattle.transactions.specs.Refused.{file_refusal, unfile_refusal, long_txn, full_pages};
 
 use ex_base::{Area, TOUCHED_MOST, UPDATES_MOST};
 use object_files::{CatalogView, Entry};
+use object_records::State;
 use session_core::Session;
 use table_model::Refusal;
+use versions::Found;
 
 /// The pages that `file` may take.
 const FILE_NEED: u32 = 2;
@@ -26,6 +29,13 @@ pub(crate) fn entry_named<'a>(catalog: &CatalogView<'a>, name: &[u8]) -> Option<
         }
     }
     None
+}
+
+/// Whether a version is frozen.
+pub(crate) fn is_frozen(found: &Found) -> bool
+    ensures { result ≡ is_frozen found.now.head.state }
+{
+    found.head.state == State::Frozen
 }
 
 /// Why the open transaction makes no file of this name.

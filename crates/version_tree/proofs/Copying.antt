@@ -27,9 +27,9 @@ use Rattle.file_bodies.specs.Files.{HasFile, HasBody, all_pages}
 use Rattle.file_bodies.proofs.Entries.{indexed_stays}
 use Rattle.file_bodies.proofs.Moving.{kept_body, lies}
 use Rattle.file_bodies.specs.declared.placing.Room.{Room}
-use Rattle.version_model.specs.Versions.{place_of}
+use Rattle.versions.specs.Versions.{place_of}
 use Rattle.file_bodies.proofs.Ordered.{ordered}
-use Rattle.version_model.specs.Listed.{oid_at}
+use Rattle.versions.specs.Listed.{oid_at}
 use Rattle.version_tree.specs.Bodies.{EditsBodies, body_at, derived_head, frozen_head, newer_head, older_head, with_head}
 use Rattle.version_tree.specs.Copies.{CopiesRecord, Derives, Freezes, IsCopyFault, unwritten, IsFrozenIn, IsHead, IsNamed, IsRead, IsVersionIn, UnlinksIn, Turns, turns, stays, TurnsLink, TurnsOlder, TurnsStored, had_none, had_one}
 use Rattle.versions.specs.Damage.{record_fault, own, unread}

@@ -16,7 +16,7 @@ use Rattle.file_bodies.specs.Files.{HasFile, HasBody}
 use Rattle.file_bodies.specs.Places.{IsFrom, IsFirstFrom, FirstFrom, IsNext}
 use Rattle.file_bodies.proofs.Moving.{kept_file}
 use Rattle.file_bodies.proofs.Ordered.{ordered}
-use Rattle.version_model.specs.Listed.{oid_at, rank_of, start_rank, AreReadable}
+use Rattle.versions.specs.Listed.{oid_at, rank_of, start_rank, AreReadable}
 use Rattle.std.proofs.lemmas.Option.{same_Some}
 use Rattle.version_tree.specs.Links.{StoredAt}
 use Rattle.version_tree.specs.declared.links.Stored.{Stored}

@@ -6,5 +6,6 @@ pub mod Copying
 pub mod Dropped
 pub mod TakenOut
 pub mod LineageOrder
+pub mod MemberRuns
 pub mod MemberRows
 pub mod DerivedRows

@@ -5,7 +5,7 @@ use Rattle.std.specs.List.{find, flat_map}
 use Rattle.std.proofs.lemmas.Grind.{flat_map-append}
 use Rattle.std.proofs.lemmas.List.{append-nil, append_assoc, map-append, reverse-append, reverse-reverse}
 use Rattle.ex_base.specs.declared.names.Oid.{Oid}
-use Rattle.version_model.specs.Versions.{place_of}
+use Rattle.versions.specs.Versions.{place_of}
 use Rattle.version_tree.specs.Lineage.{below, climbed, comes_from, derived_among, first_from, listed_from, older_at, rest_of}
 use Rattle.version_tree.specs.declared.lineage.Member.{Member}
 use Rattle.version_tree.specs.declared.lineage.Rest.{Rest}
@@ -82,9 +82,10 @@ below_next levels front member x rests now are is =
     ∙ sym (map-append (rest_at levels) (derived_among front member) (derived_among (x ∷ []) member))
     ∙ ap (map (rest_at levels)) (sym (filter_app (comes_from (place_of member.oid)) front (x ∷ [])))
 
-pub below_all : (levels left : ℕ) (members : List Member) (member : Member) (rests : List Rest) → levels ≡ suc left → AreBelow left members member rests → rests ≡ below levels members member
-below_all zero left members member rests is are = absurd (omega (arith, is))
-below_all (suc n) left members member rests is are = let e : left ≡ n = omega (arith, is) in are ∙ ap (λ (k : ℕ). map (rest_at k) (derived_among members member)) e
+pub below_all : (levels left : ℕ) (run members : List Member) (member : Member) (rests : List Rest) → levels ≡ suc left → derived_among run member ≡ derived_among members member → AreBelow left run member rests → rests ≡ below levels members member
+below_all zero left run members member rests is same are = absurd (omega (arith, is))
+below_all (suc n) left run members member rests is same are =
+    let e : left ≡ n = omega (arith, is) in are ∙ ap (map (rest_at left)) same ∙ ap (λ (k : ℕ). map (rest_at k) (derived_among members member)) e
 
 pub below_end : (levels : ℕ) (members : List Member) (member : Member) → levels ≡ 0 → [] ≡ below levels members member
 below_end zero members member is = refl
@@ -120,9 +121,9 @@ oids_in members = map (λ (m : Member). m.oid) members
 abbrev pub InOrder : List Member → List Member → List Rest → List Oid → Type 0
 InOrder members all todo oids = oids ++ oids_in (to_list members todo) ≡ oids_in all
 
-pub order_start : (members all : List Member) (first : Member) (todo : List Rest) → todo ≡ rest_at (length members) first ∷ [] → all ≡ listed_from (length members) members first → InOrder members all todo []
-order_start members all first todo is all_is =
-    ap oids_in (ap (to_list members) is ∙ append-nil (listed_from (length members) members first) ∙ sym all_is)
+pub order_start : (n : ℕ) (members all : List Member) (first : Member) (todo : List Rest) → todo ≡ rest_at n first ∷ [] → listed_from n members first ≡ all → InOrder members all todo []
+order_start n members all first todo is all_is =
+    ap oids_in (ap (to_list members) is ∙ append-nil (listed_from n members first) ∙ all_is)
 
 pub order_next : (members all : List Member) (todo rest now : List Rest) (x : Rest) (oids oids_now : List Oid) → todo ≡ rest ++ x ∷ [] → now ≡ rest ++ reverse (below x.levels members x.member) → oids_now ≡ oids ++ x.member.oid ∷ []
     → InOrder members all todo oids → InOrder members all now oids_now

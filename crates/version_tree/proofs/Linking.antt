@@ -21,8 +21,8 @@ use Rattle.file_bodies.specs.Files.{HasFile, HasBody}
 use Rattle.file_bodies.proofs.Blame.{carried}
 use Rattle.file_bodies.proofs.Moving.{kept_body}
 use Rattle.object_records.proofs.RecordLaws.{record_read}
-use Rattle.version_model.specs.Listed.{oid_at}
-use Rattle.version_model.specs.Versions.{HasRecord, place_of}
+use Rattle.versions.specs.Listed.{oid_at}
+use Rattle.versions.specs.Versions.{HasRecord, place_of}
 use Rattle.versions.proofs.Records.{one_record}
 use Rattle.version_tree.specs.declared.links.Stored.{Stored}
 use Rattle.version_tree.specs.Bodies.{body_at}
@@ -130,7 +130,7 @@ module _ {S : Type 0} (g : ground.Ghosts S) where
 
   -- ---- in a state with the same meanings
 
-  file_back : (a b : S) (index : Index) → Keeps g a b → HasFile g b index → HasFile g a index
+  pub file_back : (a b : S) (index : Index) → Keeps g a b → HasFile g b index → HasFile g a index
   file_back a b index kept file = record {
     catalog = record { whole = rw (sym kept.images) file.catalog.whole; held = rw (sym kept.held) file.catalog.held };
     entry = rw (sym kept.images) file.entry;

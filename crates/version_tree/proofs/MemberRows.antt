@@ -12,7 +12,7 @@ use Rattle.file_bodies.specs.Files.{HasFile, HasBody}
 use Rattle.file_bodies.specs.Places.{IsFrom, IsFirstFrom, IsNext}
 use Rattle.file_bodies.proofs.Moving.{kept_file}
 use Rattle.file_bodies.proofs.Ordered.{ordered}
-use Rattle.version_model.specs.Listed.{rank_of, start_rank, AreReadable}
+use Rattle.versions.specs.Listed.{rank_of, start_rank, AreReadable}
 use Rattle.version_tree.specs.Lineage.{member_at, member_of}
 use Rattle.version_tree.specs.Linked.{head_in}
 use Rattle.version_tree.specs.declared.lineage.Member.{Member}

@@ -1,8 +1,7 @@
 -- What stands at the places of rows.
-use Rattle.std.proofs.Common.{◌≡◌, ◌≢◌, ◌≤◌, ◌+◌, ℕ, zero, suc, Bool, true, false, List, [], ◌∷◌, ◌++◌, Some, None, refl, sym, ap, subst, ◌∙◌, arith, inl, inr, ◌⊎◌}
-use Rattle.std.specs.Prelude.{◌&&◌, ◌==◌, if◌then◌else◌, slice_index_or}
+use Rattle.std.proofs.Common.{◌≡◌, ◌≢◌, ◌≤◌, ◌+◌, ℕ, zero, suc, Bool, true, false, List, [], ◌∷◌, ◌++◌, Some, None, refl, sym, ap, subst, ◌∙◌, arith, inl, inr}
+use Rattle.std.specs.Prelude.{if◌then◌else◌, slice_index_or}
 use Rattle.std.specs.List.{flat_map, AllByRecursion}
-use Rattle.std.proofs.lemmas.Bool.{eqb-true, eq-eqb}
 use Rattle.std.proofs.lemmas.Option.{same_Some}
 use Rattle.ex_base.specs.declared.ground.Ground as ground
 use Rattle.ex_base.specs.declared.names.Place.{Place}
@@ -14,41 +13,12 @@ use Rattle.index_pages.specs.declared.Index.{Index}
 use Rattle.file_bodies.specs.Bodies.{Row, IsBefore, InPlaceOrder, EditsRow, place_at, row_of, bodies_from, bodies_on, bodies_of, pages_in}
 use Rattle.file_bodies.specs.Files.{HasFile, HasBody}
 use Rattle.file_bodies.proofs.Ordered.{ordered}
+pub use Rattle.ex_base.proofs.SamePlaces.{same_place_is, at_itself, at_others, place_or_not}
 use Rattle.version_tree.specs.Bodies.{same_place, body_at, PlaceChange, changed_at}
 use Rattle.versions.proofs.FileRows.{InRows, row_stands}
 use Rattle.versions.proofs.RowsListed.{later, earlier, tail_order, back_order, each_map}
 
 -- ---- two places
-
-both_true : (x y : Bool) → (x && y) ≡ true → (x ≡ true) × (y ≡ true)
-both_true true y h = (refl, h)
-both_true false y h = absurd cc
-
-places_same : (a b : Place) → a.page.0 ≡ b.page.0 → a.slot ≡ b.slot → a ≡ b
-places_same a b p s = ap (λ (n : ℕ). place_at n a.slot) p ∙ ap (place_at b.page.0) s
-
-pub same_place_is : (a b : Place) → same_place a b ≡ true → a ≡ b
-same_place_is a b is =
-    let both = both_true (a.page.0 == b.page.0) (a.slot == b.slot) is in
-    places_same a b (eqb-true a.page.0 b.page.0 both.0) (eqb-true a.slot b.slot both.1)
-
-pub at_itself : (a b : Place) → a ≡ b → same_place a b ≡ true
-at_itself a b e =
-    ap (λ (x : Bool). x && (a.slot == b.slot)) (eq-eqb a.page.0 b.page.0 (ap (λ (p : Place). p.page.0) e)) ∙ eq-eqb a.slot b.slot (ap (λ (p : Place). p.slot) e)
-
-pub at_others : (a b : Place) → a ≢ b → same_place a b ≡ false
-at_others a b differ = by_test (same_place a b) refl
-  where
-    by_test : (x : Bool) → same_place a b ≡ x → same_place a b ≡ false
-    by_test true e = absurd (differ (same_place_is a b e))
-    by_test false e = e
-
-pub place_or_not : (a b : Place) → (a ≡ b) ⊎ (a ≢ b)
-place_or_not a b = by_test (same_place a b) refl
-  where
-    by_test : (x : Bool) → same_place a b ≡ x → (a ≡ b) ⊎ (a ≢ b)
-    by_test true e = inl (same_place_is a b e)
-    by_test false e = inr (λ same. absurd (let yes : same_place a b ≡ true = at_itself a b same in cc))
 
 pub before_differs : (a b : Place) → IsBefore a b → a ≢ b
 before_differs a b before same = elim before [

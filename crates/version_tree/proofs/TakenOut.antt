@@ -17,7 +17,7 @@ use Rattle.index_pages.specs.declared.Index.{Index}
 use Rattle.file_bodies.specs.Bodies.{Row, bodies_of}
 use Rattle.file_bodies.specs.Files.{HasFile, HasBody}
 use Rattle.file_bodies.specs.Places.{RemovesBody}
-use Rattle.version_model.specs.Versions.{place_of}
+use Rattle.versions.specs.Versions.{place_of}
 use Rattle.version_tree.specs.Bodies.{EditsBodies, body_at, newer_head, with_head}
 use Rattle.version_tree.specs.Copies.{IsFrozenIn, IsNamed, IsRead}
 use Rattle.version_tree.specs.Linked.{derived_from, head_in, names_older, oid_of_row, oids_from, only_place}

@@ -1,8 +1,9 @@
 -- What stands at the places of a file, and a file that is edited at some of them.
-use Rattle.std.specs.Prelude.{◌≡◌, ℕ, Bool, ◌==◌, ◌&&◌, if◌then◌else◌, List, [], ◌∷◌, Option, Some, None}
+use Rattle.std.specs.Prelude.{◌≡◌, ℕ, if◌then◌else◌, List, [], ◌∷◌, Option, Some, None}
 use Rattle.ex_base.specs.declared.ground.Ground as ground
 use Rattle.ex_base.specs.declared.names.Place.{Place}
 use Rattle.ex_base.specs.Area.{catalog_no}
+pub use Rattle.ex_base.specs.Places.{same_place}
 use Rattle.slotted_pages.specs.FilePage.{Slot}
 use Rattle.object_records.specs.Record.{Record}
 use Rattle.object_records.specs.declared.Head.{Head}
@@ -14,9 +15,6 @@ use Rattle.file_bodies.specs.Bodies.{Row, bodies_of}
 use Rattle.file_bodies.specs.Files.{HasFile, all_pages, with_index}
 
 -- ---- a place of a file
-
-abbrev pub same_place : Place → Place → Bool
-same_place a b = (a.page.0 == b.page.0) && (a.slot == b.slot)
 
 -- the body at a place, of these rows
 abbrev pub body_at : Place → List Row → Slot
@@ -41,6 +39,11 @@ pub record EditsBodies {S : Type 0} (g : ground.Ghosts S) (old new : S) (before 
   pub bodies : (place : Place) → body_at place (bodies_of (g.image new) after) ≡ changed_at changes place (body_at place (bodies_of (g.image old) before))
   pub catalog : catalog_on (g.image new catalog_no) ≡ with_index (catalog_on (g.image old catalog_no)) after
   pub pages : Changes g old new (catalog_no ∷ all_pages (g.image old) before) (catalog_no ∷ all_pages (g.image new) after)
+
+-- The same units are in use, and the working state has the same logged pages.
+pub record SameUnits {S : Type 0} (g : ground.Ghosts S) (old new : S) : Type 0 where
+  pub used : g.used new ≡ g.used old
+  pub held : g.held new ≡ g.held old
 
 -- ---- the records that are written
 

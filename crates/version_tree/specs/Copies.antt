@@ -16,7 +16,7 @@ use Rattle.file_bodies.specs.Bodies.{Row, bodies_of}
 use Rattle.file_bodies.specs.Damage.{IsListedFault, IsPlacingFault}
 use Rattle.file_bodies.specs.Places.{PutsBody}
 use Rattle.file_bodies.specs.Placing.{start_of}
-use Rattle.version_model.specs.Versions.{place_of}
+use Rattle.versions.specs.Versions.{place_of}
 use Rattle.version_tree.specs.Bodies.{PlaceChange, EditsBodies, body_at, derived_head, frozen_head, newer_head, older_head, with_head}
 use Rattle.versions.specs.Damage.{IsStepFault}
 use Rattle.version_tree.specs.Linked.{head_in}

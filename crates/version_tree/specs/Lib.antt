@@ -4,3 +4,4 @@ pub mod Links
 pub mod Copies
 pub mod Removals
 pub mod Lineage
+pub mod Lookup

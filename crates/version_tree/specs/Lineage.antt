@@ -6,8 +6,8 @@ use Rattle.ex_base.specs.declared.names.Oid.{Oid}
 use Rattle.ex_base.specs.declared.names.Place.{Place}
 use Rattle.object_records.specs.declared.Head.{Head}
 use Rattle.file_bodies.specs.Bodies.{Row}
-use Rattle.version_model.specs.Listed.{oid_at}
-use Rattle.version_model.specs.Versions.{place_of}
+use Rattle.versions.specs.Listed.{oid_at}
+use Rattle.versions.specs.Versions.{place_of}
 use Rattle.version_tree.specs.Bodies.{same_place}
 use Rattle.version_tree.specs.Linked.{head_in, is_place}
 use Rattle.version_tree.specs.declared.lineage.Member.{Member}

@@ -1,5 +1,5 @@
 -- The versions of a file as records that name each other's places.
-use Rattle.std.specs.Prelude.{◌≡◌, ◌≤◌, ◌<◌, if◌then◌else◌, ℕ, Bool, false, List, [], ◌∷◌, length, map, filter, Option, Some, None, IfSome}
+use Rattle.std.specs.Prelude.{◌≡◌, ◌≤◌, ◌<◌, if◌then◌else◌, ℕ, Bool, List, [], ◌∷◌, length, map, filter, Option, Some, None, IfSome}
 use Rattle.std.specs.List.{AllByRecursion}
 use Rattle.ex_base.specs.declared.ground.Ground as ground
 use Rattle.ex_base.specs.declared.geometry.Geometry.{Geometry}
@@ -12,19 +12,16 @@ use Rattle.object_records.specs.declared.State.TheVariants.{Current, Frozen}
 use Rattle.index_pages.specs.declared.Index.{Index}
 use Rattle.file_bodies.specs.Bodies.{Row, bodies_of}
 use Rattle.file_bodies.specs.Files.{HasFile}
-use Rattle.version_model.specs.Listed.{oid_at}
+use Rattle.versions.specs.Listed.{oid_at}
 use Rattle.versions.specs.Found.{IsRecordBody}
-use Rattle.version_tree.specs.Bodies.{body_at, same_place}
+pub use Rattle.ex_base.specs.Places.{is_place}
+use Rattle.version_tree.specs.Bodies.{body_at}
 
 -- ---- what is derived from a version
 
 -- the head of the record in a body
 abbrev pub head_in : List ℕ → Head
 head_in body = (record_on body).head
-
-abbrev pub is_place : Place → Option Place → Bool
-is_place place None = false
-is_place place (Some other) = same_place other place
 
 -- it is derived from the version at a place
 abbrev pub names_older : Place → Row → Bool

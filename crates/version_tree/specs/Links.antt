@@ -12,7 +12,7 @@ use Rattle.object_records.specs.Record.{Record, BodyOf}
 use Rattle.index_pages.specs.declared.Index.{Index}
 use Rattle.file_bodies.specs.Bodies.{Row}
 use Rattle.file_bodies.specs.Files.{HasBody}
-use Rattle.version_model.specs.Listed.{oid_at}
+use Rattle.versions.specs.Listed.{oid_at}
 use Rattle.version_tree.specs.Bodies.{body_at}
 use Rattle.versions.specs.Damage.{IsFindingFault, IsListingFault, IsStepFault}
 use Rattle.version_tree.specs.Linked.{head_in}

@@ -11,7 +11,7 @@ use Rattle.object_records.specs.declared.State.TheVariants.{Current}
 use Rattle.index_pages.specs.declared.Index.{Index}
 use Rattle.file_bodies.specs.Bodies.{Row, bodies_of}
 use Rattle.file_bodies.specs.Damage.{IsTakingFault}
-use Rattle.version_model.specs.Versions.{place_of}
+use Rattle.versions.specs.Versions.{place_of}
 use Rattle.version_tree.specs.Bodies.{PlaceChange, EditsBodies, body_at, newer_head, older_head, same_place, with_head}
 use Rattle.version_tree.specs.Copies.{IsRead, TurnsLink}
 use Rattle.version_tree.specs.Linked.{derived_from, head_in, only_place}

@@ -6,8 +6,8 @@ ghost use Rattle.object_records.specs.Record.{Record, BodyOf};
 ghost use Rattle.index_pages.specs.declared.Index.{Index};
 ghost use Rattle.file_bodies.specs.Bodies.{bodies_of};
 ghost use Rattle.file_bodies.specs.Files.{HasFile, HasBody};
-ghost use Rattle.version_model.specs.Listed.{AreReadable, rank_of, start_rank};
-ghost use Rattle.version_model.specs.Versions.{HasRecord};
+ghost use Rattle.versions.specs.Listed.{AreReadable, rank_of, start_rank};
+ghost use Rattle.versions.specs.Versions.{HasRecord};
 ghost use Rattle.versions.specs.Damage.{IsListingFault, IsStepFault};
 ghost use Rattle.version_tree.specs.Lineage.{IsListing, member_at, member_of, number_of};
 ghost use Rattle.version_tree.specs.Linked.{AreLinked, head_in};
@@ -62,7 +62,7 @@ fn collect_at<V: ReadVolume>(
 }
 
 /// The versions of a file, in order of place.
-fn collect<V: ReadVolume>(
+pub fn collect<V: ReadVolume>(
     volume: &mut V,
     alloc: Global,
     file_no: u32,

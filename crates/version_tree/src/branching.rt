@@ -5,9 +5,10 @@ ghost use Rattle.ex_base.specs.declared.names.Area.TheVariants.{Page};
 ghost use Rattle.object_records.specs.Record.{Record};
 ghost use Rattle.object_records.specs.declared.State.TheVariants.{Frozen};
 ghost use Rattle.index_pages.specs.declared.Index.{Index};
-ghost use Rattle.version_model.specs.Versions.{HasRecord, place_of, root_of};
-ghost use Rattle.version_model.specs.Listed.{oid_at};
-ghost use Rattle.version_tree.specs.Bodies.{newer_head};
+ghost use Rattle.file_index.specs.Taking.{OnlyTakes};
+ghost use Rattle.versions.specs.Versions.{HasRecord, place_of, root_of};
+ghost use Rattle.versions.specs.Listed.{oid_at};
+ghost use Rattle.version_tree.specs.Bodies.{SameUnits, newer_head};
 ghost use Rattle.version_tree.specs.Copies.{Derives, IsCopyFault, IsCopyingFault, IsVersionIn, UnlinksIn};
 ghost use Rattle.versions.specs.Damage.{record_fault};
 ghost use Rattle.version_tree.specs.Linked.{AreLinked};
@@ -44,6 +45,7 @@ fn unlink<V: Volume>(volume: &mut V, alloc: Global, was: &Stored) -> Result<(), 
         → IsVersionIn V.Ground volume.old index was.now is
         → UnlinksIn V.Ground volume.old volume.new index was.now.place is) }
     ensures free { OnOk result (V.free volume.new ≡ V.free volume.old) }
+    ensures units { OnOk result (SameUnits V.Ground volume.old volume.new) }
     ensures sound { IfErr result (λ fault. IsDamage fault → V.tells volume.old
         → (index : Index) (is : Record) → IsVersionIn V.Ground volume.old index was.now is → ⊥) }
     ensures fault { IfErr result (λ fault. V.tells volume.old → IsDamage fault → fault
@@ -73,6 +75,7 @@ fn derive_read<V: Volume>(
     ensures room { IfOk result (λ place. (room.new.file_no ≡ room.old.file_no)
         × (room.new.from ≡ place.page)) }
     ensures pages { OnOk result (V.free volume.old Page ≤ V.free volume.new Page + 7) }
+    ensures takes { OnOk result (OnlyTakes V.Ground volume.old volume.new) }
     ensures sound { IfErr result (λ fault. IsDamage fault → V.tells volume.old
         → (index : Index) (is : Record) → IsVersionIn V.Ground volume.old index was.now is
         → index.file_no ≡ room.old.file_no → ⊥) }
@@ -116,6 +119,7 @@ pub fn derive<V: Volume>(
     ensures room { IfOk result (λ made. (room.new.file_no ≡ room.old.file_no)
         × (room.new.from ≡ made.oid.page)) }
     ensures pages { OnOk result (V.free volume.old Page ≤ V.free volume.new Page + 7) }
+    ensures takes { OnOk result (OnlyTakes V.Ground volume.old volume.new) }
     ensures sound { IfErr result (λ fault. IsDamage fault → V.tells volume.old
         → AreLinked V.Ground volume.old → (index : Index) (is : Record)
         → HasRecord V.Ground volume.old index oid.now is → is.head.state ≡ Frozen

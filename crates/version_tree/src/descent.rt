@@ -7,8 +7,8 @@ ghost use Rattle.object_records.specs.Record.{Record, BodyOf};
 ghost use Rattle.index_pages.specs.declared.Index.{Index};
 ghost use Rattle.file_bodies.specs.Bodies.{bodies_of};
 ghost use Rattle.file_bodies.specs.Files.{HasFile, HasBody};
-ghost use Rattle.version_model.specs.Listed.{oid_at, AreByNumber, AreReadable, rank_of, start_rank};
-ghost use Rattle.version_model.specs.Versions.{HasRecord, place_of};
+ghost use Rattle.versions.specs.Listed.{oid_at, AreByNumber, AreReadable, rank_of, start_rank};
+ghost use Rattle.versions.specs.Versions.{HasRecord, place_of};
 ghost use Rattle.versions.specs.Damage.{record_fault, IsListingFault, IsStepFault};
 ghost use Rattle.version_tree.specs.Linked.{AreLinked, head_in, oids_by_link, oids_from};
 ghost use Rattle.version_tree.specs.Links.{IsDerivedFault, IsWalkFault};
@@ -35,11 +35,7 @@ fn number_on(page: &[u8], place: Place) -> Result<u32, PortFault>
 }
 
 /// The number of the file that has a place.
-pub(crate) fn file_of<V: ReadVolume>(
-    volume: &mut V,
-    alloc: Global,
-    place: Place,
-) -> Result<u32, PortFault>
+pub fn file_of<V: ReadVolume>(volume: &mut V, alloc: Global, place: Place) -> Result<u32, PortFault>
     requires { V.ready volume.old }
     ensures number { IfOk result (λ number. V.tells volume.old → (index : Index) (body : List ℕ)
         → HasBody V.Ground volume.old index place body → index.file_no ≡ number) }

@@ -6,7 +6,8 @@ ghost use Rattle.ex_base.specs.declared.names.Oid.{Oid};
 ghost use Rattle.object_records.specs.Record.{Record, BodyOf};
 ghost use Rattle.object_records.specs.declared.State.TheVariants.{Frozen};
 ghost use Rattle.index_pages.specs.declared.Index.{Index};
-ghost use Rattle.version_model.specs.Versions.{HasRecord, place_of, root_of};
+ghost use Rattle.file_index.specs.Taking.{OnlyGives};
+ghost use Rattle.versions.specs.Versions.{HasRecord, place_of, root_of};
 ghost use Rattle.version_tree.specs.Linked.{AreLinked};
 ghost use Rattle.version_tree.specs.Removals.{Drops, IsBetween, IsRemovingFault};
 
@@ -35,6 +36,7 @@ fn drop_read<V: Volume>(
     ensures gone { IfOk result (λ gone. (is : Record) → BodyOf was.now.body.items is
         → gone ≡ root_of is.content) }
     ensures pages { OnOk result (V.free volume.old Page ≤ V.free volume.new Page) }
+    ensures gives { OnOk result (OnlyGives V.Ground volume.old volume.new) }
     ensures sound { IfErr result (λ fault. IsDamage fault → V.tells volume.old
         → (index : Index) (is : Record)
         → IsBetween V.Ground volume.old index was.now newer.now older.now is → ⊥) }
@@ -72,6 +74,7 @@ pub fn drop_version<V: Volume>(
     ensures gone { IfOk result (λ gone. V.tells volume.old → (index : Index) (is : Record)
         → HasRecord V.Ground volume.old index oid.now is → gone ≡ root_of is.content) }
     ensures pages { OnOk result (V.free volume.old Page ≤ V.free volume.new Page) }
+    ensures gives { OnOk result (OnlyGives V.Ground volume.old volume.new) }
     ensures sound { IfErr result (λ fault. IsDamage fault → V.tells volume.old
         → AreLinked V.Ground volume.old → (index : Index) (is : Record)
         → HasRecord V.Ground volume.old index oid.now is → is.head.state ≡ Frozen

@@ -6,10 +6,12 @@ ghost use Rattle.ex_base.specs.declared.names.Place.{Place};
 ghost use Rattle.object_records.specs.Record.{Record};
 ghost use Rattle.object_records.specs.declared.State.TheVariants.{Current, Frozen};
 ghost use Rattle.index_pages.specs.declared.Index.{Index};
+ghost use Rattle.file_index.specs.Taking.{OnlyTakes};
 ghost use Rattle.file_bodies.specs.Bodies.{Row, bodies_of};
 ghost use Rattle.file_bodies.specs.Files.{HasFile};
-ghost use Rattle.version_model.specs.Versions.{HasRecord, place_of, root_of};
-ghost use Rattle.version_model.specs.Listed.{oid_at};
+ghost use Rattle.versions.specs.Versions.{HasRecord, place_of, root_of};
+ghost use Rattle.versions.specs.Listed.{oid_at};
+ghost use Rattle.version_tree.specs.Bodies.{SameUnits};
 ghost use Rattle.version_tree.specs.Copies.{Freezes, IsCopyFault, IsCopyingFault, IsFrozenIn, IsNamed, IsRead, TurnsOlder, TurnsStored};
 ghost use Rattle.versions.specs.Damage.{record_fault};
 ghost use Rattle.version_tree.specs.Linked.{AreLinked};
@@ -37,6 +39,7 @@ pub(crate) fn turn_stored<V: Volume>(
         → StandsIn V.Ground volume.old index stored.now
         → TurnsStored V.Ground volume.old volume.new index stored.now from to) }
     ensures free { OnOk result (V.free volume.new ≡ V.free volume.old) }
+    ensures units { OnOk result (SameUnits V.Ground volume.old volume.new) }
     ensures sound { IfErr result (λ fault. IsDamage fault → V.tells volume.old → (index : Index)
         → IsFrozenIn V.Ground volume.old index stored.now → IsNamed (Some to) → ⊥) }
     ensures fault { IfErr result (λ fault. V.tells volume.old → IsDamage fault → fault
@@ -68,6 +71,7 @@ pub(crate) fn turn_older<V: Volume>(
         → StoredAt rows link older.now → IfSome older.now (StandsIn V.Ground volume.old index)
         → TurnsOlder V.Ground volume.old volume.new index rows link from to) }
     ensures free { OnOk result (V.free volume.new ≡ V.free volume.old) }
+    ensures units { OnOk result (SameUnits V.Ground volume.old volume.new) }
     ensures sound { IfErr result (λ fault. IsDamage fault → V.tells volume.old → (index : Index)
         → IfSome older.now (IsFrozenIn V.Ground volume.old index) → IsNamed (Some to) → ⊥) }
     ensures fault { IfErr result (λ fault. V.tells volume.old → IsDamage fault
@@ -99,6 +103,7 @@ fn freeze_read<V: Volume>(
     ensures room { IfOk result (λ place. (room.new.file_no ≡ room.old.file_no)
         × (room.new.from ≡ place.page)) }
     ensures pages { OnOk result (V.free volume.old Page ≤ V.free volume.new Page + 7) }
+    ensures takes { OnOk result (OnlyTakes V.Ground volume.old volume.new) }
     ensures sound { IfErr result (λ fault. IsDamage fault → V.tells volume.old
         → (index : Index) (is : Record)
         → IsRead V.Ground volume.old index was.now older.now is → is.head.state ≡ Current
@@ -148,6 +153,7 @@ pub fn freeze<V: Volume>(
     ensures room { IfOk result (λ made. (room.new.file_no ≡ room.old.file_no)
         × (room.new.from ≡ made.oid.page)) }
     ensures pages { OnOk result (V.free volume.old Page ≤ V.free volume.new Page + 7) }
+    ensures takes { OnOk result (OnlyTakes V.Ground volume.old volume.new) }
     ensures sound { IfErr result (λ fault. IsDamage fault → V.tells volume.old
         → AreLinked V.Ground volume.old → (index : Index) (is : Record)
         → HasRecord V.Ground volume.old index oid.now is → is.head.state ≡ Current

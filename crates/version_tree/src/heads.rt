@@ -6,8 +6,9 @@ ghost use Rattle.ex_base.specs.declared.names.Area.TheVariants.{Page};
 ghost use Rattle.object_records.specs.Record.{Record, BodyOf, IsRecord, NewerFits};
 ghost use Rattle.object_records.specs.Reads.{small_record, content_of};
 ghost use Rattle.index_pages.specs.declared.Index.{Index};
+ghost use Rattle.file_index.specs.Taking.{OnlyTakes};
 ghost use Rattle.file_bodies.specs.Files.{HasFile, HasBody};
-ghost use Rattle.version_tree.specs.Bodies.{with_head};
+ghost use Rattle.version_tree.specs.Bodies.{SameUnits, with_head};
 ghost use Rattle.version_tree.specs.Copies.{CopiesRecord, content_len, IsCopyFault, IsHead, IsNamed};
 ghost use Rattle.versions.specs.Damage.{record_fault};
 ghost use Rattle.versions.specs.Put.{PutsRecord};
@@ -102,6 +103,7 @@ pub(crate) fn put_head<V: Volume>(
         → PutsRecord V.Ground volume.old volume.new index stored.now.place
         stored.now.body.items (with_head head.now is)) }
     ensures free { OnOk result (V.free volume.new ≡ V.free volume.old) }
+    ensures units { OnOk result (SameUnits V.Ground volume.old volume.new) }
     ensures sound { IfErr result (λ fault. IsDamage fault → V.tells volume.old
         → (index : Index) (is : Record)
         → HasBody V.Ground volume.old index stored.now.place stored.now.body.items
@@ -136,6 +138,7 @@ pub(crate) fn put_copy<V: Volume>(
       len = length stored.now.body.items;
     }) }
     ensures pages { OnOk result (V.free volume.old Page ≤ V.free volume.new Page + 7) }
+    ensures takes { OnOk result (OnlyTakes V.Ground volume.old volume.new) }
     ensures sound { IfErr result (λ fault. IsDamage fault → V.tells volume.old
         → (index : Index) (is : Record)
         → HasBody V.Ground volume.old index stored.now.place stored.now.body.items

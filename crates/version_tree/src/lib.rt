@@ -14,13 +14,14 @@ mod freezing;
 mod heads;
 mod lineage;
 mod links;
+mod lookup;
 mod neighbours;
 mod taking_out;
 
-pub use all_versions::versions;
+pub use all_versions::{collect, versions};
 pub use branching::derive;
 pub use copied::Copied;
-pub use descent::derived;
+pub use descent::{derived, file_of};
 pub use dropping::drop_version;
 pub use freezing::freeze;
 pub use lineage::Member;

@@ -2,11 +2,14 @@
 ghost use Rattle.std.specs.Prelude.{◌≡◌, ◌++◌, ◌∷◌, [], if◌then◌else◌, ℕ, List, length, map, reverse, IfErr, IfOk, OnOk};
 ghost use Rattle.ex_base.specs.Ports.{HasCause, IsDamage};
 ghost use Rattle.ex_base.specs.declared.names.Oid.{Oid};
-ghost use Rattle.version_model.specs.Versions.{place_of};
+ghost use Rattle.versions.specs.Versions.{place_of};
 ghost use Rattle.version_tree.specs.Lineage.{below, comes_from, first_from, listed, listed_from, member_at, older_at, stands_at};
+ghost use Rattle.version_tree.specs.Lookup.{Rises};
+ghost use Rattle.version_tree.specs.declared.lookup.Order.TheVariants.{ByPlace, ByOlder};
 ghost use Rattle.version_tree.specs.declared.lineage.Member.{Member};
 
 use crate::links::is_at;
+use crate::lookup::{Order, in_order, run_at};
 use ex_base::{Oid, Place, PortFault};
 use object_records::Head;
 use std::alloc::Global;
@@ -55,14 +58,16 @@ fn comes_from(member: &Member, from: &Member) -> bool
     }
 }
 
-/// The version that one is derived from.
-fn older_at(members: &[Member], older: Option<Place>) -> Option<Member>
-    ensures { result ≡ older_at members.now older }
+/// The version that one is derived from, among versions in order of their places.
+fn older_at(by_place: &[Member], older: Option<Place>) -> Option<Member>
+    requires { Rises ByPlace by_place.now }
+    ensures { result ≡ older_at by_place.now older }
 {
     let Some(place) = older else {
         return None;
     };
-    'members: for member in members {
+    let run = run_at(by_place, Order::ByPlace, place);
+    'members: for member in run {
         if stands_at(member, place) {
             return Some(*member);
         }
@@ -70,14 +75,15 @@ fn older_at(members: &[Member], older: Option<Place>) -> Option<Member>
     None
 }
 
-/// The first version of the object of one: from each the step to its older one leads to it.
-fn first_from(members: &[Member], from: Member) -> Member
-    ensures { result ≡ first_from (length members.now) members.now from }
+/// The first version of the object of one, among versions in order of their places: from each the step to its older one leads to it.
+fn first_from(by_place: &[Member], from: Member) -> Member
+    requires { Rises ByPlace by_place.now }
+    ensures { result ≡ first_from (length by_place.now) by_place.now from }
 {
     let mut member = from;
-    let mut steps = members.len();
+    let mut steps = by_place.len();
     'steps: while steps > 0 {
-        let Some(older) = older_at(members, member.older) else {
+        let Some(older) = older_at(by_place, member.older) else {
             return member;
         };
         member = older;
@@ -112,10 +118,11 @@ fn put_below(
     }
 }
 
-/// What is to be listed behind a version, in order.
-fn below(alloc: Global, members: &[Member], rest: &Rest) -> Result<Vec<Rest>, PortFault>
+/// What is to be listed behind a version, in order, among versions in order of the places of their older ones.
+fn below(alloc: Global, by_older: &[Member], rest: &Rest) -> Result<Vec<Rest>, PortFault>
+    requires { Rises ByOlder by_older.now }
     ensures below { IfOk result (λ rests. rests.items
-        ≡ below rest.now.levels members.now rest.now.member) }
+        ≡ below rest.now.levels by_older.now rest.now.member) }
     ensures no_damage { IfErr result (λ fault. IsDamage fault → ⊥) }
     ensures cause { (before now : ℕ) → HasCause before now result }
 {
@@ -124,7 +131,8 @@ fn below(alloc: Global, members: &[Member], rest: &Rest) -> Result<Vec<Rest>, Po
         return Ok(rests);
     }
     let levels = rest.levels - 1;
-    'members: for member in members {
+    let run = run_at(by_older, Order::ByOlder, place_of(&rest.member.oid));
+    'members: for member in run {
         put_below(&mut rests, &rest.member, member, levels)?;
     }
     Ok(rests)
@@ -133,18 +141,19 @@ fn below(alloc: Global, members: &[Member], rest: &Rest) -> Result<Vec<Rest>, Po
 /// Lists a version next: its OID comes behind those that are listed, and what is derived from it is to be listed before what was to be.
 fn list_next(
     alloc: Global,
-    members: &[Member],
+    by_older: &[Member],
     next: &Rest,
     todo: &mut Vec<Rest>,
     oids: &mut Vec<Oid>,
 ) -> Result<(), PortFault>
+    requires { Rises ByOlder by_older.now }
     ensures todo { OnOk result (todo.new.items ≡ todo.old.items
-        ++ reverse (below next.now.levels members.now next.now.member)) }
+        ++ reverse (below next.now.levels by_older.now next.now.member)) }
     ensures oids { OnOk result (oids.new.items ≡ oids.old.items ++ next.now.member.oid ∷ []) }
     ensures no_damage { IfErr result (λ fault. IsDamage fault → ⊥) }
     ensures cause { (before now : ℕ) → HasCause before now result }
 {
-    let mut rests = below(alloc, members, next)?;
+    let mut rests = below(alloc, by_older, next)?;
     rests.reverse();
     if todo.extend_from_slice(&rests).is_err() {
         return Err(PortFault::Memory);
@@ -155,7 +164,7 @@ fn list_next(
     }
 }
 
-/// The versions of the object of one, among all versions of its file.
+/// The versions of the object of one, among all versions of its file. It takes n log n steps.
 pub(crate) fn list_members(
     alloc: Global,
     members: &[Member],
@@ -166,17 +175,19 @@ pub(crate) fn list_members(
     ensures no_damage { IfErr result (λ fault. IsDamage fault → ⊥) }
     ensures cause { (before now : ℕ) → HasCause before now result }
 {
+    let places = in_order(alloc, members, Order::ByPlace)?;
+    let olders = in_order(alloc, members, Order::ByOlder)?;
     let mut oids = Vec::new(alloc);
     let mut todo = Vec::new(alloc);
     let all = Rest {
-        member: first_from(members, member),
+        member: first_from(&places, member),
         levels: members.len(),
     };
     if todo.push(all).is_err() {
         return Err(PortFault::Memory);
     }
     'rests: while let Some(next) = todo.pop() {
-        match list_next(alloc, members, &next, &mut todo, &mut oids) {
+        match list_next(alloc, &olders, &next, &mut todo, &mut oids) {
             Ok(()) => {}
             Err(fault) => return Err(fault),
         }

@@ -8,7 +8,7 @@ ghost use Rattle.object_records.specs.declared.State.TheVariants.{Current, Froze
 ghost use Rattle.index_pages.specs.declared.Index.{Index};
 ghost use Rattle.file_bodies.specs.Bodies.{bodies_of};
 ghost use Rattle.file_bodies.specs.Files.{HasBody};
-ghost use Rattle.version_model.specs.Versions.{HasRecord, place_of};
+ghost use Rattle.versions.specs.Versions.{HasRecord, place_of};
 ghost use Rattle.versions.specs.Found.{HasLimits};
 ghost use Rattle.versions.specs.Damage.{record_fault, IsStepFault};
 ghost use Rattle.version_tree.specs.Linked.{AreLinked, head_in};

@@ -4,7 +4,7 @@ ghost use Rattle.ex_base.specs.Ports.{Keeps, HasCause, IsDamage};
 ghost use Rattle.object_records.specs.Record.{Record};
 ghost use Rattle.index_pages.specs.declared.Index.{Index};
 ghost use Rattle.file_bodies.specs.Bodies.{bodies_of};
-ghost use Rattle.version_model.specs.Versions.{HasRecord};
+ghost use Rattle.versions.specs.Versions.{HasRecord};
 ghost use Rattle.version_tree.specs.Linked.{AreLinked, OidAt};
 ghost use Rattle.version_tree.specs.Links.{IsLinkedFault, oid_read};
 

@@ -7,11 +7,13 @@ ghost use Rattle.ex_base.specs.declared.names.Place.{Place};
 ghost use Rattle.object_records.specs.Record.{Record, BodyOf};
 ghost use Rattle.object_records.specs.declared.State.TheVariants.{Current};
 ghost use Rattle.index_pages.specs.declared.Index.{Index};
+ghost use Rattle.file_index.specs.Taking.{OnlyGives};
 ghost use Rattle.file_bodies.specs.Bodies.{Row, bodies_of};
 ghost use Rattle.file_bodies.specs.Files.{HasFile, HasBody};
 ghost use Rattle.std.specs.Prelude.{filter};
-ghost use Rattle.version_model.specs.Listed.{AreReadable};
-ghost use Rattle.version_model.specs.Versions.{HasRecord, place_of, root_of};
+ghost use Rattle.versions.specs.Listed.{AreReadable};
+ghost use Rattle.versions.specs.Versions.{HasRecord, place_of, root_of};
+ghost use Rattle.version_tree.specs.Bodies.{SameUnits};
 ghost use Rattle.version_tree.specs.Copies.{IsFrozenIn, IsNamed};
 ghost use Rattle.versions.specs.Damage.{record_fault};
 ghost use Rattle.version_tree.specs.Linked.{AreLinked, derived_from};
@@ -119,6 +121,7 @@ fn name_newer<V: Volume>(
         → StandsIn V.Ground volume.old index stored.now
         → NamesStored V.Ground volume.old volume.new index stored.now newer) }
     ensures free { OnOk result (V.free volume.new ≡ V.free volume.old) }
+    ensures units { OnOk result (SameUnits V.Ground volume.old volume.new) }
     ensures sound { IfErr result (λ fault. IsDamage fault → V.tells volume.old → (index : Index)
         → IsFrozenIn V.Ground volume.old index stored.now → IsNamed newer → ⊥) }
     ensures fault { IfErr result (λ fault. V.tells volume.old → IsDamage fault → fault
@@ -152,6 +155,7 @@ fn name_other<V: Volume>(
         → other ≡ other_from rows gone older.now
         → NamesOther V.Ground volume.old volume.new index rows link gone) }
     ensures free { OnOk result (V.free volume.new ≡ V.free volume.old) }
+    ensures units { OnOk result (SameUnits V.Ground volume.old volume.new) }
     ensures sound { IfErr result (λ fault. IsDamage fault → V.tells volume.old → (index : Index)
         → IfSome older.now (IsFrozenIn V.Ground volume.old index) → IsNamed other → ⊥) }
     ensures fault { IfErr result (λ fault. V.tells volume.old → IsDamage fault
@@ -180,6 +184,7 @@ fn take_read<V: Volume>(
     ensures gone { IfOk result (λ gone. (is : Record) → BodyOf was.now.body.items is
         → gone ≡ root_of is.content) }
     ensures pages { OnOk result (V.free volume.old Page ≤ V.free volume.new Page) }
+    ensures gives { OnOk result (OnlyGives V.Ground volume.old volume.new) }
     ensures sound { IfErr result (λ fault. IsDamage fault → V.tells volume.old
         → (index : Index) (is : Record)
         → IsLeaving V.Ground volume.old index was.now older.now other is → ⊥) }
@@ -215,6 +220,7 @@ pub fn take_out<V: Volume>(
     ensures gone { IfOk result (λ gone. V.tells volume.old → (index : Index) (is : Record)
         → HasRecord V.Ground volume.old index oid.now is → gone ≡ root_of is.content) }
     ensures pages { OnOk result (V.free volume.old Page ≤ V.free volume.new Page) }
+    ensures gives { OnOk result (OnlyGives V.Ground volume.old volume.new) }
     ensures sound { IfErr result (λ fault. IsDamage fault → V.tells volume.old
         → AreLinked V.Ground volume.old → (index : Index) (is : Record)
         → HasRecord V.Ground volume.old index oid.now is → is.head.state ≡ Current

@@ -36,7 +36,7 @@ use Rattle.trees.specs.Made.{Extends, Has, IsTaken, AreUsed}
 use Rattle.trees.specs.Grown.{Turned}
 use Rattle.trees.proofs.Counts.{counted_after, counted_back}
 use Rattle.trees.proofs.Laid.{extends_refl}
-use Rattle.version_model.specs.Versions.{HasVersion, Change, HasShape, EditsVersion, Spells, IsTreeUnit, AreInUse, IsSmall, StaysSmall, FitsIn, record_len, lone_head, place_of, content_units, root_of}
+use Rattle.versions.specs.Versions.{HasVersion, Change, HasShape, EditsVersion, Spells, IsTreeUnit, AreInUse, IsSmall, StaysSmall, FitsIn, record_len, place_of, content_units, root_of}
 use Rattle.versions.specs.Edited.{TurnsVersion}
 use Rattle.versions.specs.Put.{PutsRecord, IsPlaced}
 use Rattle.versions.proofs.FileRows.{edit_stands}
@@ -109,9 +109,9 @@ module _ {S : Type 0} (g : ground.Ghosts S) where
     | inr isnt ↦ isnt
   ]
 
-  module _ (a m c : S) (index : Index) (oid : Oid) (content now : Content) (change : Change) (old bytes : List ℕ) (ext : Extends g a m) (in_use : AreInUse g a) (has : HasVersion g a index oid content old)
+  module _ (a m c : S) (index : Index) (oid : Oid) (head : Head) (content now : Content) (change : Change) (old bytes : List ℕ) (ext : Extends g a m) (in_use : AreInUse g a) (has : HasVersion g a index oid head content old)
       (turned : Turned g a m (content_units (g.unit a) content) (content_units (g.unit m) now)) (spells : Spells (g.geometry m) (g.unit m) now bytes)
-      (r : PutsRecord g m c index (place_of oid) has.stored.body (record { head = lone_head oid.unique; content = now })) where
+      (r : PutsRecord g m c index (place_of oid) has.stored.body (record { head = head; content = now })) where
     stands_m : HasBody g m index (place_of oid) has.stored.body
     stands_m = body_on a m index (place_of oid) has.stored.body ext in_use has.stored.stands
 
@@ -136,11 +136,11 @@ module _ {S : Type 0} (g : ground.Ghosts S) where
       counts = λ names. counted_after g a m c r.put.used r.put.refs r.put.units r.put.held (turned.counts names);
     }
 
-    edits_version : IsSmall now ↔ StaysSmall g a (place_of oid) content (length bytes) → HasShape (g.geometry a) change (g.unit a) (g.unit m) content (length bytes) now → EditsVersion g a c index oid content change bytes
+    edits_version : IsSmall now ↔ StaysSmall g a (place_of oid) content (length bytes) → HasShape (g.geometry a) change (g.unit a) (g.unit m) content (length bytes) now → EditsVersion g a c index oid head content change bytes
     edits_version small shape = record {
       now = now;
       version = record {
-        stored = record { body = r.body; stands = edit_stands g m c index index (place_of oid) (Some has.stored.body) r.body r.edit; spelled = r.spelled; number = refl };
+        stored = record { body = r.body; stands = edit_stands g m c index index (place_of oid) (Some has.stored.body) r.body r.edit; spelled = r.spelled; number = has.stored.number };
         spells = subst (λ (u : Units). Spells (g.geometry c) u now bytes) (sym r.put.units) (subst (λ (y : Geometry). Spells y (g.unit m) now bytes) (sym (g.leads_geometry m c r.leads)) spells);
         units = subst (λ (u : Units). AllByRecursion (IsTreeUnit g c) (content_units u now)) (sym r.put.units)
             (each_as (λ p. IsTaken g a m p ⊎ Has (content_units (g.unit a) content) p) (IsTreeUnit g c) (content_units (g.unit m) now) tree_unit turned.own);
@@ -160,7 +160,7 @@ module _ {S : Type 0} (g : ground.Ghosts S) where
     }
 
     pub turns_version : IsSmall now ↔ StaysSmall g a (place_of oid) content (length bytes) → HasShape (g.geometry a) change (g.unit a) (g.unit m) content (length bytes) now
-        → TurnsVersion g a c index oid content change bytes (root_of content) (root_of now)
+        → TurnsVersion g a c index oid head content change bytes (root_of content) (root_of now)
     unfolding edits_version
     turns_version small shape = record { edit = edits_version small shape; went = refl; came = refl }
 
@@ -170,22 +170,21 @@ module _ {S : Type 0} (g : ground.Ghosts S) where
   record_least body r spelled = (spelled_reads body r spelled).0.long
 
   -- the new tree stands, and the record of its root is put in the place of the old one
-  pub becomes_large : (a m c : S) (index : Index) (oid : Oid) (content : Content) (change : Change) (old bytes : List ℕ) (made : Root) (place : Place) (head : Head) → Extends g a m → AreInUse g a → g.tells a → HasVersion g a index oid content old
-      → Turned g a m (content_units (g.unit a) content) (content_units (g.unit m) (Large made)) → Spells (g.geometry m) (g.unit m) (Large made) bytes → place ≡ place_of oid → head ≡ lone_head oid.unique
+  pub becomes_large : (a m c : S) (index : Index) (oid : Oid) (head : Head) (content : Content) (change : Change) (old bytes : List ℕ) (made : Root) (place : Place) → Extends g a m → AreInUse g a → g.tells a → HasVersion g a index oid head content old
+      → Turned g a m (content_units (g.unit a) content) (content_units (g.unit m) (Large made)) → Spells (g.geometry m) (g.unit m) (Large made) bytes → place ≡ place_of oid
       → (g.tells m → (index : Index) (was : List ℕ) → HasBody g m index place was → PutsRecord g m c index place was (large_record head made)) → (StaysSmall g a (place_of oid) content (length bytes) → ⊥)
-      → HasShape (g.geometry a) change (g.unit a) (g.unit m) content (length bytes) (Large made) → TurnsVersion g a c index oid content change bytes (root_of content) (Some made)
-  becomes_large a m c index oid content change old bytes made place head ext in_use told has turned spells at lone puts never shape =
+      → HasShape (g.geometry a) change (g.unit a) (g.unit m) content (length bytes) (Large made) → TurnsVersion g a c index oid head content change bytes (root_of content) (Some made)
+  becomes_large a m c index oid head content change old bytes made place ext in_use told has turned spells at puts never shape =
       let stands = body_on a m index (place_of oid) has.stored.body ext in_use has.stored.stands in
       let r0 = puts (g.leads_told a m ext.leads told) index has.stored.body (subst (λ (p : Place). HasBody g m index p has.stored.body) (sym at) stands) in
-      let r1 = subst (λ (p : Place). PutsRecord g m c index p has.stored.body (large_record head made)) at r0 in
-      let r = subst (λ (h : Head). PutsRecord g m c index (place_of oid) has.stored.body (large_record h made)) lone r1 in
-      turns_version a m c index oid content (Large made) change old bytes ext in_use has turned spells r ((λ x. absurd x), never) shape
+      let r = subst (λ (p : Place). PutsRecord g m c index p has.stored.body (large_record head made)) at r0 in
+      turns_version a m c index oid head content (Large made) change old bytes ext in_use has turned spells r ((λ x. absurd x), never) shape
 
   -- so that no damage is told
-  pub never_put : (a m : S) (index : Index) (oid : Oid) (content : Content) (old bytes : List ℕ) (made : Root) (place : Place) → Extends g a m → AreInUse g a → HasVersion g a index oid content old
+  pub never_put : (a m : S) (index : Index) (oid : Oid) (head : Head) (content : Content) (old bytes : List ℕ) (made : Root) (place : Place) → Extends g a m → AreInUse g a → HasVersion g a index oid head content old
       → Spells (g.geometry m) (g.unit m) (Large made) bytes → place ≡ place_of oid
       → ((index : Index) (was : List ℕ) → HasBody g m index place was → 36 ≤ length was → IsRootFor (g.geometry m) made → IsPlaced made.page → ⊥) → ⊥
-  never_put a m index oid content old bytes made place ext in_use has spells at never =
+  never_put a m index oid head content old bytes made place ext in_use has spells at never =
       let stands = body_on a m index (place_of oid) has.stored.body ext in_use has.stored.stands in
       never index has.stored.body (subst (λ (p : Place). HasBody g m index p has.stored.body) (sym at) stands) (record_least has.stored.body _ has.stored.spelled)
       (root_is_for (g.geometry m) (g.unit m) made bytes spells.0 spells.1) (root_placed (g.geometry m) (g.unit m) made.height made.page spells.0.named)
@@ -201,13 +200,12 @@ module _ {S : Type 0} (g : ground.Ghosts S) where
   pub fits_stays : (s : S) (place : Place) (was held : List ℕ) (head : Head) (n : ℕ) → BodyOf was (small_record head held) → StaysSmall g s place (Small held) n → FitsIn g s place.page.0 (length was) n
   fits_stays s place was held head n spelled stays = subst (λ (k : ℕ). FitsIn g s place.page.0 k n) (sym (body_long was head held spelled)) stays
 
-  pub becomes_small : (a c : S) (index : Index) (oid : Oid) (change : Change) (held bytes : List ℕ) (place : Place) (head : Head) → AreInUse g a → HasVersion g a index oid (Small held) held → place ≡ place_of oid → head ≡ lone_head oid.unique
-      → ((index : Index) (was : List ℕ) → HasBody g a index place was → PutsRecord g a c index place was (small_record head bytes)) → StaysSmall g a (place_of oid) (Small held) (length bytes) → TurnsVersion g a c index oid (Small held) change bytes None None
-  becomes_small a c index oid change held bytes place head in_use has at lone puts stays =
+  pub becomes_small : (a c : S) (index : Index) (oid : Oid) (head : Head) (change : Change) (held bytes : List ℕ) (place : Place) → AreInUse g a → HasVersion g a index oid head (Small held) held → place ≡ place_of oid
+      → ((index : Index) (was : List ℕ) → HasBody g a index place was → PutsRecord g a c index place was (small_record head bytes)) → StaysSmall g a (place_of oid) (Small held) (length bytes) → TurnsVersion g a c index oid head (Small held) change bytes None None
+  becomes_small a c index oid head change held bytes place in_use has at puts stays =
       let r0 = puts index has.stored.body (subst (λ (p : Place). HasBody g a index p has.stored.body) (sym at) has.stored.stands) in
-      let r1 = subst (λ (p : Place). PutsRecord g a c index p has.stored.body (small_record head bytes)) at r0 in
-      let r = subst (λ (h : Head). PutsRecord g a c index (place_of oid) has.stored.body (small_record h bytes)) lone r1 in
-      turns_version a a c index oid (Small held) (Small bytes) change held bytes (extends_same a) in_use has (nothing_turned g a []) refl r ((λ x. stays), (λ x. tt)) tt
+      let r = subst (λ (p : Place). PutsRecord g a c index p has.stored.body (small_record head bytes)) at r0 in
+      turns_version a a c index oid head (Small held) (Small bytes) change held bytes (extends_same a) in_use has (nothing_turned g a []) refl r ((λ x. stays), (λ x. tt)) tt
 
   -- ---- after a state with the same meanings
 
@@ -226,8 +224,8 @@ module _ {S : Type 0} (g : ground.Ghosts S) where
   pub kept_in_use : (a b : S) → Keeps g a b → AreInUse g a → AreInUse g b
   kept_in_use a b kept in_use = λ p held. ap (λ (f : ℕ → Bool). f p) kept.used ∙ in_use p (ap (λ (f : ℕ → Bool). f p) (sym kept.held) ∙ held)
 
-  kept_edited : (a b c : S) (index : Index) (oid : Oid) (content : Content) (change : Change) (bytes : List ℕ) → Keeps g a b → EditsVersion g b c index oid content change bytes → EditsVersion g a c index oid content change bytes
-  kept_edited a b c index oid content change bytes kept e = record {
+  kept_edited : (a b c : S) (index : Index) (oid : Oid) (head : Head) (content : Content) (change : Change) (bytes : List ℕ) → Keeps g a b → EditsVersion g b c index oid head content change bytes → EditsVersion g a c index oid head content change bytes
+  kept_edited a b c index oid head content change bytes kept e = record {
     now = e.now;
     version = e.version;
     small = ((λ x. stayed_before a b (place_of oid) content (length bytes) kept (e.small.0 x)), (λ x. e.small.1 (kept_stays a b (place_of oid) content (length bytes) kept x)));
@@ -252,34 +250,34 @@ module _ {S : Type 0} (g : ground.Ghosts S) where
         (subst (λ (y : Geometry). HasShape y change (g.unit b) (g.unit c) content (length bytes) e.now) (g.leads_geometry a b kept.leads) e.shape);
   }
 
-  pub kept_turned : (a b c : S) (index : Index) (oid : Oid) (content : Content) (change : Change) (bytes : List ℕ) (gone come : Option Root) → Keeps g a b → TurnsVersion g b c index oid content change bytes gone come
-      → TurnsVersion g a c index oid content change bytes gone come
+  pub kept_turned : (a b c : S) (index : Index) (oid : Oid) (head : Head) (content : Content) (change : Change) (bytes : List ℕ) (gone come : Option Root) → Keeps g a b → TurnsVersion g b c index oid head content change bytes gone come
+      → TurnsVersion g a c index oid head content change bytes gone come
   unfolding kept_edited
-  kept_turned a b c index oid content change bytes went came kept t = record { edit = kept_edited a b c index oid content change bytes kept t.edit; went = t.went; came = t.came }
+  kept_turned a b c index oid head content change bytes went came kept t = record { edit = kept_edited a b c index oid head content change bytes kept t.edit; went = t.went; came = t.came }
 
   -- the units of a large version are used
-  pub used_units : (s : S) (index : Index) (oid : Oid) (root : Root) (bytes : List ℕ) → HasVersion g s index oid (Large root) bytes → AreUsed (g.used s) (root_units (g.unit s) root)
-  used_units s index oid root bytes has = each_as (IsTreeUnit g s) (λ p. g.used s p ≡ true) (root_units (g.unit s) root) (λ p is. is.0) has.units
+  pub used_units : (s : S) (index : Index) (oid : Oid) (head : Head) (root : Root) (bytes : List ℕ) → HasVersion g s index oid head (Large root) bytes → AreUsed (g.used s) (root_units (g.unit s) root)
+  used_units s index oid head root bytes has = each_as (IsTreeUnit g s) (λ p. g.used s p ≡ true) (root_units (g.unit s) root) (λ p is. is.0) has.units
 
   -- what fits in the place of a version's body, and what doesn't
-  at_place : (s : S) (index : Index) (oid : Oid) (content : Content) (bytes : List ℕ) (place : Place) → place ≡ place_of oid → HasVersion g s index oid content bytes → (has : HasVersion g s index oid content bytes) → HasBody g s index place has.stored.body
-  at_place s index oid content bytes place at any has = subst (λ (p : Place). HasBody g s index p has.stored.body) (sym at) has.stored.stands
+  at_place : (s : S) (index : Index) (oid : Oid) (head : Head) (content : Content) (bytes : List ℕ) (place : Place) → place ≡ place_of oid → HasVersion g s index oid head content bytes → (has : HasVersion g s index oid head content bytes) → HasBody g s index place has.stored.body
+  at_place s index oid head content bytes place at any has = subst (λ (p : Place). HasBody g s index p has.stored.body) (sym at) has.stored.stands
 
-  pub stays_at : (s : S) (index : Index) (oid : Oid) (held : List ℕ) (n : ℕ) (place : Place) → place ≡ place_of oid → HasVersion g s index oid (Small held) held
+  pub stays_at : (s : S) (index : Index) (oid : Oid) (head : Head) (held : List ℕ) (n : ℕ) (place : Place) → place ≡ place_of oid → HasVersion g s index oid head (Small held) held
       → ((index : Index) (was : List ℕ) → HasBody g s index place was → FitsIn g s place.page.0 (length was) n) → StaysSmall g s (place_of oid) (Small held) n
-  stays_at s index oid held n place at has fits =
-      stays_fits s (place_of oid) has.stored.body held (lone_head oid.unique) n has.stored.spelled
-      (subst (λ (p : Place). FitsIn g s p.page.0 (length has.stored.body) n) at (fits index has.stored.body (at_place s index oid (Small held) held place at has has)))
+  stays_at s index oid head held n place at has fits =
+      stays_fits s (place_of oid) has.stored.body held head n has.stored.spelled
+      (subst (λ (p : Place). FitsIn g s p.page.0 (length has.stored.body) n) at (fits index has.stored.body (at_place s index oid head (Small held) held place at has has)))
 
-  pub never_stays : (s : S) (index : Index) (oid : Oid) (held : List ℕ) (n : ℕ) (place : Place) → place ≡ place_of oid → HasVersion g s index oid (Small held) held
+  pub never_stays : (s : S) (index : Index) (oid : Oid) (head : Head) (held : List ℕ) (n : ℕ) (place : Place) → place ≡ place_of oid → HasVersion g s index oid head (Small held) held
       → ((index : Index) (was : List ℕ) → HasBody g s index place was → FitsIn g s place.page.0 (length was) n → ⊥) → StaysSmall g s (place_of oid) (Small held) n → ⊥
-  never_stays s index oid held n place at has never stays =
-      never index has.stored.body (at_place s index oid (Small held) held place at has has)
-      (subst (λ (p : Place). FitsIn g s p.page.0 (length has.stored.body) n) (sym at) (fits_stays s (place_of oid) has.stored.body held (lone_head oid.unique) n has.stored.spelled stays))
+  never_stays s index oid head held n place at has never stays =
+      never index has.stored.body (at_place s index oid head (Small held) held place at has has)
+      (subst (λ (p : Place). FitsIn g s p.page.0 (length has.stored.body) n) (sym at) (fits_stays s (place_of oid) has.stored.body held head n has.stored.spelled stays))
 
   -- a small version has no more bytes than its page, and one of no more bytes stays small
-  pub held_most : (s : S) (index : Index) (oid : Oid) (held : List ℕ) → HasVersion g s index oid (Small held) held → length held ≤ length (g.image s oid.page.0)
-  held_most s index oid held has = small_most g s index (place_of oid) has.stored.body (lone_head oid.unique) held has.stored.stands has.stored.spelled
+  pub held_most : (s : S) (index : Index) (oid : Oid) (head : Head) (held : List ℕ) → HasVersion g s index oid head (Small held) held → length held ≤ length (g.image s oid.page.0)
+  held_most s index oid head held has = small_most g s index (place_of oid) has.stored.body head held has.stored.stands has.stored.spelled
 
-  pub less_stays : (s : S) (index : Index) (oid : Oid) (held : List ℕ) (n : ℕ) → HasVersion g s index oid (Small held) held → n ≤ length held → StaysSmall g s (place_of oid) (Small held) n
-  less_stays s index oid held n has few = stays_fits s (place_of oid) has.stored.body held (lone_head oid.unique) n has.stored.spelled (less_fits g s oid.page.0 n has.stored.body (lone_head oid.unique) held has.stored.spelled few)
+  pub less_stays : (s : S) (index : Index) (oid : Oid) (head : Head) (held : List ℕ) (n : ℕ) → HasVersion g s index oid head (Small held) held → n ≤ length held → StaysSmall g s (place_of oid) (Small held) n
+  less_stays s index oid head held n has few = stays_fits s (place_of oid) has.stored.body held head n has.stored.spelled (less_fits g s oid.page.0 n has.stored.body head held has.stored.spelled few)

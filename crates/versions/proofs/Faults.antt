@@ -15,7 +15,7 @@ use Rattle.file_bodies.specs.Damage.{IsBelongingFault, IsPlaceFault}
 use Rattle.file_bodies.proofs.Blame.{carried}
 use Rattle.trees.specs.Trees.{Units}
 use Rattle.trees.specs.Damage.{IsRootFault}
-use Rattle.version_model.specs.Versions.{place_of}
+use Rattle.versions.specs.Versions.{place_of}
 use Rattle.versions.specs.Damage.{record_fault, root_fault, IsFoundAt, IsRootAt, IsPutFault, IsBytesFault, IsVersionFault, IsStepFault, in_file, ports, no_place, no_limits, ports_own, unlike, bad_made, looking, small, own, of_page, unread}
 use Rattle.versions.specs.declared.finding.Found.{Found}
 use Rattle.versions.proofs.Standing.{large_content}

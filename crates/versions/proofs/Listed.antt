@@ -12,7 +12,7 @@ use Rattle.file_bodies.specs.Files.{HasFile, HasBody}
 use Rattle.file_bodies.specs.Places.{IsFirstFrom, FirstFrom, IsNext}
 use Rattle.file_bodies.proofs.Moving.{kept_file}
 use Rattle.file_bodies.proofs.Ordered.{ordered}
-use Rattle.version_model.specs.Listed.{oids_in, oids_of, rank_of, start_rank, AreReadable}
+use Rattle.versions.specs.Listed.{oids_in, oids_of, rank_of, start_rank, AreReadable}
 use Rattle.versions.proofs.FileRows.{InRows, in_mid, row_stands}
 use Rattle.versions.proofs.RowsListed.{IsShort, IsListed, key_of, slot_of, none_listed, next_listed, all_listed, next_rank, at_mid}
 

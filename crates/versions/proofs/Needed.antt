@@ -5,7 +5,7 @@ use Rattle.std.proofs.lemmas.List.{length-append, length-take, length-drop}
 use Rattle.ex_base.specs.declared.geometry.Geometry.{Geometry}
 use Rattle.ex_base.specs.declared.names.Area.{Area}
 use Rattle.object_records.specs.Record.{Content}
-use Rattle.version_model.specs.Versions.{Change, Inserts, Appends, Replaces, Deletes, InRange, changed, count_of}
+use Rattle.versions.specs.Versions.{Change, Inserts, Appends, Replaces, Deletes, InRange, changed, count_of}
 use Rattle.ex_base.specs.Needs.{growth_need}
 use Rattle.ex_base.proofs.Counts.{not_equal}
 use Rattle.versions.specs.Needs.{most_need, edit_need, height_in}

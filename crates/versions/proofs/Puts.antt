@@ -26,7 +26,7 @@ use Rattle.file_bodies.specs.Bodies.{pages_in}
 use Rattle.file_bodies.specs.Files.{HasBody, IsPageOf}
 use Rattle.file_bodies.proofs.Rows.{each_at}
 use Rattle.trees.specs.Roots.{IsRootFor}
-use Rattle.version_model.specs.Versions.{FitsIn}
+use Rattle.versions.specs.Versions.{FitsIn}
 
 some_page : (page : Option PageNo) → (page ≡ None → ⊥) → IsSome page
 some_page None h = absurd (h refl)

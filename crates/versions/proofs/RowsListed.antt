@@ -8,7 +8,7 @@ use Rattle.ex_base.specs.declared.names.Place.{Place}
 use Rattle.object_records.specs.Reads.{record_on}
 use Rattle.file_bodies.specs.Bodies.{Row, IsBefore, InPlaceOrder}
 use Rattle.file_bodies.specs.Places.{IsFrom, IsFirstFrom}
-use Rattle.version_model.specs.Listed.{oids_in, oids_of, rank_of, start_rank}
+use Rattle.versions.specs.Listed.{oids_in, oids_of, rank_of, start_rank}
 
 -- the page and the slot from which the next place is looked for
 abbrev pub key_of : Option Place → ℕ

@@ -11,18 +11,18 @@ use Rattle.ex_base.specs.Area.{catalog_no}
 use Rattle.ex_base.specs.declared.names.Root.{Root}
 use Rattle.trees.specs.Trees.{root_units}
 use Rattle.trees.specs.Damage.{IsWhole}
-use Rattle.file_bodies.specs.Places.{RemovesBody}
 use Rattle.ex_base.specs.declared.ground.Ground as ground
 use Rattle.ex_base.specs.declared.names.Oid.{Oid}
 use Rattle.ex_base.specs.declared.names.Place.{Place}
 use Rattle.ex_base.specs.Ports.{Keeps}
 use Rattle.ex_base.proofs.Each.{each_as}
 use Rattle.object_records.specs.Record.{Content, Small, Large, Record, BodyOf}
+use Rattle.object_records.specs.declared.Head.{Head}
 use Rattle.index_pages.specs.declared.Index.{Index}
 use Rattle.file_bodies.specs.Files.{HasFileOf, HasBody, HasSomeBody}
-use Rattle.file_bodies.proofs.Moving.{kept_body, kept_edits}
+use Rattle.file_bodies.proofs.Moving.{kept_body}
 use Rattle.file_bodies.proofs.Belonging.{file_of_body}
-use Rattle.version_model.specs.Versions.{HasRecord, HasVersion, HoldsVersion, Spells, IsTreeUnit, lone_head, place_of, content_units}
+use Rattle.versions.specs.Versions.{HasRecord, HasVersion, HoldsVersion, Spells, IsTreeUnit, place_of, content_units}
 use Rattle.versions.specs.Found.{IsTold, HasLimits, IsReadable, found_of, size_of, root_of}
 use Rattle.versions.specs.declared.finding.Found.{Found}
 use Rattle.versions.proofs.Records.{one_record}
@@ -79,14 +79,14 @@ module _ {S : Type 0} (g : ground.Ghosts S) where
   size_spelled geo units (Small held) bytes whole spells = ap length spells
   size_spelled geo units (Large root) bytes whole spells = root_length geo units root bytes whole spells.0
 
-  pub version_size : (s : S) (index : Index) (oid : Oid) (content : Content) (bytes : List ℕ) → g.ready s → g.tells s → HoldsVersion g s index oid content bytes → length bytes ≡ size_of content
-  version_size s index oid content bytes ready told has = size_spelled (g.geometry s) (g.unit s) content bytes (g.whole s ready told) has.spells
+  pub version_size : (s : S) (index : Index) (oid : Oid) (head : Head) (content : Content) (bytes : List ℕ) → g.ready s → g.tells s → HoldsVersion g s index oid head content bytes → length bytes ≡ size_of content
+  version_size s index oid head content bytes ready told has = size_spelled (g.geometry s) (g.unit s) content bytes (g.whole s ready told) has.spells
 
-  pub told_size : (s : S) (geo : Geometry) (index : Index) (oid : Oid) (body : List ℕ) (content : Content) (bytes : List ℕ) → g.ready s → g.tells s → HasSomeBody g s (place_of oid) body → HoldsVersion g s index oid content bytes
+  pub told_size : (s : S) (geo : Geometry) (index : Index) (oid : Oid) (head : Head) (body : List ℕ) (content : Content) (bytes : List ℕ) → g.ready s → g.tells s → HasSomeBody g s (place_of oid) body → HoldsVersion g s index oid head content bytes
       → (found : Option Found) → IfSome found (IsTold geo oid.unique body) → IfSome found (λ f. f.size ≡ length bytes)
-  told_size s geo index oid body content bytes ready told some has None is = tt
-  told_size s geo index oid body content bytes ready told some has (Some found) is =
-      ap (λ (f : Found). f.size) (told_is s geo index oid body found (record { head = lone_head oid.unique; content = content }) some is has.stored) ∙ sym (version_size s index oid content bytes ready told has)
+  told_size s geo index oid head body content bytes ready told some has None is = tt
+  told_size s geo index oid head body content bytes ready told some has (Some found) is =
+      ap (λ (f : Found). f.size) (told_is s geo index oid body found (record { head = head; content = content }) some is has.stored) ∙ sym (version_size s index oid head content bytes ready told has)
 
   -- ---- a version is readable
 
@@ -94,47 +94,48 @@ module _ {S : Type 0} (g : ground.Ghosts S) where
   limits_spelled geo units (Small held) bytes spells = tt
   limits_spelled geo units (Large root) bytes spells = root_is_for geo units root bytes spells.0 spells.1
 
-  pub version_readable : (s : S) (index : Index) (oid : Oid) (content : Content) (bytes : List ℕ) → HoldsVersion g s index oid content bytes → IsReadable g s (place_of oid)
-  version_readable s index oid content bytes has = λ body some. record {
-    is = record { head = lone_head oid.unique; content = content };
-    spelled = subst (λ (b : List ℕ). BodyOf b (record { head = lone_head oid.unique; content = content })) (sym (one_body s index (place_of oid) body has.stored.body some has.stored.stands)) has.stored.spelled;
+  pub version_readable : (s : S) (index : Index) (oid : Oid) (head : Head) (content : Content) (bytes : List ℕ) → HoldsVersion g s index oid head content bytes → IsReadable g s (place_of oid)
+  version_readable s index oid head content bytes has = λ body some. record {
+    is = record { head = head; content = content };
+    spelled = subst (λ (b : List ℕ). BodyOf b (record { head = head; content = content })) (sym (one_body s index (place_of oid) body has.stored.body some has.stored.stands)) has.stored.spelled;
     limits = limits_spelled (g.geometry s) (g.unit s) content bytes has.spells;
   }
 
   -- a version in use is one that can be read
-  pub holds_of : (s : S) (index : Index) (oid : Oid) (content : Content) (bytes : List ℕ) → HasVersion g s index oid content bytes → HoldsVersion g s index oid content bytes
-  holds_of s index oid content bytes has = record {
+  pub holds_of : (s : S) (index : Index) (oid : Oid) (head : Head) (content : Content) (bytes : List ℕ) → HasVersion g s index oid head content bytes → HoldsVersion g s index oid head content bytes
+  holds_of s index oid head content bytes has = record {
     stored = has.stored;
     spells = has.spells;
     apart = each_as (IsTreeUnit g s) (λ p. g.held s p ≡ false) (content_units (g.unit s) content) (λ p is. is.1) has.units;
   }
 
+  -- it has the head that is told of it
+  pub head_told : (s : S) (index : Index) (oid : Oid) (head told : Head) (content : Content) (bytes : List ℕ) → told ≡ head → HasVersion g s index oid head content bytes → HasVersion g s index oid told content bytes
+  head_told s index oid head told content bytes same has = subst (λ (h : Head). HasVersion g s index oid h content bytes) (sym same) has
+
   pub kept_spells : (a b : S) (content : Content) (bytes : List ℕ) → Keeps g a b → Spells (g.geometry a) (g.unit a) content bytes → Spells (g.geometry b) (g.unit b) content bytes
   kept_spells a b content bytes kept spells =
       subst (λ (u : Units). Spells (g.geometry b) u content bytes) (sym kept.units) (subst (λ (geo : Geometry). Spells geo (g.unit a) content bytes) (sym (g.leads_geometry a b kept.leads)) spells)
 
-  pub kept_holds : (a b : S) (index : Index) (oid : Oid) (content : Content) (bytes : List ℕ) → Keeps g a b → HoldsVersion g a index oid content bytes → HoldsVersion g b index oid content bytes
-  kept_holds a b index oid content bytes kept has = record {
-    stored = kept_record a b index oid (record { head = lone_head oid.unique; content = content }) kept has.stored;
+  pub kept_holds : (a b : S) (index : Index) (oid : Oid) (head : Head) (content : Content) (bytes : List ℕ) → Keeps g a b → HoldsVersion g a index oid head content bytes → HoldsVersion g b index oid head content bytes
+  kept_holds a b index oid head content bytes kept has = record {
+    stored = kept_record a b index oid (record { head = head; content = content }) kept has.stored;
     spells = kept_spells a b content bytes kept has.spells;
     apart = subst (λ (u : Units). AllByRecursion (λ p. g.held b p ≡ false) (content_units u content)) (sym kept.units)
         (each_as (λ p. g.held a p ≡ false) (λ p. g.held b p ≡ false) (content_units (g.unit a) content) (λ p is. rw kept.held is) has.apart);
   }
 
-  pub kept_version : (a b : S) (index : Index) (oid : Oid) (content : Content) (bytes : List ℕ) → Keeps g a b → HasVersion g a index oid content bytes → HasVersion g b index oid content bytes
-  kept_version a b index oid content bytes kept has = record {
-    stored = kept_record a b index oid (record { head = lone_head oid.unique; content = content }) kept has.stored;
+  pub kept_version : (a b : S) (index : Index) (oid : Oid) (head : Head) (content : Content) (bytes : List ℕ) → Keeps g a b → HasVersion g a index oid head content bytes → HasVersion g b index oid head content bytes
+  kept_version a b index oid head content bytes kept has = record {
+    stored = kept_record a b index oid (record { head = head; content = content }) kept has.stored;
     spells = kept_spells a b content bytes kept has.spells;
     units = subst (λ (u : Units). AllByRecursion (IsTreeUnit g b) (content_units u content)) (sym kept.units)
         (each_as (IsTreeUnit g a) (IsTreeUnit g b) (content_units (g.unit a) content) (λ p is. (rw kept.used is.0, rw kept.held is.1)) has.units);
   }
 
-  pub kept_removes : (a b c : S) (index : Index) (place : Place) (body : List ℕ) → Keeps g a b → RemovesBody g b c index place body → RemovesBody g a c index place body
-  kept_removes a b c index place body kept r = record { after = r.after; edit = kept_edits g a b c index r.after place (Some body) None kept r.edit }
-
   -- the tree of a large version is whole
-  pub version_whole : (s : S) (index : Index) (oid : Oid) (root : Root) (bytes : List ℕ) → HoldsVersion g s index oid (Large root) bytes → IsWhole (g.geometry s) (g.unit s) root
-  version_whole s index oid root bytes has = record {
+  pub version_whole : (s : S) (index : Index) (oid : Oid) (head : Head) (root : Root) (bytes : List ℕ) → HoldsVersion g s index oid head (Large root) bytes → IsWhole (g.geometry s) (g.unit s) root
+  version_whole s index oid head root bytes has = record {
     bytes = bytes;
     spells = has.spells.0;
     avoids = each_as (λ p. g.held s p ≡ false) (λ p. p ≢ catalog_no) (root_units (g.unit s) root) not_held has.apart;
@@ -145,12 +146,12 @@ module _ {S : Type 0} (g : ground.Ghosts S) where
 
   -- ---- what is told of a version says of which kind it is
 
-  pub small_version : (s : S) (index : Index) (oid : Oid) (content : Content) (bytes : List ℕ) (f : Found) → f ≡ found_of (record { head = lone_head oid.unique; content = content }) → f.root ≡ None
-      → HoldsVersion g s index oid content bytes → HoldsVersion g s index oid (Small bytes) bytes
-  small_version s index oid content bytes f told none has =
-      subst (λ (t : Content). HoldsVersion g s index oid t bytes) (small_content (g.geometry s) (g.unit s) content bytes (sym (ap (λ (x : Found). x.root) told) ∙ none) has.spells) has
+  pub small_version : (s : S) (index : Index) (oid : Oid) (head : Head) (content : Content) (bytes : List ℕ) (f : Found) → f ≡ found_of (record { head = head; content = content }) → f.root ≡ None
+      → HoldsVersion g s index oid head content bytes → HoldsVersion g s index oid head (Small bytes) bytes
+  small_version s index oid head content bytes f told none has =
+      subst (λ (t : Content). HoldsVersion g s index oid head t bytes) (small_content (g.geometry s) (g.unit s) content bytes (sym (ap (λ (x : Found). x.root) told) ∙ none) has.spells) has
 
-  pub large_version : (s : S) (index : Index) (oid : Oid) (content : Content) (bytes : List ℕ) (f : Found) (root : Root) → f ≡ found_of (record { head = lone_head oid.unique; content = content }) → f.root ≡ Some root
-      → HoldsVersion g s index oid content bytes → HoldsVersion g s index oid (Large root) bytes
-  large_version s index oid content bytes f root told some has =
-      subst (λ (t : Content). HoldsVersion g s index oid t bytes) (large_content content root (sym (ap (λ (x : Found). x.root) told) ∙ some)) has
+  pub large_version : (s : S) (index : Index) (oid : Oid) (head : Head) (content : Content) (bytes : List ℕ) (f : Found) (root : Root) → f ≡ found_of (record { head = head; content = content }) → f.root ≡ Some root
+      → HoldsVersion g s index oid head content bytes → HoldsVersion g s index oid head (Large root) bytes
+  large_version s index oid head content bytes f root told some has =
+      subst (λ (t : Content). HoldsVersion g s index oid head t bytes) (large_content content root (sym (ap (λ (x : Found). x.root) told) ∙ some)) has

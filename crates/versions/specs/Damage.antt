@@ -1,5 +1,5 @@
 -- What a fault of a call on versions says of the page, the record or the root that isn't what names it.
-use Rattle.std.specs.Prelude.{◌≡◌, ℕ, Bool, List, Option, Some, None, slice_index_or}
+use Rattle.std.specs.Prelude.{◌≡◌, ℕ, List, Option, Some, None, slice_index_or}
 use Rattle.ex_base.specs.declared.faults.PortFault.{PortFault}
 use Rattle.ex_base.specs.declared.faults.PortFault.TheVariants.{Damaged}
 use Rattle.ex_base.specs.declared.geometry.Geometry.{Geometry}
@@ -12,11 +12,11 @@ use Rattle.slotted_pages.specs.Edits.{slots_of}
 use Rattle.object_records.specs.Record.{Large, Record, BodyOf}
 use Rattle.ex_base.specs.Seen.{header_seen, nothing_seen, record_seen}
 use Rattle.file_index.specs.Damage.{every_page}
-use Rattle.file_bodies.specs.Damage.{page_from, IsBelongingFault, IsListedFault, IsLookFault, IsTakingFault}
+use Rattle.file_bodies.specs.Damage.{page_from, IsBelongingFault, IsListedFault, IsLookFault}
 use Rattle.trees.specs.Trees.{Units}
 use Rattle.trees.specs.Damage.{IsRootFault}
 use Rattle.trees.specs.Roots.{IsRootFor}
-use Rattle.version_model.specs.Versions.{place_of}
+use Rattle.versions.specs.Versions.{place_of}
 use Rattle.versions.specs.Found.{IsTold}
 use Rattle.versions.specs.Put.{IsPlaced}
 use Rattle.versions.specs.declared.finding.Found.{Found}
@@ -86,17 +86,6 @@ pub data IsVersionFault (g : Geometry) (units : Units) (image : ℕ → List ℕ
   looking : IsFindingFault g image oid fault → IsVersionFault g units image oid fault
   small : IsBytesFault g units oid no_tree fault → IsVersionFault g units image oid fault
   large : (root : Root) → IsRootAt image oid root → IsBytesFault g units oid root fault → IsVersionFault g units image oid fault
-
--- What a call tells that destroys a version: what a look for it tells; that its record isn't as the call asks; or what is told of its file (`now_held` and
--- `now` are what stands when it is told).
-pub data IsDestroyingFault (g : Geometry) (held : ℕ → Bool) (image : ℕ → List ℕ)
-    (now_held : ℕ → Bool) (now : ℕ → List ℕ) (oid : Oid) (fault : PortFault) : Type 0 where
-  finding : IsFindingFault g image oid fault
-      → IsDestroyingFault g held image now_held now oid fault
-  unasked : fault ≡ record_fault (place_of oid)
-      → IsDestroyingFault g held image now_held now oid fault
-  taking : IsTakingFault g held image now_held now (place_of oid) fault
-      → IsDestroyingFault g held image now_held now oid fault
 
 -- What is told of a place that a walk over a file comes to: of the file of its page; or that no record stands there that comes behind the one before.
 pub data IsStepFault (g : Geometry) (image : ℕ → List ℕ) (place : Place) (fault : PortFault) : Type 0 where

@@ -7,9 +7,10 @@ use Rattle.ex_base.specs.declared.names.Place.{Place}
 use Rattle.ex_base.specs.declared.names.Root.{Root}
 use Rattle.index_pages.specs.declared.Index.{Index}
 use Rattle.object_records.specs.Record.{Content}
+use Rattle.object_records.specs.declared.Head.{Head}
 use Rattle.versions.specs.declared.editing.Edit.{Edit}
 use Rattle.versions.specs.declared.editing.Edit.TheVariants.{Insert, Append, Replace, Delete}
-use Rattle.version_model.specs.Versions.{Change, Inserts, Appends, Replaces, Deletes, EditsVersion, StaysSmall, root_of}
+use Rattle.versions.specs.Versions.{Change, Inserts, Appends, Replaces, Deletes, EditsVersion, StaysSmall, root_of}
 use Rattle.versions.specs.Needs.{edit_need}
 
 abbrev pub change_of : Edit → Change
@@ -23,7 +24,7 @@ abbrev pub HasNeed : {S : Type 0} → ground.Ghosts S → S → Place → Conten
 HasNeed g s place content change n = (StaysSmall g s place content n → ⊥) → (area : Area) → edit_need (g.geometry s) change content area ≤ g.free s area
 
 -- The version becomes one of other bytes, and these are the root of its tree that goes and the one that comes.
-pub record TurnsVersion {S : Type 0} (g : ground.Ghosts S) (old new : S) (index : Index) (oid : Oid) (content : Content) (change : Change) (bytes : List ℕ) (gone come : Option Root) : Type 0 where
-  pub edit : EditsVersion g old new index oid content change bytes
+pub record TurnsVersion {S : Type 0} (g : ground.Ghosts S) (old new : S) (index : Index) (oid : Oid) (head : Head) (content : Content) (change : Change) (bytes : List ℕ) (gone come : Option Root) : Type 0 where
+  pub edit : EditsVersion g old new index oid head content change bytes
   pub went : gone ≡ root_of content
   pub came : come ≡ root_of edit.now

@@ -6,7 +6,7 @@ use Rattle.ex_base.specs.declared.names.Place.{Place}
 use Rattle.object_records.specs.Record.{Content, Small, Large, Record, BodyOf}
 use Rattle.file_bodies.specs.Files.{HasSomeBody}
 use Rattle.trees.specs.Roots.{IsRootFor}
-pub use Rattle.version_model.specs.Versions.{root_of}
+pub use Rattle.versions.specs.Versions.{root_of}
 use Rattle.versions.specs.declared.finding.Found.{Found}
 
 -- the bytes of the version

@@ -1,3 +1,5 @@
+pub mod Versions
+pub mod Listed
 pub mod Needs
 pub mod Found
 pub mod Edited

@@ -4,7 +4,7 @@ use Rattle.ex_base.specs.Needs.{growth_need, replace_need, delete_need}
 use Rattle.ex_base.specs.declared.geometry.Geometry.{Geometry}
 use Rattle.ex_base.specs.declared.names.Area.{Area}
 use Rattle.object_records.specs.Record.{Content, Small, Large}
-use Rattle.version_model.specs.Versions.{Change, Inserts, Appends, Replaces, Deletes, count_of}
+use Rattle.versions.specs.Versions.{Change, Inserts, Appends, Replaces, Deletes, count_of}
 
 -- the height of its tree, 0 for a small version
 abbrev pub height_in : Content → ℕ

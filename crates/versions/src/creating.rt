@@ -9,7 +9,7 @@ ghost use Rattle.file_bodies.specs.Files.{HasFile};
 ghost use Rattle.file_bodies.specs.Places.{IsRoom};
 ghost use Rattle.file_bodies.specs.Placing.{start_of};
 ghost use Rattle.file_bodies.specs.Damage.{IsListedFault, IsPlacingFault};
-ghost use Rattle.version_model.specs.Versions.{CreatesVersion, PutsVersion};
+ghost use Rattle.versions.specs.Versions.{CreatesVersion, PutsVersion};
 
 use crate::recorded::oid_at;
 use ex_base::{Oid, PortFault, Volume};

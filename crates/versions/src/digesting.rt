@@ -5,8 +5,9 @@ ghost use Rattle.sha2.specs.Sha256.{sha256};
 ghost use Rattle.ex_base.specs.Bytes.{bytes_at};
 ghost use Rattle.ex_base.specs.Ports.{Keeps, HasCause, IsDamage};
 ghost use Rattle.object_records.specs.Record.{Content};
+ghost use Rattle.object_records.specs.declared.Head.{Head};
 ghost use Rattle.index_pages.specs.declared.Index.{Index};
-ghost use Rattle.version_model.specs.Versions.{HoldsVersion};
+ghost use Rattle.versions.specs.Versions.{HoldsVersion};
 ghost use Rattle.versions.specs.Damage.{IsVersionFault};
 
 use crate::finding::read_at;
@@ -42,14 +43,14 @@ fn feed<V: ReadVolume>(
 ) -> Result<(), PortFault>
     requires { V.ready volume.old }
     ensures fed { OnOk result (V.tells volume.old
-        → (index : Index) (content : Content) (bytes : List ℕ)
-        → HoldsVersion V.Ground volume.old index oid.now content bytes
+        → (index : Index) (head : Head) (content : Content) (bytes : List ℕ)
+        → HoldsVersion V.Ground volume.old index oid.now head content bytes
         → (pos + length piece.old ≤ length bytes) × ((message : List ℕ)
         → Holds256 hasher.old message
         → Holds256 hasher.new (message ++ bytes_at bytes pos (length piece.old)))) }
     ensures sound { IfErr result (λ fault. IsDamage fault → V.tells volume.old
-        → (index : Index) (content : Content) (bytes : List ℕ)
-        → HoldsVersion V.Ground volume.old index oid.now content bytes
+        → (index : Index) (head : Head) (content : Content) (bytes : List ℕ)
+        → HoldsVersion V.Ground volume.old index oid.now head content bytes
         → pos + length piece.old ≤ length bytes → ⊥) }
     ensures fault { IfErr result (λ fault. V.tells volume.old
         → IsVersionFault (V.geometry volume.old) (V.unit volume.old)
@@ -77,12 +78,12 @@ pub fn digest_at<V: ReadVolume>(
     requires ready { V.ready volume.old }
     requires room { 0 < size → 0 < length buffer.old }
     ensures hash { IfOk result (λ hash. V.tells volume.old
-        → (index : Index) (content : Content) (bytes : List ℕ)
-        → HoldsVersion V.Ground volume.old index oid.now content bytes
+        → (index : Index) (head : Head) (content : Content) (bytes : List ℕ)
+        → HoldsVersion V.Ground volume.old index oid.now head content bytes
         → (size ≤ length bytes) × (hash ≡ sha256 (take size bytes))) }
     ensures sound { IfErr result (λ fault. IsDamage fault → V.tells volume.old
-        → (index : Index) (content : Content) (bytes : List ℕ)
-        → HoldsVersion V.Ground volume.old index oid.now content bytes
+        → (index : Index) (head : Head) (content : Content) (bytes : List ℕ)
+        → HoldsVersion V.Ground volume.old index oid.now head content bytes
         → size ≤ length bytes → ⊥) }
     ensures fault { IfErr result (λ fault. V.tells volume.old
         → IsVersionFault (V.geometry volume.old) (V.unit volume.old)

@@ -9,7 +9,7 @@ ghost use Rattle.object_records.specs.declared.Head.{Head};
 ghost use Rattle.object_records.specs.declared.State.TheVariants.{Current};
 ghost use Rattle.index_pages.specs.declared.Index.{Index};
 ghost use Rattle.file_bodies.specs.Files.{HasFileOf, HasBody};
-ghost use Rattle.version_model.specs.Versions.{HasRecord, HasVersion, Stands, Change, AreInUse, StaysSmall, FitsIn, InRange, changed, count_of, lone_head, place_of};
+ghost use Rattle.versions.specs.Versions.{HasRecord, HasVersion, Stands, Change, AreInUse, StaysSmall, FitsIn, InRange, changed, count_of, place_of};
 ghost use Rattle.ex_base.specs.Needs.{growth_need};
 ghost use Rattle.versions.specs.Needs.{edit_need};
 ghost use Rattle.versions.specs.Edited.{change_of, HasNeed, TurnsVersion};
@@ -222,12 +222,12 @@ fn put_edited<V: Volume>(
     requires limit { length bytes.now ≤ object_most }
     ensures size { IfOk result (λ done. done.size ≡ length bytes.now) }
     ensures edited { IfOk result (λ done. V.tells volume.old → AreInUse V.Ground volume.old
-        → head.now ≡ lone_head oid.now.unique → (index : Index) (held : List ℕ)
-        → HasVersion V.Ground volume.old index oid.now (Small held) held
-        → (change : Change) → TurnsVersion V.Ground volume.old volume.new index oid.now
+        → (index : Index) (held : List ℕ)
+        → HasVersion V.Ground volume.old index oid.now head.now (Small held) held
+        → (change : Change) → TurnsVersion V.Ground volume.old volume.new index oid.now head.now
         (Small held) change bytes.now done.gone done.come) }
     ensures small { OnOk result (V.tells volume.old → (index : Index) (held : List ℕ)
-        → HasVersion V.Ground volume.old index oid.now (Small held) held
+        → HasVersion V.Ground volume.old index oid.now head.now (Small held) held
         → StaysSmall V.Ground volume.old (place_of oid.now) (Small held) (length bytes.now)
         → V.free volume.new ≡ V.free volume.old) }
     ensures free { OnOk result ((area : Area)
@@ -235,7 +235,7 @@ fn put_edited<V: Volume>(
         + growth_need (V.geometry volume.old) count 0 area) }
     ensures sound { IfErr result (λ fault. IsDamage fault → V.tells volume.old
         → AreInUse V.Ground volume.old → (index : Index) (held : List ℕ)
-        → HasVersion V.Ground volume.old index oid.now (Small held) held
+        → HasVersion V.Ground volume.old index oid.now head.now (Small held) held
         → length bytes.now ≤ length held + count
         → length (V.image volume.old oid.now.page.0) ≡ (V.geometry volume.old).page_size
         → ((StaysSmall V.Ground volume.old (place_of oid.now) (Small held) (length bytes.now) → ⊥)
@@ -340,15 +340,18 @@ fn edit_small<V: Volume>(
     requires range { InRange (change_of edit.now) size }
     requires short { size < 65536 }
     ensures size { IfOk result (λ done. V.tells volume.old → (index : Index) (bytes : List ℕ)
-        → HasVersion V.Ground volume.old index oid.now (Small bytes) bytes → length bytes ≡ size
+        → HasVersion V.Ground volume.old index oid.now head.now (Small bytes) bytes
+        → length bytes ≡ size
         → done.size ≡ length (changed (change_of edit.now) bytes)) }
     ensures edited { IfOk result (λ done. V.tells volume.old → AreInUse V.Ground volume.old
-        → head.now ≡ lone_head oid.now.unique → (index : Index) (bytes : List ℕ)
-        → HasVersion V.Ground volume.old index oid.now (Small bytes) bytes → length bytes ≡ size
-        → TurnsVersion V.Ground volume.old volume.new index oid.now (Small bytes)
+        → (index : Index) (bytes : List ℕ)
+        → HasVersion V.Ground volume.old index oid.now head.now (Small bytes) bytes
+        → length bytes ≡ size
+        → TurnsVersion V.Ground volume.old volume.new index oid.now head.now (Small bytes)
         (change_of edit.now) (changed (change_of edit.now) bytes) done.gone done.come) }
     ensures small { OnOk result (V.tells volume.old → (index : Index) (bytes : List ℕ)
-        → HasVersion V.Ground volume.old index oid.now (Small bytes) bytes → length bytes ≡ size
+        → HasVersion V.Ground volume.old index oid.now head.now (Small bytes) bytes
+        → length bytes ≡ size
         → StaysSmall V.Ground volume.old (place_of oid.now) (Small bytes)
         (length (changed (change_of edit.now) bytes)) → V.free volume.new ≡ V.free volume.old) }
     ensures free { OnOk result ((area : Area)
@@ -356,7 +359,8 @@ fn edit_small<V: Volume>(
         + growth_need (V.geometry volume.old) (count_of (change_of edit.now)) 0 area) }
     ensures sound { IfErr result (λ fault. IsDamage fault → V.tells volume.old
         → AreInUse V.Ground volume.old → (index : Index) (bytes : List ℕ)
-        → HasVersion V.Ground volume.old index oid.now (Small bytes) bytes → length bytes ≡ size
+        → HasVersion V.Ground volume.old index oid.now head.now (Small bytes) bytes
+        → length bytes ≡ size
         → ((StaysSmall V.Ground volume.old (place_of oid.now) (Small bytes)
         (length (changed (change_of edit.now) bytes)) → ⊥) → (area : Area)
         → growth_need (V.geometry volume.old) (count_of (change_of edit.now)) 0 area
@@ -382,8 +386,8 @@ fn is_editable(found: &Found, edit: &Edit) -> bool
     found.head.state == State::Current && edit.is_in_range(found.size)
 }
 
-/// Edits a version, and answers its new size with the root that went and the one that came. An edit of no bytes changes nothing. A small version becomes large exactly where its record would not fit
-/// its page; a large one stays large.
+/// Edits a current version, and answers its new size with the root that went and the one that came; its head stays. An edit of no bytes changes nothing. A
+/// small version becomes large exactly where its record would not fit its page; a large one stays large.
 pub fn apply<V: Volume>(
     volume: &mut V,
     alloc: Global,
@@ -396,8 +400,8 @@ pub fn apply<V: Volume>(
     ensures asked { OnOk result (V.tells volume.old → (index : Index) (is : Record)
         → HasRecord V.Ground volume.old index oid.now is → is.head.state ≡ Current) }
     ensures size { IfOk result (λ done. V.tells volume.old
-        → (index : Index) (content : Content) (bytes : List ℕ)
-        → HasVersion V.Ground volume.old index oid.now content bytes
+        → (index : Index) (head : Head) (content : Content) (bytes : List ℕ)
+        → HasVersion V.Ground volume.old index oid.now head content bytes
         → InRange (change_of edit.now) (length bytes)
         × (done.size ≡ length (changed (change_of edit.now) bytes))) }
     ensures nothing { OnOk result (count_of (change_of edit.now) ≡ 0
@@ -406,25 +410,25 @@ pub fn apply<V: Volume>(
         → (done.gone ≡ None) × (done.come ≡ None)) }
     ensures edited { IfOk result (λ done. 1 ≤ count_of (change_of edit.now) → V.tells volume.old
         → AreInUse V.Ground volume.old
-        → (index : Index) (content : Content) (bytes : List ℕ)
-        → HasVersion V.Ground volume.old index oid.now content bytes
-        → TurnsVersion V.Ground volume.old volume.new index oid.now content (change_of edit.now)
-        (changed (change_of edit.now) bytes) done.gone done.come) }
+        → (index : Index) (head : Head) (content : Content) (bytes : List ℕ)
+        → HasVersion V.Ground volume.old index oid.now head content bytes
+        → TurnsVersion V.Ground volume.old volume.new index oid.now head content
+        (change_of edit.now) (changed (change_of edit.now) bytes) done.gone done.come) }
     ensures small { OnOk result (V.tells volume.old
-        → (index : Index) (content : Content) (bytes : List ℕ)
-        → HasVersion V.Ground volume.old index oid.now content bytes
+        → (index : Index) (head : Head) (content : Content) (bytes : List ℕ)
+        → HasVersion V.Ground volume.old index oid.now head content bytes
         → StaysSmall V.Ground volume.old (place_of oid.now) content
         (length (changed (change_of edit.now) bytes)) → V.free volume.new ≡ V.free volume.old) }
     ensures free { OnOk result (V.tells volume.old
-        → (index : Index) (content : Content) (bytes : List ℕ)
-        → HasVersion V.Ground volume.old index oid.now content bytes
+        → (index : Index) (head : Head) (content : Content) (bytes : List ℕ)
+        → HasVersion V.Ground volume.old index oid.now head content bytes
         → (area : Area) → V.free volume.old area ≤ V.free volume.new area
         + edit_need (V.geometry volume.old) (change_of edit.now) content area) }
     ensures sound { IfErr result (λ fault. IsDamage fault → V.tells volume.old
         → AreInUse V.Ground volume.old
-        → (index : Index) (content : Content) (bytes : List ℕ)
-        → HasVersion V.Ground volume.old index oid.now content bytes
-        → InRange (change_of edit.now) (length bytes)
+        → (index : Index) (head : Head) (content : Content) (bytes : List ℕ)
+        → HasVersion V.Ground volume.old index oid.now head content bytes
+        → head.state ≡ Current → InRange (change_of edit.now) (length bytes)
         → HasNeed V.Ground volume.old (place_of oid.now) content (change_of edit.now)
         (length (changed (change_of edit.now) bytes)) → ⊥) }
     ensures fault { IfErr result (λ fault. V.tells volume.old

@@ -8,7 +8,7 @@ ghost use Rattle.object_records.specs.declared.Head.{Head};
 ghost use Rattle.index_pages.specs.declared.Index.{Index};
 ghost use Rattle.file_bodies.specs.Files.{HasFileOf, HasBody};
 ghost use Rattle.trees.specs.Roots.{IsRootFor};
-ghost use Rattle.version_model.specs.Versions.{HasRecord, HoldsVersion, Stands, place_of};
+ghost use Rattle.versions.specs.Versions.{HasRecord, HoldsVersion, Stands, place_of};
 ghost use Rattle.versions.specs.Found.{IsReadable, IsRecordBody, IsTold, found_of};
 ghost use Rattle.versions.specs.Damage.{record_fault, IsFoundAt, IsBodyFault, IsFindingFault, IsStepFault, IsVersionFault};
 
@@ -111,13 +111,13 @@ fn find_reading<V: ReadVolume>(
     ensures told { IfOk result (λ found. V.tells volume.old → (index : Index) (is : Record)
         → HasRecord V.Ground volume.old index oid.now is → found ≡ Some (found_of is)) }
     ensures size { IfOk result (λ found. V.tells volume.old
-        → (index : Index) (content : Content) (bytes : List ℕ)
-        → HoldsVersion V.Ground volume.old index oid.now content bytes
+        → (index : Index) (head : Head) (content : Content) (bytes : List ℕ)
+        → HoldsVersion V.Ground volume.old index oid.now head content bytes
         → IfSome found (λ found. found.size ≡ length bytes)) }
     ensures bytes { IfOk result (λ found. IfSome found (λ found. V.tells volume.old
         → found.root ≡ None → pos + length out.old ≤ found.size
-        → (index : Index) (content : Content) (bytes : List ℕ)
-        → HoldsVersion V.Ground volume.old index oid.now content bytes
+        → (index : Index) (head : Head) (content : Content) (bytes : List ℕ)
+        → HoldsVersion V.Ground volume.old index oid.now head content bytes
         → out.new ≡ bytes_at bytes pos (length out.old))) }
     ensures len { length out.new ≡ length out.old }
     ensures head { IfOk result
@@ -158,8 +158,8 @@ pub fn find<V: ReadVolume>(
     ensures told { IfOk result (λ found. V.tells volume.old → (index : Index) (is : Record)
         → HasRecord V.Ground volume.old index oid.now is → found ≡ Some (found_of is)) }
     ensures size { IfOk result (λ found. V.tells volume.old
-        → (index : Index) (content : Content) (bytes : List ℕ)
-        → HoldsVersion V.Ground volume.old index oid.now content bytes
+        → (index : Index) (head : Head) (content : Content) (bytes : List ℕ)
+        → HoldsVersion V.Ground volume.old index oid.now head content bytes
         → IfSome found (λ found. found.size ≡ length bytes)) }
     ensures head { IfOk result
         (λ found. IfSome found (λ found. IsRecord (small_record found.head []))) }
@@ -291,12 +291,12 @@ pub fn read_at<V: ReadVolume>(
     ensures stands { OnOk result (V.tells volume.old → HasFileOf V.Ground volume.old oid.now.page.0
         → Stands V.Ground volume.old oid.now) }
     ensures bytes { OnOk result (V.tells volume.old
-        → (index : Index) (content : Content) (bytes : List ℕ)
-        → HoldsVersion V.Ground volume.old index oid.now content bytes
+        → (index : Index) (head : Head) (content : Content) (bytes : List ℕ)
+        → HoldsVersion V.Ground volume.old index oid.now head content bytes
         → (pos + length out.old ≤ length bytes) × (out.new ≡ bytes_at bytes pos (length out.old))) }
     ensures sound { IfErr result (λ fault. IsDamage fault → V.tells volume.old
-        → (index : Index) (content : Content) (bytes : List ℕ)
-        → HoldsVersion V.Ground volume.old index oid.now content bytes
+        → (index : Index) (head : Head) (content : Content) (bytes : List ℕ)
+        → HoldsVersion V.Ground volume.old index oid.now head content bytes
         → pos + length out.old ≤ length bytes → ⊥) }
     ensures fault { IfErr result (λ fault. V.tells volume.old
         → IsVersionFault (V.geometry volume.old) (V.unit volume.old)

@@ -13,7 +13,7 @@ ghost use Rattle.trees.specs.Damage.{IsWhole, IsRootFault};
 ghost use Rattle.trees.specs.Made.{Extends, AreUsed};
 ghost use Rattle.trees.specs.Grown.{Turned};
 ghost use Rattle.trees.specs.Roots.{IsRootFor};
-ghost use Rattle.version_model.specs.Versions.{HasVersion, AreInUse, Change, IsTreeShape, StaysSmall, InRange, changed, count_of, lone_head, place_of};
+ghost use Rattle.versions.specs.Versions.{HasVersion, AreInUse, Change, IsTreeShape, StaysSmall, InRange, changed, count_of, place_of};
 ghost use Rattle.ex_base.specs.Needs.{growth_need, replace_need, delete_need};
 ghost use Rattle.versions.specs.Needs.{most_need};
 ghost use Rattle.versions.specs.Edited.{change_of, TurnsVersion};
@@ -189,19 +189,19 @@ pub(crate) fn edit_large<V: Volume>(
     requires root { IsRootFor (V.geometry volume.old) root.now }
     requires range { InRange (change_of edit.now) root.now.size }
     ensures size { IfOk result (λ done. V.tells volume.old → (index : Index) (bytes : List ℕ)
-        → HasVersion V.Ground volume.old index oid.now (Large root.now) bytes
+        → HasVersion V.Ground volume.old index oid.now head.now (Large root.now) bytes
         → done.size ≡ length (changed (change_of edit.now) bytes)) }
     ensures edited { IfOk result (λ done. V.tells volume.old → AreInUse V.Ground volume.old
-        → head.now ≡ lone_head oid.now.unique → (index : Index) (bytes : List ℕ)
-        → HasVersion V.Ground volume.old index oid.now (Large root.now) bytes
-        → TurnsVersion V.Ground volume.old volume.new index oid.now (Large root.now)
+        → (index : Index) (bytes : List ℕ)
+        → HasVersion V.Ground volume.old index oid.now head.now (Large root.now) bytes
+        → TurnsVersion V.Ground volume.old volume.new index oid.now head.now (Large root.now)
         (change_of edit.now) (changed (change_of edit.now) bytes) done.gone done.come) }
     ensures free { OnOk result ((area : Area)
         → V.free volume.old area ≤ V.free volume.new area
         + most_need (V.geometry volume.old) (change_of edit.now) root.now.height area) }
     ensures sound { IfErr result (λ fault. IsDamage fault → V.tells volume.old
         → AreInUse V.Ground volume.old → (index : Index) (bytes : List ℕ)
-        → HasVersion V.Ground volume.old index oid.now (Large root.now) bytes
+        → HasVersion V.Ground volume.old index oid.now head.now (Large root.now) bytes
         → ((area : Area) → most_need (V.geometry volume.old)
         (change_of edit.now) root.now.height area ≤ V.free volume.old area) → ⊥) }
     ensures fault { IfErr result (λ fault. V.tells volume.old
@@ -237,17 +237,17 @@ pub(crate) fn convert<V: Volume>(
     requires page { length bytes.now ≤ count + (V.geometry volume.old).page_size }
     ensures size { IfOk result (λ done. done.size ≡ length bytes.now) }
     ensures edited { IfOk result (λ done. V.tells volume.old → AreInUse V.Ground volume.old
-        → head.now ≡ lone_head oid.now.unique → (index : Index) (held : List ℕ)
-        → HasVersion V.Ground volume.old index oid.now (Small held) held
+        → (index : Index) (held : List ℕ)
+        → HasVersion V.Ground volume.old index oid.now head.now (Small held) held
         → (StaysSmall V.Ground volume.old (place_of oid.now) (Small held) (length bytes.now) → ⊥)
-        → (change : Change) → TurnsVersion V.Ground volume.old volume.new index oid.now
+        → (change : Change) → TurnsVersion V.Ground volume.old volume.new index oid.now head.now
         (Small held) change bytes.now done.gone done.come) }
     ensures free { OnOk result ((area : Area)
         → V.free volume.old area ≤ V.free volume.new area
         + growth_need (V.geometry volume.old) count 0 area) }
     ensures sound { IfErr result (λ fault. IsDamage fault → V.tells volume.old
         → AreInUse V.Ground volume.old → (index : Index) (held : List ℕ)
-        → HasVersion V.Ground volume.old index oid.now (Small held) held
+        → HasVersion V.Ground volume.old index oid.now head.now (Small held) held
         → ((area : Area) → growth_need (V.geometry volume.old) count 0 area
         ≤ V.free volume.old area) → ⊥) }
     ensures fault { IfErr result (λ fault. V.tells volume.old

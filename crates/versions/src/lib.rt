@@ -6,7 +6,6 @@
 #![tactic(auto)]
 
 mod creating;
-mod destroying;
 mod digesting;
 mod editing;
 mod finding;
@@ -15,7 +14,6 @@ mod listing;
 mod recorded;
 
 pub use creating::create;
-pub use destroying::destroy;
 pub use digesting::{digest_at, room_for};
 pub use editing::{Edit, Edited, apply};
 pub use finding::{Found, find, read_at, stood};

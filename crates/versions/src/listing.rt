@@ -7,7 +7,7 @@ ghost use Rattle.index_pages.specs.declared.Index.{Index};
 ghost use Rattle.file_bodies.specs.Bodies.{bodies_of};
 ghost use Rattle.file_bodies.specs.Files.{HasFile, HasBody};
 ghost use Rattle.versions.specs.Damage.{record_fault, IsStepFault, IsListingFault};
-ghost use Rattle.version_model.specs.Listed.{oids_in, oids_of, rank_of, start_rank, AreByNumber, AreReadable};
+ghost use Rattle.versions.specs.Listed.{oids_in, oids_of, rank_of, start_rank, AreByNumber, AreReadable};
 
 use crate::recorded::{check, no_record, oid_at};
 use ex_base::{Oid, Place, PortFault, ReadVolume};

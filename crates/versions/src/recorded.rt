@@ -3,8 +3,8 @@ ghost use Rattle.std.specs.Prelude.{◌≡◌, ℕ, IfErr, OnOk, IsTrue, false};
 ghost use Rattle.ex_base.specs.Ports.{Cause, HasCause, IsDamage};
 ghost use Rattle.ex_base.specs.Seen.{nothing_seen};
 ghost use Rattle.object_records.specs.Record.{Record, BodyOf};
-ghost use Rattle.version_model.specs.Listed.{oid_at};
-ghost use Rattle.version_model.specs.Versions.{root_of};
+ghost use Rattle.versions.specs.Listed.{oid_at};
+ghost use Rattle.versions.specs.Versions.{root_of};
 ghost use Rattle.versions.specs.Damage.{record_fault, root_fault};
 
 use ex_base::{Oid, PageNo, Place, PortFault, Root, Seen};

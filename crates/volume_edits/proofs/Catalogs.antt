@@ -1,15 +1,15 @@
 -- A volume whose catalog page alone changes.
 use Rattle.std.proofs.Common.{◌≡◌, ◌≢◌, ℕ, ◌<◌, ◌≤◌, Bool, true, false, List, [], ◌∷◌, ◌++◌, refl, sym, ap, subst, ◌∙◌, arith, inl, inr}
 use Rattle.std.proofs.lemmas.Bool.{cases_lt}
-use Rattle.std.specs.Prelude.{map, Contains, ◌↔◌}
+use Rattle.std.specs.Prelude.{Contains, ◌↔◌}
 use Rattle.std.specs.List.{flat_map, AllByRecursion, AllZip}
 use Rattle.ex_base.specs.declared.ground.Ground as ground
 use Rattle.ex_base.specs.declared.geometry.Geometry.{Geometry}
 use Rattle.ex_base.specs.declared.names.Root.{Root}
 use Rattle.ex_base.specs.Area.{catalog_no, area_end, InPageArea}
-use Rattle.ex_base.specs.Order.{Rising, AllDiffer}
+use Rattle.ex_base.specs.Order.{AllDiffer}
 use Rattle.ex_base.specs.Ports.{times, PutsImage}
-use Rattle.ex_base.proofs.Each.{split_each, each_as, each_parted, each_with, flat_same, map_same, zip_with}
+use Rattle.ex_base.proofs.Each.{split_each, each_as, each_parted, each_with, flat_same, zip_with}
 use Rattle.ex_base.proofs.Counts.{same_or_not, times-append}
 use Rattle.ex_base.proofs.Members.{contains_in}
 use Rattle.op_log.specs.declared.record.LogRecord.{LogRecord}
@@ -18,24 +18,24 @@ use Rattle.file_bodies.proofs.Moving.{moved}
 use Rattle.file_bodies.proofs.Rows.{each_at}
 use Rattle.object_files.specs.Catalog.{FileEntry, CatalogOf}
 use Rattle.trees.specs.Trees.{Units, root_units, RootNamed}
-use Rattle.volume_model.specs.Parts.{HasIndex, HasPages, HasLines, HasNodes, HasBalance, HasUniques, Apart, AllApart, IsLastOf, HoldsOf, content_parts}
-use Rattle.volume_model.specs.Volume.{Stored, Line, FileContent, Volume, line_records, lines_of, stored_in, pages_of_file, file_pages, unique_of, line_number, roots_in, line_units, reach_of, table_of}
+use Rattle.volume_model.specs.Parts.{HasBodies, HasIndex, HasPages, HasNodes, HasBalance, HasUniques, IsLastOf, HoldsOf, content_parts}
+use Rattle.volume_model.specs.Links.{Apart, HasObjects, NumbersDiffer}
+use Rattle.volume_model.specs.Volume.{Stored, FileContent, Volume, stored_in, pages_of_file, file_pages, unique_of, roots_in, reach_of, table_of}
 use Rattle.volume_edits.specs.Ported.{IsVolume, IsApart, units_in}
-use Rattle.volume_edits.proofs.Kept.{RootKept, LineKept, units_of_root, named_root, balance_kept, line_units_same, roots_of_lines, files_same}
+use Rattle.volume_edits.proofs.Kept.{RootKept, StoredKept, units_of_root, named_root, balance_kept, roots_of_stored, objects_kept, files_same}
 use Rattle.volume_edits.proofs.Counted.{file_lies, in_area}
 use Rattle.volume_edits.proofs.Frames.{past_area}
-use Rattle.volume_edits.proofs.Edited.{pages_kept}
+use Rattle.volume_edits.proofs.PagesRead.{pages_kept}
 
--- A volume on the same pages and with the same objects, under another catalog.
+-- A volume on the same pages and with the same records, under another catalog.
 pub record Recataloged (g : Geometry) (units : Units) (v now : Volume) : Type 0 where
   pub pages_same : file_pages now ≡ file_pages v
-  pub lines_same : lines_of now ≡ lines_of v
+  pub stored_same : stored_in now ≡ stored_in v
   pub last : now.catalog.last ≡ v.catalog.last
   pub next : v.catalog.next_unique ≤ now.catalog.next_unique
   pub index : AllZip (HasIndex g units) now.catalog.entries now.files
   pub page : AllZip (HasPages units) now.catalog.entries now.files
-  pub lines : AllByRecursion HasLines now.files
-  pub listed : AllByRecursion (λ (file : FileContent). Rising (map line_number file.lines)) now.files
+  pub bodies : AllByRecursion HasBodies now.files
 
 zip_files : {R : FileEntry → FileContent → Type 0} (Q : FileContent → Type 0) (entries : List FileEntry) (files : List FileContent) → ((e : FileEntry) (f : FileContent) → R e f → Q f) → AllZip R entries files → AllByRecursion Q files
 zip_files Q [] [] f h = tt
@@ -95,8 +95,8 @@ module _ {S : Type 0} (g : ground.Ghosts S) (old new : S) (records : List LogRec
   roots_kept = each_as (λ (root : Root). Apart (root_units U root) (catalog_no ∷ file_pages v)) (RootKept U U') (roots_in (stored_in v))
       (λ root apart. each_as (λ u. ¬ Contains (catalog_no ∷ file_pages v) u) Stays (root_units U root) (λ u lacks. stays u (units_differ u lacks)) apart) vol.shows.parts.1.1.1.1.0.no_file_page
 
-  lines_kept : AllByRecursion (LineKept U U') (lines_of v)
-  lines_kept = roots_of_lines (RootKept U U') (lines_of v) roots_kept
+  stored_kept : AllByRecursion (StoredKept U U') (stored_in v)
+  stored_kept = roots_of_stored (RootKept U U') (stored_in v) roots_kept
 
   named : AllByRecursion (λ (root : Root). RootNamed (g.geometry new) U' root.height root.page) (roots_in (stored_in v))
   named = each_with (RootKept U U') (λ (root : Root). RootNamed (g.geometry old) U root.height root.page) (λ (root : Root). RootNamed (g.geometry new) U' root.height root.page) (roots_in (stored_in v))
@@ -110,29 +110,24 @@ module _ {S : Type 0} (g : ground.Ghosts S) (old new : S) (records : List LogRec
   balance = each_with (RootKept U U') (HasBalance (g.geometry old) U) (HasBalance (g.geometry new) U') (roots_in (stored_in v))
       (λ root kept b. subst (λ (gm : Geometry). HasBalance gm U' root) (sym geometry) (balance_kept (g.geometry old) U U' root kept b)) roots_kept vol.shows.parts.1.1.1.1.1.0
 
-  stored_same : stored_in now ≡ stored_in v
-  stored_same = ap (flat_map line_records) is.lines_same
-
   roots_same : roots_in (stored_in now) ≡ roots_in (stored_in v)
-  roots_same = ap roots_in stored_same
+  roots_same = ap roots_in is.stored_same
 
   part_node : HasNodes (g.geometry new) U' now
   part_node = record {
     named = subst (AllByRecursion (λ (root : Root). RootNamed (g.geometry new) U' root.height root.page)) (sym roots_same) named;
     no_file_page = subst (λ (ps : List ℕ). AllByRecursion (λ (root : Root). Apart (root_units U' root) (catalog_no ∷ ps)) (roots_in (stored_in now))) (sym is.pages_same)
         (subst (AllByRecursion (λ (root : Root). Apart (root_units U' root) (catalog_no ∷ file_pages v))) (sym roots_same) apart_pages);
-    one_object = subst (λ (ls : List Line). AllApart (map (line_units U') ls)) (sym is.lines_same)
-        (subst AllApart (sym (map_same (line_units U) (line_units U') (LineKept U U') (lines_of v) (λ line kept. line_units_same U U' line kept) lines_kept)) vol.shows.parts.1.1.1.1.0.one_object);
+    objects = subst (HasObjects U') (sym is.stored_same) (objects_kept U U' (stored_in v) stored_kept vol.shows.parts.1.1.1.1.0.objects);
   }
 
   part_unique : HasUniques now
   part_unique =
       let before = vol.shows.parts.1.1.1.1.1.1.0 in
       record {
-        differ = subst (λ (xs : List Stored). AllDiffer (map unique_of xs)) (sym stored_same) before.differ;
-        some = subst (AllByRecursion (λ (s : Stored). 1 ≤ unique_of s)) (sym stored_same) before.some;
-        below = each_as (λ (s : Stored). unique_of s < v.catalog.next_unique) (λ (s : Stored). unique_of s < now.catalog.next_unique) (stored_in now) (λ s lt. omega (arith, lt, is.next)) (subst (AllByRecursion (λ (s : Stored). unique_of s < v.catalog.next_unique)) (sym stored_same) before.below);
-        listed = is.listed;
+        differ = subst NumbersDiffer (sym is.stored_same) before.differ;
+        some = subst (AllByRecursion (λ (s : Stored). 1 ≤ unique_of s)) (sym is.stored_same) before.some;
+        below = each_as (λ (s : Stored). unique_of s < v.catalog.next_unique) (λ (s : Stored). unique_of s < now.catalog.next_unique) (stored_in now) (λ s lt. omega (arith, lt, is.next)) (subst (AllByRecursion (λ (s : Stored). unique_of s < v.catalog.next_unique)) (sym is.stored_same) before.below);
       }
 
   pub trees_same : flat_map (root_units U') (roots_in (stored_in now)) ≡ flat_map (root_units U) (roots_in (stored_in v))
@@ -155,7 +150,7 @@ module _ {S : Type 0} (g : ground.Ghosts S) (old new : S) (records : List LogRec
       (
         zip_with (λ (f : FileContent). AllByRecursion Stays (pages_of_file f)) (HasPages U) (HasPages U') now.catalog.entries now.files (λ e f stay has. pages_kept U U' e f.numbers f.pages (split_each Stays f.numbers f.index_pages stay).0 has) files_stay is.page,
         (
-          is.lines,
+          is.bodies,
           (
             part_node,
             (
@@ -182,6 +177,6 @@ module _ {S : Type 0} (g : ground.Ghosts S) (old new : S) (records : List LogRec
 
   pub table_same : table_of U' now ≡ table_of U now
   table_same =
-      let kept = subst (AllByRecursion (LineKept U U')) (sym is.lines_same) lines_kept in
-      let files = files_same U U' now.catalog.entries now.files (each_parted (LineKept U U') (λ (file : FileContent). file.lines) now.files kept) in
+      let kept = subst (AllByRecursion (StoredKept U U')) (sym is.stored_same) stored_kept in
+      let files = files_same U U' now.catalog.entries now.files (each_parted (StoredKept U U') (λ (file : FileContent). file.stored) now.files kept) in
       cc files

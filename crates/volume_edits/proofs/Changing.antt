@@ -1,107 +1,191 @@
 -- An edited version makes a volume whose table has that version's bytes changed.
-use Rattle.std.proofs.Common.{◌≡◌, ◌≢◌, ℕ, ◌+◌, ◌<◌, ◌≤◌, true, false, List, [], ◌∷◌, ◌++◌, Option, Some, None, refl, sym, ap, subst, ◌∙◌, arith, inl, inr, ◌⊎◌}
+use Rattle.std.proofs.Common.{◌≡◌, ◌≢◌, ℕ, ◌+◌, ◌<◌, ◌≤◌, true, false, true≢false, cond, List, [], ◌∷◌, ◌++◌, Some, refl, sym, ap, subst, ◌∙◌, arith, inl, inr, ◌⊎◌}
 use Rattle.std.specs.Prelude.{map, Contains}
 use Rattle.std.specs.List.{flat_map, AllByRecursion, AllZip}
+use Rattle.std.proofs.lemmas.List.{map-append}
+use Rattle.std.proofs.lemmas.List.Concat.{flat_map-append}
 use Rattle.ex_base.specs.declared.ground.Ground as ground
 use Rattle.ex_base.specs.declared.names.Oid.{Oid}
 use Rattle.ex_base.specs.declared.names.PageNo.{PageNo}
 use Rattle.ex_base.specs.declared.names.Place.{Place}
+use Rattle.ex_base.specs.declared.names.Root.{Root}
 use Rattle.ex_base.specs.Area.{catalog_no}
-use Rattle.ex_base.specs.Order.{Rising}
+use Rattle.ex_base.specs.Order.{AllDiffer}
 use Rattle.ex_base.specs.Ports.{times}
 use Rattle.ex_base.proofs.Counts.{contains_times, times-append}
-use Rattle.ex_base.proofs.Members.{In, contains_in, in_contains, in_left, in_right, of_each}
-use Rattle.ex_base.proofs.Each.{each_as, each_with}
+use Rattle.ex_base.proofs.Each.{each_as, each_mapped, each_unmapped, split_each}
+use Rattle.ex_base.proofs.Members.{In, contains_in, each_in, from_flat, in_contains, in_either, in_left, in_right, into_flat, of_each}
+use Rattle.ex_base.proofs.Rows.{each-append}
 use Rattle.op_log.specs.declared.record.LogRecord.{LogRecord}
 use Rattle.index_pages.specs.declared.Index.{Index}
 use Rattle.file_index.specs.Changes.{count_of}
 use Rattle.file_index.specs.Index.{IsFilesPage, pages_of}
 use Rattle.file_index.proofs.Counts.{count_most, is_counted}
 use Rattle.file_index.proofs.Heights.{keys_of_pages}
-use Rattle.file_bodies.specs.Bodies.{Row, row_of, pages_in}
+use Rattle.file_bodies.specs.Bodies.{Row, InPlaceOrder, bodies_of, pages_in}
 use Rattle.file_bodies.specs.Files.{HasFile, all_pages}
 use Rattle.file_bodies.proofs.Moving.{moved}
+use Rattle.file_bodies.proofs.Ordered.{ordered}
 use Rattle.file_bodies.proofs.Rows.{each_at}
 use Rattle.object_files.specs.Catalog.{CatalogOf}
 use Rattle.object_records.specs.Record.{Content, Record, BodyOf}
+use Rattle.object_records.specs.declared.Head.{Head}
+use Rattle.object_records.proofs.RecordLaws.{record_read}
 use Rattle.trees.specs.Trees.{Units, root_units}
-use Rattle.trees.specs.Made.{Has, IsTaken}
+use Rattle.trees.specs.Made.{Has as HasUnit, IsTaken}
 use Rattle.table_model.specs.Tables.{with_bytes}
-use Rattle.version_model.specs.Versions.{HasVersion, Change, EditsVersion, IsTreeUnit, place_of, lone_head, content_units, root_of}
-use Rattle.volume_model.specs.Parts.{IsStored}
-use Rattle.volume_model.specs.Shown.{root_here}
-use Rattle.volume_model.specs.Volume.{Stored, Volume, file_pages, unique_of, line_number, oid_of, roots_in, root_in, reach_of}
+use Rattle.version_lists.specs.declared.version.Version.{Version}
+use Rattle.version_lists.specs.Sorted.{in_order}
+use Rattle.version_lists.specs.Versions.{unique_of as number_of, has_oid}
+use Rattle.version_lists.specs.Changes.{bytes_changed, edited_in}
+use Rattle.version_lists.proofs.Changes.{edited_absent}
+use Rattle.version_lists.proofs.Lists.{Has, contains_has, has_back, has_contains, has_either, has_front, rises_map}
+use Rattle.versions.specs.Versions.{HasVersion, Change, EditsVersion, IsTreeUnit, place_of, content_units, root_of}
+use Rattle.versions.proofs.FileRows.{InRows, in_mid}
+use Rattle.version_tree.specs.Bodies.{PlaceChange, body_at, changed_at}
+use Rattle.version_tree.proofs.Places.{at_row, put_at}
+use Rattle.volume_model.specs.Held.{root_here}
+use Rattle.volume_model.specs.Links.{AreLinked, HasObjects, NumbersDiffer, place_in, stored_units}
+use Rattle.volume_model.specs.Parts.{HasUniques, IsStored}
+use Rattle.volume_model.specs.Volume.{Stored, Volume, content_in, oid_of, root_in, roots_in, stored_in, table_of, unique_of, versions_stored}
+use Rattle.volume_model.proofs.Links.{linked_olders}
+use Rattle.volume_model.proofs.Places.{Sep, has_each, has_stands, sep_from, sep_to}
+use Rattle.volume_model.proofs.Versions.{stored_rises}
 use Rattle.volume_edits.specs.Ported.{IsVolume, IsApart, units_in}
-use Rattle.volume_edits.specs.Edits.{ChangesVolume, TurnsRoots, trees_of, units_under}
-use Rattle.volume_edits.proofs.Lists.{flat_around, map_around, Paired, zip_joined}
-use Rattle.volume_edits.proofs.Frames.{Frame}
-use Rattle.volume_edits.proofs.Holes.{Hole, lone, stored_if, filled, catalog_with, lines_with, stored_with, table_filled, pages_filled, roots_filled, stored_first, stored_last, pages_first, pages_last}
+use Rattle.volume_edits.specs.Edits.{ChangesVolume, TurnsRoots, kept, taken, trees_of, units_under}
+use Rattle.trees.specs.Owners.{root_pages}
+use Rattle.volume_edits.proofs.Editing.{is_edited, keeps_links, keeps_objects}
+use Rattle.volume_edits.proofs.Edited.{Edit, all_kept, edited, fine_root, olds, own_kept, own_trees as file_trees, places_after, tree_moved, trees_from, units_kept}
+use Rattle.volume_edits.proofs.FileBefore.{own_links, own_numbers, whole_objects, whole_places}
+use Rattle.volume_edits.proofs.Frames.{Frame, IsTreeOf}
 use Rattle.volume_edits.proofs.Counted.{in_area}
-use Rattle.volume_edits.proofs.Edited.{Edit, IsOwn, edited, table_edited, trees_from, left_units}
-use Rattle.volume_edits.proofs.Placed.{Placed, placed}
-use Rattle.volume_edits.proofs.Showing.{one_record}
-use Rattle.volume_edits.proofs.Spelled.{own_units, own_trees, own_content, body_there, x_some, x_below, x_alone, own_listed, lacks_around}
-use Rattle.volume_edits.proofs.Tables.{bytes_there}
-use Rattle.volume_edits.proofs.Turned.{nodes_apart, root_there, root_was_there, roots_turned, units_there, volume_in_use, whole_there}
+use Rattle.volume_edits.proofs.Holes.{Hole, catalog_with, filled, pages_filled, pages_first, pages_last, stored_filled, stored_first, stored_last}
+use Rattle.volume_edits.proofs.Kept.{StoredKept, content_same, stored_same}
+use Rattle.volume_edits.proofs.Lists.{Paired, map_around}
+use Rattle.volume_edits.proofs.Placed.{Placed, placed, records_of}
+use Rattle.volume_edits.proofs.RecordEdits.{EditsStored, stored_at, stored_of}
+use Rattle.volume_edits.proofs.RecordUpdates.{EditsRecord, stored_as}
+use Rattle.volume_edits.proofs.RowLinks.{row_stands_as}
+use Rattle.volume_edits.proofs.Rows.{rows_edit, rows_read}
+use Rattle.volume_edits.proofs.Spelled.{body_there, own_content, own_fine, own_trees, own_units}
+use Rattle.volume_edits.proofs.Tabled.{table_changed}
+use Rattle.volume_edits.proofs.TurnCounts.{has_in, in_has, named_append, named_has, named_root, sep_back, sep_cross}
+use Rattle.volume_edits.proofs.Turned.{nodes_apart, root_there, roots_turned, units_there, volume_in_use, whole_there}
+use Rattle.volume_edits.proofs.VolumeTrees.{IsFine, IsTree, IsVolumeTree}
+use Rattle.volume_edits.proofs.Within.{edits_within}
 
-has_in : (xs : List ℕ) (u : ℕ) → Has xs u → In u xs
-has_in [] u h = absurd h
-has_in (x ∷ xs) u (inl e) = inl (sym e)
-has_in (x ∷ xs) u (inr h) = inr (has_in xs u h)
+unit_in : (xs : List ℕ) (u : ℕ) → HasUnit xs u → In u xs
+unit_in [] u h = absurd h
+unit_in (x ∷ xs) u (inl e) = inl (sym e)
+unit_in (x ∷ xs) u (inr h) = inr (unit_in xs u h)
 
 abbrev made_oid : PageNo → ℕ → ℕ → Oid
 made_oid page slot unique = record { page = page; slot = slot; unique = unique }
 
--- a record in the place of an OID, under its number
-pub oid_is : (x : Stored) (oid : Oid) → x.place ≡ place_of oid → unique_of x ≡ oid.unique → oid_of x ≡ oid
-oid_is x oid place number =
-    let page : x.place.page ≡ oid.page = ap (λ (p : Place). p.page) place in
-    let slot : x.place.slot ≡ oid.slot = ap (λ (p : Place). p.slot) place in
-    let same : made_oid x.place.page x.place.slot (unique_of x) ≡ made_oid oid.page oid.slot oid.unique = cc (page, slot, number) in same
-
--- the same numbers in the same order
-pub same_listing : (h : Hole) (x y : Stored) → unique_of y ≡ unique_of x → map line_number (lines_with h (Some y)) ≡ map line_number (lines_with h (Some x))
-same_listing h x y same =
-    map_around line_number h.lines_before (lone y ∷ []) h.lines_behind ∙ ap (λ (n : ℕ). map line_number h.lines_before ++ ((n ∷ []) ++ map line_number h.lines_behind)) same ∙ sym (map_around line_number h.lines_before (lone x ∷ []) h.lines_behind)
-
--- the units of the object in the place are units of the volume's trees
-pub middle_trees : (units : Units) (h : Hole) (image : ℕ → List ℕ) (index : Index) (o : Option Stored) (u : ℕ) → In u (flat_map (root_units units) (roots_in (stored_if o))) → In u (trees_of units (filled h image index o))
-middle_trees units h image index o u inside =
-    let all : trees_of units (filled h image index o) ≡ flat_map (root_units units) (roots_in (stored_first h)) ++ (flat_map (root_units units) (roots_in (stored_if o)) ++ flat_map (root_units units) (roots_in (stored_last h))) =
-    ap (flat_map (root_units units)) (roots_filled h image index o) ∙ flat_around (root_units units) (roots_in (stored_first h)) (roots_in (stored_if o)) (roots_in (stored_last h)) in
-    subst (λ (t : List ℕ). In u t) (sym all) (in_right u (flat_map (root_units units) (roots_in (stored_first h))) (flat_map (root_units units) (roots_in (stored_if o)) ++ flat_map (root_units units) (roots_in (stored_last h))) (in_left u (flat_map (root_units units) (roots_in (stored_if o))) (flat_map (root_units units) (roots_in (stored_last h))) inside))
-
-module _ {S : Type 0} (g : ground.Ghosts S) (old new : S) (records : List LogRecord) (h : Hole) (index : Index) (x : Stored) (vol : IsVolume g old records (filled h (g.image old) index (Some x)))
-    (oid : Oid) (content : Content) (change : Change) (before bytes : List ℕ) (geometry : g.geometry new ≡ g.geometry old) (apart : IsApart g new) (had : HasVersion g old index oid content before) (edit : EditsVersion g old new index oid content change bytes)
-    (number : index.file_no ≡ h.file_no) (paired : Paired h.entries_before h.files_before) (front_rows : AllZip IsStored edit.rows.front h.stored_before) (back_rows : AllZip IsStored edit.rows.back h.stored_behind) (own : IsStored (place_of oid, edit.was) x) where
+module _ {S : Type 0} (g : ground.Ghosts S) (old new : S) (records : List LogRecord) (h : Hole) (index : Index) (vol : IsVolume g old records (filled h (g.image old) index (records_of (g.image old) index)))
+    (oid : Oid) (head : Head) (content : Content) (change : Change) (before bytes : List ℕ) (geometry : g.geometry new ≡ g.geometry old) (apart : IsApart g new)
+    (had : HasVersion g old index oid head content before) (edit : EditsVersion g old new index oid head content change bytes)
+    (number : index.file_no ≡ h.file_no) (paired : Paired h.entries_before h.files_before) (records_are : AllZip IsStored (bodies_of (g.image old) index) (records_of (g.image old) index)) where
   abbrev U : Units
   U = units_in g old
 
   abbrev U' : Units
   U' = units_in g new
 
-  body_was : BodyOf edit.was (record { head = lone_head oid.unique; content = content })
-  body_was = body_there g old vol.shows.apart index oid (record { head = lone_head oid.unique; content = content }) edit.rows.front edit.rows.back edit.was had.stored edit.rows.before
+  -- the records of the file, before and after
+  abbrev was : List Stored
+  was = records_of (g.image old) index
 
-  x_is : x.body ≡ record { head = lone_head oid.unique; content = content }
-  x_is = one_record edit.was x.body (record { head = lone_head oid.unique; content = content }) own.1 body_was
+  abbrev later : List Stored
+  later = records_of (g.image new) index
 
-  body_now : BodyOf edit.is (record { head = lone_head oid.unique; content = edit.now })
-  body_now = body_there g new apart index oid (record { head = lone_head oid.unique; content = edit.now }) edit.rows.front edit.rows.back edit.is edit.version.stored edit.rows.after
+  abbrev v : Volume
+  v = filled h (g.image old) index was
 
-  x_number : unique_of x ≡ oid.unique
-  x_number = ap (λ (r : Record). r.head.unique) x_is
+  abbrev v' : Volume
+  v' = filled h (g.image new) index later
 
-  x_place : x.place ≡ place_of oid
-  x_place = sym own.0
+  abbrev place : Place
+  place = place_of oid
+
+  abbrev was_record : Record
+  was_record = record { head = head; content = content }
+
+  abbrev now_record : Record
+  now_record = record { head = head; content = edit.now }
+
+  abbrev x : Stored
+  x = stored_as place was_record
 
   abbrev y : Stored
-  y = record { place = place_of oid; body = record { head = lone_head oid.unique; content = edit.now } }
+  y = stored_as place now_record
 
-  -- ---- pages
+  -- ---- the record
 
   had_file : HasFile g old index
   had_file = had.stored.stands.file
+
+  body_was : BodyOf edit.was was_record
+  body_was = body_there g old vol.shows.apart index oid was_record edit.rows.front edit.rows.back edit.was had.stored edit.rows.before
+
+  body_now : BodyOf edit.is now_record
+  body_now = body_there g new apart index oid now_record edit.rows.front edit.rows.back edit.is edit.version.stored edit.rows.after
+
+  abbrev front : List Stored
+  front = stored_of edit.rows.front
+
+  abbrev back : List Stored
+  back = stored_of edit.rows.back
+
+  was_is : was ≡ front ++ (x ∷ back)
+  was_is = ap stored_of edit.rows.before ∙ map-append stored_at edit.rows.front ((place, edit.was) ∷ edit.rows.back) ∙ ap (λ (r : Record). front ++ (stored_as place r ∷ back)) (record_read edit.was was_record body_was)
+
+  later_is : later ≡ front ++ (y ∷ back)
+  later_is = ap stored_of edit.rows.after ∙ map-append stored_at edit.rows.front ((place, edit.is) ∷ edit.rows.back) ∙ ap (λ (r : Record). front ++ (stored_as place r ∷ back)) (record_read edit.is now_record body_now)
+
+  abbrev changes : List PlaceChange
+  changes = (place, Some edit.is) ∷ []
+
+  order_was : InPlaceOrder (bodies_of (g.image old) index)
+  order_was = ordered g old index had_file
+
+  order_now : InPlaceOrder (bodies_of (g.image new) index)
+  order_now = ordered g new index edit.file
+
+  bodies : (at : Place) → body_at at (bodies_of (g.image new) index) ≡ changed_at changes at (body_at at (bodies_of (g.image old) index))
+  bodies = put_at (bodies_of (g.image old) index) (bodies_of (g.image new) index) place (Some edit.was) edit.is order_now edit.rows
+
+  records_edit : EditsStored was later changes
+  records_edit = rows_edit (bodies_of (g.image old) index) (bodies_of (g.image new) index) changes order_now bodies order_was
+
+  records_later : AllZip IsStored (bodies_of (g.image new) index) later
+  records_later = rows_read (bodies_of (g.image old) index) (bodies_of (g.image new) index) changes order_now bodies was records_are ((now_record, body_now), tt)
+
+  record_edit : EditsRecord was later place was_record now_record
+  record_edit = record {
+    there = row_stands_as (bodies_of (g.image old) index) place edit.was was_record (at_row (bodies_of (g.image old) index) place edit.was order_was in_rows) body_was;
+    head = refl;
+    body = edit.is;
+    spelled = body_now;
+    edit = records_edit;
+  }
+    where
+      in_rows : InRows (bodies_of (g.image old) index) (place, edit.was)
+      in_rows = subst (λ (rows : List Row). InRows rows (place, edit.was)) (sym edit.rows.before) (in_mid edit.rows.front edit.rows.back (place, edit.was))
+
+  x_there : Has was x
+  x_there = subst (λ (xs : List Stored). Has xs x) (sym was_is) (has_back front (x ∷ back) x (inl refl))
+
+  x_in : Has (stored_in v) x
+  x_in = subst (λ (xs : List Stored). Has xs x) (sym (stored_filled h (g.image old) index was)) (has_back (stored_first h) (was ++ stored_last h) x (has_front was (stored_last h) x x_there))
+
+  oid_is : oid_of x ≡ oid
+  oid_is = let unique = had.stored.number in let same : made_oid oid.page oid.slot head.unique ≡ made_oid oid.page oid.slot oid.unique = cc unique in same
+
+  linked_was : AreLinked was
+  linked_was = own_links g old records h index was vol.shows
+
+  -- ---- pages
 
   page_there : 1 ≤ times oid.page.0 (pages_in (g.image old) index)
   page_there = contains_times oid.page.0 (pages_in (g.image old) index) had.stored.stands.named
@@ -139,7 +223,7 @@ module _ {S : Type 0} (g : ground.Ghosts S) (old new : S) (records : List LogRec
     counted = λ p. omega (arith, ap count_of (same_held p), ap (λ (t : List ℕ). times p (catalog_no ∷ t)) same_pages);
     images = λ p held none. edit.images p held (other p none);
     units = λ u used held. record { unit = edit.kept u used held; used = edit.used u used; held = same_held u ∙ held };
-    in_use = λ p held. edit.used p (vol.used p (contains_in p (reach_of U (filled h (g.image old) index (Some x))) (in_left p (catalog_no ∷ file_pages (filled h (g.image old) index (Some x))) (trees_of U (filled h (g.image old) index (Some x))) (in_contains p (catalog_no ∷ file_pages (filled h (g.image old) index (Some x))) ((vol.shows.held p).0 (sym (same_held p) ∙ held))))));
+    in_use = λ p held. edit.used p (volume_in_use g old records v vol p (sym (same_held p) ∙ held));
     apart = apart;
   }
     where
@@ -148,27 +232,7 @@ module _ {S : Type 0} (g : ground.Ghosts S) (old new : S) (records : List LogRec
           let there : 1 ≤ times p (pages_in (g.image old) index) = subst (λ (n : ℕ). 1 ≤ times n (pages_in (g.image old) index)) (sym same) page_there in
           omega (arith, none, times-append p (catalog_no ∷ []) (all_pages (g.image old) index), times-append p (pages_in (g.image old) index) (pages_of (g.image old) index.level index.root), there)
 
-  -- ---- trees
-
-  was_units : flat_map (root_units U) (roots_in (stored_if (Some x))) ≡ content_units (g.unit old) content
-  was_units = ap (λ (r : Record). flat_map (root_units U) (root_in r.content ++ [])) x_is ∙ own_units g old vol.shows.apart content before had.spells had.units
-
-  now_units : flat_map (root_units U') (roots_in (stored_if (Some y))) ≡ content_units (g.unit new) edit.now
-  now_units = own_units g new apart edit.now bytes edit.version.spells edit.version.units
-
-  owned : AllByRecursion (IsOwn g old new (Some x)) (flat_map (root_units U') (roots_in (stored_if (Some y))))
-  owned = subst (AllByRecursion (IsOwn g old new (Some x))) (sym now_units)
-      (each_with (IsTreeUnit g new) (λ u. IsTaken g old new u ⊎ Has (content_units (g.unit old) content) u) (IsOwn g old new (Some x)) (content_units (g.unit new) edit.now)
-      (λ u tree source. record { used = tree.0; held = tree.1; source = from u source }) edit.version.units edit.units.own)
-    where
-      from : (u : ℕ) → IsTaken g old new u ⊎ Has (content_units (g.unit old) content) u → (g.used old u ≡ false) ⊎ In u (flat_map (root_units U) (roots_in (stored_if (Some x))))
-      from u (inl taken) = inl taken.0
-      from u (inr has) = inr (subst (λ (t : List ℕ). In u t) (sym was_units) (has_in (content_units (g.unit old) content) u has))
-
-  alone_here : times oid.unique (map unique_of (stored_first h)) + times oid.unique (map unique_of (stored_last h)) ≡ 0
-  alone_here = subst (λ (n : ℕ). times n (map unique_of (stored_first h)) + times n (map unique_of (stored_last h)) ≡ 0) x_number (x_alone g old records h index x vol.shows)
-
-  the_edit : Edit g old new h index index (Some x) (Some y)
+  the_edit : Edit g old new h index index later
   the_edit = record {
     frame = frame;
     number = number;
@@ -178,85 +242,243 @@ module _ {S : Type 0} (g : ground.Ghosts S) (old new : S) (records : List LogRec
         subst (λ (page : List ℕ). CatalogOf page (catalog_with h index)) (in_area g old catalog_no (omega (arith, some))) vol.shows.parts.0.0
         );
     paired = paired;
-    records = subst (λ (t : List Row). AllZip IsStored t (stored_with h (Some y))) (sym edit.rows.after) (zip_joined IsStored edit.rows.front ((place_of oid, edit.is) ∷ edit.rows.back) h.stored_before (y ∷ h.stored_behind) front_rows ((refl, body_now), back_rows));
-    alone = ((refl, refl, refl), tt);
-    listed = subst Rising (sym (same_listing h x y (sym x_number))) (own_listed g old records h index x vol.shows);
-    numbered = (
+    records = records_later;
+    linked = keeps_links was later place was_record now_record record_edit linked_was;
+  }
+
+  -- ---- trees
+
+  was_units : stored_units U x ≡ content_units (g.unit old) content
+  was_units = own_units g old vol.shows.apart content before had.spells had.units
+
+  now_units : stored_units U' y ≡ content_units (g.unit new) edit.now
+  now_units = own_units g new apart edit.now bytes edit.version.spells edit.version.units
+
+  -- a unit of the new tree is one of the old one, or was free
+  source : (u : ℕ) → In u (stored_units U' y) → In u (stored_units U x) ⊎ (g.used old u ≡ false)
+  source u k = elim (of_each (λ p. IsTaken g old new p ⊎ HasUnit (content_units (g.unit old) content) p) u (content_units (g.unit new) edit.now) edit.units.own (subst (λ (us : List ℕ). In u us) now_units k)) [
+    | inl is ↦ inr is.0
+    | inr has ↦ inl (subst (λ (us : List ℕ). In u us) (sym was_units) (unit_in (content_units (g.unit old) content) u has))
+  ]
+
+  roots_was : roots_in was ≡ roots_in front ++ (root_in content ++ roots_in back)
+  roots_was = ap roots_in was_is ∙ flat_map-append (λ (s : Stored). root_in s.body.content) front (x ∷ back)
+
+  roots_later : roots_in later ≡ roots_in front ++ (root_in edit.now ++ roots_in back)
+  roots_later = ap roots_in later_is ∙ flat_map-append (λ (s : Stored). root_in s.body.content) front (y ∷ back)
+
+  -- what holds of the old trees and of the new one
+  each_tree : (P : Root → Type 0) → ((root : Root) → IsVolumeTree g old root → P root) → AllByRecursion P (root_in edit.now) → AllByRecursion P (roots_in later)
+  each_tree P others own =
+      let trees = subst (AllByRecursion (IsVolumeTree g old)) roots_was (file_trees g old new records h index index was later vol the_edit) in
+      let first = split_each (IsVolumeTree g old) (roots_in front) (root_in content ++ roots_in back) trees in
+      let last = split_each (IsVolumeTree g old) (root_in content) (roots_in back) first.1 in
+      subst (AllByRecursion P) (sym roots_later)
+      (each-append P (roots_in front) (root_in edit.now ++ roots_in back) (each_as (IsVolumeTree g old) P (roots_in front) others first.0)
+      (each-append P (root_in edit.now) (roots_in back) own (each_as (IsVolumeTree g old) P (roots_in back) others last.1)))
+
+  trees_later : AllByRecursion (IsTree (g.geometry new) U') (roots_in later)
+  trees_later = each_tree (IsTree (g.geometry new) U') (tree_moved g old new records h index index was later vol the_edit) (own_trees g new apart edit.now bytes edit.version.spells edit.version.units)
+
+  fine_later : AllByRecursion (λ (root : Root). AllByRecursion (IsFine g new) (root_units U' root)) (roots_in later)
+  fine_later = each_tree (λ (root : Root). AllByRecursion (IsFine g new) (root_units U' root)) (fine_root g old new records h index index was later vol the_edit) (own_fine g new apart edit.now bytes edit.version.spells edit.version.units)
+
+  -- the units of a record of the volume are in use
+  record_used : (s : Stored) → Has (stored_in v) s → (u : ℕ) → In u (stored_units U s) → g.used old u ≡ true
+  record_used s k u inside =
+      let root = from_flat (root_units U) u (root_in s.body.content) inside in
+      let tree = of_each (IsVolumeTree g old) root.0 (roots_in (stored_in v)) (olds g old new records h index index was later vol the_edit) (into_flat (λ (t : Stored). root_in t.body.content) root.0 s (stored_in v) (has_in (stored_in v) s k) root.1) in
+      (of_each (IsTreeOf g old) u (root_units U root.0) tree.tree root.2).1
+
+  -- and they are units of the volume's trees
+  record_trees : (s : Stored) → Has (stored_in v) s → (u : ℕ) → In u (stored_units U s) → In u (trees_of U v)
+  record_trees s k u inside =
+      let root = from_flat (root_units U) u (root_in s.body.content) inside in
+      into_flat (root_units U) u root.0 (roots_in (stored_in v)) (into_flat (λ (t : Stored). root_in t.body.content) root.0 s (stored_in v) (has_in (stored_in v) s k) root.1) root.2
+
+  -- ---- numbers
+
+  numbers_same : map unique_of (stored_in v') ≡ map unique_of (stored_in v)
+  numbers_same =
+      ap (map unique_of) (stored_filled h (g.image new) index later) ∙ map_around unique_of (stored_first h) later (stored_last h)
+      ∙ ap (λ (ns : List ℕ). map unique_of (stored_first h) ++ (ns ++ map unique_of (stored_last h))) own
+      ∙ sym (ap (map unique_of) (stored_filled h (g.image old) index was) ∙ map_around unique_of (stored_first h) was (stored_last h))
+    where
+      own : map unique_of later ≡ map unique_of was
+      own = ap (map unique_of) later_is ∙ map-append unique_of front (y ∷ back) ∙ sym (ap (map unique_of) was_is ∙ map-append unique_of front (x ∷ back))
+
+  each_number : (P : ℕ → Type 0) → AllByRecursion (λ (s : Stored). P (unique_of s)) (stored_in v) → AllByRecursion (λ (s : Stored). P (unique_of s)) (stored_in v')
+  each_number P all = each_unmapped P unique_of (stored_in v') (subst (AllByRecursion P) (sym numbers_same) (each_mapped P unique_of (stored_in v) all))
+
+  uniques : HasUniques v'
+  uniques =
+      let had_uniques = vol.shows.parts.1.1.1.1.1.1.0 in
       record {
-        some = subst (λ (n : ℕ). 1 ≤ n) x_number (x_some g old records h index x vol.shows);
-        below = subst (λ (n : ℕ). n < h.next) x_number (x_below g old records h index x vol.shows);
-        new = alone_here;
-      },
-      tt,
-    );
-    trees = own_trees g new apart edit.now bytes edit.version.spells edit.version.units;
-    own = owned;
+        differ = subst AllDiffer (sym numbers_same) had_uniques.differ;
+        some = each_number (λ n. 1 ≤ n) had_uniques.some;
+        below = each_number (λ n. n < h.next) had_uniques.below;
+      }
+
+  -- ---- objects
+
+  abbrev whole : List Stored
+  whole = stored_first h ++ (was ++ stored_last h)
+
+  abbrev whole_later : List Stored
+  whole_later = stored_first h ++ (later ++ stored_last h)
+
+  places_was : Sep place_in whole
+  places_was = sep_from place_in whole (whole_places g old records h index was vol.shows)
+
+  places_now : Sep place_in whole_later
+  places_now = subst (Sep place_in) (stored_filled h (g.image new) index later) (sep_from place_in (stored_in v') (places_after g old new records h index index was later vol the_edit uniques.differ))
+
+  off : (s : Stored) → Has (stored_first h) s ⊎ Has (stored_last h) s → place ≢ s.place
+  off s (inl k) same = sep_cross place_in (stored_first h) (was ++ stored_last h) s x places_was k (has_front was (stored_last h) x x_there) (sym same)
+  off s (inr k) same = sep_cross place_in was (stored_last h) x s (sep_back place_in (stored_first h) (was ++ stored_last h) places_was) x_there k same
+
+  whole_edit : EditsRecord whole whole_later place was_record now_record
+  whole_edit = record {
+    there = has_stands whole place x places_was (has_back (stored_first h) (was ++ stored_last h) x (has_front was (stored_last h) x x_there)) refl;
+    head = refl;
+    body = edit.is;
+    spelled = body_now;
+    edit = edits_within (stored_first h) was later (stored_last h) changes records_edit
+        (has_each (λ (s : Stored). AllByRecursion (λ (c : PlaceChange). c.0 ≢ s.place) changes) (stored_first h ++ stored_last h) (λ s k. (off s (has_either (stored_first h) (stored_last h) s k), tt)))
+        (sep_to place_in whole places_was) (sep_to place_in whole_later places_now);
+  }
+
+  objects_was : HasObjects U whole
+  objects_was = whole_objects g old records h index was vol.shows
+
+  in_volume : (s : Stored) → Has whole s → Has (stored_in v) s
+  in_volume s k = subst (λ (xs : List Stored). Has xs s) (sym (stored_filled h (g.image old) index was)) k
+
+  -- no unit of the new tree is one of another object
+  no_other : (s : Stored) → Has whole s → (objects_was.object s.place ≡ objects_was.object place → ⊥) → (u : ℕ) → In u (stored_units U' y) → In u (stored_units U s) → ⊥
+  no_other s k differ u own its = elim (source u own) [
+    | inl here ↦ of_each (λ p. ¬ Contains (stored_units U s) p) u (stored_units U x) (objects_was.apart x s (has_contains whole x (has_back (stored_first h) (was ++ stored_last h) x (has_front was (stored_last h) x x_there))) (has_contains whole s k) (λ e. differ (sym e))) here (contains_in u (stored_units U s) its)
+    | inr free ↦ true≢false (sym (record_used s (in_volume s k) u its) ∙ free)
+  ]
+
+  objects : HasObjects U' (stored_in v')
+  objects = subst (HasObjects U') (sym (stored_filled h (g.image new) index later))
+      (keeps_objects whole whole_later place was_record now_record whole_edit U U' objects_was others (λ s k differ. (
+        each_in (λ u. ¬ Contains (stored_units U s) u) (stored_units U' y) (λ u own c. no_other s (contains_has whole s k) differ u own (in_contains u (stored_units U s) c)),
+        each_in (λ u. ¬ Contains (stored_units U' y) u) (stored_units U s) (λ u its c. no_other s (contains_has whole s k) differ u (in_contains u (stored_units U' y) c) its),
+      )))
+    where
+      others : AllByRecursion (λ (s : Stored). s.place ≢ place → stored_units U' s ≡ stored_units U s) whole
+      others = each_as (StoredKept U U') (λ (s : Stored). s.place ≢ place → stored_units U' s ≡ stored_units U s) whole (λ s k other. stored_same U U' s k) (subst (AllByRecursion (StoredKept U U')) (stored_filled h (g.image old) index was) (all_kept g old new records h index index was later vol the_edit))
+
+  -- ---- the table
+
+  numbers_was : NumbersDiffer was
+  numbers_was = own_numbers g old records h index was vol.shows
+
+  abbrev to_bytes : List ℕ → List ℕ
+  to_bytes b = bytes
+
+  versions_now : versions_stored U' later ≡ in_order number_of (edited_in oid to_bytes (versions_stored U was))
+  versions_now =
+      is_edited was later place was_record now_record record_edit U U' to_bytes (linked_olders was linked_was) numbers_was
+      (each_as (StoredKept U U') (λ (s : Stored). s.place ≢ place → content_in U' s.body.content ≡ content_in U s.body.content) was (λ s k other. content_same U U' s.body.content k) (own_kept g old new records h index index was later vol the_edit))
+      (own_content g new apart edit.now bytes edit.version.spells edit.version.units)
+      ∙ ap (λ (o : Oid). in_order number_of (edited_in o to_bytes (versions_stored U was))) oid_is
+
+  same_key : (w : Version) → number_of (bytes_changed oid to_bytes w) ≡ number_of w
+  same_key w = elim (has_oid oid w) as (λ b. number_of (cond b (record w { bytes = bytes }) w) ≡ number_of w) [ true ↦ refl | false ↦ refl ]
+
+  table_now : table_of U' v' ≡ with_bytes oid to_bytes (table_of U v)
+  table_now =
+      table_changed g old new records h index index was later vol the_edit (edited_in oid to_bytes) versions_now
+      (rises_map number_of number_of (bytes_changed oid to_bytes) (versions_stored U was) same_key (stored_rises U was (sep_from unique_of was numbers_was)))
+      oid (λ ws none. edited_absent oid to_bytes ws none) x x_there had.stored.number
+
+  -- ---- roots
+
+  root_was : (p : ℕ) → named_root p (x ∷ []) ≡ times p (root_pages (root_here (root_of content)))
+  root_was p = ap (λ (rs : List Root). times p (root_pages rs)) (root_there content)
+
+  root_now : (p : ℕ) → named_root p (y ∷ []) ≡ times p (root_pages (root_here (root_of edit.now)))
+  root_now p = ap (λ (rs : List Root). times p (root_pages rs)) (root_there edit.now)
+
+  roots_counted : (p : ℕ) → times p (root_pages (root_here (root_of content))) + named_root p later ≡ named_root p was + times p (root_pages (root_here (root_of edit.now)))
+  roots_counted p = omega (
+    arith,
+    root_was p,
+    root_now p,
+    ap (named_root p) was_is,
+    ap (named_root p) later_is,
+    named_append p front (x ∷ back),
+    named_append p front (y ∷ back),
+    named_append p (x ∷ []) back,
+    named_append p (y ∷ []) back,
+  )
+
+  turned : TurnsRoots g old new v v' (root_of content) (root_of edit.now)
+  turned = record {
+    roots = roots_turned h (g.image old) (g.image new) index index was later (root_of content) (root_of edit.now) roots_counted;
+    there = λ p. (let here = named_has p (stored_in v) x x_in in omega (arith, here, root_was p));
+    went = whole_there g old content before had.spells had.units had_file.catalog.held;
+    came = whole_there g new edit.now bytes edit.version.spells edit.version.units edit.file.catalog.held;
+    counts = edit.units.counts;
+    apart = λ names. each_as (IsTaken g old new) (λ p. g.held new p ≡ false) (edit.units.counts names).nodes (nodes_apart g old new (volume_in_use g old records v vol) edit.held) (edit.units.counts names).taken;
+    own = λ p c.
+        let k : In p (content_units (g.unit new) edit.now) = subst (λ (t : List ℕ). In p t) (units_there (g.unit new) edit.now) (in_contains p (units_under (g.unit new) (root_of edit.now)) c) in
+        let tree = of_each (IsTreeUnit g new) p (content_units (g.unit new) edit.now) edit.version.units k in (
+          tree.0,
+          tree.1,
+          elim (source p (subst (λ (us : List ℕ). In p us) (sym now_units) k)) [
+            | inl here ↦ kept (contains_in p (units_under (g.unit old) (root_of content)) (subst (λ (us : List ℕ). In p us) (was_units ∙ sym (units_there (g.unit old) content)) here))
+            | inr free ↦ taken free
+          ],
+        );
+    tree = λ p is away. subst (λ (t : List ℕ). Contains t p) (sym (units_there (g.unit new) edit.now)) (contains_in p (content_units (g.unit new) edit.now) (unit_in (content_units (g.unit new) edit.now) p (edit.units.all p is)));
   }
 
   -- ---- the volume
 
-  its_trees : (u : ℕ) → In u (flat_map (root_units U') (roots_in (stored_if (Some y)))) → Contains (trees_of U (filled h (g.image old) index (Some x))) u ⊎ (g.used old u ≡ false)
-  its_trees u inside = elim (of_each (IsOwn g old new (Some x)) u (flat_map (root_units U') (roots_in (stored_if (Some y)))) owned inside).source [
-    | inl free ↦ inr free
-    | inr was ↦ inl (contains_in u (trees_of U (filled h (g.image old) index (Some x))) (middle_trees U h (g.image old) index (Some x) u was))
-  ]
+  tree_source : (u : ℕ) → In u (flat_map (root_units U') (roots_in later)) → Contains (trees_of U v) u ⊎ (g.used old u ≡ false)
+  tree_source u inside =
+      let root = from_flat (root_units U') u (roots_in later) inside in
+      elim (in_either root.0 (roots_in front) (root_in edit.now ++ roots_in back) (subst (λ (rs : List Root). In root.0 rs) roots_later root.1)) [
+        | inl k ↦ other root.0 (in_left root.0 (roots_in front) (root_in content ++ roots_in back) k) root.2
+        | inr k ↦ elim (in_either root.0 (root_in edit.now) (roots_in back) k) [
+          | inr m ↦ other root.0 (in_right root.0 (roots_in front) (root_in content ++ roots_in back) (in_right root.0 (root_in content) (roots_in back) m)) root.2
+          | inl m ↦ elim (source u (into_flat (root_units U') u root.0 (root_in edit.now) m root.2)) [
+            | inl here ↦ inl (contains_in u (trees_of U v) (record_trees x x_in u here))
+            | inr free ↦ inr free
+          ]
+        ]
+      ]
+    where
+      other : (root : Root) → In root (roots_in front ++ (root_in content ++ roots_in back)) → In u (root_units U' root) → Contains (trees_of U v) u ⊎ (g.used old u ≡ false)
+      other root k here =
+          let mine : In root (roots_in was) = subst (λ (rs : List Root). In root rs) (sym roots_was) k in
+          let tree = of_each (IsVolumeTree g old) root (roots_in was) (file_trees g old new records h index index was later vol the_edit) mine in
+          let s = from_flat (λ (t : Stored). root_in t.body.content) root was mine in
+          let s_in = in_volume s.0 (has_back (stored_first h) (was ++ stored_last h) s.0 (has_front was (stored_last h) s.0 (in_has was s.0 s.1))) in
+          inl (contains_in u (trees_of U v) (record_trees s.0 s_in u (into_flat (root_units U) u root (root_in s.0.body.content) s.2 (subst (λ (us : List ℕ). In u us) (units_kept g old new records h index index was later vol the_edit root tree) here))))
 
-  -- ---- roots
-
-  went : roots_in (stored_if (Some x)) ≡ root_here (root_of content)
-  went = ap (λ (r : Record). root_in r.content ++ []) x_is ∙ root_there content
-
-  came : roots_in (stored_if (Some y)) ≡ root_here (root_of edit.now)
-  came = root_there edit.now
-
-  own_source : (p : ℕ) → IsTaken g old new p ⊎ Has (content_units (g.unit old) content) p → Contains (units_under (g.unit old) (root_of content)) p ⊎ (g.used old p ≡ false)
-  own_source p (inl taken) = inr taken.0
-  own_source p (inr has) = inl (subst (λ (t : List ℕ). Contains t p) (sym (units_there (g.unit old) content)) (contains_in p (content_units (g.unit old) content) (has_in (content_units (g.unit old) content) p has)))
-
-  turned : TurnsRoots g old new (filled h (g.image old) index (Some x)) (filled h (g.image new) index (Some y)) (root_of content) (root_of edit.now)
-  turned = record {
-    roots = roots_turned g old new h index index (Some x) (Some y) (root_of content) (root_of edit.now) went came;
-    there = root_was_there g old new h index index (Some x) (Some y) (root_of content) (root_of edit.now) went came;
-    went = whole_there g old content before had.spells had.units had_file.catalog.held;
-    came = whole_there g new edit.now bytes edit.version.spells edit.version.units edit.file.catalog.held;
-    counts = edit.units.counts;
-    apart = λ names. each_as (IsTaken g old new) (λ p. g.held new p ≡ false) (edit.units.counts names).nodes (nodes_apart g old new (volume_in_use g old records (filled h (g.image old) index (Some x)) vol) edit.held) (edit.units.counts names).taken;
-    own = λ p c.
-        let k : In p (content_units (g.unit new) edit.now) = subst (λ (t : List ℕ). In p t) (units_there (g.unit new) edit.now) (in_contains p (units_under (g.unit new) (root_of edit.now)) c) in
-        let tree = of_each (IsTreeUnit g new) p (content_units (g.unit new) edit.now) edit.version.units k in
-        (tree.0, tree.1, own_source p (of_each (λ u. IsTaken g old new u ⊎ Has (content_units (g.unit old) content) u) p (content_units (g.unit new) edit.now) edit.units.own k));
-    tree = λ p taken away. subst (λ (t : List ℕ). Contains t p) (sym (units_there (g.unit new) edit.now)) (contains_in p (content_units (g.unit new) edit.now) (has_in (content_units (g.unit new) edit.now) p (edit.units.all p taken)));
-  }
-
-  pub changed_volume : ChangesVolume g old new records (filled h (g.image old) index (Some x)) oid bytes (root_of content) (root_of edit.now)
+  pub changed_volume : ChangesVolume g old new records v oid bytes (root_of content) (root_of edit.now)
   changed_volume = record {
-    now = filled h (g.image new) index (Some y);
-    volume = edited g old new records h index index (Some x) (Some y) vol the_edit;
-    table = table_edited g old new records h index index (Some x) (Some y) vol the_edit
-        ∙ sym (ap (with_bytes oid (λ was. bytes)) (table_filled U h (g.image old) index (Some x) paired)
-        ∙ bytes_there U U' oid h x y bytes (lacks_around oid h alone_here) (oid_is x oid x_place x_number) refl (own_content g new apart edit.now bytes edit.version.spells edit.version.units));
+    now = v';
+    volume = edited g old new records h index index was later vol the_edit trees_later fine_later uniques objects;
+    table = table_now;
     catalog = refl;
-    pages = pages_filled h (g.image new) index (Some y) ∙ ap (λ (t : List ℕ). pages_first h ++ (t ++ pages_last h)) same_pages ∙ sym (pages_filled h (g.image old) index (Some x));
-    units = λ u inside. elim (trees_from g old new records h index index (Some x) (Some y) vol the_edit u (in_contains u (trees_of U' (filled h (g.image new) index (Some y))) inside)) [
-      | inl was ↦ inl (contains_in u (trees_of U (filled h (g.image old) index (Some x))) was)
-      | inr now ↦ its_trees u now
+    pages = pages_filled h (g.image new) index later ∙ ap (λ (t : List ℕ). pages_first h ++ (t ++ pages_last h)) same_pages ∙ sym (pages_filled h (g.image old) index was);
+    units = λ u inside. elim (trees_from g old new records h index index was later vol the_edit u (in_contains u (trees_of U' v') inside)) [
+      | inl k ↦ inl (contains_in u (trees_of U v) k)
+      | inr k ↦ tree_source u k
     ];
-    left = λ u was gone. left_units g old new records h index index (Some x) (Some y) vol the_edit u (subst (λ (t : List ℕ). In u t) (units_there (g.unit old) content ∙ sym was_units) (in_contains u (units_under (g.unit old) (root_of content)) was))
-        (λ k. gone (contains_in u (units_under (g.unit new) (root_of edit.now)) (subst (λ (t : List ℕ). In u t) (now_units ∙ sym (units_there (g.unit new) edit.now)) k)));
     turned = turned;
   }
 
--- what stands in the place of a row with a body
-pub own_some : (place : Place) (body : List ℕ) (w : Option Stored) → AllZip IsStored (row_of place (Some body)) (stored_if w) → (x : Stored) × (w ≡ Some x) × IsStored (place, body) x
-own_some place body None h = absurd h
-own_some place body (Some x) h = (x, refl, h.0)
-
-module _ {S : Type 0} (g : ground.Ghosts S) (old new : S) (records : List LogRecord) (v : Volume) (vol : IsVolume g old records v) (index : Index) (oid : Oid) (content : Content) (change : Change) (before bytes : List ℕ)
-    (geometry : g.geometry new ≡ g.geometry old) (apart : IsApart g new) (had : HasVersion g old index oid content before) (edit : EditsVersion g old new index oid content change bytes) where
+module _ {S : Type 0} (g : ground.Ghosts S) (old new : S) (records : List LogRecord) (v : Volume) (vol : IsVolume g old records v) (index : Index) (oid : Oid) (head : Head) (content : Content) (change : Change) (before bytes : List ℕ)
+    (geometry : g.geometry new ≡ g.geometry old) (apart : IsApart g new) (had : HasVersion g old index oid head content before) (edit : EditsVersion g old new index oid head content change bytes) where
   pub changes_volume : ChangesVolume g old new records v oid bytes (root_of content) (root_of edit.now)
   changes_volume =
-      let p : Placed (g.image old) v index edit.rows.front edit.rows.back (place_of oid) (Some edit.was) = placed g old records v vol.shows index edit.rows.front edit.rows.back (place_of oid) (Some edit.was) had.stored.stands.file.entry edit.rows.before in
-      let own = own_some (place_of oid) edit.was p.was p.own in
-      let same : v ≡ filled p.hole (g.image old) index (Some own.0) = p.same ∙ ap (filled p.hole (g.image old) index) own.1 in
-      subst (λ (w : Volume). ChangesVolume g old new records w oid bytes (root_of content) (root_of edit.now)) (sym same)
-      (changed_volume g old new records p.hole index own.0 (subst (IsVolume g old records) same vol) oid content change before bytes geometry apart had edit p.number p.paired p.front_rows p.back_rows own.2)
+      let p : Placed (g.image old) v index = placed g old records v vol.shows index had.stored.stands.file.entry in
+      subst (λ (w : Volume). ChangesVolume g old new records w oid bytes (root_of content) (root_of edit.now)) (sym p.same)
+      (changed_volume g old new records p.hole index (subst (IsVolume g old records) p.same vol) oid head content change before bytes geometry apart had edit p.number p.paired p.records)

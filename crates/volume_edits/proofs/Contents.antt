@@ -25,12 +25,12 @@ use Rattle.file_bodies.proofs.Pages.{is_page, number_is, slots_are}
 use Rattle.file_bodies.proofs.Rows.{each_at}
 use Rattle.object_files.specs.Catalog.{FileEntry, CatalogOf, number_of}
 use Rattle.object_files.specs.Edits.{entries_on}
-use Rattle.volume_model.specs.Parts.{HasIndex, HasPage, HasPages, HasLines, IsStored, bodies_in, bodies_from}
+use Rattle.volume_model.specs.Parts.{HasIndex, HasPage, HasPages, HasBodies, IsStored, bodies_in, bodies_from}
 use Rattle.volume_model.specs.Volume.{FileContent, Volume, pages_of_file, file_pages}
 use Rattle.volume_edits.specs.Ported.{ShowsVolume, units_in, index_named, HasContent}
 use Rattle.volume_edits.proofs.Lists.{Paired, zip_split, times_around}
 use Rattle.volume_edits.proofs.Counted.{file_lies, pages_counted, in_area}
-use Rattle.volume_edits.proofs.Edited.{bodies_read}
+use Rattle.volume_edits.proofs.PagesRead.{bodies_read}
 
 -- an entry with its file, among the others
 pub record Beside (entries : List FileEntry) (files : List FileContent) (e : FileEntry) (f : FileContent) : Type 0 where
@@ -153,7 +153,7 @@ module _ {S : Type 0} (g : ground.Ghosts S) (s : S) (records : List LogRecord) (
   content_of e f b =
       let index : HasIndex (g.geometry s) (units_in g s) e f = at_beside (HasIndex (g.geometry s) (units_in g s)) v.catalog.entries v.files e f b vol.parts.1.0.0 in
       let pages : HasPages (units_in g s) e f = at_beside (HasPages (units_in g s)) v.catalog.entries v.files e f b vol.parts.1.1.0 in
-      let lines : HasLines f = at_file HasLines v.catalog.entries v.files e f b vol.parts.1.1.1.0 in
+      let bodies_whole : HasBodies f = at_file HasBodies v.catalog.entries v.files e f b vol.parts.1.1.1.0 in
       let lie = file_lies (g.geometry s) (units_in g s) e f index in
       let both = split_each (IsFilesPage (g.geometry s)) f.numbers f.index_pages lie in
       let m = moved (g.geometry s) e.file_no (units_in g s) (g.image s) e.level e.root (λ p c. same_image p (each_at (IsFilesPage (g.geometry s)) f.index_pages p both.1 (omega (arith, ap (times p) index.index_pages, c)))) in
@@ -175,7 +175,7 @@ module _ {S : Type 0} (g : ground.Ghosts S) (s : S) (records : List LogRecord) (
         index_pages = index_pages;
         pages = read.0;
         bodies = bodies;
-        records = subst (λ (rs : List Row). AllZip IsStored rs f.stored) (sym bodies) lines.records;
+        records = subst (λ (rs : List Row). AllZip IsStored rs f.stored) (sym bodies) bodies_whole.records;
       }
 
   pub pairs : Paired v.catalog.entries v.files

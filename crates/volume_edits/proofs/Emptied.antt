@@ -1,7 +1,7 @@
 -- The files of a volume in its table, and which of them have no objects.
-use Rattle.std.proofs.Common.{◌≡◌, ℕ, zero, suc, ◌≤◌, Bool, false, cond, ◌||◌, List, [], ◌∷◌, ◌++◌, length, Option, Some, None, refl, sym, ap, subst, ◌∙◌, arith, inl, inr}
+use Rattle.std.proofs.Common.{◌≡◌, ℕ, zero, suc, ◌≤◌, Bool, cond, List, [], ◌∷◌, length, Option, Some, None, refl, sym, ap, subst, ◌∙◌, arith, inl, inr}
 use Rattle.std.specs.Prelude.{map, find, Contains, IsSome, nat_lt}
-use Rattle.std.specs.List.{flat_map, AllByRecursion, AllZip, zip, list_any}
+use Rattle.std.specs.List.{flat_map, AllByRecursion, AllZip, zip}
 use Rattle.std.specs.Option.{is_some}
 use Rattle.std.proofs.lemmas.Bool.{cases_Bool}
 use Rattle.std.proofs.lemmas.List.{length-append, length-map}
@@ -9,10 +9,8 @@ use Rattle.std.proofs.lemmas.List.Sorted.{length_permutation}
 use Rattle.std.proofs.lemmas.Slice.Eq.{bytes_eq-Decides}
 use Rattle.ex_base.specs.declared.ground.Ground as ground
 use Rattle.ex_base.specs.declared.geometry.Geometry.{Geometry}
-use Rattle.ex_base.specs.declared.names.Oid.{Oid}
 use Rattle.ex_base.specs.declared.names.PageNo.{PageNo}
-use Rattle.ex_base.proofs.Members.{contains_in, in_contains}
-use Rattle.ex_base.proofs.Each.{each_as, each_joined}
+use Rattle.ex_base.proofs.Members.{contains_in, in_contains, of_each}
 use Rattle.ex_base.proofs.Booleans.{none_below_some}
 use Rattle.op_log.specs.declared.record.LogRecord.{LogRecord}
 use Rattle.slotted_pages.specs.FilePage.{Slot, EndsLive}
@@ -24,20 +22,27 @@ use Rattle.file_bodies.specs.Bodies.{Row, row_of, place_at, bodies_from, bodies_
 use Rattle.file_bodies.specs.Files.{IsPageOf}
 use Rattle.object_files.specs.Catalog.{FileEntry, name_of}
 use Rattle.trees.specs.Trees.{Units}
-use Rattle.table_model.specs.declared.table.Version.{Version}
-use Rattle.table_model.specs.declared.table.Object.{Object}
+use Rattle.version_lists.specs.declared.version.Version.{Version}
+use Rattle.version_lists.specs.declared.version.Object.{Object}
 use Rattle.table_model.specs.declared.table.TableFile.{TableFile}
-use Rattle.table_model.specs.Tables.{has_name, has_oid, file_at, version_at, object_at}
+use Rattle.table_model.specs.Tables.{has_name, file_at}
+use Rattle.version_lists.specs.Sorted.{in_order}
+use Rattle.version_lists.specs.Versions.{unique_of as number_of}
+use Rattle.version_lists.specs.Objects.{objects_formed}
+use Rattle.version_lists.proofs.Forming.{all_versions}
+use Rattle.version_lists.proofs.Links.{Linked}
+use Rattle.version_lists.proofs.Sorted.{order_permutation}
 use Rattle.table_model.specs.Refusals.{has_objects}
-use Rattle.volume_model.specs.Parts.{HasIndex, HasPages, HasLines, IsStored}
-use Rattle.volume_model.specs.Volume.{Stored, Line, FileContent, Volume, line_records, lines_of, version_of, object_of, file_of, table_of}
+use Rattle.volume_model.specs.Parts.{HasBodies, HasIndex, HasPages, IsStored}
+use Rattle.volume_model.specs.Volume.{Stored, FileContent, Volume, version_of, versions_stored, file_of, table_of}
 use Rattle.volume_edits.specs.Ported.{ShowsVolume, units_in, index_named}
 use Rattle.volume_edits.proofs.Lists.{Paired}
 use Rattle.volume_edits.proofs.Contents.{Beside, content_of, pairs, at_beside}
-use Rattle.volume_edits.proofs.Finding.{versions_are, objects_are}
-use Rattle.volume_edits.proofs.Listed.{file_there, beside_entry, lone_is}
+use Rattle.volume_edits.proofs.FileVersions.{IsFile, linked_file}
+use Rattle.volume_edits.proofs.Finding.{file_in}
+use Rattle.volume_edits.proofs.Listed.{file_there, beside_entry}
 use Rattle.volume_edits.proofs.Listing.{bare}
-use Rattle.volume_edits.proofs.Showing.{has_lines}
+use Rattle.volume_edits.proofs.Showing.{whole}
 
 -- ---- a page of a file has a body
 
@@ -85,30 +90,18 @@ none_named name (f ∷ files) lacks = elim (cases_Bool (has_name name f)) [
   | inr other ↦ ap (λ (b : Bool). cond b (Some f) (find (has_name name) files)) other ∙ none_named name files (λ c. lacks (contains_in name (map (λ (x : TableFile). x.name) (f ∷ files)) (inr (in_contains name (map (λ (x : TableFile). x.name) files) c))))
 ]
 
--- ---- the object of a version
+-- ---- a file without objects
 
-abbrev alone_with : Version → Object
-alone_with version = record { versions = version ∷ [] }
+nil_of : {A : Type 0} (xs : List A) → length xs ≡ 0 → xs ≡ []
+nil_of [] none = refl
+nil_of (x ∷ xs) none = absurd (omega (arith, none))
 
-pub find_alone : (units : Units) (oid : Oid) (version : Version) (lines : List Line) → AllByRecursion (λ (line : Line). line.frozen ≡ []) lines → find (has_oid oid) (map (version_of units) (flat_map line_records lines)) ≡ Some version
-    → find (λ (o : Object). list_any (has_oid oid) o.versions) (map (object_of units) lines) ≡ Some (alone_with version)
-find_alone units oid version [] none is = absurd (let e : None ≡ Some version = is in cc)
-find_alone units oid version (line ∷ lines) none is =
-    let same = lone_is line none.0 in
-    let own : Version = version_of units line.current in
-    let there : find (has_oid oid) (version_of units line.current ∷ map (version_of units) (flat_map line_records lines)) ≡ Some version =
-    ap (λ (l : Line). find (has_oid oid) (map (version_of units) (line_records l ++ flat_map line_records lines))) (sym same) ∙ is in
-    let object : find (λ (o : Object). list_any (has_oid oid) o.versions) (object_of units line ∷ map (object_of units) lines) ≡ find (λ (o : Object). list_any (has_oid oid) o.versions) (alone_with (version_of units line.current) ∷ map (object_of units) lines) =
-    ap (λ (l : Line). find (λ (o : Object). list_any (has_oid oid) o.versions) (object_of units l ∷ map (object_of units) lines)) same in
-    object ∙ (elim (cases_Bool (has_oid oid (version_of units line.current))) [
-      | inl here ↦
-          let found : Some (version_of units line.current) ≡ Some version = sym (ap (λ (b : Bool). cond b (Some (version_of units line.current)) (find (has_oid oid) (map (version_of units) (flat_map line_records lines)))) here) ∙ there in
-          let version_is : version_of units line.current ≡ version = cc in
-          ap (λ (b : Bool). cond (b || false) (Some (alone_with (version_of units line.current))) (find (λ (o : Object). list_any (has_oid oid) o.versions) (map (object_of units) lines))) here ∙ ap (λ (w : Version). Some (alone_with w)) version_is
-      | inr other ↦
-          ap (λ (b : Bool). cond (b || false) (Some (alone_with (version_of units line.current))) (find (λ (o : Object). list_any (has_oid oid) o.versions) (map (object_of units) lines))) other
-          ∙ find_alone units oid version lines none.1 (sym (ap (λ (b : Bool). cond b (Some (version_of units line.current)) (find (has_oid oid) (map (version_of units) (flat_map line_records lines)))) other) ∙ there)
-    ])
+-- versions that form no object are none
+pub none_formed : (vs : List Version) → Linked vs → length (objects_formed vs) ≡ 0 → length vs ≡ 0
+none_formed vs linked none = ap length (sym (all_versions vs linked) ∙ ap (λ (os : List Object). in_order number_of (flat_map (λ (o : Object). o.versions) os)) (nil_of (objects_formed vs) none))
+
+pub as_many : (units : Units) (stored : List Stored) → length (versions_stored units stored) ≡ length stored
+as_many units stored = length_permutation (map (version_of units stored) stored) (versions_stored units stored) (order_permutation number_of (map (version_of units stored) stored)) ∙ length-map stored (version_of units stored)
 
 no_rows : (rows : List Row) (stored : List Stored) → AllZip IsStored rows stored → length stored ≡ 0 → length rows ≡ 0
 no_rows [] [] h none = refl
@@ -126,21 +119,18 @@ module _ {S : Type 0} (g : ground.Ghosts S) (s : S) (records : List LogRecord) (
   pub no_file : (name : List ℕ) → (Contains (map name_of v.catalog.entries) name → ⊥) → file_at (table_of U v) name ≡ None
   no_file name lacks = none_named name (table_of U v).files (λ c. lacks (subst (λ (ns : List (List ℕ)). Contains ns name) file_names c))
 
-  rootless_lines : (e : FileEntry) (f : FileContent) → Beside v.catalog.entries v.files e f → length f.lines ≡ 0 → e.root ≡ None
-  rootless_lines e f b none =
+  rootless_objects : (e : FileEntry) (f : FileContent) → Beside v.catalog.entries v.files e f → length (file_of U (e, f)).objects ≡ 0 → e.root ≡ None
+  rootless_objects e f b none =
       let content = content_of g s records v vol e f b in
-      let lines = has_lines g s records v vol e f b in
-      let count = length_permutation f.stored (flat_map line_records f.lines) lines.each_once in
-      let stored : length f.stored ≡ 0 = sym count ∙ no_records f.lines none in
+      let file = of_each IsFile f v.files (whole g s records v vol) (file_in v e f b) in
+      let stored : length f.stored ≡ 0 = sym (as_many U f.stored) ∙ none_formed (versions_stored U f.stored) (linked_file U f file) none in
       let rows = no_rows (bodies_of (g.image s) (index_named e)) f.stored content.records stored in
       no_root (g.geometry s) (g.image s) e.file_no e.level e.root content.file.whole (no_pages_in (g.image s) e.file_no (pages_in (g.image s) (index_named e)) content.file.pages rows)
-    where
-      no_records : (ls : List Line) → length ls ≡ 0 → length (flat_map line_records ls) ≡ 0
-      no_records [] z = refl
-      no_records (l ∷ ls) z = absurd (omega arith)
 
-  rooted_lines : (e : FileEntry) (f : FileContent) → Beside v.catalog.entries v.files e f → e.root ≡ None → f.lines ≡ []
-  rooted_lines e f b rootless = (bare (g.geometry s) U e f rootless (at_beside (HasIndex (g.geometry s) U) v.catalog.entries v.files e f b vol.parts.1.0.0) (at_beside (HasPages U) v.catalog.entries v.files e f b vol.parts.1.1.0) (has_lines g s records v vol e f b)).lines
+  rooted_objects : (e : FileEntry) (f : FileContent) → Beside v.catalog.entries v.files e f → e.root ≡ None → length (file_of U (e, f)).objects ≡ 0
+  rooted_objects e f b rootless =
+      ap (λ (stored : List Stored). length (objects_formed (versions_stored U stored)))
+      (bare (g.geometry s) U e f rootless (at_beside (HasIndex (g.geometry s) U) v.catalog.entries v.files e f b vol.parts.1.0.0) (at_beside (HasPages U) v.catalog.entries v.files e f b vol.parts.1.1.0) (of_each HasBodies f v.files vol.parts.1.1.1.0 (file_in v e f b))).stored
 
   pub file_objects : (e : FileEntry) → Contains v.catalog.entries e → IsSome (file_at (table_of U v) e.name) × (has_objects (file_at (table_of U v) e.name) ≡ is_some e.root)
   file_objects e entry =
@@ -154,13 +144,5 @@ module _ {S : Type 0} (g : ground.Ghosts S) (s : S) (records : List LogRecord) (
       by_root (suc n) None to from = absurd (omega (arith, from refl))
       by_root (suc n) (Some page) to from = none_below_some n
 
-      own : (d : FileEntry) (c : FileContent) → Beside v.catalog.entries v.files d c → nat_lt 0 (length (map (object_of U) c.lines)) ≡ is_some d.root
-      own d c b = by_root (length (map (object_of U) c.lines)) d.root
-          (λ none. rootless_lines d c b (omega (arith, length-map c.lines (object_of U), none)))
-          (λ rootless. ap (λ (ls : List Line). length (map (object_of U) ls)) (rooted_lines d c b rootless))
-
-  pub object_there : (oid : Oid) (version : Version) → version_at (table_of U v) oid ≡ Some version → object_at (table_of U v) oid ≡ Some (alone_with version)
-  object_there oid version is =
-      let unfrozen : AllByRecursion (λ (line : Line). line.frozen ≡ []) (lines_of v) = each_joined (λ (line : Line). line.frozen ≡ []) (λ (f : FileContent). f.lines) v.files (each_as HasLines (λ (f : FileContent). AllByRecursion (λ (line : Line). line.frozen ≡ []) f.lines) v.files (λ f h. h.unfrozen) vol.parts.1.1.1.0) in
-      ap (find (λ (o : Object). list_any (has_oid oid) o.versions)) (objects_are U v (pairs g s records v vol))
-      ∙ find_alone U oid version (lines_of v) unfrozen (ap (find (has_oid oid)) (sym (versions_are U v (pairs g s records v vol))) ∙ is)
+      own : (d : FileEntry) (c : FileContent) → Beside v.catalog.entries v.files d c → nat_lt 0 (length (file_of U (d, c)).objects) ≡ is_some d.root
+      own d c b = by_root (length (file_of U (d, c)).objects) d.root (rootless_objects d c b) (rooted_objects d c b)

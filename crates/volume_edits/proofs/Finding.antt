@@ -1,27 +1,19 @@
--- Where a record of a volume stands, and which version of the table it is.
-use Rattle.std.proofs.Common.{◌≡◌, ℕ, zero, suc, ◌+◌, Bool, true, cond, ◌&&◌, List, [], ◌∷◌, ◌++◌, Option, Some, None, refl, sym, ap, subst, ◌∙◌, arith, inl, inr, ◌⊎◌, eq-eqb, rules}
+-- Where a record of a volume stands.
+use Rattle.std.proofs.Common.{◌≡◌, ℕ, zero, suc, ◌+◌, Bool, true, cond, ◌&&◌, List, [], ◌∷◌, ◌++◌, Option, Some, None, refl, sym, ap, subst, ◌∙◌, arith, inl, inr, ◌⊎◌, eq-eqb}
 use Rattle.std.specs.Prelude.{Contains, map, find, slice_index_or, ◌==◌}
-use Rattle.std.specs.List.{flat_map, AllByRecursion, AllZip, zip, list_any}
+use Rattle.std.specs.List.{flat_map, AllZip}
 use Rattle.std.proofs.lemmas.Bool.{cases_Bool, eqb-true, and_parts}
-use Rattle.std.proofs.lemmas.List.{map-append}
-use Rattle.std.proofs.lemmas.List.Concat.{flat_map-append}
-use Rattle.std.proofs.lemmas.List.Sorted.{Contains-permutation, IsPermutation-sym}
 use Rattle.ex_base.specs.declared.names.Oid.{Oid}
 use Rattle.ex_base.specs.declared.names.Place.{Place}
-use Rattle.ex_base.proofs.Members.{In, contains_in, from_flat, in_contains, in_right, into_flat, of_each}
+use Rattle.ex_base.proofs.Members.{In, contains_in, from_flat, in_contains, in_right, into_flat}
 use Rattle.slotted_pages.specs.FilePage.{Slot}
 use Rattle.slotted_pages.specs.Edits.{slots_of}
 use Rattle.file_bodies.specs.Bodies.{Row, place_at, row_of, bodies_from, bodies_on}
 use Rattle.object_files.specs.Catalog.{FileEntry}
-use Rattle.trees.specs.Trees.{Units}
-use Rattle.table_model.specs.declared.table.Version.{Version}
-use Rattle.table_model.specs.declared.table.Object.{Object}
-use Rattle.table_model.specs.declared.table.TableFile.{TableFile}
-use Rattle.table_model.specs.Tables.{same_oid, versions_of, versions_in, objects_of}
-use Rattle.volume_model.specs.Parts.{HasLines, IsStored}
-use Rattle.volume_model.specs.Volume.{Stored, Line, FileContent, Volume, line_records, lines_of, stored_in, version_of, object_of, file_of, table_of}
+use Rattle.version_lists.specs.Versions.{same_oid}
+use Rattle.volume_model.specs.Parts.{IsStored}
+use Rattle.volume_model.specs.Volume.{Stored, FileContent, Volume, stored_in}
 use Rattle.volume_edits.proofs.Lists.{Paired}
-use Rattle.volume_edits.proofs.Holes.{lone}
 use Rattle.volume_edits.proofs.Contents.{Beside}
 
 -- ---- a search
@@ -36,17 +28,6 @@ find_in {A = A} p (y ∷ xs) x is = elim (cases_Bool (p y)) [
   | inr other ↦
       let rest = find_in p xs x (sym (ap (λ (b : Bool). cond b (Some y) (find p xs)) other) ∙ is) in
       (inr rest.0, rest.1)
-]
-
--- an item that passes is found, or one before it
-pub in_find : {A : Type 0} (p : A → Bool) (xs : List A) (x : A) → In x xs → p x ≡ true → (y : A) × (find p xs ≡ Some y)
-in_find p [] x h is = absurd h
-in_find {A = A} p (y ∷ xs) x h is = elim (cases_Bool (p y)) [
-  | inl here ↦ (y, ap (λ (b : Bool). cond b (Some y) (find p xs)) here)
-  | inr other ↦ elim h [
-    | inl e ↦ absurd (let t : p y ≡ true = subst (λ (z : A). p z ≡ true) e is in cc)
-    | inr k ↦ let rest = in_find p xs x k is in (rest.0, ap (λ (b : Bool). cond b (Some y) (find p xs)) other ∙ rest.1)
-  ]
 ]
 
 pub found_or_not : {A : Type 0} (o : Option A) → (o ≡ None) ⊎ ((x : A) × (o ≡ Some x))
@@ -74,39 +55,7 @@ same_as_oid a b e =
     let unique = eq-eqb a.unique b.unique (ap (λ (o : Oid). o.unique) e) in
     rw page (rw slot (rw unique refl))
 
--- ---- the versions of a table
-
-versions_listed : (units : Units) (lines : List Line) → flat_map (λ (o : Object). o.versions) (map (object_of units) lines) ≡ map (version_of units) (flat_map line_records lines)
-versions_listed units [] = refl
-versions_listed units (line ∷ lines) =
-    ap (λ (t : List Version). map (version_of units) (line_records line) ++ t) (versions_listed units lines) ∙ sym (map-append (version_of units) (line_records line) (flat_map line_records lines))
-
-pub versions_are : (units : Units) (v : Volume) → Paired v.catalog.entries v.files → versions_of (table_of units v) ≡ map (version_of units) (stored_in v)
-versions_are units v paired = go v.catalog.entries v.files paired
-  where
-    go : (entries : List FileEntry) (files : List FileContent) → Paired entries files → flat_map versions_in (map (file_of units) (zip entries files)) ≡ map (version_of units) (flat_map line_records (flat_map (λ (file : FileContent). file.lines) files))
-    go [] [] p = refl
-    go [] (f ∷ files) p = absurd p
-    go (e ∷ entries) [] p = absurd p
-    go (e ∷ entries) (f ∷ files) p =
-        ap (λ (t : List Version). t ++ flat_map versions_in (map (file_of units) (zip entries files))) (versions_listed units f.lines)
-        ∙ ap (λ (t : List Version). map (version_of units) (flat_map line_records f.lines) ++ t) (go entries files p.1)
-        ∙ sym (ap (map (version_of units)) (flat_map-append line_records f.lines (flat_map (λ (file : FileContent). file.lines) files)) ∙ map-append (version_of units) (flat_map line_records f.lines) (flat_map line_records (flat_map (λ (file : FileContent). file.lines) files)))
-
-objects_in_file : (units : Units) (entries : List FileEntry) (files : List FileContent) → Paired entries files → flat_map (λ (f : TableFile). f.objects) (map (file_of units) (zip entries files)) ≡ map (object_of units) (flat_map (λ (file : FileContent). file.lines) files)
-objects_in_file units [] [] p = refl
-objects_in_file units [] (f ∷ files) p = absurd p
-objects_in_file units (e ∷ entries) [] p = absurd p
-objects_in_file units (e ∷ entries) (f ∷ files) p =
-    ap (λ (t : List Object). map (object_of units) f.lines ++ t) (objects_in_file units entries files p.1) ∙ sym (map-append (object_of units) f.lines (flat_map (λ (file : FileContent). file.lines) files))
-
-pub objects_are : (units : Units) (v : Volume) → Paired v.catalog.entries v.files → objects_of (table_of units v) ≡ map (object_of units) (lines_of v)
-objects_are units v paired = objects_in_file units v.catalog.entries v.files paired
-
-pub any_in : {A : Type 0} (p : A → Bool) (x : A) (xs : List A) → In x xs → p x ≡ true → list_any p xs ≡ true
-any_in p x [] h t = absurd h
-any_in {A = A} p x (y ∷ xs) (inl e) t = let here : p y ≡ true = subst (λ (z : A). p z ≡ true) e t in search (rules, here)
-any_in p x (y ∷ xs) (inr h) t = let rest = any_in p x xs h t in grind (arith, rest)
+-- ---- members
 
 pub from_map : {A B : Type 0} (f : A → B) (y : B) (xs : List A) → In y (map f xs) → (x : A) × In x xs × (y ≡ f x)
 from_map f y [] h = absurd h
@@ -119,14 +68,6 @@ into_map f x (y ∷ xs) (inl e) = inl (ap f e)
 into_map f x (y ∷ xs) (inr h) = inr (into_map f x xs h)
 
 -- ---- the file of a record
-
--- the file and the line of a record
-pub record Standing (v : Volume) (x : Stored) : Type 0 where
-  pub e : FileEntry
-  pub f : FileContent
-  pub beside : Beside v.catalog.entries v.files e f
-  pub line : In (lone x) f.lines
-  pub stored : In x f.stored
 
 pub beside_file : (entries : List FileEntry) (files : List FileContent) (f : FileContent) → Paired entries files → In f files → (e : FileEntry) × Beside entries files e f
 beside_file [] [] f p h = absurd h
@@ -148,42 +89,11 @@ beside_file (d ∷ entries) (c ∷ files) f p (inr h) =
       },
     )
 
-abbrev made_line : List Stored → Stored → Line
-made_line frozen current = record { frozen = frozen; current = current }
+pub file_in : (v : Volume) (e : FileEntry) (f : FileContent) → Beside v.catalog.entries v.files e f → In f v.files
+file_in v e f b = subst (λ (t : List FileContent). In f t) (sym b.files_are) (in_right f b.files_before (f ∷ b.files_behind) (inl refl))
 
--- a line without frozen versions is that of its record
-pub line_alone : (line : Line) (x : Stored) → line.frozen ≡ [] → In x (line_records line) → line ≡ lone x
-line_alone line x none h =
-    let here : In x ([] ++ (line.current ∷ [])) = subst (λ (t : List Stored). In x (t ++ (line.current ∷ []))) none h in
-    elim here [
-      | inl e ↦ let same : made_line line.frozen line.current ≡ made_line [] x = cc (none, e) in same
-      | inr never ↦ absurd never
-    ]
-
--- a record of a line is one of the file's, and the other way round
-pub in_stored : (f : FileContent) (line : Line) (x : Stored) → HasLines f → In line f.lines → In x (line_records line) → In x f.stored
-in_stored f line x h inside k =
-    in_contains x f.stored (Contains-permutation (flat_map line_records f.lines) f.stored x (IsPermutation-sym f.stored (flat_map line_records f.lines) h.each_once) (contains_in x (flat_map line_records f.lines) (into_flat line_records x line f.lines inside k)))
-
-pub line_of : (f : FileContent) (x : Stored) → HasLines f → In x f.stored → In (lone x) f.lines
-line_of f x h k =
-    let there = from_flat line_records x f.lines (in_contains x (flat_map line_records f.lines) (Contains-permutation f.stored (flat_map line_records f.lines) x h.each_once (contains_in x f.stored k))) in
-    let same = line_alone there.0 x (of_each (λ (line : Line). line.frozen ≡ []) there.0 f.lines h.unfrozen there.1) there.2 in
-    subst (λ (line : Line). In line f.lines) same there.1
-
-pub standing : (v : Volume) (x : Stored) → Paired v.catalog.entries v.files → AllByRecursion HasLines v.files → In x (stored_in v) → Standing v x
-standing v x paired lines inside =
-    let one = from_flat line_records x (lines_of v) inside in
-    let two = from_flat (λ (file : FileContent). file.lines) one.0 v.files one.1 in
-    let at = beside_file v.catalog.entries v.files two.0 paired two.1 in
-    let has = of_each HasLines two.0 v.files lines two.1 in
-    let stored = in_stored two.0 one.0 x has two.2 one.2 in
-    record { e = at.0; f = two.0; beside = at.1; line = line_of two.0 x has stored; stored = stored }
-
-pub into_volume : (v : Volume) (e : FileEntry) (f : FileContent) (x : Stored) → Beside v.catalog.entries v.files e f → HasLines f → In x f.stored → In x (stored_in v)
-into_volume v e f x b has k =
-    let file : In f v.files = subst (λ (t : List FileContent). In f t) (sym b.files_are) (in_right f b.files_before (f ∷ b.files_behind) (inl refl)) in
-    into_flat line_records x (lone x) (lines_of v) (into_flat (λ (c : FileContent). c.lines) (lone x) f v.files file (line_of f x has k)) (inl refl)
+pub into_volume : (v : Volume) (e : FileEntry) (f : FileContent) (x : Stored) → Beside v.catalog.entries v.files e f → In x f.stored → In x (stored_in v)
+into_volume v e f x b k = into_flat (λ (c : FileContent). c.stored) x f v.files (file_in v e f b) k
 
 -- ---- rows and records
 

@@ -1,5 +1,5 @@
 -- What an edit of one file leaves of a volume's pages and units.
-use Rattle.std.proofs.Common.{◌≡◌, ℕ, ◌+◌, ◌<◌, ◌≤◌, true, false, List, ◌∷◌, refl, sym, subst, ◌∙◌, arith, inl, inr, ◌⊎◌, ltb}
+use Rattle.std.proofs.Common.{◌≡◌, ℕ, ◌+◌, ◌<◌, ◌≤◌, true, false, List, ◌∷◌, refl, sym, subst, ◌∙◌, arith, inl, inr, ltb}
 use Rattle.std.proofs.lemmas.Bool.{cases_Bool, le-ltb}
 use Rattle.std.specs.Prelude.{Contains}
 use Rattle.std.specs.List.{flat_map, AllByRecursion}
@@ -13,7 +13,7 @@ use Rattle.ex_base.proofs.Each.{each_parted, each_with}
 use Rattle.op_log.specs.declared.record.LogRecord.{LogRecord}
 use Rattle.file_index.specs.Changes.{count_of}
 use Rattle.trees.specs.Trees.{root_units, RootNamed}
-use Rattle.volume_model.specs.Parts.{Apart}
+use Rattle.volume_model.specs.Links.{Apart}
 use Rattle.volume_model.specs.Volume.{Volume, file_pages, roots_in, stored_in, reach_of}
 use Rattle.volume_edits.specs.Ported.{ShowsVolume, IsVolume, IsApart, units_in}
 use Rattle.volume_edits.proofs.Kept.{root_placed}

@@ -1,14 +1,13 @@
--- What is read of a tree, of a record and of an object stays where their units keep their bytes.
-use Rattle.std.proofs.Common.{◌≡◌, ℕ, zero, suc, List, [], ◌∷◌, ◌++◌, Option, Some, None, refl, sym, ap, subst, ◌∙◌, inl, inr}
+-- What is read of a tree, of a record and of a version stays where their units keep their bytes.
+use Rattle.std.proofs.Common.{◌≡◌, ℕ, zero, suc, List, [], ◌∷◌, Option, Some, None, refl, sym, ap, subst, ◌∙◌, inl, inr}
 use Rattle.std.specs.Prelude.{map}
-use Rattle.std.specs.List.{flat_map, AllByRecursion, zip}
-use Rattle.std.proofs.lemmas.List.Concat.{flat_map-append}
+use Rattle.std.specs.List.{AllByRecursion, zip}
 use Rattle.ex_base.specs.declared.names.PageNo.{PageNo}
 use Rattle.ex_base.specs.declared.names.Root.{Root}
 use Rattle.ex_base.specs.declared.geometry.Geometry.{Geometry}
 use Rattle.ex_base.specs.Area.{IsUnit}
 use Rattle.ex_base.specs.Sizes.{leaf_bytes}
-use Rattle.ex_base.proofs.Each.{each_as, each_joined, each_parted, flat_same, map_same}
+use Rattle.ex_base.proofs.Each.{each_as, each_joined, each_of, each_parted, flat_same, map_same}
 use Rattle.count_nodes.specs.declared.Pair.{Pair}
 use Rattle.count_nodes.specs.Node.{pairs_on}
 use Rattle.object_files.specs.Catalog.{FileEntry}
@@ -17,7 +16,12 @@ use Rattle.trees.specs.Shape.{IsBalanced}
 use Rattle.trees.specs.Trees.{Units, units_on, IsNamed, root_units, root_units_at, root_shape_at, root_bytes_at, RootNamed, RootSized, RootSpells}
 use Rattle.trees.proofs.SameUnits.{Kept, units_same, bytes_same, shape_same, named_same, sized_same}
 use Rattle.volume_model.specs.Parts.{HasBalance}
-use Rattle.volume_model.specs.Volume.{Stored, Line, FileContent, line_records, root_in, roots_in, line_units, content_in, version_of, object_of, file_of}
+use Rattle.version_lists.specs.declared.version.Version.{Version}
+use Rattle.version_lists.specs.Sorted.{in_order}
+use Rattle.version_lists.specs.Versions.{unique_of as number_of}
+use Rattle.version_lists.specs.Objects.{objects_formed}
+use Rattle.volume_model.specs.Links.{Apart, HasObjects, stored_units}
+use Rattle.volume_model.specs.Volume.{Stored, FileContent, root_in, roots_in, content_in, version_of, versions_stored, file_of}
 
 -- ---- a tree's units are units of the volume
 
@@ -77,34 +81,28 @@ spelled_root g old new root bytes kept h = record {
   spelled = h.spelled ∙ sym (bytes_of_root old new root.height root.size root.page kept);
 }
 
--- ---- records and lines
+-- ---- records and their versions
 
-abbrev pub LineKept : Units → Units → Line → Type 0
-LineKept old new line = RootsKept old new (roots_in (line_records line))
+abbrev pub StoredKept : Units → Units → Stored → Type 0
+StoredKept old new s = RootsKept old new (root_in s.body.content)
 
-pub line_units_same : (old new : Units) (line : Line) → LineKept old new line → line_units new line ≡ line_units old line
-line_units_same old new line kept = flat_same (root_units old) (root_units new) (RootKept old new) (roots_in (line_records line)) (λ root k. units_of_root old new root.height root.page k) kept
+pub stored_same : (old new : Units) (s : Stored) → StoredKept old new s → stored_units new s ≡ stored_units old s
+stored_same old new s kept = flat_same (root_units old) (root_units new) (RootKept old new) (root_in s.body.content) (λ root k. units_of_root old new root.height root.page k) kept
 
 pub content_same : (old new : Units) (content : Content) → RootsKept old new (root_in content) → content_in new content ≡ content_in old content
 content_same old new (Small bytes) kept = refl
 content_same old new (Large root) kept = bytes_of_root old new root.height root.size root.page kept.0
 
-pub version_same : (old new : Units) (s : Stored) → RootsKept old new (root_in s.body.content) → version_of new s ≡ version_of old s
-version_same old new s kept = let content = content_same old new s.body.content kept in cc content
+pub version_same : (old new : Units) (stored : List Stored) (s : Stored) → StoredKept old new s → version_of new stored s ≡ version_of old stored s
+version_same old new stored s kept = let content = content_same old new s.body.content kept in cc content
 
-pub object_same : (old new : Units) (line : Line) → LineKept old new line → object_of new line ≡ object_of old line
-object_same old new line kept =
-    let each = each_parted (RootKept old new) (λ (s : Stored). root_in s.body.content) (line_records line) kept in
-    let versions : map (version_of new) (line_records line) ≡ map (version_of old) (line_records line) = map_same (version_of old) (version_of new) (λ s. RootsKept old new (root_in s.body.content)) (line_records line) (λ s k. version_same old new s k) each in
-    cc versions
+pub versions_same : (old new : Units) (stored : List Stored) → AllByRecursion (StoredKept old new) stored → versions_stored new stored ≡ versions_stored old stored
+versions_same old new stored kept = ap (in_order number_of) (map_same (version_of old stored) (version_of new stored) (StoredKept old new) stored (λ s k. version_same old new stored s k) kept)
 
-pub objects_same : (old new : Units) (lines : List Line) → AllByRecursion (LineKept old new) lines → map (object_of new) lines ≡ map (object_of old) lines
-objects_same old new lines kept = map_same (object_of old) (object_of new) (LineKept old new) lines (λ line k. object_same old new line k) kept
+pub file_same : (old new : Units) (entry : FileEntry) (file : FileContent) → AllByRecursion (StoredKept old new) file.stored → file_of new (entry, file) ≡ file_of old (entry, file)
+file_same old new entry file kept = ap (λ (vs : List Version). record { name = entry.name; objects = objects_formed vs }) (versions_same old new file.stored kept)
 
-pub file_same : (old new : Units) (entry : FileEntry) (file : FileContent) → AllByRecursion (LineKept old new) file.lines → file_of new (entry, file) ≡ file_of old (entry, file)
-file_same old new entry file kept = let objects = objects_same old new file.lines kept in cc objects
-
-pub files_same : (old new : Units) (entries : List FileEntry) (files : List FileContent) → AllByRecursion (λ (file : FileContent). AllByRecursion (LineKept old new) file.lines) files → map (file_of new) (zip entries files) ≡ map (file_of old) (zip entries files)
+pub files_same : (old new : Units) (entries : List FileEntry) (files : List FileContent) → AllByRecursion (λ (file : FileContent). AllByRecursion (StoredKept old new) file.stored) files → map (file_of new) (zip entries files) ≡ map (file_of old) (zip entries files)
 files_same old new [] files kept = refl
 files_same old new (entry ∷ entries) [] kept = refl
 files_same old new (entry ∷ entries) (file ∷ files) kept =
@@ -112,10 +110,17 @@ files_same old new (entry ∷ entries) (file ∷ files) kept =
     let rest = files_same old new entries files kept.1 in
     cc (here, rest)
 
--- the roots of lines, line by line
-pub roots_of_lines : (P : Root → Type 0) (lines : List Line) → AllByRecursion P (roots_in (flat_map line_records lines)) → AllByRecursion (λ (line : Line). AllByRecursion P (roots_in (line_records line))) lines
-roots_of_lines P lines h = each_parted P (λ (line : Line). roots_in (line_records line)) lines (subst (AllByRecursion P) (joined lines) h)
-  where
-    joined : (ls : List Line) → roots_in (flat_map line_records ls) ≡ flat_map (λ (line : Line). roots_in (line_records line)) ls
-    joined [] = refl
-    joined (l ∷ ls) = flat_map-append (λ (s : Stored). root_in s.body.content) (line_records l) (flat_map line_records ls) ∙ ap (λ t. roots_in (line_records l) ++ t) (joined ls)
+-- the roots of records, record by record
+pub roots_of_stored : (P : Root → Type 0) (stored : List Stored) → AllByRecursion P (roots_in stored) → AllByRecursion (λ (s : Stored). AllByRecursion P (root_in s.body.content)) stored
+roots_of_stored P stored h = each_parted P (λ (s : Stored). root_in s.body.content) stored h
+
+-- objects whose trees keep their units
+pub objects_kept : (old new : Units) (stored : List Stored) → AllByRecursion (StoredKept old new) stored → HasObjects old stored → HasObjects new stored
+objects_kept old new stored kept h = record {
+  object = h.object;
+  joined = h.joined;
+  one_first = h.one_first;
+  apart = λ s t in_s in_t differ.
+      subst (λ (us : List ℕ). Apart us (stored_units new t)) (sym (stored_same old new s (each_of (StoredKept old new) stored s kept in_s)))
+      (subst (Apart (stored_units old s)) (sym (stored_same old new t (each_of (StoredKept old new) stored t kept in_t))) (h.apart s t in_s in_t differ));
+}

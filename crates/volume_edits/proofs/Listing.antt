@@ -1,15 +1,12 @@
 -- The files of a volume with one without pages more or less, and another next unique number.
-use Rattle.std.proofs.Common.{◌≡◌, ℕ, ◌≤◌, true, false, cond, not, length, List, [], ◌∷◌, ◌++◌, None, refl, sym, ap, ◌∙◌, arith, inl, inr}
+use Rattle.std.proofs.Common.{◌≡◌, ℕ, ◌≤◌, true, false, cond, not, List, [], ◌∷◌, ◌++◌, None, refl, sym, ap, ◌∙◌, arith, inl, inr}
 use Rattle.std.specs.Prelude.{map, filter, Contains, if◌then◌else◌}
 use Rattle.std.specs.List.{flat_map, AllByRecursion, AllZip, zip}
 use Rattle.std.specs.Cmp.Lexicographic.{slice_cmp}
 use Rattle.std.specs.Ordering.{nat_cmp, is_lt}
-use Rattle.std.proofs.lemmas.List.Sorted.{length_permutation, IsPermutation-refl}
 use Rattle.std.proofs.lemmas.Slice.Eq.{bytes_eq-Decides}
-use Rattle.std.proofs.lemmas.List.{length-append}
 use Rattle.ex_base.specs.declared.ground.Ground as ground
 use Rattle.ex_base.specs.declared.geometry.Geometry.{Geometry}
-use Rattle.ex_base.specs.Order.{Rising}
 use Rattle.ex_base.proofs.Members.{In, contains_in}
 use Rattle.ex_base.proofs.Each.{zip_as}
 use Rattle.op_log.specs.declared.record.LogRecord.{LogRecord}
@@ -22,17 +19,17 @@ use Rattle.table_model.specs.declared.table.TableFile.{TableFile}
 use Rattle.table_model.specs.declared.table.Table.{Table}
 use Rattle.table_model.specs.Tables.{file_inserted, with_file, without_file}
 use Rattle.table_model.specs.Tables as tables
-use Rattle.volume_model.specs.Parts.{HasIndex, HasPages, HasLines, IsStored, bodies_from}
-use Rattle.volume_model.specs.Volume.{Stored, Line, FileContent, Volume, line_records, line_number, pages_of_file, file_of, table_of}
+use Rattle.volume_model.specs.Parts.{HasBodies, HasIndex, HasPages, IsStored, bodies_from}
+use Rattle.volume_model.specs.Volume.{Stored, FileContent, Volume, pages_of_file, file_of, table_of}
 use Rattle.volume_edits.specs.Ported.{IsVolume, units_in}
 use Rattle.volume_edits.specs.Edits.{WritesCatalog, RecatalogsVolume, catalog_numbered, table_numbered, IsRootless}
 use Rattle.volume_edits.proofs.Catalogs.{Recataloged, recataloged, table_same, trees_same}
 
 -- ---- a file more
 
--- a file without pages and objects
+-- a file without pages
 abbrev no_pages : FileContent
-no_pages = record { numbers = []; index_pages = []; pages = []; stored = []; lines = [] }
+no_pages = record { numbers = []; index_pages = []; pages = []; stored = [] }
 
 -- the files with one more, in the place of its entry
 abbrev file_added : FileEntry → List FileEntry → List FileContent → List FileContent
@@ -80,8 +77,8 @@ table_added units name file_no (f ∷ entries) (c ∷ files) paired =
       | false ↦ ap (λ (t : List TableFile). file_of units (f, c) ∷ t) (table_added units name file_no entries files paired.1)
     ])
 
-no_lines : HasLines no_pages
-no_lines = record { records = tt; lines = tt; unfrozen = tt; each_once = IsPermutation-refl [] }
+no_bodies : HasBodies no_pages
+no_bodies = record { records = tt; linked = tt }
 
 no_index : (g : Geometry) (units : Units) (name : List ℕ) (file_no : ℕ) → HasIndex g units (new_file name file_no) no_pages
 no_index g units name file_no = record { whole = record { whole = refl; rising = tt; once = λ p. omega arith }; numbers = refl; index_pages = refl }
@@ -144,24 +141,18 @@ no_stored [] pages [] none h = refl
 no_stored [] pages (s ∷ stored) none h = absurd h
 no_stored (n ∷ numbers) pages stored none h = absurd (let e : n ∷ numbers ≡ [] = none in cc)
 
--- a file without a root has no pages, no records and no objects
+-- a file without a root has no pages and no records
 pub record IsBare (c : FileContent) : Type 0 where
   pub pages : pages_of_file c ≡ []
-  pub lines : c.lines ≡ []
+  pub stored : c.stored ≡ []
 
-no_lines_of : (lines : List Line) → length (flat_map line_records lines) ≡ 0 → lines ≡ []
-no_lines_of [] e = refl
-no_lines_of (l ∷ lines) e = absurd (omega (arith, length-append (line_records l) (flat_map line_records lines), length-append l.frozen (l.current ∷ [])))
-
-pub bare : (g : Geometry) (units : Units) (e : FileEntry) (c : FileContent) → e.root ≡ None → HasIndex g units e c → HasPages units e c → HasLines c → IsBare c
-bare g units e c rootless index pages lines =
+pub bare : (g : Geometry) (units : Units) (e : FileEntry) (c : FileContent) → e.root ≡ None → HasIndex g units e c → HasPages units e c → HasBodies c → IsBare c
+bare g units e c rootless index pages bodies =
     let numbers : c.numbers ≡ [] = index.numbers ∙ ap (keys_of units e.level) rootless in
     let index_pages : c.index_pages ≡ [] = index.index_pages ∙ ap (pages_of units e.level) rootless in
-    let stored : c.stored ≡ [] = no_stored c.numbers c.pages c.stored numbers lines.records in
-    let count = length_permutation c.stored (flat_map line_records c.lines) lines.each_once in
     record {
       pages = cc (numbers, index_pages);
-      lines = no_lines_of c.lines (count ∙ ap length stored);
+      stored = no_stored c.numbers c.pages c.stored numbers bodies.records;
     }
 
 -- ---- the volumes
@@ -180,13 +171,12 @@ module _ {S : Type 0} (g : ground.Ghosts S) (old new : S) (records : List LogRec
   numbered_is : (n : ℕ) → v.catalog.next_unique ≤ n → Recataloged (g.geometry old) U v (numbered n)
   numbered_is n le = record {
     pages_same = refl;
-    lines_same = refl;
+    stored_same = refl;
     last = refl;
     next = le;
     index = vol.shows.parts.1.0.0;
     page = vol.shows.parts.1.1.0;
-    lines = vol.shows.parts.1.1.1.0;
-    listed = vol.shows.parts.1.1.1.1.1.1.0.listed;
+    bodies = vol.shows.parts.1.1.1.0;
   }
 
   pub numbers_volume : (n : ℕ) → v.catalog.next_unique ≤ n → WritesCatalog g old new (catalog_numbered n v.catalog) → RecatalogsVolume g old new records v (catalog_numbered n v.catalog) (table_numbered n (table_of U v))
@@ -195,7 +185,7 @@ module _ {S : Type 0} (g : ground.Ghosts S) (old new : S) (records : List LogRec
     volume = recataloged g old new records v (numbered n) vol writes.image writes.puts writes.told writes.geometry writes.spelled (numbered_is n le);
     shows = table_same g old new records v (numbered n) vol writes.image writes.puts writes.told writes.geometry writes.spelled (numbered_is n le);
     has = refl;
-    objects = refl;
+    stored = refl;
     pages = refl;
     units = trees_same g old new records v (numbered n) vol writes.image writes.puts writes.told writes.geometry writes.spelled (numbered_is n le);
   }
@@ -207,13 +197,12 @@ module _ {S : Type 0} (g : ground.Ghosts S) (old new : S) (records : List LogRec
   more_is : (name : List ℕ) (file_no : ℕ) → Recataloged (g.geometry old) U v (with_more name file_no)
   more_is name file_no = record {
     pages_same = flat_added pages_of_file (new_file name file_no) v.catalog.entries v.files refl;
-    lines_same = flat_added (λ (f : FileContent). f.lines) (new_file name file_no) v.catalog.entries v.files refl;
+    stored_same = flat_added (λ (f : FileContent). f.stored) (new_file name file_no) v.catalog.entries v.files refl;
     last = refl;
     next = omega arith;
     index = zip_added (HasIndex (g.geometry old) U) (new_file name file_no) v.catalog.entries v.files (no_index (g.geometry old) U name file_no) vol.shows.parts.1.0.0;
     page = zip_added (HasPages U) (new_file name file_no) v.catalog.entries v.files tt vol.shows.parts.1.1.0;
-    lines = each_added HasLines (new_file name file_no) v.catalog.entries v.files no_lines vol.shows.parts.1.1.1.0;
-    listed = each_added (λ (f : FileContent). Rising (map line_number f.lines)) (new_file name file_no) v.catalog.entries v.files tt vol.shows.parts.1.1.1.1.1.1.0.listed;
+    bodies = each_added HasBodies (new_file name file_no) v.catalog.entries v.files no_bodies vol.shows.parts.1.1.1.0;
   }
 
   pub adds_file : (name : List ℕ) (file_no : ℕ) → WritesCatalog g old new (with_entries v.catalog (entry_inserted (new_file name file_no) v.catalog.entries))
@@ -224,7 +213,7 @@ module _ {S : Type 0} (g : ground.Ghosts S) (old new : S) (records : List LogRec
     shows = table_same g old new records v (with_more name file_no) vol writes.image writes.puts writes.told writes.geometry writes.spelled (more_is name file_no)
         ∙ ap (λ (files : List TableFile). let t : Table = record { next_unique = v.catalog.next_unique; last = v.catalog.last; files = files } in t) (table_added U name file_no v.catalog.entries v.files pairs_here);
     has = refl;
-    objects = (more_is name file_no).lines_same;
+    stored = (more_is name file_no).stored_same;
     pages = flat_added pages_of_file (new_file name file_no) v.catalog.entries v.files refl;
     units = trees_same g old new records v (with_more name file_no) vol writes.image writes.puts writes.told writes.geometry writes.spelled (more_is name file_no);
   }
@@ -233,14 +222,14 @@ module _ {S : Type 0} (g : ground.Ghosts S) (old new : S) (records : List LogRec
   abbrev with_less : List ℕ → Volume
   with_less name = record { catalog = with_entries v.catalog (without_name name v.catalog.entries); files = file_left name v.catalog.entries v.files }
 
-  bare_files : (name : List ℕ) (entries : List FileEntry) (files : List FileContent) → ((e : FileEntry) → In e entries → IsRootless name e) → AllZip (HasIndex (g.geometry old) U) entries files → AllZip (HasPages U) entries files → AllByRecursion HasLines files
+  bare_files : (name : List ℕ) (entries : List FileEntry) (files : List FileContent) → ((e : FileEntry) → In e entries → IsRootless name e) → AllZip (HasIndex (g.geometry old) U) entries files → AllZip (HasPages U) entries files → AllByRecursion HasBodies files
       → AllZip (λ (e : FileEntry) (c : FileContent). has_name name e ≡ true → IsBare c) entries files
-  bare_files name [] [] rootless index pages lines = tt
-  bare_files name [] (c ∷ files) rootless index pages lines = absurd index
-  bare_files name (e ∷ entries) [] rootless index pages lines = absurd index
-  bare_files name (e ∷ entries) (c ∷ files) rootless index pages lines = (
-    (λ is. bare (g.geometry old) U e c (rootless e (inl refl) ((bytes_eq-Decides e.name name).0 is)) index.0 pages.0 lines.0),
-    bare_files name entries files (λ d k. rootless d (inr k)) index.1 pages.1 lines.1,
+  bare_files name [] [] rootless index pages bodies = tt
+  bare_files name [] (c ∷ files) rootless index pages bodies = absurd index
+  bare_files name (e ∷ entries) [] rootless index pages bodies = absurd index
+  bare_files name (e ∷ entries) (c ∷ files) rootless index pages bodies = (
+    (λ is. bare (g.geometry old) U e c (rootless e (inl refl) ((bytes_eq-Decides e.name name).0 is)) index.0 pages.0 bodies.0),
+    bare_files name entries files (λ d k. rootless d (inr k)) index.1 pages.1 bodies.1,
   )
 
   module _ (name : List ℕ) (rootless : (e : FileEntry) → Contains v.catalog.entries e → IsRootless name e) where
@@ -250,13 +239,12 @@ module _ {S : Type 0} (g : ground.Ghosts S) (old new : S) (records : List LogRec
     less_is : Recataloged (g.geometry old) U v (with_less name)
     less_is = record {
       pages_same = flat_left pages_of_file name v.catalog.entries v.files (zip_as (λ (e : FileEntry) (c : FileContent). has_name name e ≡ true → IsBare c) (HasNone pages_of_file name) v.catalog.entries v.files (λ e c b is. (b is).pages) bare_here);
-      lines_same = flat_left (λ (f : FileContent). f.lines) name v.catalog.entries v.files (zip_as (λ (e : FileEntry) (c : FileContent). has_name name e ≡ true → IsBare c) (HasNone (λ (f : FileContent). f.lines) name) v.catalog.entries v.files (λ e c b is. (b is).lines) bare_here);
+      stored_same = flat_left (λ (f : FileContent). f.stored) name v.catalog.entries v.files (zip_as (λ (e : FileEntry) (c : FileContent). has_name name e ≡ true → IsBare c) (HasNone (λ (f : FileContent). f.stored) name) v.catalog.entries v.files (λ e c b is. (b is).stored) bare_here);
       last = refl;
       next = omega arith;
       index = zip_left (HasIndex (g.geometry old) U) name v.catalog.entries v.files vol.shows.parts.1.0.0;
       page = zip_left (HasPages U) name v.catalog.entries v.files vol.shows.parts.1.1.0;
-      lines = each_left HasLines name v.catalog.entries v.files vol.shows.parts.1.1.1.0;
-      listed = each_left (λ (f : FileContent). Rising (map line_number f.lines)) name v.catalog.entries v.files vol.shows.parts.1.1.1.1.1.1.0.listed;
+      bodies = each_left HasBodies name v.catalog.entries v.files vol.shows.parts.1.1.1.0;
     }
 
     pub removes_file : WritesCatalog g old new (with_entries v.catalog (without_name name v.catalog.entries)) → RecatalogsVolume g old new records v (with_entries v.catalog (without_name name v.catalog.entries)) (without_file name (table_of U v))
@@ -266,7 +254,7 @@ module _ {S : Type 0} (g : ground.Ghosts S) (old new : S) (records : List LogRec
       shows = table_same g old new records v (with_less name) vol writes.image writes.puts writes.told writes.geometry writes.spelled less_is
           ∙ ap (λ (files : List TableFile). let t : Table = record { next_unique = v.catalog.next_unique; last = v.catalog.last; files = files } in t) (table_left U name v.catalog.entries v.files pairs_here);
       has = refl;
-      objects = less_is.lines_same;
+      stored = less_is.stored_same;
       pages = less_is.pages_same;
       units = trees_same g old new records v (with_less name) vol writes.image writes.puts writes.told writes.geometry writes.spelled less_is;
     }

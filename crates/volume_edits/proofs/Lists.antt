@@ -1,18 +1,16 @@
 -- Lists: membership, counts, and one item among others.
-use Rattle.std.proofs.Common.{◌≡◌, ◌≢◌, ℕ, ◌+◌, ◌<◌, ◌≤◌, List, [], ◌∷◌, ◌++◌, map, refl, sym, ap, subst, ◌∙◌, arith, inl, inr, ◌⊎◌}
-use Rattle.std.specs.Prelude.{Contains}
+use Rattle.std.proofs.Common.{◌≡◌, ◌≢◌, ℕ, ◌+◌, ◌≤◌, List, [], ◌∷◌, ◌++◌, map, refl, sym, ap, subst, ◌∙◌, arith, inl, inr, ◌⊎◌}
 use Rattle.std.specs.List.{flat_map, AllByRecursion, AllZip, zip}
 use Rattle.std.specs.List.Sorted.{IsPermutation}
-use Rattle.std.proofs.lemmas.List.Sorted.{Contains-permutation, IsPermutation-sym, IsPermutation-trans, IsPermutation-cons, IsPermutation-middle, IsPermutation-refl}
+use Rattle.std.proofs.lemmas.List.Sorted.{IsPermutation-sym, IsPermutation-trans, IsPermutation-cons, IsPermutation-middle, IsPermutation-refl}
 use Rattle.std.proofs.lemmas.List.{map-append}
 use Rattle.std.proofs.lemmas.List.Concat.{flat_map-append}
-use Rattle.ex_base.specs.Order.{Rising, AllDiffer}
+use Rattle.ex_base.specs.Order.{AllDiffer}
 use Rattle.ex_base.specs.Ports.{times}
 use Rattle.ex_base.proofs.Rows.{each-append}
 use Rattle.ex_base.proofs.Each.{split_each}
 use Rattle.ex_base.proofs.Counts.{differ_once, once_differ, same_or_not, times-append, times_apart, times_here}
-use Rattle.ex_base.proofs.Members.{In, contains_in, in_contains, in_either, in_left, in_right}
-use Rattle.ex_base.proofs.Lists.{rising_tail}
+use Rattle.ex_base.proofs.Members.{In, contains_in, in_either, in_left, in_right}
 
 -- ---- membership
 
@@ -114,7 +112,7 @@ keyed_less key x xs ys keyed = once_differ (map key (xs ++ ys)) (λ n.
     let less : times n (map key (xs ++ ys)) ≡ times n (map key xs) + times n (map key ys) = ap (times n) (map-append key xs ys) ∙ times-append n (map key xs) (map key ys) in
     omega (arith, once, count, less))
 
-permuted : {A : Type 0} (key : A → ℕ) (xs ys : List A) → Keyed key xs → Keyed key ys → ((z : A) → In z xs → In z ys) → ((z : A) → In z ys → In z xs) → IsPermutation xs ys
+pub permuted : {A : Type 0} (key : A → ℕ) (xs ys : List A) → Keyed key xs → Keyed key ys → ((z : A) → In z xs → In z ys) → ((z : A) → In z ys → In z xs) → IsPermutation xs ys
 permuted key [] [] p q to from = IsPermutation-refl []
 permuted key [] (y ∷ ys) p q to from = absurd (from y (inl refl))
 permuted key (x ∷ xs) ys p q to from =
@@ -130,35 +128,3 @@ permuted key (x ∷ xs) ys p q to from =
       | inr k ↦ k
     ]) in
     subst (IsPermutation (x ∷ xs)) (sym cut.2) (IsPermutation-trans (x ∷ xs) (x ∷ (cut.0 ++ cut.1)) (cut.0 ++ (x ∷ cut.1)) (IsPermutation-cons x xs (cut.0 ++ cut.1) rest) (IsPermutation-sym (cut.0 ++ (x ∷ cut.1)) (x ∷ (cut.0 ++ cut.1)) (IsPermutation-middle cut.0 x cut.1)))
-
--- the same item leaves two lists
-pub permuted_less : {A : Type 0} (key : A → ℕ) (x : A) (xs ys us vs : List A) → AllDiffer (map key (xs ++ (x ∷ ys))) → AllDiffer (map key (us ++ (x ∷ vs))) → IsPermutation (xs ++ (x ∷ ys)) (us ++ (x ∷ vs)) → IsPermutation (xs ++ ys) (us ++ vs)
-permuted_less {A = A} key x xs ys us vs p q h =
-    permuted key (xs ++ ys) (us ++ vs) (keyed_less key x xs ys p) (keyed_less key x us vs q)
-    (λ z k. moved z xs ys us vs p (in_rest z x xs ys k) k (λ c. Contains-permutation (xs ++ (x ∷ ys)) (us ++ (x ∷ vs)) z h c))
-    (λ z k. moved z us vs xs ys q (in_rest z x us vs k) k (λ c. Contains-permutation (us ++ (x ∷ vs)) (xs ++ (x ∷ ys)) z (IsPermutation-sym (xs ++ (x ∷ ys)) (us ++ (x ∷ vs)) h) c))
-  where
-    moved : (z : A) (ks bs cs ds : List A) → Keyed key (ks ++ (x ∷ bs)) → In z (ks ++ (x ∷ bs)) → In z (ks ++ bs) → (Contains (ks ++ (x ∷ bs)) z → Contains (cs ++ (x ∷ ds)) z) → In z (cs ++ ds)
-    moved z ks bs cs ds keyed inside k go = elim (out_rest z x cs ds (in_contains z (cs ++ (x ∷ ds)) (go (contains_in z (ks ++ (x ∷ bs)) inside)))) [
-      | inl e ↦ absurd (key_differs key z x ks bs keyed k (ap key e))
-      | inr m ↦ m
-    ]
-
--- the same item comes into two lists
-pub permuted_more : {A : Type 0} (x : A) (xs ys us vs : List A) → IsPermutation (xs ++ ys) (us ++ vs) → IsPermutation (xs ++ (x ∷ ys)) (us ++ (x ∷ vs))
-permuted_more x xs ys us vs h =
-    IsPermutation-trans (xs ++ (x ∷ ys)) (x ∷ (xs ++ ys)) (us ++ (x ∷ vs)) (IsPermutation-middle xs x ys)
-    (IsPermutation-trans (x ∷ (xs ++ ys)) (x ∷ (us ++ vs)) (us ++ (x ∷ vs)) (IsPermutation-cons x (xs ++ ys) (us ++ vs) h) (IsPermutation-sym (us ++ (x ∷ vs)) (x ∷ (us ++ vs)) (IsPermutation-middle us x vs)))
-
--- ---- rising numbers
-
-pub rising_less : (xs : List ℕ) (y : ℕ) (zs : List ℕ) → Rising (xs ++ (y ∷ zs)) → Rising (xs ++ zs)
-rising_less [] y zs h = rising_tail y zs h
-rising_less (x ∷ []) y [] h = tt
-rising_less (x ∷ []) y (z ∷ zs) h = (omega (arith, h.0, h.1.0), h.1.1)
-rising_less (x ∷ w ∷ xs) y zs h = (h.0, rising_less (w ∷ xs) y zs h.1)
-
-pub rising_more : (xs : List ℕ) (y : ℕ) → Rising xs → AllByRecursion (λ x. x < y) xs → Rising (xs ++ (y ∷ []))
-rising_more [] y h below = tt
-rising_more (x ∷ []) y h below = (below.0, tt)
-rising_more (x ∷ w ∷ xs) y h below = (h.0, rising_more (w ∷ xs) y h.1 below.1)

@@ -18,16 +18,16 @@ use Rattle.trees.specs.Trees.{RootNamed}
 use Rattle.trees.proofs.Owned.{some_of}
 use Rattle.volume_model.specs.OwnersMoved.{UnitsMade, roots_most}
 use Rattle.volume_model.specs.Shown.{root_here}
-use Rattle.volume_model.specs.Volume.{Volume, file_pages}
+use Rattle.volume_model.specs.Volume.{Volume, file_pages, roots_in, stored_in}
 use Rattle.volume_model.proofs.OwnersMade.{few_counted, nodes_made, tree_owned}
-use Rattle.volume_edits.specs.Edits.{TurnsRoots, units_under}
+use Rattle.volume_edits.specs.Edits.{IsOwnUnit, TurnsRoots, units_under}
 
 module _ {S : Type 0} (g : ground.Ghosts S) (old new : S) (v now : Volume) (gone come : Option Root) (turned : TurnsRoots g old new v now gone come) (names : NamesPairs g) (logged roots : List ℕ)
     (is : IsOwned (g.geometry old) (g.unit old) (g.used old) (g.refs old) logged roots) (same : g.geometry new ≡ g.geometry old)
     (kept : (u : ℕ) → g.used old u ≡ true → g.unit new u ≡ g.unit old u) (stays : (u : ℕ) → g.used old u ≡ true → g.used new u ≡ true)
     (held : (page : ℕ) → (g.held new page ≡ true) ↔ Contains (catalog_no ∷ file_pages now) page) (in_use : (page : ℕ) → g.held new page ≡ true → g.used new page ≡ true)
     (catalog : 1 ≤ times catalog_no logged) (filed : (page : ℕ) → Contains (file_pages now) page → (1 ≤ times page logged) ⊎ (g.used old page ≡ false))
-    (owner : (p : ℕ) → 1 ≤ times p (root_pages (root_here gone)) → 1 ≤ g.refs old p) where
+    (owner : (p : ℕ) → 1 ≤ times p (root_pages (roots_in (stored_in v))) → 1 ≤ g.refs old p) where
   -- the logged pages of before, and those of the new volume
   abbrev pub logged_now : List ℕ
   logged_now = logged ++ file_pages now
@@ -62,11 +62,13 @@ module _ {S : Type 0} (g : ground.Ghosts S) (old new : S) (v now : Volume) (gone
         | inr none ↦ absurd (omega (arith, some, times_apart u catalog_no [] (λ e. absurd (omega (arith, none, ap (λ n. times n logged) e, catalog)))))
       ]
 
-  -- a unit of the tree that went has an owner
-  went_owned : (u : ℕ) → Contains (units_under (g.unit old) gone) u → 1 ≤ g.refs old u
-  went_owned u has =
-      tree_owned (g.geometry old) (g.unit old) (g.used old) (g.refs old) logged roots is gone
-      (each_as (IsWhole (g.geometry old) (g.unit old)) (λ (r : Root). RootNamed (g.geometry old) (g.unit old) r.height r.page) (root_here gone) (λ r whole. whole.spells.named) turned.went) owner u (contains_times u (units_under (g.unit old) gone) has)
+  -- a unit of a whole tree whose root is one of the volume's has an owner
+  tree_of : (root : Option Root) → ((p : ℕ) → times p (root_pages (root_here root)) ≤ times p (root_pages (roots_in (stored_in v)))) → AllByRecursion (IsWhole (g.geometry old) (g.unit old)) (root_here root)
+      → (u : ℕ) → Contains (units_under (g.unit old) root) u → 1 ≤ g.refs old u
+  tree_of root there whole u has =
+      tree_owned (g.geometry old) (g.unit old) (g.used old) (g.refs old) logged roots is root
+      (each_as (IsWhole (g.geometry old) (g.unit old)) (λ (r : Root). RootNamed (g.geometry old) (g.unit old) r.height r.page) (root_here root) (λ r w. w.spells.named) whole)
+      (λ p some. owner p (omega (arith, some, there p))) u (contains_times u (units_under (g.unit old) root) has)
 
   owned_out : (u : ℕ) → 1 ≤ g.refs old u → g.held new u ≡ false → times u logged_now ≡ 0
   owned_out u some away = elim (some_of (times u logged)) [
@@ -76,6 +78,9 @@ module _ {S : Type 0} (g : ground.Ghosts S) (old new : S) (v now : Volume) (gone
       | inr no_page ↦ omega (arith, none, no_page, times-append u logged (file_pages now))
     ]
   ]
+
+  owned : (u : ℕ) → g.used new u ≡ true → g.held new u ≡ false → 1 ≤ g.refs old u → (g.used new u ≡ true) × (times u logged_now ≡ 0) × ((1 ≤ g.refs old u) ⊎ (g.used old u ≡ false))
+  owned u used away some = (used, owned_out u some away, inl some)
 
   abbrev pub counted : Counted g old new
   counted = turned.counts names
@@ -106,8 +111,9 @@ module _ {S : Type 0} (g : ground.Ghosts S) (old new : S) (v now : Volume) (gone
     own = λ u has.
         let is_own = turned.own u (times_contains u (units_under (g.unit new) come) has) in
         elim is_own.2 [
-          | inl was ↦ (is_own.0, owned_out u (went_owned u was) is_own.1, inl (went_owned u was))
-          | inr free ↦ (is_own.0, free_out u free is_own.1, inr free)
+          | IsOwnUnit.kept was ↦ owned u is_own.0 is_own.1 (tree_of gone turned.there turned.went u was)
+          | IsOwnUnit.taken free ↦ (is_own.0, free_out u free is_own.1, inr free)
+          | IsOwnUnit.shared tree has_it ↦ owned u is_own.0 is_own.1 (tree_of come tree.there tree.whole u has_it)
         ];
   }
 

@@ -8,7 +8,7 @@ use Rattle.ex_base.specs.declared.geometry.Geometry.{Geometry}
 use Rattle.ex_base.specs.declared.names.Root.{Root}
 use Rattle.ex_base.specs.Area.{catalog_no, area_end, InPageArea}
 use Rattle.ex_base.specs.Ports.{times, Keeps, GivesUnit}
-use Rattle.ex_base.proofs.Each.{split_each, each_parted, each_with, flat_same, map_same, zip_with}
+use Rattle.ex_base.proofs.Each.{split_each, each_parted, each_with, flat_same, zip_with}
 use Rattle.ex_base.proofs.Counts.{times-append}
 use Rattle.ex_base.proofs.Members.{contains_in, each_in}
 use Rattle.op_log.specs.declared.record.LogRecord.{LogRecord}
@@ -16,13 +16,14 @@ use Rattle.file_bodies.proofs.Moving.{moved}
 use Rattle.file_bodies.proofs.Rows.{each_at}
 use Rattle.object_files.specs.Catalog.{FileEntry, CatalogOf}
 use Rattle.trees.specs.Trees.{Units, root_units, RootNamed}
-use Rattle.volume_model.specs.Parts.{HasIndex, HasPages, HasNodes, HasBalance, Apart, AllApart, HoldsOf, content_parts}
-use Rattle.volume_model.specs.Volume.{FileContent, Volume, lines_of, stored_in, pages_of_file, file_pages, roots_in, line_units, reach_of, table_of}
+use Rattle.volume_model.specs.Parts.{HasIndex, HasPages, HasNodes, HasBalance, HoldsOf, content_parts}
+use Rattle.volume_model.specs.Links.{Apart}
+use Rattle.volume_model.specs.Volume.{FileContent, Volume, stored_in, pages_of_file, file_pages, roots_in, reach_of, table_of}
 use Rattle.volume_edits.specs.Ported.{ShowsVolume, IsVolume, IsApart, KeepsReach, units_in}
-use Rattle.volume_edits.proofs.Kept.{RootKept, LineKept, units_of_root, named_root, balance_kept, line_units_same, roots_of_lines, files_same}
+use Rattle.volume_edits.proofs.Kept.{RootKept, StoredKept, units_of_root, named_root, balance_kept, roots_of_stored, objects_kept, files_same}
 use Rattle.volume_edits.proofs.Counted.{in_area}
 use Rattle.volume_edits.proofs.Frames.{past_area}
-use Rattle.volume_edits.proofs.Edited.{pages_kept}
+use Rattle.volume_edits.proofs.PagesRead.{pages_kept}
 
 module _ {S : Type 0} (g : ground.Ghosts S) (old new : S) (records : List LogRecord) (v : Volume) (vol : ShowsVolume g old records v) (keeps : KeepsReach g old new v) where
   abbrev U : Units
@@ -48,8 +49,8 @@ module _ {S : Type 0} (g : ground.Ghosts S) (old new : S) (records : List LogRec
   roots_kept : AllByRecursion (RootKept U U') (roots_in (stored_in v))
   roots_kept = each_parted Stays (root_units U) (roots_in (stored_in v)) reach_stays.1
 
-  lines_kept : AllByRecursion (LineKept U U') (lines_of v)
-  lines_kept = roots_of_lines (RootKept U U') (lines_of v) roots_kept
+  pub stored_kept : AllByRecursion (StoredKept U U') (stored_in v)
+  stored_kept = roots_of_stored (RootKept U U') (stored_in v) roots_kept
 
   part_node : HasNodes (g.geometry new) U' v
   part_node = record {
@@ -57,7 +58,7 @@ module _ {S : Type 0} (g : ground.Ghosts S) (old new : S) (records : List LogRec
         (λ root kept n. subst (λ (gm : Geometry). RootNamed gm U' root.height root.page) (sym keeps.geometry) (named_root (g.geometry old) U U' root.height root.page kept n)) roots_kept vol.parts.1.1.1.1.0.named;
     no_file_page = each_with (RootKept U U') (λ (root : Root). Apart (root_units U root) (catalog_no ∷ file_pages v)) (λ (root : Root). Apart (root_units U' root) (catalog_no ∷ file_pages v)) (roots_in (stored_in v))
         (λ root kept apart. subst (λ (us : List ℕ). Apart us (catalog_no ∷ file_pages v)) (sym (units_of_root U U' root.height root.page kept)) apart) roots_kept vol.parts.1.1.1.1.0.no_file_page;
-    one_object = subst AllApart (sym (map_same (line_units U) (line_units U') (LineKept U U') (lines_of v) (λ line kept. line_units_same U U' line kept) lines_kept)) vol.parts.1.1.1.1.0.one_object;
+    objects = objects_kept U U' (stored_in v) stored_kept vol.parts.1.1.1.1.0.objects;
   }
 
   all_parts : AllByRecursion (HoldsOf (g.geometry new) records U' v) content_parts
@@ -100,7 +101,7 @@ module _ {S : Type 0} (g : ground.Ghosts S) (old new : S) (records : List LogRec
 
   pub table_stays : table_of U' v ≡ table_of U v
   table_stays =
-      let files = files_same U U' v.catalog.entries v.files (each_parted (LineKept U U') (λ (file : FileContent). file.lines) v.files lines_kept) in
+      let files = files_same U U' v.catalog.entries v.files (each_parted (StoredKept U U') (λ (file : FileContent). file.stored) v.files stored_kept) in
       cc files
 
 -- ---- where nothing changes, and where a unit is given back that the volume doesn't reach

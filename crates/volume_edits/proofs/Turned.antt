@@ -1,4 +1,4 @@
--- How the roots of a volume turn where the record of one object is another one, comes or goes.
+-- How the roots of a volume turn where the records of one file change.
 use Rattle.std.proofs.Common.{◌≡◌, ◌≢◌, ℕ, ◌+◌, ◌≤◌, Bool, true, false, true≢false, List, [], ◌∷◌, ◌++◌, Option, None, refl, sym, ap, subst, ◌∙◌, arith, inl, inr}
 use Rattle.std.specs.Prelude.{Contains}
 use Rattle.std.specs.List.{AllByRecursion}
@@ -11,21 +11,21 @@ use Rattle.ex_base.specs.Area.{InPageArea, catalog_no}
 use Rattle.ex_base.specs.Ports.{Keeps, times}
 use Rattle.ex_base.proofs.Each.{each_as}
 use Rattle.ex_base.proofs.Members.{contains_in, in_contains, in_left}
-use Rattle.op_log.specs.declared.record.LogRecord.{LogRecord}
+use Rattle.object_records.specs.Record.{Content, Small, Large}
 use Rattle.index_pages.specs.declared.Index.{Index}
 use Rattle.file_index.specs.Taking.{OnlyTakes, OnlyGives}
-use Rattle.object_records.specs.Record.{Content, Small, Large}
 use Rattle.trees.specs.Damage.{IsWhole}
 use Rattle.trees.specs.Made.{IsTaken}
-use Rattle.trees.specs.Owners.{all_named, page_here, root_pages}
+use Rattle.trees.specs.Owners.{all_named, root_pages}
 use Rattle.trees.specs.Trees.{Units, root_units}
-use Rattle.version_model.specs.Versions.{AreInUse, IsTreeUnit, Spells, content_units, root_of}
+use Rattle.op_log.specs.declared.record.LogRecord.{LogRecord}
 use Rattle.volume_model.specs.Shown.{root_here}
 use Rattle.volume_model.specs.Volume.{Stored, Volume, file_pages, reach_of, root_in, roots_in, stored_in}
+use Rattle.versions.specs.Versions.{AreInUse, IsTreeUnit, Spells, content_units, root_of}
 use Rattle.volume_edits.specs.Ported.{IsVolume, units_in}
-use Rattle.volume_edits.specs.Edits.{TurnsRoots, trees_of, units_under}
-use Rattle.volume_edits.proofs.Lists.{flat_around, times_around}
-use Rattle.volume_edits.proofs.Holes.{Hole, filled, roots_filled, stored_if, stored_first, stored_last}
+use Rattle.volume_edits.specs.Edits.{IsOwnUnit, IsShared, TurnsRoots, trees_of, units_under}
+use Rattle.volume_edits.proofs.TurnCounts.{named_append, named_root}
+use Rattle.volume_edits.proofs.Holes.{Hole, filled, stored_filled, stored_first, stored_last}
 
 -- ---- the root of a content
 
@@ -37,29 +37,18 @@ pub units_there : (units : Units) (content : Content) → units_under units (roo
 units_there units (Small bytes) = refl
 units_there units (Large root) = append-nil (root_units units root)
 
--- ---- the roots around it
+-- ---- the roots of a volume in which one file's records change
 
--- the pages of the other objects' roots, each as often as it is named
-abbrev pages_around : Hole → ℕ → ℕ
-pages_around h p = times p (root_pages (roots_in (stored_first h))) + times p (root_pages (roots_in (stored_last h)))
+pub named_filled : (h : Hole) (image : ℕ → List ℕ) (index : Index) (stored : List Stored) (p : ℕ)
+    → named_root p (stored_in (filled h image index stored)) ≡ named_root p stored + (named_root p (stored_first h) + named_root p (stored_last h))
+named_filled h image index stored p =
+    omega (arith, ap (named_root p) (stored_filled h image index stored), named_append p (stored_first h) (stored ++ stored_last h), named_append p stored (stored_last h))
 
-pages_of_three : (p : ℕ) (xs ys zs : List Root) → times p (root_pages (xs ++ (ys ++ zs))) ≡ times p (root_pages xs) + (times p (root_pages ys) + times p (root_pages zs))
-pages_of_three p xs ys zs = ap (times p) (flat_around (λ (root : Root). page_here root.page) xs ys zs) ∙ times_around p (root_pages xs) (root_pages ys) (root_pages zs)
-
-pages_with : (h : Hole) (image : ℕ → List ℕ) (index : Index) (o : Option Stored) (root : Option Root) (p : ℕ) → roots_in (stored_if o) ≡ root_here root
-    → times p (root_pages (roots_in (stored_in (filled h image index o)))) ≡ times p (root_pages (root_here root)) + pages_around h p
-pages_with h image index o root p own =
-    let all : times p (root_pages (roots_in (stored_in (filled h image index o)))) ≡ times p (root_pages (roots_in (stored_first h) ++ (roots_in (stored_if o) ++ roots_in (stored_last h)))) = ap (λ (rs : List Root). times p (root_pages rs)) (roots_filled h image index o) in
-    let here : times p (root_pages (roots_in (stored_if o))) ≡ times p (root_pages (root_here root)) = ap (λ (rs : List Root). times p (root_pages rs)) own in
-    omega (arith, all, here, pages_of_three p (roots_in (stored_first h)) (roots_in (stored_if o)) (roots_in (stored_last h)))
-
-module _ {S : Type 0} (g : ground.Ghosts S) (old new : S) (h : Hole) (index after : Index) (was is : Option Stored) (gone come : Option Root) (went : roots_in (stored_if was) ≡ root_here gone) (came : roots_in (stored_if is) ≡ root_here come) where
-  -- one root goes, and one comes
-  pub roots_turned : (p : ℕ) → times p (root_pages (roots_in (stored_in (filled h (g.image new) after is)))) + times p (root_pages (root_here gone)) ≡ times p (root_pages (roots_in (stored_in (filled h (g.image old) index was)))) + times p (root_pages (root_here come))
-  roots_turned p = omega (arith, pages_with h (g.image old) index was gone p went, pages_with h (g.image new) after is come p came)
-
-  pub root_was_there : (p : ℕ) → times p (root_pages (root_here gone)) ≤ times p (root_pages (roots_in (stored_in (filled h (g.image old) index was))))
-  root_was_there p = omega (arith, pages_with h (g.image old) index was gone p went)
+-- one root goes, and one comes
+pub roots_turned : (h : Hole) (a b : ℕ → List ℕ) (index after : Index) (was is : List Stored) (went come : Option Root)
+    → ((p : ℕ) → times p (root_pages (root_here went)) + named_root p is ≡ named_root p was + times p (root_pages (root_here come)))
+    → (p : ℕ) → named_root p (stored_in (filled h b after is)) + times p (root_pages (root_here went)) ≡ named_root p (stored_in (filled h a index was)) + times p (root_pages (root_here come))
+roots_turned h a b index after was is went come counted p = omega (arith, counted p, named_filled h a index was p, named_filled h b after is p)
 
 -- ---- what an edit takes
 
@@ -120,6 +109,29 @@ module _ {S : Type 0} (g : ground.Ghosts S) where
     tree = λ p taken away. absurd (true≢false (sym (held p taken) ∙ away));
   }
 
+  -- where a root comes that is shared, and what was taken are logged pages
+  pub turned_shared : (a b : S) (v now : Volume) (come : Option Root) → ((p : ℕ) → times p (root_pages (roots_in (stored_in now))) ≡ times p (root_pages (roots_in (stored_in v))) + times p (root_pages (root_here come)))
+      → IsShared g a v come → AllByRecursion (IsWhole (g.geometry b) (g.unit b)) (root_here come)
+      → ((p : ℕ) → Contains (units_under (g.unit b) come) p → (g.used b p ≡ true) × (g.held b p ≡ false) × Contains (units_under (g.unit a) come) p)
+      → ((p : ℕ) → IsTaken g a b p → g.held b p ≡ true) → g.refs b ≡ g.refs a → TurnsRoots g a b v now None come
+  turned_shared a b v now come roots of_volume whole own held same = record {
+    roots = λ p. omega (arith, roots p);
+    there = λ p. omega arith;
+    went = tt;
+    came = whole;
+    counts = λ names. record {
+      nodes = [];
+      taken = tt;
+      pages = tt;
+      once = λ p. omega arith;
+      all = λ p is area away. absurd (true≢false (sym (held p is) ∙ away));
+      refs = λ p fits. omega (arith, ap (λ (f : ℕ → ℕ). f p) same);
+    };
+    apart = λ names. tt;
+    own = λ p c. (let is = own p c in (is.0, is.1, IsOwnUnit.shared of_volume is.2));
+    tree = λ p is away. absurd (true≢false (sym (held p is) ∙ away));
+  }
+
   pub turned_kept : (a b : S) (v : Volume) → Keeps g a b → TurnsRoots g a b v v None None
   turned_kept a b v k = turned_away a b v v None (λ p. omega arith) tt (λ p is. absurd (true≢false (sym is.1 ∙ ap (λ (f : ℕ → Bool). f p) k.used ∙ is.0))) k.refs
 
@@ -147,16 +159,24 @@ module _ {S : Type 0} (g : ground.Ghosts S) where
     own = λ p c. (let h = turned.own p c in (
       h.0,
       h.1,
-      elim h.2 [
-        | inl was ↦ inl (subst (λ (u : Units). Contains (units_under u gone) p) units was)
-        | inr free ↦ inr (ap (λ (f : ℕ → Bool). f p) (sym used) ∙ free)
-      ],
+      own_before p h.2,
     ));
     tree = λ p taken away. turned.tree p (taken_later p taken) away;
   }
     where
       taken_later : (p : ℕ) → IsTaken g a c p → IsTaken g b c p
       taken_later p taken = (ap (λ (f : ℕ → Bool). f p) used ∙ taken.0, taken.1)
+
+      shared_before : IsShared g b w come → IsShared g a v come
+      shared_before s = record {
+        there = λ p. subst (λ (rs : List Root). times p (root_pages (root_here come)) ≤ times p (root_pages rs)) same (s.there p);
+        whole = subst (λ (y : Geometry). AllByRecursion (IsWhole y (g.unit a)) (root_here come)) geometry (subst (λ (u : Units). AllByRecursion (IsWhole (g.geometry b) u) (root_here come)) units s.whole);
+      }
+
+      own_before : (p : ℕ) → IsOwnUnit g b w gone come p → IsOwnUnit g a v gone come p
+      own_before p (IsOwnUnit.kept was) = IsOwnUnit.kept (subst (λ (u : Units). Contains (units_under u gone) p) units was)
+      own_before p (IsOwnUnit.taken free) = IsOwnUnit.taken (ap (λ (f : ℕ → Bool). f p) (sym used) ∙ free)
+      own_before p (IsOwnUnit.shared s is) = IsOwnUnit.shared (shared_before s) (subst (λ (u : Units). Contains (units_under u come) p) units is)
 
   -- and to a later one, behind which nothing changes
   pub turned_later : (a b c : S) (v now : Volume) (gone come : Option Root) → Keeps g b c → TurnsRoots g a b v now gone come → TurnsRoots g a c v now gone come

@@ -1,40 +1,28 @@
 -- An image stands for at most one table.
 use Rattle.std.proofs.Common.{◌≡◌, ℕ, List, [], ◌∷◌, refl, sym, ap, subst, ◌∙◌}
-use Rattle.std.specs.Prelude.{map}
 use Rattle.std.specs.List.{AllByRecursion, AllZip}
 use Rattle.ex_base.specs.declared.geometry.Geometry.{Geometry}
 use Rattle.ex_base.specs.Area.{log_at}
-use Rattle.ex_base.specs.Order.{Rising}
 use Rattle.op_log.specs.declared.record.LogRecord.{LogRecord}
 use Rattle.op_log.specs.Log.{LogSpells}
 use Rattle.op_log.proofs.OneList.{one_list}
-use Rattle.slotted_pages.specs.FilePage.{FilePage}
 use Rattle.object_files.specs.Catalog.{Catalog, FileEntry}
 use Rattle.volume_model.proofs.OneReading.{one_catalog}
 use Rattle.trees.specs.Trees.{Units}
 use Rattle.table_model.specs.declared.table.Table.{Table}
-use Rattle.volume_model.specs.Parts.{HasIndex, HasPages, HasLines, HoldsOf, content_parts, Decodes, StandsFor}
-use Rattle.volume_model.specs.Volume.{Stored, Line, FileContent, Volume, Decoded, line_number, units_after, units_of, table_of}
-use Rattle.volume_model.proofs.OneVolume.{one_geometry, SameRecords, one_file}
-use Rattle.volume_model.proofs.OneListOfLines.{one_list_of_lines}
+use Rattle.volume_model.specs.Parts.{HasIndex, HasPages, HasBodies, HoldsOf, content_parts, Decodes, StandsFor}
+use Rattle.volume_model.specs.Volume.{FileContent, Volume, Decoded, units_after, units_of, table_of}
+use Rattle.volume_model.proofs.OneVolume.{one_geometry, one_file}
 
-abbrev Listed : FileContent → Type 0
-Listed file = Rising (map line_number file.lines)
-
-abbrev made_file : List ℕ → List ℕ → List FilePage → List Stored → List Line → FileContent
-made_file numbers index_pages pages stored lines = record { numbers = numbers; index_pages = index_pages; pages = pages; stored = stored; lines = lines }
-
-one_list_of_files : (g : Geometry) (units : Units) (entries : List FileEntry) (fs gs : List FileContent) → AllZip (HasIndex g units) entries fs → AllZip (HasIndex g units) entries gs → AllZip (HasPages units) entries fs → AllZip (HasPages units) entries gs → AllByRecursion HasLines fs → AllByRecursion HasLines gs → AllByRecursion Listed fs → AllByRecursion Listed gs → fs ≡ gs
-one_list_of_files g units [] [] [] c d p q l m r s = refl
-one_list_of_files g units [] [] (y ∷ gs) c d p q l m r s = absurd d
-one_list_of_files g units [] (x ∷ fs) gs c d p q l m r s = absurd c
-one_list_of_files g units (entry ∷ entries) [] gs c d p q l m r s = absurd c
-one_list_of_files g units (entry ∷ entries) (x ∷ fs) [] c d p q l m r s = absurd d
-one_list_of_files g units (entry ∷ entries) (x ∷ fs) (y ∷ gs) c d p q l m r s =
-    let same : SameRecords x y = one_file g units entry x y c.0 d.0 p.0 q.0 l.0 m.0 in
-    let lines : x.lines ≡ y.lines = one_list_of_lines units entry x y p.0 l.0 m.0 same.stored r.0 s.0 in
-    let here : made_file x.numbers x.index_pages x.pages x.stored x.lines ≡ made_file y.numbers y.index_pages y.pages y.stored y.lines = cc (same.numbers, same.index_pages, same.pages, same.stored, lines) in
-    let rest = one_list_of_files g units entries fs gs c.1 d.1 p.1 q.1 l.1 m.1 r.1 s.1 in
+one_list_of_files : (g : Geometry) (units : Units) (entries : List FileEntry) (fs gs : List FileContent) → AllZip (HasIndex g units) entries fs → AllZip (HasIndex g units) entries gs → AllZip (HasPages units) entries fs → AllZip (HasPages units) entries gs → AllByRecursion HasBodies fs → AllByRecursion HasBodies gs → fs ≡ gs
+one_list_of_files g units [] [] [] c d p q l m = refl
+one_list_of_files g units [] [] (y ∷ gs) c d p q l m = absurd d
+one_list_of_files g units [] (x ∷ fs) gs c d p q l m = absurd c
+one_list_of_files g units (entry ∷ entries) [] gs c d p q l m = absurd c
+one_list_of_files g units (entry ∷ entries) (x ∷ fs) [] c d p q l m = absurd d
+one_list_of_files g units (entry ∷ entries) (x ∷ fs) (y ∷ gs) c d p q l m =
+    let here : x ≡ y = one_file g units entry x y c.0 d.0 p.0 q.0 l.0 m.0 in
+    let rest = one_list_of_files g units entries fs gs c.1 d.1 p.1 q.1 l.1 m.1 in
     cc (here, rest)
 
 abbrev made_volume : Catalog → List FileContent → Volume
@@ -43,7 +31,7 @@ made_volume catalog files = record { catalog = catalog; files = files }
 one_volume : (g : Geometry) (records : List LogRecord) (units : Units) (v w : Volume) → AllByRecursion (HoldsOf g records units v) content_parts → AllByRecursion (HoldsOf g records units w) content_parts → v ≡ w
 one_volume g records units v w (catalog, (file, (page, (body, (node, (balance, (unique, end))))))) (catalog', (file', (page', (body', (node', (balance', (unique', end'))))))) =
     let same : v.catalog ≡ w.catalog = one_catalog _ v.catalog w.catalog catalog.0 catalog'.0 in
-    let files : v.files ≡ w.files = one_list_of_files g units v.catalog.entries v.files w.files file.0 (subst (λ (c : Catalog). AllZip (HasIndex g units) c.entries w.files) (sym same) file'.0) page (subst (λ (c : Catalog). AllZip (HasPages units) c.entries w.files) (sym same) page') body body' unique.listed unique'.listed in
+    let files : v.files ≡ w.files = one_list_of_files g units v.catalog.entries v.files w.files file.0 (subst (λ (c : Catalog). AllZip (HasIndex g units) c.entries w.files) (sym same) file'.0) page (subst (λ (c : Catalog). AllZip (HasPages units) c.entries w.files) (sym same) page') body body' in
     let volumes : made_volume v.catalog v.files ≡ made_volume w.catalog w.files = cc (same, files) in
     volumes
 

@@ -1,14 +1,13 @@
 -- How many roots a volume has at most: a page of a file has room for 204 records.
-use Rattle.std.proofs.Common.{ℕ, suc, ◌+◌, ◌*◌, ◌<◌, ◌≤◌, List, [], ◌∷◌, ◌++◌, length, Option, Some, None, ap, arith}
+use Rattle.std.proofs.Common.{ℕ, suc, ◌+◌, ◌*◌, ◌<◌, ◌≤◌, List, [], ◌∷◌, ◌++◌, length, Option, Some, None, arith}
 use Rattle.std.specs.List.{flat_map, AllByRecursion, AllZip, zip}
 use Rattle.std.proofs.lemmas.List.{length-append}
-use Rattle.std.proofs.lemmas.List.Concat.{flat_map-append}
-use Rattle.std.proofs.lemmas.List.Sorted.{length_permutation}
 use Rattle.std.proofs.lemmas.Slice.Zip.{AllZip-long}
 use Rattle.ex_base.specs.declared.geometry.Geometry.{Geometry}
 use Rattle.ex_base.specs.declared.names.PageNo.{PageNo}
 use Rattle.ex_base.specs.declared.names.Place.{Place}
 use Rattle.ex_base.specs.declared.names.Root.{Root}
+use Rattle.ex_base.specs.Order.{AllDiffer}
 use Rattle.ex_base.proofs.Counts.{differ_once, few_once}
 use Rattle.ex_base.proofs.Each.{each_as, split_each}
 use Rattle.file_index.specs.Index.{IsFilesPage}
@@ -21,8 +20,8 @@ use Rattle.trees.specs.Owners.{page_here, root_pages}
 use Rattle.trees.specs.Trees.{Units}
 use Rattle.volume_model.specs.OwnersMoved.{volume_roots_most}
 use Rattle.volume_model.specs.OwnersShown.{committed_roots, roots_held}
-use Rattle.volume_model.specs.Parts.{Decodes, HasLines, HasPage, HasPages, HoldsOf, IsStored, bodies_from, bodies_in, content_parts}
-use Rattle.volume_model.specs.Volume.{Decoded, FileContent, Stored, Volume, file_pages, line_records, pages_of_file, root_in, roots_in, stored_in}
+use Rattle.volume_model.specs.Parts.{Decodes, HasBodies, HasIndex, HasPage, HasPages, HoldsOf, IsStored, bodies_from, bodies_in, content_parts}
+use Rattle.volume_model.specs.Volume.{Decoded, FileContent, Stored, Volume, file_pages, pages_of_file, root_in, roots_in, stored_in}
 use Rattle.volume_model.proofs.FilePages.{file_pages_are}
 
 -- a body as long as a record
@@ -63,29 +62,26 @@ few_records units entry (n ∷ numbers) (p ∷ pages) is long =
       length-append here (flat_map records_on (zip numbers pages)),
     )
 
-few_stored : (units : Units) (entry : FileEntry) (file : FileContent) → HasPages units entry file → HasLines file → length (flat_map line_records file.lines) ≤ 204 * length file.numbers
-few_stored units entry file pages lines =
+few_stored : (units : Units) (entry : FileEntry) (file : FileContent) → HasPages units entry file → HasBodies file → length file.stored ≤ 204 * length file.numbers
+few_stored units entry file pages bodies =
     omega (
       arith,
-      few_records units entry file.numbers file.pages pages (all_long (bodies_in file) file.stored lines.records),
-      AllZip-long IsStored (bodies_in file) file.stored lines.records,
-      length_permutation file.stored (flat_map line_records file.lines) lines.each_once,
+      few_records units entry file.numbers file.pages pages (all_long (bodies_in file) file.stored bodies.records),
+      AllZip-long IsStored (bodies_in file) file.stored bodies.records,
     )
 
 -- ---- a volume
 
-few_of_files : (units : Units) (entries : List FileEntry) (files : List FileContent) → AllZip (HasPages units) entries files → AllByRecursion HasLines files
-    → length (flat_map line_records (flat_map (λ (file : FileContent). file.lines) files)) ≤ 204 * length (flat_map pages_of_file files)
-few_of_files units entries [] pages lines = omega arith
-few_of_files units [] (file ∷ files) pages lines = absurd pages
-few_of_files units (entry ∷ entries) (file ∷ files) pages lines =
-    let rest = flat_map (λ (f : FileContent). f.lines) files in
+few_of_files : (units : Units) (entries : List FileEntry) (files : List FileContent) → AllZip (HasPages units) entries files → AllByRecursion HasBodies files
+    → length (flat_map (λ (file : FileContent). file.stored) files) ≤ 204 * length (flat_map pages_of_file files)
+few_of_files units entries [] pages bodies = omega arith
+few_of_files units [] (file ∷ files) pages bodies = absurd pages
+few_of_files units (entry ∷ entries) (file ∷ files) pages bodies =
     omega (
       arith,
-      few_stored units entry file pages.0 lines.0,
-      few_of_files units entries files pages.1 lines.1,
-      ap length (flat_map-append line_records file.lines rest),
-      length-append (flat_map line_records file.lines) (flat_map line_records rest),
+      few_stored units entry file pages.0 bodies.0,
+      few_of_files units entries files pages.1 bodies.1,
+      length-append file.stored (flat_map (λ (f : FileContent). f.stored) files),
       length-append (pages_of_file file) (flat_map pages_of_file files),
       length-append file.numbers file.index_pages,
     )
@@ -106,12 +102,16 @@ pub fewer_pages : (roots : List Root) → length (root_pages roots) ≤ length r
 fewer_pages [] = omega arith
 fewer_pages (root ∷ roots) = omega (arith, one_page root.page, fewer_pages roots, length-append (page_here root.page) (root_pages roots))
 
--- A volume has 4,000,000 pages at most, so it has 816,000,000 roots at most.
+-- Files have 4,000,000 pages at most, so they have 816,000,000 roots at most.
+pub few_in_files : (g : Geometry) (units : Units) (v : Volume) → AllZip (HasIndex g units) v.catalog.entries v.files → AllDiffer (file_pages v) → AllZip (HasPages units) v.catalog.entries v.files → AllByRecursion HasBodies v.files
+    → length (roots_in (stored_in v)) ≤ volume_roots_most
+few_in_files g units v indexes differ pages bodies =
+    let area = each_as (IsFilesPage g) (λ (page : ℕ). (257 ≤ page) × (page < 257 + g.pages)) (file_pages v) (λ page is. is.0) (file_pages_are g units v indexes) in
+    let few : length (file_pages v) ≤ g.pages = few_once 257 g.pages (file_pages v) area (differ_once (file_pages v) differ) in
+    omega (arith, few, g.few_pages, fewer_roots (stored_in v), few_of_files units v.catalog.entries v.files pages bodies)
+
 pub few_roots : (g : Geometry) (records : List LogRecord) (units : Units) (v : Volume) → AllByRecursion (HoldsOf g records units v) content_parts → length (roots_in (stored_in v)) ≤ volume_roots_most
-few_roots g records units v parts =
-    let area = each_as (IsFilesPage g) (λ (page : ℕ). (257 ≤ page) × (page < 257 + g.pages)) (file_pages v) (λ page is. is.0) (file_pages_are g units v parts.1.0.0) in
-    let pages : length (file_pages v) ≤ g.pages = few_once 257 g.pages (file_pages v) area (differ_once (file_pages v) parts.1.0.1) in
-    omega (arith, pages, g.few_pages, fewer_roots (stored_in v), few_of_files units v.catalog.entries v.files parts.1.1.0 parts.1.1.1.0)
+few_roots g records units v parts = few_in_files g units v parts.1.0.0 parts.1.0.1 parts.1.1.0 parts.1.1.1.0
 
 -- So the roots that own trees are few, where a transaction gains few and few scans are open.
 pub few_owners : (d : Decoded) (disk : List ℕ) (gained scans : List Root) → Decodes disk d → length (root_pages (roots_held d gained scans)) ≤ volume_roots_most + length gained + length scans

@@ -1,10 +1,15 @@
+pub mod Places
+pub mod Links
+pub mod Versions
+pub mod Numbers
 pub mod AtMostOne
 pub mod FilePages
 pub mod FirstParts
 pub mod FreshVolume
-pub mod OneListOfLines
+pub mod Standing
 pub mod OneReading
 pub mod OneVolume
+pub mod TableVersions
 pub mod RulesOfTable
 pub mod WholeUnits
 pub mod NoneBad

@@ -1,4 +1,4 @@
--- What a disk decodes as is determined, up to the order in which a file's records are listed as lines.
+-- What a disk decodes as is determined: its superblock, and the pages and records of each file.
 use Rattle.std.proofs.Common.{◌≡◌, ℕ, ◌-◌, List, [], ◌∷◌, ◌++◌, drop, refl, sym, ap, subst, ◌∙◌, arith, append_assoc}
 use Rattle.std.specs.List.{AllZip}
 use Rattle.std.proofs.lemmas.List.{take-append-drop}
@@ -15,7 +15,7 @@ use Rattle.object_records.specs.Record.{Record}
 use Rattle.volume_model.proofs.OneReading.{one_page, one_record}
 use Rattle.object_files.specs.Catalog.{FileEntry}
 use Rattle.trees.specs.Trees.{Units}
-use Rattle.volume_model.specs.Parts.{SuperOf, HasIndex, HasPage, HasPages, IsStored, HasLines, bodies_in}
+use Rattle.volume_model.specs.Parts.{SuperOf, HasIndex, HasPage, HasPages, IsStored, HasBodies, bodies_in}
 use Rattle.volume_model.specs.Volume.{Stored, FileContent}
 
 -- ---- the superblock
@@ -74,21 +74,15 @@ one_list_of_records (row ∷ rows) (x ∷ xs) (y ∷ ys) p q =
 
 -- ---- files
 
--- two files that differ at most in how their records are listed as lines
-pub record SameRecords (a b : FileContent) : Type 0 where
-  pub numbers : a.numbers ≡ b.numbers
-  pub index_pages : a.index_pages ≡ b.index_pages
-  pub pages : a.pages ≡ b.pages
-  pub stored : a.stored ≡ b.stored
+abbrev made_file : List ℕ → List ℕ → List FilePage → List Stored → FileContent
+made_file numbers index_pages pages stored = record { numbers = numbers; index_pages = index_pages; pages = pages; stored = stored }
 
-pub one_file : (g : Geometry) (units : Units) (entry : FileEntry) (a b : FileContent) → HasIndex g units entry a → HasIndex g units entry b → HasPages units entry a → HasPages units entry b → HasLines a → HasLines b → SameRecords a b
-one_file g units entry a b index_a index_b pages_a pages_b lines_a lines_b =
+pub one_file : (g : Geometry) (units : Units) (entry : FileEntry) (a b : FileContent) → HasIndex g units entry a → HasIndex g units entry b → HasPages units entry a → HasPages units entry b → HasBodies a → HasBodies b → a ≡ b
+one_file g units entry a b index_a index_b pages_a pages_b bodies_a bodies_b =
     let numbers : a.numbers ≡ b.numbers = index_a.numbers ∙ sym index_b.numbers in
+    let index_pages : a.index_pages ≡ b.index_pages = index_a.index_pages ∙ sym index_b.index_pages in
     let pages : a.pages ≡ b.pages = one_list_of_pages units entry a.numbers a.pages b.pages pages_a (subst (λ (c : List ℕ). AllZip (HasPage units entry) c b.pages) (sym numbers) pages_b) in
     let bodies : bodies_in a ≡ bodies_in b = cc (numbers, pages) in
-    record {
-      numbers = numbers;
-      index_pages = index_a.index_pages ∙ sym index_b.index_pages;
-      pages = pages;
-      stored = one_list_of_records (bodies_in a) a.stored b.stored lines_a.records (subst (λ (rows : List (Place × List ℕ)). AllZip IsStored rows b.stored) (sym bodies) lines_b.records);
-    }
+    let stored : a.stored ≡ b.stored = one_list_of_records (bodies_in a) a.stored b.stored bodies_a.records (subst (λ (rows : List (Place × List ℕ)). AllZip IsStored rows b.stored) (sym bodies) bodies_b.records) in
+    let same : made_file a.numbers a.index_pages a.pages a.stored ≡ made_file b.numbers b.index_pages b.pages b.stored = cc (numbers, index_pages, pages, stored) in
+    same

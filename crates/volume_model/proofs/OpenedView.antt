@@ -27,7 +27,8 @@ use Rattle.volume_model.specs.Homes.{home}
 use Rattle.volume_model.specs.OwnersShown.{OwnersShown, committed_roots, logged_pages, roots_held}
 use Rattle.volume_model.proofs.ExactView.{times_joined}
 use Rattle.volume_model.proofs.OwnersAlike.{owned_same}
-use Rattle.volume_model.specs.Parts.{Apart, Decodes, HasNodes, StandsFor}
+use Rattle.volume_model.specs.Parts.{Decodes, HasNodes, StandsFor}
+use Rattle.volume_model.specs.Links.{Apart}
 use Rattle.volume_model.specs.Shown.{Shows, used_below, used_in}
 use Rattle.volume_model.specs.Volume.{Decoded, Volume, file_pages, reach_of, roots_in, stored_in, table_of, units_of}
 

@@ -1,4 +1,5 @@
 pub mod Volume
+pub mod Links
 pub mod Parts
 pub mod Durable
 pub mod Homes

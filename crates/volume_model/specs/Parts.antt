@@ -1,20 +1,18 @@
 -- Which table the image of a volume stands for, and else which part of it fails first.
-use Rattle.std.specs.Prelude.{◌≡◌, ℕ, suc, ◌+◌, ◌<◌, ◌≤◌, List, [], ◌∷◌, length, map, take, Option, Some, None, Contains}
+use Rattle.std.specs.Prelude.{◌≡◌, ℕ, suc, ◌+◌, ◌<◌, ◌≤◌, List, [], ◌∷◌, length, take, Some, None}
 use Rattle.std.specs.List.{flat_map, AllByRecursion, AllZip, zip}
-use Rattle.std.specs.List.Sorted.{IsPermutation}
 use Rattle.ex_base.specs.declared.names.Place.{Place}
 use Rattle.ex_base.specs.declared.names.Root.{Root}
 use Rattle.ex_base.specs.declared.geometry.Geometry.{Geometry}
 use Rattle.ex_base.specs.Area.{catalog_no}
 use Rattle.ex_base.specs.Bytes.{part}
-use Rattle.ex_base.specs.Order.{Rising, AllDiffer}
+use Rattle.ex_base.specs.Order.{AllDiffer}
 use Rattle.ex_base.specs.Sizes.{leaf_bytes, object_most, volume_bytes}
 use Rattle.ex_base.specs.Superblock.{IsSuper}
 use Rattle.op_log.specs.declared.record.LogRecord.{LogRecord}
 use Rattle.op_log.specs.AfterLog.{AllApply}
 use Rattle.op_log.specs.Log.{SaysLog}
 use Rattle.slotted_pages.specs.FilePage.{FilePage, Slot, SlotsOf}
-use Rattle.object_records.specs.declared.State.TheVariants.{Current, Frozen}
 use Rattle.object_records.specs.Record.{BodyOf}
 use Rattle.file_index.specs.Index.{IsIndex, keys_of, pages_of}
 use Rattle.object_files.specs.Catalog.{FileEntry, CatalogOf}
@@ -23,7 +21,8 @@ use Rattle.trees.specs.Trees.{Units, RootNamed, RootSized, root_shape, root_unit
 use Rattle.table_model.specs.declared.table.Table.{Table}
 use Rattle.session_views.specs.declared.Part.{Part}
 use Rattle.session_views.specs.declared.Part.TheVariants.{Super, Log, Catalog, File, Page, Body, Node, Balance, Unique}
-use Rattle.volume_model.specs.Volume.{Stored, Line, FileContent, Volume, Decoded, line_records, lines_of, stored_in, file_pages, unique_of, line_number, roots_in, line_units, table_of, units_of}
+use Rattle.volume_model.specs.Volume.{Stored, FileContent, Volume, Decoded, stored_in, file_pages, unique_of, roots_in, table_of, units_of}
+use Rattle.volume_model.specs.Links.{Apart, AreLinked, HasObjects, NumbersDiffer}
 
 -- ---- Super
 
@@ -71,43 +70,18 @@ bodies_in file = flat_map (λ (row : ℕ × FilePage). bodies_from row.0 0 row.1
 abbrev pub IsStored : Place × List ℕ → Stored → Type 0
 IsStored row s = (row.0 ≡ s.place) × BodyOf row.1 s.body
 
--- Each record names the one before it as its older and the one behind it as its newer version; the last is current, all others are frozen.
-abbrev pub Linked : Option Place → List Stored → Type 0
-Linked older [] = ⊥
-Linked older (s ∷ []) = (s.body.head.state ≡ Current) × (s.body.head.older ≡ older) × (s.body.head.newer ≡ None)
-Linked older (s ∷ next ∷ rest) = (s.body.head.state ≡ Frozen) × (s.body.head.older ≡ older) × (s.body.head.newer ≡ Some next.place) × Linked (Some s.place) (next ∷ rest)
-
--- The frozen versions' numbers rise, each above the current one's.
-pub record IsLine (line : Line) : Type 0 where
-  pub linked : Linked None (line_records line)
-  pub numbers : Rising (line_number line ∷ map unique_of line.frozen)
-
--- An object without frozen versions. No frozen version stands in a volume yet.
-abbrev pub IsUnfrozen : Line → Type 0
-IsUnfrozen line = line.frozen ≡ []
-
--- Each record is in its grammar, and lies in exactly one line.
-pub record HasLines (file : FileContent) : Type 0 where
+-- Each record is in its grammar, and names records of its file as its older and its newer one.
+pub record HasBodies (file : FileContent) : Type 0 where
   pub records : AllZip IsStored (bodies_in file) file.stored
-  pub lines : AllByRecursion IsLine file.lines
-  pub unfrozen : AllByRecursion IsUnfrozen file.lines
-  pub each_once : IsPermutation file.stored (flat_map line_records file.lines)
+  pub linked : AreLinked file.stored
 
 -- ---- Node
-
--- no unit of the one stands in the other
-abbrev pub Apart : List ℕ → List ℕ → Type 0
-Apart xs ys = AllByRecursion (λ x. ¬ Contains ys x) xs
-
-abbrev pub AllApart : List (List ℕ) → Type 0
-AllApart [] = Unit {0}
-AllApart (xs ∷ rest) = AllByRecursion (Apart xs) rest × AllApart rest
 
 -- Each tree is well formed, has no page of a file, and shares no unit with another object's.
 pub record HasNodes (g : Geometry) (units : Units) (v : Volume) : Type 0 where
   pub named : AllByRecursion (λ (root : Root). RootNamed g units root.height root.page) (roots_in (stored_in v))
   pub no_file_page : AllByRecursion (λ (root : Root). Apart (root_units units root) (catalog_no ∷ file_pages v)) (roots_in (stored_in v))
-  pub one_object : AllApart (map (line_units units) (lines_of v))
+  pub objects : HasObjects units (stored_in v)
 
 -- ---- Balance
 
@@ -119,12 +93,11 @@ pub record HasBalance (g : Geometry) (units : Units) (root : Root) : Type 0 wher
 
 -- ---- Unique
 
--- All unique numbers differ, are at least 1 and below the next one. The objects of a file are listed in rising order of their numbers.
+-- All unique numbers differ, are at least 1 and below the next one.
 pub record HasUniques (v : Volume) : Type 0 where
-  pub differ : AllDiffer (map unique_of (stored_in v))
+  pub differ : NumbersDiffer (stored_in v)
   pub some : AllByRecursion (λ (s : Stored). 1 ≤ unique_of s) (stored_in v)
   pub below : AllByRecursion (λ (s : Stored). unique_of s < v.catalog.next_unique) (stored_in v)
-  pub listed : AllByRecursion (λ (file : FileContent). Rising (map line_number file.lines)) v.files
 
 -- ---- Log
 
@@ -142,7 +115,7 @@ HoldsOf g records units v Log = Unit {0}
 HoldsOf g records units v Catalog = CatalogOf (units catalog_no) v.catalog × IsLastOf records v.catalog.last
 HoldsOf g records units v File = AllZip (HasIndex g units) v.catalog.entries v.files × AllDiffer (file_pages v)
 HoldsOf g records units v Page = AllZip (HasPages units) v.catalog.entries v.files
-HoldsOf g records units v Body = AllByRecursion HasLines v.files
+HoldsOf g records units v Body = AllByRecursion HasBodies v.files
 HoldsOf g records units v Node = HasNodes g units v
 HoldsOf g records units v Balance = AllByRecursion (HasBalance g units) (roots_in (stored_in v))
 HoldsOf g records units v Unique = HasUniques v

@@ -2,7 +2,6 @@
 use Rattle.std.proofs.Common.{◌≡◌, ◌≤◌, ⊎_elim, ℕ, List, [], ◌∷◌, ◌++◌, Option, Some, None, refl, sym, ap, subst, ◌∙◌, arith}
 use Rattle.std.specs.Prelude.{map}
 use Rattle.std.specs.List.{flat_map, AllByRecursion, AllZip, zip}
-use Rattle.std.proofs.lemmas.List.Concat.{flat_map-append}
 use Rattle.ex_base.specs.declared.names.PageNo.{PageNo}
 use Rattle.ex_base.specs.declared.names.Root.{Root}
 use Rattle.ex_base.specs.declared.geometry.Geometry.{Geometry}
@@ -10,7 +9,7 @@ use Rattle.ex_base.specs.Area.{catalog_no}
 use Rattle.ex_base.specs.Order.{Rising}
 use Rattle.ex_base.specs.Ports.{times}
 use Rattle.ex_base.specs.Sizes.{leaf_bytes}
-use Rattle.ex_base.proofs.Each.{split_each, each_parted, each_with, flat_same, map_same, zip_with}
+use Rattle.ex_base.proofs.Each.{split_each, each_of, each_parted, each_with, flat_same, map_same, zip_with}
 use Rattle.ex_base.proofs.Counts.{same_or_not, times_apart}
 use Rattle.op_log.specs.declared.record.LogRecord.{LogRecord}
 use Rattle.slotted_pages.specs.FilePage.{FilePage, SlotsOf}
@@ -23,8 +22,14 @@ use Rattle.trees.specs.Trees.{Units, root_units, RootNamed}
 use Rattle.trees.proofs.KeptRoots.{bytes_of_root, named_root, shape_of_root, sized_root}
 pub use Rattle.trees.proofs.KeptRoots.{RootKept, units_of_root}
 use Rattle.trees.proofs.SameUnits.{Kept}
-use Rattle.volume_model.specs.Parts.{HasIndex, HasPage, HasPages, Apart, AllApart, HasNodes, HasBalance, HoldsOf, content_parts}
-use Rattle.volume_model.specs.Volume.{Stored, Line, FileContent, Volume, line_records, lines_of, stored_in, pages_of_file, file_pages, root_in, roots_in, line_units, reach_of, content_in, version_of, object_of, file_of, table_of}
+use Rattle.version_lists.specs.declared.version.Version.{Version}
+use Rattle.version_lists.specs.Sorted.{in_order}
+use Rattle.version_lists.specs.Versions.{unique_of as number_of}
+use Rattle.version_lists.specs.Objects.{objects_formed}
+use Rattle.table_model.specs.declared.table.TableFile.{TableFile}
+use Rattle.volume_model.specs.Parts.{HasIndex, HasPage, HasPages, HasNodes, HasBalance, HoldsOf, content_parts}
+use Rattle.volume_model.specs.Links.{Apart, HasObjects, stored_units}
+use Rattle.volume_model.specs.Volume.{Stored, FileContent, Volume, stored_in, pages_of_file, file_pages, root_in, roots_in, reach_of, content_in, version_of, versions_stored, file_of, table_of}
 
 -- ---- roots
 
@@ -35,44 +40,39 @@ balance_kept g old new root kept h = record {
   limit = h.limit;
 }
 
--- ---- records and lines
+-- ---- records and versions
 
 abbrev RootsKept : Units → Units → List Root → Type 0
 RootsKept old new roots = AllByRecursion (RootKept old new) roots
 
-abbrev LineKept : Units → Units → Line → Type 0
-LineKept old new line = RootsKept old new (roots_in (line_records line))
+abbrev StoredKept : Units → Units → Stored → Type 0
+StoredKept old new s = RootsKept old new (root_in s.body.content)
 
-lines_kept : (old new : Units) (lines : List Line) → RootsKept old new (roots_in (flat_map line_records lines)) → AllByRecursion (LineKept old new) lines
-lines_kept old new [] h = tt
-lines_kept old new (line ∷ lines) h =
-    let joined : roots_in (flat_map line_records (line ∷ lines)) ≡ roots_in (line_records line) ++ roots_in (flat_map line_records lines) = flat_map-append (λ (s : Stored). root_in s.body.content) (line_records line) (flat_map line_records lines) in
-    let both = split_each (RootKept old new) (roots_in (line_records line)) (roots_in (flat_map line_records lines)) (subst (RootsKept old new) joined h) in
-    (both.0, lines_kept old new lines both.1)
+-- the records of trees that are kept
+records_kept : (old new : Units) (stored : List Stored) → RootsKept old new (roots_in stored) → AllByRecursion (StoredKept old new) stored
+records_kept old new stored kept = each_parted (RootKept old new) (λ (s : Stored). root_in s.body.content) stored kept
 
-line_units_same : (old new : Units) (line : Line) → LineKept old new line → line_units new line ≡ line_units old line
-line_units_same old new line kept = flat_same (root_units old) (root_units new) (RootKept old new) (roots_in (line_records line)) (λ root k. units_of_root old new root.height root.page k) kept
+stored_units_same : (old new : Units) (s : Stored) → StoredKept old new s → stored_units new s ≡ stored_units old s
+stored_units_same old new s kept = flat_same (root_units old) (root_units new) (RootKept old new) (root_in s.body.content) (λ root k. units_of_root old new root.height root.page k) kept
 
 content_same : (old new : Units) (content : Content) → RootsKept old new (root_in content) → content_in new content ≡ content_in old content
 content_same old new (Small bytes) kept = refl
 content_same old new (Large root) kept = bytes_of_root old new root.height root.size root.page kept.0
 
-version_same : (old new : Units) (s : Stored) → RootsKept old new (root_in s.body.content) → version_of new s ≡ version_of old s
-version_same old new s kept = let content = content_same old new s.body.content kept in cc content
+version_same : (old new : Units) (stored : List Stored) (s : Stored) → StoredKept old new s → version_of new stored s ≡ version_of old stored s
+version_same old new stored s kept = let content = content_same old new s.body.content kept in cc content
 
-object_same : (old new : Units) (line : Line) → LineKept old new line → object_of new line ≡ object_of old line
-object_same old new line kept =
-    let each = each_parted (RootKept old new) (λ (s : Stored). root_in s.body.content) (line_records line) kept in
-    let versions : map (version_of new) (line_records line) ≡ map (version_of old) (line_records line) = map_same (version_of old) (version_of new) (λ s. RootsKept old new (root_in s.body.content)) (line_records line) (λ s k. version_same old new s k) each in
-    cc versions
+pub versions_same : (old new : Units) (stored : List Stored) → AllByRecursion (StoredKept old new) stored → versions_stored new stored ≡ versions_stored old stored
+versions_same old new stored kept = ap (in_order number_of) (map_same (version_of old stored) (version_of new stored) (StoredKept old new) stored (version_same old new stored) kept)
 
 abbrev FileKept : Units → Units → FileContent → Type 0
-FileKept old new file = AllByRecursion (LineKept old new) file.lines
+FileKept old new file = AllByRecursion (StoredKept old new) file.stored
+
+abbrev file_with : FileEntry → List Version → TableFile
+file_with entry versions = record { name = entry.name; objects = objects_formed versions }
 
 file_same : (old new : Units) (entry : FileEntry) (file : FileContent) → FileKept old new file → file_of new (entry, file) ≡ file_of old (entry, file)
-file_same old new entry file kept =
-    let objects : map (object_of new) file.lines ≡ map (object_of old) file.lines = map_same (object_of old) (object_of new) (LineKept old new) file.lines (λ line k. object_same old new line k) kept in
-    cc objects
+file_same old new entry file kept = ap (file_with entry) (versions_same old new file.stored kept)
 
 files_same : (old new : Units) (entries : List FileEntry) (files : List FileContent) → AllByRecursion (FileKept old new) files → map (file_of new) (zip entries files) ≡ map (file_of old) (zip entries files)
 files_same old new [] files kept = refl
@@ -146,15 +146,24 @@ kept_from_reach old new v h =
       roots = each_parted (λ u. new u ≡ old u) (root_units old) (roots_in (stored_in v)) both.1;
     }
 
+-- objects keep their labels
+objects_kept : (old new : Units) (stored : List Stored) → AllByRecursion (StoredKept old new) stored → HasObjects old stored → HasObjects new stored
+objects_kept old new stored kept h = record {
+  object = h.object;
+  joined = h.joined;
+  one_first = h.one_first;
+  apart = λ s t here there other.
+      let first = stored_units_same old new s (each_of (StoredKept old new) stored s kept here) in
+      let second = stored_units_same old new t (each_of (StoredKept old new) stored t kept there) in
+      subst (λ (us : List ℕ). Apart us (stored_units new t)) (sym first) (subst (λ (us : List ℕ). Apart (stored_units old s) us) (sym second) (h.apart s t here there other));
+}
+
 nodes_kept : (g : Geometry) (old new : Units) (v : Volume) → IsKept old new v → HasNodes g old v → HasNodes g new v
-nodes_kept g old new v kept h =
-    let lines = lines_kept old new (lines_of v) kept.roots in
-    let same : map (line_units new) (lines_of v) ≡ map (line_units old) (lines_of v) = map_same (line_units old) (line_units new) (LineKept old new) (lines_of v) (λ line k. line_units_same old new line k) lines in
-    record {
-      named = each_with (RootKept old new) (λ (root : Root). RootNamed g old root.height root.page) (λ (root : Root). RootNamed g new root.height root.page) (roots_in (stored_in v)) (λ root k n. named_root g old new root.height root.page k n) kept.roots h.named;
-      no_file_page = each_with (RootKept old new) (λ (root : Root). Apart (root_units old root) (catalog_no ∷ file_pages v)) (λ (root : Root). Apart (root_units new root) (catalog_no ∷ file_pages v)) (roots_in (stored_in v)) (λ root k n. subst (λ (us : List ℕ). Apart us (catalog_no ∷ file_pages v)) (sym (units_of_root old new root.height root.page k)) n) kept.roots h.no_file_page;
-      one_object = subst AllApart (sym same) h.one_object;
-    }
+nodes_kept g old new v kept h = record {
+  named = each_with (RootKept old new) (λ (root : Root). RootNamed g old root.height root.page) (λ (root : Root). RootNamed g new root.height root.page) (roots_in (stored_in v)) (λ root k n. named_root g old new root.height root.page k n) kept.roots h.named;
+  no_file_page = each_with (RootKept old new) (λ (root : Root). Apart (root_units old root) (catalog_no ∷ file_pages v)) (λ (root : Root). Apart (root_units new root) (catalog_no ∷ file_pages v)) (roots_in (stored_in v)) (λ root k n. subst (λ (us : List ℕ). Apart us (catalog_no ∷ file_pages v)) (sym (units_of_root old new root.height root.page k)) n) kept.roots h.no_file_page;
+  objects = objects_kept old new (stored_in v) (records_kept old new (stored_in v) kept.roots) h.objects;
+}
 
 pub parts_kept : (g : Geometry) (records : List LogRecord) (old new : Units) (v : Volume) → IsKept old new v → AllByRecursion (HoldsOf g records old v) content_parts → AllByRecursion (HoldsOf g records new v) content_parts
 parts_kept g records old new v kept (catalog, (file, (page, (body, (node, (balance, (unique, end))))))) = (
@@ -179,8 +188,7 @@ parts_kept g records old new v kept (catalog, (file, (page, (body, (node, (balan
 
 pub table_kept : (old new : Units) (v : Volume) → IsKept old new v → table_of new v ≡ table_of old v
 table_kept old new v kept =
-    let lines = lines_kept old new (lines_of v) kept.roots in
-    let each = each_parted (LineKept old new) (λ (file : FileContent). file.lines) v.files lines in
+    let each = each_parted (StoredKept old new) (λ (file : FileContent). file.stored) v.files (records_kept old new (stored_in v) kept.roots) in
     let files = files_same old new v.catalog.entries v.files each in
     cc files
 

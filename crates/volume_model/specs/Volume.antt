@@ -1,19 +1,24 @@
 -- A volume, decoded, and the table that it gives.
-use Rattle.std.specs.Prelude.{ℕ, List, [], ◌∷◌, ◌++◌, map}
+use Rattle.std.specs.Prelude.{ℕ, Bool, true, false, List, [], ◌∷◌, ◌++◌, map, find, Option, Some, None}
 use Rattle.std.specs.List.{flat_map, zip}
 use Rattle.ex_base.specs.declared.geometry.Geometry.{Geometry}
 use Rattle.ex_base.specs.declared.names.Place.{Place}
 use Rattle.ex_base.specs.declared.names.Oid.{Oid}
 use Rattle.ex_base.specs.declared.names.Root.{Root}
 use Rattle.ex_base.specs.Area.{catalog_no}
+use Rattle.ex_base.specs.Places.{same_place}
 use Rattle.op_log.specs.declared.record.LogRecord.{LogRecord}
 use Rattle.op_log.specs.AfterLog.{after_log}
 use Rattle.slotted_pages.specs.FilePage.{FilePage}
 use Rattle.object_records.specs.Record.{Record, Content, Small, Large}
+use Rattle.object_records.specs.declared.State.{State}
+use Rattle.object_records.specs.declared.State.TheVariants.{Current, Frozen}
 use Rattle.object_files.specs.Catalog.{Catalog, FileEntry}
 use Rattle.trees.specs.Trees.{Units, root_bytes, root_units, units_from}
-use Rattle.table_model.specs.declared.table.Version.{Version}
-use Rattle.table_model.specs.declared.table.Object.{Object}
+use Rattle.version_lists.specs.declared.version.Version.{Version}
+use Rattle.version_lists.specs.Sorted.{in_order}
+use Rattle.version_lists.specs.Versions.{unique_of as number_of}
+use Rattle.version_lists.specs.Objects.{objects_formed}
 use Rattle.table_model.specs.declared.table.TableFile.{TableFile}
 use Rattle.table_model.specs.declared.table.Table.{Table}
 
@@ -24,19 +29,12 @@ pub record Stored : Type 0 where
   pub place : Place
   pub body : Record
 
--- an object: its frozen versions from the oldest on, and its current one
-pub record Line : Type 0 where
-  pub frozen : List Stored
-  pub current : Stored
-
--- a file: the numbers of its pages with records and of its index pages, what stands on each page with records, its records in order of place, and its
--- objects
+-- a file: the numbers of its pages with records and of its index pages, what stands on each page with records, and its records in order of place
 pub record FileContent : Type 0 where
   pub numbers : List ℕ
   pub index_pages : List ℕ
   pub pages : List FilePage
   pub stored : List Stored
-  pub lines : List Line
 
 -- the catalog, and a file for each of its entries
 pub record Volume : Type 0 where
@@ -51,16 +49,9 @@ pub record Decoded : Type 0 where
 
 -- ---- what follows from it
 
-abbrev pub line_records : Line → List Stored
-line_records line = line.frozen ++ line.current ∷ []
-
--- all objects
-abbrev pub lines_of : Volume → List Line
-lines_of v = flat_map (λ (file : FileContent). file.lines) v.files
-
--- the records of all objects
+-- all records
 abbrev pub stored_in : Volume → List Stored
-stored_in v = flat_map line_records (lines_of v)
+stored_in v = flat_map (λ (file : FileContent). file.stored) v.files
 
 -- the pages of a file: those with records, and those of its index
 abbrev pub pages_of_file : FileContent → List ℕ
@@ -73,9 +64,12 @@ file_pages v = flat_map pages_of_file v.files
 abbrev pub unique_of : Stored → ℕ
 unique_of s = s.body.head.unique
 
--- an object's number, that of its current version
-abbrev pub line_number : Line → ℕ
-line_number line = unique_of line.current
+abbrev pub lies_at : Place → Stored → Bool
+lies_at place s = same_place s.place place
+
+-- the record at a place
+abbrev pub stands_at : Place → List Stored → Option Stored
+stands_at place stored = find (lies_at place) stored
 
 abbrev pub root_in : Content → List Root
 root_in (Small bytes) = []
@@ -84,10 +78,6 @@ root_in (Large root) = root ∷ []
 -- the roots of large versions
 abbrev pub roots_in : List Stored → List Root
 roots_in stored = flat_map (λ (s : Stored). root_in s.body.content) stored
-
--- the units of an object's trees
-abbrev pub line_units : Units → Line → List ℕ
-line_units units line = flat_map (root_units units) (roots_in (line_records line))
 
 -- Every unit that the pages reach: the catalog, the pages of the files, the units of the trees.
 abbrev pub reach_of : Units → Volume → List ℕ
@@ -99,18 +89,38 @@ abbrev pub content_in : Units → Content → List ℕ
 content_in units (Small bytes) = bytes
 content_in units (Large root) = root_bytes units root
 
--- A version is named by its place and its unique number.
+-- A record is named by its place and its unique number.
 abbrev pub oid_of : Stored → Oid
 oid_of s = record { page = s.place.page; slot = s.place.slot; unique = s.body.head.unique }
 
-abbrev pub version_of : Units → Stored → Version
-version_of units s = record { oid = oid_of s; bytes = content_in units s.body.content }
+abbrev pub is_frozen : State → Bool
+is_frozen Current = false
+is_frozen Frozen = true
 
-abbrev pub object_of : Units → Line → Object
-object_of units line = record { versions = map (version_of units) (line_records line) }
+abbrev pub number_if : Option Stored → Option ℕ
+number_if None = None
+number_if (Some s) = Some (unique_of s)
+
+-- the number of the record at a place
+abbrev pub number_at : List Stored → Option Place → Option ℕ
+number_at stored None = None
+number_at stored (Some place) = number_if (stands_at place stored)
+
+-- a record as a version: its older one is the record at its older place
+abbrev pub version_of : Units → List Stored → Stored → Version
+version_of units stored s = record {
+  oid = oid_of s;
+  frozen = is_frozen s.body.head.state;
+  older = number_at stored s.body.head.older;
+  bytes = content_in units s.body.content;
+}
+
+-- the versions of a file, in order of their numbers
+abbrev pub versions_stored : Units → List Stored → List Version
+versions_stored units stored = in_order number_of (map (version_of units stored) stored)
 
 abbrev pub file_of : Units → FileEntry × FileContent → TableFile
-file_of units row = record { name = row.0.name; objects = map (object_of units) row.1.lines }
+file_of units row = record { name = row.0.name; objects = objects_formed (versions_stored units row.1.stored) }
 
 -- the table of a decoded volume
 abbrev pub table_of : Units → Volume → Table

@@ -13,11 +13,11 @@ ghost use Rattle.meta_pages.specs.Overlays.{AreRows};
 ghost use Rattle.op_log.specs.Records.{IsNote};
 ghost use Rattle.page_alloc.specs.UnitSet.{free_count, used_at};
 ghost use Rattle.table_model.specs.Machines.{touched_most, updates_most};
-ghost use Rattle.session_core.specs.Performed.{CanPerform, NamesOid};
+ghost use Rattle.session_core.specs.Performed.{CanPerform, IsCopying, NamesOid};
 ghost use Rattle.session_core.specs.TableUpdates.{updated};
 ghost use Rattle.session_core.specs.Finding.{IsOutside, LineStops};
 ghost use Rattle.session_core.specs.Counts.{free_in};
-ghost use Rattle.session_core.specs.Sessions.{HasWork, SessionState, TakenBack};
+ghost use Rattle.session_core.specs.Sessions.{HasWork, SessionState, TakenBack, TakesLogged};
 ghost use Rattle.session_core.specs.Updates.{AreReady, HasRoomFor, HasRoots, HoldsTable, HoldsTurned, IfAsked, IsLoose, Moved, OwnsGone, note_done};
 ghost use Rattle.tree_store.specs.Stored.{NoUnit};
 
@@ -127,6 +127,8 @@ fn update_on<D: Disk>(
         (record { units = units.old; groups = groups.old; meta = meta.old; pages = pages.old; room = room.old }) }
     requires can { CanPerform update.now (free_count units.old.geometry (used_at units.old) Page) }
     ensures named { IfOk result (λ done. NamesOid update.now done.oid) }
+    ensures shares { IsCopying update.now
+        → OnOk result (TakesLogged units.old units.new pages.new) }
     ensures moved { Moved NoUnit (D.outside disk.old) (D.outside disk.new) geometry.now
         (record { units = units.old; groups = groups.old; meta = meta.old; pages = pages.old; room = room.old })
         (record { units = units.new; groups = groups.new; meta = meta.new; pages = pages.new; room = room.new }) }
@@ -178,6 +180,8 @@ fn update_parts<D: Disk>(
     requires flags { length kept.now ≡ area_end geometry.now }
     requires can { CanPerform update.now (free_count units.old.geometry (used_at units.old) Page) }
     ensures named { IfOk result (λ done. NamesOid update.now done.oid) }
+    ensures shares { IsCopying update.now
+        → OnOk result (TakesLogged units.old units.new pages.new) }
     ensures moved { Moved (IsLoose pages.new kept.now)
         (D.outside disk.old) (D.outside disk.new) geometry.now
         (record { units = units.old; groups = groups.old; meta = meta.old; pages = pages.old; room = room.old })
@@ -229,6 +233,8 @@ impl Session {
         requires note { IsNote note.now }
         requires can { CanPerform update.now (free_in self.old Page) }
         ensures named { IfOk result (NamesOid update.now) }
+        ensures shares { IsCopying update.now
+            → OnOk result (TakesLogged self.old.units self.new.units self.new.pages) }
         ensures noted { IfOk result (λ oid. Noted self.old self.new (note_with note.now oid)) }
         ensures kept { OnOk result ((length self.new.meta.working ≤ limit.now.touched)
             × (limit.now.pages ≤ free_count self.new.units.geometry (used_at self.new.units) Page)

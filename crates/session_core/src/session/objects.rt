@@ -259,7 +259,7 @@ impl Session {
     }
 
     /// What is told of the version that an OID names, none where there is none.
-    fn find_version<D: Disk>(
+    pub(super) fn find_version<D: Disk>(
         &mut self,
         alloc: Global,
         disk: &mut D,

@@ -17,7 +17,7 @@ pub struct Summary {
     pub files: u32,
     /// The objects of its files. Each file has fewer than 2^64.
     pub objects: u128,
-    /// The versions of its objects.
+    /// The versions of its objects. Each file has fewer than 2^64.
     pub versions: u128,
     /// The units of the page area in use.
     pub pages: u32,
@@ -25,8 +25,15 @@ pub struct Summary {
     pub segs: u32,
 }
 
+/// How many objects and versions files have together.
+#[derive(Clone, Copy)]
+struct Totals {
+    objects: u128,
+    versions: u128,
+}
+
 impl Session {
-    ghost use Rattle.std.specs.Prelude.{◌≢◌, ◌⊎◌, ◌≤◌, length, Ok, Err, IfOk, IfErr, OnOk, OnErr, true, false};
+    ghost use Rattle.std.specs.Prelude.{◌≢◌, ◌⊎◌, ◌≤◌, Ok, Err, IfOk, IfErr, OnOk, OnErr, true, false};
     ghost use Rattle.ex_base.specs.declared.faults.Seen.{Seen};
     ghost use Rattle.ex_base.specs.declared.names.PageNo.{PageNo};
     ghost use Rattle.disk_model.specs.Outside.{ReadsOnly, Rose};
@@ -39,7 +46,7 @@ impl Session {
     ghost use Rattle.session_core.specs.Finding.{IfShown, IsOutside, LineStops};
     ghost use Rattle.session_core.specs.Steps.{OnlyFrames};
     ghost use Rattle.session_core.specs.Meant.{meant};
-    ghost use Rattle.session_core.specs.Summaries.{IfCatalog, IsSummary, SumsUp, oids_in};
+    ghost use Rattle.session_core.specs.Summaries.{AreTotals, IfCatalog, IsSummary, SumsUp};
 
     // Sums up, in a session that met no fault.
     fn sum_up<H: Host>(&mut self, alloc: Global, host: &mut H) -> Result<Summary, Stop>
@@ -50,50 +57,53 @@ impl Session {
             Ok(page) => page,
             Err(stop) => return Err(stop),
         };
-        let objects = match self.objects_in(alloc, host, &page) {
-            Ok(objects) => objects,
+        let totals = match self.total_in(alloc, host, &page) {
+            Ok(totals) => totals,
             Err(stop) => return Err(stop),
         };
         let catalog = view_of(&page);
         Ok(Summary {
             last: catalog.last_txn(),
             files: catalog.len(),
-            objects,
-            // No version is frozen yet.
-            versions: objects,
+            objects: totals.objects,
+            versions: totals.versions,
             pages: self.used(Area::Page),
             segs: self.used(Area::Segment),
         })
     }
 
-    // How many objects the files of a catalog have.
-    fn objects_in<H: Host>(
+    // How many objects and versions the files of a catalog have.
+    fn total_in<H: Host>(
         &mut self,
         alloc: Global,
         host: &mut H,
         page: &[u8],
-    ) -> Result<u128, Stop>
+    ) -> Result<Totals, Stop>
         requires room { volume_bytes self.old.geometry ≤ (H.outside host.old).size }
         requires catalog { IsCatalogPage page.now }
         ensures only { OnlyFrames (H.outside host.old) (H.outside host.new) self.old self.new }
         ensures shows { IfShown (H.outside host.old) self.old
             (λ before. ShowsNow meant (H.outside host.new) (record before { session = self.new })) }
-        ensures counts { IfOk result (λ count. IfCatalog (H.outside host.old) self.old page.now
-            (λ before. count ≡ length (oids_in before.machine (catalog_on page.now).entries))) }
+        ensures totals { IfOk result (λ totals. IfCatalog (H.outside host.old) self.old page.now
+            (λ before. AreTotals before.machine (catalog_on page.now).entries totals)) }
         ensures stops { IfErr result (LineStops (H.outside host.old) (H.outside host.new)) }
         ensures sound { IfErr result (λ why. IfCatalog (H.outside host.old) self.old page.now
             (λ before. IsOutside why)) }
     {
-        let mut count: u128 = 0;
+        let mut totals = Totals {
+            objects: 0,
+            versions: 0,
+        };
         for index in 0..view_of(page).len() {
             let file_no = view_of(page).entry(index).file_no;
-            let oids = match self.objects_of(alloc, host, file_no) {
-                Ok(oids) => oids,
+            let tally = match self.tally_of(alloc, host, file_no) {
+                Ok(tally) => tally,
                 Err(stop) => return Err(stop),
             };
-            count += oids.len() as u128;
+            totals.objects += tally.objects as u128;
+            totals.versions += tally.versions as u128;
         }
-        Ok(count)
+        Ok(totals)
     }
 
     /// Sums up what the session shows. The disk is read at most.

@@ -6,6 +6,7 @@ ghost use Rattle.ex_base.specs.declared.faults.PortFault.TheVariants.{Damaged};
 ghost use Rattle.ex_base.specs.declared.names.Area.TheVariants.{Page};
 ghost use Rattle.ex_base.specs.Seen.{catalog_seen, nothing_seen};
 ghost use Rattle.file_bodies.specs.Damage.{IsCatalogFault};
+ghost use Rattle.file_index.specs.Taking.{OnlyTakes};
 ghost use Rattle.object_files.specs.Edits.{IsCatalogPage};
 ghost use Rattle.object_files.specs.Reads.{catalog_on};
 ghost use Rattle.volume_edits.specs.Edits.{WritesCatalog, catalog_numbered};
@@ -44,13 +45,18 @@ fn last_on(page: &[u8]) -> Option<u64>
 }
 
 /// The catalog gets the unique number after this one as the next.
-fn count_number<V: Volume>(volume: &mut V, alloc: Global, unique: u64) -> Result<(), PortFault>
+pub(super) fn count_number<V: Volume>(
+    volume: &mut V,
+    alloc: Global,
+    unique: u64,
+) -> Result<(), PortFault>
     requires ready { V.ready volume.old }
     requires number { unique + 1 < 2 ^ 64 }
     ensures counts { OnOk result (V.tells volume.old
         → WritesCatalog V.Ground volume.old volume.new (catalog_numbered (unique
         + 1) (catalog_on (V.image volume.old catalog_no)))) }
     ensures free { OnOk result (V.free volume.new ≡ V.free volume.old) }
+    ensures takes { OnOk result (OnlyTakes V.Ground volume.old volume.new) }
     ensures sound { IfErr result (λ fault. IsDamage fault → V.tells volume.old
         → IsCatalogPage (V.image volume.old catalog_no) → ⊥) }
     ensures fault { IfErr result (λ fault. V.tells volume.old

@@ -1,16 +1,16 @@
-//! An object is removed.
+//! A version is removed.
 ghost use Rattle.std.specs.Prelude.{◌≡◌, IfOk};
 ghost use Rattle.ex_base.specs.Ports.{HasCause};
 ghost use Rattle.file_rooms.specs.Rooms.{ChangesOne};
-ghost use Rattle.session_core.specs.TableUpdates.{Removes, Updates};
+ghost use Rattle.session_core.specs.TableUpdates.{Drops, Removes, Updates};
 
 use super::Done;
 use ex_base::{Oid, PortFault, Volume};
 use file_rooms::Rooms;
 use std::alloc::Global;
-use versions::destroy;
+use version_tree::{drop_version, take_out};
 
-/// Removes the object of a version that is its only one, and lowers the room of its file to its page.
+/// Removes a current version, and lowers the room of its file to its page.
 pub fn remove<V: Volume>(
     volume: &mut V,
     alloc: Global,
@@ -24,7 +24,34 @@ pub fn remove<V: Volume>(
     ensures leads { V.leads volume.old volume.new }
     ensures cause { HasCause (V.faults volume.old) (V.faults volume.new) result }
 {
-    match destroy(volume, alloc, oid) {
+    match take_out(volume, alloc, oid) {
+        Ok(gone) => {
+            let done = Done {
+                oid: *oid,
+                gone,
+                come: None,
+            };
+            rooms.look_at(volume, alloc, oid.page, done)
+        }
+        Err(fault) => Err(fault),
+    }
+}
+
+/// Removes a frozen version from which just one is derived, and lowers the room of its file to its page.
+pub fn drop_frozen<V: Volume>(
+    volume: &mut V,
+    alloc: Global,
+    rooms: &mut Rooms,
+    oid: &Oid,
+) -> Result<Done, PortFault>
+    requires { V.ready volume.old }
+    ensures named { IfOk result (λ done. done.oid ≡ oid.now) }
+    ensures updates { Updates V.Ground volume.old volume.new (Drops oid.now) result }
+    ensures rooms { ChangesOne rooms.old rooms.new }
+    ensures leads { V.leads volume.old volume.new }
+    ensures cause { HasCause (V.faults volume.old) (V.faults volume.new) result }
+{
+    match drop_version(volume, alloc, oid) {
         Ok(gone) => {
             let done = Done {
                 oid: *oid,

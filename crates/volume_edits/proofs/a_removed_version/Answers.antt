@@ -1,5 +1,5 @@
-use Rattle.volume_edits.proofs.Removing.{removes_object}
+use Rattle.volume_edits.proofs.TakenOut.{removes_version}
 use Rattle.volume_edits.proofs.a_removed_version.Goals as goal
 
 pub returns : goal.returns
-returns g c = λ old new records v index oid body content bytes vol geometry apart in_use gives had removes. removes_object g.P.Ground old new records v vol index oid body content bytes geometry apart in_use gives had removes
+returns g c = λ old new records v index oid is vol geometry apart in_use gives has current branch takes. removes_version g.P.Ground old new records v vol index oid is geometry apart in_use gives has current branch takes

@@ -28,3 +28,6 @@ returns-clause-used g c = file_used (g.P.Ground.geometry c.args.pages.now) c.arg
 
 pub returns-clause-area : goal.returns-clause-area
 returns-clause-area g c = file_area (g.P.Ground.geometry c.args.pages.now) c.args.units.now c.walk_root.new.units (record { numbers = c.new.result; index_pages = c.new-2.result }) c.walk_root.new.walked c.new.ensures.items c.new-2.ensures.items (c.in-Ok.ensures.pages c.if-not-whole.false)
+
+pub returns-clause-rising : goal.returns-clause-rising
+returns-clause-rising g c = subst (λ (t : List PageNo). Rising (page_numbers t)) c.deref.ensures.value (c.rise.ensures.0 c.if-not-rise.false)

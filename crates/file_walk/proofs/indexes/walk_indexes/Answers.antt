@@ -6,7 +6,7 @@ use Rattle.ex_base.proofs.Rows.{each-append}
 use Rattle.page_alloc.specs.UnitSet.{used_at}
 use Rattle.object_files.specs.Catalog.{FileEntry}
 use Rattle.object_files.specs.Reads.{entry_of}
-use Rattle.file_walk.specs.Indexes.{IsWalked, IsInArea, AreFreeIndexes, walked_pages}
+use Rattle.file_walk.specs.Indexes.{HasRisingPages, IsWalked, IsInArea, AreFreeIndexes, walked_pages}
 use Rattle.file_walk.proofs.Lists.{drop_get}
 use Rattle.ex_base.proofs.Keeping.{keeps_on, same_geometry}
 use Rattle.ex_base.proofs.Options.{at_none, at_some}
@@ -35,6 +35,9 @@ loop-at-preserved g c =
       area = subst (AllByRecursion (IsInArea (g.P.Ground.geometry c.args.pages.now))) (sym c.in_ok-add.ensures)
           (each-append (IsInArea (g.P.Ground.geometry c.args.pages.now)) c.loop-at.files.items (c.in-Ok-Some.file ∷ []) c.loop-at.invariant.area
           (subst (λ (y : Geometry). IsInArea y c.in-Ok-Some.file) geo (at_some c.in-Ok-Some.field-0 c.in-Ok-Some.file _ c.in-Ok-Some.field-0-is c.in-Ok-Some.ensures.area), tt));
+      rising = subst (AllByRecursion HasRisingPages) (sym c.in_ok-add.ensures)
+          (each-append HasRisingPages c.loop-at.files.items (c.in-Ok-Some.file ∷ []) c.loop-at.invariant.rising
+          (at_some c.in-Ok-Some.field-0 c.in-Ok-Some.file _ c.in-Ok-Some.field-0-is c.in-Ok-Some.ensures.rising, tt));
       len = omega (arith, ap length c.in_ok-add.ensures, length-append c.loop-at.files.items (c.in-Ok-Some.file ∷ []), c.loop-at.invariant.len);
       told = λ images told.
           subst (IndexesTo (g.P.Ground.geometry c.args.pages.now) images c.args.catalog.now.entries (drop (c.loop-at.at + 1) c.args.catalog.now.entries)) (sym c.in_ok-add.ensures)

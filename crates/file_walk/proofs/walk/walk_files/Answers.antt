@@ -8,7 +8,7 @@ use Rattle.file_walk.specs.declared.Found.{Found}
 use Rattle.file_walk.specs.declared.indexes.FilePages.{FilePages}
 use Rattle.file_walk.specs.Indexes.{walked_pages}
 use Rattle.file_walk.specs.Parts.{IsBadFiles}
-use Rattle.file_walk.specs.Records.{AreFilePages, AreRooted, AddsRows, IsGoodRow, rows_of}
+use Rattle.file_walk.specs.Records.{AddsFiles, AreFilePages, HasRootFields, IsGoodFile, files_rows}
 use Rattle.file_walk.specs.Walk.{IsCause, page_numbers}
 use Rattle.file_walk.proofs.Lists.{on_some}
 use Rattle.file_walk.proofs.Parts.{bad_file, bad_page, bad_body, has_walked, used_are}
@@ -57,18 +57,18 @@ returns-then-not-good-clause-bad g c = λ part is images told.
     (at_some c.in-Ok-Some.field-0 c.in-Ok-Some.files _ c.in-Ok-Some.field-0-is c.in-Ok-Some.ensures.used)
     (subst (AllZip (AreFilePages images) c.args.catalog.now.entries) c.deref.ensures.value (on_some c.in-Ok-Some-read_files.field-0 c.in-Ok-Some-read_files.good _ c.in-Ok-Some-read_files.field-0-is c.in-Ok-Some-read_files.ensures.of_files images mid))
     (λ rows. at_some c.in-Ok-Some-read_files.field-0 c.in-Ok-Some-read_files.good _ c.in-Ok-Some-read_files.field-0-is c.in-Ok-Some-read_files.ensures.bad c.if-not-good.true images mid
-    (subst (λ (fs : List FilePages). AllByRecursion IsGoodRow (flat_map (rows_of images) fs)) (sym c.deref.ensures.value) rows)))
+    (subst (λ (fs : List FilePages). AllByRecursion IsGoodFile (files_rows images fs)) (sym c.deref.ensures.value) rows)))
 
 pub returns-in-Ok-clause-walked : goal.returns-in-Ok-clause-walked
 returns-in-Ok-clause-walked g c = λ images told.
     let mid = tells_on g.P.Ground c.args.pages.now c.walk_indexes.new.pages images c.walk_indexes.ensures.kept told in
     let rows = at_some c.in-Ok-Some-read_files.field-0 c.in-Ok-Some-read_files.good _ c.in-Ok-Some-read_files.field-0-is c.in-Ok-Some-read_files.ensures.good c.if-not-good.false images mid in
-    has_walked (g.P.Ground.geometry c.args.pages.now) images c.args.units.now c.walk_indexes.new.units c.args.catalog.now.entries c.in-Ok-Some.files.items (record { pages = c.in-Ok.pages; records = c.read_files.new.records })
+    has_walked (g.P.Ground.geometry c.args.pages.now) images c.args.units.now c.walk_indexes.new.units c.args.catalog.now.entries c.in-Ok-Some.files.items (record { pages = c.in-Ok.pages; records = c.read_files.new.found })
     (at_some c.in-Ok-Some.field-0 c.in-Ok-Some.files _ c.in-Ok-Some.field-0-is c.in-Ok-Some.ensures.walked images told)
     (at_some c.in-Ok-Some.field-0 c.in-Ok-Some.files _ c.in-Ok-Some.field-0-is c.in-Ok-Some.ensures.used)
     (subst (AllZip (AreFilePages images) c.args.catalog.now.entries) c.deref.ensures.value (on_some c.in-Ok-Some-read_files.field-0 c.in-Ok-Some-read_files.good _ c.in-Ok-Some-read_files.field-0-is c.in-Ok-Some-read_files.ensures.of_files images mid))
-    (subst (λ (fs : List FilePages). AddsRows [] c.read_files.new.records.items (flat_map (rows_of images) fs)) c.deref.ensures.value
-    (subst (λ (old : List Found). AddsRows old c.read_files.new.records.items (flat_map (rows_of images) c.deref.result.now)) c.new-records.ensures.items rows))
+    (subst (λ (fs : List FilePages). AddsFiles [] c.read_files.new.found.items (files_rows images fs)) c.deref.ensures.value
+    (subst (λ (old : List Found). AddsFiles old c.read_files.new.found.items (files_rows images c.deref.result.now)) c.new-records.ensures.items rows))
     (c.in-Ok.ensures ∙ ap (flat_map walked_pages) c.deref-2.ensures.value)
 
 pub returns-in-Ok-clause-used : goal.returns-in-Ok-clause-used
@@ -78,7 +78,7 @@ returns-in-Ok-clause-used g c =
 
 pub returns-in-Ok-clause-roots : goal.returns-in-Ok-clause-roots
 returns-in-Ok-clause-roots g c =
-    at_some c.in-Ok-Some-read_files.field-0 c.in-Ok-Some-read_files.good _ c.in-Ok-Some-read_files.field-0-is c.in-Ok-Some-read_files.ensures.roots c.if-not-good.false (subst AreRooted (sym c.new-records.ensures.items) tt)
+    at_some c.in-Ok-Some-read_files.field-0 c.in-Ok-Some-read_files.good _ c.in-Ok-Some-read_files.field-0-is c.in-Ok-Some-read_files.ensures.roots c.if-not-good.false (subst (AllByRecursion HasRootFields) (sym c.new-records.ensures.items) tt)
 
 pub returns-in-Ok-clause-area : goal.returns-in-Ok-clause-area
 returns-in-Ok-clause-area g c =

@@ -1,76 +1,51 @@
-use Rattle.std.proofs.Common.{rules, ◌≡◌, ℕ, true, false, inl, inr, ap, ◌∙◌, arith}
-use Rattle.node_walk.proofs.Facts.{handed_err, same_part, BothOf, both_then, both_else, both_swapped}
-use Rattle.node_walk.proofs.Loops.{shows_on}
-use Rattle.node_walk.proofs.Roots.{counts_end, roots_more, roots_start, roots_end, next_named}
-use Rattle.page_alloc.specs.UnitSet.{UnitSet, used_at, refs_at}
-use Rattle.trees.specs.Owners.{root_pages}
-use Rattle.node_walk.specs.Counts.{AreCounted}
-use Rattle.node_walk.proofs.Owning.{all_owned}
+use Rattle.std.proofs.Common.{rules, ◌≡◌, ◌≤◌, ℕ, List, length, IsPermutation, sym, subst}
+use Rattle.std.proofs.lemmas.Result.{on_ok_weaker}
+use Rattle.std.proofs.lemmas.List.Sorted.{answers_always, IsNonDecreasingBy-from_sort, IsPermutation-sym}
+use Rattle.object_records.specs.Record.{IsRootField}
+use Rattle.page_alloc.specs.UnitSet.{used_at, refs_at}
+use Rattle.node_walk.specs.declared.ObjectRoot.{ObjectRoot}
+use Rattle.node_walk.specs.TreesNamed.{AreGrouped}
+use Rattle.node_walk.proofs.Regrouped.{balanced_moved, each_moved, fails_moved, few_moved, named_moved, owned_moved, uses_moved}
 use Rattle.node_walk.proofs.all_trees.walk_trees.Goals as goal
-use Rattle.node_walk.proofs.all_trees.walk_trees.Goals.{then-balanced, else-balanced}
 
-pub returns-in_err-same-clause-bad : goal.returns-in_err-same-clause-bad
-returns-in_err-same-clause-bad g c = λ part is told bytes shows.
-    let b = g.P.Ground in
-    let k = c.loop-root.invariant.kept in
-    let bad = c.in_err-same.ensures.bad part (handed_err c.from_residual.result _ _ c.from_residual.ensures.1 is) (b.leads_told c.args.pages.now c.loop-root.pages k.leads told) bytes (shows_on b c.args.geometry.now bytes c.args.pages.now c.loop-root.pages k shows) in
-    inl (
-      bad.0,
-      λ named.
-          let next = next_named b c.args.geometry.now bytes c.args.pages.now c.loop-root.pages c.args.units.now c.loop-root.units c.args.roots.now c.loop-root.root-index c.loop-root.balanced c.loop-root-test.true c.loop-root.invariant told shows named in
-          bad.1 next.0 next.1,
-    )
+pub walk_grouped-requires-clause-roots : goal.walk_grouped-requires-clause-roots
+walk_grouped-requires-clause-roots g c =
+    each_moved (λ (r : ObjectRoot). IsRootField r.root) c.args.roots.items c.deref.result.now
+    (subst (IsPermutation c.args.roots.items) (sym c.deref.ensures.value) c.sort_unstable_by_key.ensures.permutation) c.requires.roots
 
-pub loop-root-preserved : goal.loop-root-preserved
-loop-root-preserved g c =
-    let found : BothOf c.loop-root.balanced c.in_ok-same.same c.if-balanced.balanced = elim c.if-balanced.branch [
-      | then-balanced w ↦ both_swapped _ _ _ (both_then _ _ _ w.if-balanced.true w.balanced-is)
-      | else-balanced w ↦ both_swapped _ _ _ (both_else c.in_ok-same.same _ _ w.if-balanced.false (w.balanced-is ∙ w.if-balanced.false))
-    ] in
-    roots_more g.P.Ground c.args.geometry.now c.args.pages.now c.loop-root.pages c.walk_tree.new.pages c.args.units.now c.loop-root.units c.walk_tree.new.units c.args.roots.now c.loop-root.root-index c.loop-root.balanced c.in_ok-same.same c.if-balanced.balanced
-    c.loop-root-test.true found.holds found.fails c.loop-root.invariant c.in_ok-same.ensures.kept c.in_ok-same.ensures.geometry c.in_ok-same.ensures.stays c.in_ok-same.ensures.counted
-    c.in_ok-same.ensures.counts
-    (λ told bytes shows. record {
-      named = c.in_ok-same.ensures.named told bytes shows;
-      free = c.in_ok-same.ensures.free told bytes shows;
-      taken = c.in_ok-same.ensures.used told bytes shows;
-      balance = c.in_ok-same.ensures.balanced told bytes shows;
-    })
+pub walk_grouped-requires-clause-grouped : goal.walk_grouped-requires-clause-grouped
+walk_grouped-requires-clause-grouped g c =
+    subst AreGrouped (sym c.deref.ensures.value)
+    (IsNonDecreasingBy-from_sort (λ (r : ObjectRoot). r.object) c.sort_unstable_by_key.new.self.items (c.sort_unstable_by_key.ensures.sorted (λ (r : ObjectRoot). r.object) (answers_always _ _ _ (λ f a r h k. search rules))))
 
-pub returns-then-not-balanced-clause-bad : goal.returns-then-not-balanced-clause-bad
-returns-then-not-balanced-clause-bad g c = λ part is told bytes shows.
-    let found = roots_end g.P.Ground c.args.geometry.now c.args.pages.now c.loop-root.pages c.args.units.now c.loop-root.units c.args.roots.now c.loop-root.root-index c.loop-root.balanced (omega arith) c.loop-root.invariant told bytes shows in
-    let thin : c.loop-root.balanced ≡ false = search rules in
-    inr (same_part _ _ is, found.named, found.thin thin)
+-- from the roots as they were walked
+was_before : (xs ys zs : List ObjectRoot) → IsPermutation xs ys → zs ≡ ys → IsPermutation zs xs
+was_before xs ys zs moved same = IsPermutation-sym xs zs (subst (IsPermutation xs) (sym same) moved)
 
 pub returns-clause-named : goal.returns-clause-named
-returns-clause-named g c = λ told bytes shows.
-    (roots_end g.P.Ground c.args.geometry.now c.args.pages.now c.loop-root.pages c.args.units.now c.loop-root.units c.args.roots.now c.loop-root.root-index c.loop-root.balanced (omega arith) c.loop-root.invariant told bytes shows).named
+returns-clause-named g c =
+    let moved = was_before c.args.roots.items _ c.deref.result.now c.sort_unstable_by_key.ensures.permutation c.deref.ensures.value in
+    on_ok_weaker c.walk_grouped.result (λ h told bytes shows. named_moved c.args.geometry.now bytes c.deref.result.now c.args.roots.items moved (used_at c.args.units.now) (h told bytes shows)) c.walk_grouped.ensures.named
 
 pub returns-clause-balanced : goal.returns-clause-balanced
-returns-clause-balanced g c = λ told bytes shows.
-    let fine : c.loop-root.balanced ≡ true = search rules in
-    (roots_end g.P.Ground c.args.geometry.now c.args.pages.now c.loop-root.pages c.args.units.now c.loop-root.units c.args.roots.now c.loop-root.root-index c.loop-root.balanced (omega arith) c.loop-root.invariant told bytes shows).fine fine
+returns-clause-balanced g c =
+    let moved = was_before c.args.roots.items _ c.deref.result.now c.sort_unstable_by_key.ensures.permutation c.deref.ensures.value in
+    on_ok_weaker c.walk_grouped.result (λ h told bytes shows. balanced_moved c.args.geometry.now bytes c.deref.result.now c.args.roots.items moved (h told bytes shows)) c.walk_grouped.ensures.balanced
 
 pub returns-clause-used : goal.returns-clause-used
-returns-clause-used g c = λ told bytes shows.
-    (roots_end g.P.Ground c.args.geometry.now c.args.pages.now c.loop-root.pages c.args.units.now c.loop-root.units c.args.roots.now c.loop-root.root-index c.loop-root.balanced (omega arith) c.loop-root.invariant told bytes shows).taken
+returns-clause-used g c =
+    let moved = was_before c.args.roots.items _ c.deref.result.now c.sort_unstable_by_key.ensures.permutation c.deref.ensures.value in
+    on_ok_weaker c.walk_grouped.result (λ h told bytes shows. uses_moved c.args.geometry.now bytes c.deref.result.now c.args.roots.items moved (used_at c.args.units.now) (used_at c.walk_grouped.new.units) (h told bytes shows)) c.walk_grouped.ensures.used
 
--- units without a reference
-none_counted : (units : UnitSet) → refs_at units ≡ (λ _. 0) → AreCounted units
-none_counted units fresh = record {
-  owned = λ unit some. absurd (omega (arith, some, ap (λ (f : ℕ → ℕ). f unit) fresh));
-  few = λ unit. omega (arith, ap (λ (f : ℕ → ℕ). f unit) fresh);
-}
-
-pub loop-root-init : goal.loop-root-init
-loop-root-init g c = roots_start g.P.Ground c.args.geometry.now c.args.pages.now c.args.units.now c.args.roots.now (none_counted c.args.units.now c.requires.fresh)
+pub returns-clause-bad : goal.returns-clause-bad
+returns-clause-bad g c = λ part is told bytes shows.
+    let moved = was_before c.args.roots.items _ c.deref.result.now c.sort_unstable_by_key.ensures.permutation c.deref.ensures.value in
+    fails_moved c.args.geometry.now bytes c.args.roots.items c.deref.result.now (IsPermutation-sym c.deref.result.now c.args.roots.items moved) (used_at c.args.units.now) part (c.walk_grouped.ensures.bad part is told bytes shows)
 
 pub returns-clause-owned : goal.returns-clause-owned
-returns-clause-owned g c = λ told bytes shows logged is_used.
-    let now = c.loop-root.units in
-    let counts = counts_end g.P.Ground c.args.geometry.now c.args.pages.now c.loop-root.pages c.args.units.now now c.args.roots.now c.loop-root.root-index c.loop-root.balanced (omega arith) c.loop-root.invariant told bytes shows in
-    all_owned c.args.geometry.now bytes (root_pages c.args.roots.now) logged (used_at c.args.units.now) (used_at now) (refs_at c.args.units.now) (refs_at now) c.requires.fresh is_used c.loop-root.invariant.counted.owned counts
-
-pub returns-in_err-same-clause-stays : goal.returns-in_err-same-clause-stays
-returns-in_err-same-clause-stays g c = λ unit is. c.in_err-same.ensures.stays unit (c.loop-root.invariant.stays unit is)
+returns-clause-owned g c =
+    let moved = was_before c.args.roots.items _ c.deref.result.now c.sort_unstable_by_key.ensures.permutation c.deref.ensures.value in
+    let back = IsPermutation-sym c.deref.result.now c.args.roots.items moved in
+    on_ok_weaker c.walk_grouped.result (λ h told bytes shows few logged used.
+    owned_moved c.args.geometry.now bytes c.deref.result.now c.args.roots.items moved (used_at c.walk_grouped.new.units) (refs_at c.walk_grouped.new.units) logged
+    (h told bytes shows (few_moved c.args.geometry.now bytes c.args.roots.items c.deref.result.now back few) logged used)) c.walk_grouped.ensures.owned

@@ -1,21 +1,22 @@
-use Rattle.std.proofs.Common.{◌≡◌, ◌<◌, arith, refl, true≢false, ℕ, List, ◌∷◌, sym, ap, subst, ◌∙◌}
+use Rattle.std.proofs.Common.{◌≡◌, ◌<◌, ◌≤◌, length, arith, refl, true≢false, ℕ, List, ◌∷◌, sym, ap, subst, ◌∙◌}
 use Rattle.std.specs.List.{AllByRecursion}
 use Rattle.ex_base.specs.declared.geometry.Geometry.{Geometry}
 use Rattle.ex_base.specs.declared.names.PageNo.{PageNo}
-use Rattle.ex_base.specs.declared.names.Root.{Root}
 use Rattle.ex_base.specs.Area.{area_end, catalog_no}
 use Rattle.file_walk.specs.declared.Found.{Found}
 use Rattle.file_walk.specs.Numbers.{AreGoodNumbers, uniques}
 use Rattle.file_walk.specs.Parts.{HasWalked, IsBadFiles}
 use Rattle.file_walk.specs.Walk.{page_numbers}
-use Rattle.node_walk.specs.TreesNamed.{AreBalanced, AreNamed, FailsFirst, ShowsPages, UsesTrees}
+use Rattle.node_walk.specs.declared.ObjectRoot.{ObjectRoot}
+use Rattle.node_walk.specs.TreesNamed.{AreBalanced, AreNamed, FailsFirst, ShowsPages, UsesTrees, trees_in}
 use Rattle.page_alloc.specs.UnitSet.{IsFitting, refs_at, used_at}
 use Rattle.session_views.specs.declared.part.Part.TheVariants.{Unique}
 use Rattle.trees.specs.Owners.{IsOwned, root_pages}
 use Rattle.trees.specs.Trees.{Units as Bytes}
+use Rattle.volume_model.specs.OwnersMoved.{roots_most}
 use Rattle.restart.specs.declared.content.Reached.{Reached}
 use Rattle.restart.specs.Content.{AreHeld, IsFirstBad, roots_found}
-use Rattle.restart.proofs.FilesTested.{UsedAre, files_bad, files_reached, trees_bad, unique_bad, used_are}
+use Rattle.restart.proofs.FilesTested.{UsedAre, few_listed, files_bad, files_reached, trees_bad, unique_bad, used_are}
 use Rattle.ex_base.proofs.Counts.{used_times}
 use Rattle.restart.proofs.Superblocks.{fault_of, same_fault}
 use Rattle.restart.proofs.UnitsNamed.{counted}
@@ -46,8 +47,8 @@ pub walk_trees-requires-clause-fresh : goal.walk_trees-requires-clause-fresh
 walk_trees-requires-clause-fresh g c = c.walk_files.ensures.units.refs ∙ c.in-Ok.ensures.refs
 
 -- the roots that the trees were walked from
-roots_now : (g : given.Over) (c : After-walk_trees g) → c.deref-2.result.now ≡ roots_found c.in-Ok-walk_files.walked.records.items
-roots_now g c = c.deref-2.ensures.value ∙ (c.in-Ok-roots_of.ensures.roots ∙ ap roots_found c.deref.ensures.value)
+roots_now : (g : given.Over) (c : After-walk_trees g) → c.in-Ok-roots_of.roots.items ≡ roots_found c.in-Ok-walk_files.walked.records.items
+roots_now g c = c.in-Ok-roots_of.ensures.roots ∙ ap roots_found c.deref.ensures.value
 
 told_later : (g : given.Over) (c : After-walk_trees g) → g.P.Ground.tells c.args.pages.now → g.P.Ground.tells c.walk_files.new.pages
 told_later g c told = g.P.Ground.leads_told c.args.pages.now c.walk_files.new.pages c.walk_files.ensures.kept.leads told
@@ -66,7 +67,7 @@ returns-in-Err-walk_trees-clause-bad g c part is told bytes shows =
     let after = (goal.at.returns-in-Err-walk_trees-clause-bad g c).After-walk_trees in
     let h = c.args.geometry.now in
     trees_bad h bytes c.args.catalog.now c.in-Ok-walk_files.walked (files_told g after bytes told shows) (used_at c.walk_files.new.units) (used_files g after) part
-    (subst (λ (roots : List Root). FailsFirst h bytes (used_at c.walk_files.new.units) roots part) (roots_now g after)
+    (subst (λ (roots : List ObjectRoot). FailsFirst h bytes (used_at c.walk_files.new.units) roots part) (roots_now g after)
     (c.walk_trees.ensures.bad part (c.in-Err-walk_trees.is ∙ ap (fault_of _) (same_fault Reached c.in-Err-walk_trees.fault _ is)) (told_later g after told) bytes (shown_later g after bytes shows)))
 
 -- once the trees passed
@@ -82,7 +83,7 @@ returns-in-Ok-false-clause-bad g c part is told bytes shows =
     subst (IsFirstBad h bytes c.args.catalog.now) (sym same)
     (unique_bad h bytes c.args.catalog.now c.in-Ok-walk_files.walked (files_told g after bytes told shows) (used_at c.walk_files.new.units) (used_files g after)
     (subst (AreNamed h bytes (used_at c.walk_files.new.units)) (roots_now g after) (trees.named later bytes shown))
-    (subst (AreBalanced h bytes) (roots_now g after) (trees.balanced later bytes shown))
+    (subst (λ (roots : List ObjectRoot). AreBalanced h bytes (trees_in roots)) (roots_now g after) (trees.balanced later bytes shown))
     (λ good. true≢false (sym (c.in-Ok-false.ensures.1 (good_here c.as_slice.ensures.value c.next_unique.ensures good)) ∙ c.in-Ok-false.field-0-test)))
 
 pub returns-in-Err-walk_trees-clause-kept : goal.returns-in-Err-walk_trees-clause-kept
@@ -96,13 +97,13 @@ returns-in-Err-has_good_numbers-clause-kept g c = keeps_on g.P.Ground _ _ _ c.wa
 
 pub logged_pages-requires : goal.logged_pages-requires
 logged_pages-requires g c =
-    subst (λ (pages : List PageNo). AllByRecursion (λ (page : PageNo). page.0 < area_end c.args.geometry.now) pages) (sym c.deref-3.ensures.value)
+    subst (λ (pages : List PageNo). AllByRecursion (λ (page : PageNo). page.0 < area_end c.args.geometry.now) pages) (sym c.deref-2.ensures.value)
     (inside_of (g.P.Ground.geometry c.args.pages.now) c.args.geometry.now c.in-Ok-walk_files.walked.pages.items c.requires.geometry c.in-Ok-walk_files.ensures.area)
 
 pub returns-in-Ok-logged_pages-clause-reached : goal.returns-in-Ok-logged_pages-clause-reached
 returns-in-Ok-logged_pages-clause-reached g c =
     let after = (goal.at.returns-in-Ok-logged_pages-clause-reached g c).After-walk_trees in
-    let held = subst (λ (pages : List PageNo). AreHeld c.in-Ok-logged_pages.pages (page_numbers pages)) c.deref-3.ensures.value c.in-Ok-logged_pages.ensures.held in
+    let held = subst (λ (pages : List PageNo). AreHeld c.in-Ok-logged_pages.pages (page_numbers pages)) c.deref-2.ensures.value c.in-Ok-logged_pages.ensures.held in
     let geometry = c.walk_trees.ensures.geometry ∙ (c.walk_files.ensures.units.geometry ∙ c.in-Ok.ensures.geometry) in
     record {
       counted = counted c.args.geometry.now c.walk_trees.new.units (subst IsFitting c.units-2.view_is c.units-2.invariant) geometry c.in-Ok-walk_trees.ensures.counted;
@@ -122,12 +123,12 @@ returns-in-Ok-logged_pages-clause-holds g c told bytes shows =
     let logged : List ℕ = catalog_no ∷ page_numbers c.in-Ok-walk_files.walked.pages.items in
     files_reached h bytes c.args.catalog.now c.in-Ok-walk_files.walked (files_told g after bytes told shows) (used_at c.walk_files.new.units) (used_files g after) r
     (subst (AreNamed h bytes (used_at c.walk_files.new.units)) (roots_now g after) (trees.named later bytes shown))
-    (subst (AreBalanced h bytes) (roots_now g after) (trees.balanced later bytes shown))
+    (subst (λ (roots : List ObjectRoot). AreBalanced h bytes (trees_in roots)) (roots_now g after) (trees.balanced later bytes shown))
     (here_good c.as_slice.ensures.value c.next_unique.ensures (c.in-Ok-true.ensures.0 c.in-Ok-true.field-0-test))
-    (subst (λ (roots : List Root). UsesTrees bytes roots (used_at c.walk_files.new.units) (used_at c.walk_trees.new.units)) (roots_now g after) (trees.used later bytes shown))
-    (subst (λ (roots : List Root). IsOwned h bytes (used_at c.walk_trees.new.units) (refs_at c.walk_trees.new.units) logged (root_pages roots)) (roots_now g after)
-    (trees.owned later bytes shown logged (used_times (used_at c.walk_files.new.units) logged (used_files g after))))
-    (subst (λ (pages : List PageNo). AreHeld c.in-Ok-logged_pages.pages (page_numbers pages)) c.deref-3.ensures.value c.in-Ok-logged_pages.ensures.held)
+    (subst (λ (roots : List ObjectRoot). UsesTrees bytes (trees_in roots) (used_at c.walk_files.new.units) (used_at c.walk_trees.new.units)) (roots_now g after) (trees.used later bytes shown))
+    (subst (λ (roots : List ObjectRoot). IsOwned h bytes (used_at c.walk_trees.new.units) (refs_at c.walk_trees.new.units) logged (root_pages (trees_in roots))) (roots_now g after)
+    (trees.owned later bytes shown (subst (λ (roots : List ObjectRoot). length roots ≤ roots_most) (sym (roots_now g after)) (few_listed h bytes c.args.catalog.now c.in-Ok-walk_files.walked (files_told g after bytes told shows) (used_at c.walk_files.new.units) (used_files g after))) logged (used_times (used_at c.walk_files.new.units) logged (used_files g after))))
+    (subst (λ (pages : List PageNo). AreHeld c.in-Ok-logged_pages.pages (page_numbers pages)) c.deref-2.ensures.value c.in-Ok-logged_pages.ensures.held)
 
 pub returns-in-Ok-logged_pages-clause-kept : goal.returns-in-Ok-logged_pages-clause-kept
 returns-in-Ok-logged_pages-clause-kept g c = keeps_on g.P.Ground _ _ _ c.walk_files.ensures.kept c.walk_trees.ensures.kept

@@ -1,22 +1,61 @@
+use Rattle.std.proofs.Common.{◌≡◌, ◌∙◌, ◌∷◌, sym, rules}
+use Rattle.table_model.specs.Requests.{request_of}
 use Rattle.script_lang.specs.LineWords.{words_of}
-use Rattle.script_lang.specs.Parsed.{reading_of}
-use Rattle.script_lang.proofs.Built.{unbuilt_says, unbuilt_one, built_says, every_says}
+use Rattle.script_lang.specs.Reading.{Asks}
+use Rattle.script_lang.proofs.Keeps.{asked_kept}
+use Rattle.script_lang.proofs.Laws.{line_unknown, line_said, refused}
 use Rattle.script_lang.proofs.parser.parse.Goals as goal
 
-pub returns-then-begins_unbuilt-clause-says : goal.returns-then-begins_unbuilt-clause-says
-returns-then-begins_unbuilt-clause-says c =
-    let found = c.begins_unbuilt.ensures.unbuilt c.if-begins_unbuilt.true in
-    unbuilt_says (words_of c.args.line.now) found.0 found.1 found.2
+pub returns-in_default-verb_of-clause-says : goal.returns-in_default-verb_of-clause-says
+returns-in_default-verb_of-clause-says c =
+    let words = words_of c.args.line.now in
+    let rest = words_of c.next.new.self.0.now in
+    let e : words ≡ c.in-Some.first.now ∷ rest = search rules in
+    (line_unknown words c.in-Some.first.now rest e (sym c.begins_comment.ensures ∙ c.if-begins_comment.false) c.in_default-verb_of.ensures).0
 
-pub returns-then-begins_unbuilt-clause-one : goal.returns-then-begins_unbuilt-clause-one
-returns-then-begins_unbuilt-clause-one c =
-    let found = c.begins_unbuilt.ensures.unbuilt c.if-begins_unbuilt.true in
-    unbuilt_one (words_of c.args.line.now) found.0 found.1 found.2
+pub returns-in_default-verb_of-clause-one : goal.returns-in_default-verb_of-clause-one
+returns-in_default-verb_of-clause-one c =
+    let words = words_of c.args.line.now in
+    let rest = words_of c.next.new.self.0.now in
+    let e : words ≡ c.in-Some.first.now ∷ rest = search rules in
+    (line_unknown words c.in-Some.first.now rest e (sym c.begins_comment.ensures ∙ c.if-begins_comment.false) c.in_default-verb_of.ensures).1
 
-pub returns-clause-says : goal.returns-clause-says
-returns-clause-says c =
-    built_says (words_of c.args.line.now) (c.begins_unbuilt.ensures.built c.if-begins_unbuilt.false) (reading_of c.parse_any.result) c.parse_any.ensures.says
+pub returns-in-Ok-clause-says : goal.returns-in-Ok-clause-says
+returns-in-Ok-clause-says c =
+    let words = words_of c.args.line.now in
+    let rest = words_of c.next.new.self.0.now in
+    let e : words ≡ c.in-Some.first.now ∷ rest = search rules in
+    (line_said words c.in-Some.first.now rest c.in-Some-verb_of.verb _ e c.in-Some-verb_of.ensures c.in-Ok.ensures).0
 
-pub returns-clause-one : goal.returns-clause-one
-returns-clause-one c = λ reading h.
-    c.parse_any.ensures.one reading (every_says (words_of c.args.line.now) (c.begins_unbuilt.ensures.built c.if-begins_unbuilt.false) reading h)
+pub returns-in-Ok-clause-one : goal.returns-in-Ok-clause-one
+returns-in-Ok-clause-one c =
+    let words = words_of c.args.line.now in
+    let rest = words_of c.next.new.self.0.now in
+    let e : words ≡ c.in-Some.first.now ∷ rest = search rules in
+    (line_said words c.in-Some.first.now rest c.in-Some-verb_of.verb _ e c.in-Some-verb_of.ensures c.in-Ok.ensures).1
+
+pub returns-in-Err-clause-says : goal.returns-in-Err-clause-says
+returns-in-Err-clause-says c =
+    let words = words_of c.args.line.now in
+    let rest = words_of c.next.new.self.0.now in
+    let e : words ≡ c.in-Some.first.now ∷ rest = search rules in
+    (line_said words c.in-Some.first.now rest c.in-Some-verb_of.verb _ e c.in-Some-verb_of.ensures c.in-Err.ensures).0
+
+pub returns-in-Err-clause-one : goal.returns-in-Err-clause-one
+returns-in-Err-clause-one c =
+    let words = words_of c.args.line.now in
+    let rest = words_of c.next.new.self.0.now in
+    let e : words ≡ c.in-Some.first.now ∷ rest = search rules in
+    (line_said words c.in-Some.first.now rest c.in-Some-verb_of.verb _ e c.in-Some-verb_of.ensures c.in-Err.ensures).1
+
+pub returns-in-Err-clause-refusals : goal.returns-in-Err-clause-refusals
+returns-in-Err-clause-refusals c =
+    refused c.in-Some-verb_of.verb _ _ c.in-Err.ensures
+
+pub returns-in-Ok-clause-form : goal.returns-in-Ok-clause-form
+returns-in-Ok-clause-form c =
+    let words = words_of c.args.line.now in
+    let rest = words_of c.next.new.self.0.now in
+    let e : words ≡ c.in-Some.first.now ∷ rest = search rules in
+    let said = (line_said words c.in-Some.first.now rest c.in-Some-verb_of.verb (Asks (request_of c.in-Ok.command)) e c.in-Some-verb_of.ensures c.in-Ok.ensures).0 in
+    asked_kept words (request_of c.in-Ok.command) said.0 said.1

@@ -1,6 +1,7 @@
 use Rattle.std.proofs.Common.{◌≡◌, drop}
 use Rattle.std.specs.Prelude.{find, flat_map}
-use Rattle.table_model.specs.Tables.{has_oid, versions_in}
+use Rattle.table_model.specs.Tables.{versions_in}
+use Rattle.version_lists.specs.Versions.{has_oid}
 use Rattle.table_lists.specs.Keys.{oid_of_key}
 use Rattle.table_lists.proofs.find.in_files.Given as goal
 

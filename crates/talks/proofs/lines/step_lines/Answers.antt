@@ -155,7 +155,7 @@ lines-preserved g c =
               reached = λ opening was same opens.
                   let so_far = reached_taken lines_world c.advance.ensures.only (old.reached opening was same opens) in
                   let stepped = w.in-Ok.ensures.stepped so_far.view so_far.is so_far.shows in
-                  reached_answered so_far (K.tells at told (reply_of_step so_far w.in-Step.ensures.formed.0 stepped)) stepped
+                  reached_answered so_far (K.tells at told (reply_of_step so_far w.in-Step.ensures.formed stepped)) stepped
                   early w.step.ensures.only (w.step.ensures.any_moment so_far.view so_far.is so_far.shows) world sent;
             };
           })
@@ -199,7 +199,7 @@ returns-in_err-tell-clause-cut g c =
             cut = λ opening was same opens.
                 let so_far = reached_taken lines_world c.advance.ensures.only (old.reached opening was same opens) in
                 let stepped = w.in-Ok.ensures.stepped so_far.view so_far.is so_far.shows in
-                cut_answered (K.text at) so_far (K.tells at told (reply_of_step so_far w.in-Step.ensures.formed.0 stepped)) stepped
+                cut_answered (K.text at) so_far (K.tells at told (reply_of_step so_far w.in-Step.ensures.formed stepped)) stepped
                 early w.step.ensures.only (w.step.ensures.any_moment so_far.view so_far.is so_far.shows) why part;
           }
     ])

@@ -3,7 +3,8 @@ use Rattle.table_model.specs.Requests.{reference_of}
 use Rattle.session_views.specs.declared.engine.Stop.TheVariants as stop
 use Rattle.transactions.specs.Asking.{asked_change}
 use Rattle.transactions.proofs.Changed.{admitted_so, answered_so, change_refused, change_stopped, changed_so, within_so}
-use Rattle.transactions.proofs.UpdateLines.{WentOn, line_stopped}
+use Rattle.transactions.specs.Lines.{WentOn}
+use Rattle.transactions.proofs.UpdateLines.{line_stopped}
 use Rattle.transactions.proofs.changes.change.Goals as goal
 
 pub returns-in-Ok-Err : goal.returns-in-Ok-Err

@@ -42,7 +42,7 @@ returns-in-Space-clause-answers g c =
     (subst (λ (told : Reply). StepsQuietly (g.H.World.outside c.args.host.now) (g.H.World.outside c.args.host.now) c.args.session.now c.args.session.now request.Space (Ok told)) (sym c.space.ensures) (space_quietly c.args.session.now c.requires.session))
 
 pub returns-in_default-clause-answers : goal.returns-in_default-clause-answers
-returns-in_default-clause-answers g c = c.answer_objects.ensures
+returns-in_default-clause-answers g c = c.answer_objects.ensures.answers
 
 pub returns-in-Group-clause-answers : goal.returns-in-Group-clause-answers
 returns-in-Group-clause-answers g c =

@@ -1,5 +1,5 @@
 use Rattle.std.proofs.Common.{◌-◌}
-use Rattle.version_model.specs.Listed.{start_rank}
+use Rattle.versions.specs.Listed.{start_rank}
 use Rattle.version_tree.proofs.MemberRows.{CollectedTo}
 use Rattle.version_tree.proofs.all_versions.collect.Given as goal
 

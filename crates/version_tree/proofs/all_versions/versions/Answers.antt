@@ -8,7 +8,7 @@ use Rattle.file_bodies.specs.Bodies.{bodies_of}
 use Rattle.file_bodies.specs.Files.{HasBody}
 use Rattle.file_bodies.proofs.Blame.{carried}
 use Rattle.file_bodies.proofs.Moving.{kept_body}
-use Rattle.version_model.specs.Versions.{place_of}
+use Rattle.versions.specs.Versions.{place_of}
 use Rattle.versions.specs.Damage.{own}
 use Rattle.version_tree.specs.Lineage.{listed, member_of}
 use Rattle.version_tree.specs.Links.{IsWalkFault, at_link, by_link, by_walk, to_link}

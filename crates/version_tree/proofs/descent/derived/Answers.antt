@@ -10,7 +10,7 @@ use Rattle.file_bodies.specs.Bodies.{bodies_of}
 use Rattle.file_bodies.specs.Files.{HasBody}
 use Rattle.file_bodies.proofs.Blame.{carried}
 use Rattle.file_bodies.proofs.Moving.{kept_body}
-use Rattle.version_model.specs.Versions.{place_of}
+use Rattle.versions.specs.Versions.{place_of}
 use Rattle.versions.specs.Damage.{own}
 use Rattle.version_tree.specs.Linked.{oids_from}
 use Rattle.version_tree.specs.Links.{IsWalkFault, StoredAt, at_link, by_link, by_walk, to_link}

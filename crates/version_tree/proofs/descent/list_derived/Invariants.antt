@@ -1,5 +1,5 @@
 use Rattle.std.proofs.Common.{◌-◌}
-use Rattle.version_model.specs.Listed.{start_rank}
+use Rattle.versions.specs.Listed.{start_rank}
 use Rattle.version_tree.proofs.DerivedRows.{DerivedTo}
 use Rattle.version_tree.proofs.descent.list_derived.Given as goal
 

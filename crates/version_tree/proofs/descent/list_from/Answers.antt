@@ -3,7 +3,7 @@ use Rattle.std.proofs.lemmas.Result.{IfOk-weaker, IfErr-weaker}
 use Rattle.file_bodies.specs.Bodies.{bodies_of}
 use Rattle.file_bodies.proofs.Blame.{carried}
 use Rattle.file_bodies.proofs.Moving.{kept_file}
-use Rattle.version_model.specs.Listed.{AreReadable}
+use Rattle.versions.specs.Listed.{AreReadable}
 use Rattle.versions.specs.Damage.{IsListingFault}
 use Rattle.version_tree.specs.Linked.{oids_from}
 use Rattle.version_tree.specs.Links.{at_start, on_way}

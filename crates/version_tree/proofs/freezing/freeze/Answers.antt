@@ -9,7 +9,7 @@ use Rattle.ex_base.proofs.Results.{if_err_handed}
 use Rattle.object_records.specs.declared.Head.{Head}
 use Rattle.file_bodies.proofs.Blame.{carried_held}
 use Rattle.file_bodies.proofs.Moving.{kept_body}
-use Rattle.version_model.specs.Versions.{place_of}
+use Rattle.versions.specs.Versions.{place_of}
 use Rattle.version_tree.specs.Copies.{Freezes, IsCopyFault, copying, linked}
 use Rattle.versions.specs.Damage.{unread}
 use Rattle.version_tree.specs.Links.{at_link, to_link}

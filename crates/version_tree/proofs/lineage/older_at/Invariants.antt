@@ -4,4 +4,4 @@ use Rattle.version_tree.specs.Lineage.{stands_at}
 use Rattle.version_tree.proofs.lineage.older_at.Given as goal
 
 abbrev pub invariant-members : goal.invariant-members
-invariant-members l = find (stands_at l.place) (take l.member-index l.members) ≡ None
+invariant-members l = find (stands_at l.place) (take l.member-index l.run) ≡ None

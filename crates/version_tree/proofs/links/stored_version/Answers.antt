@@ -8,7 +8,7 @@ use Rattle.file_bodies.specs.Files.{HasBody}
 use Rattle.file_bodies.proofs.Belonging.{file_of_body}
 use Rattle.file_bodies.proofs.Blame.{carried}
 use Rattle.file_bodies.proofs.Moving.{kept_body}
-use Rattle.version_model.specs.Versions.{place_of}
+use Rattle.versions.specs.Versions.{place_of}
 use Rattle.versions.specs.Damage.{record_fault, IsStepFault, unread}
 use Rattle.version_tree.specs.Links.{IsStored, at_link, to_version, to_link}
 use Rattle.versions.proofs.Results.{none_some}

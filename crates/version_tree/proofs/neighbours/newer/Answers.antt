@@ -1,7 +1,7 @@
 use Rattle.ex_base.proofs.Results.{if_err_handed}
 use Rattle.file_bodies.proofs.Moving.{kept_body}
 use Rattle.object_records.specs.declared.Head.{Head}
-use Rattle.version_model.specs.Versions.{place_of}
+use Rattle.versions.specs.Versions.{place_of}
 use Rattle.version_tree.specs.Links.{to_link}
 use Rattle.version_tree.proofs.Linking.{kept_linked, linked_limits, link_kept, neighbour_told}
 use Rattle.version_tree.proofs.neighbours.newer.Goals as goal

@@ -1,7 +1,7 @@
 use Rattle.std.proofs.Common.{rules, ◌≡◌, Some, sym, ap, ◌∙◌, arith}
 use Rattle.std.specs.Prelude.{filter}
 use Rattle.std.proofs.lemmas.Fn.{filter_same}
-use Rattle.version_model.specs.Versions.{place_of}
+use Rattle.versions.specs.Versions.{place_of}
 use Rattle.version_tree.specs.Removals.{leads_elsewhere, only_lead}
 use Rattle.version_tree.proofs.TakenOut.{many_lead, one_lead}
 use Rattle.version_tree.proofs.taking_out.only_lead.Goals as goal

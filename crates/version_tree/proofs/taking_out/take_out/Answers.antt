@@ -10,7 +10,7 @@ use Rattle.object_records.specs.declared.Head.{Head}
 use Rattle.file_bodies.specs.Bodies.{bodies_of}
 use Rattle.file_bodies.proofs.Blame.{carried, carried_held}
 use Rattle.file_bodies.proofs.Moving.{kept_body}
-use Rattle.version_model.specs.Versions.{place_of}
+use Rattle.versions.specs.Versions.{place_of}
 use Rattle.versions.specs.Damage.{unread}
 use Rattle.version_tree.specs.Links.{IsWalkFault, at_link, to_link}
 use Rattle.version_tree.specs.Removals.{IsBranch, IsRemovingFault, of_links, of_search, of_version, other_from}

@@ -7,9 +7,9 @@ use Rattle.versions.proofs.Fed.{FedTo, fed_more}
 use Rattle.versions.proofs.digesting.digest_at.Goals as goal
 
 pub returns-in-Err-clause-sound : goal.returns-in-Err-clause-sound
-returns-in-Err-clause-sound g c = λ damage told index content bytes has enough.
+returns-in-Err-clause-sound g c = λ damage told index head content bytes has enough.
     let kept = c.pieces.invariant.kept in
-    c.in-Err.ensures.sound damage (g.V.Ground.leads_told c.args.volume.now c.pieces.volume kept.leads told) index content bytes (kept_holds g.V.Ground c.args.volume.now c.pieces.volume index c.args.oid.now content bytes kept has)
+    c.in-Err.ensures.sound damage (g.V.Ground.leads_told c.args.volume.now c.pieces.volume kept.leads told) index head content bytes (kept_holds g.V.Ground c.args.volume.now c.pieces.volume index c.args.oid.now head content bytes kept has)
     (omega (arith, enough, c.pieces.invariant.inside, c.pieces-test.true, c.piece_len-len.ensures, length-take {A = ℕ}))
 
 pub returns-in-Err-clause-fault : goal.returns-in-Err-clause-fault
@@ -24,7 +24,7 @@ pieces-preserved g c =
     (omega (arith, c.pieces.invariant.inside, c.pieces-test.true, c.piece_len-len.ensures, length-take {A = ℕ})))
 
 pub returns-clause-hash : goal.returns-clause-hash
-returns-clause-hash g c = λ told index content bytes has.
-    let so_far = c.pieces.invariant.fed told index content bytes has in
+returns-clause-hash g c = λ told index head content bytes has.
+    let so_far = c.pieces.invariant.fed told index head content bytes has in
     let same : c.pieces.at ≡ c.args.size = omega (arith, c.pieces.invariant.inside, c.pieces-test.false) in
     (subst (λ (n : ℕ). n ≤ length bytes) same so_far.0, c.finalize.ensures (take c.args.size bytes) (subst (λ (n : ℕ). Holds256 c.pieces.hasher (take n bytes)) same so_far.1))

@@ -3,6 +3,6 @@ use Rattle.sha2.specs.Hashers.{Holds256}
 use Rattle.versions.proofs.digesting.feed.Goals as goal
 
 pub returns-in-Ok-clause-fed : goal.returns-in-Ok-clause-fed
-returns-in-Ok-clause-fed g c = λ told index content bytes has.
-    let read = c.in-Ok.ensures.bytes told index content bytes has in
+returns-in-Ok-clause-fed g c = λ told index head content bytes has.
+    let read = c.in-Ok.ensures.bytes told index head content bytes has in
     (read.0, λ message holds. subst (λ (piece : List ℕ). Holds256 c.update.new.self (message ++ piece)) read.1 (c.update.ensures message holds))

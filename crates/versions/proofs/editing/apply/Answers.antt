@@ -2,12 +2,13 @@ use Rattle.std.proofs.Common.{◌≡◌, ◌≢◌, ℕ, true, false, length, su
 use Rattle.ex_base.specs.declared.geometry.Geometry.{Geometry}
 use Rattle.ex_base.specs.declared.names.Area.{Area}
 use Rattle.object_records.specs.Record.{Content, Small, Large}
+use Rattle.object_records.specs.declared.Head.{Head}
 use Rattle.std.proofs.lemmas.Result.{on_ok_weaker, IfOk-weaker, IfErr-weaker}
 use Rattle.ex_base.proofs.Options.{at_some}
 use Rattle.file_bodies.proofs.Belonging.{file_of_body}
 use Rattle.versions.specs.declared.editing.Edited.{Edited}
 use Rattle.versions.specs.declared.finding.Found.{Found}
-use Rattle.version_model.specs.Versions.{HasVersion, StaysSmall, InRange, changed, count_of, place_of}
+use Rattle.versions.specs.Versions.{HasVersion, StaysSmall, InRange, changed, count_of, place_of}
 use Rattle.ex_base.specs.Needs.{growth_need}
 use Rattle.ex_base.proofs.Results.{if_err_handed, on_ok_both}
 use Rattle.versions.specs.Needs.{most_need, height_in}
@@ -15,98 +16,104 @@ use Rattle.versions.specs.Edited.{change_of, TurnsVersion}
 use Rattle.versions.specs.Damage.{record_fault, looking, small, large, unlike}
 use Rattle.versions.proofs.Faults.{root_at, bytes_kept, version_kept}
 use Rattle.versions.proofs.Results.{none_some, same_some, ok_of}
-use Rattle.versions.proofs.Standing.{version_readable, holds_of, kept_version, small_content, large_content}
+use Rattle.versions.proofs.Standing.{version_readable, holds_of, head_told, kept_version, small_content, large_content}
 use Rattle.versions.proofs.Needed.{same_length, grows, edit_need_is}
 use Rattle.versions.proofs.Becoming.{kept_turned, kept_in_use, kept_stays, less_stays}
 use Rattle.versions.proofs.editing.apply.Goals as goal
 
 pub returns-in_err-found-clause-sound : goal.returns-in_err-found-clause-sound
-returns-in_err-found-clause-sound g c = if_err_handed c.from_residual-in_err-found.result _ _ c.from_residual-in_err-found.ensures.1 (λ damage told in_use index content bytes has range need. none_some c.in_ok-told.told _ c.in_err-found.ensures.fault.0 (c.in_ok-told.ensures.told told index _ has.stored))
+returns-in_err-found-clause-sound g c = if_err_handed c.from_residual-in_err-found.result _ _ c.from_residual-in_err-found.ensures.1 (λ damage told in_use index head content bytes has current range need. none_some c.in_ok-told.told _ c.in_err-found.ensures.fault.0 (c.in_ok-told.ensures.told told index _ has.stored))
 
 pub returns-in_err-told-clause-sound : goal.returns-in_err-told-clause-sound
-returns-in_err-told-clause-sound g c = if_err_handed c.from_residual.result _ _ c.from_residual.ensures.1 (λ damage told in_use index content bytes has range need.
+returns-in_err-told-clause-sound g c = if_err_handed c.from_residual.result _ _ c.from_residual.ensures.1 (λ damage told in_use index head content bytes has current range need.
     c.in_err-told.ensures.sound damage told (file_of_body g.V.Ground c.args.volume.now index (place_of c.args.oid.now) has.stored.body has.stored.stands)
-    (version_readable g.V.Ground c.args.volume.now index c.args.oid.now content bytes (holds_of g.V.Ground c.args.volume.now index c.args.oid.now content bytes has)))
+    (version_readable g.V.Ground c.args.volume.now index c.args.oid.now head content bytes (holds_of g.V.Ground c.args.volume.now index c.args.oid.now head content bytes has)))
 
 pub returns-in_err-check-clause-sound : goal.returns-in_err-check-clause-sound
-returns-in_err-check-clause-sound g c = if_err_handed c.from_residual-in_err-check.result _ _ c.from_residual-in_err-check.ensures.1 (λ damage told in_use index content bytes has range need.
-    let size : c.in_ok-found.found.size ≡ length bytes = at_some c.in_ok-told.told c.in_ok-found.found _ c.in_ok-found.ensures.some (c.in_ok-told.ensures.size told index content bytes (holds_of g.V.Ground c.args.volume.now index c.args.oid.now content bytes has)) in
+returns-in_err-check-clause-sound g c = if_err_handed c.from_residual-in_err-check.result _ _ c.from_residual-in_err-check.ensures.1 (λ damage told in_use index head content bytes has current range need.
+    let size : c.in_ok-found.found.size ≡ length bytes = at_some c.in_ok-told.told c.in_ok-found.found _ c.in_ok-found.ensures.some (c.in_ok-told.ensures.size told index head content bytes (holds_of g.V.Ground c.args.volume.now index c.args.oid.now head content bytes has)) in
     let f_is = same_some c.in_ok-told.told c.in_ok-found.found _ c.in_ok-found.ensures.some (c.in_ok-told.ensures.told told index _ has.stored) in
-    let yes : c.is_editable.result ≡ true = c.is_editable.ensures.1 (ap (λ (f : Found). f.head.state) f_is, subst (InRange (change_of c.args.edit.now)) (sym size) range) in
+    let yes : c.is_editable.result ≡ true = c.is_editable.ensures.1 (ap (λ (f : Found). f.head.state) f_is ∙ current, subst (InRange (change_of c.args.edit.now)) (sym size) range) in
     let isnt : c.is_editable.result ≡ false = c.in_err-check.ensures.fault.0 in
     cc)
 
 pub returns-then-count-eq0-clause-size : goal.returns-then-count-eq0-clause-size
-returns-then-count-eq0-clause-size g c = λ told index content bytes has.
+returns-then-count-eq0-clause-size g c = λ told index head content bytes has.
     let kept = c.find.ensures.kept in
     let told_n = g.V.Ground.leads_told c.args.volume.now c.find.new.volume kept.leads told in
-    let size : c.in_ok-found.found.size ≡ length bytes = at_some c.in_ok-told.told c.in_ok-found.found _ c.in_ok-found.ensures.some (c.in_ok-told.ensures.size told index content bytes (holds_of g.V.Ground c.args.volume.now index c.args.oid.now content bytes has)) in
+    let size : c.in_ok-found.found.size ≡ length bytes = at_some c.in_ok-told.told c.in_ok-found.found _ c.in_ok-found.ensures.some (c.in_ok-told.ensures.size told index head content bytes (holds_of g.V.Ground c.args.volume.now index c.args.oid.now head content bytes has)) in
     let range = subst (InRange (change_of c.args.edit.now)) size ((c.is_editable.ensures.0 c.in_ok-check.ensures.holds).1) in
     let f_is = same_some c.in_ok-told.told c.in_ok-found.found _ c.in_ok-found.ensures.some (c.in_ok-told.ensures.told told index _ has.stored) in
     (range, ap (λ (e : Edited). e.size) c.stayed.ensures ∙ size ∙ sym (same_length (change_of c.args.edit.now) bytes range (sym c.count.ensures ∙ c.if-count-eq0.true)))
 
 pub returns-in-None-clause-size : goal.returns-in-None-clause-size
-returns-in-None-clause-size g c = IfOk-weaker c.edit_small.result _ _ (λ n is told index content bytes has.
+returns-in-None-clause-size g c = IfOk-weaker c.edit_small.result _ _ (λ n is told index head content bytes has.
     let kept = c.find.ensures.kept in
     let told_n = g.V.Ground.leads_told c.args.volume.now c.find.new.volume kept.leads told in
-    let size : c.in_ok-found.found.size ≡ length bytes = at_some c.in_ok-told.told c.in_ok-found.found _ c.in_ok-found.ensures.some (c.in_ok-told.ensures.size told index content bytes (holds_of g.V.Ground c.args.volume.now index c.args.oid.now content bytes has)) in
+    let size : c.in_ok-found.found.size ≡ length bytes = at_some c.in_ok-told.told c.in_ok-found.found _ c.in_ok-found.ensures.some (c.in_ok-told.ensures.size told index head content bytes (holds_of g.V.Ground c.args.volume.now index c.args.oid.now head content bytes has)) in
     let range = subst (InRange (change_of c.args.edit.now)) size ((c.is_editable.ensures.0 c.in_ok-check.ensures.holds).1) in
     let f_is = same_some c.in_ok-told.told c.in_ok-found.found _ c.in_ok-found.ensures.some (c.in_ok-told.ensures.told told index _ has.stored) in
     let is_small : content ≡ Small bytes = small_content (g.V.Ground.geometry c.args.volume.now) (g.V.Ground.unit c.args.volume.now) content bytes (sym (ap (λ (f : Found). f.root) f_is) ∙ c.in-None.is) has.spells in
-    let has_n = kept_version g.V.Ground c.args.volume.now c.find.new.volume index c.args.oid.now (Small bytes) bytes kept (subst (λ (t : Content). HasVersion g.V.Ground c.args.volume.now index c.args.oid.now t bytes) is_small has) in
+    let has_n = kept_version g.V.Ground c.args.volume.now c.find.new.volume index c.args.oid.now c.in_ok-found.found.head (Small bytes) bytes kept
+    (head_told g.V.Ground c.args.volume.now index c.args.oid.now head c.in_ok-found.found.head (Small bytes) bytes (ap (λ (f : Found). f.head) f_is) (subst (λ (t : Content). HasVersion g.V.Ground c.args.volume.now index c.args.oid.now head t bytes) is_small has)) in
     (range, is told_n index bytes has_n (sym size))) c.edit_small.ensures.size
 
 pub returns-in-None-clause-edited : goal.returns-in-None-clause-edited
-returns-in-None-clause-edited g c = IfOk-weaker c.edit_small.result _ _ (λ done edits many told in_use index content bytes has.
+returns-in-None-clause-edited g c = IfOk-weaker c.edit_small.result _ _ (λ done edits many told in_use index head content bytes has.
     let kept = c.find.ensures.kept in
     let told_n = g.V.Ground.leads_told c.args.volume.now c.find.new.volume kept.leads told in
-    let size : c.in_ok-found.found.size ≡ length bytes = at_some c.in_ok-told.told c.in_ok-found.found _ c.in_ok-found.ensures.some (c.in_ok-told.ensures.size told index content bytes (holds_of g.V.Ground c.args.volume.now index c.args.oid.now content bytes has)) in
+    let size : c.in_ok-found.found.size ≡ length bytes = at_some c.in_ok-told.told c.in_ok-found.found _ c.in_ok-found.ensures.some (c.in_ok-told.ensures.size told index head content bytes (holds_of g.V.Ground c.args.volume.now index c.args.oid.now head content bytes has)) in
     let range = subst (InRange (change_of c.args.edit.now)) size ((c.is_editable.ensures.0 c.in_ok-check.ensures.holds).1) in
     let f_is = same_some c.in_ok-told.told c.in_ok-found.found _ c.in_ok-found.ensures.some (c.in_ok-told.ensures.told told index _ has.stored) in
     let is_small : content ≡ Small bytes = small_content (g.V.Ground.geometry c.args.volume.now) (g.V.Ground.unit c.args.volume.now) content bytes (sym (ap (λ (f : Found). f.root) f_is) ∙ c.in-None.is) has.spells in
-    let has_n = kept_version g.V.Ground c.args.volume.now c.find.new.volume index c.args.oid.now (Small bytes) bytes kept (subst (λ (t : Content). HasVersion g.V.Ground c.args.volume.now index c.args.oid.now t bytes) is_small has) in
+    let has_n = kept_version g.V.Ground c.args.volume.now c.find.new.volume index c.args.oid.now c.in_ok-found.found.head (Small bytes) bytes kept
+    (head_told g.V.Ground c.args.volume.now index c.args.oid.now head c.in_ok-found.found.head (Small bytes) bytes (ap (λ (f : Found). f.head) f_is) (subst (λ (t : Content). HasVersion g.V.Ground c.args.volume.now index c.args.oid.now head t bytes) is_small has)) in
     let in_use_n = kept_in_use g.V.Ground c.args.volume.now c.find.new.volume kept in_use in
-    kept_turned g.V.Ground c.args.volume.now c.find.new.volume c.edit_small.new.volume index c.args.oid.now content (change_of c.args.edit.now) (changed (change_of c.args.edit.now) bytes) done.gone done.come kept
-    (subst (λ (t : Content). TurnsVersion g.V.Ground c.find.new.volume c.edit_small.new.volume index c.args.oid.now t (change_of c.args.edit.now) (changed (change_of c.args.edit.now) bytes) done.gone done.come) (sym is_small) (edits told_n in_use_n (ap (λ (f : Found). f.head) f_is) index bytes has_n (sym size)))) c.edit_small.ensures.edited
+    kept_turned g.V.Ground c.args.volume.now c.find.new.volume c.edit_small.new.volume index c.args.oid.now head content (change_of c.args.edit.now) (changed (change_of c.args.edit.now) bytes) done.gone done.come kept
+    (subst (λ (h : Head). TurnsVersion g.V.Ground c.find.new.volume c.edit_small.new.volume index c.args.oid.now h content (change_of c.args.edit.now) (changed (change_of c.args.edit.now) bytes) done.gone done.come) (ap (λ (f : Found). f.head) f_is)
+    (subst (λ (t : Content). TurnsVersion g.V.Ground c.find.new.volume c.edit_small.new.volume index c.args.oid.now c.in_ok-found.found.head t (change_of c.args.edit.now) (changed (change_of c.args.edit.now) bytes) done.gone done.come) (sym is_small) (edits told_n in_use_n index bytes has_n (sym size))))) c.edit_small.ensures.edited
 
 pub returns-in-None-clause-small : goal.returns-in-None-clause-small
-returns-in-None-clause-small g c = on_ok_weaker c.edit_small.result (λ stay told index content bytes has stays.
+returns-in-None-clause-small g c = on_ok_weaker c.edit_small.result (λ stay told index head content bytes has stays.
     let kept = c.find.ensures.kept in
     let told_n = g.V.Ground.leads_told c.args.volume.now c.find.new.volume kept.leads told in
-    let size : c.in_ok-found.found.size ≡ length bytes = at_some c.in_ok-told.told c.in_ok-found.found _ c.in_ok-found.ensures.some (c.in_ok-told.ensures.size told index content bytes (holds_of g.V.Ground c.args.volume.now index c.args.oid.now content bytes has)) in
+    let size : c.in_ok-found.found.size ≡ length bytes = at_some c.in_ok-told.told c.in_ok-found.found _ c.in_ok-found.ensures.some (c.in_ok-told.ensures.size told index head content bytes (holds_of g.V.Ground c.args.volume.now index c.args.oid.now head content bytes has)) in
     let range = subst (InRange (change_of c.args.edit.now)) size ((c.is_editable.ensures.0 c.in_ok-check.ensures.holds).1) in
     let f_is = same_some c.in_ok-told.told c.in_ok-found.found _ c.in_ok-found.ensures.some (c.in_ok-told.ensures.told told index _ has.stored) in
     let is_small : content ≡ Small bytes = small_content (g.V.Ground.geometry c.args.volume.now) (g.V.Ground.unit c.args.volume.now) content bytes (sym (ap (λ (f : Found). f.root) f_is) ∙ c.in-None.is) has.spells in
-    let has_n = kept_version g.V.Ground c.args.volume.now c.find.new.volume index c.args.oid.now (Small bytes) bytes kept (subst (λ (t : Content). HasVersion g.V.Ground c.args.volume.now index c.args.oid.now t bytes) is_small has) in
+    let has_n = kept_version g.V.Ground c.args.volume.now c.find.new.volume index c.args.oid.now c.in_ok-found.found.head (Small bytes) bytes kept
+    (head_told g.V.Ground c.args.volume.now index c.args.oid.now head c.in_ok-found.found.head (Small bytes) bytes (ap (λ (f : Found). f.head) f_is) (subst (λ (t : Content). HasVersion g.V.Ground c.args.volume.now index c.args.oid.now head t bytes) is_small has)) in
     stay told_n index bytes has_n (sym size)
     (kept_stays g.V.Ground c.args.volume.now c.find.new.volume (place_of c.args.oid.now) (Small bytes) (length (changed (change_of c.args.edit.now) bytes)) kept (subst (λ (t : Content). StaysSmall g.V.Ground c.args.volume.now (place_of c.args.oid.now) t (length (changed (change_of c.args.edit.now) bytes))) is_small stays)) ∙ kept.free) c.edit_small.ensures.small
 
 pub returns-in-None-clause-free : goal.returns-in-None-clause-free
-returns-in-None-clause-free g c = on_ok_both c.edit_small.result _ _ _ (λ stay free told index content bytes has area.
+returns-in-None-clause-free g c = on_ok_both c.edit_small.result _ _ _ (λ stay free told index head content bytes has area.
     let kept = c.find.ensures.kept in
     let told_n = g.V.Ground.leads_told c.args.volume.now c.find.new.volume kept.leads told in
-    let size : c.in_ok-found.found.size ≡ length bytes = at_some c.in_ok-told.told c.in_ok-found.found _ c.in_ok-found.ensures.some (c.in_ok-told.ensures.size told index content bytes (holds_of g.V.Ground c.args.volume.now index c.args.oid.now content bytes has)) in
+    let size : c.in_ok-found.found.size ≡ length bytes = at_some c.in_ok-told.told c.in_ok-found.found _ c.in_ok-found.ensures.some (c.in_ok-told.ensures.size told index head content bytes (holds_of g.V.Ground c.args.volume.now index c.args.oid.now head content bytes has)) in
     let range = subst (InRange (change_of c.args.edit.now)) size ((c.is_editable.ensures.0 c.in_ok-check.ensures.holds).1) in
     let f_is = same_some c.in_ok-told.told c.in_ok-found.found _ c.in_ok-found.ensures.some (c.in_ok-told.ensures.told told index _ has.stored) in
     let is_small : content ≡ Small bytes = small_content (g.V.Ground.geometry c.args.volume.now) (g.V.Ground.unit c.args.volume.now) content bytes (sym (ap (λ (f : Found). f.root) f_is) ∙ c.in-None.is) has.spells in
-    let has_n = kept_version g.V.Ground c.args.volume.now c.find.new.volume index c.args.oid.now (Small bytes) bytes kept (subst (λ (t : Content). HasVersion g.V.Ground c.args.volume.now index c.args.oid.now t bytes) is_small has) in
+    let has_n = kept_version g.V.Ground c.args.volume.now c.find.new.volume index c.args.oid.now c.in_ok-found.found.head (Small bytes) bytes kept
+    (head_told g.V.Ground c.args.volume.now index c.args.oid.now head c.in_ok-found.found.head (Small bytes) bytes (ap (λ (f : Found). f.head) f_is) (subst (λ (t : Content). HasVersion g.V.Ground c.args.volume.now index c.args.oid.now head t bytes) is_small has)) in
     let some : count_of (change_of c.args.edit.now) ≢ 0 = λ none. absurd (omega (arith, none, c.count.ensures, c.if-count-eq0.false)) in
     let geo = g.V.Ground.leads_geometry c.args.volume.now c.find.new.volume kept.leads in
     let asked = edit_need_is (g.V.Ground.geometry c.args.volume.now) (change_of c.args.edit.now) content area some ∙ ap (λ (t : Content). most_need (g.V.Ground.geometry c.args.volume.now) (change_of c.args.edit.now) (height_in t) area) is_small in
     elim (grows (change_of c.args.edit.now) bytes range) [
       | inl same ↦ omega (arith, free area, ap (λ (f : Area → ℕ). f area) kept.free, ap (λ (y : Geometry). growth_need y (count_of (change_of c.args.edit.now)) 0 area) geo, asked, same (g.V.Ground.geometry c.args.volume.now) area)
-      | inr few ↦ omega (arith, ap (λ (f : Area → ℕ). f area) (stay told_n index bytes has_n (sym size) (less_stays g.V.Ground c.find.new.volume index c.args.oid.now bytes (length (changed (change_of c.args.edit.now) bytes)) has_n few)), ap (λ (f : Area → ℕ). f area) kept.free)
+      | inr few ↦ omega (arith, ap (λ (f : Area → ℕ). f area) (stay told_n index bytes has_n (sym size) (less_stays g.V.Ground c.find.new.volume index c.args.oid.now c.in_ok-found.found.head bytes (length (changed (change_of c.args.edit.now) bytes)) has_n few)), ap (λ (f : Area → ℕ). f area) kept.free)
     ]) c.edit_small.ensures.small c.edit_small.ensures.free
 
 pub returns-in-None-clause-sound : goal.returns-in-None-clause-sound
-returns-in-None-clause-sound g c = IfErr-weaker c.edit_small.result _ _ (λ fault sound damage told in_use index content bytes has inside need.
+returns-in-None-clause-sound g c = IfErr-weaker c.edit_small.result _ _ (λ fault sound damage told in_use index head content bytes has current inside need.
     let kept = c.find.ensures.kept in
     let told_n = g.V.Ground.leads_told c.args.volume.now c.find.new.volume kept.leads told in
-    let size : c.in_ok-found.found.size ≡ length bytes = at_some c.in_ok-told.told c.in_ok-found.found _ c.in_ok-found.ensures.some (c.in_ok-told.ensures.size told index content bytes (holds_of g.V.Ground c.args.volume.now index c.args.oid.now content bytes has)) in
+    let size : c.in_ok-found.found.size ≡ length bytes = at_some c.in_ok-told.told c.in_ok-found.found _ c.in_ok-found.ensures.some (c.in_ok-told.ensures.size told index head content bytes (holds_of g.V.Ground c.args.volume.now index c.args.oid.now head content bytes has)) in
     let range = subst (InRange (change_of c.args.edit.now)) size ((c.is_editable.ensures.0 c.in_ok-check.ensures.holds).1) in
     let f_is = same_some c.in_ok-told.told c.in_ok-found.found _ c.in_ok-found.ensures.some (c.in_ok-told.ensures.told told index _ has.stored) in
     let is_small : content ≡ Small bytes = small_content (g.V.Ground.geometry c.args.volume.now) (g.V.Ground.unit c.args.volume.now) content bytes (sym (ap (λ (f : Found). f.root) f_is) ∙ c.in-None.is) has.spells in
-    let has_n = kept_version g.V.Ground c.args.volume.now c.find.new.volume index c.args.oid.now (Small bytes) bytes kept (subst (λ (t : Content). HasVersion g.V.Ground c.args.volume.now index c.args.oid.now t bytes) is_small has) in
+    let has_n = kept_version g.V.Ground c.args.volume.now c.find.new.volume index c.args.oid.now c.in_ok-found.found.head (Small bytes) bytes kept
+    (head_told g.V.Ground c.args.volume.now index c.args.oid.now head c.in_ok-found.found.head (Small bytes) bytes (ap (λ (f : Found). f.head) f_is) (subst (λ (t : Content). HasVersion g.V.Ground c.args.volume.now index c.args.oid.now head t bytes) is_small has)) in
     let in_use_n = kept_in_use g.V.Ground c.args.volume.now c.find.new.volume kept in_use in
     let some : count_of (change_of c.args.edit.now) ≢ 0 = λ none. absurd (omega (arith, none, c.count.ensures, c.if-count-eq0.false)) in
     let geo = g.V.Ground.leads_geometry c.args.volume.now c.find.new.volume kept.leads in
@@ -115,67 +122,73 @@ returns-in-None-clause-sound g c = IfErr-weaker c.edit_small.result _ _ (λ faul
     let asked = edit_need_is (g.V.Ground.geometry c.args.volume.now) (change_of c.args.edit.now) content area some ∙ ap (λ (t : Content). most_need (g.V.Ground.geometry c.args.volume.now) (change_of c.args.edit.now) (height_in t) area) is_small in
     elim (grows (change_of c.args.edit.now) bytes range) [
       | inl same ↦ omega (arith, enough, ap (λ (f : Area → ℕ). f area) kept.free, ap (λ (y : Geometry). growth_need y (count_of (change_of c.args.edit.now)) 0 area) geo, asked, same (g.V.Ground.geometry c.args.volume.now) area)
-      | inr few ↦ absurd (never (less_stays g.V.Ground c.find.new.volume index c.args.oid.now bytes (length (changed (change_of c.args.edit.now) bytes)) has_n few))
+      | inr few ↦ absurd (never (less_stays g.V.Ground c.find.new.volume index c.args.oid.now c.in_ok-found.found.head bytes (length (changed (change_of c.args.edit.now) bytes)) has_n few))
     ])) c.edit_small.ensures.sound
 
 pub returns-in-Some-clause-size : goal.returns-in-Some-clause-size
-returns-in-Some-clause-size g c = IfOk-weaker c.edit_large.result _ _ (λ n is told index content bytes has.
+returns-in-Some-clause-size g c = IfOk-weaker c.edit_large.result _ _ (λ n is told index head content bytes has.
     let kept = c.find.ensures.kept in
     let told_n = g.V.Ground.leads_told c.args.volume.now c.find.new.volume kept.leads told in
-    let size : c.in_ok-found.found.size ≡ length bytes = at_some c.in_ok-told.told c.in_ok-found.found _ c.in_ok-found.ensures.some (c.in_ok-told.ensures.size told index content bytes (holds_of g.V.Ground c.args.volume.now index c.args.oid.now content bytes has)) in
+    let size : c.in_ok-found.found.size ≡ length bytes = at_some c.in_ok-told.told c.in_ok-found.found _ c.in_ok-found.ensures.some (c.in_ok-told.ensures.size told index head content bytes (holds_of g.V.Ground c.args.volume.now index c.args.oid.now head content bytes has)) in
     let range = subst (InRange (change_of c.args.edit.now)) size ((c.is_editable.ensures.0 c.in_ok-check.ensures.holds).1) in
     let f_is = same_some c.in_ok-told.told c.in_ok-found.found _ c.in_ok-found.ensures.some (c.in_ok-told.ensures.told told index _ has.stored) in
     let is_large : content ≡ Large c.in-Some.root = large_content content c.in-Some.root (sym (ap (λ (f : Found). f.root) f_is) ∙ c.in-Some.is) in
-    let has_n = kept_version g.V.Ground c.args.volume.now c.find.new.volume index c.args.oid.now (Large c.in-Some.root) bytes kept (subst (λ (t : Content). HasVersion g.V.Ground c.args.volume.now index c.args.oid.now t bytes) is_large has) in
+    let has_n = kept_version g.V.Ground c.args.volume.now c.find.new.volume index c.args.oid.now c.in_ok-found.found.head (Large c.in-Some.root) bytes kept
+    (head_told g.V.Ground c.args.volume.now index c.args.oid.now head c.in_ok-found.found.head (Large c.in-Some.root) bytes (ap (λ (f : Found). f.head) f_is) (subst (λ (t : Content). HasVersion g.V.Ground c.args.volume.now index c.args.oid.now head t bytes) is_large has)) in
     (range, is told_n index bytes has_n)) c.edit_large.ensures.size
 
 pub returns-in-Some-clause-edited : goal.returns-in-Some-clause-edited
-returns-in-Some-clause-edited g c = IfOk-weaker c.edit_large.result _ _ (λ done edits many told in_use index content bytes has.
+returns-in-Some-clause-edited g c = IfOk-weaker c.edit_large.result _ _ (λ done edits many told in_use index head content bytes has.
     let kept = c.find.ensures.kept in
     let told_n = g.V.Ground.leads_told c.args.volume.now c.find.new.volume kept.leads told in
-    let size : c.in_ok-found.found.size ≡ length bytes = at_some c.in_ok-told.told c.in_ok-found.found _ c.in_ok-found.ensures.some (c.in_ok-told.ensures.size told index content bytes (holds_of g.V.Ground c.args.volume.now index c.args.oid.now content bytes has)) in
+    let size : c.in_ok-found.found.size ≡ length bytes = at_some c.in_ok-told.told c.in_ok-found.found _ c.in_ok-found.ensures.some (c.in_ok-told.ensures.size told index head content bytes (holds_of g.V.Ground c.args.volume.now index c.args.oid.now head content bytes has)) in
     let range = subst (InRange (change_of c.args.edit.now)) size ((c.is_editable.ensures.0 c.in_ok-check.ensures.holds).1) in
     let f_is = same_some c.in_ok-told.told c.in_ok-found.found _ c.in_ok-found.ensures.some (c.in_ok-told.ensures.told told index _ has.stored) in
     let is_large : content ≡ Large c.in-Some.root = large_content content c.in-Some.root (sym (ap (λ (f : Found). f.root) f_is) ∙ c.in-Some.is) in
-    let has_n = kept_version g.V.Ground c.args.volume.now c.find.new.volume index c.args.oid.now (Large c.in-Some.root) bytes kept (subst (λ (t : Content). HasVersion g.V.Ground c.args.volume.now index c.args.oid.now t bytes) is_large has) in
+    let has_n = kept_version g.V.Ground c.args.volume.now c.find.new.volume index c.args.oid.now c.in_ok-found.found.head (Large c.in-Some.root) bytes kept
+    (head_told g.V.Ground c.args.volume.now index c.args.oid.now head c.in_ok-found.found.head (Large c.in-Some.root) bytes (ap (λ (f : Found). f.head) f_is) (subst (λ (t : Content). HasVersion g.V.Ground c.args.volume.now index c.args.oid.now head t bytes) is_large has)) in
     let in_use_n = kept_in_use g.V.Ground c.args.volume.now c.find.new.volume kept in_use in
-    kept_turned g.V.Ground c.args.volume.now c.find.new.volume c.edit_large.new.volume index c.args.oid.now content (change_of c.args.edit.now) (changed (change_of c.args.edit.now) bytes) done.gone done.come kept
-    (subst (λ (t : Content). TurnsVersion g.V.Ground c.find.new.volume c.edit_large.new.volume index c.args.oid.now t (change_of c.args.edit.now) (changed (change_of c.args.edit.now) bytes) done.gone done.come) (sym is_large) (edits told_n in_use_n (ap (λ (f : Found). f.head) f_is) index bytes has_n))) c.edit_large.ensures.edited
+    kept_turned g.V.Ground c.args.volume.now c.find.new.volume c.edit_large.new.volume index c.args.oid.now head content (change_of c.args.edit.now) (changed (change_of c.args.edit.now) bytes) done.gone done.come kept
+    (subst (λ (h : Head). TurnsVersion g.V.Ground c.find.new.volume c.edit_large.new.volume index c.args.oid.now h content (change_of c.args.edit.now) (changed (change_of c.args.edit.now) bytes) done.gone done.come) (ap (λ (f : Found). f.head) f_is)
+    (subst (λ (t : Content). TurnsVersion g.V.Ground c.find.new.volume c.edit_large.new.volume index c.args.oid.now c.in_ok-found.found.head t (change_of c.args.edit.now) (changed (change_of c.args.edit.now) bytes) done.gone done.come) (sym is_large) (edits told_n in_use_n index bytes has_n)))) c.edit_large.ensures.edited
 
 pub returns-in-Some-clause-small : goal.returns-in-Some-clause-small
-returns-in-Some-clause-small g c = ok_of c.edit_large.result _ (λ told index content bytes has stays.
+returns-in-Some-clause-small g c = ok_of c.edit_large.result _ (λ told index head content bytes has stays.
     let kept = c.find.ensures.kept in
     let told_n = g.V.Ground.leads_told c.args.volume.now c.find.new.volume kept.leads told in
-    let size : c.in_ok-found.found.size ≡ length bytes = at_some c.in_ok-told.told c.in_ok-found.found _ c.in_ok-found.ensures.some (c.in_ok-told.ensures.size told index content bytes (holds_of g.V.Ground c.args.volume.now index c.args.oid.now content bytes has)) in
+    let size : c.in_ok-found.found.size ≡ length bytes = at_some c.in_ok-told.told c.in_ok-found.found _ c.in_ok-found.ensures.some (c.in_ok-told.ensures.size told index head content bytes (holds_of g.V.Ground c.args.volume.now index c.args.oid.now head content bytes has)) in
     let range = subst (InRange (change_of c.args.edit.now)) size ((c.is_editable.ensures.0 c.in_ok-check.ensures.holds).1) in
     let f_is = same_some c.in_ok-told.told c.in_ok-found.found _ c.in_ok-found.ensures.some (c.in_ok-told.ensures.told told index _ has.stored) in
     let is_large : content ≡ Large c.in-Some.root = large_content content c.in-Some.root (sym (ap (λ (f : Found). f.root) f_is) ∙ c.in-Some.is) in
-    let has_n = kept_version g.V.Ground c.args.volume.now c.find.new.volume index c.args.oid.now (Large c.in-Some.root) bytes kept (subst (λ (t : Content). HasVersion g.V.Ground c.args.volume.now index c.args.oid.now t bytes) is_large has) in
+    let has_n = kept_version g.V.Ground c.args.volume.now c.find.new.volume index c.args.oid.now c.in_ok-found.found.head (Large c.in-Some.root) bytes kept
+    (head_told g.V.Ground c.args.volume.now index c.args.oid.now head c.in_ok-found.found.head (Large c.in-Some.root) bytes (ap (λ (f : Found). f.head) f_is) (subst (λ (t : Content). HasVersion g.V.Ground c.args.volume.now index c.args.oid.now head t bytes) is_large has)) in
     absurd (subst (λ (t : Content). StaysSmall g.V.Ground c.args.volume.now (place_of c.args.oid.now) t (length (changed (change_of c.args.edit.now) bytes))) is_large stays))
 
 pub returns-in-Some-clause-free : goal.returns-in-Some-clause-free
-returns-in-Some-clause-free g c = on_ok_weaker c.edit_large.result (λ free told index content bytes has area.
+returns-in-Some-clause-free g c = on_ok_weaker c.edit_large.result (λ free told index head content bytes has area.
     let kept = c.find.ensures.kept in
     let told_n = g.V.Ground.leads_told c.args.volume.now c.find.new.volume kept.leads told in
-    let size : c.in_ok-found.found.size ≡ length bytes = at_some c.in_ok-told.told c.in_ok-found.found _ c.in_ok-found.ensures.some (c.in_ok-told.ensures.size told index content bytes (holds_of g.V.Ground c.args.volume.now index c.args.oid.now content bytes has)) in
+    let size : c.in_ok-found.found.size ≡ length bytes = at_some c.in_ok-told.told c.in_ok-found.found _ c.in_ok-found.ensures.some (c.in_ok-told.ensures.size told index head content bytes (holds_of g.V.Ground c.args.volume.now index c.args.oid.now head content bytes has)) in
     let range = subst (InRange (change_of c.args.edit.now)) size ((c.is_editable.ensures.0 c.in_ok-check.ensures.holds).1) in
     let f_is = same_some c.in_ok-told.told c.in_ok-found.found _ c.in_ok-found.ensures.some (c.in_ok-told.ensures.told told index _ has.stored) in
     let is_large : content ≡ Large c.in-Some.root = large_content content c.in-Some.root (sym (ap (λ (f : Found). f.root) f_is) ∙ c.in-Some.is) in
-    let has_n = kept_version g.V.Ground c.args.volume.now c.find.new.volume index c.args.oid.now (Large c.in-Some.root) bytes kept (subst (λ (t : Content). HasVersion g.V.Ground c.args.volume.now index c.args.oid.now t bytes) is_large has) in
+    let has_n = kept_version g.V.Ground c.args.volume.now c.find.new.volume index c.args.oid.now c.in_ok-found.found.head (Large c.in-Some.root) bytes kept
+    (head_told g.V.Ground c.args.volume.now index c.args.oid.now head c.in_ok-found.found.head (Large c.in-Some.root) bytes (ap (λ (f : Found). f.head) f_is) (subst (λ (t : Content). HasVersion g.V.Ground c.args.volume.now index c.args.oid.now head t bytes) is_large has)) in
     let some : count_of (change_of c.args.edit.now) ≢ 0 = λ none. absurd (omega (arith, none, c.count.ensures, c.if-count-eq0.false)) in
     let geo = g.V.Ground.leads_geometry c.args.volume.now c.find.new.volume kept.leads in
     let asked = edit_need_is (g.V.Ground.geometry c.args.volume.now) (change_of c.args.edit.now) content area some ∙ ap (λ (t : Content). most_need (g.V.Ground.geometry c.args.volume.now) (change_of c.args.edit.now) (height_in t) area) is_large in
     omega (arith, free area, ap (λ (f : Area → ℕ). f area) kept.free, ap (λ (y : Geometry). most_need y (change_of c.args.edit.now) c.in-Some.root.height area) geo, asked)) c.edit_large.ensures.free
 
 pub returns-in-Some-clause-sound : goal.returns-in-Some-clause-sound
-returns-in-Some-clause-sound g c = IfErr-weaker c.edit_large.result _ _ (λ fault sound damage told in_use index content bytes has inside need.
+returns-in-Some-clause-sound g c = IfErr-weaker c.edit_large.result _ _ (λ fault sound damage told in_use index head content bytes has current inside need.
     let kept = c.find.ensures.kept in
     let told_n = g.V.Ground.leads_told c.args.volume.now c.find.new.volume kept.leads told in
-    let size : c.in_ok-found.found.size ≡ length bytes = at_some c.in_ok-told.told c.in_ok-found.found _ c.in_ok-found.ensures.some (c.in_ok-told.ensures.size told index content bytes (holds_of g.V.Ground c.args.volume.now index c.args.oid.now content bytes has)) in
+    let size : c.in_ok-found.found.size ≡ length bytes = at_some c.in_ok-told.told c.in_ok-found.found _ c.in_ok-found.ensures.some (c.in_ok-told.ensures.size told index head content bytes (holds_of g.V.Ground c.args.volume.now index c.args.oid.now head content bytes has)) in
     let range = subst (InRange (change_of c.args.edit.now)) size ((c.is_editable.ensures.0 c.in_ok-check.ensures.holds).1) in
     let f_is = same_some c.in_ok-told.told c.in_ok-found.found _ c.in_ok-found.ensures.some (c.in_ok-told.ensures.told told index _ has.stored) in
     let is_large : content ≡ Large c.in-Some.root = large_content content c.in-Some.root (sym (ap (λ (f : Found). f.root) f_is) ∙ c.in-Some.is) in
-    let has_n = kept_version g.V.Ground c.args.volume.now c.find.new.volume index c.args.oid.now (Large c.in-Some.root) bytes kept (subst (λ (t : Content). HasVersion g.V.Ground c.args.volume.now index c.args.oid.now t bytes) is_large has) in
+    let has_n = kept_version g.V.Ground c.args.volume.now c.find.new.volume index c.args.oid.now c.in_ok-found.found.head (Large c.in-Some.root) bytes kept
+    (head_told g.V.Ground c.args.volume.now index c.args.oid.now head c.in_ok-found.found.head (Large c.in-Some.root) bytes (ap (λ (f : Found). f.head) f_is) (subst (λ (t : Content). HasVersion g.V.Ground c.args.volume.now index c.args.oid.now head t bytes) is_large has)) in
     let in_use_n = kept_in_use g.V.Ground c.args.volume.now c.find.new.volume kept in_use in
     let some : count_of (change_of c.args.edit.now) ≢ 0 = λ none. absurd (omega (arith, none, c.count.ensures, c.if-count-eq0.false)) in
     let geo = g.V.Ground.leads_geometry c.args.volume.now c.find.new.volume kept.leads in

@@ -5,7 +5,7 @@ use Rattle.ex_base.specs.declared.names.Area.{Area}
 use Rattle.ex_base.specs.declared.names.Place.{Place}
 use Rattle.object_records.specs.Record.{Small}
 use Rattle.file_bodies.specs.Files.{HasBody}
-use Rattle.version_model.specs.Versions.{StaysSmall, changed, lone_head, place_of}
+use Rattle.versions.specs.Versions.{StaysSmall, changed, place_of}
 use Rattle.ex_base.specs.Needs.{growth_need}
 use Rattle.versions.specs.Edited.{change_of, TurnsVersion}
 use Rattle.versions.specs.Damage.{no_tree, small}
@@ -18,29 +18,29 @@ pub returns-in-Ok-clause-size : goal.returns-in-Ok-clause-size
 returns-in-Ok-clause-size g c = IfOk-weaker c.put_edited.result _ _ (λ n is told index bytes has long.
     let kept = c.edited_small.ensures.kept in
     let told_n = g.V.Ground.leads_told c.args.volume.now c.edited_small.new.volume kept.leads told in
-    let has_n = kept_version g.V.Ground c.args.volume.now c.edited_small.new.volume index c.args.oid.now (Small bytes) bytes kept has in
+    let has_n = kept_version g.V.Ground c.args.volume.now c.edited_small.new.volume index c.args.oid.now c.args.head.now (Small bytes) bytes kept has in
     let stands = subst (λ (p : Place). HasBody g.V.Ground c.args.volume.now index p has.stored.body) (sym c.place_of.ensures) has.stored.stands in
-    let same : c.deref.result.now ≡ changed (change_of c.args.edit.now) bytes = c.deref.ensures.value ∙ c.in-Ok.ensures.bytes told index has.stored.body (lone_head c.args.oid.now.unique) bytes stands has.stored.spelled long in
+    let same : c.deref.result.now ≡ changed (change_of c.args.edit.now) bytes = c.deref.ensures.value ∙ c.in-Ok.ensures.bytes told index has.stored.body c.args.head.now bytes stands has.stored.spelled long in
     is ∙ ap length same) c.put_edited.ensures.size
 
 pub returns-in-Ok-clause-edited : goal.returns-in-Ok-clause-edited
-returns-in-Ok-clause-edited g c = IfOk-weaker c.put_edited.result _ _ (λ done edits told in_use lone index bytes has long.
+returns-in-Ok-clause-edited g c = IfOk-weaker c.put_edited.result _ _ (λ done edits told in_use index bytes has long.
     let kept = c.edited_small.ensures.kept in
     let told_n = g.V.Ground.leads_told c.args.volume.now c.edited_small.new.volume kept.leads told in
-    let has_n = kept_version g.V.Ground c.args.volume.now c.edited_small.new.volume index c.args.oid.now (Small bytes) bytes kept has in
+    let has_n = kept_version g.V.Ground c.args.volume.now c.edited_small.new.volume index c.args.oid.now c.args.head.now (Small bytes) bytes kept has in
     let stands = subst (λ (p : Place). HasBody g.V.Ground c.args.volume.now index p has.stored.body) (sym c.place_of.ensures) has.stored.stands in
-    let same : c.deref.result.now ≡ changed (change_of c.args.edit.now) bytes = c.deref.ensures.value ∙ c.in-Ok.ensures.bytes told index has.stored.body (lone_head c.args.oid.now.unique) bytes stands has.stored.spelled long in
+    let same : c.deref.result.now ≡ changed (change_of c.args.edit.now) bytes = c.deref.ensures.value ∙ c.in-Ok.ensures.bytes told index has.stored.body c.args.head.now bytes stands has.stored.spelled long in
     let in_use_n = kept_in_use g.V.Ground c.args.volume.now c.edited_small.new.volume kept in_use in
-    kept_turned g.V.Ground c.args.volume.now c.edited_small.new.volume c.put_edited.new.volume index c.args.oid.now (Small bytes) (change_of c.args.edit.now) (changed (change_of c.args.edit.now) bytes) done.gone done.come kept
-    (subst (λ (b : List ℕ). TurnsVersion g.V.Ground c.edited_small.new.volume c.put_edited.new.volume index c.args.oid.now (Small bytes) (change_of c.args.edit.now) b done.gone done.come) same (edits told_n in_use_n lone index bytes has_n (change_of c.args.edit.now)))) c.put_edited.ensures.edited
+    kept_turned g.V.Ground c.args.volume.now c.edited_small.new.volume c.put_edited.new.volume index c.args.oid.now c.args.head.now (Small bytes) (change_of c.args.edit.now) (changed (change_of c.args.edit.now) bytes) done.gone done.come kept
+    (subst (λ (b : List ℕ). TurnsVersion g.V.Ground c.edited_small.new.volume c.put_edited.new.volume index c.args.oid.now c.args.head.now (Small bytes) (change_of c.args.edit.now) b done.gone done.come) same (edits told_n in_use_n index bytes has_n (change_of c.args.edit.now)))) c.put_edited.ensures.edited
 
 pub returns-in-Ok-clause-small : goal.returns-in-Ok-clause-small
 returns-in-Ok-clause-small g c = on_ok_weaker c.put_edited.result (λ small told index bytes has long stays.
     let kept = c.edited_small.ensures.kept in
     let told_n = g.V.Ground.leads_told c.args.volume.now c.edited_small.new.volume kept.leads told in
-    let has_n = kept_version g.V.Ground c.args.volume.now c.edited_small.new.volume index c.args.oid.now (Small bytes) bytes kept has in
+    let has_n = kept_version g.V.Ground c.args.volume.now c.edited_small.new.volume index c.args.oid.now c.args.head.now (Small bytes) bytes kept has in
     let stands = subst (λ (p : Place). HasBody g.V.Ground c.args.volume.now index p has.stored.body) (sym c.place_of.ensures) has.stored.stands in
-    let same : c.deref.result.now ≡ changed (change_of c.args.edit.now) bytes = c.deref.ensures.value ∙ c.in-Ok.ensures.bytes told index has.stored.body (lone_head c.args.oid.now.unique) bytes stands has.stored.spelled long in
+    let same : c.deref.result.now ≡ changed (change_of c.args.edit.now) bytes = c.deref.ensures.value ∙ c.in-Ok.ensures.bytes told index has.stored.body c.args.head.now bytes stands has.stored.spelled long in
     let stays_n = kept_stays g.V.Ground c.args.volume.now c.edited_small.new.volume (place_of c.args.oid.now) (Small bytes) (length c.deref.result.now) kept (subst (λ (b : List ℕ). StaysSmall g.V.Ground c.args.volume.now (place_of c.args.oid.now) (Small bytes) (length b)) (sym same) stays) in
     small told_n index bytes has_n stays_n ∙ kept.free) c.put_edited.ensures.small
 
@@ -54,9 +54,9 @@ pub returns-in-Ok-clause-sound : goal.returns-in-Ok-clause-sound
 returns-in-Ok-clause-sound g c = IfErr-weaker c.put_edited.result _ _ (λ fault sound damage told in_use index bytes has long need.
     let kept = c.edited_small.ensures.kept in
     let told_n = g.V.Ground.leads_told c.args.volume.now c.edited_small.new.volume kept.leads told in
-    let has_n = kept_version g.V.Ground c.args.volume.now c.edited_small.new.volume index c.args.oid.now (Small bytes) bytes kept has in
+    let has_n = kept_version g.V.Ground c.args.volume.now c.edited_small.new.volume index c.args.oid.now c.args.head.now (Small bytes) bytes kept has in
     let stands = subst (λ (p : Place). HasBody g.V.Ground c.args.volume.now index p has.stored.body) (sym c.place_of.ensures) has.stored.stands in
-    let same : c.deref.result.now ≡ changed (change_of c.args.edit.now) bytes = c.deref.ensures.value ∙ c.in-Ok.ensures.bytes told index has.stored.body (lone_head c.args.oid.now.unique) bytes stands has.stored.spelled long in
+    let same : c.deref.result.now ≡ changed (change_of c.args.edit.now) bytes = c.deref.ensures.value ∙ c.in-Ok.ensures.bytes told index has.stored.body c.args.head.now bytes stands has.stored.spelled long in
     let in_use_n = kept_in_use g.V.Ground c.args.volume.now c.edited_small.new.volume kept in_use in
     let geo = g.V.Ground.leads_geometry c.args.volume.now c.edited_small.new.volume kept.leads in
     let few : length c.deref.result.now ≤ length bytes + c.count.result = omega (arith, c.in-Ok.ensures.len, ap length c.deref.ensures.value, long, c.count.ensures) in
@@ -70,7 +70,7 @@ returns-in-Ok-clause-sound g c = IfErr-weaker c.put_edited.result _ _ (λ fault 
 pub returns-in-Err-clause-sound : goal.returns-in-Err-clause-sound
 returns-in-Err-clause-sound g c = λ damage told in_use index bytes has long need.
     let stands = subst (λ (p : Place). HasBody g.V.Ground c.args.volume.now index p has.stored.body) (sym c.place_of.ensures) has.stored.stands in
-    c.in-Err.ensures.sound damage told index has.stored.body (lone_head c.args.oid.now.unique) bytes stands has.stored.spelled long
+    c.in-Err.ensures.sound damage told index has.stored.body c.args.head.now bytes stands has.stored.spelled long
 
 pub returns-in-Ok-clause-fault : goal.returns-in-Ok-clause-fault
 returns-in-Ok-clause-fault g c = IfErr-weaker c.put_edited.result _ _ (λ fault h told.

@@ -2,7 +2,7 @@ use Rattle.std.proofs.Common.{ℕ, List, length, ap, ◌∙◌, arith}
 use Rattle.std.proofs.lemmas.List.{take_all}
 use Rattle.std.proofs.lemmas.Result.{IfErr-weaker, IfOk-weaker}
 use Rattle.versions.specs.Damage.{own}
-use Rattle.version_model.specs.Versions.{changed}
+use Rattle.versions.specs.Versions.{changed}
 use Rattle.versions.specs.Edited.{change_of}
 use Rattle.versions.proofs.editing.edited_by.Goals as goal
 

@@ -2,7 +2,7 @@ use Rattle.std.proofs.Common.{◌≡◌, true, false, length, ap, ◌∙◌, ari
 use Rattle.std.proofs.lemmas.Bool.{cases_lt}
 use Rattle.std.proofs.lemmas.Result.{IfErr-weaker, IfOk-weaker}
 use Rattle.object_records.specs.Record.{Small}
-use Rattle.version_model.specs.Versions.{place_of}
+use Rattle.versions.specs.Versions.{place_of}
 use Rattle.versions.specs.Damage.{no_tree, record_fault, unlike}
 use Rattle.versions.proofs.Faults.{place_bytes, bytes_kept}
 use Rattle.versions.proofs.Standing.{kept_version}
@@ -12,48 +12,48 @@ use Rattle.versions.proofs.editing.put_edited.Goals as goal
 use Rattle.ex_base.proofs.Results.{if_err_handed}
 
 pub returns-in-Ok-true-clause-edited : goal.returns-in-Ok-true-clause-edited
-returns-in-Ok-true-clause-edited g c = λ told in_use lone index held has change.
-    rw c.stayed.ensures (becomes_small g.V.Ground c.args.volume.now c.put_small.new.volume index c.args.oid.now change held c.args.bytes.now c.place_of.result c.args.head.now in_use has c.place_of.ensures lone
+returns-in-Ok-true-clause-edited g c = λ told in_use index held has change.
+    rw c.stayed.ensures (becomes_small g.V.Ground c.args.volume.now c.put_small.new.volume index c.args.oid.now c.args.head.now change held c.args.bytes.now c.place_of.result in_use has c.place_of.ensures
     (c.in-Ok-true.ensures.put c.in-Ok-true.field-0-test told)
-    (stays_at g.V.Ground c.args.volume.now index c.args.oid.now held (length c.args.bytes.now) c.place_of.result c.place_of.ensures has (λ i was stands. (c.in-Ok-true.ensures.fits told i was stands).0 c.in-Ok-true.field-0-test)))
+    (stays_at g.V.Ground c.args.volume.now index c.args.oid.now c.args.head.now held (length c.args.bytes.now) c.place_of.result c.place_of.ensures has (λ i was stands. (c.in-Ok-true.ensures.fits told i was stands).0 c.in-Ok-true.field-0-test)))
 
 pub returns-in_err-check-clause-sound : goal.returns-in_err-check-clause-sound
 returns-in_err-check-clause-sound g c = if_err_handed c.from_residual.result _ _ c.from_residual.ensures.1 (λ damage told in_use index held has few size need.
-    let never = never_stays g.V.Ground c.args.volume.now index c.args.oid.now held (length c.args.bytes.now) c.place_of.result c.place_of.ensures has
+    let never = never_stays g.V.Ground c.args.volume.now index c.args.oid.now c.args.head.now held (length c.args.bytes.now) c.place_of.result c.place_of.ensures has
     (λ i was stands fits. let yes : c.in-Ok-false.field-0 ≡ true = (c.in-Ok-false.ensures.fits told i was stands).1 fits in let isnt : c.in-Ok-false.field-0 ≡ false = c.in-Ok-false.field-0-test in cc) in
     elim (cases_lt 0 (length c.args.bytes.now)) [
       | inl some ↦
           let kept = c.in-Ok-false.ensures.kept c.in-Ok-false.field-0-test in
           let geo = g.V.Ground.leads_geometry c.args.volume.now c.put_small.new.volume kept.leads in
-          let yes : c.is_grown.result ≡ true = c.is_grown.ensures.1 (some, omega (arith, few, held_most g.V.Ground c.args.volume.now index c.args.oid.now held has, size, ap (λ y. y.page_size) geo)) in
+          let yes : c.is_grown.result ≡ true = c.is_grown.ensures.1 (some, omega (arith, few, held_most g.V.Ground c.args.volume.now index c.args.oid.now c.args.head.now held has, size, ap (λ y. y.page_size) geo)) in
           let isnt : c.is_grown.result ≡ false = c.in_err-check.ensures.fault.0 in
           absurd cc
-      | inr none ↦ never (less_stays g.V.Ground c.args.volume.now index c.args.oid.now held (length c.args.bytes.now) has (omega (arith, none)))
+      | inr none ↦ never (less_stays g.V.Ground c.args.volume.now index c.args.oid.now c.args.head.now held (length c.args.bytes.now) has (omega (arith, none)))
     ])
 
 pub returns-clause-edited : goal.returns-clause-edited
-returns-clause-edited g c = IfOk-weaker c.convert.result _ _ (λ done edited told in_use lone index held has change.
+returns-clause-edited g c = IfOk-weaker c.convert.result _ _ (λ done edited told in_use index held has change.
     let kept = c.in-Ok-false.ensures.kept c.in-Ok-false.field-0-test in
-    let never = never_stays g.V.Ground c.args.volume.now index c.args.oid.now held (length c.args.bytes.now) c.place_of.result c.place_of.ensures has
+    let never = never_stays g.V.Ground c.args.volume.now index c.args.oid.now c.args.head.now held (length c.args.bytes.now) c.place_of.result c.place_of.ensures has
     (λ i was stands fits. let yes : c.in-Ok-false.field-0 ≡ true = (c.in-Ok-false.ensures.fits told i was stands).1 fits in let isnt : c.in-Ok-false.field-0 ≡ false = c.in-Ok-false.field-0-test in cc) in
-    kept_turned g.V.Ground c.args.volume.now c.put_small.new.volume c.convert.new.volume index c.args.oid.now (Small held) change c.args.bytes.now done.gone done.come kept
-    (edited (g.V.Ground.leads_told c.args.volume.now c.put_small.new.volume kept.leads told) (kept_in_use g.V.Ground c.args.volume.now c.put_small.new.volume kept in_use) lone index held
-    (kept_version g.V.Ground c.args.volume.now c.put_small.new.volume index c.args.oid.now (Small held) held kept has)
+    kept_turned g.V.Ground c.args.volume.now c.put_small.new.volume c.convert.new.volume index c.args.oid.now c.args.head.now (Small held) change c.args.bytes.now done.gone done.come kept
+    (edited (g.V.Ground.leads_told c.args.volume.now c.put_small.new.volume kept.leads told) (kept_in_use g.V.Ground c.args.volume.now c.put_small.new.volume kept in_use) index held
+    (kept_version g.V.Ground c.args.volume.now c.put_small.new.volume index c.args.oid.now c.args.head.now (Small held) held kept has)
     (λ stays. never (stayed_before g.V.Ground c.args.volume.now c.put_small.new.volume (place_of c.args.oid.now) (Small held) (length c.args.bytes.now) kept stays)) change)) c.convert.ensures.edited
 
 pub returns-clause-small : goal.returns-clause-small
 returns-clause-small g c = ok_of c.convert.result _ (λ told index held has stays.
-    absurd (never_stays g.V.Ground c.args.volume.now index c.args.oid.now held (length c.args.bytes.now) c.place_of.result c.place_of.ensures has
+    absurd (never_stays g.V.Ground c.args.volume.now index c.args.oid.now c.args.head.now held (length c.args.bytes.now) c.place_of.result c.place_of.ensures has
     (λ i was stands fits. let yes : c.in-Ok-false.field-0 ≡ true = (c.in-Ok-false.ensures.fits told i was stands).1 fits in let isnt : c.in-Ok-false.field-0 ≡ false = c.in-Ok-false.field-0-test in cc) stays))
 
 pub returns-clause-sound : goal.returns-clause-sound
 returns-clause-sound g c = IfErr-weaker c.convert.result _ _ (λ fault sound damage told in_use index held has few size need.
     let kept = c.in-Ok-false.ensures.kept c.in-Ok-false.field-0-test in
     let geo = g.V.Ground.leads_geometry c.args.volume.now c.put_small.new.volume kept.leads in
-    let never = never_stays g.V.Ground c.args.volume.now index c.args.oid.now held (length c.args.bytes.now) c.place_of.result c.place_of.ensures has
+    let never = never_stays g.V.Ground c.args.volume.now index c.args.oid.now c.args.head.now held (length c.args.bytes.now) c.place_of.result c.place_of.ensures has
     (λ i was stands fits. let yes : c.in-Ok-false.field-0 ≡ true = (c.in-Ok-false.ensures.fits told i was stands).1 fits in let isnt : c.in-Ok-false.field-0 ≡ false = c.in-Ok-false.field-0-test in cc) in
     sound damage (g.V.Ground.leads_told c.args.volume.now c.put_small.new.volume kept.leads told) (kept_in_use g.V.Ground c.args.volume.now c.put_small.new.volume kept in_use) index held
-    (kept_version g.V.Ground c.args.volume.now c.put_small.new.volume index c.args.oid.now (Small held) held kept has)
+    (kept_version g.V.Ground c.args.volume.now c.put_small.new.volume index c.args.oid.now c.args.head.now (Small held) held kept has)
     (λ area. rw (geo, kept.free) (need never area))) c.convert.ensures.sound
 
 pub returns-in-Err-clause-fault : goal.returns-in-Err-clause-fault

@@ -12,9 +12,8 @@ use Rattle.ex_base.proofs.Options.{if_some_both, some_both}
 use Rattle.versions.proofs.Results.{same_some, match_some, match_none}
 use Rattle.object_records.specs.Record.{BodyOf}
 use Rattle.object_records.specs.Reads.{small_record}
-use Rattle.version_model.specs.Versions.{lone_head}
 use Rattle.versions.proofs.Standing.{found_is, told_size, file_at, one_body, small_version}
-use Rattle.version_model.specs.Versions.{place_of}
+use Rattle.versions.specs.Versions.{place_of}
 use Rattle.versions.proofs.finding.find_reading.Goals as goal
 
 pub returns-in-Ok-Some-clause-told : goal.returns-in-Ok-Some-clause-told
@@ -23,9 +22,9 @@ returns-in-Ok-Some-clause-told g c = if_ok_both c.told_reading.result _ _ _ (λ 
     found_is g.V.Ground c.args.volume.now c.geometry-geometry.result index c.args.oid.now c.in-Ok-Some.body.now is stands has found some none) c.told_reading.ensures.some c.told_reading.ensures.none
 
 pub returns-in-Ok-Some-clause-size : goal.returns-in-Ok-Some-clause-size
-returns-in-Ok-Some-clause-size g c = IfOk-weaker c.told_reading.result _ _ (λ found some told index content bytes has.
+returns-in-Ok-Some-clause-size g c = IfOk-weaker c.told_reading.result _ _ (λ found some told index head content bytes has.
     let stands = subst (λ (p : Place). HasSomeBody g.V.Ground c.args.volume.now p c.in-Ok-Some.body.now) c.place_of.ensures (match_some c.in-Ok-Some.field-0 c.in-Ok-Some.body _ _ c.in-Ok-Some.field-0-is (c.in-Ok-Some.ensures.found told (file_at g.V.Ground c.args.volume.now index c.place_of.result (place_of c.args.oid.now) _ c.place_of.ensures has.stored.stands))) in
-    told_size g.V.Ground c.args.volume.now c.geometry-geometry.result index c.args.oid.now c.in-Ok-Some.body.now content bytes c.requires told stands has found some) c.told_reading.ensures.some
+    told_size g.V.Ground c.args.volume.now c.geometry-geometry.result index c.args.oid.now head c.in-Ok-Some.body.now content bytes c.requires told stands has found some) c.told_reading.ensures.some
 
 pub returns-in-Ok-Some-clause-cause : goal.returns-in-Ok-Some-clause-cause
 returns-in-Ok-Some-clause-cause g c = c.told_reading.ensures.cause _ _
@@ -60,9 +59,9 @@ returns-in-Ok-Some-clause-sound g c = IfErr-weaker c.told_reading.result _ _ (λ
 
 pub returns-in-Ok-Some-clause-bytes : goal.returns-in-Ok-Some-clause-bytes
 returns-in-Ok-Some-clause-bytes g c = if_ok_both c.told_reading.result _ _ _ (λ found some copied.
-    some_both found _ _ _ (λ f is copies told small inside index content bytes has.
+    some_both found _ _ _ (λ f is copies told small inside index head content bytes has.
     let stands = subst (λ (p : Place). HasSomeBody g.V.Ground c.args.volume.now p c.in-Ok-Some.body.now) c.place_of.ensures (match_some c.in-Ok-Some.field-0 c.in-Ok-Some.body _ _ c.in-Ok-Some.field-0-is (c.in-Ok-Some.ensures.found told (file_at g.V.Ground c.args.volume.now index c.place_of.result (place_of c.args.oid.now) _ c.place_of.ensures has.stored.stands))) in
     let f_is = same_some (Some f) f _ refl (found_is g.V.Ground c.args.volume.now c.geometry-geometry.result index c.args.oid.now c.in-Ok-Some.body.now _ stands has.stored (Some f) is tt) in
-    let held = small_version g.V.Ground c.args.volume.now index c.args.oid.now content bytes f f_is small has in
-    copies small inside (lone_head c.args.oid.now.unique) bytes
-    (subst (λ (b : List ℕ). BodyOf b (small_record (lone_head c.args.oid.now.unique) bytes)) (sym (one_body g.V.Ground c.args.volume.now index (place_of c.args.oid.now) c.in-Ok-Some.body.now held.stored.body stands held.stored.stands)) held.stored.spelled)) some copied) c.told_reading.ensures.some c.told_reading.ensures.bytes
+    let held = small_version g.V.Ground c.args.volume.now index c.args.oid.now head content bytes f f_is small has in
+    copies small inside head bytes
+    (subst (λ (b : List ℕ). BodyOf b (small_record head bytes)) (sym (one_body g.V.Ground c.args.volume.now index (place_of c.args.oid.now) c.in-Ok-Some.body.now held.stored.body stands held.stored.stands)) held.stored.spelled)) some copied) c.told_reading.ensures.some c.told_reading.ensures.bytes

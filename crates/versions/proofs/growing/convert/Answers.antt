@@ -17,11 +17,11 @@ append-requires-clause-pages g c = λ some.
     omega (arith, c.has_first_units.ensures.yes c.in_ok-check.ensures.holds Page, first_need (g.V.Ground.geometry c.args.volume.now) (length c.args.bytes.now) c.args.count Page c.requires.page)
 
 pub returns-clause-edited : goal.returns-clause-edited
-returns-clause-edited g c = λ told in_use lone index held has never change.
+returns-clause-edited g c = λ told in_use index held has never change.
     let none = none_spells (g.V.Ground.geometry c.args.volume.now) (g.V.Ground.unit c.args.volume.now) in
     let size : c.in_ok-made.made.size ≤ object_most = omega (arith, c.in_ok-made.ensures.size, c.requires.limit) in
-    becomes_large g.V.Ground c.args.volume.now c.append.new.blocks c.put_root.new.volume index c.args.oid.now (Small held) change held c.args.bytes.now c.in_ok-made.made c.place_of-place.result c.args.head.now
-    c.in_ok-made.ensures.extends in_use told has (c.in_ok-made.ensures.units told [] none tt) (c.in_ok-made.ensures.spells told [] none tt, size) c.place_of-place.ensures lone c.in_ok-put_root.ensures.put never (c.in_ok-made.ensures.shape told [] none tt)
+    becomes_large g.V.Ground c.args.volume.now c.append.new.blocks c.put_root.new.volume index c.args.oid.now c.args.head.now (Small held) change held c.args.bytes.now c.in_ok-made.made c.place_of-place.result
+    c.in_ok-made.ensures.extends in_use told has (c.in_ok-made.ensures.units told [] none tt) (c.in_ok-made.ensures.spells told [] none tt, size) c.place_of-place.ensures c.in_ok-put_root.ensures.put never (c.in_ok-made.ensures.shape told [] none tt)
 
 pub returns-clause-free : goal.returns-clause-free
 returns-clause-free g c = each_area (λ area. g.V.Ground.free c.args.volume.now area ≤ g.V.Ground.free c.put_root.new.volume area + growth_need (g.V.Ground.geometry c.args.volume.now) c.args.count 0 area)
@@ -32,7 +32,7 @@ pub returns-in_err-put_root-clause-sound : goal.returns-in_err-put_root-clause-s
 returns-in_err-put_root-clause-sound g c = if_err_handed c.from_residual-in_err-put_root.result _ _ c.from_residual-in_err-put_root.ensures.1 (λ damage told in_use index held has units.
     let none = none_spells (g.V.Ground.geometry c.args.volume.now) (g.V.Ground.unit c.args.volume.now) in
     let size : c.in_ok-made.made.size ≤ object_most = omega (arith, c.in_ok-made.ensures.size, c.requires.limit) in
-    never_put g.V.Ground c.args.volume.now c.append.new.blocks index c.args.oid.now (Small held) held c.args.bytes.now c.in_ok-made.made c.place_of-place.result
+    never_put g.V.Ground c.args.volume.now c.append.new.blocks index c.args.oid.now c.args.head.now (Small held) held c.args.bytes.now c.in_ok-made.made c.place_of-place.result
     c.in_ok-made.ensures.extends in_use has (c.in_ok-made.ensures.spells told [] none tt, size) c.place_of-place.ensures
     (c.in_err-put_root.ensures.sound damage (g.V.Ground.leads_told c.args.volume.now c.append.new.blocks c.append.ensures.leads told)))
 

@@ -7,7 +7,7 @@ use Rattle.trees.specs.Trees.{RootSpells, root_shape}
 use Rattle.tree_insert.proofs.RootEdit.{counted_need}
 use Rattle.versions.specs.declared.editing.Edit.{Edit}
 use Rattle.versions.specs.declared.editing.Edit.TheVariants.{Append}
-use Rattle.version_model.specs.Versions.{changed, IsTreeShape}
+use Rattle.versions.specs.Versions.{changed, IsTreeShape}
 use Rattle.versions.specs.Needs.{most_need}
 use Rattle.versions.specs.Edited.{change_of}
 use Rattle.versions.proofs.growing.edit_tree.Goals as goal

@@ -1,5 +1,5 @@
 use Rattle.std.proofs.Common.{◌-◌}
-use Rattle.version_model.specs.Listed.{start_rank}
+use Rattle.versions.specs.Listed.{start_rank}
 use Rattle.versions.proofs.Listed.{ListedTo}
 use Rattle.versions.proofs.listing.list_file.Given as goal
 

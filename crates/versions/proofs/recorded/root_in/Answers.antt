@@ -1,6 +1,6 @@
 use Rattle.std.proofs.Common.{ap, ◌∙◌}
 use Rattle.object_records.specs.Record.{Record}
-use Rattle.version_model.specs.Versions.{root_of}
+use Rattle.versions.specs.Versions.{root_of}
 use Rattle.versions.proofs.Records.{one_record}
 use Rattle.versions.proofs.recorded.root_in.Goals as goal
 

@@ -1,5 +1,5 @@
 use Rattle.std.proofs.Common.{subst, sym}
-use Rattle.session_core.specs.Sessions.{IsSession, SessionState}
+use Rattle.session_core.specs.Sessions.{IsSession}
 use Rattle.session_core.specs.Steps.{OnlyFrames}
 use Rattle.session_core.specs.contracts.session.Session as session
 use Rattle.session_core.proofs.Opening.{scan_session, scan_shown}

@@ -1,4 +1,4 @@
-use Rattle.std.proofs.Common.{◌≡◌, ◌∙◌, length, ap, arith}
+use Rattle.std.proofs.Common.{◌≡◌, length, ap, arith}
 use Rattle.std.specs.Prelude.{drop}
 use Rattle.open_scans.specs.OpenScans.{OpenRow}
 use Rattle.session_core.proofs.Opening.{all_read}

@@ -7,6 +7,8 @@ use Rattle.session_core.proofs.Moving.{moved_at, parts, parts_moved, parts_same,
 use Rattle.session_core.proofs.Holding.{tells_at, with_parts}
 use Rattle.session_core.proofs.Performing.{performed_owns, performed_shown, performed_sound}
 use Rattle.session_core.proofs.PortParts.{pairs_named}
+use Rattle.session_core.proofs.TakingPages.{logged_at}
+use Rattle.std.proofs.lemmas.Result.{on_ok_weaker}
 use Rattle.session_core.proofs.session.moving.update_on.Goals as goal
 
 pub perform-requires-clause-ready : goal.perform-requires-clause-ready
@@ -104,3 +106,11 @@ returns-clause-sound g c =
     (outside c.args.disk.now) c.args.geometry.now _
     (with_parts _ a outside a.store.disk.now c.args.disk.now a.store.geometry c.args.geometry.now _ _ (sym disk) (sym geometry) (sym old) (record { geometry_is = refl; unit = refl; image = refl; held = refl; used = refl; refs = refl; free = refl }))
     (λ told. tells_at outside _ _ _ _ disk groups told)
+
+pub returns-clause-shares : goal.returns-clause-shares
+returns-clause-shares g c = λ copies.
+    let a = c.make-port.result in
+    let b = c.perform.new.volume in
+    let units : c.args.units.now ≡ a.store.units.now = search rules in
+    on_ok_weaker c.perform.result
+    (λ takes. logged_at {a = a.store.units.now} {c = b.store.units.now} {p = b.pages.now} (sym units) (search rules) (search rules) (record { taken = takes.taken })) (c.perform.ensures.shares copies)

@@ -1,4 +1,5 @@
 use Rattle.session_core.proofs.Moving.{parts}
+use Rattle.session_core.proofs.TakingPages.{still_logged}
 use Rattle.session_core.proofs.TurnedParts.{gives_moved, swept_moved, turned_holds, with_units}
 use Rattle.session_core.proofs.session.moving.update_parts.Goals as goal
 
@@ -28,3 +29,10 @@ returns-clause-updated g c = λ before has now u is asked roots rows.
     let mid = parts b.units b.groups b.meta b.pages b.room in
     turned_holds a.geometry.now mid a.kept.now t.units c.sweep.new.units t.groups c.turn_roots.ensures.gives c.sweep.ensures before a.gained.now.items a.lost.now.items t.gained.items t.lost.items
     c.in_ok-done.done.gone c.in_ok-done.done.come _ has.geometry roots c.in_ok-turn_roots.ensures.turned (c.in_ok-done.ensures.updated before has now u is asked rows)
+
+pub returns-clause-shares : goal.returns-clause-shares
+returns-clause-shares g c = λ copies.
+    let b = c.update_on.new in
+    let t = c.turn_roots.new in
+    still_logged c.args.units.now t.units c.sweep.new.units b.pages (λ unit now. c.sweep.ensures.units.used unit now)
+    (still_logged c.args.units.now b.units t.units b.pages c.turn_roots.ensures.gives.fewer (c.in_ok-done.ensures.shares copies))

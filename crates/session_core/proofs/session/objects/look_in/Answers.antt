@@ -1,4 +1,4 @@
-use Rattle.version_model.specs.Versions.{place_of}
+use Rattle.versions.specs.Versions.{place_of}
 use Rattle.session_core.proofs.Finding.{looked, looks_sound, limit_found}
 use Rattle.session_core.proofs.session.objects.look_in.Goals as goal
 

@@ -1,5 +1,4 @@
 use Rattle.session_core.proofs.ScanBytes.{given_shown, sound_shown}
-use Rattle.std.proofs.lemmas.Result.{IfErr-weaker}
 use Rattle.session_core.proofs.session.pieces.next_in.Goals as goal
 
 pub returns-clause-bytes : goal.returns-clause-bytes

@@ -11,4 +11,4 @@ returns-clause-shape g c = λ before shows oid version is rooted.
 pub returns-clause-sound : goal.returns-clause-sound
 returns-clause-sound g c = λ before shows oid version is rooted.
     let read = reads g.V.Ground c.args.volume.now shows oid c.args.root.now version is rooted in
-    IfErr-weaker c.leaf_lengths.result _ _ (λ fault sound. sound shows.tells (version_whole g.V.Ground c.args.volume.now read.index oid c.args.root.now version.bytes (holds g.V.Ground c.args.volume.now shows oid c.args.root.now version is rooted))) c.leaf_lengths.ensures.sound
+    IfErr-weaker c.leaf_lengths.result _ _ (λ fault sound. sound shows.tells (version_whole g.V.Ground c.args.volume.now read.index oid read.head c.args.root.now version.bytes (holds g.V.Ground c.args.volume.now shows oid c.args.root.now version is rooted))) c.leaf_lengths.ensures.sound

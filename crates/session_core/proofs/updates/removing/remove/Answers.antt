@@ -1,17 +1,18 @@
 use Rattle.std.proofs.Common.{None}
 use Rattle.session_core.specs.TableUpdates.{Removes}
-use Rattle.session_core.proofs.Removed.{object_removed, removal_failed}
+use Rattle.session_core.proofs.Removed.{removal_failed, version_removed}
 use Rattle.session_core.proofs.MovedVolumes.{still_updated}
 use Rattle.file_rooms.proofs.Remembered.{one_lowered}
 use Rattle.session_core.proofs.updates.removing.remove.Goals as goal
 
 pub returns-in-Ok-clause-updates : goal.returns-in-Ok-clause-updates
 returns-in-Ok-clause-updates g c =
-    still_updated g.V.Ground c.args.volume.now c.destroy.new.volume c.look_at.new.volume c.look_at.ensures.kept (Removes c.args.oid.now) (record { oid = c.args.oid.now; gone = c.in-Ok.gone; come = None }) c.look_at.result
-    (object_removed g.V.Ground c.args.volume.now c.destroy.new.volume c.args.oid.now c.in-Ok.gone c.destroy.ensures.leads c.in-Ok.ensures.gives c.in-Ok.ensures.gone c.in-Ok.ensures.removes) c.look_at.ensures.same c.look_at.ensures.no_damage
+    still_updated g.V.Ground c.args.volume.now c.take_out.new.volume c.look_at.new.volume c.look_at.ensures.kept (Removes c.args.oid.now) (record { oid = c.args.oid.now; gone = c.in-Ok.gone; come = None }) c.look_at.result
+    (version_removed g.V.Ground c.args.volume.now c.take_out.new.volume c.args.oid.now c.in-Ok.gone c.take_out.ensures.leads c.in-Ok.ensures.gives c.in-Ok.ensures.gone c.in-Ok.ensures.taken_out c.in-Ok.ensures.branch)
+    c.look_at.ensures.same c.look_at.ensures.no_damage
 
 pub returns-in-Err-clause-updates : goal.returns-in-Err-clause-updates
-returns-in-Err-clause-updates g c = removal_failed g.V.Ground c.args.volume.now c.destroy.new.volume c.args.oid.now c.in-Err.fault c.in-Err.ensures.sound
+returns-in-Err-clause-updates g c = removal_failed g.V.Ground c.args.volume.now c.take_out.new.volume c.args.oid.now c.in-Err.fault c.in-Err.ensures.sound
 
 pub returns-in-Ok-clause-rooms : goal.returns-in-Ok-clause-rooms
 returns-in-Ok-clause-rooms g c = one_lowered c.args.rooms.now c.look_at.new.self c.args.oid.now.page.0 c.look_at.ensures.rooms

@@ -1,0 +1,2 @@
+pub mod UsageNumbers
+pub mod UsageDefaults

@@ -1,0 +1,69 @@
+use Rattle.std.proofs.Common.{◌≡◌, ◌∙◌, ℕ, List, None, sym, subst}
+use Rattle.std.specs.Prelude.{Ok, Err}
+use Rattle.ex_base.specs.declared.names.Place.{Place}
+use Rattle.ex_base.specs.Ports.{IsDamage}
+use Rattle.index_pages.specs.declared.Index.{Index}
+use Rattle.file_bodies.specs.Files.{HasBody}
+use Rattle.std.proofs.lemmas.Result.{err_from_is_err_and}
+use Rattle.session_core.proofs.Copied.{done_of, fault_of, told_of}
+use Rattle.session_core.specs.declared.updates.copying.Copying.{Copying}
+use Rattle.session_core.specs.declared.updates.copying.Copying.TheVariants as copying
+use Rattle.session_core.specs.Performed.{copies}
+use Rattle.session_core.specs.TableUpdates.{Updates}
+use Rattle.session_core.proofs.Copied.{derive_failed, derived_made, freeze_failed, frozen_made, uncounted, unfiled}
+use Rattle.file_rooms.proofs.Remembered.{number_kept}
+use Rattle.session_core.proofs.updates.copying.copy.Goals as goal
+use Rattle.session_core.proofs.updates.copying.copy.Goals.{in-Freeze, in-Derive}
+
+pub returns-in_err-count_number-clause-updates : goal.returns-in_err-count_number-clause-updates
+returns-in_err-count_number-clause-updates g c =
+    let p = err_from_is_err_and c.from_residual.result c.from_residual.ensures.1 in
+    rw (p.1, p.2) (uncounted g.V.Ground c.args.volume.now c.count_number.new.volume c.args.oid.now c.args.unique c.args.copying c.in_err-count_number.field-0.0 c.in_err-count_number.ensures.sound)
+
+pub returns-in_err-file_of-clause-updates : goal.returns-in_err-file_of-clause-updates
+returns-in_err-file_of-clause-updates g c =
+    let p = err_from_is_err_and c.from_residual-in_err-file_of.result c.from_residual-in_err-file_of.ensures.1 in
+    rw (p.1, p.2) (unfiled g.V.Ground c.args.volume.now c.file_of.new.volume c.args.oid.now c.args.unique c.count_number.new.volume c.count_number.ensures.leads c.in_ok-count_number.ensures.counts c.args.copying c.in_err-file_of.field-0.0
+    (subst (λ (place : Place). IsDamage c.in_err-file_of.field-0.0 → g.V.Ground.tells c.count_number.new.volume → (index : Index) (body : List ℕ) → HasBody g.V.Ground c.count_number.new.volume index place body → ⊥) c.place_of.ensures c.in_err-file_of.ensures.sound))
+
+pub returns-in-Ok-clause-updates : goal.returns-in-Ok-clause-updates
+returns-in-Ok-clause-updates g c =
+    let mid = c.count_number.new.volume in
+    let room = number_kept c.args.rooms.now c.in_ok-file_of.field-0 c.of_file-room.result c.of_file-room.ensures in
+    let filed = subst (λ (place : Place). g.V.Ground.tells mid → (index : Index) (body : List ℕ) → HasBody g.V.Ground mid index place body → index.file_no ≡ c.in_ok-file_of.field-0) c.place_of.ensures c.in_ok-file_of.ensures.number in
+    elim c.match-copying.branch [
+      | in-Freeze w ↦
+          let did : w.freeze-copied.result ≡ Ok c.in-Ok.made = sym w.copied-is ∙ c.in-Ok.is in
+          let told = w.freeze-copied.ensures in
+          subst (λ (k : Copying). Updates g.V.Ground c.args.volume.now c.match-copying.volume (copies k c.args.oid.now c.args.unique) (Ok (record { oid = c.in-Ok.made.oid; gone = None; come = c.in-Ok.made.come }))) (sym w.in-Freeze.is)
+          (subst (λ volume. Updates g.V.Ground c.args.volume.now volume (copies copying.Freeze c.args.oid.now c.args.unique) (Ok (record { oid = c.in-Ok.made.oid; gone = None; come = c.in-Ok.made.come }))) (sym w.volume-is)
+          (frozen_made g.V.Ground c.args.volume.now w.freeze-copied.new.volume c.args.oid.now c.args.unique mid c.file_of.new.volume c.count_number.ensures.leads c.in_ok-count_number.ensures.counts c.file_of.ensures.kept c.in_ok-file_of.field-0 c.of_file-room.result.file_no room filed
+          c.in-Ok.made (told_of _ w.freeze-copied.result c.in-Ok.made did told.number) told.leads (done_of _ w.freeze-copied.result c.in-Ok.made did told.takes) (told_of _ w.freeze-copied.result c.in-Ok.made did told.come) (told_of _ w.freeze-copied.result c.in-Ok.made did told.frozen)))
+      | in-Derive w ↦
+          let did : w.derive-copied.result ≡ Ok c.in-Ok.made = sym w.copied-is ∙ c.in-Ok.is in
+          let told = w.derive-copied.ensures in
+          subst (λ (k : Copying). Updates g.V.Ground c.args.volume.now c.match-copying.volume (copies k c.args.oid.now c.args.unique) (Ok (record { oid = c.in-Ok.made.oid; gone = None; come = c.in-Ok.made.come }))) (sym w.in-Derive.is)
+          (subst (λ volume. Updates g.V.Ground c.args.volume.now volume (copies copying.Derive c.args.oid.now c.args.unique) (Ok (record { oid = c.in-Ok.made.oid; gone = None; come = c.in-Ok.made.come }))) (sym w.volume-is)
+          (derived_made g.V.Ground c.args.volume.now w.derive-copied.new.volume c.args.oid.now c.args.unique mid c.file_of.new.volume c.count_number.ensures.leads c.in_ok-count_number.ensures.counts c.file_of.ensures.kept c.in_ok-file_of.field-0 c.of_file-room.result.file_no room filed
+          c.in-Ok.made (told_of _ w.derive-copied.result c.in-Ok.made did told.number) told.leads (done_of _ w.derive-copied.result c.in-Ok.made did told.takes) (told_of _ w.derive-copied.result c.in-Ok.made did told.come) (told_of _ w.derive-copied.result c.in-Ok.made did told.derived)))
+    ]
+
+pub returns-in-Err-clause-updates : goal.returns-in-Err-clause-updates
+returns-in-Err-clause-updates g c =
+    let mid = c.count_number.new.volume in
+    let room = number_kept c.args.rooms.now c.in_ok-file_of.field-0 c.of_file-room.result c.of_file-room.ensures in
+    let filed = subst (λ (place : Place). g.V.Ground.tells mid → (index : Index) (body : List ℕ) → HasBody g.V.Ground mid index place body → index.file_no ≡ c.in_ok-file_of.field-0) c.place_of.ensures c.in_ok-file_of.ensures.number in
+    elim c.match-copying.branch [
+      | in-Freeze w ↦
+          let failed : w.freeze-copied.result ≡ Err c.in-Err.fault = sym w.copied-is ∙ c.in-Err.is in
+          subst (λ (k : Copying). Updates g.V.Ground c.args.volume.now c.match-copying.volume (copies k c.args.oid.now c.args.unique) (Err c.in-Err.fault)) (sym w.in-Freeze.is)
+          (subst (λ volume. Updates g.V.Ground c.args.volume.now volume (copies copying.Freeze c.args.oid.now c.args.unique) (Err c.in-Err.fault)) (sym w.volume-is)
+          (freeze_failed g.V.Ground c.args.volume.now w.freeze-copied.new.volume c.args.oid.now c.args.unique mid c.file_of.new.volume c.count_number.ensures.leads c.in_ok-count_number.ensures.counts c.file_of.ensures.kept c.in_ok-file_of.field-0 c.of_file-room.result.file_no room filed
+          c.in-Err.fault (fault_of _ w.freeze-copied.result c.in-Err.fault failed w.freeze-copied.ensures.sound)))
+      | in-Derive w ↦
+          let failed : w.derive-copied.result ≡ Err c.in-Err.fault = sym w.copied-is ∙ c.in-Err.is in
+          subst (λ (k : Copying). Updates g.V.Ground c.args.volume.now c.match-copying.volume (copies k c.args.oid.now c.args.unique) (Err c.in-Err.fault)) (sym w.in-Derive.is)
+          (subst (λ volume. Updates g.V.Ground c.args.volume.now volume (copies copying.Derive c.args.oid.now c.args.unique) (Err c.in-Err.fault)) (sym w.volume-is)
+          (derive_failed g.V.Ground c.args.volume.now w.derive-copied.new.volume c.args.oid.now c.args.unique mid c.file_of.new.volume c.count_number.ensures.leads c.in_ok-count_number.ensures.counts c.file_of.ensures.kept c.in_ok-file_of.field-0 c.of_file-room.result.file_no room filed
+          c.in-Err.fault (fault_of _ w.derive-copied.result c.in-Err.fault failed w.derive-copied.ensures.sound)))
+    ]

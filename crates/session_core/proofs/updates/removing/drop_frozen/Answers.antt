@@ -1,0 +1,18 @@
+use Rattle.std.proofs.Common.{None}
+use Rattle.session_core.specs.TableUpdates.{Drops}
+use Rattle.session_core.proofs.Removed.{drop_failed, version_dropped}
+use Rattle.session_core.proofs.MovedVolumes.{still_updated}
+use Rattle.file_rooms.proofs.Remembered.{one_lowered}
+use Rattle.session_core.proofs.updates.removing.drop_frozen.Goals as goal
+
+pub returns-in-Ok-clause-updates : goal.returns-in-Ok-clause-updates
+returns-in-Ok-clause-updates g c =
+    still_updated g.V.Ground c.args.volume.now c.drop_version.new.volume c.look_at.new.volume c.look_at.ensures.kept (Drops c.args.oid.now) (record { oid = c.args.oid.now; gone = c.in-Ok.gone; come = None }) c.look_at.result
+    (version_dropped g.V.Ground c.args.volume.now c.drop_version.new.volume c.args.oid.now c.in-Ok.gone c.drop_version.ensures.leads c.in-Ok.ensures.gives c.in-Ok.ensures.gone c.in-Ok.ensures.dropped)
+    c.look_at.ensures.same c.look_at.ensures.no_damage
+
+pub returns-in-Err-clause-updates : goal.returns-in-Err-clause-updates
+returns-in-Err-clause-updates g c = drop_failed g.V.Ground c.args.volume.now c.drop_version.new.volume c.args.oid.now c.in-Err.fault c.in-Err.ensures.sound
+
+pub returns-in-Ok-clause-rooms : goal.returns-in-Ok-clause-rooms
+returns-in-Ok-clause-rooms g c = one_lowered c.args.rooms.now c.look_at.new.self c.args.oid.now.page.0 c.look_at.ensures.rooms

@@ -1,0 +1,201 @@
+//! The versions that a version is related to.
+ghost use Rattle.std.specs.Prelude.{◌≡◌, ◌≤◌, true, Some, IfOk, IfErr};
+ghost use Rattle.ex_base.specs.Ports.{Keeps, HasCause, IsDamage};
+ghost use Rattle.ex_base.specs.Sizes.{volume_bytes};
+ghost use Rattle.volume_port.specs.Reading.{CanRead};
+ghost use Rattle.session_views.specs.View.{View};
+ghost use Rattle.table_model.specs.Machines.{shown};
+ghost use Rattle.table_model.specs.Refusals.{branches_if, is_only_one};
+ghost use Rattle.table_model.specs.Tables.{versions_of};
+ghost use Rattle.session_core.specs.Finding.{AreRelatives, HasParts, oids_if, IfShown, IfVersion, LeavesFrames, PortShows, TellsVersion};
+ghost use Rattle.session_core.specs.Sessions.{SessionState};
+
+use super::objects::{Named, stopped};
+use super::{MAIN, Session};
+use buffer_groups::Groups;
+use disk_model::{Disk, Host};
+use ex_base::{Geometry, Oid, PortFault, ReadVolume};
+use meta_pages::Meta;
+use session_views::Stop;
+use std::alloc::{AllocError, Global};
+use version_tree::{derived, older, versions};
+use volume_port::{LoggedPages, ReadingPort};
+
+/// Which relatives of a version are asked for.
+#[derive(Clone, Copy, Debug, PartialEq, Eq)]
+pub enum Relation {
+    /// All versions of its object, as they are listed.
+    Object,
+    /// Those that are derived from it, in order of their unique numbers.
+    Derived,
+    /// The one that it is derived from, if it is derived from one.
+    Older,
+}
+
+/// The version as a list, if there is one.
+fn listed(alloc: Global, oid: Option<Oid>) -> Result<Vec<Oid>, AllocError>
+    ensures { IfOk result (λ oids. oids.items ≡ oids_if oid) }
+{
+    let mut oids = Vec::new(alloc);
+    if let Some(oid) = oid {
+        oids.push(oid)?;
+    }
+    Ok(oids)
+}
+
+// Lists relatives of a version of a volume.
+fn relatives_in<V: ReadVolume>(
+    volume: &mut V,
+    alloc: Global,
+    oid: &Oid,
+    relation: Relation,
+) -> Result<Vec<Oid>, PortFault>
+    requires { V.ready volume.old }
+    ensures oids { (before : View SessionState) → PortShows V.Ground volume.old before
+        → IfVersion before oid.now (λ version. IfOk result (λ oids.
+        AreRelatives before.machine version relation oids.items)) }
+    ensures sound { (before : View SessionState) → PortShows V.Ground volume.old before
+        → IfVersion before oid.now (λ version. IfErr result (λ fault. IsDamage fault → ⊥)) }
+    ensures kept { Keeps V.Ground volume.old volume.new }
+    ensures cause { HasCause (V.faults volume.old) (V.faults volume.new) result }
+{
+    match relation {
+        Relation::Object => versions(volume, alloc, oid),
+        Relation::Derived => derived(volume, alloc, oid),
+        Relation::Older => Ok(listed(alloc, older(volume, alloc, oid)?)?),
+    }
+}
+
+// Lists relatives of a version, through a port for reading over these parts of a session.
+fn relatives_on<D: Disk>(
+    alloc: Global,
+    disk: &mut D,
+    groups: &mut Groups,
+    room: &mut [u8],
+    geometry: &Geometry,
+    meta: &Meta,
+    pages: &LoggedPages,
+    oid: &Oid,
+    relation: Relation,
+) -> Result<Vec<Oid>, PortFault>
+    requires { CanRead geometry.now (D.outside disk.old).size groups.old 0 meta.now room.old }
+    ensures leaves { LeavesFrames (D.outside disk.old) (D.outside disk.new) groups.old groups.new }
+    ensures oids { (old : SessionState) → HasParts old geometry.now meta.now pages.now groups.old
+        → IfShown (D.outside disk.old) old (λ before. IfVersion before oid.now (λ version.
+        IfOk result (λ oids. AreRelatives before.machine version relation oids.items))) }
+    ensures sound { (old : SessionState) → HasParts old geometry.now meta.now pages.now groups.old
+        → IfShown (D.outside disk.old) old (λ before. IfVersion before oid.now (λ version.
+        IfErr result (λ fault. IsDamage fault → ⊥))) }
+    ensures cause { HasCause (D.outside disk.old).disk_faults
+        (D.outside disk.new).disk_faults result }
+{
+    let mut port = ReadingPort {
+        disk,
+        groups,
+        room,
+        index: MAIN,
+        keeps_leaves: false,
+        geometry: *geometry,
+        meta,
+        pages,
+    };
+    relatives_in(&mut port, alloc, oid, relation)
+}
+
+impl Session {
+    ghost use Rattle.session_core.specs.Sessions.{IsSession};
+    ghost use Rattle.session_core.specs.Steps.{OnlyFrames};
+    ghost use Rattle.session_core.specs.Finding.{LineStops, IsOutside};
+
+    /// Relatives of a version. It stops where the disk fails, where memory is wanted, and at a page that isn't what names it.
+    pub fn relatives<D: Disk>(
+        &mut self,
+        alloc: Global,
+        disk: &mut D,
+        oid: &Oid,
+        relation: Relation,
+    ) -> Result<Vec<Oid>, Stop>
+        requires room { volume_bytes self.old.geometry ≤ (D.outside disk.old).size }
+        ensures session { IsSession self.old }
+        ensures only { OnlyFrames (D.outside disk.old) (D.outside disk.new) self.old self.new }
+        ensures oids { IfOk result (λ oids. IfShown (D.outside disk.old) self.old
+            (λ before. IfVersion before oid.now (λ version.
+            AreRelatives before.machine version relation oids.items))) }
+        ensures stops { IfErr result (LineStops (D.outside disk.old) (D.outside disk.new)) }
+        ensures sound { IfErr result (λ why. IfShown (D.outside disk.old) self.old
+            (λ before. IfVersion before oid.now (λ version. IsOutside why))) }
+    {
+        let mut room = self.page_room(alloc)?;
+        match relatives_on(
+            alloc,
+            disk,
+            &mut self.groups,
+            &mut room,
+            &self.geometry,
+            &self.meta,
+            &self.pages,
+            oid,
+            relation,
+        ) {
+            Ok(oids) => Ok(oids),
+            Err(fault) => Err(stopped(fault)),
+        }
+    }
+
+    /// Whether the version is derived from another one and no other version is. It stops as `relatives` does.
+    pub fn is_only_one<H: Host>(
+        &mut self,
+        alloc: Global,
+        host: &mut H,
+        version: &Named,
+    ) -> Result<bool, Stop>
+        requires room { volume_bytes self.old.geometry ≤ (H.outside host.old).size }
+        ensures session { IsSession self.old }
+        ensures only { OnlyFrames (H.outside host.old) (H.outside host.new) self.old self.new }
+        ensures alone { IfOk result (λ alone. IfShown (H.outside host.old) self.old
+            (λ before. (told : TellsVersion before version.now.oid version.now.found) → alone
+            ≡ is_only_one (versions_of (shown before.machine)) (Some told.version))) }
+        ensures stops { IfErr result (LineStops (H.outside host.old) (H.outside host.new)) }
+        ensures sound { IfErr result (λ why. IfShown (H.outside host.old) self.old
+            (λ before. TellsVersion before version.now.oid version.now.found → IsOutside why)) }
+    {
+        let _ = &self.geometry;
+        if version.found.head.older.is_none() {
+            return Ok(false);
+        }
+        let oids = self.relatives(alloc, host, &version.oid, Relation::Older)?;
+        let Some(older) = oids.first() else {
+            return Ok(false);
+        };
+        match self.find_version(alloc, host, older)? {
+            Some(found) => Ok(found.head.newer.is_some()),
+            None => Ok(false),
+        }
+    }
+
+    /// How many versions are derived from a frozen one. It stops as `relatives` does.
+    pub fn branches<H: Host>(
+        &mut self,
+        alloc: Global,
+        host: &mut H,
+        version: &Named,
+    ) -> Result<u64, Stop>
+        requires room { volume_bytes self.old.geometry ≤ (H.outside host.old).size }
+        ensures session { IsSession self.old }
+        ensures only { OnlyFrames (H.outside host.old) (H.outside host.new) self.old self.new }
+        ensures count { IfOk result (λ count. IfShown (H.outside host.old) self.old
+            (λ before. (told : TellsVersion before version.now.oid version.now.found)
+            → told.version.frozen ≡ true → count
+            ≡ branches_if (versions_of (shown before.machine)) (Some told.version))) }
+        ensures stops { IfErr result (LineStops (H.outside host.old) (H.outside host.new)) }
+        ensures sound { IfErr result (λ why. IfShown (H.outside host.old) self.old
+            (λ before. TellsVersion before version.now.oid version.now.found → IsOutside why)) }
+    {
+        let _ = &self.geometry;
+        if version.found.head.newer.is_some() {
+            return Ok(1);
+        }
+        let oids = self.relatives(alloc, host, &version.oid, Relation::Derived)?;
+        Ok(oids.len() as u64)
+    }
+}

@@ -1,0 +1,133 @@
+//! How many objects and versions a file has.
+ghost use Rattle.std.specs.Prelude.{◌≡◌, ◌≤◌, IfOk, IfErr};
+ghost use Rattle.std.specs.List.{count_by};
+ghost use Rattle.ex_base.specs.Ports.{Keeps, HasCause, IsDamage};
+ghost use Rattle.ex_base.specs.Sizes.{volume_bytes};
+ghost use Rattle.volume_port.specs.Reading.{CanRead};
+ghost use Rattle.session_core.specs.Finding.{HasParts, IfFile, IfPortFile, LeavesFrames};
+ghost use Rattle.session_core.specs.Sessions.{SessionState};
+ghost use Rattle.session_core.specs.Summaries.{IsTally, is_first};
+
+use super::objects::stopped;
+use super::{MAIN, Session};
+use buffer_groups::Groups;
+use disk_model::Disk;
+use ex_base::{Geometry, PortFault, ReadVolume};
+use meta_pages::Meta;
+use session_views::Stop;
+use std::alloc::Global;
+use version_tree::{Member, collect};
+use volume_port::{LoggedPages, ReadingPort};
+
+/// How many objects and versions a file has.
+#[derive(Clone, Copy)]
+pub(super) struct Tally {
+    pub(super) objects: usize,
+    pub(super) versions: usize,
+}
+
+/// How many of the versions are derived from none.
+fn count_firsts(members: &[Member]) -> usize
+    ensures { result ≡ count_by is_first members.now }
+{
+    let mut firsts = 0;
+    'members: for member in members {
+        if member.older.is_none() {
+            firsts += 1;
+        }
+    }
+    firsts
+}
+
+// Counts the objects and versions of a file of a volume: each object has one version that is derived from none.
+fn tally_in<V: ReadVolume>(volume: &mut V, alloc: Global, file_no: u32) -> Result<Tally, PortFault>
+    requires { V.ready volume.old }
+    ensures tally { IfOk result (λ tally. IfPortFile V.Ground volume.old file_no
+        (λ before name. IsTally before.machine name tally)) }
+    ensures sound { IfErr result (λ fault. IfPortFile V.Ground volume.old file_no
+        (λ before name. IsDamage fault → ⊥)) }
+    ensures kept { Keeps V.Ground volume.old volume.new }
+    ensures cause { HasCause (V.faults volume.old) (V.faults volume.new) result }
+{
+    match collect(volume, alloc, file_no) {
+        Ok(members) => Ok(Tally {
+            objects: count_firsts(&members),
+            versions: members.len(),
+        }),
+        Err(fault) => Err(fault),
+    }
+}
+
+// Counts the objects and versions of a file, through a port for reading over these parts of a session.
+fn tally_on<D: Disk>(
+    alloc: Global,
+    disk: &mut D,
+    groups: &mut Groups,
+    room: &mut [u8],
+    geometry: &Geometry,
+    meta: &Meta,
+    pages: &LoggedPages,
+    file_no: u32,
+) -> Result<Tally, PortFault>
+    requires { CanRead geometry.now (D.outside disk.old).size groups.old 0 meta.now room.old }
+    ensures leaves { LeavesFrames (D.outside disk.old) (D.outside disk.new) groups.old groups.new }
+    ensures tally { (old : SessionState) → HasParts old geometry.now meta.now pages.now groups.old
+        → IfOk result (λ tally. IfFile (D.outside disk.old) old file_no (λ before name.
+        IsTally before.machine name tally)) }
+    ensures sound { (old : SessionState) → HasParts old geometry.now meta.now pages.now groups.old
+        → IfErr result (λ fault. IfFile (D.outside disk.old) old file_no
+        (λ before name. IsDamage fault → ⊥)) }
+    ensures cause { HasCause (D.outside disk.old).disk_faults
+        (D.outside disk.new).disk_faults result }
+{
+    let mut port = ReadingPort {
+        disk,
+        groups,
+        room,
+        index: MAIN,
+        keeps_leaves: false,
+        geometry: *geometry,
+        meta,
+        pages,
+    };
+    tally_in(&mut port, alloc, file_no)
+}
+
+impl Session {
+    ghost use Rattle.session_core.specs.Sessions.{IsSession};
+    ghost use Rattle.session_core.specs.Steps.{OnlyFrames};
+    ghost use Rattle.session_core.specs.Finding.{LineStops, IsOutside};
+
+    /// How many objects and versions the file with a number has. It stops where the disk fails, where memory is wanted, and at a page that isn't what
+    /// names it.
+    pub(super) fn tally_of<D: Disk>(
+        &mut self,
+        alloc: Global,
+        disk: &mut D,
+        file_no: u32,
+    ) -> Result<Tally, Stop>
+        requires room { volume_bytes self.old.geometry ≤ (D.outside disk.old).size }
+        ensures session { IsSession self.old }
+        ensures only { OnlyFrames (D.outside disk.old) (D.outside disk.new) self.old self.new }
+        ensures tally { IfOk result (λ tally. IfFile (D.outside disk.old) self.old file_no
+            (λ before name. IsTally before.machine name tally)) }
+        ensures stops { IfErr result (LineStops (D.outside disk.old) (D.outside disk.new)) }
+        ensures sound { IfErr result (λ why. IfFile (D.outside disk.old) self.old file_no
+            (λ before name. IsOutside why)) }
+    {
+        let mut room = self.page_room(alloc)?;
+        match tally_on(
+            alloc,
+            disk,
+            &mut self.groups,
+            &mut room,
+            &self.geometry,
+            &self.meta,
+            &self.pages,
+            file_no,
+        ) {
+            Ok(tally) => Ok(tally),
+            Err(fault) => Err(stopped(fault)),
+        }
+    }
+}

@@ -1,0 +1,64 @@
+//! A version is copied.
+ghost use Rattle.std.specs.Prelude.{◌≡◌, ◌≤◌, ◌<◌, ◌+◌, ◌^◌, IfOk, OnOk};
+ghost use Rattle.ex_base.specs.Ports.{HasCause};
+ghost use Rattle.ex_base.specs.declared.names.Area.TheVariants.{Page};
+ghost use Rattle.file_index.specs.Taking.{OnlyTakes};
+ghost use Rattle.file_rooms.specs.Rooms.{ChangesOne};
+ghost use Rattle.session_core.specs.Performed.{copies};
+ghost use Rattle.session_core.specs.TableUpdates.{Updates};
+
+use super::Done;
+use super::creating::count_number;
+use ex_base::{Oid, PortFault, Volume};
+use file_rooms::Rooms;
+use std::alloc::Global;
+use version_tree::{derive, file_of, freeze};
+use versions::place_of;
+
+/// How a version is copied.
+#[derive(Clone, Copy, Debug, PartialEq, Eq)]
+pub enum Copying {
+    /// A frozen copy of a current version comes between it and its older one.
+    Freeze,
+    /// A current copy of a frozen version is derived from it.
+    Derive,
+}
+
+/// Copies a version under a unique number, and remembers the room that is left in its file. A large copy shares the tree of the version: each unit that comes
+/// into use is a logged page.
+pub fn copy<V: Volume>(
+    volume: &mut V,
+    alloc: Global,
+    rooms: &mut Rooms,
+    copying: Copying,
+    oid: &Oid,
+    unique: u64,
+) -> Result<Done, PortFault>
+    requires ready { V.ready volume.old }
+    requires pages { 7 ≤ V.free volume.old Page }
+    requires number { unique + 1 < 2 ^ 64 }
+    ensures named { IfOk result (λ done. done.oid.unique ≡ unique) }
+    ensures updates { Updates V.Ground volume.old volume.new (copies copying oid.now unique) result }
+    ensures shares { OnOk result (OnlyTakes V.Ground volume.old volume.new) }
+    ensures rooms { ChangesOne rooms.old rooms.new }
+    ensures leads { V.leads volume.old volume.new }
+    ensures cause { HasCause (V.faults volume.old) (V.faults volume.new) result }
+{
+    count_number(volume, alloc, unique)?;
+    let mut room = rooms.of_file(file_of(volume, alloc, place_of(oid))?);
+    let copied = match copying {
+        Copying::Freeze => freeze(volume, alloc, oid, &mut room, unique),
+        Copying::Derive => derive(volume, alloc, oid, &mut room, unique),
+    };
+    match copied {
+        Ok(made) => {
+            rooms.keep(room);
+            Ok(Done {
+                oid: made.oid,
+                gone: None,
+                come: made.come,
+            })
+        }
+        Err(fault) => Err(fault),
+    }
+}

@@ -1,0 +1,156 @@
+-- How a line is answered that makes a version, once the machine accepts it.
+use Rattle.std.proofs.Common.{◌≡◌, ◌∙◌, ◌+◌, ◌-◌, ◌^◌, ℕ, true, false, List, [], ◌∷◌, ◌++◌, All, AllPairs, Some, None, Ok, Err, refl, sym, ap, subst}
+use Rattle.std.specs.Prelude.{IsTrue, ◌==◌, if◌then◌else◌}
+use Rattle.ex_base.specs.declared.names.Area.TheVariants.{Page, Segment}
+use Rattle.ex_base.specs.declared.names.Oid.{Oid}
+use Rattle.ex_base.specs.declared.names.OpNote.{OpNote}
+use Rattle.ex_base.specs.declared.names.Place.{Place}
+use Rattle.ex_base.specs.declared.notes.NoteKind.{NoteKind}
+use Rattle.disk_model.specs.Outside.{Outside, DiskOnly, IsWorld}
+use Rattle.table_model.specs.declared.machine.BoundName.{BoundName}
+use Rattle.table_model.specs.declared.machine.Machine.{Machine}
+use Rattle.table_model.specs.declared.machine.Pick.{Pick}
+use Rattle.table_model.specs.declared.reply.Refusal.{Refusal}
+use Rattle.table_model.specs.declared.reply.Refusal.TheVariants as refusal
+use Rattle.table_model.specs.declared.reply.Reply.{Reply}
+use Rattle.table_model.specs.declared.reply.Reply.TheVariants as reply
+use Rattle.table_model.specs.declared.table.Table.{Table}
+use Rattle.table_model.specs.Machines.{IsMachine, shown}
+use Rattle.table_model.specs.Needs.{charge, need}
+use Rattle.table_model.specs.Refusals.{when}
+use Rattle.table_model.specs.Requests.{Request}
+use Rattle.table_model.specs.Steps.{Asks, IsVacant, machine_after, new_oid, note, notes_of, reply_to, table_after}
+use Rattle.table_model.specs.Tables.{LieApart, SamePlace, versions_of}
+use Rattle.table_model.specs.Words.{is_name}
+use Rattle.table_model.proofs.Keeping.{bound_keeps}
+use Rattle.version_lists.specs.declared.version.Version.{Version}
+use Rattle.version_lists.specs.Changes.{new_version}
+use Rattle.session_views.specs.View.{View, ShowsNow, Stepped}
+use Rattle.session_core.specs.declared.updates.ObjectUpdate.{ObjectUpdate}
+use Rattle.session_core.specs.Finding.{IfShown}
+use Rattle.session_core.specs.Meant.{meant, place_bound}
+use Rattle.session_core.specs.Performed.{IsUpdate}
+use Rattle.session_core.specs.ScanRows.{takes_name}
+use Rattle.session_core.specs.Sessions.{SessionState, IsSession}
+use Rattle.session_core.specs.Steps.{OnlyFrames}
+use Rattle.session_core.specs.TableUpdates.{TableUpdate, updated}
+use Rattle.session_core.specs.TableUpdates as update
+use Rattle.session_core.specs.Updates.{HoldsTable, Noted, parts_held}
+use Rattle.session_core.proofs.Quiet.{with_groups}
+use Rattle.session_core.proofs.Refusing.{none_is_false}
+use Rattle.session_core.proofs.Taken.{taken_as}
+use Rattle.transactions.specs.Editing.{KeptTo, limit_of}
+use Rattle.transactions.specs.Lines.{Answered, UpdatesLine, WentOn}
+use Rattle.transactions.specs.Making.{MakesVersion, bound_to, making_need}
+use Rattle.transactions.proofs.Updated.{machine_then, machine_with, noted_steps, pick_then, same_machine, within_need}
+use Rattle.transactions.proofs.UpdateLines.{counted_then, opened_then, update_done}
+
+-- ---- its number, and its room
+
+pub spent_told : (n : ℕ) (why : Refusal) → Err why ≡ (if n == 2 ^ 64 - 1 then Err refusal.IdsSpent else Ok n) → when (n == 2 ^ 64 - 1) refusal.IdsSpent ≡ Some why
+spent_told n why is = (elim (n == 2 ^ 64 - 1) as (λ b. Err why ≡ (if b then Err refusal.IdsSpent else Ok n) → when b refusal.IdsSpent ≡ Some why) [
+  | true ↦ λ spent. cc (spent)
+  | false ↦ λ given. absurd (cc (given))
+]) is
+
+-- the number that is given is the next one, and not the last of its kind
+pub record IsNext (n unique : ℕ) : Type 0 where
+  pub same : n ≡ unique
+  pub unspent : (n == 2 ^ 64 - 1) ≡ false
+
+pub next_told : (n unique : ℕ) → Ok unique ≡ (if n == 2 ^ 64 - 1 then Err refusal.IdsSpent else Ok n) → IsNext n unique
+next_told n unique is = (elim (n == 2 ^ 64 - 1) as (λ b. n == 2 ^ 64 - 1 ≡ b → Ok unique ≡ (if b then Err refusal.IdsSpent else Ok n) → IsNext n unique) [
+  | true ↦ λ _ spent. absurd (cc (spent))
+  | false ↦ λ few given. (let same : n ≡ unique = cc in record { same = same; unspent = few })
+]) refl is
+
+-- ---- its name
+
+-- the update left the names, so that the name is bound behind those of before
+pub bound_then : {old mid new : SessionState} {noted : OpNote} (name : List ℕ) (oid : Oid) → Noted old mid noted → new ≡ record mid { names = mid.names ++ bound_to name oid ∷ [] } → new ≡ record mid { names = old.names ++ bound_to name oid ∷ [] }
+bound_then {old} {mid} {new} name oid did is =
+    let same : mid.names ≡ old.names = ap (λ (s : SessionState). s.names) did.same in
+    subst (λ (names : List BoundName). new ≡ record mid { names = names ++ bound_to name oid ∷ [] }) same is
+
+place_last : (names : List BoundName) (b : BoundName) → place_bound (names ++ b ∷ []) ≡ record { page = b.oid.page; slot = b.oid.slot }
+place_last [] b = refl
+place_last (n ∷ []) b = refl
+place_last (n ∷ m ∷ names) b = place_last (m ∷ names) b
+
+abbrev made_oid : Place → ℕ → Oid
+made_oid place unique = record { page = place.page; slot = place.slot; unique = unique }
+
+-- ---- what the machine does
+
+-- The machine accepts the line. What it does on it is this update of the table: it makes a version with the next number, and binds the name to it. What the
+-- updated table keeps apart lies apart from the new version too.
+pub record Makes (m : Machine) (r : Request) (name : List ℕ) (kind : NoteKind) (told : Oid → Reply) (u : TableUpdate) : Type 0 where
+  pub accepted : Answered m r None
+  pub reply : (q : Pick) → reply_to m r q ≡ told (new_oid m q)
+  pub table : (q : Pick) → table_after m r q ≡ updated u (new_oid m q) (shown m)
+  pub notes : (q : Pick) → notes_of m r q ≡ note kind (new_oid m q) 0 0 ∷ []
+  pub after : (q : Pick) → machine_after m r q ≡ machine_with m (table_after m r q) (notes_of m r q) (m.names ++ bound_to name (new_oid m q) ∷ []) q
+  pub asks : (q : Pick) → IsVacant m q → Asks m r q
+  pub charge : 16 ≡ charge r
+  pub pages : (q : Pick) → 16 ≡ need m.geometry r q Page
+  pub segs : (q : Pick) → 0 ≡ need m.geometry r q Segment
+  pub last : (oid : Oid) → (updated u oid (shown m)).last ≡ (shown m).last
+  pub vacant : (oid : Oid) → oid.unique ≡ (shown m).next_unique → AllPairs LieApart (versions_of (updated u oid (shown m))) → All (λ (v : Version). SamePlace v (new_version oid) → ⊥) (versions_of (shown m))
+
+module _ {a b : Outside} {before : View SessionState} (now : ShowsNow meant a before) (counted : before.session.units.geometry ≡ before.session.geometry) (is_open : before.session.opened ≡ true) (r : Request) (name : List ℕ) (kind : NoteKind)
+    (told : Oid → Reply) (u : TableUpdate) (makes : Makes before.machine r name kind told u) (spelled : IsTrue (is_name name)) (untaken : takes_name before.session name ≡ false) (oid : Oid) (mid new : SessionState)
+    (number : oid.unique ≡ (shown before.machine).next_unique) (did : Noted before.session mid (note kind oid 0 0)) (kept : KeptTo (limit_of before.session making_need) mid)
+    (holds : HoldsTable before b (parts_held mid) mid.gained mid.lost (updated u oid (shown before.machine))) (bound : new ≡ record mid { names = before.session.names ++ bound_to name oid ∷ [] }) (only : DiskOnly a b) where
+  abbrev m : Machine
+  m = before.machine
+
+  abbrev names_then : List BoundName
+  names_then = before.session.names ++ bound_to name oid ∷ []
+
+  abbrev table_then : Table
+  table_then = updated u oid (shown m)
+
+  abbrev q : Pick
+  q = pick_then now mid (note kind oid 0 0) names_then table_then did holds r
+
+  oid_is : new_oid m q ≡ oid
+  oid_is =
+      ap (λ (place : Place). made_oid place (shown m).next_unique) (place_last before.session.names (bound_to name oid))
+      ∙ ap (λ (n : ℕ). made_oid (record { page = oid.page; slot = oid.slot }) n) (sym number)
+
+  after_is : machine_then now mid (note kind oid 0 0) names_then table_then did holds ≡ machine_after m r q
+  after_is =
+      same_machine m q (ap (λ (o : Oid). updated u o (shown m)) (sym oid_is) ∙ sym (makes.table q)) (ap (λ (o : Oid). note kind o 0 0 ∷ []) (sym oid_is) ∙ sym (makes.notes q))
+      (ap (λ (names : List BoundName). names ++ bound_to name oid ∷ []) (sym now.shows.shared.names) ∙ ap (λ (o : Oid). m.names ++ bound_to name o ∷ []) (sym oid_is))
+      ∙ sym (makes.after q)
+
+  named_machine : IsMachine (record m { names = names_then })
+  named_machine =
+      subst (λ (names : List BoundName). IsMachine (record m { names = names ++ bound_to name oid ∷ [] })) now.shows.shared.names
+      (bound_keeps m name oid now.shows.rules spelled (taken_as before now.shows name ∙ untaken) (none_is_false m.working (now.shows.shared.open_txn ∙ is_open)))
+
+  vacant_there : IsVacant m q
+  vacant_there = subst (λ (o : Oid). All (λ (v : Version). SamePlace v (new_version o) → ⊥) (versions_of (shown m))) (sym oid_is) (makes.vacant oid number holds.rules.apart)
+
+  pub made_steps : Stepped meant before r (told oid) new b
+  made_steps =
+      noted_steps now mid (note kind oid 0 0) names_then table_then did holds new r (told oid) (sym bound) only is_open (makes.last oid) named_machine (makes.accepted q) (ap told (sym oid_is) ∙ sym (makes.reply q)) after_is
+      (makes.asks q vacant_there, λ _. within_need now mid (note kind oid 0 0) names_then table_then did holds making_need r counted kept makes.charge (makes.pages q) (makes.segs q))
+
+-- ---- the line
+
+-- What a view asks for so that the line makes a version: the machine makes one by this update of the table, of this number, and the volume has what it asks.
+pub record MakesIn (v : View SessionState) {w : Outside} (now : ShowsNow meant w v) (r : Request) (name : List ℕ) (kind : NoteKind) (told : Oid → Reply) (made : ObjectUpdate) (unique : ℕ) : Type 0 where
+  pub u : TableUpdate
+  pub is : IsUpdate made u
+  pub asks : update.Asks u now.shows.working (shown v.machine)
+  pub makes : Makes v.machine r name kind told u
+  pub number : (shown v.machine).next_unique ≡ unique
+
+pub line_made : {a b c : Outside} {old mid new : SessionState} (r : Request) (name : List ℕ) (kind : NoteKind) (told : Oid → Reply) (made : ObjectUpdate) (unique : ℕ) → IsWorld a → IsSession old → old.opened ≡ true → OnlyFrames a b old mid
+    → IsTrue (is_name name) → takes_name mid name ≡ false → WentOn b c mid new → (oid : Oid) → oid.unique ≡ unique → MakesVersion b c mid new made kind name oid → ((why : Refusal) → told oid ≡ reply.No why → ⊥)
+    → IfShown a old (λ before. (later : ShowsNow meant b (with_groups before mid)) → MakesIn (with_groups before mid) later r name kind told made unique) → UpdatesLine a c old new r (Ok (told oid))
+line_made {a} {b} {c} {old} {mid} {new} r name kind told made unique world is is_open read spelled untaken went oid named done never facts =
+    update_done r world is read went (told oid) never (λ before same now later.
+    let it = facts before same now later in
+    made_steps later (counted_then read is) (opened_then read is_open) r name kind told it.u it.makes spelled untaken oid done.mid new (named ∙ sym it.number) done.noted done.kept (done.holds (with_groups before mid) refl later it.u it.is it.asks) done.bound went.only)

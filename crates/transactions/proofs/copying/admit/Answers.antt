@@ -1,0 +1,60 @@
+use Rattle.std.proofs.Common.{◌∙◌, Ok, refl, sym, ap}
+use Rattle.table_model.specs.Requests.{reference_of}
+use Rattle.session_core.proofs.Naming.{frames_twice}
+use Rattle.session_core.proofs.Quiet.{same_view, with_groups}
+use Rattle.session_core.proofs.Sessions.{viewed}
+use Rattle.session_core.proofs.Stopping.{unread_outside}
+use Rattle.transactions.specs.Making.{number_in}
+use Rattle.transactions.proofs.Copied.{copy_admitted, copy_full, copy_spent, copy_unfound}
+use Rattle.transactions.proofs.copying.admit.Goals as goal
+
+pub returns-in-Err-version_of-clause-refused : goal.returns-in-Err-version_of-clause-refused
+returns-in-Err-version_of-clause-refused g c =
+    let x = reference_of c.args.x.now in
+    let how = c.args.copying in
+    let name = c.args.name.now in
+    copy_unfound how x name c.in-Ok.told c.named.ensures.only c.named.ensures.session c.requires.is_open c.in-Ok.ensures.named c.in-Err-version_of.why c.in-Err-version_of.ensures
+
+pub returns-in-Err-catalog-clause-only : goal.returns-in-Err-catalog-clause-only
+returns-in-Err-catalog-clause-only g c = frames_twice c.named.ensures.only c.catalog.ensures.frames
+
+pub returns-in-Err-catalog-clause-sound : goal.returns-in-Err-catalog-clause-sound
+returns-in-Err-catalog-clause-sound g c = λ before same now.
+    unread_outside (g.H.World.outside c.catalog.new.disk) c.in-Err-catalog.stop c.catalog.ensures.session c.in-Err-catalog.ensures.stops (with_groups before c.named.new.self) refl
+    (same_view before same now c.named.ensures.only c.named.ensures.session.sizes)
+
+pub returns-in-Err-next_number-clause-only : goal.returns-in-Err-next_number-clause-only
+returns-in-Err-next_number-clause-only g c = frames_twice c.named.ensures.only c.catalog.ensures.frames
+
+pub returns-in-Err-next_number-clause-refused : goal.returns-in-Err-next_number-clause-refused
+returns-in-Err-next_number-clause-refused g c =
+    let x = reference_of c.args.x.now in
+    let how = c.args.copying in
+    let name = c.args.name.now in
+    copy_spent how x name c.in-Ok.told c.named.ensures.only c.named.ensures.session c.requires.is_open c.in-Ok.ensures.named
+    c.in-Ok-version_of.version c.in-Ok-version_of.ensures c.catalog.ensures.session c.catalog.ensures.frames c.in-Ok-catalog.page.items (record { catalog = c.in-Ok-catalog.ensures.catalog; read = c.in-Ok-catalog.ensures.read })
+    c.in-Err-next_number.why (c.in-Err-next_number.ensures ∙ ap number_in (viewed c.view_of.result c.deref.result.now c.in-Ok-catalog.page.items c.view_of.ensures c.deref.ensures.value))
+
+pub returns-in-Some-clause-only : goal.returns-in-Some-clause-only
+returns-in-Some-clause-only g c = frames_twice c.named.ensures.only c.catalog.ensures.frames
+
+pub returns-in-Some-clause-refused : goal.returns-in-Some-clause-refused
+returns-in-Some-clause-refused g c =
+    let x = reference_of c.args.x.now in
+    let how = c.args.copying in
+    let name = c.args.name.now in
+    copy_full how x name c.in-Ok.told c.named.ensures.only c.named.ensures.session c.requires.is_open c.in-Ok.ensures.named
+    c.in-Ok-version_of.version c.in-Ok-version_of.ensures c.catalog.ensures.session c.catalog.ensures.frames c.in-Ok-catalog.page.items (record { catalog = c.in-Ok-catalog.ensures.catalog; read = c.in-Ok-catalog.ensures.read })
+    c.in-Ok-next_number.unique (c.in-Ok-next_number.ensures ∙ ap number_in (viewed c.view_of.result c.deref.result.now c.in-Ok-catalog.page.items c.view_of.ensures c.deref.ensures.value)) c.in-Some.why c.in-Some.ensures
+
+pub returns-clause-only : goal.returns-clause-only
+returns-clause-only g c = frames_twice c.named.ensures.only c.catalog.ensures.frames
+
+pub returns-clause-admitted : goal.returns-clause-admitted
+returns-clause-admitted g c =
+    let x = reference_of c.args.x.now in
+    let how = c.args.copying in
+    let name = c.args.name.now in
+    copy_admitted how x name c.in-Ok.told c.named.ensures.only c.named.ensures.session c.requires.is_open c.in-Ok.ensures.named
+    c.in-Ok-version_of.version c.in-Ok-version_of.ensures c.catalog.ensures.session c.catalog.ensures.frames c.in-Ok-catalog.page.items (record { catalog = c.in-Ok-catalog.ensures.catalog; read = c.in-Ok-catalog.ensures.read })
+    c.in-Ok-next_number.unique (c.in-Ok-next_number.ensures ∙ ap number_in (viewed c.view_of.result c.deref.result.now c.in-Ok-catalog.page.items c.view_of.ensures c.deref.ensures.value)) (sym c.in-None.is ∙ c.refuses_room.ensures)

@@ -1,0 +1,21 @@
+use Rattle.std.proofs.Common.{subst}
+use Rattle.ex_base.specs.declared.names.OpNote.{OpNote}
+use Rattle.session_core.specs.declared.session.moving.Limit.{Limit}
+use Rattle.session_core.specs.Updates.{Noted, note_with}
+use Rattle.transactions.specs.Editing.{KeptTo}
+use Rattle.transactions.proofs.Made.{bound_then}
+use Rattle.transactions.proofs.making.make.Goals as goal
+
+pub returns-in-Ok-bind-clause-made : goal.returns-in-Ok-bind-clause-made
+returns-in-Ok-bind-clause-made g c =
+    let mid = c.update_objects.new.self in
+    let oid = c.in-Ok.oid in
+    let did = subst (λ (n : OpNote). Noted c.args.session.now mid (note_with n oid)) c.object_note-note.ensures c.in-Ok.ensures.noted in
+    record {
+      named = c.in-Ok.ensures.named;
+      mid = mid;
+      noted = did;
+      kept = subst (λ (l : Limit). KeptTo l mid) c.limit-limit.ensures c.in-Ok.ensures.kept;
+      holds = c.in-Ok.ensures.holds;
+      bound = bound_then c.args.name.now oid did c.in-Ok-bind.ensures.ok;
+    }

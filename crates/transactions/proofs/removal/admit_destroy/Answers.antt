@@ -1,0 +1,46 @@
+use Rattle.std.proofs.Common.{◌∙◌, sym}
+use Rattle.table_model.specs.Requests.{reference_of}
+use Rattle.session_core.proofs.Naming.{frames_twice}
+use Rattle.transactions.proofs.Naming.{names_so}
+use Rattle.transactions.proofs.Removed.{destroy_admitted, destroy_alone, destroy_full, still_asked}
+use Rattle.transactions.proofs.removal.admit_destroy.Goals as goal
+
+pub returns-in-Ok-true-clause-only : goal.returns-in-Ok-true-clause-only
+returns-in-Ok-true-clause-only g c = frames_twice c.named.ensures.only c.is_only_one.ensures.only
+
+pub returns-in-Ok-true-clause-refused : goal.returns-in-Ok-true-clause-refused
+returns-in-Ok-true-clause-refused g c =
+    let x = reference_of c.args.x.now in
+    let version = c.in-Ok-Ok.version in
+    let names = names_so x version c.in-Ok-Ok.field-0 c.in-Ok-Ok.field-0-is c.in-Ok-Ok.ensures.named in
+    destroy_alone x c.named.ensures.only c.named.ensures.session c.requires.is_open version names c.is_only_one.ensures.only (sym c.is_frozen.ensures ∙ c.if-is_frozen.false) c.in-Ok-true.field-0 c.in-Ok-true.ensures.alone c.in-Ok-true.field-0-test
+
+pub returns-in-Err-is_only_one-clause-only : goal.returns-in-Err-is_only_one-clause-only
+returns-in-Err-is_only_one-clause-only g c = frames_twice c.named.ensures.only c.is_only_one.ensures.only
+
+pub returns-in-Err-is_only_one-clause-sound : goal.returns-in-Err-is_only_one-clause-sound
+returns-in-Err-is_only_one-clause-sound g c =
+    let x = reference_of c.args.x.now in
+    let version = c.in-Ok-Ok.version in
+    still_asked x c.named.ensures.only c.named.ensures.session c.requires.is_open version (names_so x version c.in-Ok-Ok.field-0 c.in-Ok-Ok.field-0-is c.in-Ok-Ok.ensures.named) c.is_only_one.ensures.only
+    c.in-Err-is_only_one.stop c.in-Err-is_only_one.ensures.sound
+
+pub returns-in-Some-clause-only : goal.returns-in-Some-clause-only
+returns-in-Some-clause-only g c = frames_twice c.named.ensures.only c.is_only_one.ensures.only
+
+pub returns-in-Some-clause-refused : goal.returns-in-Some-clause-refused
+returns-in-Some-clause-refused g c =
+    let x = reference_of c.args.x.now in
+    let version = c.in-Ok-Ok.version in
+    let names = names_so x version c.in-Ok-Ok.field-0 c.in-Ok-Ok.field-0-is c.in-Ok-Ok.ensures.named in
+    destroy_full x c.named.ensures.only c.named.ensures.session c.requires.is_open version names c.is_only_one.ensures.only (sym c.is_frozen.ensures ∙ c.if-is_frozen.false) c.in-Ok-false.field-0 c.in-Ok-false.ensures.alone c.in-Ok-false.field-0-test c.in-Some.why c.in-Some.ensures
+
+pub returns-in-None-clause-only : goal.returns-in-None-clause-only
+returns-in-None-clause-only g c = frames_twice c.named.ensures.only c.is_only_one.ensures.only
+
+pub returns-in-None-clause-admitted : goal.returns-in-None-clause-admitted
+returns-in-None-clause-admitted g c =
+    let x = reference_of c.args.x.now in
+    let version = c.in-Ok-Ok.version in
+    let names = names_so x version c.in-Ok-Ok.field-0 c.in-Ok-Ok.field-0-is c.in-Ok-Ok.ensures.named in
+    destroy_admitted x c.named.ensures.only c.named.ensures.session c.requires.is_open version names c.is_only_one.ensures.only (sym c.is_frozen.ensures ∙ c.if-is_frozen.false) c.in-Ok-false.field-0 c.in-Ok-false.ensures.alone c.in-Ok-false.field-0-test c.in-None.ensures

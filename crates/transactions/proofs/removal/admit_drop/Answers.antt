@@ -1,0 +1,37 @@
+use Rattle.std.proofs.Common.{◌∙◌, sym}
+use Rattle.std.proofs.lemmas.Bool.{le-leb, lt-leb}
+use Rattle.table_model.specs.Requests.{reference_of}
+use Rattle.session_core.proofs.Naming.{frames_twice}
+use Rattle.transactions.proofs.Naming.{names_so}
+use Rattle.transactions.proofs.Removed.{drop_admitted, drop_branched, still_asked}
+use Rattle.transactions.proofs.removal.admit_drop.Goals as goal
+
+pub returns-in-Err-branches-clause-only : goal.returns-in-Err-branches-clause-only
+returns-in-Err-branches-clause-only g c = frames_twice c.named.ensures.only c.branches.ensures.only
+
+pub returns-in-Err-branches-clause-sound : goal.returns-in-Err-branches-clause-sound
+returns-in-Err-branches-clause-sound g c =
+    let x = reference_of c.args.x.now in
+    let version = c.in-Ok-Ok.version in
+    still_asked x c.named.ensures.only c.named.ensures.session c.requires.is_open version (names_so x version c.in-Ok-Ok.field-0 c.in-Ok-Ok.field-0-is c.in-Ok-Ok.ensures.named) c.branches.ensures.only
+    c.in-Err-branches.stop c.in-Err-branches.ensures.sound
+
+pub returns-then-derived-ge2-clause-only : goal.returns-then-derived-ge2-clause-only
+returns-then-derived-ge2-clause-only g c = frames_twice c.named.ensures.only c.branches.ensures.only
+
+pub returns-then-derived-ge2-clause-refused : goal.returns-then-derived-ge2-clause-refused
+returns-then-derived-ge2-clause-refused g c =
+    let x = reference_of c.args.x.now in
+    let version = c.in-Ok-Ok.version in
+    let names = names_so x version c.in-Ok-Ok.field-0 c.in-Ok-Ok.field-0-is c.in-Ok-Ok.ensures.named in
+    drop_branched x c.named.ensures.only c.named.ensures.session c.requires.is_open version names c.branches.ensures.only (sym c.is_frozen.ensures ∙ c.if-not-is_frozen.false) c.in_default.ensures c.in-Ok.derived c.in-Ok.ensures.count (le-leb 2 c.in-Ok.derived c.if-derived-ge2.true)
+
+pub returns-clause-only : goal.returns-clause-only
+returns-clause-only g c = frames_twice c.named.ensures.only c.branches.ensures.only
+
+pub returns-clause-admitted : goal.returns-clause-admitted
+returns-clause-admitted g c =
+    let x = reference_of c.args.x.now in
+    let version = c.in-Ok-Ok.version in
+    let names = names_so x version c.in-Ok-Ok.field-0 c.in-Ok-Ok.field-0-is c.in-Ok-Ok.ensures.named in
+    drop_admitted x c.named.ensures.only c.named.ensures.session c.requires.is_open version names c.branches.ensures.only (sym c.is_frozen.ensures ∙ c.if-not-is_frozen.false) c.in_default.ensures c.in-Ok.derived c.in-Ok.ensures.count (lt-leb 2 c.in-Ok.derived c.if-derived-ge2.false)

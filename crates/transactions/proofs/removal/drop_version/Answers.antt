@@ -1,0 +1,44 @@
+use Rattle.std.proofs.Common.{◌∙◌, Some, sym}
+use Rattle.table_model.specs.Machines.{shown}
+use Rattle.table_model.specs.Requests.{reference_of}
+use Rattle.table_model.specs.Requests as request
+use Rattle.session_core.specs.Finding.{IfShown}
+use Rattle.session_core.specs.TableUpdates.{AsksDrop}
+use Rattle.session_core.proofs.Refusing.{closed_refused}
+use Rattle.transactions.specs.Lines.{Answered}
+use Rattle.transactions.specs.Removing.{AcceptsOf}
+use Rattle.transactions.proofs.Removed.{dropped, drop_stopped, line_kept}
+use Rattle.transactions.proofs.UpdateLines.{admitted_with, line_closed, line_stopped, refused_with}
+use Rattle.transactions.proofs.removal.drop_version.Goals as goal
+
+pub returns-then-not-is_open : goal.returns-then-not-is_open
+returns-then-not-is_open g c =
+    line_closed c.args.session.now (request.DropVersion (reference_of c.args.x.now)) (g.H.World.is_world c.args.host.now) c.is_open.ensures.session (sym c.is_open.ensures.value ∙ c.if-not-is_open.true)
+    (λ m q closed. closed_refused m _ closed)
+
+pub returns-in-Ok-Err : goal.returns-in-Ok-Err
+returns-in-Ok-Err g c =
+    let r = request.DropVersion (reference_of c.args.x.now) in
+    line_kept r (g.H.World.is_world c.args.host.now) c.admit_drop.ensures.session c.admit_drop.ensures.only c.in-Ok-Err.why
+    (refused_with (λ why. IfShown (g.H.World.outside c.args.host.now) c.args.session.now (λ before. Answered before.machine r (Some why))) c.in-Ok-Err.why c.in-Ok-Err.field-0 c.in-Ok-Err.field-0-is c.in-Ok-Err.ensures.refused)
+
+pub returns-in-Err : goal.returns-in-Err
+returns-in-Err g c = line_stopped (request.DropVersion (reference_of c.args.x.now)) (g.H.World.is_world c.args.host.now) c.admit_drop.ensures.only c.in-Err.stop c.in-Err.ensures.stops c.in-Err.ensures.sound
+
+pub returns-in-Ok : goal.returns-in-Ok
+returns-in-Ok g c =
+    let x = reference_of c.args.x.now in
+    dropped (g.H.World.is_world c.args.host.now) c.admit_drop.ensures.session (sym c.is_open.ensures.value ∙ c.if-not-is_open.false) c.admit_drop.ensures.only
+    (record { only = c.update_objects.ensures.only; writes = c.update_objects.ensures.writes; geometry = c.update_objects.ensures.geometry; log = c.update_objects.ensures.log; down = c.update_objects.ensures.down; moments = c.update_objects.ensures.any_moment })
+    x c.in-Ok-Ok.oid
+    (admitted_with (λ oid. IfShown (g.H.World.outside c.args.host.now) c.args.session.now (λ before. AcceptsOf before.machine (request.DropVersion x) x oid × AsksDrop (shown before.machine) oid)) c.in-Ok-Ok.oid c.in-Ok-Ok.field-0 c.in-Ok-Ok.field-0-is c.in-Ok-Ok.ensures.admitted)
+    c.in-Ok.oid c.object_note-note.result c.limit-limit.result c.in-Ok.ensures.named c.object_note-note.ensures c.limit-limit.ensures c.in-Ok.ensures.noted c.in-Ok.ensures.kept c.in-Ok.ensures.holds
+
+pub returns-in-Err-update_objects : goal.returns-in-Err-update_objects
+returns-in-Err-update_objects g c =
+    let x = reference_of c.args.x.now in
+    drop_stopped (g.H.World.is_world c.args.host.now) c.admit_drop.ensures.session (sym c.is_open.ensures.value ∙ c.if-not-is_open.false) c.admit_drop.ensures.only
+    (record { only = c.update_objects.ensures.only; writes = c.update_objects.ensures.writes; geometry = c.update_objects.ensures.geometry; log = c.update_objects.ensures.log; down = c.update_objects.ensures.down; moments = c.update_objects.ensures.any_moment })
+    x c.in-Ok-Ok.oid
+    (admitted_with (λ oid. IfShown (g.H.World.outside c.args.host.now) c.args.session.now (λ before. AcceptsOf before.machine (request.DropVersion x) x oid × AsksDrop (shown before.machine) oid)) c.in-Ok-Ok.oid c.in-Ok-Ok.field-0 c.in-Ok-Ok.field-0-is c.in-Ok-Ok.ensures.admitted)
+    c.in-Err-update_objects.stop c.in-Err-update_objects.ensures.stops c.in-Err-update_objects.ensures.sound

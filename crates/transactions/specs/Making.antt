@@ -1,0 +1,38 @@
+-- A version that is made under the next unique number, and a name that is bound to it.
+use Rattle.std.specs.Prelude.{◌≡◌, ℕ, ◌-◌, ◌^◌, ◌==◌, List, [], ◌∷◌, ◌++◌, true, if◌then◌else◌, Result, Ok, Err}
+use Rattle.disk_model.specs.Outside.{Outside}
+use Rattle.ex_base.specs.declared.names.Oid.{Oid}
+use Rattle.ex_base.specs.declared.notes.NoteKind.{NoteKind}
+use Rattle.object_files.specs.Catalog.{Catalog}
+use Rattle.table_model.specs.declared.machine.BoundName.{BoundName}
+use Rattle.table_model.specs.declared.reply.Refusal.{Refusal}
+use Rattle.table_model.specs.declared.reply.Refusal.TheVariants as refusal
+use Rattle.table_model.specs.Machines.{shown}
+use Rattle.table_model.specs.Steps.{note}
+use Rattle.session_core.specs.declared.updates.ObjectUpdate.{ObjectUpdate}
+use Rattle.session_core.specs.Performed.{NamesOid}
+use Rattle.session_core.specs.Sessions.{SessionState}
+use Rattle.session_core.specs.TableUpdates.{updated}
+use Rattle.session_core.specs.Updates.{HoldsTable, IfUpdated, Noted, parts_held}
+use Rattle.transactions.specs.declared.edits.Need.{Need}
+use Rattle.transactions.specs.Editing.{KeptTo, limit_of}
+
+-- what a new version may take
+abbrev pub making_need : Need
+making_need = record { charge = 16; pages = 16; segs = 0 }
+
+-- the next unique number, or why there is none: the last one of its kind stays unused
+abbrev pub number_in : Catalog → Result ℕ Refusal
+number_in c = if c.next_unique == 2 ^ 64 - 1 then Err refusal.IdsSpent else Ok c.next_unique
+
+abbrev pub bound_to : List ℕ → Oid → BoundName
+bound_to name oid = record { name = name; oid = oid; marked = true }
+
+-- The update made a version, and the name was bound to it. In between the session had the update's note, and its parts held the updated table.
+pub record MakesVersion (a b : Outside) (old new : SessionState) (update : ObjectUpdate) (kind : NoteKind) (name : List ℕ) (oid : Oid) : Type 0 where
+  pub named : NamesOid update oid
+  pub mid : SessionState
+  pub noted : Noted old mid (note kind oid 0 0)
+  pub kept : KeptTo (limit_of old making_need) mid
+  pub holds : IfUpdated a old update (λ before u. HoldsTable before b (parts_held mid) mid.gained mid.lost (updated u oid (shown before.machine)))
+  pub bound : new ≡ record mid { names = old.names ++ bound_to name oid ∷ [] }
