@@ -1,23 +1,28 @@
 #!/usr/bin/env python3
 """Times exsm on whole workloads, beside SQLite where python3 has it, and draws how the times grow.
 
-    python3 bench/all.py PROGRAM [PROGRAM ..] [--folder FOLDER] [--plot FILE.svg] [--runs N] [--quick]
+    python3 bench/all.py PROGRAM [PROGRAM ..] [--folder FOLDER] [--plot FILE.svg] [--runs N] [--quick] [--large]
 
 Each PROGRAM is a built exsm, so that two builds can be compared; the first one stands first in the ratios. Volumes and databases lie in a new folder
 below FOLDER (/dev/shm where there is none given): in memory, where syncs cost nothing, a time is the program's own. A time of exsm is that of a whole
-process with its pipe, the least of N runs, less the least run of an empty script on the same volume. A time of SQLite is that of the calls in this
-process, the least of N runs: a write-ahead log, synchronous=FULL, an object as rows of 4,096 bytes, whose lengths the caller keeps. Each time is given
-by the clock and, in brackets, by the processor; ratios and plots are of the processor's, which other work on the machine hardly changes.
+process, which reads its script from a file and writes its replies into one, the median of N runs, less the median run of an empty script on the same
+volume. A time of SQLite is that of the calls in this process, the median of N runs: a write-ahead log, synchronous=FULL, an object as rows of 4,096
+bytes, whose lengths the caller keeps; an older version of an object is there the rows that were replaced since. All times are the processor's, of user
+and system, which other work on the machine changes less than the clock's. Where a part has a goal, it is told whether the first program keeps it. A
+program that lacks a workload's lines has no time there, and one whose run took more than PATIENCE seconds none of larger ones. `--large` goes up to an
+object of 4 GiB, which the folder needs room for.
 """
 import argparse
 import math
 import os
 import random
 import shutil
+import statistics
 import subprocess
 import sys
 import tempfile
 import time
+import typing
 
 try:
     import sqlite3
@@ -28,6 +33,8 @@ MIB = 1 << 20
 SIZE = 12 * MIB
 PIECE = 4096
 OBJECT = "258.0.1"
+LARGEST = 4096
+PATIENCE = 10
 
 
 # ---- scripts
@@ -76,7 +83,23 @@ def creations(count, block=40):
     return lines
 
 
+def versions(places):
+    """A frozen version before each commit."""
+    lines = []
+    for number, at in enumerate(places):
+        lines += ["begin", f"freeze {OBJECT} as @v{number}", f"replace {OBJECT} {at} rep:100:62", "commit"]
+    return lines
+
+
+def scanned(size, length):
+    return [f"scan {OBJECT} as s", *[f"next s {length}"] * (size // length), "close s"]
+
+
 # ---- exsm
+
+
+class Lacking(Exception):
+    """A program has no such line."""
 
 
 class Exsm:
@@ -112,19 +135,45 @@ class Exsm:
             child.returncode = os.waitstatus_to_exitcode(status)
         with open(replies) as told:
             refused = next((line for line in told if line.startswith("no ")), None)
+        if refused == "no 2 syntax\n":
+            raise Lacking
         if child.returncode or refused:
             sys.exit(f"all.py: {self.program} ended with {child.returncode}, {refused}")
         return wall, used.ru_utime + used.ru_stime
 
     def best(self, made, lines, runs):
-        """The least seconds of a script on copies of a volume, less those of an empty one."""
+        """The middle seconds of a script on copies of a volume, less those of an empty one."""
         kept = shutil.copy(made, os.path.join(self.folder, "kept"))
         empty = self.opening(made, runs)
-        whole = least([self.run(shutil.copy(kept, made), lines) for _ in range(runs)])
+        whole = middle([self.run(shutil.copy(kept, made), lines) for _ in range(runs)])
+        os.remove(kept)
+        return max(0, whole[0] - empty[0]), max(0, whole[1] - empty[1])
+
+    def again(self, made, lines, runs):
+        """The same on one volume, again and again, where what a run changes hardly changes the next one."""
+        empty = self.opening(made, runs)
+        whole = middle([self.run(made, lines) for _ in range(runs)])
         return max(0, whole[0] - empty[0]), max(0, whole[1] - empty[1])
 
     def opening(self, made, runs):
-        return least([self.run(made, []) for _ in range(runs)])
+        return middle([self.run(made, []) for _ in range(runs)])
+
+    def oids(self, made):
+        """The identifiers of the small objects, as `list` tells them."""
+        self.run(made, ["list small"])
+        with open(os.path.join(self.folder, "replies")) as told:
+            return told.read().split()[3:]
+
+    def memory(self, made):
+        """The most MiB that the process has had when it answers the first line."""
+        child = subprocess.Popen([self.program, "run", made], stdin=subprocess.PIPE, stdout=subprocess.PIPE)
+        child.stdin.write(b"files\n")
+        child.stdin.flush()
+        child.stdout.readline()
+        with open(f"/proc/{child.pid}/status") as status:
+            (most,) = (int(line.split()[1]) for line in status if line.startswith("VmHWM"))
+        child.communicate()
+        return most / 1024
 
 
 # ---- SQLite
@@ -140,6 +189,7 @@ class Pieces:
         for line in ("journal_mode=WAL", "synchronous=FULL", "page_size=4096", "cache_size=-65536"):
             self.base.execute("pragma " + line)
         self.base.execute("create table if not exists piece(place real primary key, bytes blob) without rowid")
+        self.base.execute("create table if not exists kept(version integer, place real, bytes blob, primary key(version, place)) without rowid")
         self.base.execute("create table if not exists small(number integer primary key, bytes blob)")
         self.places, self.lengths, self.sums = [], [], []
 
@@ -211,8 +261,8 @@ def seconds(work):
     return time.perf_counter() - start, time.process_time() - used
 
 
-def least(times):
-    return min(t[0] for t in times), min(t[1] for t in times)
+def middle(times):
+    return statistics.median(t[0] for t in times), statistics.median(t[1] for t in times)
 
 
 class Sqlite:
@@ -229,13 +279,15 @@ class Sqlite:
             pieces.fill(size)
         return pieces
 
-    def best(self, size, work, runs):
+    def best(self, size, work, runs, small=0):
         times = []
         for _ in range(runs):
             pieces = self.fresh(size)
+            if small:
+                self.creations(small)(pieces)
             times.append(seconds(lambda: work(pieces)))
             pieces.close()
-        return least(times)
+        return middle(times)
 
     @staticmethod
     def inserts(count, at):
@@ -282,8 +334,56 @@ class Sqlite:
                 pieces.base.execute("begin")
                 for number in range(first, min(first + block, count)):
                     pieces.base.execute("insert into small values(?, x'')", (number,))
-                    pieces.base.execute("update small set bytes = bytes || ? where number = ?", (b"c" * 100, number))
+                    pieces.base.execute("update small set bytes = cast(bytes || ? as blob) where number = ?", (b"c" * 100, number))
                 pieces.base.execute("commit")
+
+        return work
+
+    @staticmethod
+    def small_reads(count):
+        def work(pieces):
+            for number in range(count):
+                pieces.base.execute("select bytes from small where number = ?", (number,)).fetchone()[0].hex()
+
+        return work
+
+    @staticmethod
+    def destroys(count, block=40):
+        def work(pieces):
+            for first in range(0, count, block):
+                pieces.base.execute("begin")
+                for number in range(first, min(first + block, count)):
+                    pieces.base.execute("delete from small where number = ?", (number,))
+                pieces.base.execute("commit")
+
+        return work
+
+    @staticmethod
+    def listings(count):
+        def work(pieces):
+            for _ in range(count):
+                pieces.base.execute("select number from small order by number").fetchall()
+
+        return work
+
+    @staticmethod
+    def versions(places):
+        def work(pieces):
+            for number, at in enumerate(places):
+                row, _ = pieces.find(at)
+                pieces.base.execute("begin")
+                pieces.base.execute("insert into kept select ?, place, bytes from piece where place = ?", (number, pieces.places[row]))
+                pieces.splice(at, b"b" * 100, 100)
+                pieces.base.execute("commit")
+
+        return work
+
+    @staticmethod
+    def scans(length):
+        def work(pieces):
+            parts = pieces.base.execute("select bytes from piece order by place")
+            while some := parts.fetchmany(length // PIECE):
+                b"".join(part[0] for part in some).hex()
 
         return work
 
@@ -296,7 +396,7 @@ class Sqlite:
             base.execute("select count(*) from piece").fetchone()
             base.close()
 
-        return least([seconds(work) for _ in range(runs)])
+        return middle([seconds(work) for _ in range(runs)])
 
 
 # ---- workloads
@@ -307,22 +407,62 @@ def places(count, size, seed=1):
     return [chance.randrange(size) for _ in range(count)]
 
 
+class Workload(typing.NamedTuple):
+    """What is timed: its parts, the script that ran before on the volume, and what SQLite does."""
+
+    name: str
+    parts: int
+    before: list
+    lines: typing.Callable
+    peer: typing.Optional[typing.Callable] = None
+    size: int = 0
+    small: int = 0
+    goal: typing.Optional[float] = None
+
+
+def one_object(name, parts, lines, peer=None, goal=None):
+    """On an object of 12 MiB."""
+    return Workload(name, parts, appended(SIZE), lambda oids: lines, peer, SIZE, 0, goal)
+
+
+def fresh(name, parts, lines, peer=None, goal=None):
+    """On an empty volume."""
+    return Workload(name, parts, [], lambda oids: lines, peer, 0, 0, goal)
+
+
+def many_objects(name, parts, count, lines, peer):
+    """On so many small objects in one file."""
+    return Workload(name, parts, creations(count), lines, peer, 0, count)
+
+
+def in_blocks(lines, block=40):
+    """So many lines a transaction."""
+    return [line for at in range(0, len(lines), block) for line in ("begin", *lines[at : at + block], "commit")]
+
+
 def workloads(quick):
-    """Each: its name, how many parts it has, the size of the object that stands before, the script, and SQLite's work."""
     spots = places(1000, SIZE - 65536)
     gone = places(100, SIZE - 200 * PIECE)
     rows = range(0, SIZE, 65536)
-    few = [1000] if quick else [1000, 10000]
-    yield "append 12 MiB, hex", 12, 0, appended(SIZE), lambda p: p.fill(SIZE, 65536)
-    yield "append 12 MiB, rep", 12, 0, repeated(SIZE), lambda p: p.fill(SIZE, 65536)
-    yield "512 inserts, one transaction", 512, SIZE, inserts(512, 6000000), Sqlite.inserts(512, 6000000)
-    yield "insert and commit", 300, SIZE, commits(spots[:300]), Sqlite.commits(spots[:300])
-    yield "random read of 4 KiB", 1000, SIZE, reads(spots, 4096), Sqlite.reads(spots, 4096)
-    yield "sequential read of 64 KiB", len(rows), SIZE, reads(rows, 65536), Sqlite.reads(rows, 65536)
-    yield "100 deletes of 4 KiB, one transaction", 100, SIZE, deletes(gone), Sqlite.deletes(gone)
-    yield "size", 20000, SIZE, [f"size {OBJECT}"] * 20000, None
-    for count in few:
-        yield f"create and append, {count} objects", count, 0, creations(count), Sqlite.creations(count)
+    yield fresh("append 12 MiB, hex, a MiB", 12, appended(SIZE), lambda p: p.fill(SIZE, 65536), 4000)
+    yield fresh("append 12 MiB, rep, a MiB", 12, repeated(SIZE), lambda p: p.fill(SIZE, 65536))
+    yield one_object("512 inserts, one transaction", 512, inserts(512, 6000000), Sqlite.inserts(512, 6000000), 18)
+    yield one_object("insert and commit", 300, commits(spots[:300]), Sqlite.commits(spots[:300]))
+    yield one_object("random read of 4 KiB", 5000, reads(spots * 5, 4096), Sqlite.reads(spots * 5, 4096), 8)
+    yield one_object("random read of 16 bytes", 5000, reads(spots * 5, 16), Sqlite.reads(spots * 5, 16))
+    yield one_object("sequential read of 64 KiB", len(rows), reads(rows, 65536), Sqlite.reads(rows, 65536))
+    yield one_object("scan, 64 KiB a line", len(rows), scanned(SIZE, 65536), Sqlite.scans(65536))
+    yield one_object("100 deletes of 4 KiB, one transaction", 100, deletes(gone), Sqlite.deletes(gone))
+    yield one_object("freeze, replace of 100 bytes and commit", 300, versions(spots[:300]), Sqlite.versions(spots[:300]))
+    yield one_object("size", 20000, [f"size {OBJECT}"] * 20000, None, 1.5)
+    yield one_object("begin and abort", 10000, ["begin", "abort"] * 10000)
+    yield one_object("files", 10000, ["files"] * 10000)
+    for count in [1000] if quick else [1000, 10000]:
+        yield fresh(f"create and append, {count:,} objects", count, creations(count), Sqlite.creations(count), 18)
+        told = f"of {count:,} objects"
+        yield many_objects(f"read one {told}", count, count, lambda oids: [f"read {oid} 0 100" for oid in oids], Sqlite.small_reads(count))
+        yield many_objects(f"list one {told}", 10 * count, count, lambda oids: ["list small"] * 10, Sqlite.listings(10))
+        yield many_objects(f"destroy one {told}", count, count, lambda oids: in_blocks([f"destroy {oid}" for oid in oids]), Sqlite.destroys(count))
 
 
 def unit(value):
@@ -335,54 +475,91 @@ def ratio(one, other):
     return f"{one / other:.2f}" if one and other else "-"
 
 
-def both(times, parts):
-    return f"{unit(times[0] / parts)} ({unit(times[1] / parts)})" if times else "-"
+def kept(value, goal):
+    """Whether a time is within its goal of microseconds."""
+    if goal is None or value is None:
+        return ""
+    return f"{unit(goal / 1e6)}: {'kept' if value * 1e6 <= goal else 'missed'}"
 
 
-def tell(name, parts, times, peer):
-    """One row: the times of one part, and the ratios of the first program's processor time to the others'."""
-    cells = [both(own, parts) for own in times]
-    ratios = [ratio(times[0][1], other[1]) for other in times[1:]]
-    print(" | ".join([name, *cells, *ratios, both(peer, parts), ratio(times[0][1], peer and peer[1])]), flush=True)
+def tell(name, times, peer, goal=None):
+    """One row: the times of one part, and the ratios of the first program's to the others'."""
+    ratios = [ratio(times[0], other) for other in times[1:]]
+    print(" | ".join([name, *map(unit, times), *ratios, unit(peer), ratio(times[0], peer), kept(times[0], goal)]), flush=True)
+
+
+def timed(program, load, runs):
+    """The seconds of one part, of a program that has its lines."""
+    try:
+        made = program.volume(load.before)
+        lines = load.lines(program.oids(made) if load.small else [])
+        return program.best(made, lines, runs)[1] / load.parts
+    except Lacking:
+        return None
 
 
 def compare(programs, peer, runs, quick):
-    heads = [f"{p.name}: clock (processor)" for p in programs] + [f"to {p.name}" for p in programs[1:]]
-    print(" | ".join(["one part of", *heads, "SQLite", "to SQLite"]), flush=True)
-    for name, parts, size, lines, work in workloads(quick):
-        times = [p.best(p.volume(appended(size) if size else None), lines, runs) for p in programs]
-        tell(name, parts, times, peer.best(size, work, runs) if peer and work else None)
-    times = [p.opening(p.volume(appended(SIZE)), runs) for p in programs]
-    tell("opening 12 MiB", 1, times, peer.opening(SIZE, runs) if peer else None)
+    heads = [*(p.name for p in programs), *(f"to {p.name}" for p in programs[1:])]
+    print(" | ".join(["processor time of one part", *heads, "SQLite", "to SQLite", "goal"]), flush=True)
+    for load in workloads(quick):
+        times = [timed(p, load, runs) for p in programs]
+        done = peer.best(load.size, load.peer, runs, load.small)[1] / load.parts if peer and load.peer else None
+        tell(load.name, times, done, load.goal)
+    times = [p.opening(p.volume(appended(SIZE)), runs)[1] for p in programs]
+    tell("opening 12 MiB, a process", times, peer.opening(SIZE, runs)[1] if peer else None)
+    count = 1000 if quick else 10000
+    times = [p.opening(p.volume(creations(count)), runs)[1] for p in programs]
+    tell(f"opening {count:,} objects, a process", times, None)
+    times = [p.opening(p.volume(pages=4000000, segs=4000000), runs)[1] for p in programs]
+    tell("opening the largest geometry, empty", times, None, 10000)
 
 
 # ---- growth
 
 
-def growth(programs, peer, runs, quick):
+def by_size(program, sizes, runs):
+    """By MiB of an object: an insert with its commit, a read of 4 KiB, and an opening with its memory."""
+    edits, looks, opened = [], [], []
+    for mib in sizes:
+        made = program.volume(repeated(mib * MIB), pages=4096, segs=16384 + mib * 256)
+        spots = places(200, mib * MIB - PIECE)
+        looks.append((mib, program.again(made, reads(spots * 5, PIECE), runs)[1] / 1000))
+        edits.append((mib, program.again(made, commits(spots), runs)[1] / 200))
+        opened.append((mib, program.opening(made, runs)[1]))
+        print(f"{program.name}: opening {mib:,} MiB | {unit(opened[-1][1])} | {program.memory(made):.1f} MiB of memory", flush=True)
+        os.remove(made)
+    return edits, looks, opened
+
+
+def by_number(program, counts, runs):
+    """By objects in a file: create and append."""
+    points = []
+    for count in counts:
+        seconds = program.best(program.volume(segs=65536), creations(count), runs if count <= 10000 else 1)[1]
+        points.append((count, seconds / count))
+        if seconds > PATIENCE:
+            break
+    return points
+
+
+def growth(programs, peer, runs, quick, large):
     """Panels of the plot: a title, and for each label pairs of a size or a number and a time."""
-    sizes = [1, 4, 16] if quick else [1, 4, 16, 64, 256]
+    sizes = [1, 4, 16] if quick else [1, 4, 16, 64, 256, *([1024, LARGEST] if large else [])]
     counts = [500, 1000, 2000] if quick else [1000, 2000, 5000, 10000, 20000, 100000]
-    edits, looks, makes = {}, {}, {}
+    edits, looks, opened, makes = {}, {}, {}, {}
     for p in programs:
-        for mib in sizes:
-            made = p.volume(repeated(mib * MIB), pages=4096, segs=16384 + mib * 256)
-            spots = places(200, mib * MIB - 4096)
-            kept = shutil.copy(made, made + "-made")
-            edits.setdefault(p.name, []).append((mib, p.best(made, commits(spots), runs)[1] / 200))
-            shutil.move(kept, made)
-            looks.setdefault(p.name, []).append((mib, p.best(made, reads(spots * 5, 4096), runs)[1] / 1000))
-        for count in counts:
-            makes.setdefault(p.name, []).append((count, p.best(p.volume(), creations(count), 1)[1] / count))
-    for mib in sizes if peer else []:
-        spots = places(200, mib * MIB - 4096)
-        edits.setdefault("SQLite", []).append((mib, peer.best(mib * MIB, Sqlite.commits(spots), runs)[1] / 200))
-        looks.setdefault("SQLite", []).append((mib, peer.best(mib * MIB, Sqlite.reads(spots * 5, 4096), runs)[1] / 1000))
-    for count in counts if peer else []:
-        makes.setdefault("SQLite", []).append((count, peer.best(0, Sqlite.creations(count), runs)[1] / count))
+        edits[p.name], looks[p.name], opened[p.name] = by_size(p, sizes, runs)
+        makes[p.name] = by_number(p, counts, runs)
+    if peer:
+        few = [mib for mib in sizes if mib <= 256]
+        spots = {mib: places(200, mib * MIB - PIECE) for mib in few}
+        edits["SQLite"] = [(mib, peer.best(mib * MIB, Sqlite.commits(spots[mib]), runs)[1] / 200) for mib in few]
+        looks["SQLite"] = [(mib, peer.best(mib * MIB, Sqlite.reads(spots[mib] * 5, PIECE), runs)[1] / 1000) for mib in few]
+        makes["SQLite"] = [(count, peer.best(0, Sqlite.creations(count), 1)[1] / count) for count in counts]
     return [
         ("insert and commit, us by MiB of the object", edits),
         ("read of 4 KiB, us by MiB of the object", looks),
+        ("opening, us by MiB of the object", opened),
         ("create and append, us by objects in the file", makes),
     ]
 
@@ -440,16 +617,18 @@ def main():
     words.add_argument("--plot")
     words.add_argument("--runs", type=int, default=5)
     words.add_argument("--quick", action="store_true", help="fewer and smaller workloads")
+    words.add_argument("--large", action="store_true", help="objects of up to 4 GiB")
     asked = words.parse_args()
     with tempfile.TemporaryDirectory(dir=asked.folder) as folder:
         programs = [Exsm(path, folder) for path in asked.program]
         peer = Sqlite(folder) if sqlite3 else None
         compare(programs, peer, asked.runs, asked.quick)
         if asked.plot:
-            panels = growth(programs, peer, asked.runs, asked.quick)
+            panels = growth(programs, peer, asked.runs, asked.quick, asked.large)
             for title, series in panels:
                 for label, points in series.items():
-                    print(f"{title} | {label} | " + ", ".join(f"{x}: {y * 1e6:.2f}" for x, y in points))
+                    grown = ratio(points[-1][1], points[0][1])
+                    print(f"{title} | {label} | " + ", ".join(f"{x:,}: {y * 1e6:.2f}" for x, y in points) + f" | last to first {grown}")
             plot(asked.plot, panels)
 
 

@@ -7,7 +7,7 @@ work=$(mktemp -d)
 trap 'rm -rf "$work"' EXIT
 mkdir -p "$work/crates/line_bench/src"
 cp "$root/HANDLES" "$work/"
-for crate in ex_base disk_model memory_host table_model data_words script_lines script_lang script_replies; do
+for crate in ex_base disk_model memory_host version_lists table_model data_words script_lines script_lang script_replies; do
     cp -r "$root/crates/$crate" "$work/crates/"
     grep "^$crate:" "$root/crates.txt" >> "$work/crates.txt"
 done
@@ -19,7 +19,7 @@ cat > src/main.rt <<'EOF'
 
 use ex_base::Items;
 use memory_host::MemoryHost;
-use script_lang::parse_any;
+use script_lang::parse;
 use script_lines::{LineRef, Lines};
 use script_replies::reply_text;
 use std::io;
@@ -51,7 +51,7 @@ fn main(rt: HostRuntime) -> io::Result<()> {
     let start = Instant::now(&rt)?;
     let mut commands = 0usize;
     for line in script.chunks(64) {
-        if let Ok(Some(_)) = parse_any(&line[..line.len().saturating_sub(1)]) {
+        if let Ok(Some(_)) = parse(&line[..line.len().saturating_sub(1)]) {
             commands = commands.wrapping_add(1);
         }
     }

@@ -288,18 +288,34 @@ class Store:
         return self.ask("files")[1:]
 
     def list(self, name: str) -> Words:
-        """The identifiers of a file's objects, in order of their numbers."""
+        """The identifiers of a file's current versions, in order of their numbers."""
         return self.ask(f"list {name}")[1:]
 
-    # Objects. An object is named by its identifier, as `create` and `list` give it.
+    # Objects. A version is named by its identifier, as `create`, `list` and `versions` give it.
 
     def create(self, file: str) -> str:
         """Makes an empty object in a file, and gives its identifier."""
         return self.ask(f"create {file} as @client_{next(self._names)}")[0]
 
     def destroy(self, oid: str) -> None:
-        """Removes an object."""
+        """Removes a current version, and its object where it is the only one."""
         self.ask(f"destroy {oid}")
+
+    def freeze(self, oid: str) -> str:
+        """Puts a frozen copy of a current version before it, and gives the copy's identifier."""
+        return self.ask(f"freeze {oid} as @client_{next(self._names)}")[0]
+
+    def derive(self, oid: str) -> str:
+        """Makes a current version with the bytes of a frozen one, and gives its identifier."""
+        return self.ask(f"derive {oid} as @client_{next(self._names)}")[0]
+
+    def versions(self, oid: str) -> Words:
+        """The identifiers of all versions of an object, each before those derived from it."""
+        return self.ask(f"versions {oid}")[1:]
+
+    def drop(self, oid: str) -> None:
+        """Removes a frozen version; what is derived from it is derived from its older one."""
+        self.ask(f"drop {oid}")
 
     def size(self, oid: str) -> int:
         """The bytes of an object."""

@@ -26,6 +26,8 @@ except ImportError:
 
 HISTORY = os.path.join(os.path.expanduser("~"), ".exsm_history")
 HISTORY_MOST = 1000
+BINDING = ("create", "freeze", "derive")
+"""The lines that bind a name, which stands last on them."""
 
 
 def tell(text: str) -> None:
@@ -66,7 +68,7 @@ class Runner:
         elif word == "abort":
             self.in_transaction = False
             del self.bound[self.bound_before:]
-        elif word == "create":
+        elif word in BINDING:
             self.bound.append(line[-1])
 
     def give_up(self) -> None:

@@ -16,6 +16,10 @@ FORMS = {
     "list": "list FILE",
     "create": "create FILE as @NAME",
     "destroy": "destroy X",
+    "freeze": "freeze X as @NAME",
+    "derive": "derive X as @NAME",
+    "versions": "versions X",
+    "drop": "drop X",
     "size": "size X",
     "stat": "stat X",
     "digest": "digest X",
@@ -31,9 +35,6 @@ FORMS = {
 }
 """The lines that the program takes, by their first word."""
 
-LATER = ("freeze", "versions", "drop")
-"""Lines of docs/RULES.md that the program doesn't take yet."""
-
 WORDS = ("X is @NAME or page.slot.unique; DATA is hex:DIGITS, two a byte, or rep:COUNT:BYTE; "
          "NAME, FILE, SCAN and GROUP are 1 to 32 of a-z 0-9 _")
 
@@ -48,18 +49,22 @@ MEANINGS = {
     "data_limit": "a line gives or asks for at most 16,777,216 bytes: use several lines",
     "no_txn": "no transaction is open: send `begin` first",
     "txn_open": "a transaction is open: `commit` or `abort` it first",
-    "no_name": "no `create` of this run bound the name: names last for one run, and those of an "
+    "no_name": "no `create`, `freeze` or `derive` of this run bound the name: names last for one run, and those of an "
                "aborted transaction are gone; `list FILE` tells identifiers",
     "name_taken": "the name is taken in this run, by an object, also where that is gone, by an "
                   "open scan or by a group: take another",
     "no_file": "there is no such file: `files` tells them",
     "file_exists": "the file is there already",
     "files_full": "the catalog is full: a volume has at most (page size - 32) / 48 files",
-    "no_object": "no object has this identifier: `list FILE` tells them",
-    "frozen": "a frozen version keeps its bytes: name the object's current one",
-    "current": "this is the object's current version: `destroy` removes the object",
+    "no_object": "no version has this identifier: `list FILE` tells the current ones, "
+                 "`versions X` all of an object",
+    "frozen": "a frozen version keeps its bytes: `derive` opens a current one from it, `drop` "
+              "removes it",
+    "current": "the version is a current one: `destroy` removes it, and `freeze` makes a frozen "
+               "one of its bytes",
     "not_empty": "the file has objects: `destroy` them first",
-    "has_versions": "the object has frozen versions: `drop` them first",
+    "has_versions": "no other version is derived from its older one: `drop` that one first; "
+                    "`versions X` tells all",
     "no_scan": "no open scan has the name: `scan X as SCAN` opens one",
     "no_group": "no group of frames has the name: `group GROUP FRAMES RULE` makes one",
     "range": "the place is behind the end: `size X` tells the size",
@@ -70,6 +75,8 @@ MEANINGS = {
                 "`commit`, and go on in the next one",
     "full": "the line may need {1} {0}, and {2} are free: use a larger volume, or less in one "
             "line; what an open transaction replaced is free after its commit",
+    "branches": "{0} versions are derived from it: `destroy` or `drop` all of these but one first",
+    "busy": "client {0} has its transaction open; a run of one script is never told so",
 }
 """What each refusal means, but `syntax`; {0} on are its values."""
 
@@ -90,8 +97,6 @@ def syntax_meaning(line: str) -> str:
     word = (line.split() or [""])[0]
     if word in FORMS:
         return "; ".join([f"the form is `{FORMS[word]}`", *filter(None, [WORDS_OF.get(word)]), WORDS])
-    if word in LATER:
-        return f"`{word}` isn't built yet"
     near = difflib.get_close_matches(word.lower(), list(FORMS), 1)
     hint = f"did you mean `{FORMS[near[0]]}`? " if near else ""
     return f"{hint}Lines begin with: {' '.join(FORMS)}"

@@ -16,7 +16,8 @@ from html import escape
 from typing import Iterator, NamedTuple
 
 from exsm_geometry import CATALOG, LOG_PAGES
-from exsm_volume import BadVolume, Record, Use, Volume
+from exsm_records import BadVolume, Record
+from exsm_volume import Use, Volume
 
 PAGE_COLORS = {"catalog": "#1b1b1b", "index": "#7b4ea3", "file page": "#c7761b", "node": "#2f6db5"}
 FREE, LOG, LEAVES, TEXT, WHITE = "#ececec", "#b03a48", "#3f8f4f", "#222", "#fff"
@@ -51,8 +52,10 @@ def counted(count: int, noun: str) -> str:
 
 
 def contents(volume: Volume) -> str:
-    """How many files and objects a volume has."""
-    return f"{counted(len(volume.files), 'file')}, {counted(len(volume.all()), 'object')}"
+    """How many files and objects a volume has, and versions where an object has several."""
+    objects, versions = len(volume.objects), len(volume.all())
+    more = f", {counted(versions, 'version')}" if versions > objects else ""
+    return f"{counted(len(volume.files), 'file')}, {counted(objects, 'object')}{more}"
 
 
 class Area(NamedTuple):
@@ -105,7 +108,7 @@ def usage(volume: Volume) -> Iterator[str]:
     yield area_line(page_area)
     yield from kind_lines(page_area)
     yield f"{area_line(segment_area)}, {segment_area.filled} filled"
-    for name, records in volume.objects.items():
+    for name, records in volume.versions.items():
         yield file_line(name, records)
     for fault in volume.faults:
         yield f"  FAULT {fault}"
@@ -129,10 +132,10 @@ def kind_lines(area: Area) -> Iterator[str]:
 
 
 def file_line(name: str, records: list[Record]) -> str:
-    """The line of a file."""
+    """The line of a file: its versions."""
     small = [record.size for record in records if record.height is None]
     large = [record.size for record in records if record.height is not None]
-    return (f"  file {name:10} {len(records):5} objects, {len(small):5} small with "
+    return (f"  file {name:10} {len(records):5} versions, {len(small):5} small with "
             f"{human(sum(small))}, {len(large):5} large with {human(sum(large))}")
 
 
@@ -303,18 +306,26 @@ def draw_units(drawing: Drawing, area: Area, order: dict[str, int]) -> None:
     draw_area(drawing, area, {page: hue(order[use.owner]) for page, use in area.uses.items()})
 
 
-def draw_largest(drawing: Drawing, volume: Volume, largest: list[Record]) -> None:
+def largest_of(versions: list[Record]) -> Record:
+    """The largest of an object's versions."""
+    return max(versions, key=lambda record: record.size)
+
+
+def draw_largest(drawing: Drawing, volume: Volume, largest: list[list[Record]]) -> None:
     """The largest objects with their colours."""
-    leaves: dict[str, int] = defaultdict(int)
+    held: dict[str, list[int]] = defaultdict(list)
     for use in volume.uses.values():
-        leaves[use.owner] += use.kind == "leaf"
-    for place, record in enumerate(largest[:LISTED_MOST]):
+        if use.kind == "leaf":
+            held[use.owner].append(use.used)
+    for place, versions in enumerate(largest[:LISTED_MOST]):
         drawing.rectangle(0, drawing.y - 10, 11, 11, hue(place))
-        shape = "small"
+        record, shape = largest_of(versions), "small"
         if record.height is not None:
-            room = leaves[record.oid] * volume.geometry.unit
-            shape = (f"height {record.height}, {counted(leaves[record.oid], 'unit')}, "
-                     f"{percent(record.size, room)} filled")
+            leaves = held[versions[0].oid]
+            shape = (f"height {record.height}, {counted(len(leaves), 'unit')}, "
+                     f"{percent(sum(leaves), len(leaves) * volume.geometry.unit)} filled")
+        if len(versions) > 1:
+            shape += f", {len(versions)} versions"
         drawing.text(16, f"{record.oid:14} {human(record.size)}, {shape}")
         drawing.y += 17
 
@@ -327,11 +338,11 @@ def picture(volume: Volume) -> str:
     drawing.y += 12
     draw_file(drawing, volume)
     draw_log(drawing, volume)
-    largest = sorted(volume.all(), key=lambda record: -record.size)
+    largest = sorted(volume.objects, key=lambda versions: -largest_of(versions).size)
     page_area, segment_area = areas_of(volume)
     draw_pages(drawing, page_area)
     if segment_area.units:
-        order = {record.oid: place for place, record in enumerate(largest)}
+        order = {versions[0].oid: place for place, versions in enumerate(largest)}
         draw_units(drawing, segment_area, order)
     draw_largest(drawing, volume, largest)
     return drawing.finished()

@@ -2,11 +2,11 @@
 """Reads a volume file as docs/FORMATS.md describes it, without exsm. It never writes to the volume.
 
     exsm_volume.py VOLUME check          tells each fault that it finds; status 1 where there is one
-    exsm_volume.py VOLUME list           tells the objects that can be read: size, identifier, file
-    exsm_volume.py VOLUME get OID        writes an object's bytes to standard output
-    exsm_volume.py VOLUME save FOLDER    writes each object that can be read to FOLDER/FILE/OID
+    exsm_volume.py VOLUME list           tells the versions that can be read: size, identifier, file
+    exsm_volume.py VOLUME get OID        writes a version's bytes to standard output
+    exsm_volume.py VOLUME save FOLDER    writes each version that can be read to FOLDER/FILE/OID
 
-It reads volumes that exsm refuses as bad, and media that can't be written. Of an object with a
+It reads volumes that exsm refuses as bad, and media that can't be written. Of a version with a
 fault in its tree, `save` writes what the rest of the tree names, each byte at its position, to
 FOLDER/FILE/OID.damaged, and tells the ranges that are missing, which are zeros there.
 """
@@ -17,12 +17,12 @@ import re
 import signal
 import struct
 import sys
-from dataclasses import dataclass
-from typing import Callable, Iterator, NamedTuple, Optional
+from typing import Callable, Iterator, NamedTuple
 
 from exsm_geometry import CATALOG, LOG_PAGES, Geometry
 from exsm_log import (CATALOG_ENTRY, CATALOG_HEAD, FILE_PAGE_HEAD, KIND_CATALOG, KIND_FILE_PAGE,
                       SLOT, BadLog, LogRecord, leave, records_of)
+from exsm_records import BadVolume, Links, Record, record_of
 
 MAGIC = b"EXSMVOL1"
 FORMATS = (1, 2)
@@ -30,26 +30,15 @@ PAGE_SIZES = (512, 1024, 2048, 4096, 8192)
 SUPERBLOCK = struct.Struct(">8s6I")
 INDEX_HEAD = struct.Struct(">BBH4xI4x")
 INDEX_ENTRY = struct.Struct(">II")
-RECORD_HEAD = struct.Struct(">BBQIHIHH")
-LARGE_BODY = struct.Struct(">QI")
 NODE_HEAD = struct.Struct(">BBH4x")
 # The pairs of a node, by the node's kind: a count of four bytes or of eight, and a page.
 PAIRS = {2: struct.Struct(">II"), 5: struct.Struct(">QI")}
 NAME = re.compile(rb"[a-z0-9_]{1,32}")
 KIND_INDEX = 4
-FORM_SMALL, FORM_LARGE = 1, 2
-BODY_LEAST = LARGE_BODY.size
-HEIGHT_MOST = 255
-STATE_CURRENT = 1
-OBJECT_MOST = (1 << 40) - 1
 
 
-class BadVolume(Exception):
-    """What the file holds isn't what names it. The text begins with the part that fails."""
-
-
-class NoObject(Exception):
-    """No object that can be read has the identifier."""
+class NoVersion(Exception):
+    """No version that can be read has the identifier."""
 
 
 class Entry(NamedTuple):
@@ -76,24 +65,6 @@ class Leaf(NamedTuple):
     length: int
 
 
-@dataclass(frozen=True)
-class Record:
-    """An object's record. A small object has no height, and its bytes in `data`."""
-
-    page: int
-    slot: int
-    unique: int
-    size: int
-    height: Optional[int] = None
-    root: int = 0
-    data: bytes = b""
-
-    @property
-    def oid(self) -> str:
-        """The object's identifier."""
-        return f"{self.page}.{self.slot}.{self.unique}"
-
-
 class Use(NamedTuple):
     """What a page or a unit is in use for: its kind, the file or object, the bytes it holds."""
 
@@ -114,7 +85,8 @@ class Volume:
         self.geometry = self._superblock()
         self.records, self.images = self._log()
         self.next_unique, self.last_commit, self.files = self._catalog()
-        self.objects = {entry.name: self._objects_of(entry) for entry in self.files}
+        self.versions = {entry.name: self._versions_of(entry) for entry in self.files}
+        self.objects = self._objects()
 
     def __enter__(self) -> Volume:
         return self
@@ -196,8 +168,8 @@ class Volume:
 
     # Files.
 
-    def _objects_of(self, entry: Entry) -> list[Record]:
-        """The objects of a file whose records can be read, in order of their numbers."""
+    def _versions_of(self, entry: Entry) -> list[Record]:
+        """The versions of a file whose records can be read, in order of their numbers."""
         pages: list[int] = []
         records: list[Record] = []
         if entry.root != 0:
@@ -205,6 +177,15 @@ class Volume:
         for page in pages:
             self.guarded(lambda page=page: self._file_page(entry, page, records))
         return sorted(records, key=lambda record: record.unique)
+
+    def _objects(self) -> list[list[Record]]:
+        """The objects, file by file, each its versions in order of their numbers."""
+        objects = []
+        for records in self.versions.values():
+            links = Links(records)
+            self.faults.extend(links.faults())
+            objects.extend(links.objects())
+        return objects
 
     def _index(self, entry: Entry, page: int, level: int, pages: list[int]) -> None:
         """Gathers the pages of a file below a page of its index."""
@@ -260,7 +241,7 @@ class Volume:
 
     def leaves(self, record: Record, fault: Callable[[BadVolume, int, int], None],
                seen: Callable[[int, Use], bool] = lambda page, use: True) -> Iterator[Leaf]:
-        """The leaves of a large object, from left to right.
+        """The leaves of a large version, from left to right.
 
         `fault` is told of each fault with the range of positions that it hides, and `seen` of each
         page and unit with its use; where it answers false, what lies below is left out.
@@ -289,47 +270,52 @@ class Volume:
 
     def walk(self) -> Volume:
         """Notes the use of each page and unit of all trees, and the faults of their nodes."""
-        for record in self.all():
-            for _ in self.leaves(record, self._note_fault, self._note):
-                pass
+        for versions in self.objects:
+            for record in versions:
+                for _ in self.leaves(record, self._note_fault, self._note_for(versions[0].oid)):
+                    pass
         return self
 
     def _note_fault(self, fault: BadVolume, *_: int) -> None:
         self.faults.append(str(fault))
 
-    def _note(self, page: int, use: Use) -> bool:
-        """Notes a use. What is noted already isn't walked again: another object's is a fault."""
-        there = self.uses.setdefault(page, use)
-        if there is not use and there.owner != use.owner:
-            self.faults.append(f"node: {use.owner} names {page}, a {there.kind} of {there.owner}")
-        return there is use
+    def _note_for(self, owner: str) -> Callable[[int, Use], bool]:
+        """Notes uses for an object, which its least version's identifier names. What is noted already isn't walked again:
+        its versions may share it, and another object's is a fault."""
+        def note(page: int, use: Use) -> bool:
+            own = use._replace(owner=owner)
+            there = self.uses.setdefault(page, own)
+            if there.owner != owner:
+                self.faults.append(f"node: {use.owner} names {page}, a {there.kind} of {there.owner}")
+            return there is own
+        return note
 
-    # Objects.
+    # Versions.
 
     def all(self) -> list[Record]:
-        """All objects whose records can be read, file by file."""
-        return [record for records in self.objects.values() for record in records]
+        """All versions whose records can be read, file by file."""
+        return [record for records in self.versions.values() for record in records]
 
     def find(self, oid: str) -> Record:
-        """The object of an identifier."""
+        """The version of an identifier."""
         for record in self.all():
             if record.oid == oid:
                 return record
-        raise NoObject(f"no object has the identifier {oid}")
+        raise NoVersion(f"no version has the identifier {oid}")
 
     def pieces(self, record: Record) -> Iterator[bytes]:
-        """The bytes of an object, a piece at a time. A fault in its tree is raised."""
+        """The bytes of a version, a piece at a time. A fault in its tree is raised."""
         if record.height is None:
             yield record.data
         for leaf in self.leaves(record, raised):
             yield self._read(leaf.page * self.geometry.page_size, leaf.length)
 
     def bytes_of(self, record: Record) -> bytes:
-        """The bytes of an object. A fault in its tree is raised."""
+        """The bytes of a version. A fault in its tree is raised."""
         return b"".join(self.pieces(record))
 
     def save(self, record: Record, path: str) -> list[tuple[int, int]]:
-        """Writes what can be read of an object to a file, and gives the ranges that can't be."""
+        """Writes what can be read of a version to a file, and gives the ranges that can't be."""
         missing: list[tuple[int, int]] = []
         with open(path, "wb") as out:
             out.write(record.data)
@@ -345,26 +331,6 @@ def raised(fault: BadVolume, *_: int) -> None:
     raise fault
 
 
-def record_of(page: int, slot: int, body: bytes) -> Record:
-    """The record that a slot's bytes are."""
-    where = f"body: page {page}, slot {slot}"
-    if len(body) < RECORD_HEAD.size + BODY_LEAST:
-        raise BadVolume(f"{where} has {len(body)} bytes")
-    form, state, unique, *_, number = RECORD_HEAD.unpack_from(body)
-    if state != STATE_CURRENT or form not in (FORM_SMALL, FORM_LARGE):
-        raise BadVolume(f"{where} has form {form} and state {state}")
-    wanted = RECORD_HEAD.size + (max(BODY_LEAST, number) if form == FORM_SMALL else BODY_LEAST)
-    if len(body) != wanted:
-        raise BadVolume(f"{where} has {len(body)} bytes, not {wanted}")
-    if form == FORM_SMALL:
-        data = body[RECORD_HEAD.size:RECORD_HEAD.size + number]
-        return Record(page, slot, unique, number, data=data)
-    size, root = LARGE_BODY.unpack_from(body, RECORD_HEAD.size)
-    if size > OBJECT_MOST or number > HEIGHT_MOST or (root == 0) != (size == 0):
-        raise BadVolume(f"{where} has size {size}, height {number}, root {root}")
-    return Record(page, slot, unique, size, number, root)
-
-
 # The commands.
 
 def check(volume: Volume, _: list[str]) -> int:
@@ -372,15 +338,15 @@ def check(volume: Volume, _: list[str]) -> int:
     volume.walk()
     for fault in volume.faults:
         print(fault)
-    print(f"{len(volume.faults)} faults, {len(volume.all())} objects")
+    print(f"{len(volume.faults)} faults, {len(volume.objects)} objects, {len(volume.all())} versions")
     return 1 if volume.faults else 0
 
 
-def list_objects(volume: Volume, _: list[str]) -> int:
+def list_versions(volume: Volume, _: list[str]) -> int:
     """`list`"""
-    for name, records in volume.objects.items():
+    for name, records in volume.versions.items():
         for record in records:
-            print(f"{record.size:10}  {record.oid:14} {name}")
+            print(f"{record.size:10}  {record.oid:14} {name}{' (frozen)' if record.frozen else ''}")
     return 0
 
 
@@ -391,8 +357,8 @@ def get(volume: Volume, words: list[str]) -> int:
     return 0
 
 
-def save_object(volume: Volume, record: Record, folder: str) -> bool:
-    """Saves what can be read of an object, and tells what can't be; whether it is whole."""
+def save_version(volume: Volume, record: Record, folder: str) -> bool:
+    """Saves what can be read of a version, and tells what can't be; whether it is whole."""
     path = os.path.join(folder, record.oid)
     missing = volume.save(record, path)
     for start, end in missing:
@@ -405,22 +371,22 @@ def save_object(volume: Volume, record: Record, folder: str) -> bool:
 def save_all(volume: Volume, words: list[str]) -> int:
     """`save FOLDER`"""
     whole = damaged = 0
-    for name, records in volume.objects.items():
+    for name, records in volume.versions.items():
         folder = os.path.join(words[0], name)
         os.makedirs(folder, exist_ok=True)
         for record in records:
-            if save_object(volume, record, folder):
+            if save_version(volume, record, folder):
                 whole += 1
             else:
                 damaged += 1
     for fault in volume.faults:
         print(fault)
-    print(f"{whole} objects saved whole, {damaged} in part")
+    print(f"{whole} versions saved whole, {damaged} in part")
     return 1 if damaged or volume.faults else 0
 
 
 COMMANDS: dict[str, tuple[Callable[[Volume, list[str]], int], int]] = {
-    "check": (check, 0), "list": (list_objects, 0), "get": (get, 1), "save": (save_all, 1),
+    "check": (check, 0), "list": (list_versions, 0), "get": (get, 1), "save": (save_all, 1),
 }
 """What each command does, and the number of its words."""
 
@@ -432,7 +398,7 @@ def main(words: list[str]) -> int:
     try:
         with Volume(words[0]) as volume:
             return COMMANDS[words[1]][0](volume, words[2:])
-    except (BadVolume, NoObject, OSError) as fault:
+    except (BadVolume, NoVersion, OSError) as fault:
         sys.exit(f"exsm_volume: {words[0]}: {fault}")
 
 

@@ -125,7 +125,7 @@ class ClientTest(InFolder):
             with Volume(f"v{seed}") as volume:
                 volume.walk()
                 read = {name: {record.oid: volume.bytes_of(record) for record in records}
-                        for name, records in volume.objects.items()}
+                        for name, records in volume.versions.items()}
             self.assertEqual((volume.faults, read), ([], table))
         with Store(f"v{seed}") as store:
             units = [page >= volume.geometry.first_unit for page in volume.uses]

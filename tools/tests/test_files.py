@@ -38,10 +38,10 @@ class FilesTest(InFolder):
         """What the volume keeps under its names, read past the program."""
         with Volume("v") as volume:
             self.assertEqual(volume.walk().faults, [])
-            if not volume.objects:
+            if not volume.versions:
                 return {}
-            names = b"".join(volume.bytes_of(record) for record in volume.objects["names"])
-            of_unique = {record.unique: record for record in volume.objects["blobs"]}
+            names = b"".join(volume.bytes_of(record) for record in volume.versions["names"])
+            of_unique = {record.unique: record for record in volume.versions["blobs"]}
             lines = [line.split(b" ", 1) for line in names.splitlines()]
             self.assertEqual(sorted(int(unique) for unique, _ in lines), sorted(of_unique))
             return {os.fsdecode(name): volume.bytes_of(of_unique[int(unique)])

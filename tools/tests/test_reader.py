@@ -10,7 +10,8 @@ from xml.etree import ElementTree
 
 from exsm_client import Ended, Store
 from exsm_map import picture, usage
-from exsm_volume import BadVolume, Record, Volume
+from exsm_records import BadVolume, Record
+from exsm_volume import Volume
 from tests.support import InFolder
 
 FLIPS = 150
@@ -46,7 +47,7 @@ class ReaderTest(InFolder):
     def test_whole(self) -> None:
         """a whole volume: check, list, get, save"""
         ran = self.tool("exsm_volume", "v", "check")
-        self.assertEqual((ran.status, ran.lines), (0, [f"0 faults, {len(self.wanted)} objects"]))
+        self.assertEqual((ran.status, ran.lines), (0, [f"0 faults, {len(self.wanted)} objects, {len(self.wanted)} versions"]))
         rows = [line.split() for line in self.tool("exsm_volume", "v", "list").lines]
         self.assertEqual({row[1]: int(row[0]) for row in rows},
                          {oid: len(data) for oid, data in self.wanted.items()})
@@ -162,7 +163,7 @@ class ReaderTest(InFolder):
         self.assertEqual(ran.status, 1)
         self.assertEqual(ran.lines, [
             f"{record.oid}: bytes {start} to {child.count - 1} of {record.size} are missing",
-            f"{len(self.wanted) - 1} objects saved whole, 1 in part"])
+            f"{len(self.wanted) - 1} versions saved whole, 1 in part"])
         data = self.wanted[record.oid]
         with open(f"s/documents/{record.oid}.damaged", "rb") as saved:
             hole = bytes(child.count - start)

@@ -42,6 +42,8 @@ def stopped(before: Before, line: str, number: int, name: str, *values: str) -> 
 NOTHING, BLANKS = Before("", []), Before("\n# a comment\n\n", [])
 BEGUN = Before("begin\n", ["ok begin 1"])
 MADE = Before("begin\nfile a\ncreate a as @x\n", ["ok begin 1", "ok file a", "ok create 258.0.1"])
+FROZEN = Before(MADE.script + "freeze @x as @v\n", [*MADE.replies, "ok freeze 258.1.2"])
+DERIVED = Before(FROZEN.script + "derive @v as @y\n", [*FROZEN.replies, "ok derive 258.2.3"])
 APPEND = "append @x rep:1:61"
 APPENDS = Before(MADE.script + f"{APPEND}\n" * APPENDS_MOST,
                  [*MADE.replies, *(f"ok append {size + 1}" for size in range(APPENDS_MOST))])
@@ -65,10 +67,14 @@ TABLE = [
     stopped(MADE, "file a", 9, "file_exists"),
     stopped(FILES, "file z", 10, "files_full"),
     stopped(NOTHING, "stat 1.1.1", 11, "no_object"),
+    stopped(FROZEN, "append @v hex:61", 12, "frozen"),
+    stopped(FROZEN, "drop @x", 13, "current"),
     stopped(MADE, "unfile a", 14, "not_empty"),
+    stopped(FROZEN, "destroy @x", 15, "has_versions"),
     stopped(MADE, "read @x 0 1", 18, "range"),
     stopped(APPENDS, APPEND, 22, "long_txn", "512", "2"),
     stopped(MADE, "append @x rep:400000:61", 23, "full", "segs", "786", "600"),
+    stopped(DERIVED, "drop @v", 24, "branches", "2"),
 ]
 
 
@@ -128,6 +134,8 @@ class RunnerTest(InFolder):
             self.assertIn("create notes as @n", talk.type("create no\tas @n\n", "exsm*> "))
             self.assertIn("append @n hex:61", talk.type("app\t@\thex:61\n", "exsm*> "))
             self.assertIn("ok append 3001", talk.type(f"append @n hex:{'61' * 3000}\n", "exsm*> "))
+            self.assertIn("ok freeze 258.1.2", talk.type("fre\t@\tas @v\n", "exsm*> "))
+            self.assertIn("versions @v", talk.type("vers\t@v\n", "exsm*> "))
             self.assertIn("did you mean `size X`", talk.type("sizes @n\n", "exsm*> "))
             self.assertIn("replace X POS DATA", talk.type("help\n", "exsm*> "))
             self.assertIn("ok commit 1", talk.type("commit\n", "exsm> "))
