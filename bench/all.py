@@ -5,12 +5,11 @@
 
 Each PROGRAM is a built exsm, so that two builds can be compared; the first one stands first in the ratios. Volumes and databases lie in a new folder
 below FOLDER (/dev/shm where there is none given): in memory, where syncs cost nothing, a time is the program's own. A time of exsm is that of a whole
-process, which reads its script from a file and writes its replies into one, the median of N runs, less the median run of an empty script on the same
-volume. A time of SQLite is that of the calls in this process, the median of N runs: a write-ahead log, synchronous=FULL, an object as rows of 4,096
+process, which reads its script from a pipe and writes its replies into a file, the median of N runs, without its opening of the volume. A time of SQLite is that of the calls in this process, the median of N runs: a write-ahead log, synchronous=FULL, an object as rows of 4,096
 bytes, whose lengths the caller keeps; an older version of an object is there the rows that were replaced since. All times are the processor's, of user
 and system, which other work on the machine changes less than the clock's. Where a part has a goal, it is told whether the first program keeps it. A
 program that lacks a workload's lines has no time there, and one whose run took more than PATIENCE seconds none of larger ones. `--large` goes up to an
-object of 4 GiB, which the folder needs room for.
+object of 4 GiB less 1 MiB, for which the folder needs room.
 """
 import argparse
 import math
@@ -34,6 +33,7 @@ SIZE = 12 * MIB
 PIECE = 4096
 OBJECT = "258.0.1"
 LARGEST = 4096
+MOST = (1 << 32) - MIB
 PATIENCE = 10
 
 
@@ -122,47 +122,62 @@ class Exsm:
         return path
 
     def run(self, volume, lines):
-        """The seconds of one run: of the clock, and of the processor."""
-        script = os.path.join(self.folder, "script")
-        with open(script, "w") as out:
-            out.write("".join(line + "\n" for line in lines))
+        """The seconds of a script, of the clock and of the processor, without the opening of the volume before its first line."""
         replies = os.path.join(self.folder, "replies")
-        with open(script) as source, open(replies, "w") as sink:
-            start = time.perf_counter()
-            child = subprocess.Popen([self.program, "run", volume], stdin=source, stdout=sink)
+        text = "".join(line + "\n" for line in lines).encode()
+        with open(replies, "w") as sink:
+            child = subprocess.Popen([self.program, "run", volume], stdin=subprocess.PIPE, stdout=sink)
+            child.stdin.write(b"files\n")
+            child.stdin.flush()
+            while os.path.getsize(replies) == 0 and child.poll() is None:
+                time.sleep(0.001)
+            time.sleep(0.001)
+            opening, start = on_processor(child.pid), time.perf_counter()
+            child.stdin.write(text)
+            child.stdin.close()
             _, status, used = os.wait4(child.pid, 0)
             wall = time.perf_counter() - start
             child.returncode = os.waitstatus_to_exitcode(status)
-        with open(replies) as told:
-            refused = next((line for line in told if line.startswith("no ")), None)
-        if refused == "no 2 syntax\n":
+        refused = next((line for line in self.answers() if line.startswith("no ")), None)
+        if refused == "no 2 syntax":
             raise Lacking
         if child.returncode or refused:
             sys.exit(f"all.py: {self.program} ended with {child.returncode}, {refused}")
-        return wall, used.ru_utime + used.ru_stime
+        return wall, used.ru_utime + used.ru_stime - opening
+
+    def answers(self):
+        """The replies to the script that ran last."""
+        with open(os.path.join(self.folder, "replies")) as told:
+            return told.read().splitlines()[1:]
 
     def best(self, made, lines, runs):
-        """The middle seconds of a script on copies of a volume, less those of an empty one."""
+        """The middle seconds of a script on copies of a volume."""
         kept = shutil.copy(made, os.path.join(self.folder, "kept"))
-        empty = self.opening(made, runs)
         whole = middle([self.run(shutil.copy(kept, made), lines) for _ in range(runs)])
         os.remove(kept)
-        return max(0, whole[0] - empty[0]), max(0, whole[1] - empty[1])
+        return whole
 
     def again(self, made, lines, runs):
         """The same on one volume, again and again, where what a run changes hardly changes the next one."""
-        empty = self.opening(made, runs)
-        whole = middle([self.run(made, lines) for _ in range(runs)])
-        return max(0, whole[0] - empty[0]), max(0, whole[1] - empty[1])
+        return middle([self.run(made, lines) for _ in range(runs)])
 
     def opening(self, made, runs):
-        return middle([self.run(made, []) for _ in range(runs)])
+        """The middle seconds of a whole process with an empty script."""
+        words = [self.program, "run", made]
+
+        def once():
+            start = time.perf_counter()
+            child = subprocess.Popen(words, stdin=subprocess.DEVNULL, stdout=subprocess.DEVNULL)
+            _, _, used = os.wait4(child.pid, 0)
+            child.returncode = 0
+            return time.perf_counter() - start, used.ru_utime + used.ru_stime
+
+        return middle([once() for _ in range(runs)])
 
     def oids(self, made):
         """The identifiers of the small objects, as `list` tells them."""
         self.run(made, ["list small"])
-        with open(os.path.join(self.folder, "replies")) as told:
-            return told.read().split()[3:]
+        return self.answers()[0].split()[3:]
 
     def memory(self, made):
         """The most MiB that the process has had when it answers the first line."""
@@ -259,6 +274,12 @@ def seconds(work):
     start, used = time.perf_counter(), time.process_time()
     work()
     return time.perf_counter() - start, time.process_time() - used
+
+
+def on_processor(process):
+    """The seconds that a process has had of the processor."""
+    with open(f"/proc/{process}/schedstat") as told:
+        return int(told.read().split()[0]) / 1e9
 
 
 def middle(times):
@@ -521,8 +542,9 @@ def by_size(program, sizes, runs):
     """By MiB of an object: an insert with its commit, a read of 4 KiB, and an opening with its memory."""
     edits, looks, opened = [], [], []
     for mib in sizes:
-        made = program.volume(repeated(mib * MIB), pages=4096, segs=16384 + mib * 256)
-        spots = places(200, mib * MIB - PIECE)
+        size = min(mib * MIB, MOST)
+        made = program.volume(repeated(size), segs=16384 + mib * 256)
+        spots = places(200, size - PIECE)
         looks.append((mib, program.again(made, reads(spots * 5, PIECE), runs)[1] / 1000))
         edits.append((mib, program.again(made, commits(spots), runs)[1] / 200))
         opened.append((mib, program.opening(made, runs)[1]))

@@ -6,7 +6,7 @@
 Each PROGRAM is a built exsm, so that two builds can be compared. Volumes lie in a new folder below FOLDER (/dev/shm where there is none given). For each
 count an object of 1 MiB gets so many frozen versions, one behind the other, and another one so many drafts derived from one frozen version. What is told is
 the processor time of one line: a freeze, a derive, a `versions`, a read of one byte of a version in the middle, a replace of a draft's byte, a drop from the
-oldest one on, a destroy of a draft, and an opening of the volume. A time is that of a whole process without that of an empty script on the same volume, the
+oldest one on, a destroy of a draft, and an opening of the volume. A time is that of a process without its opening of the volume, the
 median of N runs. Of many drafts just the first ones are destroyed: a destroy among drafts of one version reads their file.
 """
 import argparse
@@ -46,8 +46,7 @@ def base():
 def oids_in(program, volume, oid):
     """The identifiers of all versions of an object, as `versions` tells them."""
     program.run(volume, [f"versions {oid}"])
-    with open(os.path.join(program.folder, "replies")) as told:
-        return told.read().split()[3:]
+    return program.answers()[0].split()[3:]
 
 
 def freezes(count):
