@@ -22,6 +22,35 @@ impl<'a> Model for NodeView<'a> {
     ghost invariant = { λ v. (1 ≤ length (pairs_on v.page.now)) × (8 + pair_len (width_on v.page.now) * length (pairs_on v.page.now) ≤ length v.page.now) × RiseFrom 0 (pairs_on v.page.now) };
 }
 
+/// The pairs of a node. How wide they are is looked at once for all of them.
+#[derive(Drop)]
+pub struct Pairs<'a> {
+    page: &'a [u8],
+    width: Width,
+}
+
+impl<'a> Model for Pairs<'a> {
+    ghost Value = { List Pair };
+
+    ghost view = { λ v. pairs_on v.page.now };
+
+    ghost invariant = { λ v. (8 + pair_len (width_on v.page.now) * length (pairs_on v.page.now) ≤ length v.page.now) × (v.width ≡ width_on v.page.now) };
+}
+
+impl<'a> Pairs<'a> {
+    /// The pair at an index.
+    pub fn at(&self, index: u32) -> Pair
+        requires { index < length self.now }
+        ensures { slice_get self.now index ≡ Some result }
+    {
+        let at = PAIRS_AT + self.width.pair_len() * index as usize;
+        Pair {
+            count: self.width.count(self.page, at),
+            page: PageNo(get_u32(self.page, at + self.width.count_len())),
+        }
+    }
+}
+
 impl<'a> NodeView<'a> {
     /// The view of a page, exactly where it is a node of at most 2 * fan + 1 pairs.
     pub fn of(page: &'a [u8], fan: u32) -> Option<NodeView<'a>>
@@ -62,6 +91,16 @@ impl<'a> NodeView<'a> {
         Pair {
             count: width.count(self.page, at),
             page: PageNo(get_u32(self.page, at + width.count_len())),
+        }
+    }
+
+    /// The pairs, of which many are looked at.
+    pub fn pairs(&self) -> Pairs<'a>
+        ensures { result ≡ self.now.pairs }
+    {
+        Pairs {
+            page: self.page,
+            width: Width::of(self.page),
         }
     }
 

@@ -112,6 +112,7 @@ impl AreaUnits {
     }
 
     /// Adds a reference to a used unit, unless it has the most that fit.
+    #[inline(always)]
     pub fn add_ref(&mut self, at: usize)
         requires { at < length self.old.used }
         ensures used { self.new.used ≡ self.old.used }
@@ -119,12 +120,14 @@ impl AreaUnits {
             (with_ref (slice_index_or self.old.used at true) (slice_index_or self.old.refs at 0)) }
     {
         let count = self.refs.get(at);
-        if self.used.get(at) && count < u32::MAX {
+        // A unit with an owner is used, so most times only the count is read.
+        if (count > 0 || self.used.get(at)) && count < u32::MAX {
             self.refs.set(at, count + 1);
         }
     }
 
     /// Takes a reference away, where there is one; true where it was the last.
+    #[inline(always)]
     pub fn drop_ref(&mut self, at: usize) -> bool
         requires { at < length self.old.used }
         ensures last { IsTrue result ↔ (slice_index_or self.old.refs at 0 ≡ 1) }

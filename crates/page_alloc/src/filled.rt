@@ -74,6 +74,20 @@ impl<T: Copy> Filled<T> {
         requires { at < length self.old }
         ensures { self.new ≡ slice_set self.old at element }
     {
+        if at < self.written.len() {
+            self.written[at] = element;
+        } else {
+            self.set_behind(at, element);
+        }
+    }
+
+    // The same also behind what was written. It stands apart, so that what `set` inlines stays small.
+    #[cold]
+    #[inline(never)]
+    fn set_behind(&mut self, at: usize, element: T)
+        requires { at < length self.old }
+        ensures { self.new ≡ slice_set self.old at element }
+    {
         if at >= self.written.len() && self.written.resize(at + 1, self.rest).is_err() {
             unreachable!();
         }

@@ -1,5 +1,5 @@
 // The units in use of a volume, by the numbers that name them.
-ghost use Rattle.std.specs.Prelude.{◌≡◌, ◌+◌, ◌<◌};
+ghost use Rattle.std.specs.Prelude.{◌≡◌, ◌+◌, ◌/◌, ◌<◌, ◌≤◌};
 ghost use Rattle.ex_base.specs.Area.{IsUnit, unit_at};
 ghost use Rattle.ex_base.specs.Sizes.{units};
 
@@ -14,6 +14,17 @@ use std::marker::Model;
 struct Spot {
     area: Area,
     index: usize,
+}
+
+/// The unit of so many pages that stands at a page of its area. Units of one page, which most volumes have, cost no division.
+fn unit_behind(pages: u32, seg_len: u32) -> u32
+    requires { 1 ≤ seg_len }
+    ensures { result ≡ pages / seg_len }
+{
+    if seg_len == 1 {
+        return pages;
+    }
+    pages / seg_len
 }
 
 /// Where the unit that a page names stands.
@@ -31,7 +42,7 @@ fn spot_of(geometry: &Geometry, page: PageNo) -> Spot
     } else {
         Spot {
             area: Area::Segment,
-            index: ((page.0 - end) / geometry.seg_len) as usize,
+            index: unit_behind(page.0 - end, geometry.seg_len) as usize,
         }
     }
 }
@@ -192,6 +203,7 @@ impl Units {
     }
 
     /// Adds a reference to a used unit, unless it has the most that fit.
+    #[inline(always)]
     pub fn add_ref(&mut self, page: PageNo)
         requires { IsUnit self.old.geometry page.0 }
         ensures used { used_at self.new ≡ used_at self.old }
@@ -208,6 +220,7 @@ impl Units {
     }
 
     /// Takes a reference away, where there is one; true where it was the last.
+    #[inline(always)]
     pub fn drop_ref(&mut self, page: PageNo) -> bool
         requires { IsUnit self.old.geometry page.0 }
         ensures last { IsTrue result ↔ (refs_at self.old page.0 ≡ 1) }

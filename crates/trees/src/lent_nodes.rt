@@ -6,7 +6,7 @@ ghost use Rattle.trees.specs.Damage.{IsNodeFault};
 ghost use Rattle.trees.specs.Rows.{parts_of, AreHalfFull, IsFilled, IsRowOn};
 
 use crate::faults::no_node;
-use crate::rows::{Part, put};
+use crate::rows::Part;
 use count_nodes::view::NodeView;
 use ex_base::{Geometry, PortFault, Seen};
 use std::alloc::{AllocError, Global};
@@ -83,13 +83,14 @@ pub(crate) fn children(
 {
     let mut row = Vec::with_capacity(alloc, (end - from) as usize)?;
     let mut before = node.start(from);
+    let pairs = node.pairs();
     for index in from..end {
-        let pair = node.pair(index);
+        let pair = pairs.at(index);
         let part = Part {
             size: pair.count - before,
             page: pair.page,
         };
-        put(&mut row, part)?;
+        row.push_reserved(part);
         before = pair.count;
     }
     Ok(row)

@@ -23,7 +23,7 @@ fn pairs_over(alloc: Global, row: &[Part]) -> Result<(Vec<Pair>, u64), AllocErro
     ensures pairs { IfOk result (λ r. r.0.items ≡ pairs_of 0 row.now) }
     ensures size { IfOk result (λ r. r.1 ≡ row_size row.now) }
 {
-    let mut pairs = Vec::new(alloc);
+    let mut pairs = Vec::with_capacity(alloc, row.len())?;
     let mut count = 0;
     for part in row {
         count += part.size;
@@ -31,7 +31,7 @@ fn pairs_over(alloc: Global, row: &[Part]) -> Result<(Vec<Pair>, u64), AllocErro
             count,
             page: part.page,
         };
-        put(&mut pairs, pair)?;
+        pairs.push_reserved(pair);
     }
     Ok((pairs, count))
 }

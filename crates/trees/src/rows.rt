@@ -105,7 +105,7 @@ pub fn spliced(
     requires inside { end ≤ length row.now }
     ensures { IfOk result (λ all. all.items ≡ take first row.now ++ made.now ++ drop end row.now) }
 {
-    let mut all = Vec::new(alloc);
+    let mut all = Vec::with_capacity(alloc, row.len() - (end - first) + made.len())?;
     all.extend_from_slice(&row[..first])?;
     all.extend_from_slice(made)?;
     all.extend_from_slice(&row[end..])?;

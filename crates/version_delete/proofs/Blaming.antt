@@ -18,7 +18,7 @@ use Rattle.trees.specs.Owners.{named_on, StandsAt}
 use Rattle.trees.proofs.Released.{named_left}
 use Rattle.trees.specs.declared.rows.Part.{Part}
 use Rattle.trees.specs.Rows.{parts_of, IsFilled, IsRowOn}
-use Rattle.trees.specs.Damage.{AnyPart, IsNodeAt, IsNodeFault, IsWalkFault}
+use Rattle.trees.specs.Damage.{AnyPart, IsLeafFault, IsNodeAt, IsNodeFault, IsWalkFault}
 use Rattle.trees.proofs.Blame.{walk_part}
 use Rattle.trees.proofs.Reading.{no_part}
 use Rattle.version_delete.specs.Released.{Owned, AreAt, IsFreed, Gives, Released, Blames}
@@ -69,6 +69,13 @@ walk_still geo u w P same below (suc l) least row (Damaged at want got) all h =
           subst (λ bs. IsWalkFault geo w l geo.fan (parts_of 0 (pairs_on bs)) (Damaged at want got)) bytes
               (deeper (parts_of 0 (pairs_on (u part.page.0))) (parts_each P 0 (pairs_on (u part.page.0)) (below part.page.0 is node.area.0)) walk),
         )
+
+-- a fault at one of some leaves
+pub walk_leaves : (geo : Geometry) (u : Units) (level least : ℕ) (row : List Part) (fault : PortFault) → level ≡ 0 → AnyPart (λ leaf. IsLeafFault geo leaf.page fault) row → IsWalkFault geo u level least row fault
+walk_leaves geo u level least row Disk same any = tt
+walk_leaves geo u level least row Memory same any = tt
+walk_leaves geo u zero least row (Damaged at want got) same any = any
+walk_leaves geo u (suc l) least row (Damaged at want got) same any = absurd (omega arith)
 
 split_at : (row : List Part) (i : ℕ) → i < length row → take i row ++ (get_or row i no_part ∷ drop (suc i) row) ≡ row
 split_at [] i lt = absurd (omega (arith, lt))

@@ -5,7 +5,8 @@ ghost use Rattle.ex_base.specs.declared.names.Area.TheVariants.{Page};
 ghost use Rattle.trees.specs.Owners.{root_pages};
 ghost use Rattle.trees.specs.Counted.{HasCounts};
 ghost use Rattle.version_delete.specs.Released.{AreApart, Gives, Released, Blames};
-ghost use Rattle.trees.specs.Damage.{IsLeafFault, root_row};
+ghost use Rattle.trees.specs.Damage.{AnyPart, IsLeafFault, root_row};
+ghost use Rattle.trees.specs.Made.{pages_of};
 
 use crate::steps::Steps;
 use ex_base::{CountBlocks, PageNo, PortFault, ROOT_LEAST, Root};
@@ -30,6 +31,27 @@ fn release_leaf<B: CountBlocks>(blocks: &mut B, page: PageNo) -> Result<(), Port
     }
     if blocks.drop_ref(page) {
         blocks.give_unit(page);
+    }
+    Ok(())
+}
+
+/// Takes an owner away from each leaf of a row.
+fn release_leaves<B: CountBlocks>(blocks: &mut B, row: &[Part]) -> Result<(), PortFault>
+    requires ready { B.ready blocks.old }
+    requires counts { HasCounts B.Ground blocks.old }
+    requires apart { AreApart B.Ground blocks.old }
+    ensures released { OnOk result (Released B.Ground blocks.old blocks.new 0 (pages_of row.now)) }
+    ensures gives { Gives B.Ground blocks.old blocks.new }
+    ensures pages { B.free blocks.new Page ≡ B.free blocks.old Page }
+    ensures fault { IfErr result (λ fault. AnyPart (λ leaf.
+        IsLeafFault (B.geometry blocks.old) leaf.page fault) row.now) }
+    ensures cause { HasCause (B.faults blocks.old) (B.faults blocks.new) result }
+{
+    for leaf in row {
+        match release_leaf(blocks, leaf.page) {
+            Ok(()) => {}
+            Err(fault) => return Err(fault),
+        }
     }
     Ok(())
 }
@@ -73,6 +95,12 @@ fn release<B: CountBlocks, L: Ledger>(
         Err(fault) => return Err(fault),
     };
     blocks.give_unit(tree.page);
+    if level == 1 {
+        match release_leaves(blocks, &below) {
+            Ok(()) => return Ok(()),
+            Err(fault) => return Err(fault),
+        }
+    }
     for child in &below {
         match release(blocks, alloc, level - 1, geometry.fan, *child, steps) {
             Ok(()) => {}

@@ -199,6 +199,7 @@ impl<'a, D: Disk> CountBlocks for GivingPort<'a, D> {
 
     ghost idle_trans = { λ a b c x y. y ∙ x };
 
+    #[inline(always)]
     fn drop_ref(&mut self, page: PageNo) -> bool {
         if self.is_logged(page) {
             return false;

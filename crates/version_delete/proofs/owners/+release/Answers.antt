@@ -8,9 +8,9 @@ use Rattle.count_nodes.specs.Node.{pairs_on}
 use Rattle.trees.specs.Counted.{HasCounts}
 use Rattle.version_delete.specs.Released.{AreApart, IsFreed, Released}
 use Rattle.version_delete.proofs.Releasing.{drops_of, drops_kept, not_last, node_released, so_far_more, gives_last, gives_less, gives_on, counts_given, all_of, some_level, suc_less, node_left, gives_geometry}
-use Rattle.version_delete.proofs.Blaming.{row_fault}
+use Rattle.version_delete.proofs.Blaming.{row_fault, walk_leaves}
 use Rattle.trees.specs.Owners.{StandsAt}
-use Rattle.trees.specs.Damage.{NamesNode, IsNodeFault, IsWalkFault}
+use Rattle.trees.specs.Damage.{AnyPart, NamesNode, IsLeafFault, IsNodeFault, IsWalkFault}
 use Rattle.trees.proofs.Blame.{walk_below, walk_node}
 use Rattle.version_delete.proofs.owners.+release.Goals as goal
 
@@ -138,3 +138,63 @@ returns-in-Err-clause-gives g t c =
     let b = g.B.Ground in
     let first = drops_of b c.args.blocks.now c.drop_ref.new.self page (without_ref (b.refs c.args.blocks.now page)) c.drop_ref.ensures.counts in
     gives_less b c.args.blocks.now c.row_of.new.blocks page (drops_kept b c.args.blocks.now c.drop_ref.new.self c.row_of.new.blocks page (without_ref (b.refs c.args.blocks.now page)) first c.in-Err.ensures.kept)
+
+-- ---- a node over leaves
+
+pub returns-in-Ok-release_leaves-clause-released : goal.returns-in-Ok-release_leaves-clause-released
+returns-in-Ok-release_leaves-clause-released g t c =
+    let page = c.args.tree.page.0 in
+    let b = g.B.Ground in
+    let last = c.drop_ref.ensures.last.0 c.if-not-drop_ref.false in
+    let first = drops_of b c.args.blocks.now c.drop_ref.new.self page (without_ref (b.refs c.args.blocks.now page)) c.drop_ref.ensures.counts in
+    let drops = drops_kept b c.args.blocks.now c.drop_ref.new.self c.row_of.new.blocks page (without_ref (b.refs c.args.blocks.now page)) first c.in-Ok.ensures.kept in
+    let area : InPageArea (b.geometry c.args.blocks.now) page = subst (λ (x : Geometry). InPageArea x page) c.geometry-geometry.ensures (c.names_node.ensures.0 c.if-not-names_node.false).0 in
+    subst (λ k. Released b c.args.blocks.now c.release_leaves.new.blocks k (page ∷ [])) (sym c.if-level-eq1.true)
+    (node_released b c.args.blocks.now c.row_of.new.blocks c.give_unit.new.self page drops c.give_unit.ensures.given last (c.requires.counts.used page (omega (arith, last))) c.release_leaves.new.blocks 0 c.deref.result.now area
+    (λ told. c.deref.ensures.value ∙ (c.in-Ok.ensures.found (b.leads_told c.args.blocks.now c.drop_ref.new.self c.drop_ref.ensures.counts.leads told)).parts ∙ ap (λ (us : Units). parts_of 0 (pairs_on (us page))) first.units)
+    c.in-Ok-release_leaves.ensures.released)
+
+pub returns-in-Ok-release_leaves-clause-gives : goal.returns-in-Ok-release_leaves-clause-gives
+returns-in-Ok-release_leaves-clause-gives g t c =
+    let page = c.args.tree.page.0 in
+    let b = g.B.Ground in
+    let last = c.drop_ref.ensures.last.0 c.if-not-drop_ref.false in
+    let first = drops_of b c.args.blocks.now c.drop_ref.new.self page (without_ref (b.refs c.args.blocks.now page)) c.drop_ref.ensures.counts in
+    let drops = drops_kept b c.args.blocks.now c.drop_ref.new.self c.row_of.new.blocks page (without_ref (b.refs c.args.blocks.now page)) first c.in-Ok.ensures.kept in
+    gives_on b c.args.blocks.now c.give_unit.new.self c.release_leaves.new.blocks
+    (gives_last b c.args.blocks.now c.row_of.new.blocks c.give_unit.new.self page drops c.give_unit.ensures.given last (c.requires.counts.used page (omega (arith, last)))) c.in-Ok-release_leaves.ensures.gives
+
+pub returns-in-Err-release_leaves-clause-gives : goal.returns-in-Err-release_leaves-clause-gives
+returns-in-Err-release_leaves-clause-gives g t c =
+    let page = c.args.tree.page.0 in
+    let b = g.B.Ground in
+    let last = c.drop_ref.ensures.last.0 c.if-not-drop_ref.false in
+    let first = drops_of b c.args.blocks.now c.drop_ref.new.self page (without_ref (b.refs c.args.blocks.now page)) c.drop_ref.ensures.counts in
+    let drops = drops_kept b c.args.blocks.now c.drop_ref.new.self c.row_of.new.blocks page (without_ref (b.refs c.args.blocks.now page)) first c.in-Ok.ensures.kept in
+    gives_on b c.args.blocks.now c.give_unit.new.self c.release_leaves.new.blocks
+    (gives_last b c.args.blocks.now c.row_of.new.blocks c.give_unit.new.self page drops c.give_unit.ensures.given last (c.requires.counts.used page (omega (arith, last)))) c.in-Err-release_leaves.ensures.gives
+
+pub returns-in-Err-release_leaves-clause-fault : goal.returns-in-Err-release_leaves-clause-fault
+returns-in-Err-release_leaves-clause-fault g t c = λ told logged roots at is.
+    let page = c.args.tree.page.0 in
+    let b = g.B.Ground in
+    let row = c.deref.result.now in
+    let fault = c.in-Err-release_leaves.fault in
+    let last = c.drop_ref.ensures.last.0 c.if-not-drop_ref.false in
+    let first = drops_of b c.args.blocks.now c.drop_ref.new.self page (without_ref (b.refs c.args.blocks.now page)) c.drop_ref.ensures.counts in
+    let drops = drops_kept b c.args.blocks.now c.drop_ref.new.self c.row_of.new.blocks page (without_ref (b.refs c.args.blocks.now page)) first c.in-Ok.ensures.kept in
+    let given = gives_last b c.args.blocks.now c.row_of.new.blocks c.give_unit.new.self page drops c.give_unit.ensures.given last (c.requires.counts.used page (omega (arith, last))) in
+    let geo : b.geometry c.drop_ref.new.self ≡ b.geometry c.args.blocks.now = b.leads_geometry c.args.blocks.now c.drop_ref.new.self c.drop_ref.ensures.counts.leads in
+    let area : NamesNode (b.geometry c.args.blocks.now) page = subst (λ (x : Geometry). NamesNode x page) c.geometry-geometry.ensures (c.names_node.ensures.0 c.if-not-names_node.false) in
+    let found : IsRowOn (b.geometry c.args.blocks.now) (b.unit c.args.blocks.now page) c.args.level c.args.tree.size row =
+    subst (IsRowOn (b.geometry c.args.blocks.now) (b.unit c.args.blocks.now page) c.args.level c.args.tree.size) (sym c.deref.ensures.value)
+    (subst (λ (x : Geometry). IsRowOn x (b.unit c.args.blocks.now page) c.args.level c.args.tree.size c.in-Ok.below.items) geo
+    (subst (λ (us : Units). IsRowOn (b.geometry c.drop_ref.new.self) (us page) c.args.level c.args.tree.size c.in-Ok.below.items) first.units
+    (c.in-Ok.ensures.found (b.leads_told c.args.blocks.now c.drop_ref.new.self c.drop_ref.ensures.counts.leads told)))) in
+    let filled : IsFilled (b.geometry c.args.blocks.now) c.args.level c.args.least row =
+    subst (IsFilled (b.geometry c.args.blocks.now) c.args.level c.args.least) (sym c.deref.ensures.value)
+    (subst (λ (x : Geometry). IsFilled x c.args.level c.args.least c.in-Ok.below.items) geo c.in-Ok.ensures.counted.filled) in
+    let any : AnyPart (λ leaf. IsLeafFault (b.geometry c.args.blocks.now) leaf.page fault) row =
+    subst (λ (x : Geometry). AnyPart (λ leaf. IsLeafFault x leaf.page fault) row) (gives_geometry b c.args.blocks.now c.give_unit.new.self given) c.in-Err-release_leaves.ensures.fault in
+    walk_below (b.geometry c.args.blocks.now) (b.unit c.args.blocks.now) c.args.level c.args.least 0 (c.args.tree ∷ []) row fault c.if-level-eq0.false (omega arith) area found filled
+    (walk_leaves (b.geometry c.args.blocks.now) (b.unit c.args.blocks.now) (c.args.level - 1) (b.geometry c.args.blocks.now).fan row fault (omega (arith, c.if-level-eq1.true)) any)
