@@ -5,3 +5,4 @@ pub mod Indexes
 pub mod Places
 pub mod Placing
 pub mod Removing
+pub mod Touches

@@ -10,6 +10,7 @@ ghost use Rattle.ex_base.specs.Seen.{catalog_seen, nothing_seen};
 ghost use Rattle.object_files.specs.Catalog.{CatalogOf};
 ghost use Rattle.object_files.specs.Reads.{catalog_on};
 ghost use Rattle.object_files.specs.Edits.{IsCatalogPage, numbers_on};
+ghost use Rattle.file_index.specs.Touches.{TouchesAtMost};
 ghost use Rattle.file_bodies.specs.Files.{index_in, index_at, with_index};
 ghost use Rattle.file_bodies.specs.Indexes.{IsUsable, SetsIndex};
 ghost use Rattle.file_bodies.specs.Damage.{root_seen, ListsFile, IsCatalogFault, IsFileFault, IsRootFault};
@@ -172,6 +173,7 @@ fn write_index<P: Pages>(
         → (was : Index) → index_at (P.image pages.old) index.now.file_no ≡ Some was → ⊥) }
     ensures fault { IfErr result (λ fault. P.tells pages.old
         → IsFileFault (P.image pages.old catalog_no) index.now.file_no fault) }
+    ensures touches { OnOk result (TouchesAtMost P.Ground pages.old pages.new 1) }
     ensures leads { P.leads pages.old pages.new }
     ensures cause { HasCause (P.faults pages.old) (P.faults pages.new) result }
 {
@@ -207,6 +209,7 @@ pub fn change_index<P: Pages>(
         → index_at (P.image pages.old) old.now.file_no ≡ Some old.now → ⊥) }
     ensures fault { IfErr result (λ fault. P.tells pages.old
         → IsFileFault (P.image pages.old catalog_no) old.now.file_no fault) }
+    ensures touches { OnOk result (TouchesAtMost P.Ground pages.old pages.new 1) }
     ensures leads { P.leads pages.old pages.new }
     ensures cause { HasCause (P.faults pages.old) (P.faults pages.new) result }
 {

@@ -4,6 +4,7 @@ ghost use Rattle.ex_base.specs.Ports.{Keeps, HasCause, IsDamage, PutsImage};
 ghost use Rattle.slotted_pages.specs.FilePage.{room_of};
 ghost use Rattle.slotted_pages.specs.Edits.{slots_of};
 ghost use Rattle.index_pages.specs.declared.Index.{Index};
+ghost use Rattle.file_index.specs.Touches.{TouchesAtMost};
 ghost use Rattle.file_bodies.specs.Files.{HasBody, EditsFile};
 ghost use Rattle.file_bodies.specs.Damage.{HasRecordAt, IsPlaceFault};
 
@@ -44,6 +45,7 @@ fn change_on_page<P: Pages>(
     ensures has { OnOk result (P.tells pages.old
         → HasRecordAt (P.geometry pages.old) (P.held pages.old)
         (P.image pages.old place.page.0) place) }
+    ensures touches { OnOk result (TouchesAtMost P.Ground pages.old pages.new 1) }
     ensures leads { P.leads pages.old pages.new }
     ensures cause { HasCause (P.faults pages.old) (P.faults pages.new) result }
 {
@@ -90,6 +92,7 @@ pub fn change_body<P: Pages>(
     ensures has { OnOk result (P.tells pages.old
         → HasRecordAt (P.geometry pages.old) (P.held pages.old)
         (P.image pages.old place.page.0) place) }
+    ensures touches { OnOk result (TouchesAtMost P.Ground pages.old pages.new 1) }
     ensures leads { P.leads pages.old pages.new }
     ensures cause { HasCause (P.faults pages.old) (P.faults pages.new) result }
 {

@@ -5,6 +5,8 @@ ghost use Rattle.ex_base.specs.Ports.{Keeps, HasCause, IsDamage};
 ghost use Rattle.index_pages.specs.declared.Index.{Index};
 ghost use Rattle.file_index.specs.Index.{IsFilesPage};
 ghost use Rattle.file_index.specs.Taking.{OnlyTakes};
+ghost use Rattle.file_index.specs.Touches.{TouchesAtMost};
+ghost use Rattle.file_bodies.specs.Touches.{body_touches};
 ghost use Rattle.file_bodies.specs.Files.{HasFile, EditsFile};
 ghost use Rattle.file_bodies.specs.declared.placing.Room.{Room};
 ghost use Rattle.ex_base.specs.declared.names.Place.{Place};
@@ -151,6 +153,7 @@ fn put_on_new_page<P: Pages>(
     ensures way { IfOk result (λ place. P.tells pages.old → (from : ℕ)
         → IsLook (P.geometry pages.old) (P.image pages.old) index.now from None
         → IsPlacing (P.geometry pages.old) (P.image pages.old) index.now from place.page) }
+    ensures touches { OnOk result (TouchesAtMost P.Ground pages.old pages.new body_touches) }
     ensures leads { P.leads pages.old pages.new }
     ensures cause { HasCause (P.faults pages.old) (P.faults pages.new) result }
 {
@@ -199,6 +202,7 @@ fn place_by<P: Pages>(
         (P.image pages.old) index.now from fault) }
     ensures way { IfOk result (λ place. P.tells pages.old
         → IsPlacing (P.geometry pages.old) (P.image pages.old) index.now from place.page) }
+    ensures touches { OnOk result (TouchesAtMost P.Ground pages.old pages.new body_touches) }
     ensures leads { P.leads pages.old pages.new }
     ensures cause { HasCause (P.faults pages.old) (P.faults pages.new) result }
 {
@@ -240,6 +244,7 @@ fn place_from<P: Pages>(
         (P.image pages.old) index.now from fault) }
     ensures way { IfOk result (λ place. P.tells pages.old
         → IsPlacing (P.geometry pages.old) (P.image pages.old) index.now from place.page) }
+    ensures touches { OnOk result (TouchesAtMost P.Ground pages.old pages.new body_touches) }
     ensures leads { P.leads pages.old pages.new }
     ensures cause { HasCause (P.faults pages.old) (P.faults pages.new) result }
 {
@@ -283,6 +288,7 @@ pub fn place_body<P: Pages>(
         → HasListed (P.image pages.old) room.old.file_no
         (λ index. IsPlacing (P.geometry pages.old) (P.image pages.old) index
         (start_of room.old (length body.now)) place.page)) }
+    ensures touches { OnOk result (TouchesAtMost P.Ground pages.old pages.new body_touches) }
     ensures leads { P.leads pages.old pages.new }
     ensures cause { HasCause (P.faults pages.old) (P.faults pages.new) result }
 {

@@ -5,6 +5,8 @@ ghost use Rattle.ex_base.specs.Ports.{HasCause, IsDamage};
 ghost use Rattle.index_pages.specs.declared.Index.{Index};
 ghost use Rattle.file_index.specs.Index.{IsFilesPage};
 ghost use Rattle.file_index.specs.Taking.{OnlyGives};
+ghost use Rattle.file_index.specs.Touches.{TouchesAtMost};
+ghost use Rattle.file_bodies.specs.Touches.{body_touches};
 ghost use Rattle.file_bodies.specs.Bodies.{pages_in};
 ghost use Rattle.file_bodies.specs.Files.{HasFile, HasBody};
 ghost use Rattle.file_bodies.specs.Places.{RemovesBody};
@@ -47,6 +49,7 @@ fn drop_page<P: Pages>(
     ensures way { OnOk result (P.tells pages.old
         → HasListed (P.image pages.old) file_no
         (λ index. HasWay (P.geometry pages.old) (P.image pages.old) index page.0)) }
+    ensures touches { OnOk result (TouchesAtMost P.Ground pages.old pages.new body_touches) }
     ensures leads { P.leads pages.old pages.new }
     ensures cause { HasCause (P.faults pages.old) (P.faults pages.new) result }
 {
@@ -94,6 +97,7 @@ fn remove_by<P: Pages>(
         → IsLastOn (P.image pages.old place.page.0) place.slot
         → HasListed (P.image pages.old) (page_on (P.image pages.old place.page.0)).file_no
         (λ index. HasWay (P.geometry pages.old) (P.image pages.old) index place.page.0)) }
+    ensures touches { OnOk result (TouchesAtMost P.Ground pages.old pages.new body_touches) }
     ensures leads { P.leads pages.old pages.new }
     ensures cause { HasCause (P.faults pages.old) (P.faults pages.new) result }
 {
@@ -132,6 +136,7 @@ pub fn remove_from_file<P: Pages>(
         → IsLastOn (P.image pages.old place.page.0) place.slot
         → HasListed (P.image pages.old) (page_on (P.image pages.old place.page.0)).file_no
         (λ index. HasWay (P.geometry pages.old) (P.image pages.old) index place.page.0)) }
+    ensures touches { OnOk result (TouchesAtMost P.Ground pages.old pages.new body_touches) }
     ensures leads { P.leads pages.old pages.new }
     ensures cause { HasCause (P.faults pages.old) (P.faults pages.new) result }
 {

@@ -1,4 +1,5 @@
 pub mod Taking
+pub mod Touches
 pub mod Changes
 pub mod Damage
 pub mod Edits

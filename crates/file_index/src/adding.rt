@@ -1,6 +1,6 @@
 //! A page put into the index of a file.
 ghost use Rattle.std.specs.Prelude.{◌≡◌, ◌≤◌, ◌<◌, ◌+◌, ◌-◌, ◌∷◌, [], ℕ, true, false, length, IfOk, IfErr, OnOk};
-ghost use Rattle.ex_base.specs.declared.names.Area.TheVariants.{Page};
+ghost use Rattle.ex_base.specs.declared.names.Area.TheVariants.{Page, Segment};
 ghost use Rattle.ex_base.specs.Area.{catalog_no};
 ghost use Rattle.ex_base.specs.Ports.{HasCause, IsDamage};
 ghost use Rattle.index_pages.specs.IndexPage.{most_entries};
@@ -9,6 +9,7 @@ ghost use Rattle.file_index.specs.Index.{IsFilesPage, HasRoot, HasPlacedRoot};
 ghost use Rattle.file_index.specs.Nodes.{PutsLeaf, leaves_of, IsRootOver};
 ghost use Rattle.file_index.specs.Edits.{IsRow, Becomes, HasIndex, EditsIndex, GrowsTo, put_in};
 ghost use Rattle.file_index.specs.Damage.{IsWayUnder, IsFaultUnder, HasWay, IsIndexFault, IsAddingFault};
+ghost use Rattle.file_index.specs.Touches.{TouchesAtMost, index_touches, touches_below};
 ghost use Rattle.file_index.specs.Taking.{OnlyTakes};
 
 use crate::named::{Named, no_index_page};
@@ -80,6 +81,8 @@ fn add_among<P: Pages>(
         → IsWayUnder (P.geometry pages.old) (P.image pages.old) file_no key
         (level - 1) entries.old.items) }
     ensures catalog { OnOk result (P.image pages.new catalog_no ≡ P.image pages.old catalog_no) }
+    ensures leaves { OnOk result (P.free pages.new Segment ≡ P.free pages.old Segment) }
+    ensures touches { OnOk result (TouchesAtMost P.Ground pages.old pages.new (touches_below level)) }
     ensures leads { P.leads pages.old pages.new }
     ensures cause { HasCause (P.faults pages.old) (P.faults pages.new) result }
 {
@@ -140,6 +143,8 @@ fn add_second<P: Pages>(
     ensures takes { OnOk result (OnlyTakes P.Ground pages.old pages.new) }
     ensures no_damage { IfErr result (λ fault. IsDamage fault → ⊥) }
     ensures catalog { OnOk result (P.image pages.new catalog_no ≡ P.image pages.old catalog_no) }
+    ensures leaves { OnOk result (P.free pages.new Segment ≡ P.free pages.old Segment) }
+    ensures touches { OnOk result (TouchesAtMost P.Ground pages.old pages.new 1) }
     ensures leads { P.leads pages.old pages.new }
     ensures cause { HasCause (P.faults pages.old) (P.faults pages.new) result }
 {
@@ -175,6 +180,7 @@ fn take_root<P: Pages>(
     ensures free { OnOk result (P.free pages.new Page + 1 ≡ P.free pages.old Page) }
     ensures takes { OnOk result (OnlyTakes P.Ground pages.old pages.new) }
     ensures catalog { OnOk result (P.image pages.new catalog_no ≡ P.image pages.old catalog_no) }
+    ensures touches { OnOk result (TouchesAtMost P.Ground pages.old pages.new 1) }
     ensures leads { P.leads pages.old pages.new }
     ensures no_damage { IfErr result (λ fault. IsDamage fault → ⊥) }
     ensures cause { HasCause (P.faults pages.old) (P.faults pages.new) result }
@@ -234,6 +240,8 @@ fn add_below<P: Pages>(
     ensures way { OnOk result (P.tells pages.old
         → HasWay (P.geometry pages.old) (P.image pages.old) index.now key.0) }
     ensures catalog { OnOk result (P.image pages.new catalog_no ≡ P.image pages.old catalog_no) }
+    ensures leaves { OnOk result (P.free pages.new Segment ≡ P.free pages.old Segment) }
+    ensures touches { OnOk result (TouchesAtMost P.Ground pages.old pages.new index_touches) }
     ensures leads { P.leads pages.old pages.new }
     ensures cause { HasCause (P.faults pages.old) (P.faults pages.new) result }
 {
@@ -311,6 +319,8 @@ pub fn add<P: Pages>(
     ensures way { OnOk result (P.tells pages.old
         → HasWay (P.geometry pages.old) (P.image pages.old) index.now key.0) }
     ensures catalog { OnOk result (P.image pages.new catalog_no ≡ P.image pages.old catalog_no) }
+    ensures leaves { OnOk result (P.free pages.new Segment ≡ P.free pages.old Segment) }
+    ensures touches { OnOk result (TouchesAtMost P.Ground pages.old pages.new index_touches) }
     ensures leads { P.leads pages.old pages.new }
     ensures cause { HasCause (P.faults pages.old) (P.faults pages.new) result }
 {

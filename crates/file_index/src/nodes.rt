@@ -8,6 +8,7 @@ ghost use Rattle.file_index.specs.Index.{IsFilesPage, IsNamed, least_entries};
 ghost use Rattle.file_index.specs.Changes.{Changes};
 ghost use Rattle.file_index.specs.Nodes.{IsWritten};
 ghost use Rattle.file_index.specs.Damage.{IsPageFault};
+ghost use Rattle.file_index.specs.Touches.{TouchesAtMost};
 ghost use Rattle.file_index.specs.Taking.{OnlyTakes};
 
 use crate::named::{Named, checked, no_index_page};
@@ -107,6 +108,7 @@ pub fn put_index<P: Pages>(
     ensures used { OnOk result (P.used pages.new ≡ P.used pages.old) }
     ensures free { OnOk result (P.free pages.new ≡ P.free pages.old) }
     ensures catalog { OnOk result (P.image pages.new catalog_no ≡ P.image pages.old catalog_no) }
+    ensures touches { TouchesAtMost P.Ground pages.old pages.new 1 }
     ensures leads { P.leads pages.old pages.new }
     ensures no_damage { IfErr result (λ fault. IsDamage fault → ⊥) }
     ensures cause { HasCause (P.faults pages.old) (P.faults pages.new) result }
@@ -139,6 +141,7 @@ pub fn take_index<P: Pages>(
     ensures free { OnOk result (P.free pages.new Page + 1 ≡ P.free pages.old Page) }
     ensures takes { OnOk result (OnlyTakes P.Ground pages.old pages.new) }
     ensures catalog { OnOk result (P.image pages.new catalog_no ≡ P.image pages.old catalog_no) }
+    ensures touches { TouchesAtMost P.Ground pages.old pages.new 1 }
     ensures leads { P.leads pages.old pages.new }
     ensures no_damage { IfErr result (λ fault. IsDamage fault → ⊥) }
     ensures cause { HasCause (P.faults pages.old) (P.faults pages.new) result }

@@ -1,6 +1,6 @@
 //! A page taken out of the index of a file.
 ghost use Rattle.std.specs.Prelude.{◌≡◌, ◌⊎◌, ◌≢◌, ◌≤◌, ◌<◌, ◌+◌, ◌-◌, ◌*◌, ◌/◌, ◌∷◌, ◌++◌, [], ℕ, true, false, length, take, drop, slice_index_or, IfOk, IfErr, OnOk};
-ghost use Rattle.ex_base.specs.declared.names.Area.TheVariants.{Page};
+ghost use Rattle.ex_base.specs.declared.names.Area.TheVariants.{Page, Segment};
 ghost use Rattle.ex_base.specs.Area.{catalog_no};
 ghost use Rattle.ex_base.specs.Ports.{HasCause, IsDamage};
 ghost use Rattle.index_pages.specs.IndexPage.{most_entries};
@@ -9,6 +9,7 @@ ghost use Rattle.file_index.specs.Index.{IsFilesPage, HasRoot};
 ghost use Rattle.file_index.specs.Nodes.{IsWritten, RemovesLeaf, first_key};
 ghost use Rattle.file_index.specs.Edits.{IsRow, Becomes, HasIndex, EditsIndex, ShrinksTo, take_out};
 ghost use Rattle.file_index.specs.Damage.{IsWayUnder, IsFaultUnder, IsBesideUnder, IsGoneFault, HasWay, IsRemovalFault};
+ghost use Rattle.file_index.specs.Touches.{TouchesAtMost, index_touches, touches_below};
 ghost use Rattle.file_index.specs.Taking.{OnlyGives};
 
 use crate::named::{Named, most_entries, no_index_page};
@@ -61,6 +62,7 @@ fn write_child<P: Pages>(
     ensures free { OnOk result (P.free pages.new ≡ P.free pages.old) }
     ensures gives { OnOk result (OnlyGives P.Ground pages.old pages.new) }
     ensures catalog { OnOk result (P.image pages.new catalog_no ≡ P.image pages.old catalog_no) }
+    ensures touches { OnOk result (TouchesAtMost P.Ground pages.old pages.new 1) }
     ensures leads { P.leads pages.old pages.new }
     ensures no_damage { IfErr result (λ fault. IsDamage fault → ⊥) }
     ensures cause { HasCause (P.faults pages.old) (P.faults pages.new) result }
@@ -130,6 +132,8 @@ fn remove_among<P: Pages>(
         → IsWayUnder (P.geometry pages.old) (P.image pages.old) file_no key
         (level - 1) entries.old.items) }
     ensures catalog { OnOk result (P.image pages.new catalog_no ≡ P.image pages.old catalog_no) }
+    ensures leaves { OnOk result (P.free pages.new Segment ≡ P.free pages.old Segment) }
+    ensures touches { OnOk result (TouchesAtMost P.Ground pages.old pages.new (touches_below level)) }
     ensures leads { P.leads pages.old pages.new }
     ensures cause { HasCause (P.faults pages.old) (P.faults pages.new) result }
 {
@@ -197,6 +201,8 @@ fn remove_below<P: Pages>(
     ensures way { OnOk result (P.tells pages.old
         → HasWay (P.geometry pages.old) (P.image pages.old) index.now key.0) }
     ensures catalog { OnOk result (P.image pages.new catalog_no ≡ P.image pages.old catalog_no) }
+    ensures leaves { OnOk result (P.free pages.new Segment ≡ P.free pages.old Segment) }
+    ensures touches { OnOk result (TouchesAtMost P.Ground pages.old pages.new (2 * index.now.level)) }
     ensures leads { P.leads pages.old pages.new }
     ensures cause { HasCause (P.faults pages.old) (P.faults pages.new) result }
 {
@@ -264,6 +270,8 @@ pub fn remove<P: Pages>(
     ensures way { OnOk result (P.tells pages.old
         → HasWay (P.geometry pages.old) (P.image pages.old) index.now key.0) }
     ensures catalog { OnOk result (P.image pages.new catalog_no ≡ P.image pages.old catalog_no) }
+    ensures leaves { OnOk result (P.free pages.new Segment ≡ P.free pages.old Segment) }
+    ensures touches { OnOk result (TouchesAtMost P.Ground pages.old pages.new index_touches) }
     ensures leads { P.leads pages.old pages.new }
     ensures cause { HasCause (P.faults pages.old) (P.faults pages.new) result }
 {

@@ -8,6 +8,7 @@ ghost use Rattle.file_index.specs.Changes.{Changes};
 ghost use Rattle.file_index.specs.Index.{IsFilesPage, IsNamed};
 ghost use Rattle.file_index.specs.Damage.{IsPageFault};
 ghost use Rattle.file_index.specs.Nodes.{Stored, heads, entries_of, first_key, joined, beside_of, thin_of};
+ghost use Rattle.file_index.specs.Touches.{TouchesAtMost};
 ghost use Rattle.file_index.specs.Taking.{OnlyGives};
 
 use crate::named::{Named, most_entries};
@@ -73,6 +74,7 @@ fn even_out<P: Pages>(
     ensures free { OnOk result (P.free pages.old Page ≤ P.free pages.new Page) }
     ensures gives { OnOk result (OnlyGives P.Ground pages.old pages.new) }
     ensures catalog { OnOk result (P.image pages.new catalog_no ≡ P.image pages.old catalog_no) }
+    ensures touches { OnOk result (TouchesAtMost P.Ground pages.old pages.new 2) }
     ensures leads { P.leads pages.old pages.new }
     ensures no_damage { IfErr result (λ fault. IsDamage fault → ⊥) }
     ensures cause { HasCause (P.faults pages.old) (P.faults pages.new) result }
@@ -134,6 +136,7 @@ pub fn spread<P: Pages>(
         (P.image pages.new (beside_of pair.now).page.0) pair.now.level pair.now.file_no
         (Some (beside_of pair.now).key) (beside_of pair.now).page.0 fault) }
     ensures catalog { OnOk result (P.image pages.new catalog_no ≡ P.image pages.old catalog_no) }
+    ensures touches { OnOk result (TouchesAtMost P.Ground pages.old pages.new 2) }
     ensures leads { P.leads pages.old pages.new }
     ensures cause { HasCause (P.faults pages.old) (P.faults pages.new) result }
 {

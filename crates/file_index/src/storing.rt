@@ -7,6 +7,7 @@ ghost use Rattle.index_pages.specs.IndexPage.{most_entries};
 ghost use Rattle.file_index.specs.Index.{IsFilesPage};
 ghost use Rattle.file_index.specs.Changes.{Changes};
 ghost use Rattle.file_index.specs.Nodes.{Stored, left_part, heads, entries_of};
+ghost use Rattle.file_index.specs.Touches.{TouchesAtMost};
 ghost use Rattle.file_index.specs.Taking.{OnlyTakes};
 
 use crate::named::{Named, most_entries};
@@ -45,6 +46,7 @@ pub fn store<P: Pages>(
     ensures free { OnOk result (P.free pages.old Page ≤ P.free pages.new Page + 1) }
     ensures takes { OnOk result (OnlyTakes P.Ground pages.old pages.new) }
     ensures catalog { OnOk result (P.image pages.new catalog_no ≡ P.image pages.old catalog_no) }
+    ensures touches { OnOk result (TouchesAtMost P.Ground pages.old pages.new 2) }
     ensures leads { P.leads pages.old pages.new }
     ensures no_damage { IfErr result (λ fault. IsDamage fault → ⊥) }
     ensures cause { HasCause (P.faults pages.old) (P.faults pages.new) result }
