@@ -67,10 +67,9 @@ fn push_digits(out: &mut Vec<u8>, bytes: &[u8]) -> Result<(), AllocError>
     ensures front { OnErr result (IsFront out.old.items out.new.items) }
 {
     let start = out.len();
-    let Some(end) = start.checked_add(bytes.len() * 2) else {
-        return Err(AllocError);
-    };
-    out.resize(end, 0)?;
+    let digits = bytes.len() * 2;
+    out.reserve(digits)?;
+    out.resize(start + digits, 0)?;
     write_digits(bytes, &mut out[start..]);
     Ok(())
 }
