@@ -1,5 +1,5 @@
 -- The hints of runs of units, along the search and after a unit is taken or given back.
-use Rattle.std.proofs.Common.{◌≡◌, ℕ, ◌+◌, ◌*◌, ◌/◌, ◌%◌, ◌<◌, ◌≤◌, inl, inr, Bool, true, List, length, get_or, arith, add-mul, one-mul}
+use Rattle.std.proofs.Common.{◌≡◌, ℕ, ◌+◌, ◌*◌, ◌/◌, ◌%◌, ◌<◌, ◌≤◌, ◌⊎◌, inl, inr, Bool, true, List, length, get_or, arith, add-mul, one-mul}
 use Rattle.std.proofs.lemmas.Bool.{cases_eq, cases_lt}
 use Rattle.std.proofs.lemmas.Nat.{div-add-mod', mod_below}
 use Rattle.page_alloc.specs.Flags.{AllUsedBelow}
@@ -27,13 +27,13 @@ hints_kept size at before after used pos hint low sets = record {
   sound = λ k h. elim (sets.only (k / size) h) [ inl was ↦ hint.sound k was | inr ends ↦ low k (in_run k size at pos ends) ];
 }
 
--- the search goes on past hinted units
-pub used_on : (used full crowded : List Bool) (at next : ℕ) → IsHint 128 full used → IsHint 16384 crowded used → AllUsedBelow used at → get_or used at true ≡ true → ((k : ℕ) → at < k → k < next → IsHinted full crowded k) → AllUsedBelow used next
+-- the search goes on past units that a hint covers or that are used
+pub used_on : (used full crowded : List Bool) (at next : ℕ) → IsHint 128 full used → IsHint 16384 crowded used → AllUsedBelow used at → get_or used at true ≡ true → ((k : ℕ) → at < k → k < next → IsHinted full crowded k ⊎ (get_or used k true ≡ true)) → AllUsedBelow used next
 used_on used full crowded at next group block low here between k h =
     elim (cases_lt k at) [
       | inl below ↦ low k below
       | inr above ↦ elim (cases_eq k at) [
         | inl same ↦ rw same here
-        | inr other ↦ elim (between k (omega arith) h) [ inl f ↦ group.sound k f | inr c ↦ block.sound k c ]
+        | inr other ↦ elim (between k (omega arith) h) [ inl hinted ↦ elim hinted [ inl f ↦ group.sound k f | inr c ↦ block.sound k c ] | inr is ↦ is ]
       ]
     ]

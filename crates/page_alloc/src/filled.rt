@@ -1,5 +1,5 @@
 //! Lists of which memory is touched only as far as they were changed.
-ghost use Rattle.std.specs.Prelude.{◌≡◌, ◌<◌, ◌≤◌, ◌+◌, length, replicate, slice_index_or, slice_set, IfOk};
+ghost use Rattle.std.specs.Prelude.{◌≡◌, ◌<◌, ◌≤◌, ◌+◌, ◌^◌, ℕ, All, Bool, true, length, replicate, slice_index_or, slice_set, IfOk};
 
 use std::alloc::{AllocError, Global};
 use std::marker::Model;
@@ -92,5 +92,28 @@ impl<T: Copy> Filled<T> {
             unreachable!();
         }
         self.written[at] = element;
+    }
+}
+
+/// Whether each flag is set. They are looked at together, without a branch for each.
+fn are_set(flags: &[bool]) -> bool
+    ensures { result ≡ true → All (λ (flag : Bool). flag ≡ true) flags.now }
+{
+    let mut all = true;
+    for flag in flags {
+        all &= *flag;
+    }
+    all
+}
+
+impl Filled<bool> {
+    /// Whether so many elements from a place on were written, and each is true.
+    pub fn is_set_from(&self, at: usize, count: usize) -> bool
+        requires { at + count < 2 ^ 64 }
+        ensures { result ≡ true → (k : ℕ) → at ≤ k → k < at + count
+            → slice_index_or self.now k true ≡ true }
+    {
+        let end = at + count;
+        end <= self.written.len() && are_set(&self.written[at..end])
     }
 }

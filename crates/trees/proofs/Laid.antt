@@ -119,7 +119,7 @@ row_length geo u l (part ∷ row) whole trees =
 
 -- ---- parts of joined lists
 
-part_min : (xs : List ℕ) (from n len : ℕ) → n ≤ len - from → take n (drop from (take len xs)) ≡ take n (drop from xs)
+pub part_min : (xs : List ℕ) (from n len : ℕ) → n ≤ len - from → take n (drop from (take len xs)) ≡ take n (drop from xs)
 part_min xs from zero len h = refl
 part_min xs from (suc n) len h = part_of_front xs from (suc n) len (omega arith)
 

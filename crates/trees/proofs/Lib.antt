@@ -15,6 +15,7 @@ pub mod Sound
 pub mod Ways
 pub mod Counts
 pub mod Laid
+pub mod Between
 pub mod Over
 pub mod SpanLaws
 pub mod RowReads

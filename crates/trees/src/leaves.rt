@@ -13,7 +13,7 @@ ghost use Rattle.trees.specs.Made.{Extends, Spent, Holds, Took, Stays, pages_of,
 
 use crate::read::read_row;
 use crate::rows::{Part, put};
-use ex_base::{Blocks, PortFault, ReadBlocks};
+use ex_base::{Blocks, PortFault, ReadBlocks, put_bytes};
 use std::alloc::Global;
 
 /// The least number of children of the nodes below a row of leaves. There are none.
@@ -80,6 +80,67 @@ fn fill_behind<B: ReadBlocks>(
     )
 }
 
+/// Puts given bytes at a place of a buffer and moves the bytes from there on behind them. Bytes that fall off its end are gone.
+fn put_between(out: &mut [u8], at: usize, given: &[u8])
+    requires { at + length given.now ≤ length out.old }
+    ensures { out.new ≡ take at out.old ++ given.now
+        ++ take (length out.old - at - length given.now) (drop at out.old) }
+{
+    let behind = at + given.len();
+    let end = out.len() - given.len();
+    out.copy_within(at..end, behind);
+    put_bytes(out, at, given);
+}
+
+/// The given bytes from a position on, as many as a place has.
+fn part_of(given: &[u8], from: u64, most: usize) -> &[u8]
+    ensures { result.now ≡ take most (drop from given.now) }
+{
+    if from >= given.len() as u64 {
+        return &[];
+    }
+    let rest = &given[from as usize..];
+    &rest[..most.min(rest.len())]
+}
+
+/// Fills a leaf with the new bytes of a run of leaves from a position on, where given bytes come between old ones. The old ones are read together.
+fn fill_once<B: ReadBlocks>(
+    blocks: &mut B,
+    alloc: Global,
+    run: &[Part],
+    place: u64,
+    given: &[u8],
+    at: u64,
+    out: &mut [u8],
+) -> Result<(), PortFault>
+    requires ready { B.ready blocks.old }
+    requires leaves { FitLeaves (B.geometry blocks.old) 0 run.now }
+    requires change { place ≤ row_size run.now }
+    requires sizes { row_size run.now + at < 2 ^ 64 }
+    requires range { at + length out.old ≤ row_size run.now + length given.now }
+    ensures bytes { OnOk result (B.tells blocks.old
+        → AreTrees (B.geometry blocks.old) (B.unit blocks.old) 0 run.now
+        → out.new ≡ take (length out.old)
+        (drop at (changed (row_bytes (B.unit blocks.old) 0 run.now) place 0 given.now))) }
+    ensures way { OnOk result (B.tells blocks.old → (byte new : ℕ)
+        → Stays place 0 (length given.now) byte new → at ≤ new
+        → new < at + length out.old → IsSoundWay (B.geometry blocks.old) (B.unit blocks.old)
+        (NamesLeaf (B.geometry blocks.old)) 0 0 run.now byte byte) }
+    ensures fault { IfErr result (λ fault. B.tells blocks.old
+        → IsWalkFault (B.geometry blocks.old) (B.unit blocks.old) 0 0 run.now fault) }
+    ensures kept { Keeps B.Ground blocks.old blocks.new }
+    ensures cause { HasCause (B.faults blocks.old) (B.faults blocks.new) result }
+{
+    let before = (out.len() as u64).min(place.saturating_sub(at)) as usize;
+    let inside = at.saturating_sub(place);
+    let new = part_of(given, inside, out.len() - before);
+    let from = at.min(place) + inside.saturating_sub(given.len() as u64);
+    let old = out.len() - new.len();
+    read_row(blocks, alloc, 0, NO_NODES, run, from, &mut out[..old])?;
+    put_between(out, before, new);
+    Ok(())
+}
+
 /// Fills a leaf with the new bytes of a run of leaves from a position on.
 fn fill<B: ReadBlocks>(
     blocks: &mut B,
@@ -108,6 +169,9 @@ fn fill<B: ReadBlocks>(
     ensures kept { Keeps B.Ground blocks.old blocks.new }
     ensures cause { HasCause (B.faults blocks.old) (B.faults blocks.new) result }
 {
+    if change.cut == 0 {
+        return fill_once(blocks, alloc, run, change.at, given, at, out);
+    }
     let n = (out.len() as u64).min(change.at.saturating_sub(at)) as usize;
     read_row(blocks, alloc, 0, NO_NODES, run, at, &mut out[..n])?;
     let inside = at.saturating_sub(change.at);

@@ -1,6 +1,7 @@
 use Rattle.ex_base.specs.Area.{NamesLeaf}
 use Rattle.trees.specs.Damage.{IsSoundWay}
-use Rattle.std.proofs.Common.{length, ◌∙◌, ◌+◌, ◌++◌, ℕ, List, take, drop, ap, arith, rules}
+use Rattle.std.proofs.Common.{length, ◌∙◌, ◌+◌, ◌++◌, ℕ, List, take, drop, ap, subst, arith, rules}
+use Rattle.trees.specs.Made.{Stays}
 use Rattle.std.proofs.lemmas.Result.{IfErr-weaker, on_ok_weaker}
 use Rattle.trees.specs.Rows.{row_bytes}
 use Rattle.trees.proofs.Reading.{later}
@@ -32,3 +33,8 @@ returns-clause-way g c =
     c.min-n.ensures c.saturating_sub.ensures c.saturating_sub-inside.ensures (search rules) stays low high
     (c.in_ok-read_row.ensures.way told byte)
     (λ from in_low in_high. leaves_way g.B.Ground c.args.blocks.now c.read_row.new.blocks c.args.run.now byte byte c.in_ok-read_row.ensures.kept.leads (λ later. behind later byte from in_low in_high) told)) c.fill_behind.ensures.way
+
+pub returns-then-change-eq0-clause-way : goal.returns-then-change-eq0-clause-way
+returns-then-change-eq0-clause-way g c =
+    on_ok_weaker c.fill_once.result (λ read told byte place stays low high.
+    read told byte place (subst (λ k. Stays c.args.change.at k (length c.args.given.now) byte place) c.if-change-eq0.true stays) low high) c.fill_once.ensures.way

@@ -16,10 +16,12 @@ pub push_reserved-requires : goal.push_reserved-requires
 push_reserved-requires c = omega (arith, c.loop-index.invariant.1, c.loop-index.invariant.2, c.loop-index-test.true)
 
 pub loop-index-preserved : goal.loop-index-preserved
-loop-index-preserved c =
-    (subst (ChildrenFrom c.args.node.now.pairs c.args.from (c.loop-index.index + 1) c.at-pair.result.count) (sym c.push_reserved.ensures.items)
-    (next_from c.args.node.now.pairs c.args.from c.loop-index.index c.loop-index.before c.loop-index.row.items c.at-pair.result c.loop-index.invariant.0 (subst (λ (pairs : List Pair). slice_get pairs c.loop-index.index ≡ Some c.at-pair.result) c.pairs-pairs.ensures c.at-pair.ensures)),
-    omega (arith, c.push_reserved.ensures.len, c.loop-index.invariant.1), c.push_reserved.ensures.capacity ∙ c.loop-index.invariant.2)
+loop-index-preserved c = (
+  subst (ChildrenFrom c.args.node.now.pairs c.args.from (c.loop-index.index + 1) c.at-pair.result.count) (sym c.push_reserved.ensures.items)
+      (next_from c.args.node.now.pairs c.args.from c.loop-index.index c.loop-index.before c.loop-index.row.items c.at-pair.result c.loop-index.invariant.0 (subst (λ (pairs : List Pair). slice_get pairs c.loop-index.index ≡ Some c.at-pair.result) c.pairs-pairs.ensures c.at-pair.ensures)),
+  omega (arith, c.push_reserved.ensures.len, c.loop-index.invariant.1),
+  c.push_reserved.ensures.capacity ∙ c.loop-index.invariant.2,
+)
 
 pub returns : goal.returns
 returns c =
