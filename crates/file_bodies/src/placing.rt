@@ -1,6 +1,6 @@
 //! A body that is put into a file.
 ghost use Rattle.std.specs.Prelude.{◌≡◌, ◌≤◌, ◌+◌, ℕ, true, length, None, IfOk, IfErr, IfSome, IfNone, OnOk};
-ghost use Rattle.ex_base.specs.declared.names.Area.TheVariants.{Page};
+ghost use Rattle.ex_base.specs.declared.names.Area.TheVariants.{Page, Segment};
 ghost use Rattle.ex_base.specs.Ports.{Keeps, HasCause, IsDamage};
 ghost use Rattle.index_pages.specs.declared.Index.{Index};
 ghost use Rattle.file_index.specs.Index.{IsFilesPage};
@@ -153,6 +153,7 @@ fn put_on_new_page<P: Pages>(
     ensures way { IfOk result (λ place. P.tells pages.old → (from : ℕ)
         → IsLook (P.geometry pages.old) (P.image pages.old) index.now from None
         → IsPlacing (P.geometry pages.old) (P.image pages.old) index.now from place.page) }
+    ensures leaves { OnOk result (P.free pages.new Segment ≡ P.free pages.old Segment) }
     ensures touches { OnOk result (TouchesAtMost P.Ground pages.old pages.new body_touches) }
     ensures leads { P.leads pages.old pages.new }
     ensures cause { HasCause (P.faults pages.old) (P.faults pages.new) result }
@@ -202,6 +203,7 @@ fn place_by<P: Pages>(
         (P.image pages.old) index.now from fault) }
     ensures way { IfOk result (λ place. P.tells pages.old
         → IsPlacing (P.geometry pages.old) (P.image pages.old) index.now from place.page) }
+    ensures leaves { OnOk result (P.free pages.new Segment ≡ P.free pages.old Segment) }
     ensures touches { OnOk result (TouchesAtMost P.Ground pages.old pages.new body_touches) }
     ensures leads { P.leads pages.old pages.new }
     ensures cause { HasCause (P.faults pages.old) (P.faults pages.new) result }
@@ -244,6 +246,7 @@ fn place_from<P: Pages>(
         (P.image pages.old) index.now from fault) }
     ensures way { IfOk result (λ place. P.tells pages.old
         → IsPlacing (P.geometry pages.old) (P.image pages.old) index.now from place.page) }
+    ensures leaves { OnOk result (P.free pages.new Segment ≡ P.free pages.old Segment) }
     ensures touches { OnOk result (TouchesAtMost P.Ground pages.old pages.new body_touches) }
     ensures leads { P.leads pages.old pages.new }
     ensures cause { HasCause (P.faults pages.old) (P.faults pages.new) result }
@@ -288,6 +291,7 @@ pub fn place_body<P: Pages>(
         → HasListed (P.image pages.old) room.old.file_no
         (λ index. IsPlacing (P.geometry pages.old) (P.image pages.old) index
         (start_of room.old (length body.now)) place.page)) }
+    ensures leaves { OnOk result (P.free pages.new Segment ≡ P.free pages.old Segment) }
     ensures touches { OnOk result (TouchesAtMost P.Ground pages.old pages.new body_touches) }
     ensures leads { P.leads pages.old pages.new }
     ensures cause { HasCause (P.faults pages.old) (P.faults pages.new) result }

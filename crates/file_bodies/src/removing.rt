@@ -1,6 +1,6 @@
 //! A body that is taken out of a file.
 ghost use Rattle.std.specs.Prelude.{◌≡◌, ◌≤◌, ℕ, List, length, Contains, true, IfErr, OnOk};
-ghost use Rattle.ex_base.specs.declared.names.Area.TheVariants.{Page};
+ghost use Rattle.ex_base.specs.declared.names.Area.TheVariants.{Page, Segment};
 ghost use Rattle.ex_base.specs.Ports.{HasCause, IsDamage};
 ghost use Rattle.index_pages.specs.declared.Index.{Index};
 ghost use Rattle.file_index.specs.Index.{IsFilesPage};
@@ -49,6 +49,7 @@ fn drop_page<P: Pages>(
     ensures way { OnOk result (P.tells pages.old
         → HasListed (P.image pages.old) file_no
         (λ index. HasWay (P.geometry pages.old) (P.image pages.old) index page.0)) }
+    ensures segments { OnOk result (P.free pages.new Segment ≡ P.free pages.old Segment) }
     ensures touches { OnOk result (TouchesAtMost P.Ground pages.old pages.new body_touches) }
     ensures leads { P.leads pages.old pages.new }
     ensures cause { HasCause (P.faults pages.old) (P.faults pages.new) result }
@@ -97,6 +98,7 @@ fn remove_by<P: Pages>(
         → IsLastOn (P.image pages.old place.page.0) place.slot
         → HasListed (P.image pages.old) (page_on (P.image pages.old place.page.0)).file_no
         (λ index. HasWay (P.geometry pages.old) (P.image pages.old) index place.page.0)) }
+    ensures leaves { OnOk result (P.free pages.new Segment ≡ P.free pages.old Segment) }
     ensures touches { OnOk result (TouchesAtMost P.Ground pages.old pages.new body_touches) }
     ensures leads { P.leads pages.old pages.new }
     ensures cause { HasCause (P.faults pages.old) (P.faults pages.new) result }
@@ -136,6 +138,7 @@ pub fn remove_from_file<P: Pages>(
         → IsLastOn (P.image pages.old place.page.0) place.slot
         → HasListed (P.image pages.old) (page_on (P.image pages.old place.page.0)).file_no
         (λ index. HasWay (P.geometry pages.old) (P.image pages.old) index place.page.0)) }
+    ensures leaves { OnOk result (P.free pages.new Segment ≡ P.free pages.old Segment) }
     ensures touches { OnOk result (TouchesAtMost P.Ground pages.old pages.new body_touches) }
     ensures leads { P.leads pages.old pages.new }
     ensures cause { HasCause (P.faults pages.old) (P.faults pages.new) result }

@@ -5,3 +5,4 @@ pub mod Copies
 pub mod Removals
 pub mod Lineage
 pub mod Lookup
+pub mod Touches

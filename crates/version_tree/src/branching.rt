@@ -1,13 +1,15 @@
 //! A version that is derived from a frozen one.
 ghost use Rattle.std.specs.Prelude.{◌≡◌, ◌≤◌, ◌+◌, ◌↔◌, IfOk, IfErr, OnOk, IsTrue, None};
 ghost use Rattle.ex_base.specs.Ports.{HasCause, IsDamage};
-ghost use Rattle.ex_base.specs.declared.names.Area.TheVariants.{Page};
+ghost use Rattle.ex_base.specs.declared.names.Area.TheVariants.{Page, Segment};
 ghost use Rattle.object_records.specs.Record.{Record};
 ghost use Rattle.object_records.specs.declared.State.TheVariants.{Frozen};
 ghost use Rattle.index_pages.specs.declared.Index.{Index};
+ghost use Rattle.file_index.specs.Touches.{TouchesAtMost};
 ghost use Rattle.file_index.specs.Taking.{OnlyTakes};
 ghost use Rattle.versions.specs.Versions.{HasRecord, place_of, root_of};
 ghost use Rattle.versions.specs.Listed.{oid_at};
+ghost use Rattle.version_tree.specs.Touches.{version_touches};
 ghost use Rattle.version_tree.specs.Bodies.{SameUnits, newer_head};
 ghost use Rattle.version_tree.specs.Copies.{Derives, IsCopyFault, IsCopyingFault, IsVersionIn, UnlinksIn};
 ghost use Rattle.versions.specs.Damage.{record_fault};
@@ -50,6 +52,7 @@ fn unlink<V: Volume>(volume: &mut V, alloc: Global, was: &Stored) -> Result<(), 
         → (index : Index) (is : Record) → IsVersionIn V.Ground volume.old index was.now is → ⊥) }
     ensures fault { IfErr result (λ fault. V.tells volume.old → IsDamage fault → fault
         ≡ record_fault was.now.place) }
+    ensures touches { OnOk result (TouchesAtMost V.Ground volume.old volume.new 1) }
     ensures leads { V.leads volume.old volume.new }
     ensures cause { HasCause (V.faults volume.old) (V.faults volume.new) result }
 {
@@ -82,6 +85,8 @@ fn derive_read<V: Volume>(
     ensures fault { IfErr result (λ fault. V.tells volume.old
         → IsCopyFault (V.geometry volume.old) (V.held volume.old) (V.image volume.old)
         room.old fault) }
+    ensures leaves { OnOk result (V.free volume.new Segment ≡ V.free volume.old Segment) }
+    ensures touches { OnOk result (TouchesAtMost V.Ground volume.old volume.new version_touches) }
     ensures leads { V.leads volume.old volume.new }
     ensures cause { HasCause (V.faults volume.old) (V.faults volume.new) result }
 {
@@ -127,6 +132,8 @@ pub fn derive<V: Volume>(
     ensures fault { IfErr result (λ fault. V.tells volume.old
         → IsCopyingFault (V.geometry volume.old) (V.held volume.old) (V.image volume.old)
         room.old oid.now fault) }
+    ensures leaves { OnOk result (V.free volume.new Segment ≡ V.free volume.old Segment) }
+    ensures touches { OnOk result (TouchesAtMost V.Ground volume.old volume.new version_touches) }
     ensures leads { V.leads volume.old volume.new }
     ensures cause { HasCause (V.faults volume.old) (V.faults volume.new) result }
 {

@@ -1,13 +1,15 @@
 //! A frozen version that is taken out of the tree of its object.
 ghost use Rattle.std.specs.Prelude.{◌≡◌, ◌≤◌, IfErr, IfOk, OnOk, IsSome, Option};
 ghost use Rattle.ex_base.specs.Ports.{HasCause, IsDamage};
-ghost use Rattle.ex_base.specs.declared.names.Area.TheVariants.{Page};
+ghost use Rattle.ex_base.specs.declared.names.Area.TheVariants.{Page, Segment};
 ghost use Rattle.ex_base.specs.declared.names.Oid.{Oid};
 ghost use Rattle.object_records.specs.Record.{Record, BodyOf};
 ghost use Rattle.object_records.specs.declared.State.TheVariants.{Frozen};
 ghost use Rattle.index_pages.specs.declared.Index.{Index};
+ghost use Rattle.file_index.specs.Touches.{TouchesAtMost};
 ghost use Rattle.file_index.specs.Taking.{OnlyGives};
 ghost use Rattle.versions.specs.Versions.{HasRecord, place_of, root_of};
+ghost use Rattle.version_tree.specs.Touches.{version_touches};
 ghost use Rattle.version_tree.specs.Linked.{AreLinked};
 ghost use Rattle.version_tree.specs.Removals.{Drops, IsBetween, IsRemovingFault};
 
@@ -43,6 +45,8 @@ fn drop_read<V: Volume>(
     ensures fault { IfErr result (λ fault. V.tells volume.old → (oid : Oid)
         → IsRemovingFault (V.geometry volume.old) (V.held volume.old) (V.image volume.old)
         (V.held volume.new) (V.image volume.new) oid fault) }
+    ensures leaves { OnOk result (V.free volume.new Segment ≡ V.free volume.old Segment) }
+    ensures touches { OnOk result (TouchesAtMost V.Ground volume.old volume.new version_touches) }
     ensures leads { V.leads volume.old volume.new }
     ensures cause { HasCause (V.faults volume.old) (V.faults volume.new) result }
 {
@@ -82,6 +86,8 @@ pub fn drop_version<V: Volume>(
     ensures fault { IfErr result (λ fault. V.tells volume.old
         → IsRemovingFault (V.geometry volume.old) (V.held volume.old) (V.image volume.old)
         (V.held volume.new) (V.image volume.new) oid.now fault) }
+    ensures leaves { OnOk result (V.free volume.new Segment ≡ V.free volume.old Segment) }
+    ensures touches { OnOk result (TouchesAtMost V.Ground volume.old volume.new version_touches) }
     ensures leads { V.leads volume.old volume.new }
     ensures cause { HasCause (V.faults volume.old) (V.faults volume.new) result }
 {

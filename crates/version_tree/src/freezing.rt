@@ -1,16 +1,18 @@
 //! A version that is frozen: a frozen copy comes between it and its older one.
 ghost use Rattle.std.specs.Prelude.{◌≡◌, ◌≤◌, ◌+◌, IfOk, IfErr, IfSome, OnOk, List, Option, Some};
 ghost use Rattle.ex_base.specs.Ports.{HasCause, IsDamage};
-ghost use Rattle.ex_base.specs.declared.names.Area.TheVariants.{Page};
+ghost use Rattle.ex_base.specs.declared.names.Area.TheVariants.{Page, Segment};
 ghost use Rattle.ex_base.specs.declared.names.Place.{Place};
 ghost use Rattle.object_records.specs.Record.{Record};
 ghost use Rattle.object_records.specs.declared.State.TheVariants.{Current, Frozen};
 ghost use Rattle.index_pages.specs.declared.Index.{Index};
+ghost use Rattle.file_index.specs.Touches.{TouchesAtMost};
 ghost use Rattle.file_index.specs.Taking.{OnlyTakes};
 ghost use Rattle.file_bodies.specs.Bodies.{Row, bodies_of};
 ghost use Rattle.file_bodies.specs.Files.{HasFile};
 ghost use Rattle.versions.specs.Versions.{HasRecord, place_of, root_of};
 ghost use Rattle.versions.specs.Listed.{oid_at};
+ghost use Rattle.version_tree.specs.Touches.{version_touches};
 ghost use Rattle.version_tree.specs.Bodies.{SameUnits};
 ghost use Rattle.version_tree.specs.Copies.{Freezes, IsCopyFault, IsCopyingFault, IsFrozenIn, IsNamed, IsRead, TurnsOlder, TurnsStored};
 ghost use Rattle.versions.specs.Damage.{record_fault};
@@ -44,6 +46,7 @@ pub(crate) fn turn_stored<V: Volume>(
         → IsFrozenIn V.Ground volume.old index stored.now → IsNamed (Some to) → ⊥) }
     ensures fault { IfErr result (λ fault. V.tells volume.old → IsDamage fault → fault
         ≡ record_fault stored.now.place) }
+    ensures touches { OnOk result (TouchesAtMost V.Ground volume.old volume.new 1) }
     ensures leads { V.leads volume.old volume.new }
     ensures cause { HasCause (V.faults volume.old) (V.faults volume.new) result }
 {
@@ -76,6 +79,7 @@ pub(crate) fn turn_older<V: Volume>(
         → IfSome older.now (IsFrozenIn V.Ground volume.old index) → IsNamed (Some to) → ⊥) }
     ensures fault { IfErr result (λ fault. V.tells volume.old → IsDamage fault
         → (place : Place) × (fault ≡ record_fault place)) }
+    ensures touches { OnOk result (TouchesAtMost V.Ground volume.old volume.new 1) }
     ensures leads { V.leads volume.old volume.new }
     ensures cause { HasCause (V.faults volume.old) (V.faults volume.new) result }
 {
@@ -111,6 +115,8 @@ fn freeze_read<V: Volume>(
     ensures fault { IfErr result (λ fault. V.tells volume.old
         → IsCopyFault (V.geometry volume.old) (V.held volume.old) (V.image volume.old)
         room.old fault) }
+    ensures leaves { OnOk result (V.free volume.new Segment ≡ V.free volume.old Segment) }
+    ensures touches { OnOk result (TouchesAtMost V.Ground volume.old volume.new version_touches) }
     ensures leads { V.leads volume.old volume.new }
     ensures cause { HasCause (V.faults volume.old) (V.faults volume.new) result }
 {
@@ -161,6 +167,8 @@ pub fn freeze<V: Volume>(
     ensures fault { IfErr result (λ fault. V.tells volume.old
         → IsCopyingFault (V.geometry volume.old) (V.held volume.old) (V.image volume.old)
         room.old oid.now fault) }
+    ensures leaves { OnOk result (V.free volume.new Segment ≡ V.free volume.old Segment) }
+    ensures touches { OnOk result (TouchesAtMost V.Ground volume.old volume.new version_touches) }
     ensures leads { V.leads volume.old volume.new }
     ensures cause { HasCause (V.faults volume.old) (V.faults volume.new) result }
 {

@@ -2,11 +2,13 @@
 ghost use Rattle.std.specs.Prelude.{◌≡◌, ◌≤◌, ◌+◌, ◌↔◌, max, ℕ, List, [], length, IfOk, IfErr, OnOk, IsTrue, false};
 ghost use Rattle.ex_base.specs.Fields.{IsPlaceField};
 ghost use Rattle.ex_base.specs.Ports.{HasCause, IsDamage};
-ghost use Rattle.ex_base.specs.declared.names.Area.TheVariants.{Page};
+ghost use Rattle.ex_base.specs.declared.names.Area.TheVariants.{Page, Segment};
 ghost use Rattle.object_records.specs.Record.{Record, BodyOf, IsRecord, NewerFits};
 ghost use Rattle.object_records.specs.Reads.{small_record, content_of};
 ghost use Rattle.index_pages.specs.declared.Index.{Index};
+ghost use Rattle.file_index.specs.Touches.{TouchesAtMost};
 ghost use Rattle.file_index.specs.Taking.{OnlyTakes};
+ghost use Rattle.file_bodies.specs.Touches.{body_touches};
 ghost use Rattle.file_bodies.specs.Files.{HasFile, HasBody};
 ghost use Rattle.version_tree.specs.Bodies.{SameUnits, with_head};
 ghost use Rattle.version_tree.specs.Copies.{CopiesRecord, content_len, IsCopyFault, IsHead, IsNamed};
@@ -110,6 +112,7 @@ pub(crate) fn put_head<V: Volume>(
         → BodyOf stored.now.body.items is → IsHead head.now → ⊥) }
     ensures fault { IfErr result (λ fault. V.tells volume.old → IsDamage fault → fault
         ≡ record_fault stored.now.place) }
+    ensures touches { OnOk result (TouchesAtMost V.Ground volume.old volume.new 1) }
     ensures leads { V.leads volume.old volume.new }
     ensures cause { HasCause (V.faults volume.old) (V.faults volume.new) result }
 {
@@ -148,6 +151,8 @@ pub(crate) fn put_copy<V: Volume>(
     ensures fault { IfErr result (λ fault. V.tells volume.old
         → IsCopyFault (V.geometry volume.old) (V.held volume.old) (V.image volume.old)
         room.old fault) }
+    ensures leaves { OnOk result (V.free volume.new Segment ≡ V.free volume.old Segment) }
+    ensures touches { OnOk result (TouchesAtMost V.Ground volume.old volume.new body_touches) }
     ensures leads { V.leads volume.old volume.new }
     ensures cause { HasCause (V.faults volume.old) (V.faults volume.new) result }
 {

@@ -1,18 +1,20 @@
 //! A current version that is taken out of the tree of its object.
 ghost use Rattle.std.specs.Prelude.{◌≡◌, ◌≤◌, ◌↔◌, List, Option, None, IfErr, IfOk, IfSome, IsTrue, OnOk, ℕ};
 ghost use Rattle.ex_base.specs.Ports.{Keeps, HasCause, IsDamage};
-ghost use Rattle.ex_base.specs.declared.names.Area.TheVariants.{Page};
+ghost use Rattle.ex_base.specs.declared.names.Area.TheVariants.{Page, Segment};
 ghost use Rattle.ex_base.specs.declared.names.Oid.{Oid};
 ghost use Rattle.ex_base.specs.declared.names.Place.{Place};
 ghost use Rattle.object_records.specs.Record.{Record, BodyOf};
 ghost use Rattle.object_records.specs.declared.State.TheVariants.{Current};
 ghost use Rattle.index_pages.specs.declared.Index.{Index};
+ghost use Rattle.file_index.specs.Touches.{TouchesAtMost};
 ghost use Rattle.file_index.specs.Taking.{OnlyGives};
 ghost use Rattle.file_bodies.specs.Bodies.{Row, bodies_of};
 ghost use Rattle.file_bodies.specs.Files.{HasFile, HasBody};
 ghost use Rattle.std.specs.Prelude.{filter};
 ghost use Rattle.versions.specs.Listed.{AreReadable};
 ghost use Rattle.versions.specs.Versions.{HasRecord, place_of, root_of};
+ghost use Rattle.version_tree.specs.Touches.{version_touches};
 ghost use Rattle.version_tree.specs.Bodies.{SameUnits};
 ghost use Rattle.version_tree.specs.Copies.{IsFrozenIn, IsNamed};
 ghost use Rattle.versions.specs.Damage.{record_fault};
@@ -126,6 +128,7 @@ fn name_newer<V: Volume>(
         → IsFrozenIn V.Ground volume.old index stored.now → IsNamed newer → ⊥) }
     ensures fault { IfErr result (λ fault. V.tells volume.old → IsDamage fault → fault
         ≡ record_fault stored.now.place) }
+    ensures touches { OnOk result (TouchesAtMost V.Ground volume.old volume.new 1) }
     ensures leads { V.leads volume.old volume.new }
     ensures cause { HasCause (V.faults volume.old) (V.faults volume.new) result }
 {
@@ -160,6 +163,7 @@ fn name_other<V: Volume>(
         → IfSome older.now (IsFrozenIn V.Ground volume.old index) → IsNamed other → ⊥) }
     ensures fault { IfErr result (λ fault. V.tells volume.old → IsDamage fault
         → (place : Place) × (fault ≡ record_fault place)) }
+    ensures touches { OnOk result (TouchesAtMost V.Ground volume.old volume.new 1) }
     ensures leads { V.leads volume.old volume.new }
     ensures cause { HasCause (V.faults volume.old) (V.faults volume.new) result }
 {
@@ -191,6 +195,8 @@ fn take_read<V: Volume>(
     ensures fault { IfErr result (λ fault. V.tells volume.old → (oid : Oid)
         → IsRemovingFault (V.geometry volume.old) (V.held volume.old) (V.image volume.old)
         (V.held volume.new) (V.image volume.new) oid fault) }
+    ensures leaves { OnOk result (V.free volume.new Segment ≡ V.free volume.old Segment) }
+    ensures touches { OnOk result (TouchesAtMost V.Ground volume.old volume.new version_touches) }
     ensures leads { V.leads volume.old volume.new }
     ensures cause { HasCause (V.faults volume.old) (V.faults volume.new) result }
 {
@@ -228,6 +234,8 @@ pub fn take_out<V: Volume>(
     ensures fault { IfErr result (λ fault. V.tells volume.old
         → IsTakingOutFault (V.geometry volume.old) (V.held volume.old) (V.image volume.old)
         (V.held volume.new) (V.image volume.new) oid.now fault) }
+    ensures leaves { OnOk result (V.free volume.new Segment ≡ V.free volume.old Segment) }
+    ensures touches { OnOk result (TouchesAtMost V.Ground volume.old volume.new version_touches) }
     ensures leads { V.leads volume.old volume.new }
     ensures cause { HasCause (V.faults volume.old) (V.faults volume.new) result }
 {

@@ -1,10 +1,12 @@
 //! A new object.
 ghost use Rattle.std.specs.Prelude.{◌≡◌, ◌≤◌, ◌+◌, ℕ, List, IfOk, IfErr, OnOk};
 ghost use Rattle.ex_base.specs.Ports.{HasCause, IsDamage};
-ghost use Rattle.ex_base.specs.declared.names.Area.TheVariants.{Page};
+ghost use Rattle.ex_base.specs.declared.names.Area.TheVariants.{Page, Segment};
 ghost use Rattle.object_records.specs.Record.{BodyOf};
 ghost use Rattle.index_pages.specs.declared.Index.{Index};
 ghost use Rattle.file_index.specs.Taking.{OnlyTakes};
+ghost use Rattle.file_index.specs.Touches.{TouchesAtMost};
+ghost use Rattle.file_bodies.specs.Touches.{body_touches};
 ghost use Rattle.file_bodies.specs.Files.{HasFile};
 ghost use Rattle.file_bodies.specs.Places.{IsRoom};
 ghost use Rattle.file_bodies.specs.Placing.{start_of};
@@ -45,6 +47,8 @@ pub fn create<V: Volume>(
         → IsListedFault (V.image volume.old) room.old.file_no
         (λ index. IsPlacingFault (V.geometry volume.old) (V.held volume.old)
         (V.image volume.old) index (start_of room.old 36) fault) fault) }
+    ensures leaves { OnOk result (V.free volume.new Segment ≡ V.free volume.old Segment) }
+    ensures touches { OnOk result (TouchesAtMost V.Ground volume.old volume.new body_touches) }
     ensures leads { V.leads volume.old volume.new }
     ensures cause { HasCause (V.faults volume.old) (V.faults volume.new) result }
 {

@@ -8,6 +8,7 @@ ghost use Rattle.object_records.specs.Reads.{small_record};
 ghost use Rattle.object_records.specs.declared.Head.{Head};
 ghost use Rattle.object_records.specs.declared.State.TheVariants.{Current};
 ghost use Rattle.index_pages.specs.declared.Index.{Index};
+ghost use Rattle.file_index.specs.Touches.{TouchesAtMost};
 ghost use Rattle.file_bodies.specs.Files.{HasFileOf, HasBody};
 ghost use Rattle.versions.specs.Versions.{HasRecord, HasVersion, Stands, Change, AreInUse, StaysSmall, FitsIn, InRange, changed, count_of, place_of};
 ghost use Rattle.ex_base.specs.Needs.{growth_need};
@@ -143,6 +144,7 @@ fn put_small_by<V: Volume>(
     ensures fault { IfErr result (λ fault. V.tells volume.old
         → IsPlaceFault (V.geometry volume.old) (V.held volume.old)
         (V.image volume.old place.page.0) place fault) }
+    ensures touches { OnOk result (TouchesAtMost V.Ground volume.old volume.new 1) }
     ensures leads { V.leads volume.old volume.new }
     ensures cause { HasCause (V.faults volume.old) (V.faults volume.new) result }
 {
@@ -174,6 +176,7 @@ fn put_small<V: Volume>(
     ensures fault { IfErr result (λ fault. V.tells volume.old
         → IsPlaceFault (V.geometry volume.old) (V.held volume.old)
         (V.image volume.old place.page.0) place fault) }
+    ensures touches { OnOk result (TouchesAtMost V.Ground volume.old volume.new 1) }
     ensures leads { V.leads volume.old volume.new }
     ensures cause { HasCause (V.faults volume.old) (V.faults volume.new) result }
 {
@@ -243,6 +246,7 @@ fn put_edited<V: Volume>(
         → ⊥) }
     ensures fault { IfErr result (λ fault. V.tells volume.old
         → IsBytesFault (V.geometry volume.old) (V.unit volume.old) oid.now no_tree fault) }
+    ensures touches { OnOk result (TouchesAtMost V.Ground volume.old volume.new 1) }
     ensures leads { V.leads volume.old volume.new }
     ensures cause { HasCause (V.faults volume.old) (V.faults volume.new) result }
 {
@@ -368,6 +372,7 @@ fn edit_small<V: Volume>(
     ensures fault { IfErr result (λ fault. V.tells volume.old
         → IsVersionFault (V.geometry volume.old) (V.unit volume.old)
         (V.image volume.old) oid.now fault) }
+    ensures touches { OnOk result (TouchesAtMost V.Ground volume.old volume.new 1) }
     ensures leads { V.leads volume.old volume.new }
     ensures cause { HasCause (V.faults volume.old) (V.faults volume.new) result }
 {
@@ -434,6 +439,7 @@ pub fn apply<V: Volume>(
     ensures fault { IfErr result (λ fault. V.tells volume.old
         → IsVersionFault (V.geometry volume.old) (V.unit volume.old)
         (V.image volume.old) oid.now fault) }
+    ensures touches { OnOk result (TouchesAtMost V.Ground volume.old volume.new 1) }
     ensures leads { V.leads volume.old volume.new }
     ensures cause { HasCause (V.faults volume.old) (V.faults volume.new) result }
 {

@@ -7,6 +7,7 @@ ghost use Rattle.ex_base.specs.declared.names.Area.{Area};
 ghost use Rattle.object_records.specs.Record.{IsRecord, Small, Large};
 ghost use Rattle.object_records.specs.Reads.{small_record, large_record};
 ghost use Rattle.index_pages.specs.declared.Index.{Index};
+ghost use Rattle.file_index.specs.Touches.{TouchesAtMost};
 ghost use Rattle.file_bodies.specs.Files.{HasBody};
 ghost use Rattle.trees.specs.Trees.{RootSpells, root_shape, root_units};
 ghost use Rattle.trees.specs.Damage.{IsWhole, IsRootFault};
@@ -116,6 +117,7 @@ fn put_root<V: Volume>(
         → IsRootFor (V.geometry volume.old) root.now → IsPlaced root.now.page → ⊥) }
     ensures fault { IfErr result (λ fault. V.tells volume.old
         → IsPutFault (V.geometry volume.old) place root.now fault) }
+    ensures touches { OnOk result (TouchesAtMost V.Ground volume.old volume.new 1) }
     ensures leads { V.leads volume.old volume.new }
     ensures cause { HasCause (V.faults volume.old) (V.faults volume.new) result }
 {
@@ -206,6 +208,7 @@ pub(crate) fn edit_large<V: Volume>(
         (change_of edit.now) root.now.height area ≤ V.free volume.old area) → ⊥) }
     ensures fault { IfErr result (λ fault. V.tells volume.old
         → IsBytesFault (V.geometry volume.old) (V.unit volume.old) oid.now root.now fault) }
+    ensures touches { OnOk result (TouchesAtMost V.Ground volume.old volume.new 1) }
     ensures leads { V.leads volume.old volume.new }
     ensures cause { HasCause (V.faults volume.old) (V.faults volume.new) result }
 {
@@ -252,6 +255,7 @@ pub(crate) fn convert<V: Volume>(
         ≤ V.free volume.old area) → ⊥) }
     ensures fault { IfErr result (λ fault. V.tells volume.old
         → IsBytesFault (V.geometry volume.old) (V.unit volume.old) oid.now no_tree fault) }
+    ensures touches { OnOk result (TouchesAtMost V.Ground volume.old volume.new 1) }
     ensures leads { V.leads volume.old volume.new }
     ensures cause { HasCause (V.faults volume.old) (V.faults volume.new) result }
 {

@@ -2,7 +2,7 @@ use Rattle.std.proofs.Common.{◌≡◌, ◌≤◌, ◌+◌, ℕ, true, false, L
 use Rattle.std.proofs.lemmas.Result.{on_ok_weaker, IfOk-weaker, IfErr-weaker}
 use Rattle.ex_base.specs.declared.geometry.Geometry.{Geometry}
 use Rattle.ex_base.specs.declared.names.Area.{Area}
-use Rattle.ex_base.specs.declared.names.Area.TheVariants.{Page}
+use Rattle.ex_base.specs.declared.names.Area.TheVariants.{Page, Segment}
 use Rattle.ex_base.proofs.Keeping.{keeps_on}
 use Rattle.ex_base.proofs.Results.{if_err_handed}
 use Rattle.object_records.specs.Record.{BodyOf}
@@ -113,6 +113,12 @@ returns-clause-gone g c = IfOk-weaker c.take_read.result _ _ (λ gone h told ind
 
 pub returns-clause-pages : goal.returns-clause-pages
 returns-clause-pages g c = on_ok_weaker c.take_read.result (λ p. omega (arith, p, ap (λ (f : Area → ℕ). f Page) c.stored_version.ensures.kept.free, ap (λ (f : Area → ℕ). f Page) c.linked_older.ensures.kept.free, ap (λ (f : Area → ℕ). f Page) c.other_from.ensures.kept.free)) c.take_read.ensures.pages
+
+pub returns-clause-leaves : goal.returns-clause-leaves
+returns-clause-leaves g c = on_ok_weaker c.take_read.result (λ l. l ∙ ap (λ (f : Area → ℕ). f Segment) (c.other_from.ensures.kept.free ∙ c.linked_older.ensures.kept.free ∙ c.stored_version.ensures.kept.free)) c.take_read.ensures.leaves
+
+pub returns-clause-touches : goal.returns-clause-touches
+returns-clause-touches g c = on_ok_weaker c.take_read.result (λ t. omega (arith, t, c.stored_version.ensures.kept.touched, c.linked_older.ensures.kept.touched, c.other_from.ensures.kept.touched)) c.take_read.ensures.touches
 
 pub returns-clause-fault : goal.returns-clause-fault
 returns-clause-fault g c = IfErr-weaker c.take_read.result _ _ (λ fault h told.

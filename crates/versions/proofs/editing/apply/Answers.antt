@@ -104,6 +104,9 @@ returns-in-None-clause-free g c = on_ok_both c.edit_small.result _ _ _ (λ stay 
       | inr few ↦ omega (arith, ap (λ (f : Area → ℕ). f area) (stay told_n index bytes has_n (sym size) (less_stays g.V.Ground c.find.new.volume index c.args.oid.now c.in_ok-found.found.head bytes (length (changed (change_of c.args.edit.now) bytes)) has_n few)), ap (λ (f : Area → ℕ). f area) kept.free)
     ]) c.edit_small.ensures.small c.edit_small.ensures.free
 
+pub returns-in-None-clause-touches : goal.returns-in-None-clause-touches
+returns-in-None-clause-touches g c = on_ok_weaker c.edit_small.result (λ t. omega (arith, t, c.find.ensures.kept.touched)) c.edit_small.ensures.touches
+
 pub returns-in-None-clause-sound : goal.returns-in-None-clause-sound
 returns-in-None-clause-sound g c = IfErr-weaker c.edit_small.result _ _ (λ fault sound damage told in_use index head content bytes has current inside need.
     let kept = c.find.ensures.kept in
@@ -178,6 +181,9 @@ returns-in-Some-clause-free g c = on_ok_weaker c.edit_large.result (λ free told
     let geo = g.V.Ground.leads_geometry c.args.volume.now c.find.new.volume kept.leads in
     let asked = edit_need_is (g.V.Ground.geometry c.args.volume.now) (change_of c.args.edit.now) content area some ∙ ap (λ (t : Content). most_need (g.V.Ground.geometry c.args.volume.now) (change_of c.args.edit.now) (height_in t) area) is_large in
     omega (arith, free area, ap (λ (f : Area → ℕ). f area) kept.free, ap (λ (y : Geometry). most_need y (change_of c.args.edit.now) c.in-Some.root.height area) geo, asked)) c.edit_large.ensures.free
+
+pub returns-in-Some-clause-touches : goal.returns-in-Some-clause-touches
+returns-in-Some-clause-touches g c = on_ok_weaker c.edit_large.result (λ t. omega (arith, t, c.find.ensures.kept.touched)) c.edit_large.ensures.touches
 
 pub returns-in-Some-clause-sound : goal.returns-in-Some-clause-sound
 returns-in-Some-clause-sound g c = IfErr-weaker c.edit_large.result _ _ (λ fault sound damage told in_use index head content bytes has current inside need.

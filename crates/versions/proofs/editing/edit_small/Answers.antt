@@ -50,6 +50,9 @@ returns-in-Ok-clause-free g c = on_ok_weaker c.put_edited.result (λ free area.
     let geo = g.V.Ground.leads_geometry c.args.volume.now c.edited_small.new.volume kept.leads in
     omega (arith, free area, ap (λ (f : Area → ℕ). f area) kept.free, ap (λ (y : Geometry). growth_need y c.count.result 0 area) geo, ap (λ (n : ℕ). growth_need (g.V.Ground.geometry c.args.volume.now) n 0 area) c.count.ensures)) c.put_edited.ensures.free
 
+pub returns-in-Ok-clause-touches : goal.returns-in-Ok-clause-touches
+returns-in-Ok-clause-touches g c = on_ok_weaker c.put_edited.result (λ t. omega (arith, t, c.edited_small.ensures.kept.touched)) c.put_edited.ensures.touches
+
 pub returns-in-Ok-clause-sound : goal.returns-in-Ok-clause-sound
 returns-in-Ok-clause-sound g c = IfErr-weaker c.put_edited.result _ _ (λ fault sound damage told in_use index bytes has long need.
     let kept = c.edited_small.ensures.kept in

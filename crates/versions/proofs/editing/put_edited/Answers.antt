@@ -1,6 +1,6 @@
 use Rattle.std.proofs.Common.{◌≡◌, true, false, length, ap, ◌∙◌, arith, inl, inr}
 use Rattle.std.proofs.lemmas.Bool.{cases_lt}
-use Rattle.std.proofs.lemmas.Result.{IfErr-weaker, IfOk-weaker}
+use Rattle.std.proofs.lemmas.Result.{IfErr-weaker, IfOk-weaker, on_ok_weaker}
 use Rattle.object_records.specs.Record.{Small}
 use Rattle.versions.specs.Versions.{place_of}
 use Rattle.versions.specs.Damage.{no_tree, record_fault, unlike}
@@ -45,6 +45,9 @@ pub returns-clause-small : goal.returns-clause-small
 returns-clause-small g c = ok_of c.convert.result _ (λ told index held has stays.
     absurd (never_stays g.V.Ground c.args.volume.now index c.args.oid.now c.args.head.now held (length c.args.bytes.now) c.place_of.result c.place_of.ensures has
     (λ i was stands fits. let yes : c.in-Ok-false.field-0 ≡ true = (c.in-Ok-false.ensures.fits told i was stands).1 fits in let isnt : c.in-Ok-false.field-0 ≡ false = c.in-Ok-false.field-0-test in cc) stays))
+
+pub returns-clause-touches : goal.returns-clause-touches
+returns-clause-touches g c = on_ok_weaker c.convert.result (λ t. omega (arith, t, (c.in-Ok-false.ensures.kept c.in-Ok-false.field-0-test).touched)) c.convert.ensures.touches
 
 pub returns-clause-sound : goal.returns-clause-sound
 returns-clause-sound g c = IfErr-weaker c.convert.result _ _ (λ fault sound damage told in_use index held has few size need.
