@@ -1,16 +1,14 @@
 -- Versions that are copied, and links that turn to the copies.
-use Rattle.std.proofs.Common.{◌≡◌, ◌≢◌, ◌≤◌, ◌+◌, ℕ, Bool, List, [], ◌∷◌, ◌++◌, length, Option, Some, None, refl, sym, ap, subst, ◌∙◌, arith}
+use Rattle.std.proofs.Common.{◌≡◌, ◌≢◌, ◌≤◌, ◌+◌, ℕ, List, [], ◌∷◌, ◌++◌, length, Option, Some, None, refl, sym, ap, subst, ◌∙◌, arith}
 use Rattle.std.specs.Prelude.{IfSome, IsSome}
 use Rattle.std.proofs.lemmas.Option.{same_Some}
 use Rattle.ex_base.specs.declared.ground.Ground as ground
-use Rattle.ex_base.specs.declared.faults.PortFault.{PortFault}
-use Rattle.ex_base.specs.declared.faults.PortFault.TheVariants.{Disk, Memory, Damaged}
 use Rattle.ex_base.specs.declared.geometry.Geometry.{Geometry}
 use Rattle.ex_base.specs.declared.names.Oid.{Oid}
 use Rattle.ex_base.specs.declared.names.Place.{Place}
 use Rattle.ex_base.specs.Area.{catalog_no}
 use Rattle.ex_base.specs.Fields.{IsPlaceField}
-use Rattle.ex_base.specs.Ports.{Keeps, IsDamage}
+use Rattle.ex_base.specs.Ports.{Keeps}
 use Rattle.ex_base.proofs.Counts.{contains_times}
 use Rattle.object_files.specs.Reads.{catalog_on}
 use Rattle.object_files.specs.Edits.{with_entries}
@@ -26,13 +24,11 @@ use Rattle.file_bodies.specs.Bodies.{Row, bodies_of, pages_in}
 use Rattle.file_bodies.specs.Files.{HasFile, HasBody, all_pages}
 use Rattle.file_bodies.proofs.Entries.{indexed_stays}
 use Rattle.file_bodies.proofs.Moving.{kept_body, lies}
-use Rattle.file_bodies.specs.declared.placing.Room.{Room}
 use Rattle.versions.specs.Versions.{place_of}
 use Rattle.file_bodies.proofs.Ordered.{ordered}
 use Rattle.versions.specs.Listed.{oid_at}
 use Rattle.version_tree.specs.Bodies.{EditsBodies, body_at, derived_head, frozen_head, newer_head, older_head, with_head}
-use Rattle.version_tree.specs.Copies.{CopiesRecord, Derives, Freezes, IsCopyFault, unwritten, IsFrozenIn, IsHead, IsNamed, IsRead, IsVersionIn, UnlinksIn, Turns, turns, stays, TurnsLink, TurnsOlder, TurnsStored, had_none, had_one}
-use Rattle.versions.specs.Damage.{record_fault, own, unread}
+use Rattle.version_tree.specs.Copies.{CopiesRecord, Derives, Freezes, IsFrozenIn, IsHead, IsNamed, IsRead, IsVersionIn, UnlinksIn, Turns, turns, stays, TurnsLink, TurnsOlder, TurnsStored, had_none, had_one}
 use Rattle.version_tree.specs.Linked.{AreLinked, head_in}
 use Rattle.version_tree.specs.Links.{IsStored, StandsIn, StoredAt}
 use Rattle.versions.specs.Put.{PutsRecord}
@@ -278,6 +274,21 @@ module _ {S : Type 0} (g : ground.Ghosts S) where
   pub derived_fits : (s : S) (index : Index) (was : Stored) (is : Record) (unique : ℕ) → IsVersionIn g s index was is → IsHead (derived_head unique was.place)
   derived_fits s index was is unique v = record { older = place_named s index was.place was.body.items v.has; newer = tt; fits = refl }
 
+  -- the heads of a version's frozen copy, and of the version behind it
+  pub frozen_fits : (s : S) (index : Index) (was : Stored) (is : Record) (unique : ℕ) → IsVersionIn g s index was is → IsHead (frozen_head unique was.place was.head)
+  frozen_fits s index was is unique v = record {
+    older = subst (λ (h : Head). IsNamed h.older) (sym v.head) (named_field is.head.older v.spelled.fits.older);
+    newer = place_named s index was.place was.body.items v.has;
+    fits = tt;
+  }
+
+  pub behind_fits : (s : S) (index : Index) (was : Stored) (is : Record) (place : Place) → IsVersionIn g s index was is → IsNamed (Some place) → IsHead (older_head (Some place) was.head)
+  behind_fits s index was is place v named = record {
+    older = named;
+    newer = subst (λ (h : Head). IsNamed h.newer) (sym v.head) (named_field is.head.newer v.spelled.fits.newer);
+    fits = subst (λ (h : Head). NewerFits h.state h.newer) (sym v.head) v.spelled.fits.newer_fits;
+  }
+
   pub alone_fits : (s : S) (index : Index) (was : Stored) (is : Record) → IsVersionIn g s index was is → IsHead (newer_head None was.head)
   alone_fits s index was is v = record {
     older = subst (λ (h : Head). IsNamed h.older) (sym v.head) (named_field is.head.older v.spelled.fits.older);
@@ -325,9 +336,3 @@ module _ {S : Type 0} (g : ground.Ghosts S) where
     older = f.older;
     bodies = keeps_bodies g a d e index f.after (f.others ++ (place_of made, Some f.copy) ∷ []) kept f.bodies;
   })
-
--- what is told of a record that isn't written
-pub copy_fault : (geo : Geometry) (held : ℕ → Bool) (image : ℕ → List ℕ) (room : Room) (place : Place) (fault : PortFault) → (IsDamage fault → (at : Place) × (fault ≡ record_fault at)) → IsCopyFault geo held image room fault
-copy_fault geo held image room place Disk h = unwritten place (own (λ damage. damage))
-copy_fault geo held image room place Memory h = unwritten place (own (λ damage. damage))
-copy_fault geo held image room place (Damaged page want got) h = unwritten (h tt).0 (unread (h tt).1)

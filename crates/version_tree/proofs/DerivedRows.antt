@@ -16,6 +16,7 @@ use Rattle.file_bodies.specs.Files.{HasFile, HasBody}
 use Rattle.file_bodies.specs.Places.{IsFrom, IsFirstFrom, FirstFrom, IsNext}
 use Rattle.file_bodies.proofs.Moving.{kept_file}
 use Rattle.file_bodies.proofs.Ordered.{ordered}
+use Rattle.versions.specs.Damage.{IsWalkedTo, at_front}
 use Rattle.versions.specs.Listed.{oid_at, rank_of, start_rank, AreReadable}
 use Rattle.std.proofs.lemmas.Option.{same_Some}
 use Rattle.version_tree.specs.Links.{StoredAt}
@@ -98,9 +99,10 @@ module _ {S : Type 0} (g : ground.Ghosts S) where
     pub kept : Keeps g a b
     pub short : IsShort after
     pub listed : g.tells a → (index : Index) → HasFile g a index → index.file_no ≡ file_no → IsDerived from (bodies_of (g.image a) index) (key_of after) (slot_of after) oids
+    pub walked : g.tells a → IsWalkedTo (g.geometry a) (g.image a) file_no after
 
   pub derived_none : (from : Place) (a : S) (file_no : ℕ) → DerivedTo from a a file_no None []
-  derived_none from a file_no = record { kept = record { units = refl; images = refl; used = refl; refs = refl; held = refl; free = refl; touched = refl; leads = g.leads_refl a }; short = tt; listed = λ told index file is. none_derived from (bodies_of (g.image a) index) }
+  derived_none from a file_no = record { kept = record { units = refl; images = refl; used = refl; refs = refl; held = refl; free = refl; touched = refl; leads = g.leads_refl a }; short = tt; listed = λ told index file is. none_derived from (bodies_of (g.image a) index); walked = λ told. at_front }
 
   module _ (from : Place) (a b : S) (file_no : ℕ) (after : Option Place) (oids : List Oid) (to : DerivedTo from a b file_no after oids) (told : g.tells a) (index : Index) (file : HasFile g a index) (is : index.file_no ≡ file_no) where
     pub told_b : g.tells b

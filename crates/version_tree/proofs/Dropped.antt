@@ -1,14 +1,10 @@
 -- Versions that are taken out.
-use Rattle.std.proofs.Common.{◌≡◌, ◌≢◌, ◌≤◌, ◌<◌, ◌+◌, ℕ, Bool, List, [], ◌∷◌, ◌++◌, length, Option, Some, None, refl, sym, ap, subst, ◌∙◌, arith}
+use Rattle.std.proofs.Common.{◌≡◌, ◌≢◌, ◌≤◌, ◌<◌, ◌+◌, ℕ, List, [], ◌∷◌, ◌++◌, length, Option, Some, None, refl, sym, ap, subst, ◌∙◌, arith}
 use Rattle.std.specs.Prelude.{IfSome, IsSome}
 use Rattle.std.proofs.lemmas.Option.{same_Some}
 use Rattle.ex_base.specs.declared.ground.Ground as ground
-use Rattle.ex_base.specs.declared.faults.PortFault.{PortFault}
-use Rattle.ex_base.specs.declared.faults.PortFault.TheVariants.{Disk, Memory, Damaged}
-use Rattle.ex_base.specs.declared.geometry.Geometry.{Geometry}
-use Rattle.ex_base.specs.declared.names.Oid.{Oid}
 use Rattle.ex_base.specs.declared.names.Place.{Place}
-use Rattle.ex_base.specs.Ports.{Keeps, IsDamage}
+use Rattle.ex_base.specs.Ports.{Keeps}
 use Rattle.object_records.specs.Record.{Record, BodyOf, NewerFits}
 use Rattle.object_records.specs.Reads.{record_on}
 use Rattle.object_records.specs.declared.Head.{Head}
@@ -20,23 +16,15 @@ use Rattle.file_bodies.specs.Files.{HasBody}
 use Rattle.file_bodies.specs.Places.{RemovesBody}
 use Rattle.version_tree.specs.Bodies.{EditsBodies, body_at, older_head, with_head}
 use Rattle.version_tree.specs.Copies.{IsFrozenIn, IsHead, IsNamed, TurnsLink, TurnsOlder}
-use Rattle.versions.specs.Damage.{record_fault, own, unread}
 use Rattle.version_tree.specs.Linked.{AreLinked, head_in}
-use Rattle.version_tree.specs.Links.{IsStored, StandsIn, StoredAt, at_link, to_link}
+use Rattle.version_tree.specs.Links.{IsStored, StandsIn, StoredAt}
 use Rattle.versions.specs.Put.{PutsRecord}
-use Rattle.version_tree.specs.Removals.{Drops, IsBetween, IsRemovingFault, of_links}
+use Rattle.version_tree.specs.Removals.{Drops, IsBetween}
 use Rattle.version_tree.specs.declared.links.Stored.{Stored}
 use Rattle.version_tree.proofs.BodiesEdited.{edit_puts, edit_removes, bodies_then, keeps_bodies, other_body}
 use Rattle.version_tree.proofs.Copying.{named_field, place_named, read_of}
 use Rattle.version_tree.proofs.Linking.{NewerAt, OlderAt, newer_at, older_at, stands_in}
 use Rattle.version_tree.proofs.Places.{body_there}
-
--- what is told of a record that isn't written
-pub removing_fault : (geo : Geometry) (held : ℕ → Bool) (image : ℕ → List ℕ) (now_held : ℕ → Bool) (now : ℕ → List ℕ) (oid : Oid) (place : Place) (fault : PortFault) → (IsDamage fault → (at : Place) × (fault ≡ record_fault at))
-    → IsRemovingFault geo held image now_held now oid fault
-removing_fault geo held image now_held now oid place Disk h = of_links (to_link (at_link place (own (λ damage. damage))))
-removing_fault geo held image now_held now oid place Memory h = of_links (to_link (at_link place (own (λ damage. damage))))
-removing_fault geo held image now_held now oid place (Damaged page want got) h = of_links (to_link (at_link (h tt).0 (unread (h tt).1)))
 
 module _ {S : Type 0} (g : ground.Ghosts S) where
   -- two bodies at places that are equal

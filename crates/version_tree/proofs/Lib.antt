@@ -1,6 +1,7 @@
 pub mod Places
 pub mod BodiesEdited
 pub mod Linking
+pub mod ReadPlaces
 pub mod HeadLaws
 pub mod Copying
 pub mod Dropped

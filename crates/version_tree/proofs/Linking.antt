@@ -1,13 +1,10 @@
 -- What stands where the links of versions lead.
 use Rattle.std.proofs.Common.{◌≡◌, ◌<◌, ℕ, true, List, [], ◌∷◌, Option, Some, None, refl, sym, ap, subst, ◌∙◌, inl, inr}
 use Rattle.std.proofs.lemmas.Option.{same_Some}
-use Rattle.ex_base.specs.declared.faults.PortFault.{PortFault}
-use Rattle.ex_base.specs.declared.faults.PortFault.TheVariants.{Disk, Memory, Damaged}
-use Rattle.ex_base.specs.declared.geometry.Geometry.{Geometry}
 use Rattle.ex_base.specs.declared.ground.Ground as ground
 use Rattle.ex_base.specs.declared.names.Oid.{Oid}
 use Rattle.ex_base.specs.declared.names.Place.{Place}
-use Rattle.ex_base.specs.Ports.{Keeps, IsDamage}
+use Rattle.ex_base.specs.Ports.{Keeps}
 use Rattle.ex_base.proofs.Filters.{in_kept}
 use Rattle.ex_base.proofs.Members.{In}
 use Rattle.ex_base.proofs.Options.{at_some}
@@ -18,7 +15,6 @@ use Rattle.object_records.specs.declared.State.TheVariants.{Current, Frozen}
 use Rattle.index_pages.specs.declared.Index.{Index}
 use Rattle.file_bodies.specs.Bodies.{Row, bodies_of}
 use Rattle.file_bodies.specs.Files.{HasFile, HasBody}
-use Rattle.file_bodies.proofs.Blame.{carried}
 use Rattle.file_bodies.proofs.Moving.{kept_body}
 use Rattle.object_records.proofs.RecordLaws.{record_read}
 use Rattle.versions.specs.Listed.{oid_at}
@@ -26,18 +22,12 @@ use Rattle.versions.specs.Versions.{HasRecord, place_of}
 use Rattle.versions.proofs.Records.{one_record}
 use Rattle.version_tree.specs.declared.links.Stored.{Stored}
 use Rattle.version_tree.specs.Bodies.{body_at}
-use Rattle.versions.specs.Damage.{record_fault, IsStepFault, own, unread}
 use Rattle.versions.specs.Found.{HasLimits}
 use Rattle.version_tree.specs.Linked.{AreLinked, IsLinked, IsOlder, NewerIs, derived_from, head_in, OidAt, is_place, names_older, only_place}
-use Rattle.version_tree.specs.Links.{IsLinkFault, IsStored, StandsIn, StoredAt, oid_read}
+use Rattle.version_tree.specs.Links.{IsStored, StandsIn, StoredAt, oid_read}
 use Rattle.versions.proofs.FileRows.{InRows}
 use Rattle.version_tree.proofs.Places.{same_place_is, row_at, each_in, at_row, body_there, there_body}
 use Rattle.file_bodies.proofs.Ordered.{ordered}
-
-pub step_of : (geo : Geometry) (image : ℕ → List ℕ) (place : Place) (fault : PortFault) → (IsDamage fault → fault ≡ record_fault place) → IsStepFault geo image place fault
-step_of geo image place Disk h = own (λ damage. damage)
-step_of geo image place Memory h = own (λ damage. damage)
-step_of geo image place (Damaged page want got) h = unread (h tt)
 
 -- ---- rows that are derived from a place
 
@@ -177,7 +167,3 @@ module _ {S : Type 0} (g : ground.Ghosts S) where
       subst (OidAt (bodies_of (g.image a) index) (link is.head)) (sym told)
       (subst (λ (h : Head). OidAt (bodies_of (g.image a) index) (link h) (oid_read found)) (head_read body is head spelled same)
       (subst (λ (f : ℕ → List ℕ). OidAt (bodies_of f index) (link head) (oid_read found)) kept.images (oid_told (bodies_of (g.image b) index) (link head) found at)))
-
-  -- a fault of a link, in a state with the same meanings
-  pub link_kept : (a b : S) (fault : PortFault) → Keeps g a b → (g.tells b → IsLinkFault (g.geometry b) (g.image b) fault) → g.tells a → IsLinkFault (g.geometry a) (g.image a) fault
-  link_kept a b fault kept h told = carried g a b (λ y u. IsLinkFault y u fault) kept h told

@@ -12,6 +12,7 @@ use Rattle.file_bodies.specs.Files.{HasFile, HasBody}
 use Rattle.file_bodies.specs.Places.{IsFrom, IsFirstFrom, IsNext}
 use Rattle.file_bodies.proofs.Moving.{kept_file}
 use Rattle.file_bodies.proofs.Ordered.{ordered}
+use Rattle.versions.specs.Damage.{IsWalkedTo, at_front}
 use Rattle.versions.specs.Listed.{rank_of, start_rank, AreReadable}
 use Rattle.version_tree.specs.Lineage.{member_at, member_of}
 use Rattle.version_tree.specs.Linked.{head_in}
@@ -61,9 +62,10 @@ module _ {S : Type 0} (g : ground.Ghosts S) where
     pub kept : Keeps g a b
     pub short : IsShort after
     pub listed : g.tells a → (index : Index) → HasFile g a index → index.file_no ≡ file_no → IsCollected (bodies_of (g.image a) index) (key_of after) (slot_of after) members
+    pub walked : g.tells a → IsWalkedTo (g.geometry a) (g.image a) file_no after
 
   pub collected_none : (a : S) (file_no : ℕ) → CollectedTo a a file_no None []
-  collected_none a file_no = record { kept = record { units = refl; images = refl; used = refl; refs = refl; held = refl; free = refl; touched = refl; leads = g.leads_refl a }; short = tt; listed = λ told index file is. none_collected (bodies_of (g.image a) index) }
+  collected_none a file_no = record { kept = record { units = refl; images = refl; used = refl; refs = refl; held = refl; free = refl; touched = refl; leads = g.leads_refl a }; short = tt; listed = λ told index file is. none_collected (bodies_of (g.image a) index); walked = λ told. at_front }
 
   module _ (a b : S) (file_no : ℕ) (after : Option Place) (members : List Member) (to : CollectedTo a b file_no after members) (told : g.tells a) (index : Index) (file : HasFile g a index) (is : index.file_no ≡ file_no) where
     pub told_b : g.tells b

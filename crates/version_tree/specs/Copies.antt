@@ -7,7 +7,7 @@ use Rattle.ex_base.specs.declared.names.Oid.{Oid}
 use Rattle.ex_base.specs.declared.names.Place.{Place}
 use Rattle.object_records.specs.Record.{Content, Small, Large, Record, BodyOf, NewerFits}
 use Rattle.object_records.specs.declared.Head.{Head}
-use Rattle.object_records.specs.declared.State.TheVariants.{Frozen}
+use Rattle.object_records.specs.declared.State.TheVariants.{Current, Frozen}
 use Rattle.file_bodies.specs.Files.{HasBody}
 use Rattle.object_records.specs.Reads.{record_on}
 use Rattle.index_pages.specs.declared.Index.{Index}
@@ -16,11 +16,12 @@ use Rattle.file_bodies.specs.Bodies.{Row, bodies_of}
 use Rattle.file_bodies.specs.Damage.{IsListedFault, IsPlacingFault}
 use Rattle.file_bodies.specs.Places.{PutsBody}
 use Rattle.file_bodies.specs.Placing.{start_of}
+use Rattle.ex_base.specs.Ports.{IsDamage}
+use Rattle.versions.specs.Damage.{record_fault}
 use Rattle.versions.specs.Versions.{place_of}
 use Rattle.version_tree.specs.Bodies.{PlaceChange, EditsBodies, body_at, derived_head, frozen_head, newer_head, older_head, with_head}
-use Rattle.versions.specs.Damage.{IsStepFault}
 use Rattle.version_tree.specs.Linked.{head_in}
-use Rattle.version_tree.specs.Links.{IsLinkedFault, StandsIn, StoredAt}
+use Rattle.version_tree.specs.Links.{IsOlderFault, IsRecordFault, StandsIn, StoredAt}
 use Rattle.version_tree.specs.declared.links.Stored.{Stored}
 
 -- the bytes of the record of a content
@@ -45,10 +46,15 @@ pub record IsHead (head : Head) : Type 0 where
   pub newer : IsNamed head.newer
   pub fits : NewerFits head.state head.newer
 
--- What a call tells that puts a copy of a record into the file of a room: of the place of a record that isn't written, or of the file.
-pub data IsCopyFault (g : Geometry) (held : ℕ → Bool) (image : ℕ → List ℕ) (room : Room) (fault : PortFault) : Type 0 where
-  unwritten : (place : Place) → IsStepFault g image place fault → IsCopyFault g held image room fault
-  unplaced : (len : ℕ) → IsListedFault image room.file_no (λ index. IsPlacingFault g held image index (start_of room len) fault) fault → IsCopyFault g held image room fault
+-- What a call tells that puts a copy of the record with a body at a place into the file of a room: that it can't be copied; or of the file, in which a page
+-- is looked for with room for as long a body.
+pub data IsCopyFault (g : Geometry) (held : ℕ → Bool) (image : ℕ → List ℕ) (room : Room) (place : Place) (body : List ℕ) (fault : PortFault) : Type 0 where
+  uncopied : IsRecordFault place fault → IsCopyFault g held image room place body fault
+  unplaced : IsListedFault image room.file_no (λ index. IsPlacingFault g held image index (start_of room (length body)) fault) fault → IsCopyFault g held image room place body fault
+
+-- no whole file that a room is of has a record with a body at a place
+abbrev pub IsOutOf : {S : Type 0} → ground.Ghosts S → S → Room → Place → List ℕ → Type 0
+IsOutOf g s room place body = (index : Index) (is : Record) → HasBody g s index place body → BodyOf body is → index.file_no ≡ room.file_no → ⊥
 
 -- ---- a link that turns
 
@@ -139,7 +145,16 @@ pub record Derives {S : Type 0} (g : ground.Ghosts S) (old new : S) (index : Ind
 
 -- ---- what is told
 
--- What a call tells that copies a version: of the version and its links, or of the copy.
-pub data IsCopyingFault (g : Geometry) (held : ℕ → Bool) (image : ℕ → List ℕ) (room : Room) (oid : Oid) (fault : PortFault) : Type 0 where
-  linked : IsLinkedFault g image oid fault → IsCopyingFault g held image room oid fault
-  copying : IsCopyFault g held image room fault → IsCopyingFault g held image room oid fault
+-- What a call tells that derives a version from the one with a body at a place: that this isn't frozen; or of the copy, of which no damage is told where a whole
+-- file of the room has the version.
+pub data IsDerivingFault {S : Type 0} (g : ground.Ghosts S) (s : S) (room : Room) (place : Place) (body : List ℕ) (fault : PortFault) : Type 0 where
+  not_asked : ((head_in body).state ≡ Frozen → ⊥) → fault ≡ record_fault place → IsDerivingFault g s room place body fault
+  by_copy : IsCopyFault (g.geometry s) (g.held s) (g.image s) room place body fault → (IsDamage fault → IsOutOf g s room place body) → IsDerivingFault g s room place body fault
+
+-- What a call tells that freezes the version with a body at a place: that this isn't current; of its older link; of the copy, of which no damage is told where a
+-- whole file of the room has the version; or that the record that the link names can't name the copy.
+pub data IsFreezingFault {S : Type 0} (g : ground.Ghosts S) (s : S) (room : Room) (place : Place) (body : List ℕ) (fault : PortFault) : Type 0 where
+  not_current : ((head_in body).state ≡ Current → ⊥) → fault ≡ record_fault place → IsFreezingFault g s room place body fault
+  of_older : IsOlderFault g s (head_in body) fault → IsFreezingFault g s room place body fault
+  of_copy : IsCopyFault (g.geometry s) (g.held s) (g.image s) room place body fault → (IsDamage fault → IsOutOf g s room place body) → IsFreezingFault g s room place body fault
+  unturned_older : (older : Place) → (head_in body).older ≡ Some older → IsRecordFault older fault → IsFreezingFault g s room place body fault

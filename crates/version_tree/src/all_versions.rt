@@ -7,11 +7,11 @@ ghost use Rattle.index_pages.specs.declared.Index.{Index};
 ghost use Rattle.file_bodies.specs.Bodies.{bodies_of};
 ghost use Rattle.file_bodies.specs.Files.{HasFile, HasBody};
 ghost use Rattle.versions.specs.Listed.{AreReadable, rank_of, start_rank};
-ghost use Rattle.versions.specs.Versions.{HasRecord};
-ghost use Rattle.versions.specs.Damage.{IsListingFault, IsStepFault};
+ghost use Rattle.versions.specs.Versions.{HasRecord, place_of};
+ghost use Rattle.versions.specs.Damage.{IsListingFault, IsStepFault, IsWalkedOut};
 ghost use Rattle.version_tree.specs.Lineage.{IsListing, member_at, member_of, number_of};
 ghost use Rattle.version_tree.specs.Linked.{AreLinked, head_in};
-ghost use Rattle.version_tree.specs.Links.{IsDerivedFault, IsWalkFault};
+ghost use Rattle.version_tree.specs.Links.{IsLinkedFault, IsReadAnd, IsWalkFault, IsWalkedFrom};
 
 use crate::descent::file_of;
 use crate::lineage::{Member, list_members, member_at};
@@ -76,6 +76,8 @@ pub fn collect<V: ReadVolume>(
         → AreReadable (bodies_of (V.image volume.old) index) → ⊥) }
     ensures fault { IfErr result (λ fault. V.tells volume.old
         → IsListingFault (V.geometry volume.old) (V.image volume.old) file_no fault) }
+    ensures walk { OnOk result (V.tells volume.old
+        → IsWalkedOut (V.geometry volume.old) (V.image volume.old) file_no) }
     ensures kept { Keeps V.Ground volume.old volume.new }
     ensures cause { HasCause (V.faults volume.old) (V.faults volume.new) result }
 {
@@ -110,7 +112,9 @@ fn members_of<V: ReadVolume>(
         → (index : Index) (body : List ℕ) → HasBody V.Ground volume.old index place body
         → AreReadable (bodies_of (V.image volume.old) index) → ⊥) }
     ensures fault { IfErr result (λ fault. V.tells volume.old
-        → IsWalkFault (V.geometry volume.old) (V.image volume.old) fault) }
+        → IsWalkFault (V.geometry volume.old) (V.image volume.old) place fault) }
+    ensures walk { OnOk result (V.tells volume.old
+        → IsWalkedFrom (V.geometry volume.old) (V.image volume.old) place) }
     ensures kept { Keeps V.Ground volume.old volume.new }
     ensures cause { HasCause (V.faults volume.old) (V.faults volume.new) result }
 {
@@ -138,11 +142,16 @@ pub fn versions<V: ReadVolume>(
         → HasRecord V.Ground volume.old index oid.now is
         → IsListing (bodies_of (V.image volume.old) index)
         (record { oid = oid.now; older = is.head.older }) oids.items) }
+    ensures reads { OnOk result (V.tells volume.old → IsReadAnd (V.image volume.old) oid.now
+        (λ body. IsWalkedFrom (V.geometry volume.old) (V.image volume.old)
+        (place_of oid.now))) }
     ensures sound { IfErr result (λ fault. IsDamage fault → V.tells volume.old
         → AreLinked V.Ground volume.old → (index : Index) (is : Record)
         → HasRecord V.Ground volume.old index oid.now is → ⊥) }
     ensures fault { IfErr result (λ fault. V.tells volume.old
-        → IsDerivedFault (V.geometry volume.old) (V.image volume.old) oid.now fault) }
+        → IsLinkedFault V.Ground volume.old oid.now
+        (λ body. IsWalkFault (V.geometry volume.old) (V.image volume.old)
+        (place_of oid.now) fault) fault) }
     ensures kept { Keeps V.Ground volume.old volume.new }
     ensures cause { HasCause (V.faults volume.old) (V.faults volume.new) result }
 {

@@ -1,5 +1,5 @@
 //! A version that is derived from a frozen one.
-ghost use Rattle.std.specs.Prelude.{◌≡◌, ◌≤◌, ◌+◌, ◌↔◌, IfOk, IfErr, OnOk, IsTrue, None};
+ghost use Rattle.std.specs.Prelude.{◌≡◌, ◌≤◌, ◌+◌, IfOk, IfErr, OnOk, None};
 ghost use Rattle.ex_base.specs.Ports.{HasCause, IsDamage};
 ghost use Rattle.ex_base.specs.declared.names.Area.TheVariants.{Page, Segment};
 ghost use Rattle.object_records.specs.Record.{Record};
@@ -11,25 +11,18 @@ ghost use Rattle.versions.specs.Versions.{HasRecord, place_of, root_of};
 ghost use Rattle.versions.specs.Listed.{oid_at};
 ghost use Rattle.version_tree.specs.Touches.{version_touches};
 ghost use Rattle.version_tree.specs.Bodies.{SameUnits, newer_head};
-ghost use Rattle.version_tree.specs.Copies.{Derives, IsCopyFault, IsCopyingFault, IsVersionIn, UnlinksIn};
-ghost use Rattle.versions.specs.Damage.{record_fault};
-ghost use Rattle.version_tree.specs.Linked.{AreLinked};
+ghost use Rattle.version_tree.specs.Copies.{Derives, IsCopyFault, IsDerivingFault, IsVersionIn, UnlinksIn};
+ghost use Rattle.version_tree.specs.Links.{IsLinkedFault, IsReadAnd, IsRecordFault};
+ghost use Rattle.version_tree.specs.Linked.{AreLinked, head_in};
 
 use crate::copied::Copied;
 use crate::heads::{put_copy, put_head};
-use crate::links::{Stored, stored_version};
+use crate::links::{Stored, is_frozen, stored_version};
 use ex_base::{Oid, Place, PortFault, Volume};
 use file_bodies::Room;
 use object_records::{Head, State};
 use std::alloc::Global;
 use versions::{check, oid_at, root_in};
-
-/// Whether a version is a frozen one.
-pub(crate) fn is_frozen(head: &Head) -> bool
-    ensures { IsTrue result ↔ (head.now.state ≡ Frozen) }
-{
-    head.state == State::Frozen
-}
 
 /// A head without a newer place.
 fn newer_less(head: &Head) -> Head
@@ -50,8 +43,8 @@ fn unlink<V: Volume>(volume: &mut V, alloc: Global, was: &Stored) -> Result<(), 
     ensures units { OnOk result (SameUnits V.Ground volume.old volume.new) }
     ensures sound { IfErr result (λ fault. IsDamage fault → V.tells volume.old
         → (index : Index) (is : Record) → IsVersionIn V.Ground volume.old index was.now is → ⊥) }
-    ensures fault { IfErr result (λ fault. V.tells volume.old → IsDamage fault → fault
-        ≡ record_fault was.now.place) }
+    ensures fault { IfErr result (λ fault. V.tells volume.old
+        → IsRecordFault was.now.place fault) }
     ensures touches { OnOk result (TouchesAtMost V.Ground volume.old volume.new 1) }
     ensures leads { V.leads volume.old volume.new }
     ensures cause { HasCause (V.faults volume.old) (V.faults volume.new) result }
@@ -84,7 +77,7 @@ fn derive_read<V: Volume>(
         → index.file_no ≡ room.old.file_no → ⊥) }
     ensures fault { IfErr result (λ fault. V.tells volume.old
         → IsCopyFault (V.geometry volume.old) (V.held volume.old) (V.image volume.old)
-        room.old fault) }
+        room.old was.now.place was.now.body.items fault) }
     ensures leaves { OnOk result (V.free volume.new Segment ≡ V.free volume.old Segment) }
     ensures touches { OnOk result (TouchesAtMost V.Ground volume.old volume.new version_touches) }
     ensures leads { V.leads volume.old volume.new }
@@ -118,6 +111,8 @@ pub fn derive<V: Volume>(
         → Derives V.Ground volume.old volume.new index (place_of oid.now) is made.oid) }
     ensures asked { OnOk result (V.tells volume.old → (index : Index) (is : Record)
         → HasRecord V.Ground volume.old index oid.now is → is.head.state ≡ Frozen) }
+    ensures reads { OnOk result (V.tells volume.old → IsReadAnd (V.image volume.old) oid.now
+        (λ body. (head_in body).state ≡ Frozen)) }
     ensures number { IfOk result (λ made. made.oid.unique ≡ unique) }
     ensures come { IfOk result (λ made. V.tells volume.old → (index : Index) (is : Record)
         → HasRecord V.Ground volume.old index oid.now is → made.come ≡ root_of is.content) }
@@ -130,8 +125,9 @@ pub fn derive<V: Volume>(
         → HasRecord V.Ground volume.old index oid.now is → is.head.state ≡ Frozen
         → index.file_no ≡ room.old.file_no → ⊥) }
     ensures fault { IfErr result (λ fault. V.tells volume.old
-        → IsCopyingFault (V.geometry volume.old) (V.held volume.old) (V.image volume.old)
-        room.old oid.now fault) }
+        → IsLinkedFault V.Ground volume.old oid.now
+        (λ body. IsDerivingFault V.Ground volume.old room.old (place_of oid.now) body fault)
+        fault) }
     ensures leaves { OnOk result (V.free volume.new Segment ≡ V.free volume.old Segment) }
     ensures touches { OnOk result (TouchesAtMost V.Ground volume.old volume.new version_touches) }
     ensures leads { V.leads volume.old volume.new }

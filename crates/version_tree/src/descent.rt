@@ -1,5 +1,5 @@
 //! The versions that are derived from a version.
-ghost use Rattle.std.specs.Prelude.{◌≡◌, ◌≤◌, ◌<◌, ◌++◌, ◌∷◌, [], ℕ, List, IfOk, IfErr, OnOk, IsPermutation};
+ghost use Rattle.std.specs.Prelude.{◌≡◌, ◌≤◌, ◌<◌, ◌++◌, ◌∷◌, [], ℕ, List, IfOk, IfErr, None, OnOk, IsPermutation};
 ghost use Rattle.ex_base.specs.Ports.{Keeps, HasCause, IsDamage};
 ghost use Rattle.ex_base.specs.declared.names.Place.{Place};
 ghost use Rattle.slotted_pages.specs.Reads.{page_on, IsPage};
@@ -9,9 +9,9 @@ ghost use Rattle.file_bodies.specs.Bodies.{bodies_of};
 ghost use Rattle.file_bodies.specs.Files.{HasFile, HasBody};
 ghost use Rattle.versions.specs.Listed.{oid_at, AreByNumber, AreReadable, rank_of, start_rank};
 ghost use Rattle.versions.specs.Versions.{HasRecord, place_of};
-ghost use Rattle.versions.specs.Damage.{record_fault, IsListingFault, IsStepFault};
+ghost use Rattle.versions.specs.Damage.{record_fault, IsListingFault, IsStepFault, IsWalkedOut};
 ghost use Rattle.version_tree.specs.Linked.{AreLinked, head_in, oids_by_link, oids_from};
-ghost use Rattle.version_tree.specs.Links.{IsDerivedFault, IsWalkFault};
+ghost use Rattle.version_tree.specs.Links.{IsDerivedFault, IsLinkedFault, IsReadAnd, IsStartFault, IsWalkFault, IsWalkedFrom, NewerOn};
 
 use crate::links::{Stored, is_at, linked_newer, stored_version};
 use ex_base::{Oid, Place, PortFault, ReadVolume};
@@ -24,6 +24,7 @@ use versions::{check, first_rank, head_at, no_record, oid_at, rank};
 /// The number of the file that a page shows.
 fn number_on(page: &[u8], place: Place) -> Result<u32, PortFault>
     ensures number { IfOk result (λ number. (page_on page.now).file_no ≡ number) }
+    ensures page { OnOk result (IsPage page.now) }
     ensures sound { IfErr result (λ fault. IsPage page.now → ⊥) }
     ensures fault { IfErr result (λ fault. fault ≡ record_fault place) }
     ensures cause { (before now : ℕ) → HasCause before now result }
@@ -39,11 +40,14 @@ pub fn file_of<V: ReadVolume>(volume: &mut V, alloc: Global, place: Place) -> Re
     requires { V.ready volume.old }
     ensures number { IfOk result (λ number. V.tells volume.old → (index : Index) (body : List ℕ)
         → HasBody V.Ground volume.old index place body → index.file_no ≡ number) }
+    ensures shown { IfOk result (λ number. V.tells volume.old
+        → (page_on (V.image volume.old place.page.0)).file_no ≡ number) }
+    ensures page { OnOk result (V.tells volume.old → IsPage (V.image volume.old place.page.0)) }
     ensures sound { IfErr result (λ fault. IsDamage fault → V.tells volume.old
         → (index : Index) (body : List ℕ)
         → HasBody V.Ground volume.old index place body → ⊥) }
     ensures fault { IfErr result (λ fault. V.tells volume.old
-        → IsStepFault (V.geometry volume.old) (V.image volume.old) place fault) }
+        → IsStartFault (V.geometry volume.old) (V.image volume.old) place fault) }
     ensures kept { Keeps V.Ground volume.old volume.new }
     ensures cause { HasCause (V.faults volume.old) (V.faults volume.new) result }
 {
@@ -116,6 +120,8 @@ fn list_derived<V: ReadVolume>(
         → AreReadable (bodies_of (V.image volume.old) index) → ⊥) }
     ensures fault { IfErr result (λ fault. V.tells volume.old
         → IsListingFault (V.geometry volume.old) (V.image volume.old) file_no fault) }
+    ensures walk { OnOk result (V.tells volume.old
+        → IsWalkedOut (V.geometry volume.old) (V.image volume.old) file_no) }
     ensures kept { Keeps V.Ground volume.old volume.new }
     ensures cause { HasCause (V.faults volume.old) (V.faults volume.new) result }
 {
@@ -149,7 +155,9 @@ pub(crate) fn list_from<V: ReadVolume>(
         → (index : Index) (body : List ℕ) → HasBody V.Ground volume.old index from body
         → AreReadable (bodies_of (V.image volume.old) index) → ⊥) }
     ensures fault { IfErr result (λ fault. V.tells volume.old
-        → IsWalkFault (V.geometry volume.old) (V.image volume.old) fault) }
+        → IsWalkFault (V.geometry volume.old) (V.image volume.old) from fault) }
+    ensures walk { OnOk result (V.tells volume.old
+        → IsWalkedFrom (V.geometry volume.old) (V.image volume.old) from) }
     ensures kept { Keeps V.Ground volume.old volume.new }
     ensures cause { HasCause (V.faults volume.old) (V.faults volume.new) result }
 {
@@ -174,7 +182,9 @@ fn list_by_number<V: ReadVolume>(
         → (index : Index) (body : List ℕ) → HasBody V.Ground volume.old index from body
         → AreReadable (bodies_of (V.image volume.old) index) → ⊥) }
     ensures fault { IfErr result (λ fault. V.tells volume.old
-        → IsWalkFault (V.geometry volume.old) (V.image volume.old) fault) }
+        → IsWalkFault (V.geometry volume.old) (V.image volume.old) from fault) }
+    ensures walk { OnOk result (V.tells volume.old
+        → IsWalkedFrom (V.geometry volume.old) (V.image volume.old) from) }
     ensures kept { Keeps V.Ground volume.old volume.new }
     ensures cause { HasCause (V.faults volume.old) (V.faults volume.new) result }
 {
@@ -212,12 +222,17 @@ pub fn derived<V: ReadVolume>(
         → (index : Index) (is : Record) → HasRecord V.Ground volume.old index oid.now is
         → IsPermutation (oids_from (place_of oid.now) (bodies_of (V.image volume.old) index))
         oids.items) }
+    ensures reads { OnOk result (V.tells volume.old → IsReadAnd (V.image volume.old) oid.now
+        (λ body. NewerOn (V.image volume.old) (place_of oid.now) (head_in body)
+        × ((head_in body).newer ≡ None
+        → IsWalkedFrom (V.geometry volume.old) (V.image volume.old) (place_of oid.now)))) }
     ensures ordered { IfOk result (λ oids. AreByNumber oids.items) }
     ensures sound { IfErr result (λ fault. IsDamage fault → V.tells volume.old
         → AreLinked V.Ground volume.old → (index : Index) (is : Record)
         → HasRecord V.Ground volume.old index oid.now is → ⊥) }
     ensures fault { IfErr result (λ fault. V.tells volume.old
-        → IsDerivedFault (V.geometry volume.old) (V.image volume.old) oid.now fault) }
+        → IsLinkedFault V.Ground volume.old oid.now
+        (λ body. IsDerivedFault V.Ground volume.old (place_of oid.now) body fault) fault) }
     ensures kept { Keeps V.Ground volume.old volume.new }
     ensures cause { HasCause (V.faults volume.old) (V.faults volume.new) result }
 {

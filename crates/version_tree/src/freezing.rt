@@ -1,5 +1,5 @@
 //! A version that is frozen: a frozen copy comes between it and its older one.
-ghost use Rattle.std.specs.Prelude.{◌≡◌, ◌≤◌, ◌+◌, IfOk, IfErr, IfSome, OnOk, List, Option, Some};
+ghost use Rattle.std.specs.Prelude.{◌≡◌, ◌≤◌, ◌+◌, ◌⊎◌, IfOk, IfErr, IfSome, IsSomeAnd, OnOk, List, Option, Some};
 ghost use Rattle.ex_base.specs.Ports.{HasCause, IsDamage};
 ghost use Rattle.ex_base.specs.declared.names.Area.TheVariants.{Page, Segment};
 ghost use Rattle.ex_base.specs.declared.names.Place.{Place};
@@ -14,10 +14,10 @@ ghost use Rattle.versions.specs.Versions.{HasRecord, place_of, root_of};
 ghost use Rattle.versions.specs.Listed.{oid_at};
 ghost use Rattle.version_tree.specs.Touches.{version_touches};
 ghost use Rattle.version_tree.specs.Bodies.{SameUnits};
-ghost use Rattle.version_tree.specs.Copies.{Freezes, IsCopyFault, IsCopyingFault, IsFrozenIn, IsNamed, IsRead, TurnsOlder, TurnsStored};
-ghost use Rattle.versions.specs.Damage.{record_fault};
-ghost use Rattle.version_tree.specs.Linked.{AreLinked};
-ghost use Rattle.version_tree.specs.Links.{StandsIn, StoredAt};
+ghost use Rattle.version_tree.specs.Copies.{Freezes, IsCopyFault, IsFreezingFault, IsFrozenIn, IsNamed, IsRead, IsVersionIn, TurnsOlder, TurnsStored};
+ghost use Rattle.version_tree.specs.Linked.{AreLinked, head_in};
+ghost use Rattle.version_tree.specs.Links.{IsLinkedFault, IsReadAnd, IsRecordFault, OlderOn, StandsIn, StoredAt};
+ghost use Rattle.version_tree.specs.declared.links.Stored.{Stored};
 
 use crate::copied::Copied;
 use crate::heads::{put_copy, put_head};
@@ -44,8 +44,8 @@ pub(crate) fn turn_stored<V: Volume>(
     ensures units { OnOk result (SameUnits V.Ground volume.old volume.new) }
     ensures sound { IfErr result (λ fault. IsDamage fault → V.tells volume.old → (index : Index)
         → IsFrozenIn V.Ground volume.old index stored.now → IsNamed (Some to) → ⊥) }
-    ensures fault { IfErr result (λ fault. V.tells volume.old → IsDamage fault → fault
-        ≡ record_fault stored.now.place) }
+    ensures fault { IfErr result (λ fault. V.tells volume.old
+        → IsRecordFault stored.now.place fault) }
     ensures touches { OnOk result (TouchesAtMost V.Ground volume.old volume.new 1) }
     ensures leads { V.leads volume.old volume.new }
     ensures cause { HasCause (V.faults volume.old) (V.faults volume.new) result }
@@ -77,8 +77,8 @@ pub(crate) fn turn_older<V: Volume>(
     ensures units { OnOk result (SameUnits V.Ground volume.old volume.new) }
     ensures sound { IfErr result (λ fault. IsDamage fault → V.tells volume.old → (index : Index)
         → IfSome older.now (IsFrozenIn V.Ground volume.old index) → IsNamed (Some to) → ⊥) }
-    ensures fault { IfErr result (λ fault. V.tells volume.old → IsDamage fault
-        → (place : Place) × (fault ≡ record_fault place)) }
+    ensures fault { IfErr result (λ fault. V.tells volume.old → IsSomeAnd older.now
+        (λ (stored : Stored). IsRecordFault stored.place fault)) }
     ensures touches { OnOk result (TouchesAtMost V.Ground volume.old volume.new 1) }
     ensures leads { V.leads volume.old volume.new }
     ensures cause { HasCause (V.faults volume.old) (V.faults volume.new) result }
@@ -113,8 +113,12 @@ fn freeze_read<V: Volume>(
         → IsRead V.Ground volume.old index was.now older.now is → is.head.state ≡ Current
         → index.file_no ≡ room.old.file_no → ⊥) }
     ensures fault { IfErr result (λ fault. V.tells volume.old
-        → IsCopyFault (V.geometry volume.old) (V.held volume.old) (V.image volume.old)
-        room.old fault) }
+        → (IsCopyFault (V.geometry volume.old) (V.held volume.old) (V.image volume.old)
+        room.old was.now.place was.now.body.items fault
+        × (IsDamage fault → (index : Index) (is : Record)
+        → IsVersionIn V.Ground volume.old index was.now is → index.file_no ≡ room.old.file_no
+        → ⊥))
+        ⊎ IsSomeAnd older.now (λ (stored : Stored). IsRecordFault stored.place fault)) }
     ensures leaves { OnOk result (V.free volume.new Segment ≡ V.free volume.old Segment) }
     ensures touches { OnOk result (TouchesAtMost V.Ground volume.old volume.new version_touches) }
     ensures leads { V.leads volume.old volume.new }
@@ -153,6 +157,9 @@ pub fn freeze<V: Volume>(
         → Freezes V.Ground volume.old volume.new index (place_of oid.now) is made.oid) }
     ensures asked { OnOk result (V.tells volume.old → (index : Index) (is : Record)
         → HasRecord V.Ground volume.old index oid.now is → is.head.state ≡ Current) }
+    ensures reads { OnOk result (V.tells volume.old → IsReadAnd (V.image volume.old) oid.now
+        (λ body. ((head_in body).state ≡ Current)
+        × OlderOn (V.image volume.old) (head_in body))) }
     ensures number { IfOk result (λ made. made.oid.unique ≡ unique) }
     ensures come { IfOk result (λ made. V.tells volume.old → (index : Index) (is : Record)
         → HasRecord V.Ground volume.old index oid.now is → made.come ≡ root_of is.content) }
@@ -165,8 +172,9 @@ pub fn freeze<V: Volume>(
         → HasRecord V.Ground volume.old index oid.now is → is.head.state ≡ Current
         → index.file_no ≡ room.old.file_no → ⊥) }
     ensures fault { IfErr result (λ fault. V.tells volume.old
-        → IsCopyingFault (V.geometry volume.old) (V.held volume.old) (V.image volume.old)
-        room.old oid.now fault) }
+        → IsLinkedFault V.Ground volume.old oid.now
+        (λ body. IsFreezingFault V.Ground volume.old room.old (place_of oid.now) body fault)
+        fault) }
     ensures leaves { OnOk result (V.free volume.new Segment ≡ V.free volume.old Segment) }
     ensures touches { OnOk result (TouchesAtMost V.Ground volume.old volume.new version_touches) }
     ensures leads { V.leads volume.old volume.new }

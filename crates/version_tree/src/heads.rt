@@ -12,7 +12,7 @@ ghost use Rattle.file_bodies.specs.Touches.{body_touches};
 ghost use Rattle.file_bodies.specs.Files.{HasFile, HasBody};
 ghost use Rattle.version_tree.specs.Bodies.{SameUnits, with_head};
 ghost use Rattle.version_tree.specs.Copies.{CopiesRecord, content_len, IsCopyFault, IsHead, IsNamed};
-ghost use Rattle.versions.specs.Damage.{record_fault};
+ghost use Rattle.version_tree.specs.Links.{IsRecordFault};
 ghost use Rattle.versions.specs.Put.{PutsRecord};
 
 use crate::links::Stored;
@@ -78,8 +78,7 @@ fn body_with(alloc: Global, stored: &Stored, head: &Head) -> Result<Vec<u8>, Por
     ensures some { IfOk result (λ body. 36 ≤ length body.items) }
     ensures sound { IfErr result (λ fault. IsDamage fault → (is : Record)
         → BodyOf stored.now.body.items is → IsHead head.now → ⊥) }
-    ensures fault { IfErr result (λ fault. IsDamage fault → fault
-        ≡ record_fault stored.now.place) }
+    ensures fault { IfErr result (λ fault. IsRecordFault stored.now.place fault) }
     ensures cause { (before now : ℕ) → HasCause before now result }
 {
     check(is_head(*head), stored.place)?;
@@ -110,8 +109,8 @@ pub(crate) fn put_head<V: Volume>(
         → (index : Index) (is : Record)
         → HasBody V.Ground volume.old index stored.now.place stored.now.body.items
         → BodyOf stored.now.body.items is → IsHead head.now → ⊥) }
-    ensures fault { IfErr result (λ fault. V.tells volume.old → IsDamage fault → fault
-        ≡ record_fault stored.now.place) }
+    ensures fault { IfErr result (λ fault. V.tells volume.old
+        → IsRecordFault stored.now.place fault) }
     ensures touches { OnOk result (TouchesAtMost V.Ground volume.old volume.new 1) }
     ensures leads { V.leads volume.old volume.new }
     ensures cause { HasCause (V.faults volume.old) (V.faults volume.new) result }
@@ -150,7 +149,7 @@ pub(crate) fn put_copy<V: Volume>(
         → BodyOf stored.now.body.items is → IsHead head.now → ⊥) }
     ensures fault { IfErr result (λ fault. V.tells volume.old
         → IsCopyFault (V.geometry volume.old) (V.held volume.old) (V.image volume.old)
-        room.old fault) }
+        room.old stored.now.place stored.now.body.items fault) }
     ensures leaves { OnOk result (V.free volume.new Segment ≡ V.free volume.old Segment) }
     ensures touches { OnOk result (TouchesAtMost V.Ground volume.old volume.new body_touches) }
     ensures leads { V.leads volume.old volume.new }

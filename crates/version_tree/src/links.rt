@@ -1,5 +1,5 @@
 //! The records of versions and of those that their links name, as they are read.
-ghost use Rattle.std.specs.Prelude.{◌≡◌, ◌↔◌, ◌<◌, ◌≤◌, ◌+◌, length, IsTrue, Some, ℕ, List, IfOk, IfErr, IfSome, IsSome, OnOk};
+ghost use Rattle.std.specs.Prelude.{◌≡◌, ◌↔◌, ◌<◌, ◌≤◌, ◌+◌, length, IsTrue, Some, ℕ, List, IfOk, IfErr, IfNone, IfSome, IsSomeAnd, OnOk};
 ghost use Rattle.ex_base.specs.Ports.{Keeps, Cause, HasCause, IsDamage};
 ghost use Rattle.ex_base.specs.declared.faults.PortFault.TheVariants.{Damaged};
 ghost use Rattle.ex_base.specs.declared.names.Place.{Place};
@@ -10,9 +10,9 @@ ghost use Rattle.file_bodies.specs.Bodies.{bodies_of};
 ghost use Rattle.file_bodies.specs.Files.{HasBody};
 ghost use Rattle.versions.specs.Versions.{HasRecord, place_of};
 ghost use Rattle.versions.specs.Found.{HasLimits};
-ghost use Rattle.versions.specs.Damage.{record_fault, IsStepFault};
+ghost use Rattle.versions.specs.Damage.{record_fault};
 ghost use Rattle.version_tree.specs.Linked.{AreLinked, head_in};
-ghost use Rattle.version_tree.specs.Links.{IsStored, StoredAt, IsLinkFault, IsLinkedFault, below_seen, above_seen, number_seen};
+ghost use Rattle.version_tree.specs.Links.{IsStored, StoredAt, NewerOn, OlderOn, ReadOn, IsReadOn, IsVersionOn, IsOlderFault, IsNewerFault, IsReadingFault, IsStoredFault, below_seen, above_seen, number_seen};
 
 use ex_base::{Oid, PageNo, Place, PortFault, ReadVolume, Seen};
 use file_bodies::body_at;
@@ -33,6 +33,8 @@ fn copy_body(alloc: Global, body: &[u8], place: Place) -> Result<Stored, PortFau
     ensures stored { IfOk result (λ stored. IsStored stored place body.now) }
     ensures sound { IfErr result (λ fault. IsDamage fault → (is : Record) → BodyOf body.now is
         → ⊥) }
+    ensures misspelled { IfErr result (λ fault. ((is : Record) → BodyOf body.now is → ⊥)
+        → fault ≡ record_fault place) }
     ensures fault { IfErr result (λ fault. IsDamage fault → fault ≡ record_fault place) }
     ensures cause { (before now : ℕ) → HasCause before now result }
 {
@@ -45,9 +47,11 @@ fn copy_body(alloc: Global, body: &[u8], place: Place) -> Result<Stored, PortFau
 fn copy_on(alloc: Global, body: Option<&[u8]>, place: Place) -> Result<Stored, PortFault>
     ensures stored { IfOk result (λ stored. IfSome body.entry
         (λ body. IsStored stored place body.now)) }
+    ensures read { IfOk result (λ stored. IsSomeAnd body.entry
+        (λ body. IsStored stored place body.now)) }
     ensures sound { IfErr result (λ fault. IsDamage fault → IfSome body.entry (λ body. (is : Record)
         → BodyOf body.now is → ⊥)) }
-    ensures none { OnOk result (IsSome body.entry) }
+    ensures none { IfErr result (λ fault. IfNone body.entry (fault ≡ record_fault place)) }
     ensures fault { IfErr result (λ fault. IsDamage fault → fault ≡ record_fault place) }
     ensures cause { (before now : ℕ) → HasCause before now result }
 {
@@ -66,6 +70,8 @@ pub(crate) fn stored_at<V: ReadVolume>(
     requires { V.ready volume.old }
     ensures stored { IfOk result (λ stored. V.tells volume.old → (index : Index) (body : List ℕ)
         → HasBody V.Ground volume.old index place body → IsStored stored place body) }
+    ensures reads { IfOk result (λ stored. V.tells volume.old
+        → IsReadOn (V.image volume.old) place stored) }
     ensures fits { OnOk result (V.tells volume.old → (index : Index) (body : List ℕ)
         → HasBody V.Ground volume.old index place body
         → length body + 20 ≤ (V.geometry volume.old).page_size) }
@@ -73,7 +79,7 @@ pub(crate) fn stored_at<V: ReadVolume>(
         → (index : Index) (body : List ℕ) (is : Record)
         → HasBody V.Ground volume.old index place body → BodyOf body is → ⊥) }
     ensures fault { IfErr result (λ fault. V.tells volume.old
-        → IsStepFault (V.geometry volume.old) (V.image volume.old) place fault) }
+        → IsStoredFault V.Ground volume.old place fault) }
     ensures kept { Keeps V.Ground volume.old volume.new }
     ensures cause { HasCause (V.faults volume.old) (V.faults volume.new) result }
 {
@@ -93,6 +99,8 @@ pub(crate) fn stored_version<V: ReadVolume>(
     ensures stored { IfOk result (λ stored. V.tells volume.old → (index : Index) (is : Record)
         → (has : HasRecord V.Ground volume.old index oid.now is)
         → IsStored stored (place_of oid.now) has.body) }
+    ensures reads { IfOk result (λ stored. V.tells volume.old
+        → IsVersionOn (V.image volume.old) oid.now stored) }
     ensures fits { OnOk result (V.tells volume.old → (index : Index) (is : Record)
         → (has : HasRecord V.Ground volume.old index oid.now is)
         → length has.body + 20 ≤ (V.geometry volume.old).page_size) }
@@ -100,7 +108,7 @@ pub(crate) fn stored_version<V: ReadVolume>(
         → (index : Index) (is : Record) → HasRecord V.Ground volume.old index oid.now is
         → HasLimits (V.geometry volume.old) is.content → ⊥) }
     ensures fault { IfErr result (λ fault. V.tells volume.old
-        → IsLinkedFault (V.geometry volume.old) (V.image volume.old) oid.now fault) }
+        → IsReadingFault V.Ground volume.old oid.now fault) }
     ensures kept { Keeps V.Ground volume.old volume.new }
     ensures cause { HasCause (V.faults volume.old) (V.faults volume.new) result }
 {
@@ -146,6 +154,7 @@ fn check_below(older: &Head, head: &Head, page: PageNo) -> Result<(), PortFault>
         → older.now.unique < head.now.unique) }
     ensures never { IfErr result (λ fault. (head.now.state ≡ Frozen
         → older.now.unique < head.now.unique) → ⊥) }
+    ensures frozen { IfErr result (λ fault. head.now.state ≡ Frozen) }
     ensures fault { IfErr result (λ fault. (head.now.unique ≤ older.now.unique) × (fault
         ≡ Damaged page (below_seen head.now.unique) (number_seen older.now.unique))) }
     ensures cause { (before now : ℕ) → HasCause before now result }
@@ -162,6 +171,7 @@ fn check_above(newer: &Head, head: &Head, page: PageNo) -> Result<(), PortFault>
         → head.now.unique < newer.now.unique) }
     ensures never { IfErr result (λ fault. (newer.now.state ≡ Frozen
         → head.now.unique < newer.now.unique) → ⊥) }
+    ensures frozen { IfErr result (λ fault. newer.now.state ≡ Frozen) }
     ensures fault { IfErr result (λ fault. (newer.now.unique ≤ head.now.unique) × (fault
         ≡ Damaged page (above_seen head.now.unique) (number_seen newer.now.unique))) }
     ensures cause { (before now : ℕ) → HasCause before now result }
@@ -182,6 +192,13 @@ pub(crate) fn is_at(link: Option<Place>, place: Place) -> bool
     }
 }
 
+/// Whether a version is a frozen one.
+pub(crate) fn is_frozen(head: &Head) -> bool
+    ensures { IsTrue result ↔ (head.now.state ≡ Frozen) }
+{
+    head.state == State::Frozen
+}
+
 /// Whether a version is a current one.
 pub(crate) fn is_current(head: &Head) -> bool
     ensures { IsTrue result ↔ (head.now.state ≡ Current) }
@@ -199,6 +216,8 @@ fn read_older<V: ReadVolume>(
     requires { V.ready volume.old }
     ensures stored { IfOk result (λ stored. V.tells volume.old → (index : Index) (body : List ℕ)
         → HasBody V.Ground volume.old index place body → IsStored stored place body) }
+    ensures reads { IfOk result (λ stored. V.tells volume.old
+        → IsReadOn (V.image volume.old) place stored) }
     ensures frozen { IfOk result (λ stored. stored.head.state ≡ Frozen) }
     ensures lower { IfOk result (λ stored. head.now.state ≡ Frozen
         → stored.head.unique < head.now.unique) }
@@ -207,13 +226,13 @@ fn read_older<V: ReadVolume>(
         → HasBody V.Ground volume.old index place body → BodyOf body is
         → (head_in body).state ≡ Frozen
         → (head.now.state ≡ Frozen → (head_in body).unique < head.now.unique) → ⊥) }
-    ensures fault { IfErr result (λ fault. V.tells volume.old
-        → IsLinkFault (V.geometry volume.old) (V.image volume.old) fault) }
+    ensures fault { IfErr result (λ fault. V.tells volume.old → head.now.older ≡ Some place
+        → IsOlderFault V.Ground volume.old head.now fault) }
     ensures kept { Keeps V.Ground volume.old volume.new }
     ensures cause { HasCause (V.faults volume.old) (V.faults volume.new) result }
 {
     let stored = stored_at(volume, alloc, place)?;
-    check(stored.head.state == State::Frozen, place)?;
+    check(is_frozen(&stored.head), place)?;
     check_below(&stored.head, head, place.page)?;
     Ok(stored)
 }
@@ -228,6 +247,8 @@ fn read_newer<V: ReadVolume>(
     requires { V.ready volume.old }
     ensures stored { IfOk result (λ found. V.tells volume.old → (index : Index) (body : List ℕ)
         → HasBody V.Ground volume.old index place body → IsStored found place body) }
+    ensures reads { IfOk result (λ found. V.tells volume.old
+        → IsReadOn (V.image volume.old) place found) }
     ensures derived { IfOk result (λ found. found.head.older ≡ Some stored.now.place) }
     ensures higher { IfOk result (λ found. found.head.state ≡ Frozen
         → stored.now.head.unique < found.head.unique) }
@@ -238,7 +259,8 @@ fn read_newer<V: ReadVolume>(
         → ((head_in body).state ≡ Frozen
         → stored.now.head.unique < (head_in body).unique) → ⊥) }
     ensures fault { IfErr result (λ fault. V.tells volume.old
-        → IsLinkFault (V.geometry volume.old) (V.image volume.old) fault) }
+        → stored.now.head.newer ≡ Some place
+        → IsNewerFault V.Ground volume.old stored.now.place stored.now.head fault) }
     ensures kept { Keeps V.Ground volume.old volume.new }
     ensures cause { HasCause (V.faults volume.old) (V.faults volume.new) result }
 {
@@ -259,11 +281,15 @@ pub(crate) fn linked_older<V: ReadVolume>(
         → (index : Index) (place : Place) (body : List ℕ)
         → HasBody V.Ground volume.old index place body → IsStored stored.now place body
         → StoredAt (bodies_of (V.image volume.old) index) stored.now.head.older found) }
+    ensures reads { IfOk result (λ found. V.tells volume.old
+        → ReadOn (V.image volume.old) stored.now.head.older found) }
+    ensures link { OnOk result (V.tells volume.old
+        → OlderOn (V.image volume.old) stored.now.head) }
     ensures sound { IfErr result (λ fault. IsDamage fault → V.tells volume.old
         → AreLinked V.Ground volume.old → (index : Index) (place : Place) (body : List ℕ)
         → HasBody V.Ground volume.old index place body → IsStored stored.now place body → ⊥) }
     ensures fault { IfErr result (λ fault. V.tells volume.old
-        → IsLinkFault (V.geometry volume.old) (V.image volume.old) fault) }
+        → IsOlderFault V.Ground volume.old stored.now.head fault) }
     ensures kept { Keeps V.Ground volume.old volume.new }
     ensures cause { HasCause (V.faults volume.old) (V.faults volume.new) result }
 {
@@ -287,11 +313,15 @@ pub(crate) fn linked_newer<V: ReadVolume>(
         → (index : Index) (place : Place) (body : List ℕ)
         → HasBody V.Ground volume.old index place body → IsStored stored.now place body
         → StoredAt (bodies_of (V.image volume.old) index) stored.now.head.newer found) }
+    ensures reads { IfOk result (λ found. V.tells volume.old
+        → ReadOn (V.image volume.old) stored.now.head.newer found) }
+    ensures link { OnOk result (V.tells volume.old
+        → NewerOn (V.image volume.old) stored.now.place stored.now.head) }
     ensures sound { IfErr result (λ fault. IsDamage fault → V.tells volume.old
         → AreLinked V.Ground volume.old → (index : Index) (place : Place) (body : List ℕ)
         → HasBody V.Ground volume.old index place body → IsStored stored.now place body → ⊥) }
     ensures fault { IfErr result (λ fault. V.tells volume.old
-        → IsLinkFault (V.geometry volume.old) (V.image volume.old) fault) }
+        → IsNewerFault V.Ground volume.old stored.now.place stored.now.head fault) }
     ensures kept { Keeps V.Ground volume.old volume.new }
     ensures cause { HasCause (V.faults volume.old) (V.faults volume.new) result }
 {

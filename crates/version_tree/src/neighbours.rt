@@ -4,9 +4,9 @@ ghost use Rattle.ex_base.specs.Ports.{Keeps, HasCause, IsDamage};
 ghost use Rattle.object_records.specs.Record.{Record};
 ghost use Rattle.index_pages.specs.declared.Index.{Index};
 ghost use Rattle.file_bodies.specs.Bodies.{bodies_of};
-ghost use Rattle.versions.specs.Versions.{HasRecord};
-ghost use Rattle.version_tree.specs.Linked.{AreLinked, OidAt};
-ghost use Rattle.version_tree.specs.Links.{IsLinkedFault, oid_read};
+ghost use Rattle.versions.specs.Versions.{HasRecord, place_of};
+ghost use Rattle.version_tree.specs.Linked.{AreLinked, OidAt, head_in};
+ghost use Rattle.version_tree.specs.Links.{IsLinkedFault, IsNewerFault, IsOlderFault, IsReadAnd, NewerOn, OidOn, OlderOn, oid_read};
 
 use crate::links::{Stored, linked_newer, linked_older, stored_version};
 use ex_base::{Oid, PortFault, ReadVolume};
@@ -33,11 +33,15 @@ pub fn older<V: ReadVolume>(
     ensures told { IfOk result (λ found. V.tells volume.old → AreLinked V.Ground volume.old
         → (index : Index) (is : Record) → HasRecord V.Ground volume.old index oid.now is
         → OidAt (bodies_of (V.image volume.old) index) is.head.older found) }
+    ensures reads { IfOk result (λ found. V.tells volume.old
+        → IsReadAnd (V.image volume.old) oid.now (λ body. OlderOn (V.image volume.old) (head_in body)
+        × OidOn (V.image volume.old) (head_in body).older found)) }
     ensures sound { IfErr result (λ fault. IsDamage fault → V.tells volume.old
         → AreLinked V.Ground volume.old → (index : Index) (is : Record)
         → HasRecord V.Ground volume.old index oid.now is → ⊥) }
     ensures fault { IfErr result (λ fault. V.tells volume.old
-        → IsLinkedFault (V.geometry volume.old) (V.image volume.old) oid.now fault) }
+        → IsLinkedFault V.Ground volume.old oid.now
+        (λ body. IsOlderFault V.Ground volume.old (head_in body) fault) fault) }
     ensures kept { Keeps V.Ground volume.old volume.new }
     ensures cause { HasCause (V.faults volume.old) (V.faults volume.new) result }
 {
@@ -58,11 +62,17 @@ pub fn newer<V: ReadVolume>(
     ensures told { IfOk result (λ found. V.tells volume.old → AreLinked V.Ground volume.old
         → (index : Index) (is : Record) → HasRecord V.Ground volume.old index oid.now is
         → OidAt (bodies_of (V.image volume.old) index) is.head.newer found) }
+    ensures reads { IfOk result (λ found. V.tells volume.old
+        → IsReadAnd (V.image volume.old) oid.now (λ body. NewerOn (V.image volume.old) (place_of oid.now)
+        (head_in body)
+        × OidOn (V.image volume.old) (head_in body).newer found)) }
     ensures sound { IfErr result (λ fault. IsDamage fault → V.tells volume.old
         → AreLinked V.Ground volume.old → (index : Index) (is : Record)
         → HasRecord V.Ground volume.old index oid.now is → ⊥) }
     ensures fault { IfErr result (λ fault. V.tells volume.old
-        → IsLinkedFault (V.geometry volume.old) (V.image volume.old) oid.now fault) }
+        → IsLinkedFault V.Ground volume.old oid.now
+        (λ body. IsNewerFault V.Ground volume.old (place_of oid.now) (head_in body) fault)
+        fault) }
     ensures kept { Keeps V.Ground volume.old volume.new }
     ensures cause { HasCause (V.faults volume.old) (V.faults volume.new) result }
 {

@@ -1,8 +1,7 @@
 //! A current version that is taken out of the tree of its object.
-ghost use Rattle.std.specs.Prelude.{◌≡◌, ◌≤◌, ◌↔◌, List, Option, None, IfErr, IfOk, IfSome, IsTrue, OnOk, ℕ};
+ghost use Rattle.std.specs.Prelude.{◌≡◌, ◌≤◌, ◌↔◌, ◌⊎◌, List, Option, None, IfErr, IfOk, IfSome, IsSomeAnd, IsTrue, OnOk, ℕ};
 ghost use Rattle.ex_base.specs.Ports.{Keeps, HasCause, IsDamage};
 ghost use Rattle.ex_base.specs.declared.names.Area.TheVariants.{Page, Segment};
-ghost use Rattle.ex_base.specs.declared.names.Oid.{Oid};
 ghost use Rattle.ex_base.specs.declared.names.Place.{Place};
 ghost use Rattle.object_records.specs.Record.{Record, BodyOf};
 ghost use Rattle.object_records.specs.declared.State.TheVariants.{Current};
@@ -10,6 +9,7 @@ ghost use Rattle.index_pages.specs.declared.Index.{Index};
 ghost use Rattle.file_index.specs.Touches.{TouchesAtMost};
 ghost use Rattle.file_index.specs.Taking.{OnlyGives};
 ghost use Rattle.file_bodies.specs.Bodies.{Row, bodies_of};
+ghost use Rattle.file_bodies.specs.Damage.{IsTakingFault};
 ghost use Rattle.file_bodies.specs.Files.{HasFile, HasBody};
 ghost use Rattle.std.specs.Prelude.{filter};
 ghost use Rattle.versions.specs.Listed.{AreReadable};
@@ -17,10 +17,9 @@ ghost use Rattle.versions.specs.Versions.{HasRecord, place_of, root_of};
 ghost use Rattle.version_tree.specs.Touches.{version_touches};
 ghost use Rattle.version_tree.specs.Bodies.{SameUnits};
 ghost use Rattle.version_tree.specs.Copies.{IsFrozenIn, IsNamed};
-ghost use Rattle.versions.specs.Damage.{record_fault};
-ghost use Rattle.version_tree.specs.Linked.{AreLinked, derived_from};
-ghost use Rattle.version_tree.specs.Links.{IsWalkFault, StandsIn, StoredAt};
-ghost use Rattle.version_tree.specs.Removals.{IsBranch, IsLeaving, IsRemovingFault, IsTakingOutFault, NamesOther, NamesStored, TakesOut, leads_elsewhere, only_lead, only_other, other_from};
+ghost use Rattle.version_tree.specs.Linked.{AreLinked, derived_from, head_in};
+ghost use Rattle.version_tree.specs.Links.{IsLinkedFault, IsReadAnd, IsRecordFault, IsWalkFault, IsWalkedFrom, OlderOn, StandsIn, StoredAt};
+ghost use Rattle.version_tree.specs.Removals.{IsBranch, IsLeaving, IsTakingOutFault, NamesOther, NamesStored, TakesOut, leads_elsewhere, only_lead, only_other, other_from};
 ghost use Rattle.version_tree.specs.declared.links.Stored.{Stored};
 
 use crate::descent::list_from;
@@ -66,7 +65,9 @@ fn only_other<V: ReadVolume>(
         → (index : Index) (body : List ℕ) → HasBody V.Ground volume.old index from body
         → AreReadable (bodies_of (V.image volume.old) index) → ⊥) }
     ensures fault { IfErr result (λ fault. V.tells volume.old
-        → IsWalkFault (V.geometry volume.old) (V.image volume.old) fault) }
+        → IsWalkFault (V.geometry volume.old) (V.image volume.old) from fault) }
+    ensures walk { OnOk result (V.tells volume.old
+        → IsWalkedFrom (V.geometry volume.old) (V.image volume.old) from) }
     ensures kept { Keeps V.Ground volume.old volume.new }
     ensures cause { HasCause (V.faults volume.old) (V.faults volume.new) result }
 {
@@ -90,8 +91,11 @@ fn other_from<V: ReadVolume>(
     ensures sound { IfErr result (λ fault. IsDamage fault → V.tells volume.old → (index : Index)
         → IfSome older.now (StandsIn V.Ground volume.old index)
         → AreReadable (bodies_of (V.image volume.old) index) → ⊥) }
-    ensures fault { IfErr result (λ fault. V.tells volume.old
-        → IsWalkFault (V.geometry volume.old) (V.image volume.old) fault) }
+    ensures fault { IfErr result (λ fault. V.tells volume.old → IsSomeAnd older.now
+        (λ (stored : Stored). IsWalkFault (V.geometry volume.old) (V.image volume.old)
+        stored.place fault)) }
+    ensures walk { OnOk result (V.tells volume.old → IfSome older.now (λ (stored : Stored).
+        IsWalkedFrom (V.geometry volume.old) (V.image volume.old) stored.place)) }
     ensures kept { Keeps V.Ground volume.old volume.new }
     ensures cause { HasCause (V.faults volume.old) (V.faults volume.new) result }
 {
@@ -126,8 +130,8 @@ fn name_newer<V: Volume>(
     ensures units { OnOk result (SameUnits V.Ground volume.old volume.new) }
     ensures sound { IfErr result (λ fault. IsDamage fault → V.tells volume.old → (index : Index)
         → IsFrozenIn V.Ground volume.old index stored.now → IsNamed newer → ⊥) }
-    ensures fault { IfErr result (λ fault. V.tells volume.old → IsDamage fault → fault
-        ≡ record_fault stored.now.place) }
+    ensures fault { IfErr result (λ fault. V.tells volume.old
+        → IsRecordFault stored.now.place fault) }
     ensures touches { OnOk result (TouchesAtMost V.Ground volume.old volume.new 1) }
     ensures leads { V.leads volume.old volume.new }
     ensures cause { HasCause (V.faults volume.old) (V.faults volume.new) result }
@@ -161,8 +165,8 @@ fn name_other<V: Volume>(
     ensures units { OnOk result (SameUnits V.Ground volume.old volume.new) }
     ensures sound { IfErr result (λ fault. IsDamage fault → V.tells volume.old → (index : Index)
         → IfSome older.now (IsFrozenIn V.Ground volume.old index) → IsNamed other → ⊥) }
-    ensures fault { IfErr result (λ fault. V.tells volume.old → IsDamage fault
-        → (place : Place) × (fault ≡ record_fault place)) }
+    ensures fault { IfErr result (λ fault. V.tells volume.old → IsSomeAnd older.now
+        (λ (stored : Stored). IsRecordFault stored.place fault)) }
     ensures touches { OnOk result (TouchesAtMost V.Ground volume.old volume.new 1) }
     ensures leads { V.leads volume.old volume.new }
     ensures cause { HasCause (V.faults volume.old) (V.faults volume.new) result }
@@ -192,9 +196,10 @@ fn take_read<V: Volume>(
     ensures sound { IfErr result (λ fault. IsDamage fault → V.tells volume.old
         → (index : Index) (is : Record)
         → IsLeaving V.Ground volume.old index was.now older.now other is → ⊥) }
-    ensures fault { IfErr result (λ fault. V.tells volume.old → (oid : Oid)
-        → IsRemovingFault (V.geometry volume.old) (V.held volume.old) (V.image volume.old)
-        (V.held volume.new) (V.image volume.new) oid fault) }
+    ensures fault { IfErr result (λ fault. V.tells volume.old
+        → IsTakingFault (V.geometry volume.old) (V.held volume.old) (V.image volume.old)
+        (V.held volume.new) (V.image volume.new) was.now.place fault
+        ⊎ IsSomeAnd older.now (λ (stored : Stored). IsRecordFault stored.place fault)) }
     ensures leaves { OnOk result (V.free volume.new Segment ≡ V.free volume.old Segment) }
     ensures touches { OnOk result (TouchesAtMost V.Ground volume.old volume.new version_touches) }
     ensures leads { V.leads volume.old volume.new }
@@ -220,6 +225,11 @@ pub fn take_out<V: Volume>(
         → TakesOut V.Ground volume.old volume.new index (place_of oid.now) is) }
     ensures asked { OnOk result (V.tells volume.old → (index : Index) (is : Record)
         → HasRecord V.Ground volume.old index oid.now is → is.head.state ≡ Current) }
+    ensures reads { OnOk result (V.tells volume.old → IsReadAnd (V.image volume.old) oid.now
+        (λ body. ((head_in body).state ≡ Current)
+        × OlderOn (V.image volume.old) (head_in body)
+        × IfSome (head_in body).older
+        (IsWalkedFrom (V.geometry volume.old) (V.image volume.old)))) }
     ensures branch { OnOk result (V.tells volume.old → AreLinked V.Ground volume.old
         → (index : Index) (is : Record) → HasRecord V.Ground volume.old index oid.now is
         → IsBranch (bodies_of (V.image volume.old) index) is.head.older) }
@@ -232,8 +242,9 @@ pub fn take_out<V: Volume>(
         → HasRecord V.Ground volume.old index oid.now is → is.head.state ≡ Current
         → IsBranch (bodies_of (V.image volume.old) index) is.head.older → ⊥) }
     ensures fault { IfErr result (λ fault. V.tells volume.old
-        → IsTakingOutFault (V.geometry volume.old) (V.held volume.old) (V.image volume.old)
-        (V.held volume.new) (V.image volume.new) oid.now fault) }
+        → IsLinkedFault V.Ground volume.old oid.now
+        (λ body. IsTakingOutFault V.Ground volume.old volume.new (place_of oid.now) body
+        fault) fault) }
     ensures leaves { OnOk result (V.free volume.new Segment ≡ V.free volume.old Segment) }
     ensures touches { OnOk result (TouchesAtMost V.Ground volume.old volume.new version_touches) }
     ensures leads { V.leads volume.old volume.new }

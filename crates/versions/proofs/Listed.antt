@@ -8,10 +8,13 @@ use Rattle.object_records.specs.Record.{Record, BodyOf}
 use Rattle.object_records.specs.Reads.{record_on}
 use Rattle.index_pages.specs.declared.Index.{Index}
 use Rattle.file_bodies.specs.Bodies.{Row, bodies_of}
+use Rattle.file_bodies.specs.Damage.{HasListed, IsLook, page_from, page_in}
 use Rattle.file_bodies.specs.Files.{HasFile, HasBody}
 use Rattle.file_bodies.specs.Places.{IsFirstFrom, FirstFrom, IsNext}
+use Rattle.file_bodies.proofs.Blame.{carried}
 use Rattle.file_bodies.proofs.Moving.{kept_file}
 use Rattle.file_bodies.proofs.Ordered.{ordered}
+use Rattle.versions.specs.Damage.{ComesNext, IsWalkedOut, IsWalkedTo, at_front}
 use Rattle.versions.specs.Listed.{oids_in, oids_of, rank_of, start_rank, AreReadable}
 use Rattle.versions.proofs.FileRows.{InRows, in_mid, row_stands}
 use Rattle.versions.proofs.RowsListed.{IsShort, IsListed, key_of, slot_of, none_listed, next_listed, all_listed, next_rank, at_mid}
@@ -26,14 +29,32 @@ none_next rows None next = next
 none_next rows (Some p) next = next
 
 module _ {S : Type 0} (g : ground.Ghosts S) where
+  -- the place that comes next in a state with the same meanings
+  pub comes_next : (a b : S) (file_no : ℕ) (after next : Option Place) (place : Place) → Keeps g a b
+      → (g.tells b → HasListed (g.image b) file_no (λ index. IsLook (g.geometry b) (g.image b) index (page_from after) (page_in next))) → next ≡ Some place → g.tells a → ComesNext (g.geometry a) (g.image a) file_no after place
+  comes_next a b file_no after next place kept h is told =
+      subst (λ (o : Option Place). HasListed (g.image a) file_no (λ index. IsLook (g.geometry a) (g.image a) index (page_from after) (page_in o))) is
+      (carried g a b (λ y u. HasListed u file_no (λ index. IsLook y u index (page_from after) (page_in next))) kept h told)
+
+  -- no place comes next in a state with the same meanings
+  pub walked_out : (a b : S) (file_no : ℕ) (after next : Option Place) → Keeps g a b → (g.tells a → IsWalkedTo (g.geometry a) (g.image a) file_no after)
+      → (g.tells b → HasListed (g.image b) file_no (λ index. IsLook (g.geometry b) (g.image b) index (page_from after) (page_in next))) → next ≡ None → g.tells a → IsWalkedOut (g.geometry a) (g.image a) file_no
+  walked_out a b file_no after next kept walked h is told = record {
+    last = after;
+    walked = walked told;
+    ends = subst (λ (o : Option Place). HasListed (g.image a) file_no (λ index. IsLook (g.geometry a) (g.image a) index (page_from after) (page_in o))) is
+        (carried g a b (λ y u. HasListed u file_no (λ index. IsLook y u index (page_from after) (page_in next))) kept h told);
+  }
+
   -- Up to a place the rows of the file are listed, in a state with the same meanings.
   pub record ListedTo (a b : S) (file_no : ℕ) (after : Option Place) (oids : List Oid) : Type 0 where
     pub kept : Keeps g a b
     pub short : IsShort after
     pub listed : g.tells a → (index : Index) → HasFile g a index → index.file_no ≡ file_no → IsListed (bodies_of (g.image a) index) (key_of after) (slot_of after) oids
+    pub walked : g.tells a → IsWalkedTo (g.geometry a) (g.image a) file_no after
 
   pub listed_none : (a : S) (file_no : ℕ) → ListedTo a a file_no None []
-  listed_none a file_no = record { kept = record { units = refl; images = refl; used = refl; refs = refl; held = refl; free = refl; touched = refl; leads = g.leads_refl a }; short = tt; listed = λ told index file is. none_listed (bodies_of (g.image a) index) }
+  listed_none a file_no = record { kept = record { units = refl; images = refl; used = refl; refs = refl; held = refl; free = refl; touched = refl; leads = g.leads_refl a }; short = tt; listed = λ told index file is. none_listed (bodies_of (g.image a) index); walked = λ told. at_front }
 
   module _ (a b : S) (file_no : ℕ) (after : Option Place) (oids : List Oid) (to : ListedTo a b file_no after oids) (told : g.tells a) (index : Index) (file : HasFile g a index) (is : index.file_no ≡ file_no) where
     pub told_b : g.tells b

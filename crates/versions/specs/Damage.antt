@@ -1,5 +1,5 @@
 -- What a fault of a call on versions says of the page, the record or the root that isn't what names it.
-use Rattle.std.specs.Prelude.{◌≡◌, ℕ, List, Option, Some, None, slice_index_or}
+use Rattle.std.specs.Prelude.{◌≡◌, ◌≤◌, ℕ, List, Option, Some, None, slice_index_or}
 use Rattle.ex_base.specs.declared.faults.PortFault.{PortFault}
 use Rattle.ex_base.specs.declared.faults.PortFault.TheVariants.{Damaged}
 use Rattle.ex_base.specs.declared.geometry.Geometry.{Geometry}
@@ -12,10 +12,11 @@ use Rattle.slotted_pages.specs.Edits.{slots_of}
 use Rattle.object_records.specs.Record.{Large, Record, BodyOf}
 use Rattle.ex_base.specs.Seen.{header_seen, nothing_seen, record_seen}
 use Rattle.file_index.specs.Damage.{every_page}
-use Rattle.file_bodies.specs.Damage.{page_from, IsBelongingFault, IsListedFault, IsLookFault}
+use Rattle.file_bodies.specs.Damage.{page_from, HasListed, IsBelongingFault, IsListedFault, IsLook, IsLookFault}
 use Rattle.trees.specs.Trees.{Units}
 use Rattle.trees.specs.Damage.{IsRootFault}
 use Rattle.trees.specs.Roots.{IsRootFor}
+use Rattle.versions.specs.Listed.{rank_of, start_rank}
 use Rattle.versions.specs.Versions.{place_of}
 use Rattle.versions.specs.Found.{IsTold}
 use Rattle.versions.specs.Put.{IsPlaced}
@@ -93,7 +94,22 @@ pub data IsStepFault (g : Geometry) (image : ℕ → List ℕ) (place : Place) (
   of_page : IsBelongingFault g image place.page.0 fault → IsStepFault g image place fault
   unread : fault ≡ record_fault place → IsStepFault g image place fault
 
--- What a walk over the versions of a file tells: of its pages, or of a place that the walk comes to.
+-- The page of a place is found by a look at the pages of the file from that of the place before it on.
+abbrev pub ComesNext : Geometry → (ℕ → List ℕ) → ℕ → Option Place → Place → Type 0
+ComesNext g image file_no after place = HasListed image file_no (λ index. IsLook g image index (page_from after) (Some place.page))
+
+-- A walk over the places of a file comes to a place, each behind the one before it.
+pub data IsWalkedTo (g : Geometry) (image : ℕ → List ℕ) (file_no : ℕ) : Option Place → Type 0 where
+  at_front : IsWalkedTo g image file_no None
+  on_to : (after : Option Place) (place : Place) → IsWalkedTo g image file_no after → ComesNext g image file_no after place → start_rank after ≤ rank_of place → IsWalkedTo g image file_no (Some place)
+
+-- A walk over the places of a file comes to an end: no page is found behind the last place.
+pub record IsWalkedOut (g : Geometry) (image : ℕ → List ℕ) (file_no : ℕ) : Type 0 where
+  pub last : Option Place
+  pub walked : IsWalkedTo g image file_no last
+  pub ends : HasListed image file_no (λ index. IsLook g image index (page_from last) None)
+
+-- What a walk over the versions of a file tells: of its pages behind a place that it comes to; or of the place that comes next.
 pub data IsListingFault (g : Geometry) (image : ℕ → List ℕ) (file_no : ℕ) (fault : PortFault) : Type 0 where
-  walking : (after : Option Place) → IsListedFault image file_no (λ index. IsLookFault g every_page image index (page_from after) fault) fault → IsListingFault g image file_no fault
-  stepping : (place : Place) → IsStepFault g image place fault → IsListingFault g image file_no fault
+  walking : (after : Option Place) → IsWalkedTo g image file_no after → IsListedFault image file_no (λ index. IsLookFault g every_page image index (page_from after) fault) fault → IsListingFault g image file_no fault
+  stepping : (after : Option Place) (place : Place) → IsWalkedTo g image file_no after → ComesNext g image file_no after place → IsStepFault g image place fault → IsListingFault g image file_no fault

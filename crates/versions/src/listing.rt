@@ -6,7 +6,7 @@ ghost use Rattle.object_records.specs.Reads.{record_on};
 ghost use Rattle.index_pages.specs.declared.Index.{Index};
 ghost use Rattle.file_bodies.specs.Bodies.{bodies_of};
 ghost use Rattle.file_bodies.specs.Files.{HasFile, HasBody};
-ghost use Rattle.versions.specs.Damage.{record_fault, IsStepFault, IsListingFault};
+ghost use Rattle.versions.specs.Damage.{record_fault, IsStepFault, IsListingFault, IsWalkedOut};
 ghost use Rattle.versions.specs.Listed.{oids_in, oids_of, rank_of, start_rank, AreByNumber, AreReadable};
 
 use crate::recorded::{check, no_record, oid_at};
@@ -39,6 +39,7 @@ pub fn first_rank(after: Option<Place>) -> u64
 /// The head of the record in a body.
 pub fn head_of(body: &[u8], place: Place) -> Result<Head, PortFault>
     ensures head { IfOk result (λ head. head ≡ (record_on body.now).head) }
+    ensures spelled { OnOk result ((is : Record) × BodyOf body.now is) }
     ensures sound { IfErr result (λ fault. (is : Record) → BodyOf body.now is → ⊥) }
     ensures fault { IfErr result (λ fault. fault ≡ record_fault place) }
     ensures cause { (before now : ℕ) → HasCause before now result }
@@ -146,6 +147,8 @@ fn list_file<V: ReadVolume>(
         → AreReadable (bodies_of (V.image volume.old) index) → ⊥) }
     ensures fault { IfErr result (λ fault. V.tells volume.old
         → IsListingFault (V.geometry volume.old) (V.image volume.old) file_no fault) }
+    ensures walk { OnOk result (V.tells volume.old
+        → IsWalkedOut (V.geometry volume.old) (V.image volume.old) file_no) }
     ensures kept { Keeps V.Ground volume.old volume.new }
     ensures cause { HasCause (V.faults volume.old) (V.faults volume.new) result }
 {
@@ -181,6 +184,8 @@ pub fn objects<V: ReadVolume>(
         → AreReadable (bodies_of (V.image volume.old) index) → ⊥) }
     ensures fault { IfErr result (λ fault. V.tells volume.old
         → IsListingFault (V.geometry volume.old) (V.image volume.old) file_no fault) }
+    ensures walk { OnOk result (V.tells volume.old
+        → IsWalkedOut (V.geometry volume.old) (V.image volume.old) file_no) }
     ensures kept { Keeps V.Ground volume.old volume.new }
     ensures cause { HasCause (V.faults volume.old) (V.faults volume.new) result }
 {

@@ -7,13 +7,14 @@ use Rattle.file_bodies.specs.Bodies.{bodies_of}
 use Rattle.file_bodies.proofs.Blame.{carried}
 use Rattle.file_bodies.proofs.Moving.{kept_file}
 use Rattle.versions.specs.Listed.{AreReadable}
-use Rattle.versions.specs.Damage.{IsListingFault}
+use Rattle.versions.specs.Damage.{IsListingFault, IsWalkedOut}
 use Rattle.version_tree.specs.Lineage.{member_of}
-use Rattle.version_tree.specs.Links.{at_start, on_way}
+use Rattle.version_tree.specs.Links.{at_start}
+use Rattle.version_tree.proofs.ReadPlaces.{walked_from, way_of}
 use Rattle.version_tree.proofs.all_versions.members_of.Goals as goal
 
 pub returns-in-Err-clause-fault : goal.returns-in-Err-clause-fault
-returns-in-Err-clause-fault g c = λ told. at_start c.args.place (c.in-Err.ensures.fault told)
+returns-in-Err-clause-fault g c = λ told. at_start (c.in-Err.ensures.fault told)
 
 pub returns-in-Ok-collect-clause-members : goal.returns-in-Ok-collect-clause-members
 returns-in-Ok-collect-clause-members g c = λ told index body has.
@@ -35,5 +36,9 @@ returns-in-Err-collect-clause-sound g c = λ damage told index body has readable
     c.in-Err-collect.ensures.sound damage told_b index file_b (c.in-Ok.ensures.number told index body has) (subst (λ (i : ℕ → List ℕ). AreReadable (bodies_of i index)) (sym kept.images) readable)
 
 pub returns-in-Err-collect-clause-fault : goal.returns-in-Err-collect-clause-fault
-returns-in-Err-collect-clause-fault g c = λ told. on_way c.in-Ok.file_no
+returns-in-Err-collect-clause-fault g c = λ told. way_of (g.V.Ground.geometry c.args.volume.now) (g.V.Ground.image c.args.volume.now) c.args.place c.in-Ok.file_no c.in-Err-collect.fault (c.in-Ok.ensures.page told) (c.in-Ok.ensures.shown told)
     (carried g.V.Ground c.args.volume.now c.file_of.new.volume (λ y u. IsListingFault y u c.in-Ok.file_no c.in-Err-collect.fault) c.file_of.ensures.kept c.in-Err-collect.ensures.fault told)
+
+pub returns-in-Ok-collect-clause-walk : goal.returns-in-Ok-collect-clause-walk
+returns-in-Ok-collect-clause-walk g c = λ told. walked_from (g.V.Ground.geometry c.args.volume.now) (g.V.Ground.image c.args.volume.now) c.args.place c.in-Ok.file_no (c.in-Ok.ensures.page told) (c.in-Ok.ensures.shown told)
+    (carried g.V.Ground c.args.volume.now c.file_of.new.volume (λ y u. IsWalkedOut y u c.in-Ok.file_no) c.file_of.ensures.kept c.in-Ok-collect.ensures.walk told)

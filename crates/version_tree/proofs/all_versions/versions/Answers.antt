@@ -9,9 +9,9 @@ use Rattle.file_bodies.specs.Files.{HasBody}
 use Rattle.file_bodies.proofs.Blame.{carried}
 use Rattle.file_bodies.proofs.Moving.{kept_body}
 use Rattle.versions.specs.Versions.{place_of}
-use Rattle.versions.specs.Damage.{own}
+use Rattle.versions.proofs.Results.{ok_of}
 use Rattle.version_tree.specs.Lineage.{listed, member_of}
-use Rattle.version_tree.specs.Links.{IsWalkFault, at_link, by_link, by_walk, to_link}
+use Rattle.version_tree.specs.Links.{IsWalkFault, IsWalkedFrom, of_body, of_version, ports_own}
 use Rattle.version_tree.specs.declared.lineage.Member.{Member}
 use Rattle.version_tree.proofs.DerivedRows.{linked_readable}
 use Rattle.version_tree.proofs.Linking.{head_read, kept_linked, linked_limits}
@@ -22,7 +22,7 @@ returns-in_err-version-clause-sound g c = if_err_handed c.from_residual.result _
     c.in_err-version.ensures.sound damage told index is has (linked_limits g.V.Ground c.args.volume.now index c.args.oid.now is linked has))
 
 pub returns-in_err-version-clause-fault : goal.returns-in_err-version-clause-fault
-returns-in_err-version-clause-fault g c = if_err_handed c.from_residual.result _ _ c.from_residual.ensures.1 (λ told. by_link (c.in_err-version.ensures.fault told))
+returns-in_err-version-clause-fault g c = if_err_handed c.from_residual.result _ _ c.from_residual.ensures.1 (λ told. of_version (c.in_err-version.ensures.fault told))
 
 pub returns-in_err-members-clause-sound : goal.returns-in_err-members-clause-sound
 returns-in_err-members-clause-sound g c = if_err_handed c.from_residual-in_err-members.result _ _ c.from_residual-in_err-members.ensures.1 (λ damage told linked index is has.
@@ -35,7 +35,9 @@ returns-in_err-members-clause-sound g c = if_err_handed c.from_residual-in_err-m
 
 pub returns-in_err-members-clause-fault : goal.returns-in_err-members-clause-fault
 returns-in_err-members-clause-fault g c = if_err_handed c.from_residual-in_err-members.result _ _ c.from_residual-in_err-members.ensures.1 (λ told.
-    by_walk (carried g.V.Ground c.args.volume.now c.stored_version.new.volume (λ y u. IsWalkFault y u c.in_err-members.field-0.0) c.stored_version.ensures.kept c.in_err-members.ensures.fault told))
+    let v = c.in_ok-version.ensures.reads told in
+    of_body c.in_ok-version.version.body.items v.read.stands (subst (λ (p : Place). IsWalkFault (g.V.Ground.geometry c.args.volume.now) (g.V.Ground.image c.args.volume.now) p c.in_err-members.field-0.0) v.read.at
+    (carried g.V.Ground c.args.volume.now c.stored_version.new.volume (λ y u. IsWalkFault y u c.in_ok-version.version.place c.in_err-members.field-0.0) c.stored_version.ensures.kept c.in_err-members.ensures.fault told)))
 
 pub returns-clause-oids : goal.returns-clause-oids
 returns-clause-oids g c = IfOk-weaker c.list_members.result _ _ (λ oids h told index is has.
@@ -57,7 +59,17 @@ pub returns-clause-sound : goal.returns-clause-sound
 returns-clause-sound g c = IfErr-weaker c.list_members.result _ _ (λ fault never damage told linked index is has. never damage) c.list_members.ensures.no_damage
 
 pub returns-clause-fault : goal.returns-clause-fault
-returns-clause-fault g c = IfErr-weaker c.list_members.result _ _ (λ fault never told. by_link (to_link (at_link c.in_ok-version.version.place (own never)))) c.list_members.ensures.no_damage
+returns-clause-fault g c = IfErr-weaker c.list_members.result _ _ (λ fault never told. of_version (ports_own never)) c.list_members.ensures.no_damage
 
 pub returns-clause-cause : goal.returns-clause-cause
 returns-clause-cause g c = c.list_members.ensures.cause _ _
+
+pub returns-clause-reads : goal.returns-clause-reads
+returns-clause-reads g c = ok_of c.list_members.result _ (λ told.
+    let v = c.in_ok-version.ensures.reads told in
+    record {
+      body = c.in_ok-version.version.body.items;
+      version = v.version;
+      holds = subst (λ (p : Place). IsWalkedFrom (g.V.Ground.geometry c.args.volume.now) (g.V.Ground.image c.args.volume.now) p) v.read.at
+          (carried g.V.Ground c.args.volume.now c.stored_version.new.volume (λ y u. IsWalkedFrom y u c.in_ok-version.version.place) c.stored_version.ensures.kept c.in_ok-members.ensures.walk told);
+    })

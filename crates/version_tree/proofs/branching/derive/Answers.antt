@@ -1,17 +1,19 @@
-use Rattle.std.proofs.Common.{◌≡◌, ℕ, List, true, false, subst, sym, ap, ◌∙◌, arith}
+use Rattle.std.proofs.Common.{◌≡◌, ℕ, List, true, false, refl, subst, sym, ap, ◌∙◌, arith}
 use Rattle.ex_base.specs.declared.names.Oid.{Oid}
 use Rattle.object_records.specs.Record.{BodyOf}
 use Rattle.ex_base.specs.declared.names.Area.{Area}
 use Rattle.ex_base.specs.declared.names.Area.TheVariants.{Page}
 use Rattle.ex_base.proofs.Results.{if_err_handed}
 use Rattle.object_records.specs.declared.Head.{Head}
+use Rattle.object_records.specs.declared.State.TheVariants.{Frozen}
 use Rattle.file_bodies.proofs.Blame.{carried_held}
 use Rattle.versions.specs.Versions.{place_of}
-use Rattle.version_tree.specs.Copies.{Derives, IsCopyFault, copying, linked}
-use Rattle.versions.specs.Damage.{unread}
-use Rattle.version_tree.specs.Links.{at_link, to_link}
+use Rattle.version_tree.specs.Copies.{Derives, IsCopyFault, not_asked}
+use Rattle.versions.specs.Damage.{record_fault}
+use Rattle.version_tree.specs.Links.{of_body, of_version}
 use Rattle.version_tree.proofs.Copying.{kept_derives, version_in}
 use Rattle.version_tree.proofs.Linking.{head_read, linked_limits}
+use Rattle.version_tree.proofs.ReadPlaces.{deriving_of, other_state, out_of, state_read}
 use Rattle.version_tree.proofs.branching.derive.Goals as goal
 
 pub returns-in_err-version-clause-sound : goal.returns-in_err-version-clause-sound
@@ -19,7 +21,7 @@ returns-in_err-version-clause-sound g c = if_err_handed c.from_residual.result _
     c.in_err-version.ensures.sound damage told index is has (linked_limits g.V.Ground c.args.volume.now index c.args.oid.now is links has))
 
 pub returns-in_err-version-clause-fault : goal.returns-in_err-version-clause-fault
-returns-in_err-version-clause-fault g c = if_err_handed c.from_residual.result _ _ c.from_residual.ensures.1 (λ told. linked (c.in_err-version.ensures.fault told))
+returns-in_err-version-clause-fault g c = if_err_handed c.from_residual.result _ _ c.from_residual.ensures.1 (λ told. of_version (c.in_err-version.ensures.fault told))
 
 pub returns-in_err-check-clause-sound : goal.returns-in_err-check-clause-sound
 returns-in_err-check-clause-sound g c = if_err_handed c.from_residual-in_err-check.result _ _ c.from_residual-in_err-check.ensures.1 (λ damage told links index is has frozen file.
@@ -29,7 +31,9 @@ returns-in_err-check-clause-sound g c = if_err_handed c.from_residual-in_err-che
     absurd cc)
 
 pub returns-in_err-check-clause-fault : goal.returns-in_err-check-clause-fault
-returns-in_err-check-clause-fault g c = if_err_handed c.from_residual-in_err-check.result _ _ c.from_residual-in_err-check.ensures.1 (λ told. linked (to_link (at_link c.in_ok-version.version.place (unread c.in_err-check.ensures.fault.1))))
+returns-in_err-check-clause-fault g c = if_err_handed c.from_residual-in_err-check.result _ _ c.from_residual-in_err-check.ensures.1 (λ told.
+    of_body c.in_ok-version.version.body.items (c.in_ok-version.ensures.reads told).read.stands
+    (not_asked (other_state (g.V.Ground.image c.args.volume.now) c.args.oid.now c.in_ok-version.version Frozen c.is_frozen.result (c.in_ok-version.ensures.reads told) c.is_frozen.ensures.1 c.in_err-check.ensures.fault.0) (c.in_err-check.ensures.fault.1 ∙ ap record_fault (c.in_ok-version.ensures.reads told).read.at)))
 
 pub returns-in-Ok-clause-derived : goal.returns-in-Ok-clause-derived
 returns-in-Ok-clause-derived g c = λ told index is has file.
@@ -39,6 +43,15 @@ returns-in-Ok-clause-derived g c = λ told index is has file.
     let v = version_in g.V.Ground c.args.volume.now c.stored_version.new.volume index (place_of c.args.oid.now) has.body is c.in_ok-version.version kept has.stands has.spelled at (c.in_ok-version.ensures.fits told index is has) in
     subst (λ (o : Oid). Derives g.V.Ground c.args.volume.now c.derive_read.new.volume index (place_of c.args.oid.now) is o) (sym c.oid_at.ensures)
     (kept_derives g.V.Ground c.args.volume.now c.stored_version.new.volume c.derive_read.new.volume index c.in_ok-version.version.place (place_of c.args.oid.now) is _ at.stands kept (c.in-Ok.ensures.derived told_b index is v file))
+
+pub returns-in-Ok-clause-reads : goal.returns-in-Ok-clause-reads
+returns-in-Ok-clause-reads g c = λ told.
+    let v = c.in_ok-version.ensures.reads told in
+    record {
+      body = c.in_ok-version.version.body.items;
+      version = v.version;
+      holds = state_read (g.V.Ground.image c.args.volume.now) (g.V.Ground.image c.args.volume.now) refl c.args.oid.now c.in_ok-version.version v Frozen (c.is_frozen.ensures.0 c.in_ok-check.ensures.holds);
+    }
 
 pub returns-in-Ok-clause-come : goal.returns-in-Ok-clause-come
 returns-in-Ok-clause-come g c = λ told index is has.
@@ -55,11 +68,15 @@ returns-in-Ok-clause-pages g c = omega (arith, c.in-Ok.ensures.pages, ap (λ (f 
 
 pub returns-clause-sound : goal.returns-clause-sound
 returns-clause-sound g c = λ damage told links index is has frozen file.
-    let kept = c.stored_version.ensures.kept in
-    let told_b = g.V.Ground.leads_told c.args.volume.now c.stored_version.new.volume kept.leads told in
-    let at = c.in_ok-version.ensures.stored told index is has in
-    let v = version_in g.V.Ground c.args.volume.now c.stored_version.new.volume index (place_of c.args.oid.now) has.body is c.in_ok-version.version kept has.stands has.spelled at (c.in_ok-version.ensures.fits told index is has) in
-    c.in-Err.ensures.sound damage told_b index is v file
+    c.in-Err.ensures.sound damage (g.V.Ground.leads_told c.args.volume.now c.stored_version.new.volume c.stored_version.ensures.kept.leads told) index is
+    (version_in g.V.Ground c.args.volume.now c.stored_version.new.volume index (place_of c.args.oid.now) has.body is c.in_ok-version.version c.stored_version.ensures.kept has.stands has.spelled (c.in_ok-version.ensures.stored told index is has) (c.in_ok-version.ensures.fits told index is has)) file
 
 pub returns-clause-fault : goal.returns-clause-fault
-returns-clause-fault g c = λ told. copying (carried_held g.V.Ground c.args.volume.now c.stored_version.new.volume (λ y k u. IsCopyFault y k u c.args.room.now c.in-Err.fault) c.stored_version.ensures.kept c.in-Err.ensures.fault told)
+returns-clause-fault g c = λ told.
+    let v = c.in_ok-version.ensures.reads told in
+    of_body c.in_ok-version.version.body.items v.read.stands
+    (deriving_of g.V.Ground c.args.volume.now c.args.room.now c.args.oid.now c.in_ok-version.version c.in-Err.fault v
+    (carried_held g.V.Ground c.args.volume.now c.stored_version.new.volume (λ y k u. IsCopyFault y k u c.args.room.now c.in_ok-version.version.place c.in_ok-version.version.body.items c.in-Err.fault) c.stored_version.ensures.kept c.in-Err.ensures.fault told)
+    (λ damage. out_of g.V.Ground c.args.volume.now c.args.room.now c.args.oid.now c.in_ok-version.version v (λ index is has file.
+    c.in-Err.ensures.sound damage (g.V.Ground.leads_told c.args.volume.now c.stored_version.new.volume c.stored_version.ensures.kept.leads told) index is
+    (version_in g.V.Ground c.args.volume.now c.stored_version.new.volume index (place_of c.args.oid.now) has.body is c.in_ok-version.version c.stored_version.ensures.kept has.stands has.spelled (c.in_ok-version.ensures.stored told index is has) (c.in_ok-version.ensures.fits told index is has)) file)))

@@ -3,9 +3,8 @@ use Rattle.ex_base.specs.declared.names.Area.{Area}
 use Rattle.ex_base.specs.declared.names.Area.TheVariants.{Page}
 use Rattle.ex_base.proofs.Results.{if_err_handed}
 use Rattle.version_tree.specs.Bodies.{derived_head, with_head}
-use Rattle.version_tree.specs.Copies.{unwritten}
+use Rattle.version_tree.specs.Copies.{uncopied}
 use Rattle.version_tree.proofs.Copying.{copied_version, derived_fits, derived_one}
-use Rattle.version_tree.proofs.Linking.{step_of}
 use Rattle.version_tree.proofs.branching.derive_read.Goals as goal
 
 pub returns-clause-derived : goal.returns-clause-derived
@@ -35,4 +34,4 @@ returns-in_err-unlink-clause-sound g c = if_err_handed c.from_residual-in_err-un
 pub returns-in_err-unlink-clause-fault : goal.returns-in_err-unlink-clause-fault
 returns-in_err-unlink-clause-fault g c = if_err_handed c.from_residual-in_err-unlink.result _ _ c.from_residual-in_err-unlink.ensures.1 (λ told.
     let told_b = g.V.Ground.leads_told c.args.volume.now c.put_copy.new.volume c.put_copy.ensures.leads told in
-    unwritten c.args.was.now.place (step_of (g.V.Ground.geometry c.args.volume.now) (g.V.Ground.image c.args.volume.now) c.args.was.now.place _ (c.in_err-unlink.ensures.fault told_b)))
+    uncopied (c.in_err-unlink.ensures.fault told_b))

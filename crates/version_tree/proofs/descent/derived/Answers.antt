@@ -1,22 +1,24 @@
-use Rattle.std.proofs.Common.{ℕ, List, Option, refl, sym, subst, ◌∙◌}
+use Rattle.std.proofs.Common.{ℕ, List, Option, refl, sym, ap, subst, ◌∙◌}
 use Rattle.std.specs.Prelude.{IsPermutation}
 use Rattle.std.proofs.lemmas.List.Sorted.{IsPermutation-refl}
-use Rattle.std.proofs.lemmas.Result.{IfOk-weaker, IfErr-weaker}
+use Rattle.std.proofs.lemmas.Result.{IfOk-weaker, IfErr-weaker, on_ok_weaker}
 use Rattle.ex_base.specs.declared.names.Oid.{Oid}
 use Rattle.ex_base.specs.declared.names.Place.{Place}
 use Rattle.ex_base.proofs.Keeping.{keeps_on}
 use Rattle.ex_base.proofs.Results.{if_err_handed}
+use Rattle.object_records.specs.declared.Head.{Head}
 use Rattle.file_bodies.specs.Bodies.{bodies_of}
 use Rattle.file_bodies.specs.Files.{HasBody}
 use Rattle.file_bodies.proofs.Blame.{carried}
 use Rattle.file_bodies.proofs.Moving.{kept_body}
 use Rattle.versions.specs.Versions.{place_of}
-use Rattle.versions.specs.Damage.{own}
+use Rattle.versions.proofs.Results.{ok_of}
 use Rattle.version_tree.specs.Linked.{oids_from}
-use Rattle.version_tree.specs.Links.{IsWalkFault, StoredAt, at_link, by_link, by_walk, to_link}
+use Rattle.version_tree.specs.Links.{IsWalkFault, IsWalkedFrom, ReadOn, StoredAt, by_newer, by_walk, of_body, of_version, ports_own}
 use Rattle.version_tree.specs.declared.links.Stored.{Stored}
 use Rattle.version_tree.proofs.DerivedRows.{linked_readable, one_derived}
-use Rattle.version_tree.proofs.Linking.{kept_linked, link_kept, linked_limits}
+use Rattle.version_tree.proofs.Linking.{kept_linked, linked_limits}
+use Rattle.version_tree.proofs.ReadPlaces.{newer_read, newer_told, none_named, not_some, some_named}
 use Rattle.version_tree.proofs.descent.derived.Goals as goal
 
 pub returns-in_err-version-clause-sound : goal.returns-in_err-version-clause-sound
@@ -24,7 +26,7 @@ returns-in_err-version-clause-sound g c = if_err_handed c.from_residual.result _
     c.in_err-version.ensures.sound damage told index is has (linked_limits g.V.Ground c.args.volume.now index c.args.oid.now is linked has))
 
 pub returns-in_err-version-clause-fault : goal.returns-in_err-version-clause-fault
-returns-in_err-version-clause-fault g c = if_err_handed c.from_residual.result _ _ c.from_residual.ensures.1 (λ told. by_link (c.in_err-version.ensures.fault told))
+returns-in_err-version-clause-fault g c = if_err_handed c.from_residual.result _ _ c.from_residual.ensures.1 (λ told. of_version (c.in_err-version.ensures.fault told))
 
 pub returns-in_err-found-clause-sound : goal.returns-in_err-found-clause-sound
 returns-in_err-found-clause-sound g c = if_err_handed c.from_residual-in_err-found.result _ _ c.from_residual-in_err-found.ensures.1 (λ damage told linked index is has.
@@ -35,7 +37,8 @@ returns-in_err-found-clause-sound g c = if_err_handed c.from_residual-in_err-fou
 
 pub returns-in_err-found-clause-fault : goal.returns-in_err-found-clause-fault
 returns-in_err-found-clause-fault g c = if_err_handed c.from_residual-in_err-found.result _ _ c.from_residual-in_err-found.ensures.1 (λ told.
-    by_link (to_link (link_kept g.V.Ground c.args.volume.now c.stored_version.new.volume _ c.stored_version.ensures.kept c.in_err-found.ensures.fault told)))
+    let v = c.in_ok-version.ensures.reads told in
+    of_body c.in_ok-version.version.body.items v.read.stands (by_newer (newer_told g.V.Ground c.args.volume.now c.stored_version.new.volume c.stored_version.ensures.kept c.args.oid.now c.in_ok-version.version c.in_err-found.field-0.0 v c.in_err-found.ensures.fault told)))
 
 pub returns-in-Some-clause-oids : goal.returns-in-Some-clause-oids
 returns-in-Some-clause-oids g c = IfOk-weaker c.list_one.result _ _ (λ oids one told linked index is has.
@@ -50,11 +53,26 @@ returns-in-Some-clause-oids g c = IfOk-weaker c.list_one.result _ _ (λ oids one
     subst (λ (i : ℕ → List ℕ). IsPermutation (oids_from (place_of c.args.oid.now) (bodies_of i index)) oids.items) kept.images
     (subst (λ (t : List Oid). IsPermutation t oids.items) (sym (here ∙ sym one)) (IsPermutation-refl oids.items))) c.list_one.ensures.one
 
+pub returns-in-Some-clause-reads : goal.returns-in-Some-clause-reads
+returns-in-Some-clause-reads g c = ok_of c.list_one.result _ (λ told.
+    let kept = c.stored_version.ensures.kept in
+    let told_b = g.V.Ground.leads_told c.args.volume.now c.stored_version.new.volume kept.leads told in
+    let v = c.in_ok-version.ensures.reads told in
+    let some = some_named (g.V.Ground.image c.stored_version.new.volume) c.in_ok-version.version.head.newer c.in-Some.newer (subst (λ (o : Option Stored). ReadOn (g.V.Ground.image c.stored_version.new.volume) c.in_ok-version.version.head.newer o) c.in-Some.is (c.in_ok-found.ensures.reads told_b)) in
+    record {
+      body = c.in_ok-version.version.body.items;
+      version = v.version;
+      holds = (
+        newer_read (g.V.Ground.image c.args.volume.now) (g.V.Ground.image c.stored_version.new.volume) kept.images c.args.oid.now c.in_ok-version.version v (c.in_ok-found.ensures.link told_b),
+        λ none. absurd (not_some c.in_ok-version.version.head.newer (ap (λ (h : Head). h.newer) v.read.head ∙ none) some),
+      );
+    })
+
 pub returns-in-Some-clause-sound : goal.returns-in-Some-clause-sound
 returns-in-Some-clause-sound g c = IfErr-weaker c.list_one.result _ _ (λ fault never damage told linked index is has. never damage) c.list_one.ensures.no_damage
 
 pub returns-in-Some-clause-fault : goal.returns-in-Some-clause-fault
-returns-in-Some-clause-fault g c = IfErr-weaker c.list_one.result _ _ (λ fault never told. by_link (to_link (at_link c.in_ok-version.version.place (own never)))) c.list_one.ensures.no_damage
+returns-in-Some-clause-fault g c = IfErr-weaker c.list_one.result _ _ (λ fault never told. of_version (ports_own never)) c.list_one.ensures.no_damage
 
 pub returns-in-Some-clause-cause : goal.returns-in-Some-clause-cause
 returns-in-Some-clause-cause g c = c.list_one.ensures.cause _ _
@@ -69,6 +87,22 @@ returns-clause-oids g c = IfOk-weaker c.list_by_number.result _ _ (λ oids h tol
     (subst (λ (i : ℕ → List ℕ). IsPermutation (oids_from c.in_ok-version.version.place (bodies_of i index)) oids.items) kept.images
     (h told_d index has.body (subst (λ (p : Place). HasBody g.V.Ground c.linked_newer.new.volume index p has.body) (sym at.stands) stands)))) c.list_by_number.ensures.oids
 
+pub returns-clause-reads : goal.returns-clause-reads
+returns-clause-reads g c = on_ok_weaker c.list_by_number.result (λ h told.
+    let kept = c.stored_version.ensures.kept in
+    let told_b = g.V.Ground.leads_told c.args.volume.now c.stored_version.new.volume kept.leads told in
+    let both = keeps_on g.V.Ground c.args.volume.now c.stored_version.new.volume c.linked_newer.new.volume kept c.linked_newer.ensures.kept in
+    let v = c.in_ok-version.ensures.reads told in
+    record {
+      body = c.in_ok-version.version.body.items;
+      version = v.version;
+      holds = (
+        newer_read (g.V.Ground.image c.args.volume.now) (g.V.Ground.image c.stored_version.new.volume) kept.images c.args.oid.now c.in_ok-version.version v (c.in_ok-found.ensures.link told_b),
+        λ none. subst (λ (p : Place). IsWalkedFrom (g.V.Ground.geometry c.args.volume.now) (g.V.Ground.image c.args.volume.now) p) v.read.at
+            (carried g.V.Ground c.args.volume.now c.linked_newer.new.volume (λ y u. IsWalkedFrom y u c.in_ok-version.version.place) both h told),
+      );
+    }) c.list_by_number.ensures.walk
+
 pub returns-clause-sound : goal.returns-clause-sound
 returns-clause-sound g c = IfErr-weaker c.list_by_number.result _ _ (λ fault h damage told linked index is has.
     let kept = keeps_on g.V.Ground c.args.volume.now c.stored_version.new.volume c.linked_newer.new.volume c.stored_version.ensures.kept c.linked_newer.ensures.kept in
@@ -81,4 +115,9 @@ returns-clause-sound g c = IfErr-weaker c.list_by_number.result _ _ (λ fault h 
 pub returns-clause-fault : goal.returns-clause-fault
 returns-clause-fault g c = IfErr-weaker c.list_by_number.result _ _ (λ fault h told.
     let kept = keeps_on g.V.Ground c.args.volume.now c.stored_version.new.volume c.linked_newer.new.volume c.stored_version.ensures.kept c.linked_newer.ensures.kept in
-    by_walk (carried g.V.Ground c.args.volume.now c.linked_newer.new.volume (λ y u. IsWalkFault y u fault) kept h told)) c.list_by_number.ensures.fault
+    let told_b = g.V.Ground.leads_told c.args.volume.now c.stored_version.new.volume c.stored_version.ensures.kept.leads told in
+    let v = c.in_ok-version.ensures.reads told in
+    let none = none_named (g.V.Ground.image c.stored_version.new.volume) c.in_ok-version.version.head.newer (subst (λ (o : Option Stored). ReadOn (g.V.Ground.image c.stored_version.new.volume) c.in_ok-version.version.head.newer o) c.in-None.is (c.in_ok-found.ensures.reads told_b)) in
+    of_body c.in_ok-version.version.body.items v.read.stands (by_walk (ap (λ (b : Head). b.newer) (sym v.read.head) ∙ none)
+    (subst (λ (p : Place). IsWalkFault (g.V.Ground.geometry c.args.volume.now) (g.V.Ground.image c.args.volume.now) p fault) v.read.at
+    (carried g.V.Ground c.args.volume.now c.linked_newer.new.volume (λ y u. IsWalkFault y u c.in_ok-version.version.place fault) kept h told)))) c.list_by_number.ensures.fault

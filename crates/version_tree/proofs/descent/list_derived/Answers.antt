@@ -5,7 +5,8 @@ use Rattle.file_index.specs.Damage.{every_page}
 use Rattle.file_bodies.specs.Damage.{IsListedFault, IsLookFault, page_from}
 use Rattle.file_bodies.proofs.Blame.{carried}
 use Rattle.file_bodies.proofs.Moving.{kept_body}
-use Rattle.versions.specs.Damage.{IsStepFault, walking, stepping}
+use Rattle.versions.specs.Damage.{IsStepFault, on_to, stepping, walking}
+use Rattle.versions.proofs.Listed.{comes_next, walked_out}
 use Rattle.ex_base.proofs.Keeping.{keeps_on}
 use Rattle.version_tree.proofs.DerivedRows.{IsDerived, DerivedTo, derived_none, told_b, file_b, done, first, stands, rises, readable, one_more}
 use Rattle.version_tree.proofs.descent.list_derived.Goals as goal
@@ -38,6 +39,8 @@ pub places-preserved : goal.places-preserved
 places-preserved g c = record {
   kept = keeps_on g.V.Ground c.args.volume.now c.next_place.new.pages c.list_at.new.volume (keeps_on g.V.Ground c.args.volume.now c.places.volume c.next_place.new.pages c.places.invariant.kept c.next_place.ensures.kept) c.list_at.ensures.kept;
   short = c.in-Ok.ensures.short;
+  walked = λ told. on_to c.places.after c.in-Ok-Some.place (c.places.invariant.walked told)
+      (comes_next g.V.Ground c.args.volume.now c.places.volume c.args.file_no c.places.after _ c.in-Ok-Some.place c.places.invariant.kept c.in-Ok-Some.ensures.way c.in-Ok-Some.field-0-is told) c.in-Ok.ensures.rises;
   listed = λ told index file is.
       let tb = told_b g.V.Ground c.args.from c.args.volume.now c.places.volume c.args.file_no c.places.after c.places.oids.items c.places.invariant told index file is in
       let fb = file_b g.V.Ground c.args.from c.args.volume.now c.places.volume c.args.file_no c.places.after c.places.oids.items c.places.invariant told index file is in
@@ -50,10 +53,14 @@ places-preserved g c = record {
 }
 
 pub returns-in-Err-clause-fault : goal.returns-in-Err-clause-fault
-returns-in-Err-clause-fault g c = λ told. walking c.places.after
+returns-in-Err-clause-fault g c = λ told. walking c.places.after (c.places.invariant.walked told)
     (carried g.V.Ground c.args.volume.now c.places.volume (λ y u. IsListedFault u c.args.file_no (λ index. IsLookFault y every_page u index (page_from c.places.after) c.in-Err.fault) c.in-Err.fault) c.places.invariant.kept c.in-Err.ensures.fault told)
 
 pub returns-in-Err-list_at-clause-fault : goal.returns-in-Err-list_at-clause-fault
-returns-in-Err-list_at-clause-fault g c = λ told. stepping c.in-Ok-Some.place
+returns-in-Err-list_at-clause-fault g c = λ told. stepping c.places.after c.in-Ok-Some.place (c.places.invariant.walked told)
+    (comes_next g.V.Ground c.args.volume.now c.places.volume c.args.file_no c.places.after _ c.in-Ok-Some.place c.places.invariant.kept c.in-Ok-Some.ensures.way c.in-Ok-Some.field-0-is told)
     (carried g.V.Ground c.args.volume.now c.next_place.new.pages (λ y u. IsStepFault y u c.in-Ok-Some.place c.in-Err-list_at.fault)
     (keeps_on g.V.Ground c.args.volume.now c.places.volume c.next_place.new.pages c.places.invariant.kept c.next_place.ensures.kept) c.in-Err-list_at.ensures.fault told)
+
+pub returns-in-Ok-None-clause-walk : goal.returns-in-Ok-None-clause-walk
+returns-in-Ok-None-clause-walk g c = λ told. walked_out g.V.Ground c.args.volume.now c.places.volume c.args.file_no c.places.after _ c.places.invariant.kept c.places.invariant.walked c.in-Ok-None.ensures.way c.in-Ok-None.field-0-is told

@@ -1,12 +1,11 @@
-use Rattle.std.proofs.Common.{ℕ, List, sym, ap, subst, arith}
+use Rattle.std.proofs.Common.{ℕ, List, sym, ap, subst, arith, inl, inr}
 use Rattle.ex_base.specs.declared.names.Area.{Area}
 use Rattle.ex_base.specs.declared.names.Area.TheVariants.{Page}
 use Rattle.ex_base.proofs.Results.{if_err_handed}
 use Rattle.object_records.specs.Record.{BodyOf}
 use Rattle.file_bodies.specs.Bodies.{bodies_of}
-use Rattle.version_tree.specs.Removals.{of_file}
 use Rattle.version_tree.proofs.Copying.{just_stand}
-use Rattle.version_tree.proofs.Dropped.{drops, moved_fits, next_named, next_there, older_stays, removing_fault}
+use Rattle.version_tree.proofs.Dropped.{drops, moved_fits, next_named, next_there, older_stays}
 use Rattle.version_tree.proofs.dropping.drop_read.Goals as goal
 
 pub returns-in-Ok-clause-dropped : goal.returns-in-Ok-clause-dropped
@@ -31,7 +30,7 @@ returns-in_err-remove_from_file-clause-sound g c = if_err_handed c.from_residual
     c.in_err-remove_from_file.ensures.sound damage told index c.args.was.now.body.items m.read.has)
 
 pub returns-in_err-remove_from_file-clause-fault : goal.returns-in_err-remove_from_file-clause-fault
-returns-in_err-remove_from_file-clause-fault g c = if_err_handed c.from_residual.result _ _ c.from_residual.ensures.1 (λ told oid. of_file c.args.was.now.place (c.in_err-remove_from_file.ensures.fault told))
+returns-in_err-remove_from_file-clause-fault g c = if_err_handed c.from_residual.result _ _ c.from_residual.ensures.1 (λ told. inl (c.in_err-remove_from_file.ensures.fault told))
 
 pub returns-in_err-put_head-clause-sound : goal.returns-in_err-put_head-clause-sound
 returns-in_err-put_head-clause-sound g c = if_err_handed c.from_residual-in_err-put_head.result _ _ c.from_residual-in_err-put_head.ensures.1 (λ damage told index is m.
@@ -41,10 +40,9 @@ returns-in_err-put_head-clause-sound g c = if_err_handed c.from_residual-in_err-
     c.in_err-put_head.ensures.sound damage told_b gone.after m.next.is there m.next.spelled (moved_fits g.V.Ground c.args.volume.now index c.args.was.now c.args.newer.now c.args.older.now is m))
 
 pub returns-in_err-put_head-clause-fault : goal.returns-in_err-put_head-clause-fault
-returns-in_err-put_head-clause-fault g c = if_err_handed c.from_residual-in_err-put_head.result _ _ c.from_residual-in_err-put_head.ensures.1 (λ told oid.
+returns-in_err-put_head-clause-fault g c = if_err_handed c.from_residual-in_err-put_head.result _ _ c.from_residual-in_err-put_head.ensures.1 (λ told.
     let told_b = g.V.Ground.leads_told c.args.volume.now c.remove_from_file.new.pages c.remove_from_file.ensures.leads told in
-    removing_fault (g.V.Ground.geometry c.args.volume.now) (g.V.Ground.held c.args.volume.now) (g.V.Ground.image c.args.volume.now) (g.V.Ground.held c.put_head.new.volume) (g.V.Ground.image c.put_head.new.volume) oid c.args.newer.now.place _
-    (λ damage. (c.args.newer.now.place, c.in_err-put_head.ensures.fault told_b damage)))
+    inr (inl (c.in_err-put_head.ensures.fault told_b)))
 
 pub returns-in-Err-clause-sound : goal.returns-in-Err-clause-sound
 returns-in-Err-clause-sound g c = λ damage told index is m.
@@ -58,7 +56,7 @@ returns-in-Err-clause-sound g c = λ damage told index is m.
     (next_named g.V.Ground c.args.volume.now c.remove_from_file.new.pages index c.args.was.now c.args.newer.now c.args.older.now is m gone c.put_head.new.volume put)
 
 pub returns-in-Err-clause-fault : goal.returns-in-Err-clause-fault
-returns-in-Err-clause-fault g c = λ told oid.
+returns-in-Err-clause-fault g c = λ told.
     let told_b = g.V.Ground.leads_told c.args.volume.now c.remove_from_file.new.pages c.remove_from_file.ensures.leads told in
     let told_d = g.V.Ground.leads_told c.remove_from_file.new.pages c.put_head.new.volume c.put_head.ensures.leads told_b in
-    removing_fault (g.V.Ground.geometry c.args.volume.now) (g.V.Ground.held c.args.volume.now) (g.V.Ground.image c.args.volume.now) (g.V.Ground.held c.turn_older.new.volume) (g.V.Ground.image c.turn_older.new.volume) oid c.args.was.now.place c.in-Err.fault (c.in-Err.ensures.fault told_d)
+    inr (inr (c.in-Err.ensures.fault told_d))

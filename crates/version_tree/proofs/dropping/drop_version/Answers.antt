@@ -1,5 +1,5 @@
-use Rattle.std.proofs.Common.{◌≡◌, ◌≤◌, ◌+◌, ℕ, true, false, List, length, Option, Some, sym, ap, subst, ◌∙◌, arith}
-use Rattle.std.specs.Prelude.{IsSome}
+use Rattle.std.proofs.Common.{◌≡◌, ◌≤◌, ◌+◌, ◌⊎◌, ℕ, true, false, List, length, Option, Some, sym, ap, subst, ◌∙◌, arith}
+use Rattle.std.specs.Prelude.{IsSome, IsSomeAnd}
 use Rattle.std.proofs.lemmas.Result.{on_ok_weaker, IfOk-weaker, IfErr-weaker}
 use Rattle.ex_base.specs.declared.geometry.Geometry.{Geometry}
 use Rattle.ex_base.specs.declared.names.Area.{Area}
@@ -8,15 +8,18 @@ use Rattle.ex_base.proofs.Keeping.{keeps_on}
 use Rattle.ex_base.proofs.Results.{if_err_handed}
 use Rattle.object_records.specs.Record.{BodyOf}
 use Rattle.object_records.specs.declared.Head.{Head}
+use Rattle.object_records.specs.declared.State.TheVariants.{Frozen}
 use Rattle.file_bodies.specs.Bodies.{bodies_of}
+use Rattle.file_bodies.specs.Damage.{IsTakingFault}
 use Rattle.file_bodies.proofs.Blame.{carried_held}
 use Rattle.file_bodies.proofs.Moving.{kept_body}
 use Rattle.versions.specs.Versions.{place_of}
-use Rattle.versions.specs.Damage.{unread}
-use Rattle.version_tree.specs.Links.{StoredAt, at_link, to_link}
-use Rattle.version_tree.specs.Removals.{IsRemovingFault, of_links}
+use Rattle.versions.specs.Damage.{record_fault}
+use Rattle.version_tree.specs.Links.{IsRecordFault, ReadOn, StoredAt, of_body, of_version}
+use Rattle.version_tree.specs.Removals.{not_asked, of_newer, of_older}
 use Rattle.version_tree.proofs.Dropped.{between_of, kept_drops, none_linked}
-use Rattle.version_tree.proofs.Linking.{head_read, kept_linked, link_kept, linked_limits}
+use Rattle.version_tree.proofs.Linking.{head_read, kept_linked, linked_limits}
+use Rattle.version_tree.proofs.ReadPlaces.{dropping_of, newer_read, newer_told, none_named, not_some, older_read, older_told, other_state, some_named, state_read}
 use Rattle.versions.proofs.Results.{ok_of}
 use Rattle.version_tree.specs.declared.links.Stored.{Stored}
 use Rattle.version_tree.proofs.dropping.drop_version.Goals as goal
@@ -26,7 +29,7 @@ returns-in_err-version-clause-sound g c = if_err_handed c.from_residual.result _
     c.in_err-version.ensures.sound damage told index is has (linked_limits g.V.Ground c.args.volume.now index c.args.oid.now is links has))
 
 pub returns-in_err-version-clause-fault : goal.returns-in_err-version-clause-fault
-returns-in_err-version-clause-fault g c = if_err_handed c.from_residual.result _ _ c.from_residual.ensures.1 (λ told. of_links (c.in_err-version.ensures.fault told))
+returns-in_err-version-clause-fault g c = if_err_handed c.from_residual.result _ _ c.from_residual.ensures.1 (λ told. of_version (c.in_err-version.ensures.fault told))
 
 pub returns-in_err-check-clause-sound : goal.returns-in_err-check-clause-sound
 returns-in_err-check-clause-sound g c = if_err_handed c.from_residual-in_err-check.result _ _ c.from_residual-in_err-check.ensures.1 (λ damage told links index is has frozen some.
@@ -36,7 +39,9 @@ returns-in_err-check-clause-sound g c = if_err_handed c.from_residual-in_err-che
     absurd cc)
 
 pub returns-in_err-check-clause-fault : goal.returns-in_err-check-clause-fault
-returns-in_err-check-clause-fault g c = if_err_handed c.from_residual-in_err-check.result _ _ c.from_residual-in_err-check.ensures.1 (λ told. of_links (to_link (at_link c.in_ok-version.version.place (unread c.in_err-check.ensures.fault.1))))
+returns-in_err-check-clause-fault g c = if_err_handed c.from_residual-in_err-check.result _ _ c.from_residual-in_err-check.ensures.1 (λ told.
+    of_body c.in_ok-version.version.body.items (c.in_ok-version.ensures.reads told).read.stands
+    (not_asked (λ frozen some. other_state (g.V.Ground.image c.args.volume.now) c.args.oid.now c.in_ok-version.version Frozen c.is_frozen.result (c.in_ok-version.ensures.reads told) c.is_frozen.ensures.1 c.in_err-check.ensures.fault.0 frozen) (c.in_err-check.ensures.fault.1 ∙ ap record_fault (c.in_ok-version.ensures.reads told).read.at)))
 
 pub returns-in_err-older-clause-sound : goal.returns-in_err-older-clause-sound
 returns-in_err-older-clause-sound g c = if_err_handed c.from_residual-in_err-older.result _ _ c.from_residual-in_err-older.ensures.1 (λ damage told links index is has frozen some.
@@ -47,7 +52,8 @@ returns-in_err-older-clause-sound g c = if_err_handed c.from_residual-in_err-old
 
 pub returns-in_err-older-clause-fault : goal.returns-in_err-older-clause-fault
 returns-in_err-older-clause-fault g c = if_err_handed c.from_residual-in_err-older.result _ _ c.from_residual-in_err-older.ensures.1 (λ told.
-    of_links (to_link (link_kept g.V.Ground c.args.volume.now c.stored_version.new.volume _ c.stored_version.ensures.kept c.in_err-older.ensures.fault told)))
+    let v = c.in_ok-version.ensures.reads told in
+    of_body c.in_ok-version.version.body.items v.read.stands (of_older (older_told g.V.Ground c.args.volume.now c.stored_version.new.volume c.stored_version.ensures.kept c.args.oid.now c.in_ok-version.version c.in_err-older.field-0.0 v c.in_err-older.ensures.fault told)))
 
 pub returns-in_err-found-clause-sound : goal.returns-in_err-found-clause-sound
 returns-in_err-found-clause-sound g c = if_err_handed c.from_residual-in_err-found.result _ _ c.from_residual-in_err-found.ensures.1 (λ damage told links index is has frozen some.
@@ -58,8 +64,9 @@ returns-in_err-found-clause-sound g c = if_err_handed c.from_residual-in_err-fou
 
 pub returns-in_err-found-clause-fault : goal.returns-in_err-found-clause-fault
 returns-in_err-found-clause-fault g c = if_err_handed c.from_residual-in_err-found.result _ _ c.from_residual-in_err-found.ensures.1 (λ told.
-    of_links (to_link (link_kept g.V.Ground c.args.volume.now c.linked_older.new.volume _
-    (keeps_on g.V.Ground c.args.volume.now c.stored_version.new.volume c.linked_older.new.volume c.stored_version.ensures.kept c.linked_older.ensures.kept) c.in_err-found.ensures.fault told)))
+    let v = c.in_ok-version.ensures.reads told in
+    of_body c.in_ok-version.version.body.items v.read.stands (of_newer (newer_told g.V.Ground c.args.volume.now c.linked_older.new.volume
+    (keeps_on g.V.Ground c.args.volume.now c.stored_version.new.volume c.linked_older.new.volume c.stored_version.ensures.kept c.linked_older.ensures.kept) c.args.oid.now c.in_ok-version.version c.in_err-found.field-0.0 v c.in_err-found.ensures.fault told)))
 
 pub returns-clause-sound : goal.returns-clause-sound
 returns-clause-sound g c = λ damage told links index is has frozen some.
@@ -73,7 +80,32 @@ returns-clause-sound g c = λ damage told links index is has frozen some.
     (subst (λ (h : Head). IsSome h.newer) (sym (head_read g.V.Ground has.body is c.in_ok-version.version.head has.spelled at.head)) some)
 
 pub returns-clause-fault : goal.returns-clause-fault
-returns-clause-fault g c = λ told. of_links (to_link (at_link c.in_ok-version.version.place (unread c.no_record.ensures.is)))
+returns-clause-fault g c = λ told.
+    let both = keeps_on g.V.Ground c.args.volume.now c.stored_version.new.volume c.linked_older.new.volume c.stored_version.ensures.kept c.linked_older.ensures.kept in
+    let told_d = g.V.Ground.leads_told c.args.volume.now c.linked_older.new.volume both.leads told in
+    let v = c.in_ok-version.ensures.reads told in
+    let none = none_named (g.V.Ground.image c.linked_older.new.volume) c.in_ok-version.version.head.newer (subst (λ (o : Option Stored). ReadOn (g.V.Ground.image c.linked_older.new.volume) c.in_ok-version.version.head.newer o) c.in-None.is (c.in_ok-found.ensures.reads told_d)) in
+    of_body c.in_ok-version.version.body.items v.read.stands
+    (not_asked (λ frozen some. not_some c.in_ok-version.version.head.newer none (subst (λ (h : Head). IsSome h.newer) (sym v.read.head) some)) (c.no_record.ensures.is ∙ ap record_fault v.read.at))
+
+pub returns-in-Some-clause-reads : goal.returns-in-Some-clause-reads
+returns-in-Some-clause-reads g c = ok_of c.drop_read.result _ (λ told.
+    let kept = c.stored_version.ensures.kept in
+    let told_b = g.V.Ground.leads_told c.args.volume.now c.stored_version.new.volume kept.leads told in
+    let v = c.in_ok-version.ensures.reads told in
+    let both = keeps_on g.V.Ground c.args.volume.now c.stored_version.new.volume c.linked_older.new.volume kept c.linked_older.ensures.kept in
+    let told_d = g.V.Ground.leads_told c.args.volume.now c.linked_older.new.volume both.leads told in
+    let some = some_named (g.V.Ground.image c.linked_older.new.volume) c.in_ok-version.version.head.newer c.in-Some.newer (subst (λ (o : Option Stored). ReadOn (g.V.Ground.image c.linked_older.new.volume) c.in_ok-version.version.head.newer o) c.in-Some.is (c.in_ok-found.ensures.reads told_d)) in
+    record {
+      body = c.in_ok-version.version.body.items;
+      version = v.version;
+      holds = (
+        state_read (g.V.Ground.image c.args.volume.now) (g.V.Ground.image c.stored_version.new.volume) kept.images c.args.oid.now c.in_ok-version.version v Frozen (c.is_frozen.ensures.0 c.in_ok-check.ensures.holds),
+        older_read (g.V.Ground.image c.args.volume.now) (g.V.Ground.image c.stored_version.new.volume) kept.images c.args.oid.now c.in_ok-version.version v (c.in_ok-older.ensures.link told_b),
+        subst (λ (h : Head). IsSome h.newer) v.read.head some,
+        newer_read (g.V.Ground.image c.args.volume.now) (g.V.Ground.image c.linked_older.new.volume) both.images c.args.oid.now c.in_ok-version.version v (c.in_ok-found.ensures.link told_d),
+      );
+    })
 
 pub returns-in-Some-clause-asked : goal.returns-in-Some-clause-asked
 returns-in-Some-clause-asked g c = ok_of c.drop_read.result _ (λ told index is has.
@@ -96,9 +128,19 @@ returns-in-Some-clause-touches g c = on_ok_weaker c.drop_read.result (λ t. omeg
 
 pub returns-in-Some-clause-fault : goal.returns-in-Some-clause-fault
 returns-in-Some-clause-fault g c = IfErr-weaker c.drop_read.result _ _ (λ fault h told.
-    let kept = keeps_on g.V.Ground c.args.volume.now c.linked_older.new.volume c.linked_newer.new.volume
-    (keeps_on g.V.Ground c.args.volume.now c.stored_version.new.volume c.linked_older.new.volume c.stored_version.ensures.kept c.linked_older.ensures.kept) c.linked_newer.ensures.kept in
-    carried_held g.V.Ground c.args.volume.now c.linked_newer.new.volume (λ y k u. IsRemovingFault y k u (g.V.Ground.held c.drop_read.new.volume) (g.V.Ground.image c.drop_read.new.volume) c.args.oid.now fault) kept (λ later. h later c.args.oid.now) told) c.drop_read.ensures.fault
+    let ab = c.stored_version.ensures.kept in
+    let ad = keeps_on g.V.Ground c.args.volume.now c.stored_version.new.volume c.linked_older.new.volume ab c.linked_older.ensures.kept in
+    let kept = keeps_on g.V.Ground c.args.volume.now c.linked_older.new.volume c.linked_newer.new.volume ad c.linked_newer.ensures.kept in
+    let told_b = g.V.Ground.leads_told c.args.volume.now c.stored_version.new.volume ab.leads told in
+    let told_d = g.V.Ground.leads_told c.args.volume.now c.linked_older.new.volume ad.leads told in
+    let v = c.in_ok-version.ensures.reads told in
+    let down = subst (λ (o : Option Stored). ReadOn (g.V.Ground.image c.linked_older.new.volume) c.in_ok-version.version.head.newer o) c.in-Some.is (c.in_ok-found.ensures.reads told_d) in
+    of_body c.in_ok-version.version.body.items v.read.stands
+    (dropping_of g.V.Ground c.args.volume.now c.drop_read.new.volume (g.V.Ground.image c.stored_version.new.volume) (g.V.Ground.image c.linked_older.new.volume)
+    c.args.oid.now c.in_ok-version.version c.in-Some.newer c.in_ok-older.older fault v (c.in_ok-older.ensures.reads told_b) down
+    (carried_held g.V.Ground c.args.volume.now c.linked_newer.new.volume
+    (λ y k u. IsTakingFault y k u (g.V.Ground.held c.drop_read.new.volume) (g.V.Ground.image c.drop_read.new.volume) c.in_ok-version.version.place fault
+    ⊎ IsRecordFault c.in-Some.newer.place fault ⊎ IsSomeAnd c.in_ok-older.older (λ (s : Stored). IsRecordFault s.place fault)) kept h told))) c.drop_read.ensures.fault
 
 pub returns-in-Some-clause-dropped : goal.returns-in-Some-clause-dropped
 returns-in-Some-clause-dropped g c = on_ok_weaker c.drop_read.result (λ h told links index is has.

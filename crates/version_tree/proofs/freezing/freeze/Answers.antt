@@ -1,20 +1,26 @@
-use Rattle.std.proofs.Common.{◌≡◌, ◌≤◌, ◌+◌, ℕ, List, true, false, length, sym, ap, subst, ◌∙◌, arith}
+use Rattle.std.proofs.Common.{◌≡◌, ◌≤◌, ◌+◌, ◌⊎◌, ℕ, List, true, false, length, sym, ap, subst, ◌∙◌, arith}
+use Rattle.std.specs.Prelude.{IsSomeAnd}
 use Rattle.ex_base.specs.declared.names.Oid.{Oid}
-use Rattle.object_records.specs.Record.{BodyOf}
+use Rattle.ex_base.specs.Ports.{IsDamage}
+use Rattle.object_records.specs.Record.{Record, BodyOf}
+use Rattle.index_pages.specs.declared.Index.{Index}
 use Rattle.ex_base.specs.declared.geometry.Geometry.{Geometry}
 use Rattle.ex_base.specs.declared.names.Area.{Area}
 use Rattle.ex_base.specs.declared.names.Area.TheVariants.{Page}
 use Rattle.ex_base.proofs.Keeping.{keeps_on}
 use Rattle.ex_base.proofs.Results.{if_err_handed}
 use Rattle.object_records.specs.declared.Head.{Head}
+use Rattle.object_records.specs.declared.State.TheVariants.{Current}
 use Rattle.file_bodies.proofs.Blame.{carried_held}
 use Rattle.file_bodies.proofs.Moving.{kept_body}
 use Rattle.versions.specs.Versions.{place_of}
-use Rattle.version_tree.specs.Copies.{Freezes, IsCopyFault, copying, linked}
-use Rattle.versions.specs.Damage.{unread}
-use Rattle.version_tree.specs.Links.{at_link, to_link}
-use Rattle.version_tree.proofs.Copying.{kept_freezes, read_of}
-use Rattle.version_tree.proofs.Linking.{head_read, kept_linked, link_kept, linked_limits}
+use Rattle.version_tree.specs.Copies.{Freezes, IsCopyFault, IsVersionIn, not_current, of_older}
+use Rattle.versions.specs.Damage.{record_fault}
+use Rattle.version_tree.specs.Links.{IsRecordFault, of_body, of_version}
+use Rattle.version_tree.specs.declared.links.Stored.{Stored}
+use Rattle.version_tree.proofs.Copying.{kept_freezes, read_of, version_in}
+use Rattle.version_tree.proofs.Linking.{head_read, kept_linked, linked_limits}
+use Rattle.version_tree.proofs.ReadPlaces.{first_kept, freezing_of, older_read, older_told, other_state, out_of, state_read}
 use Rattle.version_tree.proofs.freezing.freeze.Goals as goal
 
 pub returns-in_err-version-clause-sound : goal.returns-in_err-version-clause-sound
@@ -22,7 +28,7 @@ returns-in_err-version-clause-sound g c = if_err_handed c.from_residual.result _
     c.in_err-version.ensures.sound damage told index is has (linked_limits g.V.Ground c.args.volume.now index c.args.oid.now is links has))
 
 pub returns-in_err-version-clause-fault : goal.returns-in_err-version-clause-fault
-returns-in_err-version-clause-fault g c = if_err_handed c.from_residual.result _ _ c.from_residual.ensures.1 (λ told. linked (c.in_err-version.ensures.fault told))
+returns-in_err-version-clause-fault g c = if_err_handed c.from_residual.result _ _ c.from_residual.ensures.1 (λ told. of_version (c.in_err-version.ensures.fault told))
 
 pub returns-in_err-check-clause-sound : goal.returns-in_err-check-clause-sound
 returns-in_err-check-clause-sound g c = if_err_handed c.from_residual-in_err-check.result _ _ c.from_residual-in_err-check.ensures.1 (λ damage told links index is has current file.
@@ -32,7 +38,9 @@ returns-in_err-check-clause-sound g c = if_err_handed c.from_residual-in_err-che
     absurd cc)
 
 pub returns-in_err-check-clause-fault : goal.returns-in_err-check-clause-fault
-returns-in_err-check-clause-fault g c = if_err_handed c.from_residual-in_err-check.result _ _ c.from_residual-in_err-check.ensures.1 (λ told. linked (to_link (at_link c.in_ok-version.version.place (unread c.in_err-check.ensures.fault.1))))
+returns-in_err-check-clause-fault g c = if_err_handed c.from_residual-in_err-check.result _ _ c.from_residual-in_err-check.ensures.1 (λ told.
+    of_body c.in_ok-version.version.body.items (c.in_ok-version.ensures.reads told).read.stands
+    (not_current (other_state (g.V.Ground.image c.args.volume.now) c.args.oid.now c.in_ok-version.version Current c.is_current.result (c.in_ok-version.ensures.reads told) c.is_current.ensures.1 c.in_err-check.ensures.fault.0) (c.in_err-check.ensures.fault.1 ∙ ap record_fault (c.in_ok-version.ensures.reads told).read.at)))
 
 pub returns-in_err-older-clause-sound : goal.returns-in_err-older-clause-sound
 returns-in_err-older-clause-sound g c = if_err_handed c.from_residual-in_err-older.result _ _ c.from_residual-in_err-older.ensures.1 (λ damage told links index is has current file.
@@ -43,7 +51,8 @@ returns-in_err-older-clause-sound g c = if_err_handed c.from_residual-in_err-old
 
 pub returns-in_err-older-clause-fault : goal.returns-in_err-older-clause-fault
 returns-in_err-older-clause-fault g c = if_err_handed c.from_residual-in_err-older.result _ _ c.from_residual-in_err-older.ensures.1 (λ told.
-    linked (to_link (link_kept g.V.Ground c.args.volume.now c.stored_version.new.volume _ c.stored_version.ensures.kept c.in_err-older.ensures.fault told)))
+    let v = c.in_ok-version.ensures.reads told in
+    of_body c.in_ok-version.version.body.items v.read.stands (of_older (older_told g.V.Ground c.args.volume.now c.stored_version.new.volume c.stored_version.ensures.kept c.args.oid.now c.in_ok-version.version c.in_err-older.field-0.0 v c.in_err-older.ensures.fault told)))
 
 pub returns-in-Ok-clause-frozen : goal.returns-in-Ok-clause-frozen
 returns-in-Ok-clause-frozen g c = λ told links index is has file.
@@ -63,6 +72,17 @@ returns-in-Ok-clause-frozen g c = λ told links index is has file.
     (kept_freezes g.V.Ground c.args.volume.now c.linked_older.new.volume c.freeze_read.new.volume index c.in_ok-version.version.place (place_of c.args.oid.now) is _ at.stands
     (keeps_on g.V.Ground c.args.volume.now c.stored_version.new.volume c.linked_older.new.volume kept later)
     (c.in-Ok.ensures.frozen told_d index is read current file))
+
+pub returns-in-Ok-clause-reads : goal.returns-in-Ok-clause-reads
+returns-in-Ok-clause-reads g c = λ told.
+    let kept = c.stored_version.ensures.kept in
+    let told_b = g.V.Ground.leads_told c.args.volume.now c.stored_version.new.volume kept.leads told in
+    let v = c.in_ok-version.ensures.reads told in
+    record {
+      body = c.in_ok-version.version.body.items;
+      version = v.version;
+      holds = (state_read (g.V.Ground.image c.args.volume.now) (g.V.Ground.image c.stored_version.new.volume) kept.images c.args.oid.now c.in_ok-version.version v Current (c.is_current.ensures.0 c.in_ok-check.ensures.holds), older_read (g.V.Ground.image c.args.volume.now) (g.V.Ground.image c.stored_version.new.volume) kept.images c.args.oid.now c.in_ok-version.version v (c.in_ok-older.ensures.link told_b));
+    }
 
 pub returns-in-Ok-clause-come : goal.returns-in-Ok-clause-come
 returns-in-Ok-clause-come g c = λ told index is has.
@@ -93,5 +113,20 @@ returns-clause-sound g c = λ damage told links index is has current file.
     c.in-Err.ensures.sound damage told_d index is read current file
 
 pub returns-clause-fault : goal.returns-clause-fault
-returns-clause-fault g c = λ told. copying (carried_held g.V.Ground c.args.volume.now c.linked_older.new.volume (λ y k u. IsCopyFault y k u c.args.room.now c.in-Err.fault)
-    (keeps_on g.V.Ground c.args.volume.now c.stored_version.new.volume c.linked_older.new.volume c.stored_version.ensures.kept c.linked_older.ensures.kept) c.in-Err.ensures.fault told)
+returns-clause-fault g c = λ told.
+    let kept = c.stored_version.ensures.kept in
+    let both = keeps_on g.V.Ground c.args.volume.now c.stored_version.new.volume c.linked_older.new.volume kept c.linked_older.ensures.kept in
+    let told_b = g.V.Ground.leads_told c.args.volume.now c.stored_version.new.volume kept.leads told in
+    let v = c.in_ok-version.ensures.reads told in
+    of_body c.in_ok-version.version.body.items v.read.stands
+    (freezing_of g.V.Ground c.args.volume.now (g.V.Ground.image c.stored_version.new.volume) c.args.room.now c.args.oid.now c.in_ok-version.version c.in_ok-older.older c.in-Err.fault v (c.in_ok-older.ensures.reads told_b)
+    (first_kept
+    (λ h. (
+      h.0,
+      λ damage. out_of g.V.Ground c.args.volume.now c.args.room.now c.args.oid.now c.in_ok-version.version v (λ index is has file. h.1 damage index is
+          (version_in g.V.Ground c.args.volume.now c.linked_older.new.volume index (place_of c.args.oid.now) has.body is c.in_ok-version.version both has.stands has.spelled (c.in_ok-version.ensures.stored told index is has) (c.in_ok-version.ensures.fits told index is has)) file),
+    ))
+    (carried_held g.V.Ground c.args.volume.now c.linked_older.new.volume
+    (λ y k u. (IsCopyFault y k u c.args.room.now c.in_ok-version.version.place c.in_ok-version.version.body.items c.in-Err.fault
+    × (IsDamage c.in-Err.fault → (index : Index) (is : Record) → IsVersionIn g.V.Ground c.linked_older.new.volume index c.in_ok-version.version is → index.file_no ≡ c.args.room.now.file_no → ⊥))
+    ⊎ IsSomeAnd c.in_ok-older.older (λ (s : Stored). IsRecordFault s.place c.in-Err.fault)) both c.in-Err.ensures.fault told)))

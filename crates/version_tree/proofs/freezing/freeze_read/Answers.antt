@@ -1,12 +1,11 @@
-use Rattle.std.proofs.Common.{ℕ, ap, arith}
+use Rattle.std.proofs.Common.{ℕ, ap, arith, inl, inr}
 use Rattle.ex_base.specs.declared.names.Area.{Area}
 use Rattle.ex_base.specs.declared.names.Area.TheVariants.{Page}
 use Rattle.ex_base.proofs.Results.{if_err_handed}
 use Rattle.file_bodies.specs.Bodies.{bodies_of}
 use Rattle.version_tree.specs.Bodies.{frozen_head, with_head}
-use Rattle.version_tree.specs.Copies.{unwritten}
-use Rattle.version_tree.proofs.Copying.{copied_stands, copy_fault, copy_head, copy_named, froze, just_stand, moved_head, older_frozen}
-use Rattle.version_tree.proofs.Linking.{step_of}
+use Rattle.version_tree.specs.Copies.{uncopied}
+use Rattle.version_tree.proofs.Copying.{behind_fits, copied_stands, copy_head, copy_named, froze, frozen_fits, just_stand, moved_head, older_frozen}
 use Rattle.version_tree.proofs.freezing.freeze_read.Goals as goal
 
 pub returns-clause-frozen : goal.returns-clause-frozen
@@ -36,7 +35,11 @@ returns-in_err-place-clause-sound g c = if_err_handed c.from_residual.result _ _
     (copy_head g.V.Ground c.args.volume.now c.args.volume.now index c.args.was.now c.args.older.now is read current c.args.unique c.args.was.now.place))
 
 pub returns-in_err-place-clause-fault : goal.returns-in_err-place-clause-fault
-returns-in_err-place-clause-fault g c = if_err_handed c.from_residual.result _ _ c.from_residual.ensures.1 (λ told. c.in_err-place.ensures.fault told)
+returns-in_err-place-clause-fault g c = if_err_handed c.from_residual.result _ _ c.from_residual.ensures.1 (λ told. inl (
+  c.in_err-place.ensures.fault told,
+  λ damage index is v file.
+      c.in_err-place.ensures.sound damage told index is v.has file v.fits v.spelled (frozen_fits g.V.Ground c.args.volume.now index c.args.was.now is c.args.unique v),
+))
 
 pub returns-in_err-put_head-clause-sound : goal.returns-in_err-put_head-clause-sound
 returns-in_err-put_head-clause-sound g c = if_err_handed c.from_residual-in_err-put_head.result _ _ c.from_residual-in_err-put_head.ensures.1 (λ damage told index is read current file.
@@ -50,7 +53,15 @@ returns-in_err-put_head-clause-sound g c = if_err_handed c.from_residual-in_err-
 pub returns-in_err-put_head-clause-fault : goal.returns-in_err-put_head-clause-fault
 returns-in_err-put_head-clause-fault g c = if_err_handed c.from_residual-in_err-put_head.result _ _ c.from_residual-in_err-put_head.ensures.1 (λ told.
     let told_b = g.V.Ground.leads_told c.args.volume.now c.put_copy.new.volume c.put_copy.ensures.leads told in
-    unwritten c.args.was.now.place (step_of (g.V.Ground.geometry c.args.volume.now) (g.V.Ground.image c.args.volume.now) c.args.was.now.place _ (c.in_err-put_head.ensures.fault told_b)))
+    inl (
+      uncopied (c.in_err-put_head.ensures.fault told_b),
+      λ damage index is v file.
+          let copied = c.in_ok-place.ensures.copies told index is v.has.file file v.spelled in
+          let stands = copied_stands g.V.Ground c.args.volume.now c.put_copy.new.volume index c.in_ok-place.place (with_head (frozen_head c.args.unique c.args.was.now.place c.args.was.now.head) is) copied c.args.was.now v.has in
+          c.in_err-put_head.ensures.sound damage told_b copied.puts.after is stands v.spelled
+          (behind_fits g.V.Ground c.args.volume.now index c.args.was.now is c.in_ok-place.place v
+          (copy_named g.V.Ground c.args.volume.now c.put_copy.new.volume index c.in_ok-place.place (with_head (frozen_head c.args.unique c.args.was.now.place c.args.was.now.head) is) copied)),
+    ))
 
 pub returns-in_err-turn_older-clause-sound : goal.returns-in_err-turn_older-clause-sound
 returns-in_err-turn_older-clause-sound g c = if_err_handed c.from_residual-in_err-turn_older.result _ _ c.from_residual-in_err-turn_older.ensures.1 (λ damage told index is read current file.
@@ -67,4 +78,4 @@ pub returns-in_err-turn_older-clause-fault : goal.returns-in_err-turn_older-clau
 returns-in_err-turn_older-clause-fault g c = if_err_handed c.from_residual-in_err-turn_older.result _ _ c.from_residual-in_err-turn_older.ensures.1 (λ told.
     let told_b = g.V.Ground.leads_told c.args.volume.now c.put_copy.new.volume c.put_copy.ensures.leads told in
     let told_d = g.V.Ground.leads_told c.put_copy.new.volume c.put_head.new.volume c.put_head.ensures.leads told_b in
-    copy_fault (g.V.Ground.geometry c.args.volume.now) (g.V.Ground.held c.args.volume.now) (g.V.Ground.image c.args.volume.now) c.args.room.now c.args.was.now.place _ (c.in_err-turn_older.ensures.fault told_d))
+    inr (c.in_err-turn_older.ensures.fault told_d))

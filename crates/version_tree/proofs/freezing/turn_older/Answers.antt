@@ -3,6 +3,7 @@ use Rattle.std.proofs.lemmas.Result.{on_ok_weaker, IfErr-weaker}
 use Rattle.ex_base.proofs.Options.{at_some}
 use Rattle.version_tree.specs.Links.{StoredAt}
 use Rattle.version_tree.proofs.Copying.{none_older, turned_older}
+use Rattle.version_tree.proofs.ReadPlaces.{some_and}
 use Rattle.version_tree.proofs.freezing.turn_older.Goals as goal
 
 pub returns-in-None-clause-turned : goal.returns-in-None-clause-turned
@@ -19,4 +20,4 @@ returns-in-Some-clause-sound g c = IfErr-weaker c.turn_stored.result _ _ (λ fau
     h damage told index (at_some c.args.older.now c.in-Some.stored _ c.in-Some.is frozen) named) c.turn_stored.ensures.sound
 
 pub returns-in-Some-clause-fault : goal.returns-in-Some-clause-fault
-returns-in-Some-clause-fault g c = IfErr-weaker c.turn_stored.result _ _ (λ fault h told damage. (c.in-Some.stored.place, h told damage)) c.turn_stored.ensures.fault
+returns-in-Some-clause-fault g c = IfErr-weaker c.turn_stored.result _ _ (λ fault h told. some_and c.args.older.now c.in-Some.stored _ c.in-Some.is (h told)) c.turn_stored.ensures.fault

@@ -1,11 +1,11 @@
-use Rattle.std.proofs.Common.{ℕ, List, length, sym, subst, arith}
+use Rattle.std.proofs.Common.{ℕ, List, length, sym, ap, subst, ◌∙◌, arith}
 use Rattle.std.proofs.lemmas.Result.{IfOk-weaker, IfErr-weaker}
 use Rattle.ex_base.proofs.Results.{cause_handed, if_err_handed}
 use Rattle.object_records.specs.Record.{BodyOf}
+use Rattle.file_bodies.specs.Damage.{IsListedFault, IsPlacingFault}
+use Rattle.file_bodies.specs.Placing.{start_of}
 use Rattle.version_tree.specs.Bodies.{with_head}
-use Rattle.version_tree.specs.Copies.{unplaced, unwritten}
-use Rattle.versions.specs.Damage.{unread}
-use Rattle.version_tree.proofs.Linking.{step_of}
+use Rattle.version_tree.specs.Copies.{uncopied, unplaced}
 use Rattle.version_tree.proofs.heads.put_copy.Goals as goal
 
 pub returns-in_err-body-clause-cause : goal.returns-in_err-body-clause-cause
@@ -19,11 +19,13 @@ returns-clause-copies g c = IfOk-weaker c.place_body.result _ _ (λ place puts t
 }) c.place_body.ensures.anywhere
 
 pub returns-clause-fault : goal.returns-clause-fault
-returns-clause-fault g c = IfErr-weaker c.place_body.result _ _ (λ fault h told. unplaced (length c.deref.result.now) (h told)) c.place_body.ensures.fault
+returns-clause-fault g c = IfErr-weaker c.place_body.result _ _ (λ fault h told. unplaced
+    (subst (λ (n : ℕ). IsListedFault (g.V.Ground.image c.args.volume.now) c.args.room.now.file_no
+    (λ index. IsPlacingFault (g.V.Ground.geometry c.args.volume.now) (g.V.Ground.held c.args.volume.now) (g.V.Ground.image c.args.volume.now) index (start_of c.args.room.now n) fault) fault)
+    (ap (λ (t : List ℕ). length t) c.deref.ensures.value ∙ c.in_ok-body.ensures.len) (h told))) c.place_body.ensures.fault
 
 pub returns-in_err-body-clause-fault : goal.returns-in_err-body-clause-fault
-returns-in_err-body-clause-fault g c = if_err_handed c.from_residual.result _ _ c.from_residual.ensures.1 (λ told.
-    unwritten c.args.stored.now.place (step_of (g.V.Ground.geometry c.args.volume.now) (g.V.Ground.image c.args.volume.now) c.args.stored.now.place _ c.in_err-body.ensures.fault))
+returns-in_err-body-clause-fault g c = if_err_handed c.from_residual.result _ _ c.from_residual.ensures.1 (λ told. uncopied c.in_err-body.ensures.fault)
 
 pub returns-in_err-check-clause-fault : goal.returns-in_err-check-clause-fault
-returns-in_err-check-clause-fault g c = if_err_handed c.from_residual-in_err-check.result _ _ c.from_residual-in_err-check.ensures.1 (λ told. unwritten c.args.stored.now.place (unread c.in_err-check.ensures.fault.1))
+returns-in_err-check-clause-fault g c = if_err_handed c.from_residual-in_err-check.result _ _ c.from_residual-in_err-check.ensures.1 (λ told. uncopied (λ damage. c.in_err-check.ensures.fault.1))

@@ -2,8 +2,9 @@ use Rattle.ex_base.proofs.Results.{if_err_handed}
 use Rattle.file_bodies.proofs.Moving.{kept_body}
 use Rattle.object_records.specs.declared.Head.{Head}
 use Rattle.versions.specs.Versions.{place_of}
-use Rattle.version_tree.specs.Links.{to_link}
-use Rattle.version_tree.proofs.Linking.{kept_linked, linked_limits, link_kept, neighbour_told}
+use Rattle.version_tree.specs.Links.{of_body, of_version}
+use Rattle.version_tree.proofs.Linking.{kept_linked, linked_limits, neighbour_told}
+use Rattle.version_tree.proofs.ReadPlaces.{newer_read, newer_told, oid_of_link}
 use Rattle.version_tree.proofs.neighbours.newer.Goals as goal
 
 pub returns-in_err-stored-clause-sound : goal.returns-in_err-stored-clause-sound
@@ -11,7 +12,7 @@ returns-in_err-stored-clause-sound g c = if_err_handed c.from_residual.result _ 
     c.in_err-stored.ensures.sound damage told index is has (linked_limits g.V.Ground c.args.volume.now index c.args.oid.now is linked has))
 
 pub returns-in_err-stored-clause-fault : goal.returns-in_err-stored-clause-fault
-returns-in_err-stored-clause-fault g c = if_err_handed c.from_residual.result _ _ c.from_residual.ensures.1 (λ told. c.in_err-stored.ensures.fault told)
+returns-in_err-stored-clause-fault g c = if_err_handed c.from_residual.result _ _ c.from_residual.ensures.1 (λ told. of_version (c.in_err-stored.ensures.fault told))
 
 pub returns-in-Ok-clause-told : goal.returns-in-Ok-clause-told
 returns-in-Ok-clause-told g c = λ told linked index is has.
@@ -22,6 +23,20 @@ returns-in-Ok-clause-told g c = λ told linked index is has.
     neighbour_told g.V.Ground c.args.volume.now c.stored_version.new.volume index has.body is c.in_ok-stored.stored.head c.in-Ok.found c.oid_read.result (λ (h : Head). h.newer) kept has.spelled at.head
     (c.in-Ok.ensures.newer told_b (kept_linked g.V.Ground c.args.volume.now c.stored_version.new.volume kept linked) index (place_of c.args.oid.now) has.body stands at) c.oid_read.ensures
 
+pub returns-in-Ok-clause-reads : goal.returns-in-Ok-clause-reads
+returns-in-Ok-clause-reads g c = λ told.
+    let kept = c.stored_version.ensures.kept in
+    let told_b = g.V.Ground.leads_told c.args.volume.now c.stored_version.new.volume kept.leads told in
+    let v = c.in_ok-stored.ensures.reads told in
+    record {
+      body = c.in_ok-stored.stored.body.items;
+      version = v.version;
+      holds = (
+        newer_read (g.V.Ground.image c.args.volume.now) (g.V.Ground.image c.stored_version.new.volume) kept.images c.args.oid.now c.in_ok-stored.stored v (c.in-Ok.ensures.link told_b),
+        oid_of_link (g.V.Ground.image c.args.volume.now) (g.V.Ground.image c.stored_version.new.volume) kept.images c.args.oid.now c.in_ok-stored.stored v (λ (h : Head). h.newer) c.in-Ok.found c.oid_read.result (c.in-Ok.ensures.reads told_b) c.oid_read.ensures,
+      );
+    }
+
 pub returns-clause-sound : goal.returns-clause-sound
 returns-clause-sound g c = λ damage told linked index is has.
     let kept = c.stored_version.ensures.kept in
@@ -30,4 +45,6 @@ returns-clause-sound g c = λ damage told linked index is has.
     c.in-Err.ensures.sound damage told_b (kept_linked g.V.Ground c.args.volume.now c.stored_version.new.volume kept linked) index (place_of c.args.oid.now) has.body stands (c.in_ok-stored.ensures.stored told index is has)
 
 pub returns-clause-fault : goal.returns-clause-fault
-returns-clause-fault g c = λ told. to_link (link_kept g.V.Ground c.args.volume.now c.stored_version.new.volume c.in-Err.fault c.stored_version.ensures.kept c.in-Err.ensures.fault told)
+returns-clause-fault g c = λ told.
+    let v = c.in_ok-stored.ensures.reads told in
+    of_body c.in_ok-stored.stored.body.items v.read.stands (newer_told g.V.Ground c.args.volume.now c.stored_version.new.volume c.stored_version.ensures.kept c.args.oid.now c.in_ok-stored.stored c.in-Err.fault v c.in-Err.ensures.fault told)

@@ -4,6 +4,7 @@ use Rattle.ex_base.proofs.Options.{at_some}
 use Rattle.version_tree.specs.Links.{StoredAt}
 use Rattle.version_tree.specs.Removals.{other_from}
 use Rattle.version_tree.proofs.TakenOut.{named_other, none_other}
+use Rattle.version_tree.proofs.ReadPlaces.{some_and}
 use Rattle.version_tree.proofs.taking_out.name_other.Goals as goal
 
 pub returns-in-None-clause-named : goal.returns-in-None-clause-named
@@ -20,4 +21,4 @@ returns-in-Some-clause-sound g c = IfErr-weaker c.name_newer.result _ _ (λ faul
     h damage told index (at_some c.args.older.now c.in-Some.stored _ c.in-Some.is frozen) named) c.name_newer.ensures.sound
 
 pub returns-in-Some-clause-fault : goal.returns-in-Some-clause-fault
-returns-in-Some-clause-fault g c = IfErr-weaker c.name_newer.result _ _ (λ fault h told damage. (c.in-Some.stored.place, h told damage)) c.name_newer.ensures.fault
+returns-in-Some-clause-fault g c = IfErr-weaker c.name_newer.result _ _ (λ fault h told. some_and c.args.older.now c.in-Some.stored _ c.in-Some.is (h told)) c.name_newer.ensures.fault

@@ -1,4 +1,5 @@
-use Rattle.std.proofs.Common.{◌≡◌, ◌≤◌, ◌+◌, ℕ, true, false, List, length, sym, ap, subst, ◌∙◌, arith}
+use Rattle.std.proofs.Common.{◌≡◌, ◌≤◌, ◌+◌, ◌⊎◌, ℕ, true, false, List, length, sym, ap, subst, ◌∙◌, arith}
+use Rattle.std.specs.Prelude.{IfSome, IsSomeAnd}
 use Rattle.std.proofs.lemmas.Result.{on_ok_weaker, IfOk-weaker, IfErr-weaker}
 use Rattle.ex_base.specs.declared.geometry.Geometry.{Geometry}
 use Rattle.ex_base.specs.declared.names.Area.{Area}
@@ -7,16 +8,20 @@ use Rattle.ex_base.proofs.Keeping.{keeps_on}
 use Rattle.ex_base.proofs.Results.{if_err_handed}
 use Rattle.object_records.specs.Record.{BodyOf}
 use Rattle.object_records.specs.declared.Head.{Head}
+use Rattle.object_records.specs.declared.State.TheVariants.{Current}
 use Rattle.file_bodies.specs.Bodies.{bodies_of}
+use Rattle.file_bodies.specs.Damage.{IsTakingFault}
 use Rattle.file_bodies.proofs.Blame.{carried, carried_held}
 use Rattle.file_bodies.proofs.Moving.{kept_body}
 use Rattle.versions.specs.Versions.{place_of}
-use Rattle.versions.specs.Damage.{unread}
-use Rattle.version_tree.specs.Links.{IsWalkFault, at_link, to_link}
-use Rattle.version_tree.specs.Removals.{IsBranch, IsRemovingFault, of_links, of_search, of_version, other_from}
+use Rattle.versions.specs.Damage.{record_fault}
+use Rattle.version_tree.specs.Links.{IsRecordFault, IsWalkFault, IsWalkedFrom, of_body, of_version}
+use Rattle.version_tree.specs.declared.links.Stored.{Stored}
+use Rattle.version_tree.specs.Removals.{IsBranch, no_branch, not_current, other_from, to_older}
 use Rattle.version_tree.proofs.Copying.{just_stand, read_of}
 use Rattle.version_tree.proofs.DerivedRows.{linked_readable}
-use Rattle.version_tree.proofs.Linking.{head_read, kept_linked, link_kept, linked_limits}
+use Rattle.version_tree.proofs.Linking.{head_read, kept_linked, linked_limits}
+use Rattle.version_tree.proofs.ReadPlaces.{each_named, older_read, older_told, only_on, other_state, searching_of, state_read, taking_of}
 use Rattle.versions.proofs.Results.{ok_of}
 use Rattle.version_tree.proofs.TakenOut.{branch_of, branch_read, kept_takes, leaving_of}
 use Rattle.version_tree.proofs.taking_out.take_out.Goals as goal
@@ -26,7 +31,7 @@ returns-in_err-version-clause-sound g c = if_err_handed c.from_residual.result _
     c.in_err-version.ensures.sound damage told index is has (linked_limits g.V.Ground c.args.volume.now index c.args.oid.now is links has))
 
 pub returns-in_err-version-clause-fault : goal.returns-in_err-version-clause-fault
-returns-in_err-version-clause-fault g c = if_err_handed c.from_residual.result _ _ c.from_residual.ensures.1 (λ told. of_version (of_links (c.in_err-version.ensures.fault told)))
+returns-in_err-version-clause-fault g c = if_err_handed c.from_residual.result _ _ c.from_residual.ensures.1 (λ told. of_version (c.in_err-version.ensures.fault told))
 
 pub returns-in_err-check-clause-sound : goal.returns-in_err-check-clause-sound
 returns-in_err-check-clause-sound g c = if_err_handed c.from_residual-in_err-check.result _ _ c.from_residual-in_err-check.ensures.1 (λ damage told links index is has current branch.
@@ -36,7 +41,9 @@ returns-in_err-check-clause-sound g c = if_err_handed c.from_residual-in_err-che
     absurd cc)
 
 pub returns-in_err-check-clause-fault : goal.returns-in_err-check-clause-fault
-returns-in_err-check-clause-fault g c = if_err_handed c.from_residual-in_err-check.result _ _ c.from_residual-in_err-check.ensures.1 (λ told. of_version (of_links (to_link (at_link c.in_ok-version.version.place (unread c.in_err-check.ensures.fault.1)))))
+returns-in_err-check-clause-fault g c = if_err_handed c.from_residual-in_err-check.result _ _ c.from_residual-in_err-check.ensures.1 (λ told.
+    of_body c.in_ok-version.version.body.items (c.in_ok-version.ensures.reads told).read.stands
+    (not_current (other_state (g.V.Ground.image c.args.volume.now) c.args.oid.now c.in_ok-version.version Current c.is_current.result (c.in_ok-version.ensures.reads told) c.is_current.ensures.1 c.in_err-check.ensures.fault.0) (c.in_err-check.ensures.fault.1 ∙ ap record_fault (c.in_ok-version.ensures.reads told).read.at)))
 
 pub returns-in_err-older-clause-sound : goal.returns-in_err-older-clause-sound
 returns-in_err-older-clause-sound g c = if_err_handed c.from_residual-in_err-older.result _ _ c.from_residual-in_err-older.ensures.1 (λ damage told links index is has current branch.
@@ -47,7 +54,8 @@ returns-in_err-older-clause-sound g c = if_err_handed c.from_residual-in_err-old
 
 pub returns-in_err-older-clause-fault : goal.returns-in_err-older-clause-fault
 returns-in_err-older-clause-fault g c = if_err_handed c.from_residual-in_err-older.result _ _ c.from_residual-in_err-older.ensures.1 (λ told.
-    of_version (of_links (to_link (link_kept g.V.Ground c.args.volume.now c.stored_version.new.volume _ c.stored_version.ensures.kept c.in_err-older.ensures.fault told))))
+    let v = c.in_ok-version.ensures.reads told in
+    of_body c.in_ok-version.version.body.items v.read.stands (to_older (older_told g.V.Ground c.args.volume.now c.stored_version.new.volume c.stored_version.ensures.kept c.args.oid.now c.in_ok-version.version c.in_err-older.field-0.0 v c.in_err-older.ensures.fault told)))
 
 pub returns-in_err-check-2-clause-sound : goal.returns-in_err-check-2-clause-sound
 returns-in_err-check-2-clause-sound g c = if_err_handed c.from_residual-in_err-check-2.result _ _ c.from_residual-in_err-check-2.ensures.1 (λ damage told links index is has current branch.
@@ -64,7 +72,15 @@ returns-in_err-check-2-clause-sound g c = if_err_handed c.from_residual-in_err-c
     absurd cc)
 
 pub returns-in_err-check-2-clause-fault : goal.returns-in_err-check-2-clause-fault
-returns-in_err-check-2-clause-fault g c = if_err_handed c.from_residual-in_err-check-2.result _ _ c.from_residual-in_err-check-2.ensures.1 (λ told. of_version (of_links (to_link (at_link c.in_ok-version.version.place (unread c.in_err-check-2.ensures.fault.1)))))
+returns-in_err-check-2-clause-fault g c = if_err_handed c.from_residual-in_err-check-2.result _ _ c.from_residual-in_err-check-2.ensures.1 (λ told.
+    let kept = c.stored_version.ensures.kept in
+    let told_b = g.V.Ground.leads_told c.args.volume.now c.stored_version.new.volume kept.leads told in
+    let v = c.in_ok-version.ensures.reads told in
+    of_body c.in_ok-version.version.body.items v.read.stands
+    (no_branch (only_on (g.V.Ground.image c.args.volume.now) (g.V.Ground.image c.stored_version.new.volume) c.args.oid.now c.in_ok-version.version c.in_ok-older.older kept.images v (c.in_ok-older.ensures.reads told_b)
+    (λ many. absurd (
+    let yes : c.is_branch.result ≡ true = c.is_branch.ensures.1 many in
+    let no : c.is_branch.result ≡ false = c.in_err-check-2.ensures.fault.0 in cc))) (c.in_err-check-2.ensures.fault.1 ∙ ap record_fault v.read.at)))
 
 pub returns-in_err-other-clause-sound : goal.returns-in_err-other-clause-sound
 returns-in_err-other-clause-sound g c = if_err_handed c.from_residual-in_err-other.result _ _ c.from_residual-in_err-other.ensures.1 (λ damage told links index is has current branch.
@@ -86,8 +102,32 @@ returns-in_err-other-clause-sound g c = if_err_handed c.from_residual-in_err-oth
 
 pub returns-in_err-other-clause-fault : goal.returns-in_err-other-clause-fault
 returns-in_err-other-clause-fault g c = if_err_handed c.from_residual-in_err-other.result _ _ c.from_residual-in_err-other.ensures.1 (λ told.
-    of_search (carried g.V.Ground c.args.volume.now c.linked_older.new.volume (λ y u. IsWalkFault y u c.in_err-other.field-0.0)
-    (keeps_on g.V.Ground c.args.volume.now c.stored_version.new.volume c.linked_older.new.volume c.stored_version.ensures.kept c.linked_older.ensures.kept) c.in_err-other.ensures.fault told))
+    let kept = c.stored_version.ensures.kept in
+    let told_b = g.V.Ground.leads_told c.args.volume.now c.stored_version.new.volume kept.leads told in
+    let v = c.in_ok-version.ensures.reads told in
+    of_body c.in_ok-version.version.body.items v.read.stands
+    (searching_of g.V.Ground c.args.volume.now c.other_from.new.volume (g.V.Ground.image c.stored_version.new.volume)
+    c.args.oid.now c.in_ok-version.version c.in_ok-older.older c.in_err-other.field-0.0 v (c.in_ok-older.ensures.reads told_b)
+    (carried g.V.Ground c.args.volume.now c.linked_older.new.volume (λ y u. IsSomeAnd c.in_ok-older.older (λ (s : Stored). IsWalkFault y u s.place c.in_err-other.field-0.0))
+    (keeps_on g.V.Ground c.args.volume.now c.stored_version.new.volume c.linked_older.new.volume kept c.linked_older.ensures.kept) c.in_err-other.ensures.fault told)))
+
+pub returns-clause-reads : goal.returns-clause-reads
+returns-clause-reads g c = ok_of c.take_read.result _ (λ told.
+    let kept = c.stored_version.ensures.kept in
+    let told_b = g.V.Ground.leads_told c.args.volume.now c.stored_version.new.volume kept.leads told in
+    let both = keeps_on g.V.Ground c.args.volume.now c.stored_version.new.volume c.linked_older.new.volume kept c.linked_older.ensures.kept in
+    let v = c.in_ok-version.ensures.reads told in
+    let walk = carried g.V.Ground c.args.volume.now c.linked_older.new.volume (λ y u. IfSome c.in_ok-older.older (λ (s : Stored). IsWalkedFrom y u s.place)) both c.in_ok-other.ensures.walk told in
+    record {
+      body = c.in_ok-version.version.body.items;
+      version = v.version;
+      holds = (
+        state_read (g.V.Ground.image c.args.volume.now) (g.V.Ground.image c.stored_version.new.volume) kept.images c.args.oid.now c.in_ok-version.version v Current (c.is_current.ensures.0 c.in_ok-check.ensures.holds),
+        older_read (g.V.Ground.image c.args.volume.now) (g.V.Ground.image c.stored_version.new.volume) kept.images c.args.oid.now c.in_ok-version.version v (c.in_ok-older.ensures.link told_b),
+        subst (λ (h : Head). IfSome h.older (IsWalkedFrom (g.V.Ground.geometry c.args.volume.now) (g.V.Ground.image c.args.volume.now))) v.read.head
+            (each_named (g.V.Ground.image c.stored_version.new.volume) c.in_ok-version.version.head.older c.in_ok-older.older (IsWalkedFrom (g.V.Ground.geometry c.args.volume.now) (g.V.Ground.image c.args.volume.now)) (c.in_ok-older.ensures.reads told_b) walk),
+      );
+    })
 
 pub returns-clause-asked : goal.returns-clause-asked
 returns-clause-asked g c = ok_of c.take_read.result _ (λ told index is has.
@@ -124,7 +164,14 @@ pub returns-clause-fault : goal.returns-clause-fault
 returns-clause-fault g c = IfErr-weaker c.take_read.result _ _ (λ fault h told.
     let kept = keeps_on g.V.Ground c.args.volume.now c.linked_older.new.volume c.other_from.new.volume
     (keeps_on g.V.Ground c.args.volume.now c.stored_version.new.volume c.linked_older.new.volume c.stored_version.ensures.kept c.linked_older.ensures.kept) c.other_from.ensures.kept in
-    of_version (carried_held g.V.Ground c.args.volume.now c.other_from.new.volume (λ y k u. IsRemovingFault y k u (g.V.Ground.held c.take_read.new.volume) (g.V.Ground.image c.take_read.new.volume) c.args.oid.now fault) kept (λ later. h later c.args.oid.now) told)) c.take_read.ensures.fault
+    let told_b = g.V.Ground.leads_told c.args.volume.now c.stored_version.new.volume c.stored_version.ensures.kept.leads told in
+    let v = c.in_ok-version.ensures.reads told in
+    of_body c.in_ok-version.version.body.items v.read.stands
+    (taking_of g.V.Ground c.args.volume.now c.take_read.new.volume (g.V.Ground.image c.stored_version.new.volume)
+    c.args.oid.now c.in_ok-version.version c.in_ok-older.older fault v (c.in_ok-older.ensures.reads told_b)
+    (carried_held g.V.Ground c.args.volume.now c.other_from.new.volume
+    (λ y k u. IsTakingFault y k u (g.V.Ground.held c.take_read.new.volume) (g.V.Ground.image c.take_read.new.volume) c.in_ok-version.version.place fault
+    ⊎ IsSomeAnd c.in_ok-older.older (λ (s : Stored). IsRecordFault s.place fault)) kept h told))) c.take_read.ensures.fault
 
 pub returns-clause-taken_out : goal.returns-clause-taken_out
 returns-clause-taken_out g c = on_ok_weaker c.take_read.result (λ h told links index is has.

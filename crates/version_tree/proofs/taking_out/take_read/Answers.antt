@@ -1,12 +1,10 @@
-use Rattle.std.proofs.Common.{ℕ, List, sym, ap, subst, arith}
+use Rattle.std.proofs.Common.{ℕ, List, sym, ap, subst, arith, inl, inr}
 use Rattle.ex_base.specs.declared.names.Area.{Area}
 use Rattle.ex_base.specs.declared.names.Area.TheVariants.{Page}
 use Rattle.ex_base.proofs.Results.{if_err_handed}
 use Rattle.object_records.specs.Record.{BodyOf}
 use Rattle.file_bodies.specs.Bodies.{bodies_of}
-use Rattle.version_tree.specs.Removals.{of_file}
 use Rattle.version_tree.proofs.Copying.{just_stand}
-use Rattle.version_tree.proofs.Dropped.{removing_fault}
 use Rattle.version_tree.proofs.TakenOut.{left_named, left_stays, takes}
 use Rattle.version_tree.proofs.taking_out.take_read.Goals as goal
 
@@ -15,7 +13,7 @@ returns-in_err-remove_from_file-clause-sound g c = if_err_handed c.from_residual
     c.in_err-remove_from_file.ensures.sound damage told index c.args.was.now.body.items m.read.has)
 
 pub returns-in_err-remove_from_file-clause-fault : goal.returns-in_err-remove_from_file-clause-fault
-returns-in_err-remove_from_file-clause-fault g c = if_err_handed c.from_residual.result _ _ c.from_residual.ensures.1 (λ told oid. of_file c.args.was.now.place (c.in_err-remove_from_file.ensures.fault told))
+returns-in_err-remove_from_file-clause-fault g c = if_err_handed c.from_residual.result _ _ c.from_residual.ensures.1 (λ told. inl (c.in_err-remove_from_file.ensures.fault told))
 
 pub returns-in-Ok-clause-taken_out : goal.returns-in-Ok-clause-taken_out
 returns-in-Ok-clause-taken_out g c = λ told index is m.
@@ -41,6 +39,6 @@ returns-in-Err-clause-sound g c = λ damage told index is m.
     (left_named g.V.Ground c.args.volume.now c.remove_from_file.new.pages index c.args.was.now c.args.older.now c.args.other is m gone)
 
 pub returns-in-Err-clause-fault : goal.returns-in-Err-clause-fault
-returns-in-Err-clause-fault g c = λ told oid.
+returns-in-Err-clause-fault g c = λ told.
     let told_b = g.V.Ground.leads_told c.args.volume.now c.remove_from_file.new.pages c.remove_from_file.ensures.leads told in
-    removing_fault (g.V.Ground.geometry c.args.volume.now) (g.V.Ground.held c.args.volume.now) (g.V.Ground.image c.args.volume.now) (g.V.Ground.held c.name_other.new.volume) (g.V.Ground.image c.name_other.new.volume) oid c.args.was.now.place c.in-Err.fault (c.in-Err.ensures.fault told_b)
+    inr (c.in-Err.ensures.fault told_b)
