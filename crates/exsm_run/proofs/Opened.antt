@@ -7,7 +7,7 @@ use Rattle.disk_model.specs.Runs.{leaves_wider}
 use Rattle.buffer_groups.specs.Frames.{Frames}
 use Rattle.op_log.specs.State.{LogState}
 use Rattle.page_alloc.specs.UnitSet.{refs_at, used_at}
-use Rattle.restart.specs.declared.opening.OpenedParts.{OpenedParts}
+use Rattle.volume_port.specs.declared.state.VolumeState.{VolumeState}
 use Rattle.restart.specs.Opening.{AreOpened, OpenedOn, OpensAs, StandsForSame}
 use Rattle.session_views.specs.View.{View}
 use Rattle.session_views.specs.Opening.{StandsOpening}
@@ -27,18 +27,19 @@ use Rattle.volume_model.specs.Shown.{Held, PageRow, Shows, used_in}
 use Rattle.volume_model.specs.Volume.{Decoded, table_of, units_of}
 use Rattle.volume_port.specs.Logged.{is_held}
 
-abbrev opened_session : OpenedParts → SessionState
-opened_session p = fresh_session p.geometry p.log p.meta p.pages p.units p.groups
+abbrev opened_session : VolumeState → SessionState
+opened_session p = fresh_session p
 
 -- what the session holds is what a fresh one does
-held_is : (p : OpenedParts) → AreOpened p → held (opened_session p) ≡ fresh_held p.geometry p.log (used_at p.units) (refs_at p.units) (is_held p.pages)
+held_is : (p : VolumeState) → AreOpened p → held (opened_session p) ≡ fresh_held p.geometry p.log (used_at p.units) (refs_at p.units) (is_held p.pages)
 held_is p opened =
     let frames : map (λ (f : Frames). f.entries) p.groups ≡ [] ∷ [] = ap (map (λ (f : Frames). f.entries)) opened.fresh.groups in
     let working = opened.fresh.working in
     let overlay = opened.images in
-    cc (frames, working, overlay)
+    let kept = opened.fresh.kept in
+    cc (frames, working, overlay, kept)
 
-pub shows_opened : {w : Outside} (p : OpenedParts) (image : List ℕ) (table : Table) → AreOpened p → IsTrue w.honest
+pub shows_opened : {w : Outside} (p : VolumeState) (image : List ℕ) (table : Table) → AreOpened p → IsTrue w.honest
     → OpenedOn image p.geometry w p.log p.meta.committed (used_at p.units) (refs_at p.units) (is_held p.pages) → StandsFor image table
     → Opened meant IsFresh table (opened_session p) w
 shows_opened {w} p image table parts honest on stands =

@@ -2,8 +2,8 @@
 ghost use Rattle.std.specs.Prelude.{◌≡◌, ◌≤◌, false};
 
 use disk_model::Host;
-use restart::{OpenedParts, open_volume};
-use session_core::{Parts, Session, Summary};
+use restart::open_volume;
+use session_core::{Session, Summary};
 use session_views::{Engine, OpenFault, Stop};
 use std::alloc::Global;
 use std::marker::Model;
@@ -93,29 +93,11 @@ impl Opener for VolumeSession {
     ghost fresh = { IsFresh };
 
     fn open<H: Host>(alloc: Global, host: &mut H) -> Result<VolumeSession, OpenFault> {
-        let opened = match open_volume(alloc, host) {
-            Ok(opened) => opened,
-            Err(fault) => return Err(fault),
-        };
-        let OpenedParts {
-            geometry,
-            log,
-            meta,
-            units,
-            groups,
-            pages,
-        } = opened;
-        let parts = Parts {
-            geometry,
-            log,
-            meta,
-            pages,
-            units,
-            groups,
-        };
-        match Session::make(alloc, parts) {
-            Ok(session) => Ok(VolumeSession { session }),
-            Err(_) => Err(OpenFault::Memory),
+        match open_volume(alloc, host) {
+            Ok(volume) => Ok(VolumeSession {
+                session: Session::make(alloc, volume),
+            }),
+            Err(fault) => Err(fault),
         }
     }
 }

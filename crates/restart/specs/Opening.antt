@@ -7,7 +7,7 @@ use Rattle.disk_model.specs.Outside.{Outside}
 use Rattle.object_files.specs.Catalog.{Catalog, CatalogOf}
 use Rattle.op_log.specs.State.{LogState}
 use Rattle.table_model.specs.declared.table.Table.{Table}
-use Rattle.restart.specs.declared.opening.OpenedParts.{OpenedParts}
+use Rattle.volume_port.specs.declared.state.VolumeState.{VolumeState}
 use Rattle.restart.specs.Content.{IsReached}
 use Rattle.volume_model.specs.Homes.{home}
 use Rattle.volume_model.specs.Committed.{Committed, OverlayOf, with_records}
@@ -33,16 +33,17 @@ pub record HasCatalog (page : List ℕ) (last : Option ℕ) (c : Catalog) : Type
 abbrev pub empty_main : Geometry → Frames
 empty_main g = record { entries = []; cap = 64; page_size = g.page_size; policy = Lru }
 
--- The parts are of one geometry; no page is touched, and no frame is filled.
-pub record AreFresh (p : OpenedParts) : Type 0 where
+-- The parts are of one geometry; the committed state has the logged pages of the working one, no page is touched, and no frame is filled.
+pub record AreFresh (p : VolumeState) : Type 0 where
   pub log : p.log.geometry ≡ p.geometry
   pub meta : p.meta.geometry ≡ p.geometry
   pub working : p.meta.working ≡ []
   pub reached : IsReached p.geometry (record { units = p.units; pages = p.pages })
+  pub kept : p.kept ≡ p.pages
   pub groups : p.groups ≡ empty_main p.geometry ∷ []
 
 -- Besides no record counts, and no page has an image.
-pub record AreOpened (p : OpenedParts) : Type 0 where
+pub record AreOpened (p : VolumeState) : Type 0 where
   pub fresh : AreFresh p
   pub log : p.log ≡ record { geometry = p.geometry; end = 0; count = 0 }
   pub images : p.meta.committed ≡ []

@@ -9,4 +9,4 @@ mod opening;
 mod overlay;
 mod walking;
 
-pub use opening::{OpenedParts, open_volume};
+pub use opening::open_volume;

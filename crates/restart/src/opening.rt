@@ -22,32 +22,19 @@ use crate::geometry::read_geometry;
 use crate::groups::make_groups;
 use crate::overlay::overlay_of;
 use crate::walking::walk_volume;
-use buffer_groups::Groups;
 use commits::checkpoint;
 use disk_model::Disk;
 use ex_base::Geometry;
 use meta_pages::Meta;
 use op_log::{LogFault, LogRecord, LogRecords, OpLog, scan_log};
-use page_alloc::Units;
 use session_views::{OpenFault, Part};
 use std::alloc::{AllocError, Global};
-use volume_port::LoggedPages;
-
-/// What a session needs of the volume that was opened: no record counts, no page has an image, the units in use and the logged pages are those that the
-/// volume reaches, each unit of a tree has as many references as roots and nodes name it, and no frame is filled.
-#[derive(Drop)]
-pub struct OpenedParts {
-    pub geometry: Geometry,
-    pub log: OpLog,
-    pub meta: Meta,
-    pub units: Units,
-    pub groups: Groups,
-    pub pages: LoggedPages,
-}
+use volume_port::VolumeState;
 
 /// Opens the volume on a disk. It begins with a sync, then reads the volume and tests its parts in their order, and where records count it makes a
-/// checkpoint. A volume of which a part fails isn't written.
-pub fn open_volume<D: Disk>(alloc: Global, disk: &mut D) -> Result<OpenedParts, OpenFault>
+/// checkpoint. A volume of which a part fails isn't written. In the state that it answers no record counts, no page has an image, the units in use and the
+/// logged pages are those that the volume reaches, each unit of a tree has as many references as roots and nodes name it, and no frame is filled.
+pub fn open_volume<D: Disk>(alloc: Global, disk: &mut D) -> Result<VolumeState, OpenFault>
     ensures only { DiskOnly (D.outside disk.old) (D.outside disk.new) }
     ensures disk { result ≡ Err OpenFault.Disk
         → Rose (D.outside disk.old).disk_faults (D.outside disk.new).disk_faults }
@@ -94,7 +81,7 @@ pub fn open_volume<D: Disk>(alloc: Global, disk: &mut D) -> Result<OpenedParts, 
 }
 
 // Reads the volume and tests it.
-fn read_volume<D: Disk>(alloc: Global, disk: &mut D) -> Result<OpenedParts, OpenFault>
+fn read_volume<D: Disk>(alloc: Global, disk: &mut D) -> Result<VolumeState, OpenFault>
     ensures only { ReadsOnly (D.outside disk.old) (D.outside disk.new) }
     ensures cause { result ≡ Err OpenFault.Disk
         → Rose (D.outside disk.old).disk_faults (D.outside disk.new).disk_faults }
@@ -200,7 +187,7 @@ fn last_txn(records: &[LogRecord]) -> Option<u64>
     }
 }
 
-// The parts of a session over a log of this end and so many records, with what was reached.
+// The state of a volume over a log of this end and so many records, with what was reached.
 fn make_parts(
     alloc: Global,
     geometry: &Geometry,
@@ -208,7 +195,7 @@ fn make_parts(
     end: u32,
     count: u32,
     reached: Reached,
-) -> Result<OpenedParts, AllocError>
+) -> Result<VolumeState, AllocError>
     requires inside { end < log_size geometry.now }
     requires count { count ≤ end }
     requires geometry { meta.geometry ≡ geometry.now }
@@ -225,12 +212,14 @@ fn make_parts(
     let mut log = OpLog::make(alloc, geometry)?;
     log.adopt(end, count);
     let groups = make_groups(alloc, geometry)?;
-    Ok(OpenedParts {
+    let kept = reached.pages.held().copy(alloc)?;
+    Ok(VolumeState {
         geometry: *geometry,
         log,
         meta,
+        pages: reached.pages,
+        kept,
         units: reached.units,
         groups,
-        pages: reached.pages,
     })
 }

@@ -16,7 +16,7 @@ use meta_pages::Meta;
 use object_files::CatalogView;
 use session_views::{OpenFault, Part};
 use std::alloc::Global;
-use volume_port::{LoggedPages, ReadingPort};
+use volume_port::{LoggedPages, PageRoom, ReadingPort};
 
 /// Walks over all files of a catalog and over all trees of their objects on a disk, and tests them part by part. The frames that it reads through are
 /// let go at the end.
@@ -48,9 +48,7 @@ pub fn walk_volume<D: Disk>(
     let Ok(pages) = LoggedPages::make(alloc, geometry) else {
         return Err(OpenFault::Memory);
     };
-    let Ok(mut room) = vec![in alloc; 0u8; geometry.page_size as usize] else {
-        return Err(OpenFault::Memory);
-    };
+    let mut room = PageRoom::new(alloc);
     let mut port = ReadingPort {
         disk,
         groups: &mut groups,

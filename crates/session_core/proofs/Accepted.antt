@@ -1,10 +1,13 @@
 -- Accepted commands that write nothing, and among them the one that opens a transaction.
-use Rattle.std.proofs.Common.{◌≡◌, ◌≢◌, ◌∙◌, ℕ, ◌+◌, ◌-◌, ◌^◌, false, List, [], ◌∷◌, All, Option, Some, None, is_some, Ok, refl, sym, ap, subst, inl, arith}
-use Rattle.std.specs.Prelude.{IsTrue, unwrap_or, Contains}
+use Rattle.std.proofs.Common.{◌≡◌, ◌≢◌, ◌∙◌, ℕ, ◌+◌, ◌-◌, ◌^◌, true, false, List, [], ◌∷◌, All, Option, Some, None, is_some, Ok, Err, refl, sym, ap, subst, inl, arith}
+use Rattle.std.specs.Prelude.{IsTrue, IfSome, unwrap_or, Contains, ◌<◌}
 use Rattle.ex_base.specs.declared.geometry.Geometry.{Geometry}
 use Rattle.ex_base.specs.declared.names.Area.{Area}
+use Rattle.ex_base.specs.declared.names.PageNo.{PageNo}
+use Rattle.ex_base.specs.declared.faults.Seen.{Seen}
+use Rattle.session_views.specs.declared.engine.Stop.TheVariants as stop
 use Rattle.ex_base.specs.Area.{catalog_no}
-use Rattle.disk_model.specs.Outside.{Outside, ReadsOnly}
+use Rattle.disk_model.specs.Outside.{Outside, IsWorld, ReadsOnly}
 use Rattle.buffer_groups.specs.Frames.{Frames}
 use Rattle.page_alloc.specs.UnitSet.{free_count, used_at}
 use Rattle.object_files.specs.Catalog.{Catalog, CatalogOf}
@@ -18,7 +21,7 @@ use Rattle.table_model.specs.declared.reply.Refusal.{Refusal}
 use Rattle.table_model.specs.declared.reply.Refusal.TheVariants as refusal
 use Rattle.table_model.specs.Requests.{Request, is_request}
 use Rattle.table_model.specs.Requests as request
-use Rattle.table_model.specs.Machines.{shown}
+use Rattle.table_model.specs.Machines.{IsMachine, IsWorking, shown}
 use Rattle.table_model.specs.Refusals.{refusal_of}
 use Rattle.table_model.specs.Steps.{Step, IsAllowed, IfAccepted, machine_after, reply_to}
 use Rattle.table_model.proofs.StepsKeep.{steps_keep}
@@ -31,10 +34,10 @@ use Rattle.session_core.specs.Sessions.{SessionState, held, IsSession, begun}
 use Rattle.session_core.specs.Catalogs.{FramesLend, catalog_bytes}
 use Rattle.session_core.specs.Meant.{meant, pick_of, held_view}
 use Rattle.session_core.specs.Counts.{used_of}
-use Rattle.session_core.specs.Steps.{OnlyFrames, StepsQuietly}
+use Rattle.session_core.specs.Steps.{OnlyFrames, Steps, StepsQuietly}
 use Rattle.session_core.proofs.Volumes.{parts_same, table_same, idle_of}
 use Rattle.session_core.proofs.Showing.{view_of, KeepsVolume, WorksAs, shows_after, shows_catalog, reads_catalog, working_catalog, session_geometry}
-use Rattle.session_core.proofs.Quiet.{AreSizes, refused_at_once, quiet_refusal, shown_lends, later_frames, left_before, now_after}
+use Rattle.session_core.proofs.Quiet.{AreSizes, refused_at_once, quiet_moments, quiet_refusal, shown_lends, later_frames, left_before, now_after}
 use Rattle.session_core.proofs.Refusing.{begin_accepted, spent_refused, free_left}
 use Rattle.session_core.proofs.Working.{begun_units}
 
@@ -165,6 +168,34 @@ begin_spent {a} {b} old mid page last is only closed reads number spent =
     let on = shown_on now page (subst (λ (s : SessionState). ReadsCatalog a s page) (sym from) reads) (shown_lends now session.sizes) in
     let table : before.machine.committed ≡ table_of (working_units now.shows.decoded before.disk before.session.meta.working) now.shows.working = sym (closed_shown before.machine (open_txn ∙ shut)) ∙ (shows_catalog now.shows).table in
     spent_refused before q open_txn shut (ap (λ (t : Table). t.last) table ∙ ap (λ (c : Catalog). c.last) (sym on) ∙ sym number ∙ spent))
+
+-- ---- a commit without a number
+
+last_left : (m : Machine) → IsMachine m → is_some m.working ≡ true → (shown m).last < 2 ^ 64 - 1
+last_left m rules opened = here m.working rules.working opened
+  where
+    here : (o : Option Table) → IfSome o (IsWorking m.geometry m.committed) → is_some o ≡ true → (unwrap_or o m.committed).last < 2 ^ 64 - 1
+    here None rules opened = absurd (cc)
+    here (Some t) rules opened = rules.room
+
+-- where no number is left no view shows, so that any stop will do
+pub commit_spent : {a b : Outside} (old mid : SessionState) (page : List ℕ) (at : PageNo) (want got : Seen) → IsWorld a → IsSession old → OnlyFrames a b old mid → old.opened ≡ true → ReadsCatalog a old page → (catalog_on page).last ≡ 2 ^ 64 - 1 → want ≢ got
+    → Steps a b old mid request.Commit (Err (stop.Damaged at want got))
+commit_spent {a} {b} old mid page at want got world is only opened reads spent differ = record {
+  only = only.reads.nothing.only;
+  geometry = ap (λ (s : SessionState). s.geometry) only.same;
+  down = ap (λ (s : SessionState). s.down) only.same;
+  stops = differ;
+  sound = λ before from now.
+      let session = subst IsSession (sym from) is in
+      let on = shown_on now page (subst (λ (s : SessionState). ReadsCatalog a s page) (sym from) reads) (shown_lends now session.sizes) in
+      let left = last_left before.machine now.shows.rules (now.shows.shared.open_txn ∙ ap (λ (s : SessionState). s.opened) from ∙ opened) in
+      absurd (omega (arith, left, ap (λ (t : Table). t.last) (shows_catalog now.shows).table, ap (λ (c : Catalog). c.last) on, spent));
+  refused = tt;
+  quiet = λ _. (only.reads, ap (λ (s : SessionState). s.log) only.same);
+  stepped = λ before from now. tt;
+  any_moment = λ before from now. quiet_moments request.Commit world only.reads before now;
+}
 
 pub no_open_txn : {a : Outside} (s : SessionState) (r : Request) → IsSession s → s.opened ≡ false → ((m : Machine) (q : Pick) → is_some m.working ≡ false → refusal_of m r q ≡ Some refusal.NoTxn)
     → StepsQuietly a a s s r (Ok (reply.No refusal.NoTxn))

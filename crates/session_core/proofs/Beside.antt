@@ -36,11 +36,6 @@ pub error_live : {T : Type 0} (w : Outside) (old : SessionState) (oid : Oid) (re
 error_live w old oid (Ok x) each = tt
 error_live w old oid (Err fault) each = each
 
--- what stops there is no fault of the volume
-pub stopped_live : {w : Outside} {old : SessionState} (oid : Oid) (fault : PortFault) (why : Stop) → why ≡ stop_at fault → IfShown w old (λ before. IfLive before oid (λ bytes. IsDamage fault → ⊥))
-    → IfShown w old (λ before. IfLive before oid (λ bytes. IsOutside why))
-stopped_live oid fault why is never = λ before same now version live. subst IsOutside (sym is) (no_damage fault (never before same now version live))
-
 module _ {S : Type 0} (g : ground.Ghosts S) (s : S) {before : View SessionState} (shows : PortShows g s before) where
   pub beside : (oid : Oid) (room : ℕ) → InPageArea (g.geometry s) oid.page.0 → room ≡ room_of (g.geometry s).page_size (slots_of (g.image s oid.page.0)) → room ≡ room_beside before oid
   beside oid room lies is =

@@ -182,7 +182,6 @@ close_session s index is =
       units = is.units;
       pages = is.pages;
       in_use = is.in_use;
-      room = is.room;
       sizes = is.sizes;
       groups = is.groups;
       few_groups = is.few_groups;

@@ -1,6 +1,7 @@
 -- What a port over a session that shows finds of a version.
 use Rattle.std.proofs.Common.{◌≡◌, ◌∙◌, ℕ, ◌<◌, ◌≤◌, List, length, All, Option, Some, None, Result, Ok, Err, refl, sym, ap, subst, arith, inl, inr}
-use Rattle.std.specs.Prelude.{◌↔◌, slice_index_or, IsSome, IfOk, IfErr, IfSome}
+use Rattle.std.specs.Prelude.{◌↔◌, slice_index_or, IsSome, IfOk, IfErr, IfSome, OnOk}
+use Rattle.std.specs.Borrow.{MutBor}
 use Rattle.ex_base.specs.declared.ground.Ground as ground
 use Rattle.ex_base.specs.declared.geometry.Geometry.{Geometry}
 use Rattle.ex_base.specs.declared.faults.PortFault.{PortFault}
@@ -9,9 +10,10 @@ use Rattle.ex_base.specs.declared.names.Oid.{Oid}
 use Rattle.ex_base.specs.declared.names.Root.{Root}
 use Rattle.ex_base.specs.declared.names.Place.{Place}
 use Rattle.ex_base.specs.Area.{InPageArea}
-use Rattle.ex_base.specs.Ports.{Cause, IsDamage}
+use Rattle.ex_base.specs.Ports.{Cause, HasCause, IsDamage, Keeps}
 use Rattle.op_log.specs.declared.record.LogRecord.{LogRecord}
-use Rattle.disk_model.specs.Outside.{Outside}
+use Rattle.commits.specs.Room.{AreBehindLog}
+use Rattle.disk_model.specs.Outside.{Outside, ReadsOnly}
 use Rattle.buffer_groups.specs.Frames.{Frames, Lends}
 use Rattle.buffer_groups.specs.Groups.{SameKinds}
 use Rattle.tree_store.specs.Stored.{unit_bytes}
@@ -45,7 +47,7 @@ use Rattle.object_records.specs.declared.Head.{Head}
 use Rattle.versions.specs.declared.finding.Found.{Found}
 use Rattle.volume_port.specs.Logged.{LoggedSet, is_held}
 use Rattle.volume_port.specs.Ported.{image_over}
-use Rattle.volume_port.specs.Reading.{TellsBytes}
+use Rattle.volume_port.specs.Reading.{Reads, TellsBytes}
 use Rattle.volume_model.specs.Volume.{Volume, content_in, is_frozen, table_of}
 use Rattle.volume_edits.specs.Ported.{ShowsVolume, index_named, units_in}
 use Rattle.volume_edits.specs.Shown.{ReadsVersion}
@@ -55,12 +57,29 @@ use Rattle.volume_edits.proofs.Showing.{content_spells, none_there, roots_here, 
 use Rattle.volume_edits.proofs.Standings.{first_in_table, newer_in_table}
 use Rattle.session_core.specs.Sessions.{SessionState, IsSession}
 use Rattle.session_core.specs.Meant.{meant, held_view}
-use Rattle.session_core.specs.Finding.{HasParts, IsPortOver, PortShows, LeavesFrames, IfShown, LineStops, IsOutside, IsFound, TellsVersion, held_image, content_named, record_named, stop_at}
+use Rattle.session_core.specs.Finding.{IsPortOver, PortShows, IfShown, LineStops, IsOutside, IsFound, TellsVersion, held_image, content_named, record_named, stop_at, stop_or}
 use Rattle.session_core.specs.Steps.{OnlyFrames}
 use Rattle.session_core.proofs.Bridge.{shows_volume, table_is, image_shown, session_geometry}
 use Rattle.session_core.proofs.Frames.{frames_lent}
 
 -- ---- what a reading leaves
+
+-- What was read at most: the groups are as they were made, and their frames go on telling the bytes of their pages.
+pub record LeavesFrames (a b : Outside) (f h : List Frames) : Type 0 where
+  pub only : ReadsOnly a b
+  pub sizes : (size : ℕ) → All (λ (x : Frames). x.page_size ≡ size) f → All (λ (x : Frames). x.page_size ≡ size) h
+  pub kinds : SameKinds f h
+  pub behind : AreBehindLog f → AreBehindLog h
+  pub told : TellsBytes a f → TellsBytes b h
+
+-- A port for reading leaves that.
+pub frames_left : {D : Type 0} {outside : D → Outside} {d e : MutBor D} {f h : MutBor (List Frames)} {r t : MutBor (List ℕ)} {i j : ℕ} {x y : Geometry} {m n : Overlays} {k l : LoggedSet}
+    → Reads outside d e f h r t i j x y m n k l → LeavesFrames (outside d.now) (outside e.now) f.now h.now
+frames_left read = record { only = read.only; sizes = read.sizes; kinds = read.kinds; behind = read.behind; told = read.told }
+
+-- as it stands outside at the end
+pub frames_to : {D : Type 0} (outside : D → Outside) {a : Outside} (e z : D) {f h : List Frames} → e ≡ z → LeavesFrames a (outside e) f h → LeavesFrames a (outside z) f h
+frames_to outside {a} e z {f} {h} same left = subst (λ o. LeavesFrames a (outside o) f h) same left
 
 still_lend : (a b : Outside) (f h : List Frames) → LeavesFrames a b f h → All (Lends a.disk) f → All (Lends a.disk) h
 still_lend a b f h left lends = λ k x lt held is.
@@ -82,7 +101,6 @@ read_session s groups left is = record {
   units = is.units;
   pages = is.pages;
   in_use = is.in_use;
-  room = is.room;
   sizes = left.sizes s.geometry.page_size is.sizes;
   groups = left.kinds ∙ is.groups;
   few_groups = is.few_groups;
@@ -277,29 +295,43 @@ module _ {S : Type 0} (g : ground.Ghosts S) (s : S) {before : View SessionState}
   looks_sound place (Ok x) sound = tt
   looks_sound place (Err fault) sound = λ damage. sound damage shows.tells (file_of_all g s place.page.0 (files g s shows)) (readable g s shows place)
 
--- a port that has the parts of a session is over it
-pub over_parts : {S : Type 0} (g : ground.Ghosts S) (s : S) (w : Outside) (old : SessionState) (geometry : Geometry) (meta : Overlays) (pages : LoggedSet) (groups : List Frames) → HasParts old geometry meta pages groups
-    → g.geometry s ≡ geometry → g.unit s ≡ unit_bytes geometry w.disk → g.image s ≡ image_over geometry meta (unit_bytes geometry w.disk) → g.held s ≡ is_held pages → (TellsBytes w groups → g.tells s) → IsPortOver g s w old
-over_parts g s w old geometry meta pages groups has same unit image held tells = record {
-  is = has.is;
-  port = record {
-    geometry = same ∙ sym has.geometry;
-    unit = unit ∙ ap (λ (h : Geometry). unit_bytes h w.disk) (sym has.geometry);
-    image = image ∙ ap (λ (h : Geometry). image_over h meta (unit_bytes h w.disk)) (sym has.geometry) ∙ ap (λ (m : Overlays). image_over old.geometry m (unit_bytes old.geometry w.disk)) (sym has.meta);
-    held = held ∙ ap is_held (sym has.pages);
-  };
-  tells = λ h. tells (subst (λ (f : List Frames). TellsBytes w f) has.groups h);
-}
+-- A port is over a session, where it has what the session holds, whatever it reads.
+pub over_session : {S : Type 0} {g : ground.Ghosts S} {s t : S} → Keeps g s t → (w : Outside) {inside old : SessionState} → inside ≡ old → IsSession inside → g.geometry s ≡ inside.geometry → g.unit s ≡ unit_bytes inside.geometry w.disk
+    → g.image s ≡ image_over inside.geometry inside.meta (unit_bytes inside.geometry w.disk) → g.held s ≡ is_held inside.pages → (TellsBytes w inside.groups → g.tells s)
+    → IsPortOver g s w old
+over_session {g = g} {s = s} kept w seen is geometry unit image held tells = subst (IsPortOver g s w) seen (record { is = is; port = record { geometry = geometry; unit = unit; image = image; held = held }; tells = tells })
 
--- the parts of a session, as its view has them
-pub parts_of : {inside old : SessionState} → inside ≡ old → IsSession inside → HasParts old inside.geometry inside.meta inside.pages inside.groups
-parts_of {inside} {old} same is = record {
-  is = subst IsSession same is;
-  geometry = ap (λ (t : SessionState). t.geometry) (sym same);
-  meta = ap (λ (t : SessionState). t.meta) (sym same);
-  pages = ap (λ (t : SessionState). t.pages) (sym same);
-  groups = ap (λ (t : SessionState). t.groups) (sym same);
-}
+-- ---- what the session answers
+
+module _ {T : Type 0} (told : Result T PortFault) (result : Result T Stop) (is : result ≡ stop_or told) where
+  pub told_ok : (P : T → Type 0) → IfOk told P → IfOk result P
+  told_ok P p = subst (λ r. IfOk r P) (sym is) (by told p)
+    where
+      by : (r : Result T PortFault) → IfOk r P → IfOk (stop_or r) P
+      by (Ok x) p = p
+      by (Err fault) p = tt
+
+  pub told_on_ok : (P : Type 0) → OnOk told P → OnOk result P
+  told_on_ok P p = subst (λ r. OnOk r P) (sym is) (by told p)
+    where
+      by : (r : Result T PortFault) → OnOk r P → OnOk (stop_or r) P
+      by (Ok x) p = p
+      by (Err fault) p = tt
+
+  pub told_err : (F : Stop → Type 0) → IfErr told (λ fault. F (stop_at fault)) → IfErr result F
+  told_err F p = subst (λ r. IfErr r F) (sym is) (by told p)
+    where
+      by : (r : Result T PortFault) → IfErr r (λ fault. F (stop_at fault)) → IfErr (stop_or r) F
+      by (Ok x) p = tt
+      by (Err fault) p = p
+
+  -- why it stops
+  pub told_stops : (a b : Outside) → HasCause a.disk_faults b.disk_faults told → IfErr result (LineStops a b)
+  told_stops a b cause = told_err (LineStops a b) (by told cause)
+    where
+      by : (r : Result T PortFault) → HasCause a.disk_faults b.disk_faults r → IfErr r (λ fault. LineStops a b (stop_at fault))
+      by (Ok x) cause = tt
+      by (Err fault) cause = stops_here a b fault cause
 
 pub stopped_outside : {w : Outside} {old : SessionState} (fault : PortFault) (why : Stop) → why ≡ stop_at fault → IfShown w old (λ before. IsDamage fault → ⊥) → IfShown w old (λ before. IsOutside why)
 stopped_outside fault why is never = λ before same now. subst IsOutside (sym is) (no_damage fault (never before same now))

@@ -1,6 +1,6 @@
 -- What holds of every session holds where its scans are others and where it has a group more.
 use Rattle.std.proofs.Common.{◌≡◌, ℕ, ◌+◌, ◌<◌, ◌≤◌, List, [], ◌∷◌, ◌++◌, length, All, Some, Result, Ok, Err, refl, sym, subst, arith, length-append}
-use Rattle.std.specs.Prelude.{OnErr, OnOk, slice_get, slice_set}
+use Rattle.std.specs.Prelude.{IfSome, OnErr, OnOk, slice_get, slice_set}
 use Rattle.std.proofs.lemmas.List.{length-set}
 use Rattle.std.proofs.lemmas.List.Elements.{All-get_or, All-nil, All-push, All-set, All-weaker}
 use Rattle.std.proofs.lemmas.Option.{get_or_from_slice_get, slice_get_within}
@@ -15,11 +15,11 @@ use Rattle.open_scans.proofs.Grouped.{groups_count, groups_more}
 use Rattle.open_scans.proofs.Rows.{row_there}
 use Rattle.table_model.specs.declared.machine.GroupRow.{GroupRow}
 use Rattle.table_model.specs.Machines.{groups_most, scans_most}
+use Rattle.trees.specs.Roots.{IsRootFor}
 use Rattle.volume_port.specs.Reading.{CanRead}
-use Rattle.session_core.specs.Finding.{LeavesFrames}
 use Rattle.session_core.specs.ScanRows.{grouped, with_scans}
 use Rattle.session_core.specs.Sessions.{IsSession, SessionState}
-use Rattle.session_core.proofs.Finding.{read_session}
+use Rattle.session_core.proofs.Finding.{LeavesFrames, read_session}
 
 -- ---- other scans
 
@@ -35,7 +35,6 @@ scans_session s scans are is = record {
   units = is.units;
   pages = is.pages;
   in_use = is.in_use;
-  room = is.room;
   sizes = is.sizes;
   groups = is.groups;
   few_groups = is.few_groups;
@@ -82,11 +81,21 @@ read_on_session s scans groups are left is = read_session (with_scans s scans) g
 
 -- ---- the group that a scan reads through
 
-pub can_read : (s : SessionState) (size : ℕ) (room : List ℕ) (index : ℕ) (row : OpenRow) → IsSession s → volume_bytes s.geometry ≤ size → length room ≡ s.geometry.page_size → slice_get s.scans index ≡ Some row
-    → CanRead s.geometry size s.groups row.group s.meta room
-can_read s size room index row is large long at =
+can_read : (s : SessionState) (size index : ℕ) (row : OpenRow) → IsSession s → volume_bytes s.geometry ≤ size → slice_get s.scans index ≡ Some row → CanRead s.geometry size s.groups row.group s.meta
+can_read s size index row is large at =
     let own = at_place (IsOpenScan s.geometry (length s.group_rows)) s.scans index row at is.scans in
-    record { group = omega (arith, own.group, groups_count s.group_rows s.groups is.groups); disk = large; frames = is.sizes; behind = is.behind; overlay = is.meta; room_len = long }
+    record { group = omega (arith, own.group, groups_count s.group_rows s.groups is.groups); disk = large; frames = is.sizes; behind = is.behind; overlay = is.meta }
+
+-- a port for reading may be made for the scan at an index, with its group
+pub can_read_on : (s now : SessionState) (size index group : ℕ) → s ≡ now → IsSession s → index < length now.scans → volume_bytes now.geometry ≤ size → AtRow s.scans index (λ row. group ≡ row.group) → CanRead s.geometry size s.groups group s.meta
+can_read_on s now size index group seen is there large from =
+    let has = row_there s.scans index (subst (λ (t : SessionState). index < length t.scans) (sym seen) there) in
+    subst (λ (k : ℕ). CanRead s.geometry size s.groups k s.meta) (sym (from has.row has.at))
+    (can_read s size index has.row is (subst (λ (t : SessionState). volume_bytes t.geometry ≤ size) (sym seen) large) has.at)
+
+-- its root is one that a tree may have
+pub root_read : (s : SessionState) (index : ℕ) → IsSession s → AtRow s.scans index (λ row. IfSome row.scan.root (IsRootFor s.geometry))
+root_read s index is = λ row at. (at_place (IsOpenScan s.geometry (length s.group_rows)) s.scans index row at is.scans).root
 
 -- ---- a group more
 
@@ -100,7 +109,6 @@ grouped_session s row few is =
       units = is.units;
       pages = is.pages;
       in_use = is.in_use;
-      room = is.room;
       sizes = All-push (λ (f : Frames). f.page_size ≡ s.geometry.page_size) s.groups group is.sizes refl;
       groups = groups_more s.group_rows s.groups row s.geometry.page_size is.groups;
       few_groups = omega (arith, more, few);

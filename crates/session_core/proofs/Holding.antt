@@ -1,4 +1,4 @@
--- The parts that a port leaves hold the volume that its working state became.
+-- What a port leaves holds the volume that its working state became.
 use Rattle.std.proofs.Common.{◌≡◌, ◌∙◌, ℕ, Bool, true, false, List, ◌∷◌, ◌++◌, Option, Some, None, nat_eq, sym, ap, subst, length, map, ◌≤◌, arith}
 use Rattle.std.specs.Prelude.{Contains, unwrap_or}
 use Rattle.std.specs.Map.{lookup}
@@ -36,9 +36,11 @@ use Rattle.volume_port.specs.Stays.{StaysUsed, StillCommitted}
 use Rattle.session_core.specs.Commits.{scans_reach}
 use Rattle.session_core.specs.Finding.{IsPortOf, PortShows}
 use Rattle.session_core.specs.Meant.{meant}
-use Rattle.session_core.specs.Sessions.{SessionState, IsSession}
+use Rattle.session_core.specs.Sessions.{SessionState, IsSession, volume_held}
 use Rattle.session_core.specs.Counts.{free_in}
-use Rattle.session_core.specs.Updates.{HasPortParts, HoldsTurned, KeepsTurned, Moved, OwnsGone, PortParts, parts_held}
+use Rattle.session_core.specs.Updates.{HasVolume, HoldsTurned, KeepsTurned, OwnsGone}
+use Rattle.volume_port.specs.State.{Moved}
+use Rattle.volume_port.specs.declared.state.VolumeState.{VolumeState}
 use Rattle.session_core.proofs.Bridge.{image_is, image_shown, kept_page, no_image, shows_volume, table_is, volume_kept}
 use Rattle.session_core.proofs.Ending.{in_second}
 use Rattle.session_core.proofs.Finding.{shown_tells}
@@ -53,7 +55,7 @@ use Rattle.session_core.proofs.Updating.{LeavesVolume, IsSettled, update_stays, 
 -- ---- before the update
 
 module _ {S : Type 0} (g : ground.Ghosts S) (s : S) {a : Outside} {before : View SessionState} (now : ShowsNow meant a before) (session : IsSession before.session)
-    (over : IsPortWith g s before.session.geometry a.disk (parts_held before.session)) where
+    (over : IsPortWith g s before.session.geometry a.disk (volume_held before.session)) where
   abbrev d : Decoded
   d = now.shows.decoded
 
@@ -80,7 +82,7 @@ module _ {S : Type 0} (g : ground.Ghosts S) (s : S) {a : Outside} {before : View
 
   -- ---- after it
 
-  module _ (t : S) {b : Outside} (p : PortParts) (moved : Moved NoUnit a b before.session.geometry (parts_held before.session) p) (later_over : IsPortWith g t before.session.geometry b.disk p) where
+  module _ (t : S) {b : Outside} (p : VolumeState) (moved : Moved NoUnit a b (volume_held before.session) p) (later_over : IsPortWith g t before.session.geometry b.disk p) where
     pub in_use_after : AreInUse g t
     in_use_after page held =
         ap (λ (f : ℕ → Bool). f page) later_over.used ∙ moved.ready.in_use page (sym (ap (λ (f : ℕ → Bool). f page) later_over.held) ∙ held)
@@ -103,11 +105,11 @@ module _ {S : Type 0} (g : ground.Ghosts S) (s : S) {a : Outside} {before : View
       tells : Tells a before.session.groups
       tells = let bytes = shown_tells now session.sizes in (now.honest, bytes.0, bytes.1)
 
-      -- a session with the parts
+      -- a session with the volume
       abbrev first : SessionState
-      first = record before.session { units = p.units; groups = p.groups; meta = p.meta; pages = p.pages; room = p.room }
+      first = record before.session { units = p.units; groups = p.groups; meta = p.meta; pages = p.pages }
 
-      abbrev Still : List ℕ → PortParts → Type 0
+      abbrev Still : List ℕ → VolumeState → Type 0
       Still later q = StillCommitted (IsSettled before.session) (StaysUsed NoUnit (used_at q.units)) d before.disk b.images later before.session.log q.meta.committed
 
       stays : (later : List ℕ) × ((b.disk ≡ Some later) × Still later p)
@@ -128,10 +130,13 @@ module _ {S : Type 0} (g : ground.Ghosts S) (s : S) {a : Outside} {before : View
 
       leaves : (new : SessionState) → KeepsTurned before.session new b p gone come → LeavesVolume g t b d before new becomes.now later
       leaves new rest =
-          let meta : new.meta ≡ p.meta = ap (λ (q : PortParts). q.meta) rest.parts in
+          let same : volume_held new ≡ record (volume_held before.session) { units = new.units; groups = new.groups; meta = p.meta; pages = p.pages } =
+          rest.volume ∙ ap (λ (v : VolumeState). record v { units = new.units; groups = new.groups }) moved.rest in
+          let meta : new.meta ≡ p.meta = ap (λ (v : VolumeState). v.meta) same in
+          let geometry : new.geometry ≡ before.session.geometry = ap (λ (v : VolumeState). v.geometry) same in
           let committed : new.meta.committed ≡ p.meta.committed = ap (λ (m : Overlays). m.committed) meta in
           record {
-            port = port_after new meta (ap (λ (q : PortParts). q.pages) rest.parts) rest.geometry;
+            port = port_after new meta (ap (λ (v : VolumeState). v.pages) same) geometry;
             volume = becomes.volume;
             holds = stays.1.0;
             lends = rest.lends (moved.told tells);
@@ -142,9 +147,9 @@ module _ {S : Type 0} (g : ground.Ghosts S) (s : S) {a : Outside} {before : View
             homes = home_kept now session moved.changes later stays.1.0;
             scans = rest.scans;
             committed = committed ∙ moved.committed;
-            kept = rest.kept;
-            log = rest.log;
-            geometry = rest.geometry;
+            kept = ap (λ (v : VolumeState). v.kept) same;
+            log = ap (λ (v : VolumeState). v.log) same;
+            geometry = geometry;
           }
 
       pub owns_went : OwnsGone before b p gone come
@@ -158,7 +163,7 @@ module _ {S : Type 0} (g : ground.Ghosts S) (s : S) {a : Outside} {before : View
         catalog_fits =
             subst (λ (image : ℕ → List ℕ). length (image catalog_no) ≤ (g.geometry t).page_size) (sym later_over.image)
             (subst (λ (h : Geometry). length (image_over before.session.geometry p.meta (unit_bytes before.session.geometry b.disk) catalog_no) ≤ h.page_size) (sym later_over.geometry_is)
-            (image_most before.session.geometry p.meta rows moved.ready.overlay catalog_no b.disk (catalog_lies before.session.geometry)))
+            (image_most before.session.geometry p.meta rows (moved.ready.overlay ∙ ap (λ (v : VolumeState). v.geometry) moved.rest) catalog_no b.disk (catalog_lies before.session.geometry)))
 
         rules_kept : IsTable before.session.geometry table
         rules_kept =
@@ -177,21 +182,13 @@ module _ {S : Type 0} (g : ground.Ghosts S) (s : S) {a : Outside} {before : View
 
 -- ---- over the session that an update begins with
 
--- as the parts are before and after the borrow
-pub with_parts : {S D : Type 0} (g : ground.Ghosts S) (s : S) (outside : D → Outside) (x y : D) (h k : Geometry) (p q : PortParts) → x ≡ y → h ≡ k → p ≡ q → IsPortWith g s h (outside x).disk p → IsPortWith g s k (outside y).disk q
-with_parts g s outside x y h k p q one two three over =
-    subst (λ z. IsPortWith g s k (outside z).disk q) one (subst (λ (l : Geometry). IsPortWith g s l (outside x).disk q) two (subst (λ (r : PortParts). IsPortWith g s h (outside x).disk r) three over))
-
-pub tells_at : {D : Type 0} (outside : D → Outside) (x y : D) (f h : List Frames) → x ≡ y → f ≡ h → Tells (outside x) f → Tells (outside y) h
-tells_at outside x y f h one two tells = subst (λ z. Tells (outside z) h) one (subst (λ (k : List Frames). Tells (outside x) k) two tells)
-
-module _ {S : Type 0} (g : ground.Ghosts S) (s : S) {a : Outside} (geometry : Geometry) (old : PortParts) (over : IsPortWith g s geometry a.disk old) (told : Tells a old.groups → g.tells s) where
-  module _ {before : View SessionState} (has : HasPortParts before.session geometry old) (now : ShowsNow meant a before) where
-    own_over : IsPortWith g s before.session.geometry a.disk (parts_held before.session)
-    own_over = subst (λ (h : Geometry). IsPortWith g s h a.disk (parts_held before.session)) (sym has.geometry) (subst (λ (p : PortParts). IsPortWith g s geometry a.disk p) (sym has.parts) over)
+module _ {S : Type 0} (g : ground.Ghosts S) (s : S) {a : Outside} (old : VolumeState) (over : IsPortWith g s old.geometry a.disk old) (told : Tells a old.groups → g.tells s) where
+  module _ {before : View SessionState} (has : HasVolume before.session old) (now : ShowsNow meant a before) where
+    own_over : IsPortWith g s before.session.geometry a.disk (volume_held before.session)
+    own_over = subst (λ (v : VolumeState). IsPortWith g s v.geometry a.disk v) (sym has.volume) over
 
     own_tells : g.tells s
-    own_tells = (let bytes = shown_tells now has.is.sizes in told (subst (λ (p : PortParts). Tells a p.groups) has.parts (now.honest, bytes.0, bytes.1)))
+    own_tells = (let bytes = shown_tells now has.is.sizes in told (subst (λ (v : VolumeState). Tells a v.groups) has.volume (now.honest, bytes.0, bytes.1)))
 
     own_port : IsPortOf g s before.session a.disk
     own_port = port_of g s before.session a.disk own_over
@@ -217,21 +214,21 @@ module _ {S : Type 0} (g : ground.Ghosts S) (s : S) {a : Outside} (geometry : Ge
   module _ (asks : Volume → Table → Type 0) where
     -- where a volume with such a table excludes a fault, so does a session that shows both
     pub never_shown : ((records : List LogRecord) (v : Volume) → g.tells s → IsVolume g s records v → asks v (table_of (units_in g s) v) → ⊥)
-        → (before : View SessionState) → HasPortParts before.session geometry old → (now : ShowsNow meant a before) → asks now.shows.working (shown before.machine) → ⊥
+        → (before : View SessionState) → HasVolume before.session old → (now : ShowsNow meant a before) → asks now.shows.working (shown before.machine) → ⊥
     never_shown never before has now asked =
         never now.shows.decoded.records now.shows.working (own_tells has now) (is_volume g s now has.is (own_over has now)) (subst (asks now.shows.working) (same_table has now) asked)
 
-    module _ (names : NamesPairs g) (t : S) (ready : g.ready s) (leads : g.leads s t) {b : Outside} (new : PortParts) (moved : Moved NoUnit a b geometry old new) (later_over : IsPortWith g t geometry b.disk new) (after : Table → Table) (gone come : Option Root)
+    module _ (names : NamesPairs g) (t : S) (ready : g.ready s) (leads : g.leads s t) {b : Outside} (new : VolumeState) (moved : Moved NoUnit a b old new) (later_over : IsPortWith g t old.geometry b.disk new) (after : Table → Table) (gone come : Option Root)
         (becomes : (records : List LogRecord) (v : Volume) → g.tells s → IsVolume g s records v → asks v (table_of (units_in g s) v) → IsApart g t → AreInUse g t → BecomesVolume g s t records v (after (table_of (units_in g s) v)) gone come)
-        (before : View SessionState) (has : HasPortParts before.session geometry old) (now : ShowsNow meant a before) (asked : asks now.shows.working (shown before.machine)) where
-      own : IsPortWith g s before.session.geometry a.disk (parts_held before.session)
+        (before : View SessionState) (has : HasVolume before.session old) (now : ShowsNow meant a before) (asked : asks now.shows.working (shown before.machine)) where
+      own : IsPortWith g s before.session.geometry a.disk (volume_held before.session)
       own = own_over has now
 
-      moves : Moved NoUnit a b before.session.geometry (parts_held before.session) new
-      moves = subst (λ (h : Geometry). Moved NoUnit a b h (parts_held before.session) new) (sym has.geometry) (subst (λ (p : PortParts). Moved NoUnit a b geometry p new) (sym has.parts) moved)
+      moves : Moved NoUnit a b (volume_held before.session) new
+      moves = subst (λ (v : VolumeState). Moved NoUnit a b v new) (sym has.volume) moved
 
       over_later : IsPortWith g t before.session.geometry b.disk new
-      over_later = subst (λ (h : Geometry). IsPortWith g t h b.disk new) (sym has.geometry) later_over
+      over_later = subst (λ (v : VolumeState). IsPortWith g t v.geometry b.disk new) (sym has.volume) later_over
 
       -- what it becomes, from what the session shows
       becomes_now : BecomesVolume g s t now.shows.decoded.records now.shows.working (after (shown before.machine)) gone come

@@ -150,7 +150,6 @@ open_session s units row is used counted one few = record {
     working = λ page held. ap (λ (f : ℕ → Bool). f page) used ∙ is.in_use.working page held;
     committed = λ page flag. ap (λ (f : ℕ → Bool). f page) used ∙ is.in_use.committed page flag;
   };
-  room = is.room;
   sizes = is.sizes;
   groups = is.groups;
   few_groups = is.few_groups;

@@ -1,7 +1,6 @@
--- An update of objects that is performed through a port over the parts of a session.
+-- An update of objects that is performed through a port over the volume of a session.
 use Rattle.std.specs.Prelude.{Result, Ok, Err, IfOk, IfErr}
 use Rattle.ex_base.specs.declared.ground.Ground as ground
-use Rattle.ex_base.specs.declared.geometry.Geometry.{Geometry}
 use Rattle.ex_base.specs.declared.faults.PortFault.{PortFault}
 use Rattle.ex_base.specs.Ports.{IsDamage}
 use Rattle.disk_model.specs.Outside.{Outside}
@@ -12,41 +11,43 @@ use Rattle.session_core.specs.Performed.{IsUpdate}
 use Rattle.session_core.specs.TableUpdates.{Asks, HasRoom, TableUpdate, Updates, updated}
 use Rattle.table_model.specs.declared.table.Table.{Table}
 use Rattle.table_model.specs.Machines.{shown}
-use Rattle.tree_store.specs.Stored.{NoUnit, Tells}
+use Rattle.tree_store.specs.Stored.{NoUnit}
 use Rattle.trees.specs.Counted.{NamesPairs}
 use Rattle.volume_model.specs.Volume.{Volume}
-use Rattle.session_core.specs.Updates.{HasRoomFor, HoldsTurned, IfAsked, Moved, OwnsGone, PortParts}
+use Rattle.session_core.specs.Updates.{HasRoomFor, HoldsTurned, IfAsked, OwnsGone}
+use Rattle.volume_port.specs.State.{Moved}
+use Rattle.volume_port.specs.declared.state.VolumeState.{VolumeState}
 use Rattle.session_core.proofs.Holding.{never_shown, own_free, own_shows, update_holds, update_owns}
-use Rattle.session_core.proofs.PortParts.{IsPortWith}
+use Rattle.session_core.proofs.PortParts.{IsPortWith, PortBegins}
 use Rattle.session_core.proofs.Roomed.{has_room}
 
-module _ {S : Type 0} (g : ground.Ghosts S) (s t : S) (update : ObjectUpdate) (result : Result Done PortFault) (does : (u : TableUpdate) → IsUpdate update u → Updates g s t u result) (ready : g.ready s)
-    (a : Outside) (geometry : Geometry) (old : PortParts) (over : IsPortWith g s geometry a.disk old) (told : Tells a old.groups → g.tells s) where
-  module _ (names : NamesPairs g) (leads : g.leads s t) {b : Outside} (new : PortParts) (moved : Moved NoUnit a b geometry old new) (later : IsPortWith g t geometry b.disk new) where
-    -- the parts that it leaves hold the table that it makes,
-    pub performed_shown : IfOk result (λ done. IfAsked a geometry old update (λ before u. AreRows new.meta → HoldsTurned before b new done.gone done.come (updated u done.oid (shown before.machine))))
+module _ {S : Type 0} (g : ground.Ghosts S) (s t : S) (update : ObjectUpdate) (result : Result Done PortFault) (does : (u : TableUpdate) → IsUpdate update u → Updates g s t u result) 
+    (a : Outside) (old : VolumeState) (begins : PortBegins g s a old) where
+  module _ (names : NamesPairs g) (leads : g.leads s t) {b : Outside} (new : VolumeState) (moved : Moved NoUnit a b old new) (later : IsPortWith g t old.geometry b.disk new) where
+    -- what it leaves holds the table that it makes,
+    pub performed_shown : IfOk result (λ done. IfAsked a old update (λ before u. AreRows new.meta → HoldsTurned before b new done.gone done.come (updated u done.oid (shown before.machine))))
     performed_shown = by result does
       where
         by : (r : Result Done PortFault) → ((u : TableUpdate) → IsUpdate update u → Updates g s t u r)
-            → IfOk r (λ done. IfAsked a geometry old update (λ before u. AreRows new.meta → HoldsTurned before b new done.gone done.come (updated u done.oid (shown before.machine))))
+            → IfOk r (λ done. IfAsked a old update (λ before u. AreRows new.meta → HoldsTurned before b new done.gone done.come (updated u done.oid (shown before.machine))))
         by (Err fault) does = tt
-        by (Ok done) does = λ before has now u is asked rows. update_holds g s geometry old over told (Asks u) names t ready leads new moved later (updated u done.oid) done.gone done.come (does u is).done before has now asked rows
+        by (Ok done) does = λ before has now u is asked rows. update_holds g s old begins.over begins.told (Asks u) names t begins.ready leads new moved later (updated u done.oid) done.gone done.come (does u is).done before has now asked rows
 
     -- and the root that went owns its tree
-    pub performed_owns : IfOk result (λ done. IfAsked a geometry old update (λ before u. OwnsGone before b new done.gone done.come))
+    pub performed_owns : IfOk result (λ done. IfAsked a old update (λ before u. OwnsGone before b new done.gone done.come))
     performed_owns = by result does
       where
-        by : (r : Result Done PortFault) → ((u : TableUpdate) → IsUpdate update u → Updates g s t u r) → IfOk r (λ done. IfAsked a geometry old update (λ before u. OwnsGone before b new done.gone done.come))
+        by : (r : Result Done PortFault) → ((u : TableUpdate) → IsUpdate update u → Updates g s t u r) → IfOk r (λ done. IfAsked a old update (λ before u. OwnsGone before b new done.gone done.come))
         by (Err fault) does = tt
-        by (Ok done) does = λ before has now u is asked. update_owns g s geometry old over told (Asks u) names t ready leads new moved later (updated u done.oid) done.gone done.come (does u is).done before has now asked
+        by (Ok done) does = λ before has now u is asked. update_owns g s old begins.over begins.told (Asks u) names t begins.ready leads new moved later (updated u done.oid) done.gone done.come (does u is).done before has now asked
 
   -- where it has its room, it tells of no damage
-  pub performed_sound : IfErr result (λ fault. IfAsked a geometry old update (λ before u. HasRoomFor before u → IsDamage fault → ⊥))
+  pub performed_sound : IfErr result (λ fault. IfAsked a old update (λ before u. HasRoomFor before u → IsDamage fault → ⊥))
   performed_sound = by result does
     where
-      by : (r : Result Done PortFault) → ((u : TableUpdate) → IsUpdate update u → Updates g s t u r) → IfErr r (λ fault. IfAsked a geometry old update (λ before u. HasRoomFor before u → IsDamage fault → ⊥))
+      by : (r : Result Done PortFault) → ((u : TableUpdate) → IsUpdate update u → Updates g s t u r) → IfErr r (λ fault. IfAsked a old update (λ before u. HasRoomFor before u → IsDamage fault → ⊥))
       by (Ok done) does = tt
       by (Err fault) does = λ before has now u is asked room damage.
-          never_shown g s geometry old over told (λ (v : Volume) (table : Table). Asks u v table × HasRoom g s u)
+          never_shown g s old begins.over begins.told (λ (v : Volume) (table : Table). Asks u v table × HasRoom g s u)
           (λ records v tells vol asks. (does u is).sound damage records v tells vol asks.0 asks.1) before has now
-          (asked, has_room g s (own_shows g s geometry old over told has now) ready (own_free g s geometry old over told has now) u now.shows.working asked room)
+          (asked, has_room g s (own_shows g s old begins.over begins.told has now) begins.ready (own_free g s old begins.over begins.told has now) u now.shows.working asked room)

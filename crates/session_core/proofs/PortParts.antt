@@ -1,4 +1,4 @@
--- A port over the parts of a session.
+-- A port over the volume of a session.
 use Rattle.std.proofs.Common.{◌≡◌, ℕ, List, map, Option, arith}
 use Rattle.ex_base.specs.Sizes.{most_page}
 use Rattle.count_nodes.specs.declared.Pair.{Pair}
@@ -8,15 +8,16 @@ use Rattle.count_nodes.proofs.NameLaws.{names_of_node}
 use Rattle.ex_base.specs.declared.geometry.Geometry.{Geometry}
 use Rattle.ex_base.specs.declared.ground.Ground as ground
 use Rattle.page_alloc.specs.UnitSet.{free_count, refs_at, used_at}
-use Rattle.tree_store.specs.Stored.{unit_bytes}
+use Rattle.disk_model.specs.Outside.{Outside}
+use Rattle.tree_store.specs.Stored.{Tells, unit_bytes}
 use Rattle.volume_port.specs.Logged.{is_held}
 use Rattle.volume_port.specs.Ported.{image_over}
 use Rattle.session_core.specs.Finding.{IsPortOf}
-use Rattle.session_core.specs.Sessions.{SessionState}
-use Rattle.session_core.specs.Updates.{PortParts, parts_held}
+use Rattle.session_core.specs.Sessions.{SessionState, volume_held}
+use Rattle.volume_port.specs.declared.state.VolumeState.{VolumeState}
 
--- The port is over a session's parts: it has their bytes, images and logged pages, the units in use with their references, and as many free ones.
-pub record IsPortWith {S : Type 0} (g : ground.Ghosts S) (s : S) (geometry : Geometry) (disk : Option (List ℕ)) (p : PortParts) : Type 0 where
+-- The port is over a session's volume: it has its bytes, images and logged pages, the units in use with their references, and as many free ones.
+pub record IsPortWith {S : Type 0} (g : ground.Ghosts S) (s : S) (geometry : Geometry) (disk : Option (List ℕ)) (p : VolumeState) : Type 0 where
   pub geometry_is : g.geometry s ≡ geometry
   pub unit : g.unit s ≡ unit_bytes geometry disk
   pub image : g.image s ≡ image_over geometry p.meta (unit_bytes geometry disk)
@@ -25,7 +26,13 @@ pub record IsPortWith {S : Type 0} (g : ground.Ghosts S) (s : S) (geometry : Geo
   pub refs : g.refs s ≡ refs_at p.units
   pub free : g.free s ≡ free_count p.units.geometry (used_at p.units)
 
-pub port_of : {S : Type 0} (g : ground.Ghosts S) (s : S) (session : SessionState) (disk : Option (List ℕ)) → IsPortWith g s session.geometry disk (parts_held session) → IsPortOf g s session disk
+-- The port is ready, over this volume, and tells its bytes where the volume's frames lend them.
+pub record PortBegins {S : Type 0} (g : ground.Ghosts S) (s : S) (a : Outside) (v : VolumeState) : Type 0 where
+  pub ready : g.ready s
+  pub over : IsPortWith g s v.geometry a.disk v
+  pub told : Tells a v.groups → g.tells s
+
+pub port_of : {S : Type 0} (g : ground.Ghosts S) (s : S) (session : SessionState) (disk : Option (List ℕ)) → IsPortWith g s session.geometry disk (volume_held session) → IsPortOf g s session disk
 port_of g s session disk over = record { geometry = over.geometry_is; unit = over.unit; image = over.image; held = over.held }
 
 -- what a node names, as ports count it, are the pages of its pairs

@@ -44,7 +44,6 @@ other_frames s groups disk keeps behind is = record {
   units = is.units;
   pages = is.pages;
   in_use = is.in_use;
-  room = is.room;
   sizes = keeps.sizes s.geometry.page_size is.sizes;
   groups = keeps.kinds ∙ is.groups;
   few_groups = is.few_groups;

@@ -1,6 +1,6 @@
 -- What a port that shows a view lists of the relatives of a version.
-use Rattle.std.proofs.Common.{◌≡◌, ◌∙◌, ℕ, List, [], ◌∷◌, length, Option, Some, None, true, Result, refl, sym, ap, subst}
-use Rattle.std.specs.Prelude.{◌↔◌, IsPermutation, IfErr, IfSome, is_some, option_map, slice_get, unwrap_or}
+use Rattle.std.proofs.Common.{◌≡◌, ◌∙◌, ℕ, List, [], ◌∷◌, length, Option, Some, None, true, Result, Ok, Err, refl, sym, ap, subst}
+use Rattle.std.specs.Prelude.{◌↔◌, IsPermutation, IfErr, IfOk, IfSome, is_some, option_map, slice_get, unwrap_or}
 use Rattle.std.proofs.lemmas.List.Sorted.{IsPermutation-trans, length_permutation}
 use Rattle.std.proofs.lemmas.List.{length-map}
 use Rattle.std.proofs.lemmas.Result.{IfErr-weaker}
@@ -82,10 +82,16 @@ module _ {S : Type 0} (g : ground.Ghosts S) (s : S) {before : View SessionState}
       → IfErr result (λ fault. IsDamage fault → ⊥)
   sound_here result sound = IfErr-weaker result _ _ (λ fault never damage. never damage shows.tells linked reads.index own reads.stored) sound
 
--- what stops a call on a version is no fault of the volume
-pub stopped_version : {w : Outside} {old : SessionState} (oid : Oid) (fault : PortFault) (why : Stop) → why ≡ stop_at fault → IfShown w old (λ before. IfVersion before oid (λ version. IsDamage fault → ⊥))
-    → IfShown w old (λ before. IfVersion before oid (λ version. IsOutside why))
-stopped_version oid fault why is never = λ before same now version live. subst IsOutside (sym is) (no_damage fault (never before same now version live))
+-- what holds of the result for each version
+pub ok_version : {T E : Type 0} (w : Outside) (old : SessionState) (oid : Oid) (result : Result T E) (Q : View SessionState → Version → T → Type 0)
+    → IfShown w old (λ before. IfVersion before oid (λ version. IfOk result (Q before version))) → IfOk result (λ x. IfShown w old (λ before. IfVersion before oid (λ version. Q before version x)))
+ok_version w old oid (Ok x) Q each = each
+ok_version w old oid (Err e) Q each = tt
+
+pub error_version : {T E : Type 0} (w : Outside) (old : SessionState) (oid : Oid) (result : Result T E) (Q : View SessionState → Version → E → Type 0)
+    → IfShown w old (λ before. IfVersion before oid (λ version. IfErr result (Q before version))) → IfErr result (λ e. IfShown w old (λ before. IfVersion before oid (λ version. Q before version e)))
+error_version w old oid (Ok x) Q each = tt
+error_version w old oid (Err e) Q each = each
 
 -- ---- the version that another one is derived from
 

@@ -80,7 +80,6 @@ given_session {a} {b} s units groups is room gives =
         working = λ page held. gives.logged page (held_logged s.pages s.kept page held) (is.in_use.working page held);
         committed = λ page flag. gives.logged page (kept_logged s.pages s.kept page flag) (is.in_use.committed page flag);
       };
-      room = is.room;
       sizes = fits.frames;
       groups = gives.kinds ∙ is.groups;
       few_groups = is.few_groups;

@@ -61,7 +61,6 @@ works_on s rows notes opened meta is same few_rows noted rising work tracked idl
   units = is.units;
   pages = tracked;
   in_use = is.in_use;
-  room = is.room;
   sizes = is.sizes;
   groups = is.groups;
   few_groups = is.few_groups;
@@ -80,8 +79,8 @@ works_on s rows notes opened meta is same few_rows noted rising work tracked idl
 })
 
 -- a page as the working catalog
-pub has_work : (meta : Overlays) (page : List ℕ) → IsCatalogPage page → (catalog_on page).last < 2 ^ 64 - 1 → HasWork (record meta { working = with_row catalog_no (Some page) meta.working })
-has_work meta page is room = record { image = page; there = lookup_put catalog_no (Some page) meta.working; is_catalog = is; room = room }
+pub has_work : (meta : Overlays) (page : List ℕ) → HasWork (record meta { working = with_row catalog_no (Some page) meta.working })
+has_work meta page = record { image = page; there = lookup_put catalog_no (Some page) meta.working }
 
 is_note : (kind : NoteKind) → IsNote (note kind no_oid 0 0)
 is_note kind = record { page = omega arith; slot = omega arith; unique = omega arith; first = omega arith; second = omega arith }
@@ -89,7 +88,6 @@ is_note kind = record { page = omega arith; slot = omega arith; unique = omega a
 -- what an update's caller has to see to
 pub record MayUpdate (s : SessionState) (page : List ℕ) (kind : NoteKind) : Type 0 where
   pub catalog : IsCatalogPage page
-  pub number : (catalog_on page).last < 2 ^ 64 - 1
   pub updates : length s.notes < updates_most
   pub touched : length s.meta.working < touched_most
   pub opened : s.opened ≡ true
@@ -99,7 +97,7 @@ pub edited : (s now : SessionState) (page : List ℕ) (kind : NoteKind) (meta : 
 edited s now page kind meta notes is session may same noted =
     let here = subst (λ (t : SessionState). MayUpdate t page kind) (sym is) may in
     works_on s (with_row catalog_no (Some page) s.meta.working) notes s.opened meta session same (omega (arith, length_put catalog_no (Some page) s.meta.working, here.touched))
-    (subst (λ (l : List OpNote). AreNoted s l) (sym noted) (record { few = session.few_notes; each = session.notes; gained = session.few_gained; lost = session.few_lost })) (rising_with catalog_no (Some page) s.meta.working session.in_order) (λ _. has_work s.meta page here.catalog here.number) (tracked_put s.geometry s.meta.working s.pages s.kept session.pages page) (λ closed. absurd (both_ways _ closed here.opened))
+    (subst (λ (l : List OpNote). AreNoted s l) (sym noted) (record { few = session.few_notes; each = session.notes; gained = session.few_gained; lost = session.few_lost })) (rising_with catalog_no (Some page) s.meta.working session.in_order) (λ _. has_work s.meta page) (tracked_put s.geometry s.meta.working s.pages s.kept session.pages page) (λ closed. absurd (both_ways _ closed here.opened))
 
 pub noted : (s now : SessionState) (page : List ℕ) (kind : NoteKind) (meta : Overlays) (notes : List OpNote) → s ≡ now → IsSession s → MayUpdate now page kind → meta ≡ record s.meta { working = with_row catalog_no (Some page) s.meta.working }
     → notes ≡ s.notes ++ note kind no_oid 0 0 ∷ [] → IsSession (working_on s meta notes s.opened)
@@ -111,22 +109,22 @@ noted s now page kind meta notes is session may same pushed =
       each = each-push IsNote s.notes (note kind no_oid 0 0) session.notes (is_note kind);
       gained = omega (arith, length-append s.notes (note kind no_oid 0 0 ∷ []), session.few_gained);
       lost = omega (arith, length-append s.notes (note kind no_oid 0 0 ∷ []), session.few_lost);
-    })) (rising_with catalog_no (Some page) s.meta.working session.in_order) (λ _. has_work s.meta page here.catalog here.number) (tracked_put s.geometry s.meta.working s.pages s.kept session.pages page) (λ closed. absurd (both_ways _ closed here.opened))
+    })) (rising_with catalog_no (Some page) s.meta.working session.in_order) (λ _. has_work s.meta page) (tracked_put s.geometry s.meta.working s.pages s.kept session.pages page) (λ closed. absurd (both_ways _ closed here.opened))
 
 -- a transaction that could not be opened, and one that was
 pub not_begun : (s : SessionState) (meta : Overlays) → IsSession s → s.opened ≡ false → meta ≡ record s.meta { working = [] } → IsSession (working_on s meta s.notes s.opened)
 not_begun s meta is closed same = works_on s [] s.notes s.opened meta is same (omega arith) (record { few = is.few_notes; each = is.notes; gained = is.few_gained; lost = is.few_lost }) tt (λ opened. absurd (both_ways _ closed opened)) (subst (λ (rows : List WorkingRow). IsTracked s.geometry rows s.pages s.kept) (is.idle closed).0 is.pages) (λ _. (refl, (is.idle closed).1, (is.idle closed).2))
 
-pub is_begun : (s : SessionState) (meta : Overlays) (notes : List OpNote) (page : List ℕ) → IsSession s → s.opened ≡ false → meta ≡ record s.meta { working = (catalog_no, Some page) ∷ [] } → notes ≡ [] → IsCatalogPage page → (catalog_on page).last < 2 ^ 64 - 1
+pub is_begun : (s : SessionState) (meta : Overlays) (notes : List OpNote) (page : List ℕ) → IsSession s → s.opened ≡ false → meta ≡ record s.meta { working = (catalog_no, Some page) ∷ [] } → notes ≡ []
     → IsSession (working_on s meta notes true)
-is_begun s meta notes page is closed same none catalog room =
+is_begun s meta notes page is closed same none =
     works_on s ((catalog_no, Some page) ∷ []) notes true meta is same (omega arith) (subst (λ (l : List OpNote). AreNoted s l) (sym none) (record {
       few = omega arith;
       each = tt;
       gained = omega (arith, ap (λ (l : List Root). length l) (is.idle closed).1);
       lost = omega (arith, ap (λ (l : List Root). length l) (is.idle closed).2);
     })) (tt, tt)
-    (λ _. record { image = page; there = refl; is_catalog = catalog; room = room })
+    (λ _. record { image = page; there = refl })
     (tracked_put s.geometry [] s.pages s.kept (subst (λ (rows : List WorkingRow). IsTracked s.geometry rows s.pages s.kept) (is.idle closed).0 is.pages) page) (λ shut. absurd (cc))
 
 -- what a session is seen as
@@ -215,7 +213,6 @@ after_commit s edited page log meta later kept units notes gained lost names is 
       units = counted_gives s.geometry _ s.units units is.units settled.units;
       pages = subst (λ (none : List WorkingRow). IsTracked s.geometry none s.pages kept) (sym left.none) tracked;
       in_use = used_settled s.geometry rows s.pages s.kept (tracked_put s.geometry s.meta.working s.pages s.kept is.pages page) kept s.units units settled is.in_use;
-      room = is.room;
       sizes = subst (λ (g : Geometry). All (λ (f : Frames). f.page_size ≡ g.page_size) later) (left.edit ∙ is.meta) left.sizes;
       groups = left.kinds ∙ is.groups;
       few_groups = is.few_groups;
@@ -246,7 +243,6 @@ after_abort s meta pages units notes gained lost names is same back none no_gain
       units = counted_gives s.geometry _ s.units units is.units back.units;
       pages = tracked_back s.geometry s.meta.working s.pages s.kept is.pages pages s.units units back;
       in_use = used_back s.geometry s.meta.working s.pages s.kept is.pages pages s.units units back is.in_use;
-      room = is.room;
       sizes = is.sizes;
       groups = is.groups;
       few_groups = is.few_groups;

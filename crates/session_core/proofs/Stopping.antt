@@ -20,7 +20,7 @@ use Rattle.session_core.proofs.Showing.{reads_catalog}
 
 -- ---- why it stops
 
-kinds_differ : (one other : ℕ) → one ≡ 1 → other ≡ 0 → one ≡ other → ⊥
+pub kinds_differ : (one other : ℕ) → one ≡ 1 → other ≡ 0 → one ≡ other → ⊥
 kinds_differ one other is_one is_other same = absurd (omega (arith, is_one, is_other, same))
 
 pub damage_shows : (a : Outside) (old : SessionState) (page : PageNo) (want got : Seen) → IsDamaged a old.groups (catalog_bytes old) page want got → want ≢ got

@@ -36,11 +36,12 @@ use Rattle.volume_model.proofs.OwnersUpdated.{shown_lost, shown_released}
 use Rattle.volume_port.specs.GivingUp.{CountsRoot, OwnRoots, ReleasesRoots}
 use Rattle.volume_port.specs.Giving.{is_logged}
 use Rattle.volume_port.specs.Logged.{is_held}
+use Rattle.volume_port.specs.State.{Moved}
+use Rattle.volume_port.specs.declared.state.VolumeState.{VolumeState}
 use Rattle.session_core.specs.Meant.{meant}
-use Rattle.session_core.specs.Sessions.{IsSession, SessionState, Swept, is_kept}
+use Rattle.session_core.specs.Sessions.{IsSession, SessionState, Swept, is_kept, volume_held}
 use Rattle.session_core.specs.TableUpdates.{BecomesVolume}
 use Rattle.session_core.specs.Turning.{RootsTurned, TakenOut, WasCommitted, WasGained}
-use Rattle.session_core.specs.Updates.{Moved, PortParts, parts_held}
 use Rattle.session_core.proofs.Ending.{few_scan_roots, pages_go, same_refs, scan_roots}
 use Rattle.session_core.proofs.Homes.{home_is, home_kept}
 use Rattle.session_core.proofs.PortParts.{IsPortWith}
@@ -66,7 +67,7 @@ one_here (Some root) = omega (arith, fewer_pages (root ∷ []))
 -- ---- an update
 
 module _ {S : Type 0} (g : ground.Ghosts S) (s t : S) (names : NamesPairs g) {a b : Outside} {before : View SessionState} (now : ShowsNow meant a before) (session : IsSession before.session)
-    (over : IsPortWith g s before.session.geometry a.disk (parts_held before.session)) (p : PortParts) (moved : Moved NoUnit a b before.session.geometry (parts_held before.session) p)
+    (over : IsPortWith g s before.session.geometry a.disk (volume_held before.session)) (p : VolumeState) (moved : Moved NoUnit a b (volume_held before.session) p)
     (later_over : IsPortWith g t before.session.geometry b.disk p) (in_use : AreInUse g t) (table : Table) (gone come : Option Root)
     (becomes : BecomesVolume g s t now.shows.decoded.records now.shows.working table gone come) (later : List ℕ) (holds : b.disk ≡ Some later) (told : Tells b p.groups) where
   abbrev d : Decoded

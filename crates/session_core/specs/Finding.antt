@@ -67,6 +67,11 @@ stop_at fault.Disk = stop.Disk
 stop_at fault.Memory = stop.Memory
 stop_at (fault.Damaged page want got) = stop.Damaged page want got
 
+-- what a call of a port answered, with what the session stops at where it failed
+abbrev pub stop_or : {T : Type 0} → Result T PortFault → Result T Stop
+stop_or (Ok told) = Ok told
+stop_or (Err fault) = Err (stop_at fault)
+
 -- it is no fault of the volume
 abbrev pub IsOutside : Stop → Type 0
 IsOutside stop.Memory = ⊤
@@ -93,14 +98,6 @@ pub record IsPortOver {S : Type 0} (g : ground.Ghosts S) (s : S) (w : Outside) (
   pub port : IsPortOf g s session w.disk
   pub tells : TellsBytes w session.groups → g.tells s
 
--- The session has these parts.
-pub record HasParts (s : SessionState) (g : Geometry) (overlays : Overlays) (logged : LoggedSet) (frames : List Frames) : Type 0 where
-  pub is : IsSession s
-  pub geometry : s.geometry ≡ g
-  pub meta : s.meta ≡ overlays
-  pub pages : s.pages ≡ logged
-  pub groups : s.groups ≡ frames
-
 -- The port has the volume that the view shows, with its table, and the images of its pages.
 pub record PortShows {S : Type 0} (g : ground.Ghosts S) (s : S) (v : View SessionState) : Type 0 where
   pub geometry : g.geometry s ≡ v.session.geometry
@@ -110,14 +107,6 @@ pub record PortShows {S : Type 0} (g : ground.Ghosts S) (s : S) (v : View Sessio
   pub table : shown v.machine ≡ table_of (units_in g s) working
   pub image : (page : ℕ) → InPageArea (g.geometry s) page → g.image s page ≡ held_image (held_view v).session v.disk page
   pub tells : g.tells s
-
--- What was read at most: the groups are as they were made, and their frames go on telling the bytes of their pages.
-pub record LeavesFrames (a b : Outside) (f h : List Frames) : Type 0 where
-  pub only : ReadsOnly a b
-  pub sizes : (size : ℕ) → All (λ (x : Frames). x.page_size ≡ size) f → All (λ (x : Frames). x.page_size ≡ size) h
-  pub kinds : SameKinds f h
-  pub behind : AreBehindLog f → AreBehindLog h
-  pub told : TellsBytes a f → TellsBytes b h
 
 -- ---- the versions that are found
 

@@ -1,5 +1,5 @@
 -- What a session is made of, and what holds of its parts.
-use Rattle.std.specs.Prelude.{◌≡◌, ◌⊎◌, ◌<◌, ◌≤◌, ◌++◌, ◌∷◌, ◌-◌, ◌^◌, ℕ, Bool, true, false, is_some, List, [], length, map, replicate, All, Option, Some, None, nat_eq, slice_index_or}
+use Rattle.std.specs.Prelude.{◌≡◌, ◌⊎◌, ◌<◌, ◌≤◌, ◌++◌, ◌∷◌, ◌-◌, ◌^◌, ℕ, Bool, true, false, is_some, List, [], length, map, All, Option, Some, None, nat_eq, slice_index_or}
 use Rattle.std.specs.List.{AllByRecursion}
 use Rattle.std.specs.Map.{lookup}
 use Rattle.ex_base.specs.declared.geometry.Geometry.{Geometry}
@@ -14,22 +14,21 @@ use Rattle.buffer_groups.specs.Frames.{Frames}
 use Rattle.page_alloc.specs.UnitSet.{UnitSet, used_at, refs_at, free_count}
 use Rattle.tree_store.specs.Stored.{IsCounted}
 use Rattle.meta_pages.specs.Overlays.{Overlays}
-use Rattle.object_files.specs.Edits.{IsCatalogPage}
-use Rattle.object_files.specs.Reads.{catalog_on}
 use Rattle.table_model.specs.declared.machine.BoundName.{BoundName}
 use Rattle.meta_pages.specs.Rows.{with_row, IsRising}
 use Rattle.table_model.specs.declared.machine.GroupRow.{GroupRow}
 use Rattle.table_model.specs.Machines.{updates_most, touched_most, scans_most, groups_most, kept, no_oid}
 use Rattle.table_model.specs.Steps.{note}
 use Rattle.volume_model.specs.Shown.{Held, WorkingRow}
+use Rattle.volume_port.specs.declared.state.VolumeState.{VolumeState}
 use Rattle.volume_port.specs.Logged.{LoggedSet, is_held}
 use Rattle.volume_port.specs.Ported.{IsUsed}
 use Rattle.commits.specs.Room.{IsLogged, AreBehindLog}
 use Rattle.open_scans.specs.GroupRows.{AreGroupsOf}
 use Rattle.open_scans.specs.OpenScans.{OpenRow, IsOpenScan, scan_of}
 
--- the value of a session: its parts, the logged pages of the working state and of the committed one, a page that the port lends, the notes of the open
--- transaction's updates, the roots of trees that these made and that the working state has still, those of the committed state that it lost, the bound names,
+-- the value of a session: its parts, the logged pages of the working state and of the committed one, the notes of the open transaction's updates, the
+-- roots of trees that these made and that the working state has still, those of the committed state that it lost, the bound names,
 -- the open scans, the groups that were made besides `main`, whether a transaction is open, and whether the session is down
 pub record SessionState : Type 0 where
   pub geometry : Geometry
@@ -39,7 +38,6 @@ pub record SessionState : Type 0 where
   pub kept : List Bool
   pub units : UnitSet
   pub groups : List Frames
-  pub room : List ℕ
   pub notes : List OpNote
   pub gained : List Root
   pub lost : List Root
@@ -48,6 +46,10 @@ pub record SessionState : Type 0 where
   pub group_rows : List GroupRow
   pub opened : Bool
   pub down : Bool
+
+-- the state of its volume
+abbrev pub volume_held : SessionState → VolumeState
+volume_held s = record { geometry = s.geometry; log = s.log; meta = s.meta; pages = s.pages; kept = s.kept; units = s.units; groups = s.groups }
 
 -- whether the committed state has a logged page
 abbrev pub is_kept : List Bool → ℕ → Bool
@@ -75,17 +77,16 @@ held s = record {
   down = s.down;
 }
 
--- a session with no transaction, no bound name, no scan and `main` alone: the committed state has the pages that the working one has
-abbrev pub fresh_session : Geometry → LogState → Overlays → LoggedSet → UnitSet → List Frames → SessionState
-fresh_session geometry log meta pages units groups = record {
-  geometry = geometry;
-  log = log;
-  meta = meta;
-  pages = pages;
-  kept = pages;
-  units = units;
-  groups = groups;
-  room = replicate geometry.page_size 0;
+-- a session on a volume, with no transaction, no bound name, no scan and `main` alone
+abbrev pub fresh_session : VolumeState → SessionState
+fresh_session v = record {
+  geometry = v.geometry;
+  log = v.log;
+  meta = v.meta;
+  pages = v.pages;
+  kept = v.kept;
+  units = v.units;
+  groups = v.groups;
   notes = [];
   gained = [];
   lost = [];
@@ -178,12 +179,10 @@ FreesGivenBack old new = (page : ℕ) → lookup (nat_eq page) old.meta.working 
 abbrev pub updated : SessionState → List ℕ → NoteKind → SessionState
 updated s page kind = record s { meta = record s.meta { working = with_row catalog_no (Some page) s.meta.working }; notes = s.notes ++ note kind no_oid 0 0 ∷ [] }
 
--- A working catalog is there, in its grammar; its number isn't the last one, so that a commit has one.
+-- The transaction has an image of the catalog's page.
 pub record HasWork (meta : Overlays) : Type 0 where
   pub image : List ℕ
   pub there : lookup (nat_eq catalog_no) meta.working ≡ Some (Some image)
-  pub is_catalog : IsCatalogPage image
-  pub room : (catalog_on image).last < 2 ^ 64 - 1
 
 -- The flags are of a session's pages: the working state has those with an image, and not those that were given back. A page of the committed state is there
 -- or was given back, and one that is there untouched is of the committed state.
@@ -211,7 +210,6 @@ pub record IsSession (s : SessionState) : Type 0 where
   pub units : IsCounted s.geometry s.units
   pub pages : IsTracked s.geometry s.meta.working s.pages s.kept
   pub in_use : ArePagesUsed (used_at s.units) s.pages s.kept
-  pub room : length s.room ≡ s.geometry.page_size
   pub sizes : All (λ (f : Frames). f.page_size ≡ s.geometry.page_size) s.groups
   pub groups : AreGroupsOf s.group_rows s.groups
   pub few_groups : length s.group_rows ≤ groups_most

@@ -8,8 +8,10 @@ use Rattle.disk_model.specs.Outside.{Outside}
 use Rattle.page_alloc.specs.UnitSet.{UnitSet}
 use Rattle.trees.specs.Owners.{root_pages}
 use Rattle.volume_model.specs.Held.{root_here}
-use Rattle.volume_port.specs.GivingUp.{CountsRoot, ReleasesRoots}
+use Rattle.volume_port.specs.Giving.{is_logged}
+use Rattle.volume_port.specs.GivingUp.{CountsRoot, GivesTrees, OwnRoots, ReleasesRoots}
 use Rattle.volume_port.specs.Logged.{LoggedSet}
+use Rattle.volume_port.specs.declared.state.VolumeState.{VolumeState}
 
 -- A root with the page of this one was taken out of a list; the others are in it still.
 pub record TakenOut (old new : List Root) (root : Option Root) : Type 0 where
@@ -45,3 +47,21 @@ pub record RootsTurned (pages : LoggedSet) (kept : List Bool) (g : Geometry) (a 
   pub rest : List Root
   pub went : RootWent pages kept g a groups counted new gained rest lost loses gone
   pub gained_now : gains ≡ rest ++ root_here come
+
+-- ---- the same of a volume
+
+-- trees were given up
+abbrev pub VolumeGives : Outside → Outside → VolumeState → VolumeState → Type 0
+VolumeGives a b old new = GivesTrees (is_logged old.pages old.kept) old.geometry a b old.units new.units old.groups new.groups
+
+-- With these units, the trees of these roots own theirs.
+abbrev pub VolumeOwns : Outside → VolumeState → UnitSet → List Root → Type 0
+VolumeOwns a v units roots = OwnRoots v.pages v.kept v.geometry a v.groups units roots
+
+-- a root went, if one did
+abbrev pub VolumeWent : Outside → VolumeState → VolumeState → List Root → List Root → List Root → List Root → Option Root → Type 0
+VolumeWent a old new gained rest lost loses gone = RootWent old.pages old.kept old.geometry a old.groups old.units new.units gained rest lost loses gone
+
+-- the roots were turned
+abbrev pub VolumeTurned : Outside → VolumeState → VolumeState → List Root → List Root → List Root → List Root → Option Root → Option Root → Type 0
+VolumeTurned a old new gained gains lost loses gone come = RootsTurned old.pages old.kept old.geometry a old.groups old.units new.units gained gains lost loses gone come

@@ -11,7 +11,7 @@ use meta_pages::Meta;
 use std::alloc::Global;
 use std::process::Abort;
 use std::test::Fail;
-use volume_port::{LoggedPages, ReadingPort};
+use volume_port::{LoggedPages, PageRoom, ReadingPort};
 
 const PAGE_SIZE: u32 = 512;
 
@@ -34,7 +34,7 @@ struct Parts {
     groups: Groups,
     meta: Meta,
     pages: LoggedPages,
-    room: Vec<u8>,
+    room: PageRoom,
 }
 
 /// So many bytes, which are zero but for those of the leaf.
@@ -52,7 +52,7 @@ fn make_image(alloc: Global, len: usize) -> Result<Vec<u8>, Fail>
 
 fn fresh_parts(alloc: Global) -> Result<Parts, Fail>
     ensures { IfOk result
-        (λ p. CanRead p.geometry (means p.disk).size p.groups 0 p.meta p.room.items) }
+        (λ p. CanRead p.geometry (means p.disk).size p.groups 0 p.meta) }
 {
     let Ok(geometry) = Geometry::make(PAGE_SIZE, 4, 2, 3, 2) else {
         return Err("no geometry".into());
@@ -67,7 +67,7 @@ fn fresh_parts(alloc: Global) -> Result<Parts, Fail>
         groups,
         meta: Meta::make(alloc, &geometry)?,
         pages: LoggedPages::make(alloc, &geometry)?,
-        room: vec![in alloc; 0u8; geometry.page_size as usize]?,
+        room: PageRoom::new(alloc),
     })
 }
 

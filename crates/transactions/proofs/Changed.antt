@@ -48,9 +48,9 @@ use Rattle.session_core.specs.Finding.{IfShown, IsOutside, LineStops, NamesVersi
 use Rattle.transactions.specs.Lines.{UpdatesLine}
 use Rattle.session_core.specs.Meant.{meant, held_view}
 use Rattle.session_core.specs.Counts.{free_in}
-use Rattle.session_core.specs.Sessions.{SessionState, IsSession}
+use Rattle.session_core.specs.Sessions.{SessionState, IsSession, volume_held}
 use Rattle.session_core.specs.Steps.{OnlyFrames}
-use Rattle.session_core.specs.Updates.{HasRoomFor, HoldsTable, IfUpdated, Noted, note_with, parts_held}
+use Rattle.session_core.specs.Updates.{HasRoomFor, HoldsTable, IfUpdated, Noted, note_with}
 use Rattle.session_core.specs.TableUpdates as update
 use Rattle.transactions.proofs.EditRefusals.{pick_fits, pick_tall, same_units, units_told}
 use Rattle.transactions.proofs.Naming.{the_oid_named, the_size_named}
@@ -232,7 +232,7 @@ module _ (m : Machine) (x : Reference) (oid : Oid) (size : ℕ) (named : the_oid
 module _ {a : Outside} {before : View SessionState} (now : ShowsNow meant a before) (counted : before.session.units.geometry ≡ before.session.geometry) (is_open : before.session.opened ≡ true) (x : Reference) (change : Change) (given : Admitted)
     (admitted : IsAdmitted before x change given) (within : IsWithin before.session change given) where
   pub change_steps : {b : Outside} (new : SessionState) (oid : Oid) → oid ≡ given.version.oid → DiskOnly a b → Noted before.session new (note_with (edit_note change given.version.oid given.version.found.size) oid)
-      → KeptTo (limit_of before.session given.need) new → HoldsTable before b (parts_held new) new.gained new.lost (with_bytes given.version.oid (changed change) (shown before.machine)) → (r : Request) → AsksFor r x change
+      → KeptTo (limit_of before.session given.need) new → HoldsTable before b (volume_held new) new.gained new.lost (with_bytes given.version.oid (changed change) (shown before.machine)) → (r : Request) → AsksFor r x change
       → Stepped meant before r (edit_reply change (size_after change given.version.found.size)) new b
   change_steps {b} new oid is only noted kept holds r asked =
       let m = before.machine in
@@ -281,7 +281,7 @@ module _ {a b : Outside} {old mid : SessionState} (x : Reference) (change : Chan
     -- it is done: the note, the limit and the reply as the code comes to them
     pub changed_so : (oid : Oid) (n : OpNote) (limit : Limit) (size : ℕ) (told : Reply) → oid ≡ given.version.oid → n ≡ edit_note change given.version.oid given.version.found.size → limit ≡ limit_of mid given.need
         → size ≡ size_after change given.version.found.size → told ≡ edit_reply change size → Noted mid new (note_with n oid) → KeptTo limit new
-        → IfUpdated b mid (made.Change given.version.oid edit) (λ before u. HoldsTable before c (parts_held new) new.gained new.lost (update.updated u oid (shown before.machine))) → UpdatesLine a c old new r (Ok told)
+        → IfUpdated b mid (made.Change given.version.oid edit) (λ before u. HoldsTable before c (volume_held new) new.gained new.lost (update.updated u oid (shown before.machine))) → UpdatesLine a c old new r (Ok told)
     changed_so oid n limit size told named noting limited sized telling noted kept holds =
         let did : Noted mid new (note_with (edit_note change given.version.oid given.version.found.size) oid) = subst (λ (o : OpNote). Noted mid new (note_with o oid)) noting noted in
         let keeps : KeptTo (limit_of mid given.need) new = subst (λ (l : Limit). KeptTo l new) limited kept in

@@ -58,17 +58,6 @@ pub no_pages_there : (s : SessionState) (c : Catalog) (name : List ℕ) → None
 no_pages_there s c name none =
     unmet (has_pages (entry_of c name)) refusal.NotEmpty (neither (when (has_pages (entry_of c name)) refusal.NotEmpty) _ (neither (when (is_none (entry_of c name)) refusal.NoFile) _ none).1).0
 
--- ---- the working catalog that was read
-
-pub read_work : (s : SessionState) (page : List ℕ) → IsSession s → s.opened ≡ true → ((b : List ℕ) → image_at s.meta catalog_no ≡ Some b → page ≡ b) → (catalog_on page).last < 2 ^ 64 - 1
-read_work s page is opened read =
-    let work = is.work opened in
-    let image : image_at s.meta catalog_no ≡ Some work.image = ap (λ (row : Option (Option (List ℕ))). over row (lookup (nat_eq catalog_no) s.meta.committed)) work.there in
-    subst (λ (b : List ℕ). (catalog_on b).last < 2 ^ 64 - 1) (sym (read work.image image)) work.room
-
--- an edit of the entries leaves the number
+-- an edit of the entries leaves a catalog
 pub edited_page : (page image : List ℕ) (entries : List FileEntry) → CatalogOf image (with_entries (catalog_on page) entries) → IsCatalogPage image
 edited_page page image entries catalog = subst (λ (c : Catalog). CatalogOf image c) (sym (catalog_read image (with_entries (catalog_on page) entries) catalog)) catalog
-
-pub edited_number : (page image : List ℕ) (entries : List FileEntry) → CatalogOf image (with_entries (catalog_on page) entries) → (catalog_on page).last < 2 ^ 64 - 1 → (catalog_on image).last < 2 ^ 64 - 1
-edited_number page image entries catalog room = subst (λ (c : Catalog). c.last < 2 ^ 64 - 1) (sym (catalog_read image (with_entries (catalog_on page) entries) catalog)) room

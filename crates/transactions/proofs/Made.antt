@@ -31,11 +31,11 @@ use Rattle.session_core.specs.Finding.{IfShown}
 use Rattle.session_core.specs.Meant.{meant, place_bound}
 use Rattle.session_core.specs.Performed.{IsUpdate}
 use Rattle.session_core.specs.ScanRows.{takes_name}
-use Rattle.session_core.specs.Sessions.{SessionState, IsSession}
+use Rattle.session_core.specs.Sessions.{SessionState, IsSession, volume_held}
 use Rattle.session_core.specs.Steps.{OnlyFrames}
 use Rattle.session_core.specs.TableUpdates.{TableUpdate, updated}
 use Rattle.session_core.specs.TableUpdates as update
-use Rattle.session_core.specs.Updates.{HoldsTable, Noted, parts_held}
+use Rattle.session_core.specs.Updates.{HoldsTable, Noted}
 use Rattle.session_core.proofs.Quiet.{with_groups}
 use Rattle.session_core.proofs.Refusing.{none_is_false}
 use Rattle.session_core.proofs.Taken.{taken_as}
@@ -100,7 +100,7 @@ pub record Makes (m : Machine) (r : Request) (name : List ℕ) (kind : NoteKind)
 module _ {a b : Outside} {before : View SessionState} (now : ShowsNow meant a before) (counted : before.session.units.geometry ≡ before.session.geometry) (is_open : before.session.opened ≡ true) (r : Request) (name : List ℕ) (kind : NoteKind)
     (told : Oid → Reply) (u : TableUpdate) (makes : Makes before.machine r name kind told u) (spelled : IsTrue (is_name name)) (untaken : takes_name before.session name ≡ false) (oid : Oid) (mid new : SessionState)
     (number : oid.unique ≡ (shown before.machine).next_unique) (did : Noted before.session mid (note kind oid 0 0)) (kept : KeptTo (limit_of before.session making_need) mid)
-    (holds : HoldsTable before b (parts_held mid) mid.gained mid.lost (updated u oid (shown before.machine))) (bound : new ≡ record mid { names = before.session.names ++ bound_to name oid ∷ [] }) (only : DiskOnly a b) where
+    (holds : HoldsTable before b (volume_held mid) mid.gained mid.lost (updated u oid (shown before.machine))) (bound : new ≡ record mid { names = before.session.names ++ bound_to name oid ∷ [] }) (only : DiskOnly a b) where
   abbrev m : Machine
   m = before.machine
 

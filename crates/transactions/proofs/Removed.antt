@@ -40,11 +40,11 @@ use Rattle.session_core.specs.declared.updates.ObjectUpdate.TheVariants as made
 use Rattle.session_core.specs.Finding.{IfShown, IsOutside, LineStops, NamesVersion, TellsVersion}
 use Rattle.session_core.specs.Meant.{meant}
 use Rattle.session_core.specs.Performed.{IsUpdate}
-use Rattle.session_core.specs.Sessions.{SessionState, IsSession}
+use Rattle.session_core.specs.Sessions.{SessionState, IsSession, volume_held}
 use Rattle.session_core.specs.Steps.{OnlyFrames}
 use Rattle.session_core.specs.TableUpdates.{AsksDrop, AsksRemoval, TableUpdate, updated}
 use Rattle.session_core.specs.TableUpdates as update
-use Rattle.session_core.specs.Updates.{HasRoomFor, HoldsTable, IfUpdated, Noted, note_with, parts_held}
+use Rattle.session_core.specs.Updates.{HasRoomFor, HoldsTable, IfUpdated, Noted, note_with}
 use Rattle.session_core.proofs.Quiet.{same_view, with_groups}
 use Rattle.transactions.specs.Editing.{KeptTo, limit_of, room_refusal}
 use Rattle.transactions.specs.Lines.{Answered, UpdatesLine, WentOn}
@@ -233,7 +233,7 @@ drop_takes m x oid is = record {
 
 removed_steps : {a b : Outside} {before : View SessionState} (now : ShowsNow meant a before) → before.session.units.geometry ≡ before.session.geometry → before.session.opened ≡ true → (r : Request) (kind : NoteKind) (told : Oid → Reply) (u : TableUpdate) (oid : Oid)
     → Takes before.machine r kind told u oid → (new : SessionState) → DiskOnly a b → Noted before.session new (note kind oid 0 0) → KeptTo (limit_of before.session removal_need) new
-    → HoldsTable before b (parts_held new) new.gained new.lost (updated u oid (shown before.machine)) → Stepped meant before r (told oid) new b
+    → HoldsTable before b (volume_held new) new.gained new.lost (updated u oid (shown before.machine)) → Stepped meant before r (told oid) new b
 removed_steps {a} {b} {before} now counted is_open r kind told u oid takes new only did kept holds =
     let m = before.machine in
     let n = note kind oid 0 0 in
@@ -253,7 +253,7 @@ module _ {a b c : Outside} {old mid new : SessionState} (world : IsWorld a) (is 
       (asks : IfShown a old (λ before. (later : ShowsNow meant b (with_groups before mid)) → update.Asks u later.shows.working (shown before.machine))) where
     -- it is done: the note and the limit as the code comes to them
     line_removed : IfShown a old (λ before. Takes before.machine r kind told u oid) → ((o : Oid) (why : Refusal) → told o ≡ reply.No why → ⊥) → (gone : Oid) (n : OpNote) (limit : Limit) → gone ≡ oid → n ≡ note kind oid 0 0 → limit ≡ limit_of mid removal_need
-        → Noted mid new (note_with n gone) → KeptTo limit new → IfUpdated b mid how (λ before u. HoldsTable before c (parts_held new) new.gained new.lost (updated u gone (shown before.machine))) → UpdatesLine a c old new r (Ok (told gone))
+        → Noted mid new (note_with n gone) → KeptTo limit new → IfUpdated b mid how (λ before u. HoldsTable before c (volume_held new) new.gained new.lost (updated u gone (shown before.machine))) → UpdatesLine a c old new r (Ok (told gone))
     line_removed takes never gone n limit named noting limited noted kept holds =
         let here : Noted mid new (note kind gone 0 0) = subst (λ (o : OpNote). Noted mid new (note_with o gone)) noting noted in
         let did : Noted mid new (note kind oid 0 0) = subst (λ (o : Oid). Noted mid new (note kind o 0 0)) named here in
@@ -261,7 +261,7 @@ module _ {a b c : Outside} {old mid new : SessionState} (world : IsWorld a) (is 
         subst (λ (o : Oid). UpdatesLine a c old new r (Ok (told o))) (sym named)
         (update_done r world is read went (told oid) (never oid) (λ before same now later.
         removed_steps later (counted_then read is) (opened_then read is_open) r kind told u oid (takes before same now) new went.only did keeps
-        (subst (λ (o : Oid). HoldsTable (with_groups before mid) c (parts_held new) new.gained new.lost (updated u o (shown before.machine))) named (holds (with_groups before mid) refl later u is_u (asks before same now later)))))
+        (subst (λ (o : Oid). HoldsTable (with_groups before mid) c (volume_held new) new.gained new.lost (updated u o (shown before.machine))) named (holds (with_groups before mid) refl later u is_u (asks before same now later)))))
 
     line_unremoved : ((v : View SessionState) → HasRoomFor v u) → (why : Stop) → LineStops b c why → IfUpdated b mid how (λ before u. HasRoomFor before u → IsOutside why) → UpdatesLine a c old new r (Err why)
     line_unremoved roomy why stops sound =
@@ -269,7 +269,7 @@ module _ {a b c : Outside} {old mid new : SessionState} (world : IsWorld a) (is 
 
   module _ (may : IfShown a old (λ before. AcceptsOf before.machine (request.Destroy x) x oid × AsksRemoval (shown before.machine) oid)) where
     pub destroyed : (gone : Oid) (n : OpNote) (limit : Limit) → gone ≡ oid → n ≡ note note_kind.ObjectRemoved oid 0 0 → limit ≡ limit_of mid removal_need → Noted mid new (note_with n gone) → KeptTo limit new
-        → IfUpdated b mid (made.Remove oid) (λ before u. HoldsTable before c (parts_held new) new.gained new.lost (updated u gone (shown before.machine))) → UpdatesLine a c old new (request.Destroy x) (Ok (reply.Destroy gone))
+        → IfUpdated b mid (made.Remove oid) (λ before u. HoldsTable before c (volume_held new) new.gained new.lost (updated u gone (shown before.machine))) → UpdatesLine a c old new (request.Destroy x) (Ok (reply.Destroy gone))
     destroyed =
         line_removed (request.Destroy x) note_kind.ObjectRemoved (λ oid. reply.Destroy oid) (made.Remove oid) (update.Removes oid) refl (λ before same now later. (may before same now).1)
         (λ before same now. destroy_takes before.machine x oid (may before same now).0) (λ o why told. absurd (cc))
@@ -279,7 +279,7 @@ module _ {a b c : Outside} {old mid new : SessionState} (world : IsWorld a) (is 
 
   module _ (may : IfShown a old (λ before. AcceptsOf before.machine (request.DropVersion x) x oid × AsksDrop (shown before.machine) oid)) where
     pub dropped : (gone : Oid) (n : OpNote) (limit : Limit) → gone ≡ oid → n ≡ note note_kind.Dropped oid 0 0 → limit ≡ limit_of mid removal_need → Noted mid new (note_with n gone) → KeptTo limit new
-        → IfUpdated b mid (made.Drop oid) (λ before u. HoldsTable before c (parts_held new) new.gained new.lost (updated u gone (shown before.machine))) → UpdatesLine a c old new (request.DropVersion x) (Ok (reply.DropVersion gone))
+        → IfUpdated b mid (made.Drop oid) (λ before u. HoldsTable before c (volume_held new) new.gained new.lost (updated u gone (shown before.machine))) → UpdatesLine a c old new (request.DropVersion x) (Ok (reply.DropVersion gone))
     dropped =
         line_removed (request.DropVersion x) note_kind.Dropped (λ oid. reply.DropVersion oid) (made.Drop oid) (update.Drops oid) refl (λ before same now later. (may before same now).1)
         (λ before same now. drop_takes before.machine x oid (may before same now).0) (λ o why told. absurd (cc))

@@ -31,8 +31,8 @@ use Rattle.transactions.specs.Editing.{KeptTo, full_in, limit_of, room_refusal}
 use Rattle.session_core.specs.Meant.{meant, held_view, pick_of}
 use Rattle.session_core.specs.Counts.{free_in}
 use Rattle.transactions.specs.Refused.{long_txn}
-use Rattle.session_core.specs.Sessions.{SessionState, IsSession}
-use Rattle.session_core.specs.Updates.{HoldsTable, Noted, parts_held}
+use Rattle.session_core.specs.Sessions.{SessionState, IsSession, volume_held}
+use Rattle.session_core.specs.Updates.{HoldsTable, Noted}
 use Rattle.session_core.proofs.Accepted.{took_place}
 use Rattle.session_core.proofs.Refusing.{free_left, none_is_false}
 use Rattle.session_core.proofs.Showing.{session_geometry}
@@ -45,7 +45,6 @@ renamed s names is = record {
   units = is.units;
   pages = is.pages;
   in_use = is.in_use;
-  room = is.room;
   sizes = is.sizes;
   groups = is.groups;
   few_groups = is.few_groups;
@@ -91,7 +90,7 @@ same_machine m {table} {same_table} {notes} {same_notes} {names} {same_names} q 
     ap (λ (t : Table). machine_with m t notes names q) one ∙ ap (λ (ns : List OpNote). machine_with m same_table ns names q) two ∙ ap (λ (ns : List BoundName). machine_with m same_table same_notes ns q) three
 
 module _ {a b : Outside} {before : View SessionState} (now : ShowsNow meant a before) (mid : SessionState) (noted : OpNote) (names : List BoundName) (table : Table) (did : Noted before.session mid noted)
-    (holds : HoldsTable before b (parts_held mid) mid.gained mid.lost table) where
+    (holds : HoldsTable before b (volume_held mid) mid.gained mid.lost table) where
   -- the session after the update, with these names
   abbrev pub session_then : SessionState
   session_then = record mid { names = names }
@@ -162,12 +161,9 @@ module _ {a b : Outside} {before : View SessionState} (now : ShowsNow meant a be
       shows = holds.shows machine_then session_then
           (record {
             is = renamed mid names did.is;
-            parts = refl;
+            volume = refl;
             gained = refl;
             lost = refl;
-            geometry = ap (λ (s : SessionState). s.geometry) did.same;
-            log = ap (λ (s : SessionState). s.log) did.same;
-            kept = ap (λ (s : SessionState). s.kept) did.same;
             scans = ap (λ (s : SessionState). s.scans) did.same;
           })
           (record { rules = rules_then opened last named; geometry = refl; committed = refl; scans = refl; working = refl; pages = refl; segs = refl; touched = refl })

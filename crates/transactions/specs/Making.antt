@@ -11,9 +11,9 @@ use Rattle.table_model.specs.Machines.{shown}
 use Rattle.table_model.specs.Steps.{note}
 use Rattle.session_core.specs.declared.updates.ObjectUpdate.{ObjectUpdate}
 use Rattle.session_core.specs.Performed.{NamesOid}
-use Rattle.session_core.specs.Sessions.{SessionState}
+use Rattle.session_core.specs.Sessions.{SessionState, volume_held}
 use Rattle.session_core.specs.TableUpdates.{updated}
-use Rattle.session_core.specs.Updates.{HoldsTable, IfUpdated, Noted, parts_held}
+use Rattle.session_core.specs.Updates.{HoldsTable, IfUpdated, Noted}
 use Rattle.transactions.specs.declared.edits.Need.{Need}
 use Rattle.transactions.specs.Editing.{KeptTo, limit_of}
 
@@ -34,5 +34,5 @@ pub record MakesVersion (a b : Outside) (old new : SessionState) (update : Objec
   pub mid : SessionState
   pub noted : Noted old mid (note kind oid 0 0)
   pub kept : KeptTo (limit_of old making_need) mid
-  pub holds : IfUpdated a old update (λ before u. HoldsTable before b (parts_held mid) mid.gained mid.lost (updated u oid (shown before.machine)))
+  pub holds : IfUpdated a old update (λ before u. HoldsTable before b (volume_held mid) mid.gained mid.lost (updated u oid (shown before.machine)))
   pub bound : new ≡ record mid { names = old.names ++ bound_to name oid ∷ [] }

@@ -59,15 +59,14 @@ untouched_before m n page v changed k l others p (held, row) = ⊎_elim
 
 module _ {S : Type 0} (g : ground.Ghosts S) where
   -- the store alone moved on
-  store_ready : (freed : ℕ → Type 0) (a b : S) (m : Overlays) (k : LoggedSet) (r s : List ℕ) → length s ≡ length r → g.frees freed a b → ((p : ℕ) → IsUsed (g.used a) k p → IsUsed (g.used b) k p)
-      → IsReady g a m k r → IsReady g b m k s
-  store_ready freed a b m k r s long x uses is =
+  store_ready : (freed : ℕ → Type 0) (a b : S) (m : Overlays) (k : LoggedSet) → g.frees freed a b → ((p : ℕ) → IsUsed (g.used a) k p → IsUsed (g.used b) k p)
+      → IsReady g a m k → IsReady g b m k
+  store_ready freed a b m k x uses is =
       let same = g.frees_geometry freed a b x in
       record {
         ready = g.frees_ready freed a b x is.ready;
         overlay = is.overlay ∙ sym same;
         held_len = is.held_len ∙ sym (ap area_end same);
-        room_len = long ∙ is.room_len ∙ sym (ap (λ (h : Geometry). h.page_size) same);
         catalog = is.catalog;
         in_use = λ page. uses page (is.in_use page);
         images = is.images;
@@ -75,9 +74,9 @@ module _ {S : Type 0} (g : ground.Ghosts S) where
       }
 
   -- units were given back, none of which is a page that the working state has
-  pub store_frees : (freed : ℕ → Type 0) (a b : S) (m : MutBor Overlays) (k : MutBor LoggedSet) (r t : MutBor (List ℕ)) → t.ghost_name ≡ r.ghost_name → length t.now ≡ length r.now
+  pub store_frees : (freed : ℕ → Type 0) (a b : S) (m : MutBor Overlays) (k : MutBor LoggedSet) (r t : MutBor (List ℕ)) → t.ghost_name ≡ r.ghost_name
       → g.frees freed a b → ((p : ℕ) → g.used a p ≡ true → (freed p → ⊥) → g.used b p ≡ true) → ((p : ℕ) → is_held k.now p ≡ true → freed p → ⊥) → Moves g freed a b m m k k r t
-  store_frees freed a b m k r t name long x used apart = record {
+  store_frees freed a b m k r t name x used apart = record {
     store = x;
     meta = refl;
     pages = refl;
@@ -86,21 +85,20 @@ module _ {S : Type 0} (g : ground.Ghosts S) where
     given_back = λ page known now. unchanged m.now k.now page known now;
     untouched = λ page is. is;
     committed = refl;
-    ready = store_ready freed a b m.now k.now r.now t.now long x (λ page is held. used page (is held) (apart page held));
+    ready = store_ready freed a b m.now k.now x (λ page is held. used page (is held) (apart page held));
   }
 
   -- no unit was given back
-  pub store_moves : (a b : S) (m : MutBor Overlays) (k : MutBor LoggedSet) (r t : MutBor (List ℕ)) → t.ghost_name ≡ r.ghost_name → length t.now ≡ length r.now
+  pub store_moves : (a b : S) (m : MutBor Overlays) (k : MutBor LoggedSet) (r t : MutBor (List ℕ)) → t.ghost_name ≡ r.ghost_name
       → g.frees NoUnit a b → ((p : ℕ) → g.used a p ≡ true → (NoUnit p → ⊥) → g.used b p ≡ true) → Moves g NoUnit a b m m k k r t
-  store_moves a b m k r t name long x used = store_frees NoUnit a b m k r t name long x used (λ p held none. none)
+  store_moves a b m k r t name x used = store_frees NoUnit a b m k r t name x used (λ p held none. none)
 
   -- a working image was changed
-  meta_ready : (a : S) (m n : Overlays) (k : LoggedSet) (r : List ℕ) (page : ℕ) (x : List ℕ) → is_held k page ≡ true → n ≡ record m { working = with_row page (Some x) m.working } → IsReady g a m k r → IsReady g a n k r
-  meta_ready a m n k r page x there changed is = record {
+  meta_ready : (a : S) (m n : Overlays) (k : LoggedSet) (page : ℕ) (x : List ℕ) → is_held k page ≡ true → n ≡ record m { working = with_row page (Some x) m.working } → IsReady g a m k → IsReady g a n k
+  meta_ready a m n k page x there changed is = record {
     ready = is.ready;
     overlay = ap (λ (o : Overlays). o.geometry) changed ∙ is.overlay;
     held_len = is.held_len;
-    room_len = is.room_len;
     catalog = is.catalog;
     in_use = is.in_use;
     images = λ p image row. ⊎_elim
@@ -124,15 +122,15 @@ module _ {S : Type 0} (g : ground.Ghosts S) where
         (λ (differ : p ≢ page). row_other m.now n.now page (Some x) changed p differ ∙ unchanged m.now k.now p known now) (cases_eq p page);
     untouched = untouched_before m.now n.now page (Some x) changed k.now k.now (λ p differ. refl);
     committed = ap (λ (o : Overlays). o.committed) changed;
-    ready = meta_ready a m.now n.now k.now r.now page x there changed;
+    ready = meta_ready a m.now n.now k.now page x there changed;
   }
 
   -- a page was taken, or given back: its flag and its working image were changed
-  flags_ready : (a b : S) (m n : Overlays) (k l : LoggedSet) (r : List ℕ) (page : ℕ) (v : Option (List ℕ)) (held : Bool) → page ≢ catalog_no → page < length k
+  flags_ready : (a b : S) (m n : Overlays) (k l : LoggedSet) (page : ℕ) (v : Option (List ℕ)) (held : Bool) → page ≢ catalog_no → page < length k
       → ((x : List ℕ) → v ≡ Some x → held ≡ true) → (v ≡ None → held ≡ false) → g.frees NoUnit a b
       → ((p : ℕ) → IsUsed (g.used a) k p → IsUsed (g.used b) l p) → n ≡ record m { working = with_row page v m.working } → l ≡ slice_set k page held
-      → IsReady g a m k r → IsReady g b n l r
-  flags_ready a b m n k l r page v held other inside some none x uses changed set is =
+      → IsReady g a m k → IsReady g b n l
+  flags_ready a b m n k l page v held other inside some none x uses changed set is =
       let same = g.frees_geometry NoUnit a b x in
       let flag = held_here k l page held set inside in
       let row = row_here m n page v changed in
@@ -140,7 +138,6 @@ module _ {S : Type 0} (g : ground.Ghosts S) where
         ready = g.frees_ready NoUnit a b x is.ready;
         overlay = ap (λ (o : Overlays). o.geometry) changed ∙ is.overlay ∙ sym same;
         held_len = held_long k l page held set ∙ is.held_len ∙ sym (ap area_end same);
-        room_len = is.room_len ∙ sym (ap (λ (h : Geometry). h.page_size) same);
         catalog = held_other k l page held set catalog_no (λ here. other (sym here)) ∙ is.catalog;
         in_use = λ p. uses p (is.in_use p);
         images = λ p image has. ⊎_elim
@@ -167,7 +164,7 @@ module _ {S : Type 0} (g : ground.Ghosts S) where
             (λ (differ : p ≢ page). row_other m.now n.now page (Some x) changed p differ ∙ unchanged m.now k.now p known (sym (held_other k.now l.now page true set p differ) ∙ now)) (cases_eq p page);
         untouched = untouched_before m.now n.now page (Some x) changed k.now l.now (λ p differ. held_other k.now l.now page true set p differ);
         committed = ap (λ (o : Overlays). o.committed) changed;
-        ready = flags_ready a b m.now n.now k.now l.now r.now page (Some x) true other inside (λ y is. refl) (λ is. absurd (some_apart x is)) (g.frees_leads NoUnit a b leads) uses changed set;
+        ready = flags_ready a b m.now n.now k.now l.now page (Some x) true other inside (λ y is. refl) (λ is. absurd (some_apart x is)) (g.frees_leads NoUnit a b leads) uses changed set;
       }
 
   -- a page is given back, and its unit stays used
@@ -188,7 +185,7 @@ module _ {S : Type 0} (g : ground.Ghosts S) where
             (λ (differ : p ≢ page). row_other m.now n.now page None changed p differ ∙ unchanged m.now k.now p known (sym (held_other k.now l.now page false set p differ) ∙ now)) (cases_eq p page);
         untouched = untouched_before m.now n.now page None changed k.now l.now (λ p differ. held_other k.now l.now page false set p differ);
         committed = ap (λ (o : Overlays). o.committed) changed;
-        ready = flags_ready a a m.now n.now k.now l.now r.now page None false other inside (λ y is. absurd (some_apart y (sym is))) (λ is. refl) stays uses changed set;
+        ready = flags_ready a a m.now n.now k.now l.now page None false other inside (λ y is. absurd (some_apart y (sym is))) (λ is. refl) stays uses changed set;
       }
 
 -- ---- the units

@@ -4,4 +4,5 @@ pub mod LeafPieces
 pub mod Logged
 pub mod Ported
 pub mod Reading
+pub mod State
 pub mod Stays

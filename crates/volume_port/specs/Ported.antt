@@ -25,11 +25,10 @@ IsUsed used pages page = is_held pages page ≡ true → used page ≡ true
 
 -- The store is ready, and all parts are of its geometry. The working state has the catalog, and each page that it has is used. Of the touched pages it
 -- has just those with an image.
-pub record IsReady {S : Type 0} (g : ground.Ghosts S) (store : S) (meta : Overlays) (pages : LoggedSet) (room : List ℕ) : Type 0 where
+pub record IsReady {S : Type 0} (g : ground.Ghosts S) (store : S) (meta : Overlays) (pages : LoggedSet) : Type 0 where
   pub ready : g.ready store
   pub overlay : meta.geometry ≡ g.geometry store
   pub held_len : length pages ≡ area_end (g.geometry store)
-  pub room_len : length room ≡ (g.geometry store).page_size
   pub catalog : is_held pages catalog_no ≡ true
   pub in_use : (page : ℕ) → IsUsed (g.used store) pages page
   pub images : (page : ℕ) (image : List ℕ) → lookup (nat_eq page) meta.working ≡ Some (Some image) → is_held pages page ≡ true
@@ -55,7 +54,7 @@ pub record Moves {S : Type 0} (g : ground.Ghosts S) (freed : ℕ → Type 0) (a 
   pub given_back : (page : ℕ) → IsKnown m.now k.now page → is_held l.now page ≡ false → lookup (nat_eq page) n.now.working ≡ Some None
   pub untouched : (page : ℕ) → IsUntouched n.now l.now page → IsUntouched m.now k.now page
   pub committed : n.now.committed ≡ m.now.committed
-  pub ready : IsReady g a m.now k.now r.now → IsReady g b n.now l.now t.now
+  pub ready : IsReady g a m.now k.now → IsReady g b n.now l.now
 
 -- where neither the flags nor the working images changed
 pub unchanged : (meta : Overlays) (pages : LoggedSet) (page : ℕ) → IsKnown meta pages page → is_held pages page ≡ false → lookup (nat_eq page) meta.working ≡ Some None

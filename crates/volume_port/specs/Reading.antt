@@ -18,16 +18,15 @@ abbrev pub TellsBytes : Outside → List Frames → Type 0
 TellsBytes o groups = IsSome o.disk × All (Lends o.disk) groups
 
 -- The parts are of one geometry, the disk has room for its volume, and no frame is of the superblock or the log.
-pub record CanRead (g : Geometry) (disk_size : ℕ) (groups : List Frames) (index : ℕ) (meta : Overlays) (room : List ℕ) : Type 0 where
+pub record CanRead (g : Geometry) (disk_size : ℕ) (groups : List Frames) (index : ℕ) (meta : Overlays) : Type 0 where
   pub group : index < length groups
   pub disk : volume_bytes g ≤ disk_size
   pub frames : All (λ (f : Frames). f.page_size ≡ g.page_size) groups
   pub behind : AreFromCatalog groups
   pub overlay : meta.geometry ≡ g
-  pub room_len : length room ≡ g.page_size
 
 -- An earlier and a later state of a port for reading alone, over the same borrowed parts: the disk was read at most, and nothing changed but frames,
--- in groups of the kinds that they were, and the room, which is as long as it was.
+-- in groups of the kinds that they were, and the room.
 pub record Reads {D : Type 0} (outside : D → Outside) (d e : MutBor D) (f h : MutBor (List Frames)) (r t : MutBor (List ℕ)) (i j : ℕ) (a b : Geometry)
     (m n : Overlays) (k l : LoggedSet) : Type 0 where
   pub disk : e.ghost_name ≡ d.ghost_name
@@ -42,7 +41,6 @@ pub record Reads {D : Type 0} (outside : D → Outside) (d e : MutBor D) (f h : 
   pub kinds : SameKinds f.now h.now
   pub behind : AreFromCatalog f.now → AreFromCatalog h.now
   pub told : TellsBytes (outside d.now) f.now → TellsBytes (outside e.now) h.now
-  pub room_len : length t.now ≡ length r.now
 
 module _ {D : Type 0} (outside : D → Outside) where
   pub reads_same : (d : MutBor D) (f : MutBor (List Frames)) (r : MutBor (List ℕ)) (i : ℕ) (a : Geometry) (m : Overlays) (k : LoggedSet)
@@ -60,7 +58,6 @@ module _ {D : Type 0} (outside : D → Outside) where
     kinds = refl;
     behind = λ h. h;
     told = λ h. h;
-    room_len = refl;
   }
 
   pub reads_on : (d e x : MutBor D) (f h y : MutBor (List Frames)) (r t u : MutBor (List ℕ)) (i j z : ℕ) (a b c : Geometry) (m n o : Overlays) (k l q : LoggedSet)
@@ -78,20 +75,18 @@ module _ {D : Type 0} (outside : D → Outside) where
     kinds = two.kinds ∙ one.kinds;
     behind = λ is. two.behind (one.behind is);
     told = λ is. two.told (one.told is);
-    room_len = two.room_len ∙ one.room_len;
   }
 
   pub reads_ready : (d e : MutBor D) (f h : MutBor (List Frames)) (r t : MutBor (List ℕ)) (i j : ℕ) (a b : Geometry) (m n : Overlays) (k l : LoggedSet)
-      → Reads outside d e f h r t i j a b m n k l → CanRead a (outside d.now).size f.now i m r.now → CanRead b (outside e.now).size h.now j n t.now
+      → Reads outside d e f h r t i j a b m n k l → CanRead a (outside d.now).size f.now i m → CanRead b (outside e.now).size h.now j n
   reads_ready d e f h r t i j a b m n k l x ready =
       let size : (outside e.now).size ≡ (outside d.now).size = x.only.nothing.only.goes.size in
-      subst (λ (g : Geometry). CanRead g (outside e.now).size h.now j n t.now) (sym x.geometry)
-      (subst (λ (p : ℕ). CanRead a (outside e.now).size h.now p n t.now) (sym x.index)
+      subst (λ (g : Geometry). CanRead g (outside e.now).size h.now j n) (sym x.geometry)
+      (subst (λ (p : ℕ). CanRead a (outside e.now).size h.now p n) (sym x.index)
       (record {
         group = omega (arith, ready.group, same_count f.now h.now x.kinds);
         disk = omega (arith, ready.disk, size);
         frames = x.sizes a.page_size ready.frames;
         behind = x.behind ready.behind;
         overlay = ap (λ (o : Overlays). o.geometry) x.meta ∙ ready.overlay;
-        room_len = x.room_len ∙ ready.room_len;
       }))

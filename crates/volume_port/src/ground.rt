@@ -12,7 +12,7 @@ impl<'a, D: Disk> Ground for VolumePort<'a, D> {
 
     ghost geometry = { λ s. ⟦<Store<'a, D> as Ground>⟧.geometry s.store };
 
-    ghost ready = { λ s. IsReady ⟦<Store<'a, D> as Ground>⟧ s.store s.meta.now s.pages.now s.room.now };
+    ghost ready = { λ s. IsReady ⟦<Store<'a, D> as Ground>⟧ s.store s.meta.now s.pages.now };
 
     ghost tells = { λ s. ⟦<Store<'a, D> as Ground>⟧.tells s.store };
 

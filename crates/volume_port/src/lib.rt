@@ -12,6 +12,8 @@ mod pages;
 mod port;
 mod reading;
 mod reading_port;
+mod room;
+mod state;
 
 pub use giving_port::GivingPort;
 pub use giving_up::{MAIN, own_root, release_root, release_roots};
@@ -19,3 +21,5 @@ pub use law::committed_pages_stay;
 pub use logged::LoggedPages;
 pub use port::VolumePort;
 pub use reading_port::ReadingPort;
+pub use room::PageRoom;
+pub use state::VolumeState;

@@ -19,6 +19,7 @@ impl<'a, D: Disk> VolumePort<'a, D> {
         requires page { InPageArea self.old.store.geometry page.0 }
         ensures bytes { OnOk result (⟦<VolumePort<'a, D> as Ground>⟧.tells self.old
             → self.new.room.now ≡ ⟦<VolumePort<'a, D> as Ground>⟧.image self.old page.0) }
+        ensures len { OnOk result (length self.new.room.now ≡ self.old.store.geometry.page_size) }
         ensures kept { Keeps ⟦<VolumePort<'a, D> as Ground>⟧ self.old self.new }
         ensures no_damage { IfErr result (λ fault. IsDamage fault → ⊥) }
         ensures cause { HasCause (⟦<VolumePort<'a, D> as Ground>⟧.faults self.old)
@@ -31,7 +32,7 @@ impl<'a, D: Disk> VolumePort<'a, D> {
     fn filled(&self) -> &[u8]
         ensures { result.now ≡ self.now.room.now }
     {
-        self.room
+        self.room.bytes()
     }
 }
 

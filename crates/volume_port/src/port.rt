@@ -2,6 +2,7 @@
 ghost use Rattle.std.specs.Prelude.{◌≡◌};
 
 use crate::logged::LoggedPages;
+use crate::room::PageRoom;
 use disk_model::Disk;
 use meta_pages::Meta;
 use tree_store::Store;
@@ -13,8 +14,7 @@ pub struct VolumePort<'a, D: Disk> {
     pub store: Store<'a, D>,
     pub meta: &'a mut Meta,
     pub pages: &'a mut LoggedPages,
-    /// The bytes of the logged page that was lent last, one page.
-    pub room: &'a mut [u8],
+    pub room: &'a mut PageRoom,
 }
 
 impl<'a, D: Disk> VolumePort<'a, D> {
@@ -23,7 +23,7 @@ impl<'a, D: Disk> VolumePort<'a, D> {
         store: Store<'a, D>,
         meta: &'a mut Meta,
         pages: &'a mut LoggedPages,
-        room: &'a mut [u8],
+        room: &'a mut PageRoom,
     ) -> VolumePort<'a, D>
         ensures store { result.store ≡ store.entry }
         ensures meta { result.meta.ghost_name ≡ meta.entry.ghost_name }

@@ -11,6 +11,7 @@ ghost use Rattle.volume_port.specs.LeafPieces.{MayHaveFrame, IsKept, home_bytes,
 
 use crate::logged::LoggedPages;
 use crate::reading::read_image;
+use crate::room::PageRoom;
 use buffer_groups::Groups;
 use disk_model::Disk;
 use ex_base::{Geometry, Ground, PageNo, PortFault, ReadBlocks, ReadPages, ReadVolume};
@@ -23,8 +24,7 @@ use std::alloc::Global;
 pub struct ReadingPort<'a, D: Disk> {
     pub disk: &'a mut D,
     pub groups: &'a mut Groups,
-    /// The bytes of the page that was lent last, one page.
-    pub room: &'a mut [u8],
+    pub room: &'a mut PageRoom,
     /// The group that pages are read through.
     pub index: u32,
     /// Whether a piece of one page of a leaf is read through a frame, so that the next piece of that page makes no call of the disk.
@@ -44,7 +44,7 @@ impl<'a, D: Disk> Ground for ReadingPort<'a, D> {
 
     ghost geometry = { λ s. s.geometry };
 
-    ghost ready = { λ s. CanRead s.geometry (D.outside s.disk.now).size s.groups.now s.index s.meta.now s.room.now };
+    ghost ready = { λ s. CanRead s.geometry (D.outside s.disk.now).size s.groups.now s.index s.meta.now };
 
     ghost tells = { λ s. TellsBytes (D.outside s.disk.now) s.groups.now };
 
@@ -106,6 +106,7 @@ impl<'a, D: Disk> ReadingPort<'a, D> {
         requires page { InPageArea self.old.geometry page.0 }
         ensures bytes { OnOk result (⟦<ReadingPort<'a, D> as Ground>⟧.tells self.old
             → self.new.room.now ≡ ⟦<ReadingPort<'a, D> as Ground>⟧.image self.old page.0) }
+        ensures len { OnOk result (length self.new.room.now ≡ self.old.geometry.page_size) }
         ensures kept { Keeps ⟦<ReadingPort<'a, D> as Ground>⟧ self.old self.new }
         ensures no_damage { IfErr result (λ fault. IsDamage fault → ⊥) }
         ensures cause { HasCause (⟦<ReadingPort<'a, D> as Ground>⟧.faults self.old)
@@ -209,7 +210,7 @@ impl<'a, D: Disk> ReadingPort<'a, D> {
     fn filled(&self) -> &[u8]
         ensures { result.now ≡ self.now.room.now }
     {
-        self.room
+        self.room.bytes()
     }
 }
 

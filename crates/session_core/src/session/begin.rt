@@ -37,7 +37,7 @@ impl Session {
         if last == u64::MAX {
             return Ok(Reply::No(Refusal::IdsSpent));
         }
-        if self.meta.start(alloc, &page).is_err() {
+        if self.volume.meta.start(alloc, &page).is_err() {
             return Err(Stop::Memory);
         }
         self.notes.clear();
@@ -72,17 +72,17 @@ impl Session {
         if let Err(fault) = release_roots(
             alloc,
             host,
-            &mut self.units,
-            &mut self.groups,
-            &self.geometry,
-            &self.pages,
-            &self.kept,
+            &mut self.volume.units,
+            &mut self.volume.groups,
+            &self.volume.geometry,
+            &self.volume.pages,
+            &self.volume.kept,
             &self.gained,
         ) {
             return Err(stopped(fault));
         }
-        take_back(&self.meta, &mut self.units, &mut self.pages, &self.kept);
-        self.meta.undo();
+        take_back(&self.volume.meta, &mut self.volume.units, &mut self.volume.pages, &self.volume.kept);
+        self.volume.meta.undo();
         self.rooms.forget();
         self.names.unbind_marked();
         self.notes.clear();

@@ -6,22 +6,17 @@ ghost use Rattle.ex_base.specs.Sizes.{volume_bytes};
 ghost use Rattle.slotted_pages.specs.FilePage.{room_of};
 ghost use Rattle.slotted_pages.specs.Edits.{slots_of};
 ghost use Rattle.slotted_pages.specs.Reads.{IsPage};
-ghost use Rattle.session_views.specs.View.{View};
-ghost use Rattle.volume_port.specs.Reading.{CanRead};
-ghost use Rattle.session_core.specs.Finding.{HasParts, IfLive, IfShown, LeavesFrames, PortShows};
+ghost use Rattle.session_core.specs.Finding.{IfLive, IfShown};
 ghost use Rattle.session_core.specs.Needs.{room_beside};
-ghost use Rattle.session_core.specs.Sessions.{SessionState};
 
-use super::objects::stopped;
-use super::{MAIN, Session};
-use buffer_groups::Groups;
+use super::Session;
+use super::objects::or_stop;
 use disk_model::Disk;
-use ex_base::{Geometry, Oid, PageNo, PortFault, ReadPages, ReadVolume, Seen};
-use meta_pages::Meta;
+use ex_base::{Oid, PageNo, PortFault, ReadPages, Seen};
 use session_views::Stop;
 use slotted_pages::SlottedView;
 use std::alloc::Global;
-use volume_port::{LoggedPages, ReadingPort};
+use volume_port::{MAIN, ReadingPort};
 
 /// The fault of a page that is not one of a file.
 fn no_file_page(page: PageNo) -> PortFault
@@ -55,54 +50,6 @@ fn room_at<P: ReadPages>(pages: &mut P, alloc: Global, page: PageNo) -> Result<u
     }
 }
 
-// The bytes that more bodies may take on the page of a version, of a volume.
-fn room_in<V: ReadVolume>(volume: &mut V, alloc: Global, oid: &Oid) -> Result<u32, PortFault>
-    requires { V.ready volume.old }
-    ensures room { (before : View SessionState) → PortShows V.Ground volume.old before
-        → IfOk result (λ room. room ≡ room_beside before oid.now) }
-    ensures sound { (before : View SessionState) → PortShows V.Ground volume.old before
-        → IfLive before oid.now (λ bytes. IfErr result (λ fault. IsDamage fault → ⊥)) }
-    ensures kept { Keeps V.Ground volume.old volume.new }
-    ensures cause { HasCause (V.faults volume.old) (V.faults volume.new) result }
-{
-    room_at(volume, alloc, oid.page)
-}
-
-// The bytes that more bodies may take on the page of a version, through a port for reading over these parts of a session.
-fn room_on<D: Disk>(
-    alloc: Global,
-    disk: &mut D,
-    groups: &mut Groups,
-    room: &mut [u8],
-    geometry: &Geometry,
-    meta: &Meta,
-    pages: &LoggedPages,
-    oid: &Oid,
-) -> Result<u32, PortFault>
-    requires { CanRead geometry.now (D.outside disk.old).size groups.old 0 meta.now room.old }
-    ensures leaves { LeavesFrames (D.outside disk.old) (D.outside disk.new) groups.old groups.new }
-    ensures room { (old : SessionState) → HasParts old geometry.now meta.now pages.now groups.old
-        → IfOk result (λ room. IfShown (D.outside disk.old) old (λ before. room
-        ≡ room_beside before oid.now)) }
-    ensures sound { (old : SessionState) → HasParts old geometry.now meta.now pages.now groups.old
-        → IfErr result (λ fault. IfShown (D.outside disk.old) old (λ before. IfLive before oid.now
-        (λ bytes. IsDamage fault → ⊥))) }
-    ensures cause { HasCause (D.outside disk.old).disk_faults
-        (D.outside disk.new).disk_faults result }
-{
-    let mut port = ReadingPort {
-        disk,
-        groups,
-        room,
-        index: MAIN,
-        keeps_leaves: false,
-        geometry: *geometry,
-        meta,
-        pages,
-    };
-    room_in(&mut port, alloc, oid)
-}
-
 impl Session {
     ghost use Rattle.session_core.specs.Finding.{IsOutside, LineStops};
     ghost use Rattle.session_core.specs.Sessions.{IsSession};
@@ -125,19 +72,16 @@ impl Session {
         ensures sound { IfErr result (λ why. IfShown (D.outside disk.old) self.old
             (λ before. IfLive before oid.now (λ bytes. IsOutside why))) }
     {
-        let mut room = self.page_room(alloc)?;
-        match room_on(
-            alloc,
+        let mut port = ReadingPort {
             disk,
-            &mut self.groups,
-            &mut room,
-            &self.geometry,
-            &self.meta,
-            &self.pages,
-            oid,
-        ) {
-            Ok(room) => Ok(room),
-            Err(fault) => Err(stopped(fault)),
-        }
+            groups: &mut self.volume.groups,
+            room: &mut self.room,
+            index: MAIN,
+            keeps_leaves: false,
+            geometry: self.volume.geometry,
+            meta: &self.volume.meta,
+            pages: &self.volume.pages,
+        };
+        or_stop(room_at(&mut port, alloc, oid.page))
     }
 }

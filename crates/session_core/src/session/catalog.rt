@@ -13,7 +13,7 @@ ghost use Rattle.ex_base.specs.Area.{catalog_no};
 ghost use Rattle.commits.specs.Room.{AreBehindLog};
 ghost use Rattle.session_core.specs.Catalogs.{stop_of, catalog_over, ReadingStops};
 
-use super::{MAIN, Session};
+use super::Session;
 use buffer_groups::{FetchFault, Groups};
 use disk_model::Disk;
 use ex_base::{NoteKind, Oid, OpNote, PageNo, Seen};
@@ -21,6 +21,7 @@ use meta_pages::Meta;
 use object_files::CatalogView;
 use session_views::Stop;
 use std::alloc::{AllocError, Global};
+use volume_port::MAIN;
 
 /// A copy of a logged page as the open transaction has it, or else as the last commit left it.
 fn copy_of<D: Disk>(
@@ -50,8 +51,8 @@ fn copy_of<D: Disk>(
     Ok(bytes.to_vec(alloc)?)
 }
 
-/// What the session is to stop at where the catalog is outside of its grammar.
-const DAMAGED_CATALOG: Stop = Stop::Damaged {
+/// What the session is to stop at where the catalog is outside of its grammar, or has no number for a commit.
+pub(super) const DAMAGED_CATALOG: Stop = Stop::Damaged {
     page: PageNo::CATALOG,
     want: Seen::CATALOG,
     got: Seen::NOTHING,
@@ -132,7 +133,7 @@ impl Session {
             → FramesLend (D.outside disk.old) self.old → page.items ≡ catalog_bytes self.old d) }
         ensures stops { IfErr result (Stops (D.outside disk.old) (D.outside disk.new) self.old) }
     {
-        read_catalog(alloc, &mut self.groups, &self.meta, disk)
+        read_catalog(alloc, &mut self.volume.groups, &self.volume.meta, disk)
     }
 
     /// The page becomes the working catalog, and an update of this kind, of no version, is noted. Where memory is wanted, the transaction can't go on: the
@@ -146,7 +147,6 @@ impl Session {
         requires opened { self.old.opened ≡ true }
         requires catalog { IsCatalogPage catalog.now }
         requires whole { length catalog.now ≡ self.old.geometry.page_size }
-        requires number { (catalog_on catalog.now).last < 2 ^ 64 - 1 }
         requires updates { length self.old.notes < updates_most }
         requires touched { length self.old.meta.working < touched_most }
         ensures done { OnOk result (self.new ≡ updated self.old catalog.now kind) }
@@ -155,7 +155,7 @@ impl Session {
         ensures log { self.new.log ≡ self.old.log }
         ensures down { self.new.down ≡ self.old.down }
     {
-        self.meta.edit(alloc, PageNo::CATALOG, catalog)?;
+        self.volume.meta.edit(alloc, PageNo::CATALOG, catalog)?;
         self.notes.push(OpNote {
             kind,
             oid: Oid::NONE,

@@ -1,5 +1,5 @@
 //! A transaction is committed, and a checkpoint is made.
-ghost use Rattle.std.specs.Prelude.{◌≡◌, ◌≤◌, ◌<◌, ◌+◌, ◌-◌, ◌^◌, length, Ok, Err, IfErr, OnOk, true};
+ghost use Rattle.std.specs.Prelude.{◌≡◌, ◌≤◌, ◌<◌, ◌+◌, ◌-◌, ◌^◌, length, Ok, Err, IfErr, OnOk, true, false};
 ghost use Rattle.ex_base.specs.Sizes.{volume_bytes};
 ghost use Rattle.object_files.specs.Catalog.{CatalogOf};
 ghost use Rattle.object_files.specs.Edits.{IsCatalogPage};
@@ -7,7 +7,7 @@ ghost use Rattle.object_files.specs.Reads.{catalog_on, with_numbers};
 ghost use Rattle.session_core.specs.Commits.{stop_of};
 
 use super::Session;
-use super::catalog::view_of;
+use super::catalog::{DAMAGED_CATALOG, view_of};
 use super::objects::stopped;
 use super::settle::settle;
 use commits::{CommitFault, checkpoint, commit};
@@ -18,6 +18,15 @@ use session_views::Stop;
 use std::alloc::Global;
 use table_model::{Refusal, Reply};
 use volume_port::release_roots;
+
+/// Whether a number is left for a commit that follows the last one of this catalog.
+fn has_next(page: &[u8]) -> bool
+    requires page { IsCatalogPage page.now }
+    ensures yes { result ≡ true → (catalog_on page.now).last < 2 ^ 64 - 1 }
+    ensures no { result ≡ false → (catalog_on page.now).last ≡ 2 ^ 64 - 1 }
+{
+    view_of(page).last_txn() != u64::MAX
+}
 
 /// Puts the number of the next commit into a copy of the catalog, and answers it.
 fn number_next(page: &mut Vec<u8>) -> u64
@@ -56,7 +65,8 @@ impl Session {
     ghost use Rattle.session_core.specs.Steps.{Steps};
 
     /// Makes the working state the committed one, under the number after that of the last commit. Each tree whose root the transaction gave up has an owner
-    /// less, before anything is written. Refused where no transaction is open. It stops where the disk fails and where memory is wanted.
+    /// less, before anything is written. Refused where no transaction is open. It stops where the disk fails, where memory is wanted, and where the catalog has no
+    /// number left, which it had when the transaction was opened.
     pub fn commit<H: Host>(&mut self, alloc: Global, host: &mut H) -> Result<Reply, Stop>
         requires room { volume_bytes self.old.geometry ≤ (H.outside host.old).size }
         ensures steps { Steps (H.outside host.old)
@@ -87,37 +97,40 @@ impl Session {
             Ok(page) => page,
             Err(stop) => return Err(stop),
         };
+        if !has_next(&page) {
+            return Err(DAMAGED_CATALOG);
+        }
         if let Err(fault) = release_roots(
             alloc,
             host,
-            &mut self.units,
-            &mut self.groups,
-            &self.geometry,
-            &self.pages,
-            &self.kept,
+            &mut self.volume.units,
+            &mut self.volume.groups,
+            &self.volume.geometry,
+            &self.volume.pages,
+            &self.volume.kept,
             &self.lost,
         ) {
             return Err(stopped(fault));
         }
         let number = number_next(&mut page);
-        if self.meta.edit(alloc, PageNo::CATALOG, &page).is_err() {
+        if self.volume.meta.edit(alloc, PageNo::CATALOG, &page).is_err() {
             return Err(Stop::Memory);
         }
         // From here on the transaction is committed, or the session is down.
         self.opened = false;
         self.gained.clear();
         self.lost.clear();
-        settle(&self.meta, &mut self.units, &mut self.kept);
+        settle(&self.volume.meta, &mut self.volume.units, &mut self.volume.kept);
         if let Err(fault) = commit(
             alloc,
-            &mut self.log,
-            &mut self.meta,
-            &mut self.groups,
+            &mut self.volume.log,
+            &mut self.volume.meta,
+            &mut self.volume.groups,
             host,
             &self.notes,
             number,
         ) {
-            self.meta.undo();
+            self.volume.meta.undo();
             self.rooms.forget();
             return Err(uncommitted(fault));
         }
@@ -138,7 +151,7 @@ impl Session {
         if self.opened {
             return Ok(Reply::No(Refusal::TxnOpen));
         }
-        if checkpoint(&mut self.log, &mut self.meta, &mut self.groups, host).is_err() {
+        if checkpoint(&mut self.volume.log, &mut self.volume.meta, &mut self.volume.groups, host).is_err() {
             return Err(Stop::Disk);
         }
         Ok(Reply::Checkpoint)

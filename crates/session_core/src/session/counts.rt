@@ -15,7 +15,7 @@ impl Session {
         ensures value { result ≡ self.now.geometry }
         ensures session { IsSession self.now }
     {
-        self.geometry
+        self.volume.geometry
     }
 
     /// Whether a transaction is open.
@@ -45,7 +45,7 @@ impl Session {
     pub fn log_records(&self) -> u32
         ensures { result ≡ self.now.log.count }
     {
-        self.log.count()
+        self.volume.log.count()
     }
 
     /// How many updates the open transaction has.
@@ -61,14 +61,14 @@ impl Session {
         ensures value { result ≡ length self.now.meta.working }
         ensures few { result ≤ touched_most }
     {
-        self.meta.touched()
+        self.volume.meta.touched()
     }
 
     /// How many units of an area are not in use.
     pub fn free(&self, area: Area) -> u32
         ensures { result ≡ free_in self.now area }
     {
-        self.units.free(area)
+        self.volume.units.free(area)
     }
 
     /// How many units of an area are in use.
@@ -76,8 +76,8 @@ impl Session {
         ensures { result ≡ used_of self.now area }
     {
         match area {
-            Area::Page => self.geometry.pages - self.units.free(Area::Page),
-            Area::Segment => self.geometry.segs - self.units.free(Area::Segment),
+            Area::Page => self.volume.geometry.pages - self.volume.units.free(Area::Page),
+            Area::Segment => self.volume.geometry.segs - self.volume.units.free(Area::Segment),
         }
     }
 

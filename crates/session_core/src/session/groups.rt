@@ -58,11 +58,11 @@ impl Session {
             frames,
             mru,
         };
-        let page_size = self.geometry.page_size;
+        let page_size = self.volume.geometry.page_size;
         add_group(
             alloc,
             &mut self.group_rows,
-            &mut self.groups,
+            &mut self.volume.groups,
             row,
             page_size,
         )

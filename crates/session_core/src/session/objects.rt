@@ -1,26 +1,20 @@
 //! Objects are found and read.
 ghost use Rattle.std.specs.Prelude.{◌≡◌, ◌≤◌, ◌+◌, ◌⊎◌, ◌^◌, ℕ, length, Some, None, IfOk, IfErr, IfSome, OnOk, MatchResult};
 ghost use Rattle.ex_base.specs.Bytes.{bytes_at};
-ghost use Rattle.ex_base.specs.Ports.{Keeps, HasCause, IsDamage};
 ghost use Rattle.ex_base.specs.Sizes.{volume_bytes, object_most};
-ghost use Rattle.session_views.specs.View.{View};
-ghost use Rattle.volume_port.specs.Reading.{CanRead};
 ghost use Rattle.table_model.specs.Requests.{reference_of};
 ghost use Rattle.trees.specs.Roots.{IsRootFor};
-ghost use Rattle.session_core.specs.Finding.{HasParts, IfFile, IfLive, IfPortFile, IfShown, IsFound, PortShows, IsUnnamed, LeavesFrames, oid_among, oids_listed, stop_at};
-ghost use Rattle.session_core.specs.Sessions.{SessionState};
+ghost use Rattle.session_core.specs.Finding.{IfFile, IfLive, IfShown, IsFound, IsUnnamed, oid_among, oids_listed, stop_at, stop_or};
 
-use super::{MAIN, Session};
+use super::Session;
 use bound_names::NameMap;
-use buffer_groups::Groups;
 use disk_model::{Disk, Host};
-use ex_base::{Geometry, Oid, PageNo, PortFault, ReadVolume};
-use meta_pages::Meta;
+use ex_base::{Oid, PageNo, PortFault};
 use session_views::Stop;
 use std::alloc::Global;
 use table_model::{Refusal, Subject};
 use versions::{Found, find, objects, read_at};
-use volume_port::{LoggedPages, ReadingPort};
+use volume_port::{MAIN, ReadingPort};
 
 /// What a session stops at where a call of its port failed.
 pub(super) fn stopped(fault: PortFault) -> Stop
@@ -30,6 +24,16 @@ pub(super) fn stopped(fault: PortFault) -> Stop
         PortFault::Disk => Stop::Disk,
         PortFault::Memory => Stop::Memory,
         PortFault::Damaged { page, want, got } => Stop::Damaged { page, want, got },
+    }
+}
+
+/// What a call of a port answered, with what the session stops at where it failed.
+pub(super) fn or_stop<T>(told: Result<T, PortFault>) -> Result<T, Stop>
+    ensures { result ≡ stop_or told }
+{
+    match told {
+        Ok(found) => Ok(found),
+        Err(fault) => Err(stopped(fault)),
     }
 }
 
@@ -66,173 +70,6 @@ fn oid_named(names: &NameMap, x: &Subject<'_>) -> Result<Oid, Refusal>
     }
 }
 
-// Looks in a volume for the version that an OID names.
-fn look_in<V: ReadVolume>(
-    volume: &mut V,
-    alloc: Global,
-    oid: &Oid,
-) -> Result<Option<Found>, PortFault>
-    requires { V.ready volume.old }
-    ensures found { (before : View SessionState) → PortShows V.Ground volume.old before
-        → IfOk result (IsFound before oid.now) }
-    ensures sound { (before : View SessionState) → PortShows V.Ground volume.old before
-        → IfErr result (λ fault. IsDamage fault → ⊥) }
-    ensures limit { IfOk result (λ found. IfSome found (λ found. found.size ≤ object_most)) }
-    ensures root { IfOk result (λ found. IfSome found (λ found. IfSome found.root
-        (λ root. IsRootFor (V.geometry volume.old) root))) }
-    ensures kept { Keeps V.Ground volume.old volume.new }
-    ensures cause { HasCause (V.faults volume.old) (V.faults volume.new) result }
-{
-    find(volume, alloc, oid)
-}
-
-// Looks for the version that an OID names, through a port for reading over these parts of a session.
-fn look_on<D: Disk>(
-    alloc: Global,
-    disk: &mut D,
-    groups: &mut Groups,
-    room: &mut [u8],
-    geometry: &Geometry,
-    meta: &Meta,
-    pages: &LoggedPages,
-    oid: &Oid,
-) -> Result<Option<Found>, PortFault>
-    requires { CanRead geometry.now (D.outside disk.old).size groups.old 0 meta.now room.old }
-    ensures leaves { LeavesFrames (D.outside disk.old) (D.outside disk.new) groups.old groups.new }
-    ensures found { (old : SessionState) → HasParts old geometry.now meta.now pages.now groups.old
-        → IfOk result (λ found. IfShown (D.outside disk.old) old
-        (λ before. IsFound before oid.now found)) }
-    ensures sound { (old : SessionState) → HasParts old geometry.now meta.now pages.now groups.old
-        → IfErr result (λ fault. IfShown (D.outside disk.old) old (λ before. IsDamage fault → ⊥)) }
-    ensures limit { IfOk result (λ found. IfSome found (λ found. found.size ≤ object_most)) }
-    ensures root { IfOk result (λ found. IfSome found (λ found. IfSome found.root
-        (λ root. IsRootFor geometry.now root))) }
-    ensures cause { HasCause (D.outside disk.old).disk_faults
-        (D.outside disk.new).disk_faults result }
-{
-    let mut port = ReadingPort {
-        disk,
-        groups,
-        room,
-        index: MAIN,
-        keeps_leaves: false,
-        geometry: *geometry,
-        meta,
-        pages,
-    };
-    look_in(&mut port, alloc, oid)
-}
-
-// Reads bytes of a version of a volume.
-fn read_in<V: ReadVolume>(
-    volume: &mut V,
-    alloc: Global,
-    oid: &Oid,
-    pos: u64,
-    out: &mut [u8],
-) -> Result<(), PortFault>
-    requires { V.ready volume.old }
-    ensures bytes { (before : View SessionState) → PortShows V.Ground volume.old before
-        → IfLive before oid.now (λ bytes. OnOk result (out.new
-        ≡ bytes_at bytes pos (length out.old))) }
-    ensures sound { (before : View SessionState) → PortShows V.Ground volume.old before
-        → IfLive before oid.now (λ bytes. pos + length out.old ≤ length bytes
-        → IfErr result (λ fault. IsDamage fault → ⊥)) }
-    ensures kept { Keeps V.Ground volume.old volume.new }
-    ensures cause { HasCause (V.faults volume.old) (V.faults volume.new) result }
-{
-    read_at(volume, alloc, oid, pos, out)
-}
-
-// Reads bytes of a version, through a port for reading over these parts of a session.
-fn read_on<D: Disk>(
-    alloc: Global,
-    disk: &mut D,
-    groups: &mut Groups,
-    room: &mut [u8],
-    geometry: &Geometry,
-    meta: &Meta,
-    pages: &LoggedPages,
-    oid: &Oid,
-    pos: u64,
-    out: &mut [u8],
-) -> Result<(), PortFault>
-    requires { CanRead geometry.now (D.outside disk.old).size groups.old 0 meta.now room.old }
-    ensures leaves { LeavesFrames (D.outside disk.old) (D.outside disk.new) groups.old groups.new }
-    ensures bytes { (old : SessionState) → HasParts old geometry.now meta.now pages.now groups.old
-        → IfShown (D.outside disk.old) old (λ before. IfLive before oid.now
-        (λ bytes. OnOk result (out.new ≡ bytes_at bytes pos (length out.old)))) }
-    ensures sound { (old : SessionState) → HasParts old geometry.now meta.now pages.now groups.old
-        → IfShown (D.outside disk.old) old (λ before. IfLive before oid.now (λ bytes. pos
-        + length out.old ≤ length bytes → IfErr result (λ fault. IsDamage fault → ⊥))) }
-    ensures cause { HasCause (D.outside disk.old).disk_faults
-        (D.outside disk.new).disk_faults result }
-{
-    let mut port = ReadingPort {
-        disk,
-        groups,
-        room,
-        index: MAIN,
-        keeps_leaves: false,
-        geometry: *geometry,
-        meta,
-        pages,
-    };
-    read_in(&mut port, alloc, oid, pos, out)
-}
-
-// Lists the current versions of a file of a volume.
-fn list_in<V: ReadVolume>(
-    volume: &mut V,
-    alloc: Global,
-    file_no: u32,
-) -> Result<Vec<Oid>, PortFault>
-    requires { V.ready volume.old }
-    ensures oids { IfOk result (λ oids. IfPortFile V.Ground volume.old file_no
-        (λ before name. oids.items ≡ oids_listed before.machine name)) }
-    ensures sound { IfErr result (λ fault. IfPortFile V.Ground volume.old file_no
-        (λ before name. IsDamage fault → ⊥)) }
-    ensures kept { Keeps V.Ground volume.old volume.new }
-    ensures cause { HasCause (V.faults volume.old) (V.faults volume.new) result }
-{
-    objects(volume, alloc, file_no)
-}
-
-// Lists the current versions of a file, through a port for reading over these parts of a session.
-fn list_on<D: Disk>(
-    alloc: Global,
-    disk: &mut D,
-    groups: &mut Groups,
-    room: &mut [u8],
-    geometry: &Geometry,
-    meta: &Meta,
-    pages: &LoggedPages,
-    file_no: u32,
-) -> Result<Vec<Oid>, PortFault>
-    requires { CanRead geometry.now (D.outside disk.old).size groups.old 0 meta.now room.old }
-    ensures leaves { LeavesFrames (D.outside disk.old) (D.outside disk.new) groups.old groups.new }
-    ensures oids { (old : SessionState) → HasParts old geometry.now meta.now pages.now groups.old
-        → IfOk result (λ oids. IfFile (D.outside disk.old) old file_no (λ before name. oids.items
-        ≡ oids_listed before.machine name)) }
-    ensures sound { (old : SessionState) → HasParts old geometry.now meta.now pages.now groups.old
-        → IfErr result (λ fault. IfFile (D.outside disk.old) old file_no
-        (λ before name. IsDamage fault → ⊥)) }
-    ensures cause { HasCause (D.outside disk.old).disk_faults
-        (D.outside disk.new).disk_faults result }
-{
-    let mut port = ReadingPort {
-        disk,
-        groups,
-        room,
-        index: MAIN,
-        keeps_leaves: false,
-        geometry: *geometry,
-        meta,
-        pages,
-    };
-    list_in(&mut port, alloc, file_no)
-}
-
 /// A version that a line names, and what is told of it.
 #[derive(Clone, Copy)]
 pub struct Named {
@@ -246,17 +83,6 @@ impl Session {
     ghost use Rattle.session_core.specs.Sessions.{IsSession};
     ghost use Rattle.session_core.specs.Steps.{OnlyFrames};
     ghost use Rattle.session_core.specs.Finding.{IsNamed, LineStops, IsOutside};
-
-    /// Room for the bytes of one page, for a port to lend.
-    pub(super) fn page_room(&self, alloc: Global) -> Result<Vec<u8>, Stop>
-        ensures room { IfOk result (λ room. length room.items ≡ self.now.geometry.page_size) }
-        ensures memory { IfErr result (λ why. why ≡ Stop.Memory) }
-    {
-        match vec![in alloc; 0u8; self.geometry.page_size as usize] {
-            Ok(room) => Ok(room),
-            Err(_) => Err(Stop::Memory),
-        }
-    }
 
     /// What is told of the version that an OID names, none where there is none.
     pub(super) fn find_version<D: Disk>(
@@ -277,20 +103,17 @@ impl Session {
         ensures sound { IfErr result (λ why. IfShown (D.outside disk.old) self.old
             (λ before. IsOutside why)) }
     {
-        let mut room = self.page_room(alloc)?;
-        match look_on(
-            alloc,
+        let mut port = ReadingPort {
             disk,
-            &mut self.groups,
-            &mut room,
-            &self.geometry,
-            &self.meta,
-            &self.pages,
-            oid,
-        ) {
-            Ok(found) => Ok(found),
-            Err(fault) => Err(stopped(fault)),
-        }
+            groups: &mut self.volume.groups,
+            room: &mut self.room,
+            index: MAIN,
+            keeps_leaves: false,
+            geometry: self.volume.geometry,
+            meta: &self.volume.meta,
+            pages: &self.volume.pages,
+        };
+        or_stop(find(&mut port, alloc, oid))
     }
 
     /// The version that a line names, or why it is refused: a name that is not bound, or an OID of no version. It stops where the disk fails, where memory
@@ -345,22 +168,17 @@ impl Session {
             (λ before. IfLive before oid.now (λ bytes. pos + length out.old ≤ length bytes
             → IsOutside why))) }
     {
-        let mut room = self.page_room(alloc)?;
-        match read_on(
-            alloc,
+        let mut port = ReadingPort {
             disk,
-            &mut self.groups,
-            &mut room,
-            &self.geometry,
-            &self.meta,
-            &self.pages,
-            oid,
-            pos,
-            out,
-        ) {
-            Ok(()) => Ok(()),
-            Err(fault) => Err(stopped(fault)),
-        }
+            groups: &mut self.volume.groups,
+            room: &mut self.room,
+            index: MAIN,
+            keeps_leaves: false,
+            geometry: self.volume.geometry,
+            meta: &self.volume.meta,
+            pages: &self.volume.pages,
+        };
+        or_stop(read_at(&mut port, alloc, oid, pos, out))
     }
 
     /// The OIDs of the current versions of the file with a number, in order of unique number. It stops where the disk fails, where memory is wanted, and
@@ -380,19 +198,16 @@ impl Session {
         ensures sound { IfErr result (λ why. IfFile (D.outside disk.old) self.old file_no
             (λ before name. IsOutside why)) }
     {
-        let mut room = self.page_room(alloc)?;
-        match list_on(
-            alloc,
+        let mut port = ReadingPort {
             disk,
-            &mut self.groups,
-            &mut room,
-            &self.geometry,
-            &self.meta,
-            &self.pages,
-            file_no,
-        ) {
-            Ok(oids) => Ok(oids),
-            Err(fault) => Err(stopped(fault)),
-        }
+            groups: &mut self.volume.groups,
+            room: &mut self.room,
+            index: MAIN,
+            keeps_leaves: false,
+            geometry: self.volume.geometry,
+            meta: &self.volume.meta,
+            pages: &self.volume.pages,
+        };
+        or_stop(objects(&mut port, alloc, file_no))
     }
 }

@@ -45,7 +45,7 @@ impl Session {
             (λ before. IfTold before version.now (λ bytes. IsOutside why))) }
     {
         // Few pages are touched, and the image of each is a page. So the record of a small version is within one.
-        let touched = self.meta.touched();
+        let touched = self.volume.meta.touched();
         prove!(touched <= TOUCHED_MOST);
         let Ok(mut bytes) = vec![in alloc; 0u8; version.found.size as usize] else {
             return Err(Stop::Memory);
@@ -118,7 +118,7 @@ impl Session {
         ensures sound { IfErr result (λ why. IfShown (H.outside host.old) self.old
             (λ before. IfTold before version.now (λ bytes. IsOutside why))) }
     {
-        let geometry = self.geometry;
+        let geometry = self.volume.geometry;
         let scan = match self.scan_of(alloc, host, name, version, group) {
             Ok(scan) => scan,
             Err(stop) => return Err(stop),
@@ -127,7 +127,7 @@ impl Session {
             Ok(()) => {}
             Err(_) => return Err(Stop::Memory),
         }
-        own_here(&mut self.units, &geometry, &version.found.root);
+        own_here(&mut self.volume.units, &geometry, &version.found.root);
         Ok(())
     }
 
@@ -162,11 +162,11 @@ impl Session {
         if let Err(fault) = release_here(
             alloc,
             host,
-            &mut self.units,
-            &mut self.groups,
-            &self.geometry,
-            &self.pages,
-            &self.kept,
+            &mut self.volume.units,
+            &mut self.volume.groups,
+            &self.volume.geometry,
+            &self.volume.pages,
+            &self.volume.kept,
             &root,
         ) {
             return Err(stopped(fault));

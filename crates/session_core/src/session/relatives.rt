@@ -2,24 +2,21 @@
 ghost use Rattle.std.specs.Prelude.{◌≡◌, ◌≤◌, true, Some, IfOk, IfErr};
 ghost use Rattle.ex_base.specs.Ports.{Keeps, HasCause, IsDamage};
 ghost use Rattle.ex_base.specs.Sizes.{volume_bytes};
-ghost use Rattle.volume_port.specs.Reading.{CanRead};
 ghost use Rattle.session_views.specs.View.{View};
 ghost use Rattle.table_model.specs.Machines.{shown};
 ghost use Rattle.table_model.specs.Refusals.{branches_if, is_only_one};
 ghost use Rattle.table_model.specs.Tables.{versions_of};
-ghost use Rattle.session_core.specs.Finding.{AreRelatives, HasParts, oids_if, IfShown, IfVersion, LeavesFrames, PortShows, TellsVersion};
+ghost use Rattle.session_core.specs.Finding.{AreRelatives, oids_if, IfShown, IfVersion, PortShows, TellsVersion};
 ghost use Rattle.session_core.specs.Sessions.{SessionState};
 
-use super::objects::{Named, stopped};
-use super::{MAIN, Session};
-use buffer_groups::Groups;
+use super::Session;
+use super::objects::{Named, or_stop};
 use disk_model::{Disk, Host};
-use ex_base::{Geometry, Oid, PortFault, ReadVolume};
-use meta_pages::Meta;
+use ex_base::{Oid, PortFault, ReadVolume};
 use session_views::Stop;
 use std::alloc::{AllocError, Global};
 use version_tree::{derived, older, versions};
-use volume_port::{LoggedPages, ReadingPort};
+use volume_port::{MAIN, ReadingPort};
 
 /// Which relatives of a version are asked for.
 #[derive(Clone, Copy, Debug, PartialEq, Eq)]
@@ -66,42 +63,6 @@ fn relatives_in<V: ReadVolume>(
     }
 }
 
-// Lists relatives of a version, through a port for reading over these parts of a session.
-fn relatives_on<D: Disk>(
-    alloc: Global,
-    disk: &mut D,
-    groups: &mut Groups,
-    room: &mut [u8],
-    geometry: &Geometry,
-    meta: &Meta,
-    pages: &LoggedPages,
-    oid: &Oid,
-    relation: Relation,
-) -> Result<Vec<Oid>, PortFault>
-    requires { CanRead geometry.now (D.outside disk.old).size groups.old 0 meta.now room.old }
-    ensures leaves { LeavesFrames (D.outside disk.old) (D.outside disk.new) groups.old groups.new }
-    ensures oids { (old : SessionState) → HasParts old geometry.now meta.now pages.now groups.old
-        → IfShown (D.outside disk.old) old (λ before. IfVersion before oid.now (λ version.
-        IfOk result (λ oids. AreRelatives before.machine version relation oids.items))) }
-    ensures sound { (old : SessionState) → HasParts old geometry.now meta.now pages.now groups.old
-        → IfShown (D.outside disk.old) old (λ before. IfVersion before oid.now (λ version.
-        IfErr result (λ fault. IsDamage fault → ⊥))) }
-    ensures cause { HasCause (D.outside disk.old).disk_faults
-        (D.outside disk.new).disk_faults result }
-{
-    let mut port = ReadingPort {
-        disk,
-        groups,
-        room,
-        index: MAIN,
-        keeps_leaves: false,
-        geometry: *geometry,
-        meta,
-        pages,
-    };
-    relatives_in(&mut port, alloc, oid, relation)
-}
-
 impl Session {
     ghost use Rattle.session_core.specs.Sessions.{IsSession};
     ghost use Rattle.session_core.specs.Steps.{OnlyFrames};
@@ -125,21 +86,17 @@ impl Session {
         ensures sound { IfErr result (λ why. IfShown (D.outside disk.old) self.old
             (λ before. IfVersion before oid.now (λ version. IsOutside why))) }
     {
-        let mut room = self.page_room(alloc)?;
-        match relatives_on(
-            alloc,
+        let mut port = ReadingPort {
             disk,
-            &mut self.groups,
-            &mut room,
-            &self.geometry,
-            &self.meta,
-            &self.pages,
-            oid,
-            relation,
-        ) {
-            Ok(oids) => Ok(oids),
-            Err(fault) => Err(stopped(fault)),
-        }
+            groups: &mut self.volume.groups,
+            room: &mut self.room,
+            index: MAIN,
+            keeps_leaves: false,
+            geometry: self.volume.geometry,
+            meta: &self.volume.meta,
+            pages: &self.volume.pages,
+        };
+        or_stop(relatives_in(&mut port, alloc, oid, relation))
     }
 
     /// Whether the version is derived from another one and no other version is. It stops as `relatives` does.
@@ -159,7 +116,7 @@ impl Session {
         ensures sound { IfErr result (λ why. IfShown (H.outside host.old) self.old
             (λ before. TellsVersion before version.now.oid version.now.found → IsOutside why)) }
     {
-        let _ = &self.geometry;
+        let _ = &self.volume;
         if version.found.head.older.is_none() {
             return Ok(false);
         }
@@ -191,7 +148,7 @@ impl Session {
         ensures sound { IfErr result (λ why. IfShown (H.outside host.old) self.old
             (λ before. TellsVersion before version.now.oid version.now.found → IsOutside why)) }
     {
-        let _ = &self.geometry;
+        let _ = &self.volume;
         if version.found.head.newer.is_some() {
             return Ok(1);
         }

@@ -1,80 +1,17 @@
 //! The shape of a version.
 ghost use Rattle.std.specs.Prelude.{◌≡◌, ◌≤◌, IfOk, IfErr, length};
-ghost use Rattle.ex_base.specs.Ports.{Keeps, HasCause, IsDamage};
 ghost use Rattle.ex_base.specs.Sizes.{volume_bytes};
-ghost use Rattle.session_views.specs.View.{View};
 ghost use Rattle.trees.specs.Roots.{IsRootFor};
-ghost use Rattle.session_core.specs.Finding.{HasParts, IfRoot, IfShown, LeavesFrames, PortShows, TellsShape};
-ghost use Rattle.session_core.specs.Sessions.{SessionState};
-ghost use Rattle.volume_port.specs.Reading.{CanRead};
+ghost use Rattle.session_core.specs.Finding.{IfRoot, IfShown, TellsShape};
 
-use super::objects::stopped;
-use super::{MAIN, Session};
-use buffer_groups::Groups;
+use super::Session;
+use super::objects::or_stop;
 use disk_model::Disk;
-use ex_base::{Geometry, PortFault, ReadVolume, Root};
-use meta_pages::Meta;
+use ex_base::Root;
 use session_views::Stop;
 use std::alloc::Global;
 use tree_insert::leaf_lengths;
-use volume_port::{LoggedPages, ReadingPort};
-
-// The number of leaves of a version's tree in a volume, and the lengths of the first ones.
-fn shape_in<V: ReadVolume>(
-    volume: &mut V,
-    alloc: Global,
-    root: &Root,
-    first: &mut [u32],
-) -> Result<u64, PortFault>
-    requires ready { V.ready volume.old }
-    requires root { IsRootFor (V.geometry volume.old) root.now }
-    ensures shape { (before : View SessionState) → PortShows V.Ground volume.old before
-        → IfRoot before root.now (λ oid. IfOk result
-        (λ leaves. TellsShape before oid leaves first.old first.new)) }
-    ensures sound { (before : View SessionState) → PortShows V.Ground volume.old before
-        → IfRoot before root.now (λ oid. IfErr result (λ fault. IsDamage fault → ⊥)) }
-    ensures kept { Keeps V.Ground volume.old volume.new }
-    ensures cause { HasCause (V.faults volume.old) (V.faults volume.new) result }
-{
-    leaf_lengths(volume, alloc, root, first)
-}
-
-// The number of leaves of a version's tree and the lengths of the first ones, through a port for reading over these parts of a session.
-fn shape_on<D: Disk>(
-    alloc: Global,
-    disk: &mut D,
-    groups: &mut Groups,
-    room: &mut [u8],
-    geometry: &Geometry,
-    meta: &Meta,
-    pages: &LoggedPages,
-    root: &Root,
-    first: &mut [u32],
-) -> Result<u64, PortFault>
-    requires parts { CanRead geometry.now (D.outside disk.old).size groups.old 0 meta.now room.old }
-    requires root { IsRootFor geometry.now root.now }
-    ensures leaves { LeavesFrames (D.outside disk.old) (D.outside disk.new) groups.old groups.new }
-    ensures shape { (old : SessionState) → HasParts old geometry.now meta.now pages.now groups.old
-        → IfShown (D.outside disk.old) old (λ before. IfRoot before root.now
-        (λ oid. IfOk result (λ leaves. TellsShape before oid leaves first.old first.new))) }
-    ensures sound { (old : SessionState) → HasParts old geometry.now meta.now pages.now groups.old
-        → IfShown (D.outside disk.old) old (λ before. IfRoot before root.now
-        (λ oid. IfErr result (λ fault. IsDamage fault → ⊥))) }
-    ensures cause { HasCause (D.outside disk.old).disk_faults
-        (D.outside disk.new).disk_faults result }
-{
-    let mut port = ReadingPort {
-        disk,
-        groups,
-        room,
-        index: MAIN,
-        keeps_leaves: false,
-        geometry: *geometry,
-        meta,
-        pages,
-    };
-    shape_in(&mut port, alloc, root, first)
-}
+use volume_port::{MAIN, ReadingPort};
 
 impl Session {
     ghost use Rattle.session_core.specs.Sessions.{IsSession};
@@ -101,20 +38,16 @@ impl Session {
         ensures sound { IfErr result (λ why. IfShown (D.outside disk.old) self.old
             (λ before. IfRoot before root.now (λ oid. IsOutside why))) }
     {
-        let mut room = self.page_room(alloc)?;
-        match shape_on(
-            alloc,
+        let mut port = ReadingPort {
             disk,
-            &mut self.groups,
-            &mut room,
-            &self.geometry,
-            &self.meta,
-            &self.pages,
-            root,
-            first,
-        ) {
-            Ok(leaves) => Ok(leaves),
-            Err(fault) => Err(stopped(fault)),
-        }
+            groups: &mut self.volume.groups,
+            room: &mut self.room,
+            index: MAIN,
+            keeps_leaves: false,
+            geometry: self.volume.geometry,
+            meta: &self.volume.meta,
+            pages: &self.volume.pages,
+        };
+        or_stop(leaf_lengths(&mut port, alloc, root, first))
     }
 }

@@ -3,21 +3,17 @@ ghost use Rattle.std.specs.Prelude.{◌≡◌, ◌≤◌, IfOk, IfErr};
 ghost use Rattle.std.specs.List.{count_by};
 ghost use Rattle.ex_base.specs.Ports.{Keeps, HasCause, IsDamage};
 ghost use Rattle.ex_base.specs.Sizes.{volume_bytes};
-ghost use Rattle.volume_port.specs.Reading.{CanRead};
-ghost use Rattle.session_core.specs.Finding.{HasParts, IfFile, IfPortFile, LeavesFrames};
-ghost use Rattle.session_core.specs.Sessions.{SessionState};
+ghost use Rattle.session_core.specs.Finding.{IfFile, IfPortFile};
 ghost use Rattle.session_core.specs.Summaries.{IsTally, is_first};
 
-use super::objects::stopped;
-use super::{MAIN, Session};
-use buffer_groups::Groups;
+use super::Session;
+use super::objects::or_stop;
 use disk_model::Disk;
-use ex_base::{Geometry, PortFault, ReadVolume};
-use meta_pages::Meta;
+use ex_base::{PortFault, ReadVolume};
 use session_views::Stop;
 use std::alloc::Global;
 use version_tree::{Member, collect};
-use volume_port::{LoggedPages, ReadingPort};
+use volume_port::{MAIN, ReadingPort};
 
 /// How many objects and versions a file has.
 #[derive(Clone, Copy)]
@@ -58,41 +54,6 @@ fn tally_in<V: ReadVolume>(volume: &mut V, alloc: Global, file_no: u32) -> Resul
     }
 }
 
-// Counts the objects and versions of a file, through a port for reading over these parts of a session.
-fn tally_on<D: Disk>(
-    alloc: Global,
-    disk: &mut D,
-    groups: &mut Groups,
-    room: &mut [u8],
-    geometry: &Geometry,
-    meta: &Meta,
-    pages: &LoggedPages,
-    file_no: u32,
-) -> Result<Tally, PortFault>
-    requires { CanRead geometry.now (D.outside disk.old).size groups.old 0 meta.now room.old }
-    ensures leaves { LeavesFrames (D.outside disk.old) (D.outside disk.new) groups.old groups.new }
-    ensures tally { (old : SessionState) → HasParts old geometry.now meta.now pages.now groups.old
-        → IfOk result (λ tally. IfFile (D.outside disk.old) old file_no (λ before name.
-        IsTally before.machine name tally)) }
-    ensures sound { (old : SessionState) → HasParts old geometry.now meta.now pages.now groups.old
-        → IfErr result (λ fault. IfFile (D.outside disk.old) old file_no
-        (λ before name. IsDamage fault → ⊥)) }
-    ensures cause { HasCause (D.outside disk.old).disk_faults
-        (D.outside disk.new).disk_faults result }
-{
-    let mut port = ReadingPort {
-        disk,
-        groups,
-        room,
-        index: MAIN,
-        keeps_leaves: false,
-        geometry: *geometry,
-        meta,
-        pages,
-    };
-    tally_in(&mut port, alloc, file_no)
-}
-
 impl Session {
     ghost use Rattle.session_core.specs.Sessions.{IsSession};
     ghost use Rattle.session_core.specs.Steps.{OnlyFrames};
@@ -115,19 +76,16 @@ impl Session {
         ensures sound { IfErr result (λ why. IfFile (D.outside disk.old) self.old file_no
             (λ before name. IsOutside why)) }
     {
-        let mut room = self.page_room(alloc)?;
-        match tally_on(
-            alloc,
+        let mut port = ReadingPort {
             disk,
-            &mut self.groups,
-            &mut room,
-            &self.geometry,
-            &self.meta,
-            &self.pages,
-            file_no,
-        ) {
-            Ok(tally) => Ok(tally),
-            Err(fault) => Err(stopped(fault)),
-        }
+            groups: &mut self.volume.groups,
+            room: &mut self.room,
+            index: MAIN,
+            keeps_leaves: false,
+            geometry: self.volume.geometry,
+            meta: &self.volume.meta,
+            pages: &self.volume.pages,
+        };
+        or_stop(tally_in(&mut port, alloc, file_no))
     }
 }

@@ -11,7 +11,7 @@ ghost use Rattle.trees.specs.Owners.{page_here};
 ghost use Rattle.volume_port.specs.GivingUp.{CountsRoot, GivesTrees, OwnRoots, ReleasesRoots};
 ghost use Rattle.volume_port.specs.Giving.{is_logged};
 ghost use Rattle.tree_store.specs.Stored.{Fits, IsCounted};
-ghost use Rattle.session_core.specs.Turning.{NonePaged, RootWent, RootsTurned, TakenOut};
+ghost use Rattle.session_core.specs.Turning.{NonePaged, TakenOut, VolumeGives, VolumeOwns, VolumeTurned, VolumeWent};
 
 use crate::updates::Done;
 use buffer_groups::Groups;
@@ -19,7 +19,7 @@ use disk_model::Disk;
 use ex_base::{Geometry, PortFault, Root};
 use page_alloc::{Filled, Units};
 use std::alloc::{AllocError, Global};
-use volume_port::{LoggedPages, own_root, release_root};
+use volume_port::{LoggedPages, VolumeState, own_root, release_root};
 
 /// Whether two roots have the same page.
 fn same_page(one: &Root, other: &Root) -> bool
@@ -124,35 +124,39 @@ pub(super) fn release_here<D: Disk>(
 fn turn_gone<D: Disk>(
     alloc: Global,
     disk: &mut D,
-    units: &mut Units,
-    groups: &mut Groups,
-    geometry: &Geometry,
-    pages: &LoggedPages,
-    kept: &Filled<bool>,
+    volume: &mut VolumeState,
     gained: &mut Vec<Root>,
     lost: &mut Vec<Root>,
     gone: &Option<Root>,
 ) -> Result<(), PortFault>
-    requires ready { Fits geometry.now (D.outside disk.old).size groups.old 0 units.old }
-    requires held { length pages.now ≡ area_end geometry.now }
-    requires flags { length kept.now ≡ area_end geometry.now }
-    ensures gives { GivesTrees (is_logged pages.now kept.now) geometry.now (D.outside disk.old)
-        (D.outside disk.new) units.old units.new groups.old groups.new }
-    ensures went { OnOk result (RootWent pages.now kept.now geometry.now (D.outside disk.old)
-        groups.old units.old units.new gained.old.items gained.new.items lost.old.items
-        lost.new.items gone.now) }
+    requires ready { Fits volume.old.geometry (D.outside disk.old).size volume.old.groups 0
+        volume.old.units }
+    requires held { length volume.old.pages ≡ area_end volume.old.geometry }
+    requires flags { length volume.old.kept ≡ area_end volume.old.geometry }
+    ensures gives { VolumeGives (D.outside disk.old) (D.outside disk.new) volume.old volume.new }
+    ensures rest { volume.new ≡ record volume.old { units = volume.new.units; groups = volume.new.groups } }
+    ensures went { OnOk result (VolumeWent (D.outside disk.old) volume.old volume.new
+        gained.old.items gained.new.items lost.old.items lost.new.items gone.now) }
     ensures few_gained { length gained.new.items ≤ length gained.old.items }
     ensures few_lost { length lost.new.items ≤ suc (length lost.old.items) }
     ensures sound { IfErr result (λ fault. IsDamage fault
         → ((rest : List Root) → TakenOut gained.old.items rest gone.now
-        → OwnRoots pages.now kept.now geometry.now (D.outside disk.old) groups.old units.old
-        (root_here gone.now)) → ⊥) }
+        → VolumeOwns (D.outside disk.old) volume.old volume.old.units (root_here gone.now)) → ⊥) }
     ensures cause { HasCause (D.outside disk.old).disk_faults
         (D.outside disk.new).disk_faults result }
 {
     if let Some(root) = gone {
         if take_out(gained, root) {
-            return release_root(alloc, disk, units, groups, geometry, pages, kept, root);
+            return release_root(
+                alloc,
+                disk,
+                &mut volume.units,
+                &mut volume.groups,
+                &volume.geometry,
+                &volume.pages,
+                &volume.kept,
+                root,
+            );
         }
         add_here(lost, gone)?;
     }
@@ -167,37 +171,31 @@ fn turn_gone<D: Disk>(
 pub(super) fn turn_roots<D: Disk>(
     alloc: Global,
     disk: &mut D,
-    units: &mut Units,
-    groups: &mut Groups,
-    geometry: &Geometry,
-    pages: &LoggedPages,
-    kept: &Filled<bool>,
+    volume: &mut VolumeState,
     gained: &mut Vec<Root>,
     lost: &mut Vec<Root>,
     done: &Done,
 ) -> Result<(), PortFault>
-    requires ready { Fits geometry.now (D.outside disk.old).size groups.old 0 units.old }
-    requires held { length pages.now ≡ area_end geometry.now }
-    requires flags { length kept.now ≡ area_end geometry.now }
-    ensures gives { GivesTrees (is_logged pages.now kept.now) geometry.now (D.outside disk.old)
-        (D.outside disk.new) units.old units.new groups.old groups.new }
-    ensures turned { OnOk result (RootsTurned pages.now kept.now geometry.now
-        (D.outside disk.old) groups.old units.old units.new gained.old.items gained.new.items
-        lost.old.items lost.new.items done.now.gone done.now.come) }
+    requires ready { Fits volume.old.geometry (D.outside disk.old).size volume.old.groups 0
+        volume.old.units }
+    requires held { length volume.old.pages ≡ area_end volume.old.geometry }
+    requires flags { length volume.old.kept ≡ area_end volume.old.geometry }
+    ensures gives { VolumeGives (D.outside disk.old) (D.outside disk.new) volume.old volume.new }
+    ensures rest { volume.new ≡ record volume.old { units = volume.new.units; groups = volume.new.groups } }
+    ensures turned { OnOk result (VolumeTurned (D.outside disk.old) volume.old volume.new
+        gained.old.items gained.new.items lost.old.items lost.new.items done.now.gone
+        done.now.come) }
     ensures few_gained { length gained.new.items ≤ suc (length gained.old.items) }
     ensures few_lost { length lost.new.items ≤ suc (length lost.old.items) }
     ensures sound { IfErr result (λ fault. IsDamage fault
-        → ((counted : UnitSet) (rest : List Root) → CountsRoot done.now.come units.old counted
+        → ((counted : UnitSet) (rest : List Root) → CountsRoot done.now.come volume.old.units counted
         → TakenOut gained.old.items rest done.now.gone
-        → OwnRoots pages.now kept.now geometry.now (D.outside disk.old) groups.old counted
-        (root_here done.now.gone)) → ⊥) }
+        → VolumeOwns (D.outside disk.old) volume.old counted (root_here done.now.gone)) → ⊥) }
     ensures cause { HasCause (D.outside disk.old).disk_faults
         (D.outside disk.new).disk_faults result }
 {
-    own_here(units, geometry, &done.come);
-    turn_gone(
-        alloc, disk, units, groups, geometry, pages, kept, gained, lost, &done.gone,
-    )?;
+    own_here(&mut volume.units, &volume.geometry, &done.come);
+    turn_gone(alloc, disk, volume, gained, lost, &done.gone)?;
     add_here(gained, &done.come)?;
     Ok(())
 }

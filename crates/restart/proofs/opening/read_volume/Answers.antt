@@ -18,22 +18,22 @@ use Rattle.restart.proofs.BadParts.{catalog_bad, content_bad}
 use Rattle.restart.proofs.LastRecord.{count_within}
 use Rattle.restart.proofs.Opened.{catalog_after_log, catalog_before_log, no_working, none_logged, page_after_log, reads_as, same_log}
 use Rattle.restart.proofs.Superblocks.{fault_of, part_is_bad, same_fault}
-use Rattle.restart.specs.declared.opening.OpenedParts.{OpenedParts}
+use Rattle.volume_port.specs.declared.state.VolumeState.{VolumeState}
 use Rattle.restart.specs.Opening.{HasCatalog}
 use Rattle.restart.proofs.opening.read_volume.Given as given
 use Rattle.restart.proofs.opening.read_volume.Goals as goal
 use Rattle.restart.proofs.opening.read_volume.Goals.{After-test_catalog, After-walk_volume}
 
 pub returns-in-Err-clause-bad : goal.returns-in-Err-clause-bad
-returns-in-Err-clause-bad g c part is image holds = c.read_geometry.ensures.bad part (c.in-Err.is ∙ ap (fault_of Geometry) (same_fault OpenedParts c.in-Err.fault _ is)) image holds
+returns-in-Err-clause-bad g c part is image holds = c.read_geometry.ensures.bad part (c.in-Err.is ∙ ap (fault_of Geometry) (same_fault VolumeState c.in-Err.fault _ is)) image holds
 
 pub returns-in-Err-read_log-clause-bad : goal.returns-in-Err-read_log-clause-bad
 returns-in-Err-read_log-clause-bad g c part is image holds =
-    c.read_log.ensures.bad part (c.in-Err-read_log.is ∙ ap (fault_of _) (same_fault OpenedParts c.in-Err-read_log.fault _ is)) image (c.read_geometry.ensures.only.nothing.disk ∙ holds) (c.in-Ok.ensures.found image holds)
+    c.read_log.ensures.bad part (c.in-Err-read_log.is ∙ ap (fault_of _) (same_fault VolumeState c.in-Err-read_log.fault _ is)) image (c.read_geometry.ensures.only.nothing.disk ∙ holds) (c.in-Ok.ensures.found image holds)
 
 pub returns-in-Err-read_overlay-clause-bad : goal.returns-in-Err-read_overlay-clause-bad
 returns-in-Err-read_overlay-clause-bad g c part is image holds =
-    c.read_overlay.ensures.bad part (c.in-Err-read_overlay.is ∙ ap (fault_of _) (same_fault OpenedParts c.in-Err-read_overlay.fault _ is)) image (c.in-Ok.ensures.found image holds)
+    c.read_overlay.ensures.bad part (c.in-Err-read_overlay.is ∙ ap (fault_of _) (same_fault VolumeState c.in-Err-read_overlay.fault _ is)) image (c.in-Ok.ensures.found image holds)
     (subst (λ (rs : List LogRecord). SaysLog c.in-Ok.geometry rs image) (sym c.as_slice.ensures) (c.in-Ok-read_log.ensures.records image (c.read_geometry.ensures.only.nothing.disk ∙ holds)))
 
 -- the log's records, each of whose entries applies
@@ -64,7 +64,7 @@ tested_is g c image k holds here = catalog_after_log c.in-Ok.geometry image c.in
 pub returns-in_default-clause-bad : goal.returns-in_default-clause-bad
 returns-in_default-clause-bad g c part is image holds =
     let after = (goal.at.returns-in_default-clause-bad g c).After-test_catalog in
-    part_is_bad OpenedParts CatalogPart part image is
+    part_is_bad VolumeState CatalogPart part image is
     (catalog_bad image c.in-Ok.geometry c.in-Ok-read_log.records (c.in-Ok.ensures.found image holds) (says g after image holds)
     (λ k here. c.in_default.ensures.none k (catalog_before_log c.in-Ok.geometry image c.in-Ok-read_log.records c.deref.result.now c.last_txn.result k (tested g after image holds) (number g after) here)))
 
@@ -80,7 +80,7 @@ returns-in-Err-walk_volume-clause-bad g c part is image holds =
     let after = (goal.at.returns-in-Err-walk_volume-clause-bad g c).After-test_catalog in
     content_bad image c.in-Ok.geometry c.in-Ok-read_log.records (c.in-Ok.ensures.found image holds) (says g after image holds)
     c.in-Some.catalog (tested_is g after image c.in-Some.catalog holds c.in-Some.ensures.found) part
-    (c.walk_volume.ensures.bad part image c.in-Ok-read_log.records (c.in-Err-walk_volume.is ∙ ap (fault_of _) (same_fault OpenedParts c.in-Err-walk_volume.fault _ is)) (held g after image holds) (shown g after))
+    (c.walk_volume.ensures.bad part image c.in-Ok-read_log.records (c.in-Err-walk_volume.is ∙ ap (fault_of _) (same_fault VolumeState c.in-Err-walk_volume.fault _ is)) (held g after image holds) (shown g after))
 
 only : (g : given.Over) (c : After-walk_volume g) → ReadsOnly (g.D.World.outside c.args.disk.now) (g.D.World.outside c.walk_volume.new.disk)
 only g c = reads_trans (reads_trans (reads_trans c.read_geometry.ensures.only c.read_log.ensures.only) c.read_catalog.ensures.only) c.walk_volume.ensures.only

@@ -22,5 +22,4 @@ returns c =
       frames = rw c.in_ok-groups.ensures (All-cons P c.in_ok-main.main [] (ap (λ (f : Frames). f.page_size) c.in_ok-main.ensures) (All-nil P));
       behind = rw c.in_ok-groups.ensures (All-cons Q c.in_ok-main.main [] (rw c.in_ok-main.ensures (All-nil R)) (All-nil Q));
       overlay = ap (λ (o : Overlays). o.geometry) c.in_ok-make.ensures;
-      room_len = omega (arith, c.in_ok-vec.ensures.len);
     }

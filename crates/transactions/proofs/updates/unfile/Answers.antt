@@ -8,7 +8,7 @@ use Rattle.object_files.specs.Reads.{catalog_on}
 use Rattle.table_model.specs.Requests as request
 use Rattle.transactions.proofs.Accepted.{unfile_told, unfile_no}
 use Rattle.session_core.proofs.Accepted.{no_open_txn}
-use Rattle.transactions.proofs.Files.{name_used, edited_page, edited_number, read_work}
+use Rattle.transactions.proofs.Files.{name_used, edited_page}
 use Rattle.session_core.proofs.Refusing.{closed_refused}
 use Rattle.session_core.proofs.Sessions.{viewed}
 use Rattle.transactions.proofs.updates.unfile.Goals as goal
@@ -33,12 +33,6 @@ take_file-requires-clause-file g c =
 pub update_catalog-requires-clause-catalog : goal.update_catalog-requires-clause-catalog
 update_catalog-requires-clause-catalog g c =
     subst (λ (b : List ℕ). IsCatalogPage b) (sym c.deref-2.ensures.value) (edited_page c.in_ok-page.page.items c.take_file.new.page.items _ c.take_file.ensures.removed)
-
-pub update_catalog-requires-clause-number : goal.update_catalog-requires-clause-number
-update_catalog-requires-clause-number g c =
-    subst (λ (b : List ℕ). (catalog_on b).last < 2 ^ 64 - 1) (sym c.deref-2.ensures.value)
-    (edited_number c.in_ok-page.page.items c.take_file.new.page.items _ c.take_file.ensures.removed
-    (read_work c.args.session.now c.in_ok-page.page.items c.is_open.ensures.session (sym c.is_open.ensures.value ∙ c.if-not-is_open.false) c.in_ok-page.ensures.image))
 
 pub returns-in-Ok : goal.returns-in-Ok
 returns-in-Ok g c =

@@ -3,7 +3,7 @@ use Rattle.table_model.specs.Requests as request
 use Rattle.table_model.specs.declared.reply.Refusal.TheVariants as refusal
 use Rattle.session_core.specs.contracts.session.Session as session
 use Rattle.session_core.specs.Sessions.{SessionState}
-use Rattle.session_core.proofs.Sessions.{not_begun, is_begun, seen, still_closed, number_left, begun_is, if_error, read_last, started_with}
+use Rattle.session_core.proofs.Sessions.{not_begun, is_begun, seen, still_closed, begun_is, if_error, read_last, started_with}
 use Rattle.session_core.proofs.Quiet.{refused_at_once}
 use Rattle.session_core.proofs.Refusing.{open_refused}
 use Rattle.session_core.proofs.Accepted.{begin_quietly, begin_spent}
@@ -27,8 +27,7 @@ invariant_of-self g c =
 
 pub invariant_of-self-2 : goal.invariant_of-self-2
 invariant_of-self-2 g c =
-    is_begun (session.the_view c.self-2.inside) c.start.new.self c.clear.new.self.items c.in_ok-page.page.items c.self-2.invariant (still_closed c.self-2.view_is c.self.view_is c.catalog.ensures.frames c.if-self.false) (started_with c.start.new.self (session.the_view c.self-2.inside).meta c.deref-2.result.now c.in_ok-page.page.items (if_no_error c.start.result (sym c.if-is_err.ensures.value) c.start.ensures.ok) c.deref-2.ensures.value) c.clear.ensures.items c.in_ok-page.ensures.catalog
-    (number_left c.last_txn-last.result c.in_ok-page.page.items c.in_ok-page.ensures.catalog (read_last c.last_txn-last.result c.view_of.result c.deref.result.now c.in_ok-page.page.items c.last_txn-last.ensures c.view_of.ensures c.deref.ensures.value) c.if-last.false)
+    is_begun (session.the_view c.self-2.inside) c.start.new.self c.clear.new.self.items c.in_ok-page.page.items c.self-2.invariant (still_closed c.self-2.view_is c.self.view_is c.catalog.ensures.frames c.if-self.false) (started_with c.start.new.self (session.the_view c.self-2.inside).meta c.deref-2.result.now c.in_ok-page.page.items (if_no_error c.start.result (sym c.if-is_err.ensures.value) c.start.ensures.ok) c.deref-2.ensures.value) c.clear.ensures.items
 
 pub returns : goal.returns
 returns g c =

@@ -1,7 +1,9 @@
-use Rattle.std.proofs.Common.{◌≡◌, ◌∙◌, All, ap, sym, subst, ℕ, List, ◌≤◌, length, Err, arith}
+use Rattle.std.proofs.Common.{◌≡◌, ◌∙◌, All, ap, refl, sym, subst, ℕ, List, ◌≤◌, length, Err, arith}
 use Rattle.std.specs.List.{AllByRecursion}
 use Rattle.std.proofs.lemmas.Bool.{both_ways}
 use Rattle.ex_base.specs.declared.geometry.Geometry.{Geometry}
+use Rattle.ex_base.specs.declared.faults.Seen.{Seen}
+use Rattle.object_files.specs.Reads.{catalog_on}
 use Rattle.ex_base.specs.declared.names.OpNote.{OpNote}
 use Rattle.ex_base.specs.declared.names.Root.{Root}
 use Rattle.ex_base.specs.Sizes.{volume_bytes}
@@ -20,14 +22,14 @@ use Rattle.volume_port.specs.GivingUp.{OwnRoots}
 use Rattle.session_views.specs.declared.engine.Stop.TheVariants as stop
 use Rattle.session_core.specs.contracts.session.Session as session
 use Rattle.session_core.specs.Sessions.{IsSession, SessionState}
-use Rattle.session_core.proofs.Accepted.{no_open_txn}
+use Rattle.session_core.proofs.Accepted.{commit_spent, no_open_txn}
 use Rattle.session_core.proofs.Committing.{Commits, numbered_pages}
 use Rattle.session_core.proofs.CommitSteps.{GaveLost}
 use Rattle.session_core.proofs.Quiet.{quiet_stop}
 use Rattle.session_core.proofs.Refusing.{closed_refused}
 use Rattle.session_core.proofs.Releasing.{gave_up, given_session, room_read}
 use Rattle.session_core.proofs.Sessions.{after_commit, if_error, ready, seen}
-use Rattle.session_core.proofs.Stopping.{quietly}
+use Rattle.session_core.proofs.Stopping.{kinds_differ, quietly}
 use Rattle.session_core.proofs.Tracking.{gone_put}
 use Rattle.session_core.proofs.Writing.{WasKept, WasMade, closed_as, commit_done, commit_left, commit_logged, commit_stopped, commits_at, frames_at, gave_at, lost_stopped, memory_fault, moments_at, own_at, settled_at}
 use Rattle.session_core.proofs.session.Session.commit.Goals as goal
@@ -42,6 +44,12 @@ returns-in-Err-clause-steps g c =
     let only = c.catalog.ensures.frames in
     quietly request.Commit _ (g.H.World.is_world c.args.host.now) (seen c.self.view_is c.self.invariant)
     (quiet_stop request.Commit c.in-Err.stop only.reads (ap (λ (s : SessionState). s.geometry) only.same) (ap (λ (s : SessionState). s.log) only.same) (ap (λ (s : SessionState). s.down) only.same) c.in-Err.ensures.stops)
+
+pub returns-then-not-has_next-clause-steps : goal.returns-then-not-has_next-clause-steps
+returns-then-not-has_next-clause-steps g c =
+    commit_spent c.args.self.now c.catalog.new.self c.in-Ok.page.items _ _ _ (g.H.World.is_world c.args.host.now) (seen c.self.view_is c.self.invariant) c.catalog.ensures.frames
+    (ap (λ (t : SessionState). t.opened) (sym c.self.view_is) ∙ c.if-not-self.false) (record { catalog = c.in-Ok.ensures.catalog; read = c.in-Ok.ensures.read })
+    (ap (λ (l : List ℕ). (catalog_on l).last) (sym c.deref.ensures.value) ∙ c.has_next.ensures.no c.if-not-has_next.true) (λ same. absurd (kinds_differ _ _ refl refl (ap (λ (s : Seen). s.kind) same)))
 
 pub invariant_of-self : goal.invariant_of-self
 invariant_of-self g c =
@@ -71,7 +79,7 @@ returns-in-Err-release_roots-clause-steps g c =
     lost_stopped s _ mid.groups c.in-Err-release_roots.fault c.stopped.result c.stopped.ensures (g.H.World.is_world c.args.host.now) (seen c.self.view_is c.self.invariant) only.reads only.lends c.release_roots.ensures.gives.only
     c.in-Err-release_roots.ensures.cause
     (λ damage own. c.in-Err-release_roots.ensures.sound damage
-    (subst (λ (roots : List Root). OwnRoots two.pages two.kept two.geometry i two.groups two.units roots) (sym c.deref.ensures.value) (own_at s mid two only.same c.self-2.view_is own)))
+    (subst (λ (roots : List Root). OwnRoots two.pages two.kept two.geometry i two.groups two.units roots) (sym c.deref-2.ensures.value) (own_at s mid two only.same c.self-2.view_is own)))
     (ap (λ (t : SessionState). t.geometry) (c.self-2.view_is ∙ only.same)) (ap (λ (t : SessionState). t.down) (c.self-2.view_is ∙ only.same))
 
 pub returns-in-Err-release_roots-clause-unwritten : goal.returns-in-Err-release_roots-clause-unwritten
@@ -132,7 +140,7 @@ commit-requires-clause-room g c =
     let given = c.release_roots.new.units in
     let groups = c.release_roots.new.groups in
     let image = c.number_next-number.new.page.items in
-    let edited = (if_no_error c.edit.result (sym c.if-is_err.ensures.value) c.edit.ensures.ok ∙ ap (λ (l : List ℕ). numbered_pages two.meta l) c.deref-2.ensures.value) in
+    let edited = (if_no_error c.edit.result (sym c.if-is_err.ensures.value) c.edit.ensures.ok ∙ ap (λ (l : List ℕ). numbered_pages two.meta l) c.deref-3.ensures.value) in
     let room = room_read s mid two only.same c.self-2.view_is only.reads c.requires.room in
     subst (λ (n : ℕ). volume_bytes c.edit.new.self.geometry ≤ n) (sym c.release_roots.ensures.gives.only.nothing.only.goes.size)
     (subst (λ (h : Geometry). volume_bytes h ≤ i.size) (sym (ap (λ (o : Overlays). o.geometry) edited ∙ c.self-2.invariant.meta)) room)
@@ -150,7 +158,7 @@ commit-requires-clause-sizes g c =
     let groups = c.release_roots.new.groups in
     let is_given = given_session two given groups c.self-2.invariant (room_read s mid two only.same c.self-2.view_is only.reads c.requires.room) c.release_roots.ensures.gives in
     let image = c.number_next-number.new.page.items in
-    let edited = (if_no_error c.edit.result (sym c.if-is_err.ensures.value) c.edit.ensures.ok ∙ ap (λ (l : List ℕ). numbered_pages two.meta l) c.deref-2.ensures.value) in
+    let edited = (if_no_error c.edit.result (sym c.if-is_err.ensures.value) c.edit.ensures.ok ∙ ap (λ (l : List ℕ). numbered_pages two.meta l) c.deref-3.ensures.value) in
     subst (λ (h : Geometry). All (λ (f : Frames). f.page_size ≡ h.page_size) groups) (sym (ap (λ (o : Overlays). o.geometry) edited ∙ c.self-2.invariant.meta)) is_given.sizes
 
 pub commit-requires-clause-logged : goal.commit-requires-clause-logged
@@ -166,7 +174,7 @@ commit-requires-clause-logged g c =
     let groups = c.release_roots.new.groups in
     let is_given = given_session two given groups c.self-2.invariant (room_read s mid two only.same c.self-2.view_is only.reads c.requires.room) c.release_roots.ensures.gives in
     let image = c.number_next-number.new.page.items in
-    let edited = (if_no_error c.edit.result (sym c.if-is_err.ensures.value) c.edit.ensures.ok ∙ ap (λ (l : List ℕ). numbered_pages two.meta l) c.deref-2.ensures.value) in
+    let edited = (if_no_error c.edit.result (sym c.if-is_err.ensures.value) c.edit.ensures.ok ∙ ap (λ (l : List ℕ). numbered_pages two.meta l) c.deref-3.ensures.value) in
     let opened = ap (λ (t : SessionState). t.opened) (sym c.self.view_is) ∙ c.if-not-self.false in
     let is_ready = ready (record two { units = given; groups = groups }) c.edit.new.self image is_given (ap (λ (t : SessionState). t.opened) (c.self-2.view_is ∙ only.same) ∙ opened) edited in
     is_ready.logged
@@ -184,7 +192,7 @@ commit-requires-clause-few_pages g c =
     let groups = c.release_roots.new.groups in
     let is_given = given_session two given groups c.self-2.invariant (room_read s mid two only.same c.self-2.view_is only.reads c.requires.room) c.release_roots.ensures.gives in
     let image = c.number_next-number.new.page.items in
-    let edited = (if_no_error c.edit.result (sym c.if-is_err.ensures.value) c.edit.ensures.ok ∙ ap (λ (l : List ℕ). numbered_pages two.meta l) c.deref-2.ensures.value) in
+    let edited = (if_no_error c.edit.result (sym c.if-is_err.ensures.value) c.edit.ensures.ok ∙ ap (λ (l : List ℕ). numbered_pages two.meta l) c.deref-3.ensures.value) in
     let opened = ap (λ (t : SessionState). t.opened) (sym c.self.view_is) ∙ c.if-not-self.false in
     let is_ready = ready (record two { units = given; groups = groups }) c.edit.new.self image is_given (ap (λ (t : SessionState). t.opened) (c.self-2.view_is ∙ only.same) ∙ opened) edited in
     is_ready.few_pages
@@ -202,7 +210,7 @@ commit-requires-clause-catalog g c =
     let groups = c.release_roots.new.groups in
     let is_given = given_session two given groups c.self-2.invariant (room_read s mid two only.same c.self-2.view_is only.reads c.requires.room) c.release_roots.ensures.gives in
     let image = c.number_next-number.new.page.items in
-    let edited = (if_no_error c.edit.result (sym c.if-is_err.ensures.value) c.edit.ensures.ok ∙ ap (λ (l : List ℕ). numbered_pages two.meta l) c.deref-2.ensures.value) in
+    let edited = (if_no_error c.edit.result (sym c.if-is_err.ensures.value) c.edit.ensures.ok ∙ ap (λ (l : List ℕ). numbered_pages two.meta l) c.deref-3.ensures.value) in
     let opened = ap (λ (t : SessionState). t.opened) (sym c.self.view_is) ∙ c.if-not-self.false in
     let is_ready = ready (record two { units = given; groups = groups }) c.edit.new.self image is_given (ap (λ (t : SessionState). t.opened) (c.self-2.view_is ∙ only.same) ∙ opened) edited in
     is_ready.catalog
@@ -220,7 +228,7 @@ invariant_of-self-in-Err-commit g c =
     let groups = c.release_roots.new.groups in
     let is_given = given_session two given groups c.self-2.invariant (room_read s mid two only.same c.self-2.view_is only.reads c.requires.room) c.release_roots.ensures.gives in
     let image = c.number_next-number.new.page.items in
-    let edited = (if_no_error c.edit.result (sym c.if-is_err.ensures.value) c.edit.ensures.ok ∙ ap (λ (l : List ℕ). numbered_pages two.meta l) c.deref-2.ensures.value) in
+    let edited = (if_no_error c.edit.result (sym c.if-is_err.ensures.value) c.edit.ensures.ok ∙ ap (λ (l : List ℕ). numbered_pages two.meta l) c.deref-3.ensures.value) in
     after_commit (record two { units = given; groups = groups }) c.edit.new.self image c.commit.new.log c.undo.new.self c.commit.new.groups c.settle.new.kept c.settle.new.units c.self-2.inside.notes.items c.clear.new.self.items c.clear-2.new.self.items _ is_given edited
     (record {
       edit = ap (λ (o : Overlays). o.geometry) edited;
@@ -247,7 +255,7 @@ returns-in-Err-commit-clause-steps g c =
     let given = c.release_roots.new.units in
     let groups = c.release_roots.new.groups in
     let image = c.number_next-number.new.page.items in
-    let edited = (if_no_error c.edit.result (sym c.if-is_err.ensures.value) c.edit.ensures.ok ∙ ap (λ (l : List ℕ). numbered_pages two.meta l) c.deref-2.ensures.value) in
+    let edited = (if_no_error c.edit.result (sym c.if-is_err.ensures.value) c.edit.ensures.ok ∙ ap (λ (l : List ℕ). numbered_pages two.meta l) c.deref-3.ensures.value) in
     let opened = ap (λ (t : SessionState). t.opened) (sym c.self.view_is) ∙ c.if-not-self.false in
     let b = g.H.World.outside c.commit.new.disk in
     let kept : WasKept a m b s c.in-Ok.page.items image c.number_next-number.result = record {
@@ -293,7 +301,7 @@ invariant_of-self-2 g c =
     let groups = c.release_roots.new.groups in
     let is_given = given_session two given groups c.self-2.invariant (room_read s mid two only.same c.self-2.view_is only.reads c.requires.room) c.release_roots.ensures.gives in
     let image = c.number_next-number.new.page.items in
-    let edited = (if_no_error c.edit.result (sym c.if-is_err.ensures.value) c.edit.ensures.ok ∙ ap (λ (l : List ℕ). numbered_pages two.meta l) c.deref-2.ensures.value) in
+    let edited = (if_no_error c.edit.result (sym c.if-is_err.ensures.value) c.edit.ensures.ok ∙ ap (λ (l : List ℕ). numbered_pages two.meta l) c.deref-3.ensures.value) in
     after_commit (record two { units = given; groups = groups }) c.edit.new.self image c.commit.new.log c.commit.new.meta c.commit.new.groups c.settle.new.kept c.settle.new.units c.clear-3.new.self.items c.clear.new.self.items c.clear-2.new.self.items _ is_given edited
     (record {
       edit = ap (λ (o : Overlays). o.geometry) edited;
@@ -326,7 +334,7 @@ returns-clause-steps g c =
     let groups = c.release_roots.new.groups in
     let is_given = given_session two given groups c.self-2.invariant (room_read s mid two only.same c.self-2.view_is only.reads c.requires.room) c.release_roots.ensures.gives in
     let image = c.number_next-number.new.page.items in
-    let edited = (if_no_error c.edit.result (sym c.if-is_err.ensures.value) c.edit.ensures.ok ∙ ap (λ (l : List ℕ). numbered_pages two.meta l) c.deref-2.ensures.value) in
+    let edited = (if_no_error c.edit.result (sym c.if-is_err.ensures.value) c.edit.ensures.ok ∙ ap (λ (l : List ℕ). numbered_pages two.meta l) c.deref-3.ensures.value) in
     let opened = ap (λ (t : SessionState). t.opened) (sym c.self.view_is) ∙ c.if-not-self.false in
     let b = g.H.World.outside c.commit.new.disk in
     let kept : WasKept a m b s c.in-Ok.page.items image c.number_next-number.result = record {
@@ -342,13 +350,13 @@ returns-clause-steps g c =
     let lost : GaveLost a i m s mid.groups given groups = record {
       reads = only.reads;
       lends = only.lends;
-      gave = gave_at s mid two given groups only.same c.self-2.view_is (gave_up two c.deref.result.now two.lost given groups c.deref.ensures.value c.release_roots.ensures.gives c.release_roots.ensures.refs c.in_default.ensures.released);
+      gave = gave_at s mid two given groups only.same c.self-2.view_is (gave_up two c.deref-2.result.now two.lost given groups c.deref-2.ensures.value c.release_roots.ensures.gives c.release_roots.ensures.refs c.in_default.ensures.released);
     } in
     let made : WasMade a i m b s image c.number_next-number.result mid.groups groups c.commit.new.groups given c.settle.new.units c.commit.new.log c.commit.new.meta c.settle.new.kept = record {
       lost = lost;
       behind = is_given.behind;
       commits = commits_at m b s mid two c.edit.new.self image c.number_next-number.result c.commit.new.log c.commit.new.meta only.same c.self-2.view_is edited
-          (subst (λ (l : List OpNote). Commits m b two.log c.edit.new.self c.number_next-number.result l c.commit.new.log c.commit.new.meta) c.deref-3.ensures.value c.in_default-commit.ensures.done);
+          (subst (λ (l : List OpNote). Commits m b two.log c.edit.new.self c.number_next-number.result l c.commit.new.log c.commit.new.meta) c.deref-4.ensures.value c.in_default-commit.ensures.done);
       none = c.in_default-commit.ensures.working;
       frames = frames_at m b s mid two c.edit.new.self groups c.commit.new.groups only.same c.self-2.view_is (ap (λ (o : Overlays). o.geometry) edited) c.self-2.invariant.meta c.commit.ensures.lends c.commit.ensures.sizes;
       settled = settled_at s mid two c.edit.new.self image c.settle.new.kept given c.settle.new.units only.same c.self-2.view_is edited c.settle.ensures;
@@ -368,7 +376,7 @@ returns-clause-freed g c _ page gone left unnamed =
     let given = c.release_roots.new.units in
     let groups = c.release_roots.new.groups in
     let image = c.number_next-number.new.page.items in
-    let edited = (if_no_error c.edit.result (sym c.if-is_err.ensures.value) c.edit.ensures.ok ∙ ap (λ (l : List ℕ). numbered_pages two.meta l) c.deref-2.ensures.value) in
+    let edited = (if_no_error c.edit.result (sym c.if-is_err.ensures.value) c.edit.ensures.ok ∙ ap (λ (l : List ℕ). numbered_pages two.meta l) c.deref-3.ensures.value) in
     let is = seen c.self.view_is c.self.invariant in
     let settled = settled_at s mid two c.edit.new.self image c.settle.new.kept given c.settle.new.units only.same c.self-2.view_is edited c.settle.ensures in
     let fewer : refs_at given page ≤ refs_at s.units page = subst (λ (t : SessionState). refs_at given page ≤ refs_at t.units page) (c.self-2.view_is ∙ only.same) (c.release_roots.ensures.refs page) in
@@ -390,7 +398,7 @@ returns-clause-logs g c before from now opened_there =
     let groups = c.release_roots.new.groups in
     let is_given = given_session two given groups c.self-2.invariant (room_read s mid two only.same c.self-2.view_is only.reads c.requires.room) c.release_roots.ensures.gives in
     let image = c.number_next-number.new.page.items in
-    let edited = (if_no_error c.edit.result (sym c.if-is_err.ensures.value) c.edit.ensures.ok ∙ ap (λ (l : List ℕ). numbered_pages two.meta l) c.deref-2.ensures.value) in
+    let edited = (if_no_error c.edit.result (sym c.if-is_err.ensures.value) c.edit.ensures.ok ∙ ap (λ (l : List ℕ). numbered_pages two.meta l) c.deref-3.ensures.value) in
     let opened = ap (λ (t : SessionState). t.opened) (sym c.self.view_is) ∙ c.if-not-self.false in
     let b = g.H.World.outside c.commit.new.disk in
     let kept : WasKept a m b s c.in-Ok.page.items image c.number_next-number.result = record {
@@ -406,13 +414,13 @@ returns-clause-logs g c before from now opened_there =
     let lost : GaveLost a i m s mid.groups given groups = record {
       reads = only.reads;
       lends = only.lends;
-      gave = gave_at s mid two given groups only.same c.self-2.view_is (gave_up two c.deref.result.now two.lost given groups c.deref.ensures.value c.release_roots.ensures.gives c.release_roots.ensures.refs c.in_default.ensures.released);
+      gave = gave_at s mid two given groups only.same c.self-2.view_is (gave_up two c.deref-2.result.now two.lost given groups c.deref-2.ensures.value c.release_roots.ensures.gives c.release_roots.ensures.refs c.in_default.ensures.released);
     } in
     let made : WasMade a i m b s image c.number_next-number.result mid.groups groups c.commit.new.groups given c.settle.new.units c.commit.new.log c.commit.new.meta c.settle.new.kept = record {
       lost = lost;
       behind = is_given.behind;
       commits = commits_at m b s mid two c.edit.new.self image c.number_next-number.result c.commit.new.log c.commit.new.meta only.same c.self-2.view_is edited
-          (subst (λ (l : List OpNote). Commits m b two.log c.edit.new.self c.number_next-number.result l c.commit.new.log c.commit.new.meta) c.deref-3.ensures.value c.in_default-commit.ensures.done);
+          (subst (λ (l : List OpNote). Commits m b two.log c.edit.new.self c.number_next-number.result l c.commit.new.log c.commit.new.meta) c.deref-4.ensures.value c.in_default-commit.ensures.done);
       none = c.in_default-commit.ensures.working;
       frames = frames_at m b s mid two c.edit.new.self groups c.commit.new.groups only.same c.self-2.view_is (ap (λ (o : Overlays). o.geometry) edited) c.self-2.invariant.meta c.commit.ensures.lends c.commit.ensures.sizes;
       settled = settled_at s mid two c.edit.new.self image c.settle.new.kept given c.settle.new.units only.same c.self-2.view_is edited c.settle.ensures;
@@ -432,7 +440,7 @@ returns-clause-exact g c before from now opened_there =
     let groups = c.release_roots.new.groups in
     let is_given = given_session two given groups c.self-2.invariant (room_read s mid two only.same c.self-2.view_is only.reads c.requires.room) c.release_roots.ensures.gives in
     let image = c.number_next-number.new.page.items in
-    let edited = (if_no_error c.edit.result (sym c.if-is_err.ensures.value) c.edit.ensures.ok ∙ ap (λ (l : List ℕ). numbered_pages two.meta l) c.deref-2.ensures.value) in
+    let edited = (if_no_error c.edit.result (sym c.if-is_err.ensures.value) c.edit.ensures.ok ∙ ap (λ (l : List ℕ). numbered_pages two.meta l) c.deref-3.ensures.value) in
     let opened = ap (λ (t : SessionState). t.opened) (sym c.self.view_is) ∙ c.if-not-self.false in
     let b = g.H.World.outside c.commit.new.disk in
     let kept : WasKept a m b s c.in-Ok.page.items image c.number_next-number.result = record {
@@ -448,13 +456,13 @@ returns-clause-exact g c before from now opened_there =
     let lost : GaveLost a i m s mid.groups given groups = record {
       reads = only.reads;
       lends = only.lends;
-      gave = gave_at s mid two given groups only.same c.self-2.view_is (gave_up two c.deref.result.now two.lost given groups c.deref.ensures.value c.release_roots.ensures.gives c.release_roots.ensures.refs c.in_default.ensures.released);
+      gave = gave_at s mid two given groups only.same c.self-2.view_is (gave_up two c.deref-2.result.now two.lost given groups c.deref-2.ensures.value c.release_roots.ensures.gives c.release_roots.ensures.refs c.in_default.ensures.released);
     } in
     let made : WasMade a i m b s image c.number_next-number.result mid.groups groups c.commit.new.groups given c.settle.new.units c.commit.new.log c.commit.new.meta c.settle.new.kept = record {
       lost = lost;
       behind = is_given.behind;
       commits = commits_at m b s mid two c.edit.new.self image c.number_next-number.result c.commit.new.log c.commit.new.meta only.same c.self-2.view_is edited
-          (subst (λ (l : List OpNote). Commits m b two.log c.edit.new.self c.number_next-number.result l c.commit.new.log c.commit.new.meta) c.deref-3.ensures.value c.in_default-commit.ensures.done);
+          (subst (λ (l : List OpNote). Commits m b two.log c.edit.new.self c.number_next-number.result l c.commit.new.log c.commit.new.meta) c.deref-4.ensures.value c.in_default-commit.ensures.done);
       none = c.in_default-commit.ensures.working;
       frames = frames_at m b s mid two c.edit.new.self groups c.commit.new.groups only.same c.self-2.view_is (ap (λ (o : Overlays). o.geometry) edited) c.self-2.invariant.meta c.commit.ensures.lends c.commit.ensures.sizes;
       settled = settled_at s mid two c.edit.new.self image c.settle.new.kept given c.settle.new.units only.same c.self-2.view_is edited c.settle.ensures;

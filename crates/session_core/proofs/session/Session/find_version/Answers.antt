@@ -1,24 +1,29 @@
+use Rattle.std.proofs.Common.{refl, rules}
+use Rattle.std.proofs.lemmas.Result.{IfErr-weaker}
+use Rattle.versions.specs.Versions.{place_of}
+use Rattle.session_core.specs.Finding.{IsFound, IsOutside, stop_at}
 use Rattle.session_core.specs.contracts.session.Session as session
-use Rattle.session_core.proofs.Finding.{only_reads, read_session, parts_of, stopped_outside, stopped_so}
+use Rattle.session_core.proofs.Finding.{error_shown, frames_left, frames_to, looked, looks_sound, no_damage, ok_shown, only_reads, over_session, port_shows, read_session, told_err, told_ok}
 use Rattle.session_core.proofs.session.Session.find_version.Goals as goal
 
 pub invariant_of-self : goal.invariant_of-self
-invariant_of-self g c = read_session (session.the_view c.self.inside) c.look_on.new.groups c.look_on.ensures.leaves c.self.invariant
-
-pub returns-in-Ok-clause-only : goal.returns-in-Ok-clause-only
-returns-in-Ok-clause-only g c = only_reads (session.the_view c.self.inside) c.args.self.now c.look_on.new.groups c.self.view_is c.look_on.ensures.leaves
-
-pub returns-in-Ok-clause-found : goal.returns-in-Ok-clause-found
-returns-in-Ok-clause-found g c = c.in-Ok.ensures.found c.args.self.now (parts_of c.self.view_is c.self.invariant)
-
-pub invariant_of-self-2 : goal.invariant_of-self-2
-invariant_of-self-2 g c = read_session (session.the_view c.self.inside) c.look_on.new.groups c.look_on.ensures.leaves c.self.invariant
+invariant_of-self g c = read_session (session.the_view c.self.inside) _ (frames_left c.find.ensures.kept.leads) c.self.invariant
 
 pub returns-clause-only : goal.returns-clause-only
-returns-clause-only g c = only_reads (session.the_view c.self.inside) c.args.self.now c.look_on.new.groups c.self.view_is c.look_on.ensures.leaves
+returns-clause-only g c =
+    only_reads (session.the_view c.self.inside) c.args.self.now _ c.self.view_is (frames_to g.D.World.outside c.find.new.volume.disk.now _ (search rules) (frames_left c.find.ensures.kept.leads))
+
+pub returns-clause-found : goal.returns-clause-found
+returns-clause-found g c =
+    let w = g.D.World.outside c.args.disk.now in
+    let over = over_session c.find.ensures.kept w c.self.view_is c.self.invariant refl refl refl refl (λ h. h) in
+    let find = c.find.ensures in
+    told_ok c.find.result c.or_stop.result c.or_stop.ensures _ (ok_shown w c.args.self.now c.find.result (λ before. IsFound before c.args.oid.now)
+    (λ before same now. looked _ _ (port_shows _ _ over before same now) c.args.oid.now c.find.result find.stands find.told find.size))
 
 pub returns-clause-sound : goal.returns-clause-sound
-returns-clause-sound g c = stopped_outside c.in-Err.fault c.stopped.result c.stopped.ensures (c.in-Err.ensures.sound c.args.self.now (parts_of c.self.view_is c.self.invariant))
-
-pub returns-clause-stops : goal.returns-clause-stops
-returns-clause-stops g c = stopped_so (g.D.World.outside c.args.disk.now) (g.D.World.outside c.look_on.new.disk) c.in-Err.fault c.stopped.result c.stopped.ensures c.in-Err.ensures.cause
+returns-clause-sound g c =
+    let w = g.D.World.outside c.args.disk.now in
+    let over = over_session c.find.ensures.kept w c.self.view_is c.self.invariant refl refl refl refl (λ h. h) in
+    told_err c.find.result c.or_stop.result c.or_stop.ensures _ (error_shown w c.args.self.now c.find.result (λ before fault. IsOutside (stop_at fault))
+    (λ before same now. IfErr-weaker c.find.result _ _ no_damage (looks_sound _ _ (port_shows _ _ over before same now) (place_of c.args.oid.now) c.find.result c.find.ensures.sound)))

@@ -10,10 +10,9 @@ invariant_of-result c = record {
   meta = c.requires.meta;
   units = c.requires.units;
   pages = search rules;
-  in_use = record { working = c.requires.in_use; committed = λ page flag. c.requires.in_use page (sym (ap (λ (flags : List Bool). is_kept flags page) (c.in_ok-kept.ensures ∙ c.held.ensures)) ∙ flag) };
-  room = search rules;
+  in_use = record { working = c.requires.in_use; committed = λ page flag. c.requires.in_use page (sym (ap (λ (flags : List Bool). is_kept flags page) c.requires.kept) ∙ flag) };
   sizes = c.requires.sizes;
-  groups = subst (λ (rows : List GroupRow). AreGroupsOf rows c.args.parts.groups) (sym c.make.ensures) c.requires.groups;
+  groups = subst (λ (rows : List GroupRow). AreGroupsOf rows c.args.volume.groups) (sym c.make.ensures) c.requires.groups;
   few_groups = search rules;
   scans = search rules;
   few_scans = search rules;

@@ -1,30 +1,44 @@
-use Rattle.std.proofs.Common.{ap, subst, sym, ◌<◌, length}
-use Rattle.session_core.specs.ScanRows.{with_scans}
+use Rattle.std.proofs.Common.{◌≡◌, ◌<◌, ap, length, refl, rules, subst, sym}
+use Rattle.std.proofs.lemmas.Result.{IfErr-weaker}
+use Rattle.ex_base.specs.Ports.{IsDamage}
+use Rattle.session_core.specs.Finding.{IsOutside, stop_at}
+use Rattle.session_core.specs.ScanRows.{AtScan, bytes_next, with_scans}
 use Rattle.session_core.specs.Sessions.{SessionState}
+use Rattle.session_core.proofs.HeldRows.{can_read_on, read_on_session, read_open, root_read}
+use Rattle.session_core.proofs.ScanBytes.{given_shown, port_scans, sound_shown}
 use Rattle.session_core.specs.contracts.session.Session as session
-use Rattle.session_core.proofs.Finding.{only_reads, parts_of}
-use Rattle.session_core.proofs.HeldRows.{read_on_session, read_open}
+use Rattle.session_core.proofs.Finding.{error_shown, frames_left, frames_to, no_damage, ok_shown, only_reads, over_session, read_session, told_err, told_ok}
 use Rattle.session_core.proofs.session.Session.next_piece.Goals as goal
+
+pub next-requires-clause-ready : goal.next-requires-clause-ready
+next-requires-clause-ready g c =
+    can_read_on (session.the_view c.self.inside) c.args.self.now (g.D.World.outside c.args.disk.now).size c.args.index c.group_at-group.result c.self.view_is c.self.invariant c.requires.there c.requires.room c.group_at-group.ensures
+
+pub next-requires-clause-root : goal.next-requires-clause-root
+next-requires-clause-root g c = root_read (session.the_view c.self.inside) c.args.index c.self.invariant
 
 pub invariant_of-self : goal.invariant_of-self
 invariant_of-self g c =
     let s = session.the_view c.self.inside in
     let there = subst (λ (t : SessionState). c.args.index < length t.scans) (sym c.self.view_is) c.requires.there in
-    read_on_session s c.next_on.new.scans c.next_on.new.groups (read_open s c.args.index c.args.len c.next_on.new.scans c.next_on.result c.self.invariant there c.next_on.ensures.moved c.next_on.ensures.stays) c.next_on.ensures.leaves c.self.invariant
-
-pub returns-in-Ok-clause-only : goal.returns-in-Ok-clause-only
-returns-in-Ok-clause-only g c =
-    only_reads (with_scans (session.the_view c.self.inside) c.next_on.new.scans) (with_scans c.args.self.now c.next_on.new.scans) c.next_on.new.groups (ap (λ (t : SessionState). with_scans t c.next_on.new.scans) c.self.view_is) c.next_on.ensures.leaves
-
-pub returns-in-Ok-clause-bytes : goal.returns-in-Ok-clause-bytes
-returns-in-Ok-clause-bytes g c = c.in-Ok.ensures.bytes c.args.self.now (parts_of c.self.view_is c.self.invariant) (ap (λ (t : SessionState). t.scans) (sym c.self.view_is))
-
-pub invariant_of-self-2 : goal.invariant_of-self-2
-invariant_of-self-2 g c =
-    let s = session.the_view c.self.inside in
-    let there = subst (λ (t : SessionState). c.args.index < length t.scans) (sym c.self.view_is) c.requires.there in
-    read_on_session s c.next_on.new.scans c.next_on.new.groups (read_open s c.args.index c.args.len c.next_on.new.scans c.next_on.result c.self.invariant there c.next_on.ensures.moved c.next_on.ensures.stays) c.next_on.ensures.leaves c.self.invariant
+    read_on_session s c.next.new.self _ (read_open s c.args.index c.args.len c.next.new.self c.next.result c.self.invariant there c.next.ensures.moved c.next.ensures.stays) (frames_left c.next.ensures.kept.leads) c.self.invariant
 
 pub returns-clause-only : goal.returns-clause-only
 returns-clause-only g c =
-    only_reads (with_scans (session.the_view c.self.inside) c.next_on.new.scans) (with_scans c.args.self.now c.next_on.new.scans) c.next_on.new.groups (ap (λ (t : SessionState). with_scans t c.next_on.new.scans) c.self.view_is) c.next_on.ensures.leaves
+    only_reads (with_scans (session.the_view c.self.inside) c.next.new.self) (with_scans c.args.self.now c.next.new.self) _ (ap (λ (t : SessionState). with_scans t c.next.new.self) c.self.view_is)
+    (frames_to g.D.World.outside c.next.new.blocks.disk.now _ (search rules) (frames_left c.next.ensures.kept.leads))
+
+pub returns-clause-bytes : goal.returns-clause-bytes
+returns-clause-bytes g c =
+    let w = g.D.World.outside c.args.disk.now in
+    let over = over_session c.next.ensures.kept w c.self.view_is c.self.invariant refl refl refl refl (λ h. h) in
+    told_ok c.next.result c.or_stop.result c.or_stop.ensures _ (ok_shown w c.args.self.now c.next.result (λ before given. AtScan before.machine c.args.index (λ row. given.items ≡ bytes_next c.args.len row))
+    (λ before same now. given_shown _ _ c.self.inside.scans (port_scans _ _ over c.self.inside.scans (ap (λ (t : SessionState). t.scans) (sym c.self.view_is)) before same now) (λ given. given.items) (can_read_on (session.the_view c.self.inside) c.args.self.now w.size c.args.index c.group_at-group.result c.self.view_is c.self.invariant c.requires.there c.requires.room c.group_at-group.ensures) c.next.result c.args.index c.args.len c.next.ensures.bytes))
+
+pub returns-clause-sound : goal.returns-clause-sound
+returns-clause-sound g c =
+    let w = g.D.World.outside c.args.disk.now in
+    let over = over_session c.next.ensures.kept w c.self.view_is c.self.invariant refl refl refl refl (λ h. h) in
+    told_err c.next.result c.or_stop.result c.or_stop.ensures _ (error_shown w c.args.self.now c.next.result (λ before fault. AtScan before.machine c.args.index (λ row. IsOutside (stop_at fault)))
+    (λ before same now. IfErr-weaker c.next.result _ _ (λ fault each row at. no_damage fault (each row at))
+    (sound_shown _ _ c.self.inside.scans (port_scans _ _ over c.self.inside.scans (ap (λ (t : SessionState). t.scans) (sym c.self.view_is)) before same now) c.next.result c.args.index c.next.ensures.sound (λ row at none. (c.next.ensures.held row at none).1))))

@@ -1,27 +1,26 @@
-use Rattle.std.proofs.Common.{subst, sym}
+use Rattle.std.proofs.Common.{refl, rules}
+use Rattle.std.proofs.lemmas.Result.{IfErr-weaker, IfOk-weaker}
+use Rattle.session_core.proofs.Listing.{file_on, lists_here, lists_sound}
 use Rattle.session_core.specs.contracts.session.Session as session
-use Rattle.session_core.specs.Finding.{IsOutside}
-use Rattle.session_core.proofs.Finding.{no_damage, only_reads, parts_of, read_session, stopped_so}
+use Rattle.session_core.proofs.Finding.{frames_left, frames_to, no_damage, only_reads, over_session, read_session, told_err, told_ok}
 use Rattle.session_core.proofs.session.Session.objects_of.Goals as goal
 
 pub invariant_of-self : goal.invariant_of-self
-invariant_of-self g c = read_session (session.the_view c.self.inside) c.list_on.new.groups c.list_on.ensures.leaves c.self.invariant
-
-pub returns-in-Ok-clause-only : goal.returns-in-Ok-clause-only
-returns-in-Ok-clause-only g c = only_reads (session.the_view c.self.inside) c.args.self.now c.list_on.new.groups c.self.view_is c.list_on.ensures.leaves
-
-pub returns-in-Ok-clause-oids : goal.returns-in-Ok-clause-oids
-returns-in-Ok-clause-oids g c = c.in-Ok.ensures.oids c.args.self.now (parts_of c.self.view_is c.self.invariant)
-
-pub invariant_of-self-2 : goal.invariant_of-self-2
-invariant_of-self-2 g c = read_session (session.the_view c.self.inside) c.list_on.new.groups c.list_on.ensures.leaves c.self.invariant
+invariant_of-self g c = read_session (session.the_view c.self.inside) _ (frames_left c.objects.ensures.kept.leads) c.self.invariant
 
 pub returns-clause-only : goal.returns-clause-only
-returns-clause-only g c = only_reads (session.the_view c.self.inside) c.args.self.now c.list_on.new.groups c.self.view_is c.list_on.ensures.leaves
+returns-clause-only g c =
+    only_reads (session.the_view c.self.inside) c.args.self.now _ c.self.view_is (frames_to g.D.World.outside c.objects.new.volume.disk.now _ (search rules) (frames_left c.objects.ensures.kept.leads))
 
-pub returns-clause-stops : goal.returns-clause-stops
-returns-clause-stops g c = stopped_so (g.D.World.outside c.args.disk.now) (g.D.World.outside c.list_on.new.disk) c.in-Err.fault c.stopped.result c.stopped.ensures c.in-Err.ensures.cause
+pub returns-clause-oids : goal.returns-clause-oids
+returns-clause-oids g c =
+    let w = g.D.World.outside c.args.disk.now in
+    let over = over_session c.objects.ensures.kept w c.self.view_is c.self.invariant refl refl refl refl (λ h. h) in
+    told_ok c.objects.result c.or_stop.result c.or_stop.ensures _ (IfOk-weaker c.objects.result _ _ (λ oids each. file_on _ _ over c.args.file_no _ each) (lists_here _ _ (λ oids. oids.items) c.args.file_no c.objects.result c.objects.ensures.oids c.objects.ensures.ordered))
 
 pub returns-clause-sound : goal.returns-clause-sound
-returns-clause-sound g c = λ before same now e there number.
-    subst IsOutside (sym c.stopped.ensures) (no_damage c.in-Err.fault (c.in-Err.ensures.sound c.args.self.now (parts_of c.self.view_is c.self.invariant) before same now e there number))
+returns-clause-sound g c =
+    let w = g.D.World.outside c.args.disk.now in
+    let over = over_session c.objects.ensures.kept w c.self.view_is c.self.invariant refl refl refl refl (λ h. h) in
+    told_err c.objects.result c.or_stop.result c.or_stop.ensures _ (IfErr-weaker c.objects.result _ _ (λ fault each before same now e there number. no_damage fault (file_on _ _ over c.args.file_no _ each before same now e there number))
+    (lists_sound _ _ c.args.file_no c.objects.result c.objects.ensures.sound))

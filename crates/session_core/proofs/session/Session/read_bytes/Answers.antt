@@ -1,24 +1,30 @@
-use Rattle.std.proofs.Common.{subst, sym}
-use Rattle.session_core.specs.Finding.{IsOutside}
+use Rattle.std.proofs.Common.{refl, rules}
+use Rattle.std.proofs.lemmas.Result.{IfErr-weaker, on_ok_weaker}
 use Rattle.session_core.specs.contracts.session.Session as session
-use Rattle.session_core.proofs.Finding.{no_damage, only_reads, parts_of, read_session}
+use Rattle.session_core.proofs.Finding.{frames_left, frames_to, held_version, no_damage, only_reads, over_session, port_shows, read_session, reads_live, told_err, told_on_ok}
 use Rattle.session_core.proofs.session.Session.read_bytes.Goals as goal
 
 pub invariant_of-self : goal.invariant_of-self
-invariant_of-self g c = read_session (session.the_view c.self.inside) c.read_on.new.groups c.read_on.ensures.leaves c.self.invariant
-
-pub returns-in-Ok-clause-only : goal.returns-in-Ok-clause-only
-returns-in-Ok-clause-only g c = only_reads (session.the_view c.self.inside) c.args.self.now c.read_on.new.groups c.self.view_is c.read_on.ensures.leaves
-
-pub returns-in-Ok-clause-bytes : goal.returns-in-Ok-clause-bytes
-returns-in-Ok-clause-bytes g c = c.in-Ok.ensures.bytes c.args.self.now (parts_of c.self.view_is c.self.invariant)
-
-pub invariant_of-self-2 : goal.invariant_of-self-2
-invariant_of-self-2 g c = read_session (session.the_view c.self.inside) c.read_on.new.groups c.read_on.ensures.leaves c.self.invariant
+invariant_of-self g c = read_session (session.the_view c.self.inside) _ (frames_left c.read_at.ensures.kept.leads) c.self.invariant
 
 pub returns-clause-only : goal.returns-clause-only
-returns-clause-only g c = only_reads (session.the_view c.self.inside) c.args.self.now c.read_on.new.groups c.self.view_is c.read_on.ensures.leaves
+returns-clause-only g c =
+    only_reads (session.the_view c.self.inside) c.args.self.now _ c.self.view_is (frames_to g.D.World.outside c.read_at.new.volume.disk.now _ (search rules) (frames_left c.read_at.ensures.kept.leads))
+
+pub returns-clause-bytes : goal.returns-clause-bytes
+returns-clause-bytes g c =
+    let w = g.D.World.outside c.args.disk.now in
+    let over = over_session c.read_at.ensures.kept w c.self.view_is c.self.invariant refl refl refl refl (λ h. h) in
+    told_on_ok c.read_at.result c.or_stop.result c.or_stop.ensures _ (on_ok_weaker c.read_at.result (λ told before same now version live.
+    let shows = port_shows _ _ over before same now in
+    let reads = reads_live _ _ shows c.args.oid.now version live in
+    (told shows.tells reads.index reads.head reads.content version.bytes (held_version _ _ c.args.oid.now version reads)).1) c.read_at.ensures.bytes)
 
 pub returns-clause-sound : goal.returns-clause-sound
-returns-clause-sound g c = λ before same now version is inside.
-    subst IsOutside (sym c.stopped.ensures) (no_damage c.in-Err.fault (c.in-Err.ensures.sound c.args.self.now (parts_of c.self.view_is c.self.invariant) before same now version is inside))
+returns-clause-sound g c =
+    let w = g.D.World.outside c.args.disk.now in
+    let over = over_session c.read_at.ensures.kept w c.self.view_is c.self.invariant refl refl refl refl (λ h. h) in
+    told_err c.read_at.result c.or_stop.result c.or_stop.ensures _ (IfErr-weaker c.read_at.result _ _ (λ fault sound before same now version live inside. no_damage fault (λ damage.
+    let shows = port_shows _ _ over before same now in
+    let reads = reads_live _ _ shows c.args.oid.now version live in
+    sound damage shows.tells reads.index reads.head reads.content version.bytes (held_version _ _ c.args.oid.now version reads) inside)) c.read_at.ensures.sound)

@@ -1,25 +1,29 @@
+use Rattle.std.proofs.Common.{refl, rules}
+use Rattle.std.proofs.lemmas.Result.{IfErr-weaker}
+use Rattle.ex_base.specs.Ports.{IsDamage}
+use Rattle.session_core.specs.Finding.{AreRelatives}
+use Rattle.session_core.proofs.Relatives.{error_version, ok_version}
 use Rattle.session_core.specs.contracts.session.Session as session
-use Rattle.session_core.proofs.Finding.{only_reads, read_session, parts_of, stopped_so}
-use Rattle.session_core.proofs.Relatives.{stopped_version}
+use Rattle.session_core.proofs.Finding.{frames_left, frames_to, no_damage, only_reads, over_session, port_shows, read_session, told_err, told_ok}
 use Rattle.session_core.proofs.session.Session.relatives.Goals as goal
 
 pub invariant_of-self : goal.invariant_of-self
-invariant_of-self g c = read_session (session.the_view c.self.inside) c.relatives_on.new.groups c.relatives_on.ensures.leaves c.self.invariant
-
-pub returns-in-Ok-clause-only : goal.returns-in-Ok-clause-only
-returns-in-Ok-clause-only g c = only_reads (session.the_view c.self.inside) c.args.self.now c.relatives_on.new.groups c.self.view_is c.relatives_on.ensures.leaves
-
-pub returns-in-Ok-clause-oids : goal.returns-in-Ok-clause-oids
-returns-in-Ok-clause-oids g c = c.in-Ok.ensures.oids c.args.self.now (parts_of c.self.view_is c.self.invariant)
-
-pub invariant_of-self-2 : goal.invariant_of-self-2
-invariant_of-self-2 g c = read_session (session.the_view c.self.inside) c.relatives_on.new.groups c.relatives_on.ensures.leaves c.self.invariant
+invariant_of-self g c = read_session (session.the_view c.self.inside) _ (frames_left c.relatives_in.ensures.kept.leads) c.self.invariant
 
 pub returns-clause-only : goal.returns-clause-only
-returns-clause-only g c = only_reads (session.the_view c.self.inside) c.args.self.now c.relatives_on.new.groups c.self.view_is c.relatives_on.ensures.leaves
+returns-clause-only g c =
+    only_reads (session.the_view c.self.inside) c.args.self.now _ c.self.view_is (frames_to g.D.World.outside c.relatives_in.new.volume.disk.now _ (search rules) (frames_left c.relatives_in.ensures.kept.leads))
+
+pub returns-clause-oids : goal.returns-clause-oids
+returns-clause-oids g c =
+    let w = g.D.World.outside c.args.disk.now in
+    let over = over_session c.relatives_in.ensures.kept w c.self.view_is c.self.invariant refl refl refl refl (λ h. h) in
+    told_ok c.relatives_in.result c.or_stop.result c.or_stop.ensures _ (ok_version w c.args.self.now c.args.oid.now c.relatives_in.result (λ before version oids. AreRelatives before.machine version c.args.relation oids.items)
+    (λ before same now. c.relatives_in.ensures.oids before (port_shows _ _ over before same now)))
 
 pub returns-clause-sound : goal.returns-clause-sound
-returns-clause-sound g c = stopped_version c.args.oid.now c.in-Err.fault c.stopped.result c.stopped.ensures (c.in-Err.ensures.sound c.args.self.now (parts_of c.self.view_is c.self.invariant))
-
-pub returns-clause-stops : goal.returns-clause-stops
-returns-clause-stops g c = stopped_so (g.D.World.outside c.args.disk.now) (g.D.World.outside c.relatives_on.new.disk) c.in-Err.fault c.stopped.result c.stopped.ensures c.in-Err.ensures.cause
+returns-clause-sound g c =
+    let w = g.D.World.outside c.args.disk.now in
+    let over = over_session c.relatives_in.ensures.kept w c.self.view_is c.self.invariant refl refl refl refl (λ h. h) in
+    told_err c.relatives_in.result c.or_stop.result c.or_stop.ensures _ (IfErr-weaker c.relatives_in.result _ _ (λ fault each before same now version live. no_damage fault (each before same now version live))
+    (error_version w c.args.self.now c.args.oid.now c.relatives_in.result (λ before version fault. IsDamage fault → ⊥) (λ before same now. c.relatives_in.ensures.sound before (port_shows _ _ over before same now))))

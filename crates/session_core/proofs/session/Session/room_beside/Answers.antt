@@ -1,25 +1,28 @@
+use Rattle.std.proofs.Common.{◌≡◌, refl, rules}
+use Rattle.std.proofs.lemmas.Result.{IfErr-weaker}
+use Rattle.session_core.specs.Needs.{room_beside}
+use Rattle.session_core.proofs.Beside.{error_live, room_is, room_sound}
 use Rattle.session_core.specs.contracts.session.Session as session
-use Rattle.session_core.proofs.Finding.{only_reads, read_session, parts_of, stopped_so}
-use Rattle.session_core.proofs.Beside.{stopped_live}
+use Rattle.session_core.proofs.Finding.{frames_left, frames_to, no_damage, ok_shown, only_reads, over_session, port_shows, read_session, told_err, told_ok}
 use Rattle.session_core.proofs.session.Session.room_beside.Goals as goal
 
 pub invariant_of-self : goal.invariant_of-self
-invariant_of-self g c = read_session (session.the_view c.self.inside) c.room_on.new.groups c.room_on.ensures.leaves c.self.invariant
-
-pub returns-in-Ok-clause-only : goal.returns-in-Ok-clause-only
-returns-in-Ok-clause-only g c = only_reads (session.the_view c.self.inside) c.args.self.now c.room_on.new.groups c.self.view_is c.room_on.ensures.leaves
-
-pub returns-in-Ok-clause-room : goal.returns-in-Ok-clause-room
-returns-in-Ok-clause-room g c = c.in-Ok.ensures.room c.args.self.now (parts_of c.self.view_is c.self.invariant)
-
-pub invariant_of-self-2 : goal.invariant_of-self-2
-invariant_of-self-2 g c = read_session (session.the_view c.self.inside) c.room_on.new.groups c.room_on.ensures.leaves c.self.invariant
+invariant_of-self g c = read_session (session.the_view c.self.inside) _ (frames_left c.room_at.ensures.kept.leads) c.self.invariant
 
 pub returns-clause-only : goal.returns-clause-only
-returns-clause-only g c = only_reads (session.the_view c.self.inside) c.args.self.now c.room_on.new.groups c.self.view_is c.room_on.ensures.leaves
+returns-clause-only g c =
+    only_reads (session.the_view c.self.inside) c.args.self.now _ c.self.view_is (frames_to g.D.World.outside c.room_at.new.pages.disk.now _ (search rules) (frames_left c.room_at.ensures.kept.leads))
+
+pub returns-clause-room : goal.returns-clause-room
+returns-clause-room g c =
+    let w = g.D.World.outside c.args.disk.now in
+    let over = over_session c.room_at.ensures.kept w c.self.view_is c.self.invariant refl refl refl refl (λ h. h) in
+    told_ok c.room_at.result c.or_stop.result c.or_stop.ensures _ (ok_shown w c.args.self.now c.room_at.result (λ before room. room ≡ room_beside before c.args.oid.now)
+    (λ before same now. room_is _ _ (port_shows _ _ over before same now) c.args.oid.now c.room_at.result c.room_at.ensures.room c.room_at.ensures.area))
 
 pub returns-clause-sound : goal.returns-clause-sound
-returns-clause-sound g c = stopped_live c.args.oid.now c.in-Err.fault c.stopped.result c.stopped.ensures (c.in-Err.ensures.sound c.args.self.now (parts_of c.self.view_is c.self.invariant))
-
-pub returns-clause-stops : goal.returns-clause-stops
-returns-clause-stops g c = stopped_so (g.D.World.outside c.args.disk.now) (g.D.World.outside c.room_on.new.disk) c.in-Err.fault c.stopped.result c.stopped.ensures c.in-Err.ensures.cause
+returns-clause-sound g c =
+    let w = g.D.World.outside c.args.disk.now in
+    let over = over_session c.room_at.ensures.kept w c.self.view_is c.self.invariant refl refl refl refl (λ h. h) in
+    told_err c.room_at.result c.or_stop.result c.or_stop.ensures _ (IfErr-weaker c.room_at.result _ _ (λ fault each before same now version live. no_damage fault (each before same now version live))
+    (error_live w c.args.self.now c.args.oid.now c.room_at.result (λ before same now. room_sound _ _ (port_shows _ _ over before same now) c.args.oid.now c.room_at.result c.room_at.ensures.sound)))

@@ -1,24 +1,32 @@
-use Rattle.std.proofs.Common.{subst, sym}
-use Rattle.session_core.specs.Finding.{IsOutside}
+use Rattle.std.proofs.Common.{refl, rules}
+use Rattle.std.proofs.lemmas.Result.{IfErr-weaker}
+use Rattle.versions.proofs.Standing.{version_whole}
+use Rattle.session_core.specs.Finding.{TellsShape}
+use Rattle.session_core.proofs.Shaping.{holds, ok_root, reads, shape_told}
 use Rattle.session_core.specs.contracts.session.Session as session
-use Rattle.session_core.proofs.Finding.{no_damage, only_reads, parts_of, read_session}
+use Rattle.session_core.proofs.Finding.{frames_left, frames_to, no_damage, only_reads, over_session, port_shows, read_session, told_err, told_ok}
 use Rattle.session_core.proofs.session.Session.shape.Goals as goal
 
 pub invariant_of-self : goal.invariant_of-self
-invariant_of-self g c = read_session (session.the_view c.self.inside) c.shape_on.new.groups c.shape_on.ensures.leaves c.self.invariant
-
-pub returns-in-Ok-clause-only : goal.returns-in-Ok-clause-only
-returns-in-Ok-clause-only g c = only_reads (session.the_view c.self.inside) c.args.self.now c.shape_on.new.groups c.self.view_is c.shape_on.ensures.leaves
-
-pub returns-in-Ok-clause-shape : goal.returns-in-Ok-clause-shape
-returns-in-Ok-clause-shape g c = c.in-Ok.ensures.shape c.args.self.now (parts_of c.self.view_is c.self.invariant)
-
-pub invariant_of-self-2 : goal.invariant_of-self-2
-invariant_of-self-2 g c = read_session (session.the_view c.self.inside) c.shape_on.new.groups c.shape_on.ensures.leaves c.self.invariant
+invariant_of-self g c = read_session (session.the_view c.self.inside) _ (frames_left c.leaf_lengths.ensures.kept.leads) c.self.invariant
 
 pub returns-clause-only : goal.returns-clause-only
-returns-clause-only g c = only_reads (session.the_view c.self.inside) c.args.self.now c.shape_on.new.groups c.self.view_is c.shape_on.ensures.leaves
+returns-clause-only g c =
+    only_reads (session.the_view c.self.inside) c.args.self.now _ c.self.view_is (frames_to g.D.World.outside c.leaf_lengths.new.blocks.disk.now _ (search rules) (frames_left c.leaf_lengths.ensures.kept.leads))
+
+pub returns-clause-shape : goal.returns-clause-shape
+returns-clause-shape g c =
+    let w = g.D.World.outside c.args.disk.now in
+    let over = over_session c.leaf_lengths.ensures.kept w c.self.view_is c.self.invariant refl refl refl refl (λ h. h) in
+    told_ok c.leaf_lengths.result c.or_stop.result c.or_stop.ensures _ (ok_root w c.args.self.now c.args.root.now c.leaf_lengths.result (λ before oid leaves. TellsShape before oid leaves c.args.first.now c.leaf_lengths.new.first)
+    (λ before same now oid version live rooted.
+    shape_told _ _ (port_shows _ _ over before same now) oid c.args.root.now version live rooted c.leaf_lengths.result c.args.first.now c.leaf_lengths.new.first c.leaf_lengths.ensures.count c.leaf_lengths.ensures.lengths))
 
 pub returns-clause-sound : goal.returns-clause-sound
-returns-clause-sound g c = λ before same now oid version is rooted.
-    subst IsOutside (sym c.stopped.ensures) (no_damage c.in-Err.fault (c.in-Err.ensures.sound c.args.self.now (parts_of c.self.view_is c.self.invariant) before same now oid version is rooted))
+returns-clause-sound g c =
+    let w = g.D.World.outside c.args.disk.now in
+    let over = over_session c.leaf_lengths.ensures.kept w c.self.view_is c.self.invariant refl refl refl refl (λ h. h) in
+    told_err c.leaf_lengths.result c.or_stop.result c.or_stop.ensures _ (IfErr-weaker c.leaf_lengths.result _ _ (λ fault sound before same now oid version live rooted. no_damage fault (
+    let shows = port_shows _ _ over before same now in
+    let read = reads _ _ shows oid c.args.root.now version live rooted in
+    sound shows.tells (version_whole _ _ read.index oid read.head c.args.root.now version.bytes (holds _ _ shows oid c.args.root.now version live rooted)))) c.leaf_lengths.ensures.sound)

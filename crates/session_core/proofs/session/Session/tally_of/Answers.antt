@@ -1,27 +1,25 @@
-use Rattle.std.proofs.Common.{subst, sym}
+use Rattle.std.proofs.Common.{refl, rules}
+use Rattle.std.proofs.lemmas.Result.{IfErr-weaker, IfOk-weaker}
+use Rattle.session_core.proofs.Listing.{file_on}
 use Rattle.session_core.specs.contracts.session.Session as session
-use Rattle.session_core.specs.Finding.{IsOutside}
-use Rattle.session_core.proofs.Finding.{no_damage, only_reads, parts_of, read_session, stopped_so}
+use Rattle.session_core.proofs.Finding.{frames_left, frames_to, no_damage, only_reads, over_session, read_session, told_err, told_ok}
 use Rattle.session_core.proofs.session.Session.tally_of.Goals as goal
 
 pub invariant_of-self : goal.invariant_of-self
-invariant_of-self g c = read_session (session.the_view c.self.inside) c.tally_on.new.groups c.tally_on.ensures.leaves c.self.invariant
-
-pub returns-in-Ok-clause-only : goal.returns-in-Ok-clause-only
-returns-in-Ok-clause-only g c = only_reads (session.the_view c.self.inside) c.args.self.now c.tally_on.new.groups c.self.view_is c.tally_on.ensures.leaves
-
-pub returns-in-Ok-clause-tally : goal.returns-in-Ok-clause-tally
-returns-in-Ok-clause-tally g c = c.in-Ok.ensures.tally c.args.self.now (parts_of c.self.view_is c.self.invariant)
-
-pub invariant_of-self-2 : goal.invariant_of-self-2
-invariant_of-self-2 g c = read_session (session.the_view c.self.inside) c.tally_on.new.groups c.tally_on.ensures.leaves c.self.invariant
+invariant_of-self g c = read_session (session.the_view c.self.inside) _ (frames_left c.tally_in.ensures.kept.leads) c.self.invariant
 
 pub returns-clause-only : goal.returns-clause-only
-returns-clause-only g c = only_reads (session.the_view c.self.inside) c.args.self.now c.tally_on.new.groups c.self.view_is c.tally_on.ensures.leaves
+returns-clause-only g c =
+    only_reads (session.the_view c.self.inside) c.args.self.now _ c.self.view_is (frames_to g.D.World.outside c.tally_in.new.volume.disk.now _ (search rules) (frames_left c.tally_in.ensures.kept.leads))
 
-pub returns-clause-stops : goal.returns-clause-stops
-returns-clause-stops g c = stopped_so (g.D.World.outside c.args.disk.now) (g.D.World.outside c.tally_on.new.disk) c.in-Err.fault c.stopped.result c.stopped.ensures c.in-Err.ensures.cause
+pub returns-clause-tally : goal.returns-clause-tally
+returns-clause-tally g c =
+    let w = g.D.World.outside c.args.disk.now in
+    let over = over_session c.tally_in.ensures.kept w c.self.view_is c.self.invariant refl refl refl refl (λ h. h) in
+    told_ok c.tally_in.result c.or_stop.result c.or_stop.ensures _ (IfOk-weaker c.tally_in.result _ _ (λ tally each. file_on _ _ over c.args.file_no _ each) c.tally_in.ensures.tally)
 
 pub returns-clause-sound : goal.returns-clause-sound
-returns-clause-sound g c = λ before same now e there number.
-    subst IsOutside (sym c.stopped.ensures) (no_damage c.in-Err.fault (c.in-Err.ensures.sound c.args.self.now (parts_of c.self.view_is c.self.invariant) before same now e there number))
+returns-clause-sound g c =
+    let w = g.D.World.outside c.args.disk.now in
+    let over = over_session c.tally_in.ensures.kept w c.self.view_is c.self.invariant refl refl refl refl (λ h. h) in
+    told_err c.tally_in.result c.or_stop.result c.or_stop.ensures _ (IfErr-weaker c.tally_in.result _ _ (λ fault each before same now e there number. no_damage fault (file_on _ _ over c.args.file_no _ each before same now e there number)) c.tally_in.ensures.sound)

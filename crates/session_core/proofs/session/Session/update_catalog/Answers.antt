@@ -5,11 +5,11 @@ use Rattle.session_core.proofs.session.Session.update_catalog.Goals as goal
 pub invariant_of-self-in_err-push : goal.invariant_of-self-in_err-push
 invariant_of-self-in_err-push c =
     edited (session.the_view c.self.inside) c.args.self.now c.args.catalog.now c.args.kind c.edit.new.self c.push.new.self.items c.self.view_is c.self.invariant
-    (record { catalog = c.requires.catalog; number = c.requires.number; updates = c.requires.updates; touched = c.requires.touched; opened = c.requires.opened })
+    (record { catalog = c.requires.catalog; updates = c.requires.updates; touched = c.requires.touched; opened = c.requires.opened })
     c.in_ok-edit.ensures.ok c.in_err-push.ensures.items
 
 pub invariant_of-self-2 : goal.invariant_of-self-2
 invariant_of-self-2 c =
     noted (session.the_view c.self.inside) c.args.self.now c.args.catalog.now c.args.kind c.edit.new.self c.push.new.self.items c.self.view_is c.self.invariant
-    (record { catalog = c.requires.catalog; number = c.requires.number; updates = c.requires.updates; touched = c.requires.touched; opened = c.requires.opened })
+    (record { catalog = c.requires.catalog; updates = c.requires.updates; touched = c.requires.touched; opened = c.requires.opened })
     c.in_ok-edit.ensures.ok c.in_ok-push.ensures.items

@@ -1,127 +1,117 @@
-use Rattle.std.proofs.Common.{◌≡◌, ◌∙◌, ◌++◌, ◌∷◌, ◌<◌, ◌^◌, false, List, [], ℕ, length, refl, sym, ap, subst, arith, rules}
-use Rattle.std.proofs.lemmas.List.{with_items_is}
-use Rattle.std.specs.List.{length_refill}
-use Rattle.std.specs.Vec.{with_items}
+use Rattle.std.proofs.Common.{◌≡◌, ◌∙◌, ◌++◌, ◌∷◌, ◌<◌, ◌≤◌, ◌^◌, List, [], refl, sym, ap, subst, arith, rules, length}
+use Rattle.std.specs.Prelude.{Result, IfErr}
+use Rattle.ex_base.specs.declared.faults.PortFault.{PortFault}
 use Rattle.ex_base.specs.declared.names.Oid.{Oid}
 use Rattle.ex_base.specs.declared.names.Area.TheVariants.{Page}
 use Rattle.ex_base.specs.declared.names.OpNote.{OpNote}
-use Rattle.ex_base.specs.declared.names.Root.{Root}
-use Rattle.meta_pages.specs.Overlays.{AreRows, Overlays}
-use Rattle.session_core.specs.Performed.{CanPerform, NamesOid}
-use Rattle.session_core.specs.TableUpdates.{updated}
-use Rattle.table_model.specs.Machines.{shown, updates_most}
-use Rattle.session_core.specs.contracts.session.Session as session
-use Rattle.session_core.specs.Sessions.{SessionState, IsSession}
-use Rattle.session_core.specs.Finding.{IsOutside}
-use Rattle.session_core.specs.Counts.{free_in}
-use Rattle.std.specs.Prelude.{Result, IfErr}
-use Rattle.session_views.specs.declared.engine.Stop.{Stop}
-use Rattle.ex_base.specs.declared.faults.PortFault.{PortFault}
 use Rattle.ex_base.specs.Ports.{IsDamage}
+use Rattle.ex_base.specs.Sizes.{volume_bytes}
+use Rattle.meta_pages.specs.Overlays.{AreRows, Overlays}
+use Rattle.session_views.specs.declared.engine.Stop.{Stop}
+use Rattle.table_model.specs.Machines.{shown, updates_most}
+use Rattle.volume_port.specs.declared.state.VolumeState.{VolumeState}
+use Rattle.session_core.specs.Counts.{free_in}
+use Rattle.session_core.specs.Finding.{IsOutside}
+use Rattle.session_core.specs.Performed.{CanPerform, NamesOid}
+use Rattle.session_core.specs.Sessions.{SessionState, IsSession}
+use Rattle.session_core.specs.TableUpdates.{updated}
+use Rattle.session_core.specs.Updates.{HasRoomFor, HasRoots, HoldsTable, IfAsked, IfUpdated, WritesUnused, note_with}
+use Rattle.session_core.specs.contracts.session.Session as session
 use Rattle.session_core.specs.declared.updates.Done.{Done}
-use Rattle.session_core.specs.Updates.{HasPortParts, HasRoomFor, HasRoots, HoldsTable, IfAsked, IfUpdated, IsLoose, Moved, WritesUnused, note_with}
 use Rattle.session_core.proofs.Finding.{no_damage}
-use Rattle.session_core.proofs.Moved.{at_oid, moved_session, note_with_oid, given_up_as, moments_of, noted_so, on_err, with_room, has_roots, has_seen}
-use Rattle.session_core.proofs.Moving.{parts}
-use Rattle.session_core.proofs.session.Session.update_objects.Goals.{else-is_ok-via-then-is_ok+then-keeps_to+then-has_work+else-is_ok-2, else-is_ok-via-then-is_ok+then-keeps_to+else-has_work, else-is_ok-via-then-is_ok+else-keeps_to, else-is_ok-via-else-is_ok, in-Err, in-Ok}
+use Rattle.session_core.proofs.Moved.{at_oid, given_up_at, has_roots, has_seen, moments_of, moved_session, moved_to, note_with_oid, noted_so, on_err, session_ready}
+use Rattle.session_core.proofs.session.Session.update_objects.Goals.{else-is_ok-via-then-is_ok+then-keeps_to+else-is_ok-2, else-is_ok-via-then-is_ok+else-keeps_to, else-is_ok-via-else-is_ok, in-Err, in-Ok}
 use Rattle.session_core.proofs.session.Session.update_objects.Goals as goal
 
-pub update_parts-done-requires-clause-can : goal.update_parts-done-requires-clause-can
-update_parts-done-requires-clause-can g c = subst (λ (t : SessionState). CanPerform c.args.update.now (free_in t Page)) (sym c.self.view_is) c.requires.can
+pub update_volume-done-requires-clause-ready : goal.update_volume-done-requires-clause-ready
+update_volume-done-requires-clause-ready g c =
+    let size = (g.H.World.outside c.args.host.now).size in
+    session_ready (session.the_view c.self.inside) size c.self.invariant (subst (λ (t : SessionState). volume_bytes t.geometry ≤ size) (sym c.self.view_is) c.requires.room)
+
+pub update_volume-done-requires-clause-can : goal.update_volume-done-requires-clause-can
+update_volume-done-requires-clause-can g c = subst (λ (t : SessionState). CanPerform c.args.update.now (free_in t Page)) (sym c.self.view_is) c.requires.can
 
 pub invariant_of-self : goal.invariant_of-self
 invariant_of-self g c =
     let s = session.the_view c.self.inside in
-    let done = c.update_parts-done.new in
-    let p = parts done.units done.groups done.meta done.pages done.room in
-    let moved = subst (λ (r : List ℕ). Moved (IsLoose p.pages s.kept) (g.H.World.outside c.args.host.now) (g.H.World.outside done.disk) s.geometry (parts s.units s.groups s.meta s.pages r) p) c.deref_mut.ensures.value c.update_parts-done.ensures.moved in
-    let len : c.self.inside.room.len ≡ length c.self.inside.room.items = search rules in
+    let done = c.update_volume-done.new in
+    let p = done.volume in
+    let moved = c.update_volume-done.ensures.moved in
     let kept = c.keeps_to.ensures.kept c.if-keeps_to.true in
-    let size : length (with_items c.self.inside.room done.room).items ≡ length done.room = sym (length_refill c.self.inside.room.len c.self.inside.room.items done.room len) ∙ len ∙ c.self.invariant.room ∙ sym moved.ready.room_len in
     let pushed : c.push.new.self.items ≡ s.notes ++ c.noted-noted.result ∷ [] = search rules in
-    let same = noted_so c.args.note.now c.noted-noted.result c.update_parts-done.result (sym c.is_ok.ensures.value ∙ c.if-is_ok.true) c.noted-noted.ensures in
+    let same = noted_so c.args.note.now c.noted-noted.result c.update_volume-done.result (sym c.is_ok.ensures.value ∙ c.if-is_ok.true) c.noted-noted.ensures in
     let page : c.noted-noted.result.oid.page.0 < 2 ^ 32 = search rules in
     let slot : c.noted-noted.result.oid.slot < 2 ^ 16 = search rules in
     let unique : c.noted-noted.result.oid.unique < 2 ^ 64 = search rules in
     let whole = note_with_oid c.args.note.now c.noted-noted.result same c.requires.note page slot unique in
     let few : length s.notes < updates_most = subst (λ (t : SessionState). length t.notes < updates_most) (sym c.self.view_is) c.requires.updates in
-    subst (λ ns. IsSession (record s { units = done.units; groups = done.groups; meta = done.meta; pages = done.pages; room = (with_items c.self.inside.room done.room).items; notes = ns; gained = done.gained.items; lost = done.lost.items })) (sym pushed)
-    (with_room _ _ size (moved_session s p c.self.invariant moved done.gained.items done.lost.items c.update_parts-done.ensures.few_gained c.update_parts-done.ensures.few_lost c.noted-noted.result whole few (omega (arith, kept.0, c.requires.touched)) c.keeps_to.ensures.rows.working_rising (c.has_work.ensures c.if-has_work.true)
-    (ap (λ (t : SessionState). t.opened) c.self.view_is ∙ c.requires.opened)))
+    subst (λ ns. IsSession (record (moved_to s p) { notes = ns; gained = done.gained.items; lost = done.lost.items })) (sym pushed)
+    (moved_session s p c.self.invariant moved done.gained.items done.lost.items c.update_volume-done.ensures.few_gained c.update_volume-done.ensures.few_lost c.noted-noted.result whole few (omega (arith, kept.0, c.requires.touched)) c.keeps_to.ensures.rows.working_rising
+    (ap (λ (t : SessionState). t.opened) c.self.view_is ∙ c.requires.opened))
 
 pub returns-then-is_ok-2-clause-named : goal.returns-then-is_ok-2-clause-named
-returns-then-is_ok-2-clause-named g c = at_oid (NamesOid c.args.update.now) c.args.note.now c.noted-noted.result c.update_parts-done.result (sym c.is_ok.ensures.value ∙ c.if-is_ok.true) c.noted-noted.ensures c.update_parts-done.ensures.named
+returns-then-is_ok-2-clause-named g c = at_oid (NamesOid c.args.update.now) c.args.note.now c.noted-noted.result c.update_volume-done.result (sym c.is_ok.ensures.value ∙ c.if-is_ok.true) c.noted-noted.ensures c.update_volume-done.ensures.named
 
 pub returns-then-is_ok-2-clause-holds : goal.returns-then-is_ok-2-clause-holds
 returns-then-is_ok-2-clause-holds g c = λ before same now u is asked.
     let s = session.the_view c.self.inside in
-    let done = c.update_parts-done.new in
+    let done = c.update_volume-done.new in
+    let p = done.volume in
+    let moved = c.update_volume-done.ensures.moved in
     let outside = g.H.World.outside in
-    let len : c.self.inside.room.len ≡ length c.self.inside.room.items = search rules in
-    let size : length done.room ≡ c.self.inside.room.len = c.update_parts-done.ensures.moved.ready.room_len ∙ sym c.self.invariant.room ∙ sym len in
-    let room = with_items_is c.self.inside.room done.room size in
-    let has = has_seen s c.args.self.now before c.self.view_is same c.self.invariant in
-    let holds =
-    at_oid (λ (oid : Oid). IfAsked (outside c.args.host.now) s.geometry (parts s.units s.groups s.meta s.pages c.deref_mut.result.now) c.args.update.now (λ before u.
-    HasRoots before.session s.kept s.gained s.lost → AreRows done.meta → HoldsTable before (outside done.disk) (parts done.units done.groups done.meta done.pages done.room) done.gained.items done.lost.items (updated u oid (shown before.machine))))
-    c.args.note.now c.noted-noted.result c.update_parts-done.result (sym c.is_ok.ensures.value ∙ c.if-is_ok.true) c.noted-noted.ensures c.update_parts-done.ensures.updated in
-    subst (λ (r : List ℕ). HoldsTable before (outside done.disk) (parts done.units done.groups done.meta done.pages r) done.gained.items done.lost.items (updated u c.noted-noted.result.oid (shown before.machine))) (sym room)
-    (holds before (subst (λ (r : List ℕ). HasPortParts before.session s.geometry (parts s.units s.groups s.meta s.pages r)) (sym c.deref_mut.ensures.value) has) now u is asked (has_roots s before (same ∙ sym c.self.view_is)) c.keeps_to.ensures.rows)
+    at_oid (λ (oid : Oid). IfAsked (outside c.args.host.now) c.self.inside.volume c.args.update.now (λ before u. HasRoots before.session s.gained s.lost → AreRows p.meta → HoldsTable before (outside done.disk) p done.gained.items done.lost.items (updated u oid (shown before.machine))))
+    c.args.note.now c.noted-noted.result c.update_volume-done.result (sym c.is_ok.ensures.value ∙ c.if-is_ok.true) c.noted-noted.ensures c.update_volume-done.ensures.updated
+    before (has_seen s c.args.self.now before c.self.view_is same c.self.invariant) now u is asked (has_roots s before (same ∙ sym c.self.view_is)) c.keeps_to.ensures.rows
 
 pub returns-then-is_ok-2-clause-noted : goal.returns-then-is_ok-2-clause-noted
 returns-then-is_ok-2-clause-noted g c =
     let s = session.the_view c.self.inside in
-    let done = c.update_parts-done.new in
-    let room = (with_items c.self.inside.room done.room).items in
+    let done = c.update_volume-done.new in
+    let p = done.volume in
+    let moved = c.update_volume-done.ensures.moved in
     let pushed : c.push.new.self.items ≡ s.notes ++ c.noted-noted.result ∷ [] = search rules in
-    let same = noted_so c.args.note.now c.noted-noted.result c.update_parts-done.result (sym c.is_ok.ensures.value ∙ c.if-is_ok.true) c.noted-noted.ensures in
+    let same = noted_so c.args.note.now c.noted-noted.result c.update_volume-done.result (sym c.is_ok.ensures.value ∙ c.if-is_ok.true) c.noted-noted.ensures in
     record {
       is = invariant_of-self g c;
       same =
-          ap (λ ns. record s { units = done.units; groups = done.groups; meta = done.meta; pages = done.pages; room = room; notes = ns; gained = done.gained.items; lost = done.lost.items }) pushed
-          ∙ ap (λ (n : OpNote). record s { units = done.units; groups = done.groups; meta = done.meta; pages = done.pages; room = room; notes = s.notes ++ n ∷ []; gained = done.gained.items; lost = done.lost.items }) same
-          ∙ ap (λ (t : SessionState). record t { units = done.units; groups = done.groups; meta = done.meta; pages = done.pages; room = room; notes = t.notes ++ note_with c.args.note.now c.noted-noted.result.oid ∷ []; gained = done.gained.items; lost = done.lost.items }) c.self.view_is;
+          ap (λ ns. record (moved_to s p) { notes = ns; gained = done.gained.items; lost = done.lost.items }) pushed
+          ∙ ap (λ (n : OpNote). record (moved_to s p) { notes = s.notes ++ n ∷ []; gained = done.gained.items; lost = done.lost.items }) same
+          ∙ ap (λ (v : VolumeState). record (moved_to s v) { notes = s.notes ++ note_with c.args.note.now c.noted-noted.result.oid ∷ []; gained = done.gained.items; lost = done.lost.items }) moved.rest
+          ∙ ap (λ (t : SessionState). record t { units = p.units; groups = p.groups; meta = p.meta; pages = p.pages; notes = t.notes ++ note_with c.args.note.now c.noted-noted.result.oid ∷ []; gained = done.gained.items; lost = done.lost.items }) c.self.view_is;
     }
 
 pub invariant_of-self-2 : goal.invariant_of-self-2
 invariant_of-self-2 g c =
     let s = session.the_view c.self.inside in
-    let done = c.update_parts-done.new in
-    let p = parts done.units done.groups done.meta done.pages done.room in
-    let moved = subst (λ (r : List ℕ). Moved (IsLoose p.pages s.kept) (g.H.World.outside c.args.host.now) (g.H.World.outside done.disk) s.geometry (parts s.units s.groups s.meta s.pages r) p) c.deref_mut.ensures.value c.update_parts-done.ensures.moved in
-    let len : c.self.inside.room.len ≡ length c.self.inside.room.items = search rules in
-    let room = (with_items c.self.inside.room done.room).items in
-    let size : length room ≡ length done.room = sym (length_refill c.self.inside.room.len c.self.inside.room.items done.room len) ∙ len ∙ c.self.invariant.room ∙ sym moved.ready.room_len in
-    let same : session.the_view c.else-is_ok.self-inside ≡ record s { units = done.units; groups = done.groups; meta = done.meta; pages = done.pages; room = room; gained = done.gained.items; lost = done.lost.items } = elim c.else-is_ok.branch [
-      | else-is_ok-via-then-is_ok+then-keeps_to+then-has_work+else-is_ok-2 w ↦
+    let done = c.update_volume-done.new in
+    let p = done.volume in
+    let moved = c.update_volume-done.ensures.moved in
+    let same : session.the_view c.else-is_ok.self-inside ≡ record (moved_to s p) { gained = done.gained.items; lost = done.lost.items } = elim c.else-is_ok.branch [
+      | else-is_ok-via-then-is_ok+then-keeps_to+else-is_ok-2 w ↦
           let failed : w.push.new.self.items ≡ s.notes = search rules in
-          ap session.the_view w.self-inside-is ∙ ap (λ ns. record s { units = done.units; groups = done.groups; meta = done.meta; pages = done.pages; room = room; notes = ns; gained = done.gained.items; lost = done.lost.items }) failed
-      | else-is_ok-via-then-is_ok+then-keeps_to+else-has_work w ↦ ap session.the_view w.self-inside-is
+          ap session.the_view w.self-inside-is ∙ ap (λ ns. record (moved_to s p) { notes = ns; gained = done.gained.items; lost = done.lost.items }) failed
       | else-is_ok-via-then-is_ok+else-keeps_to w ↦ ap session.the_view w.self-inside-is
       | else-is_ok-via-else-is_ok w ↦ ap session.the_view w.self-inside-is
     ] in
-    let back = c.give_up.ensures.back in
-    let emptied : IsSession (record (session.the_view c.else-is_ok.self-inside) { meta = c.give_up.new.meta; pages = c.give_up.new.pages; units = c.give_up.new.units; gained = []; lost = []; opened = false }) =
-    given_up_as s p c.self.invariant moved done.gained.items done.lost.items room size (session.the_view c.else-is_ok.self-inside) same c.give_up.new.meta c.give_up.new.pages c.give_up.new.units c.give_up.ensures.none back in
-    let with = λ (gained lost : List Root). record (session.the_view c.else-is_ok.self-inside) { meta = c.give_up.new.meta; pages = c.give_up.new.pages; units = c.give_up.new.units; gained = gained; lost = lost; opened = false } in
     let none : c.clear.new.self.items ≡ [] = search rules in
     let none_lost : c.clear-2.new.self.items ≡ [] = search rules in
-    subst (λ (gained : List Root). IsSession (with gained c.clear-2.new.self.items)) (sym none) (subst (λ (lost : List Root). IsSession (with [] lost)) (sym none_lost) emptied)
+    given_up_at s p c.self.invariant moved (session.the_view c.else-is_ok.self-inside) done.gained.items done.lost.items same c.clear.new.self.items c.clear-2.new.self.items c.undo.new.self c.take_back.new.pages c.take_back.new.units
+    none none_lost c.undo.ensures c.take_back.ensures
 
 pub returns-then-is_ok-2-clause-writes : goal.returns-then-is_ok-2-clause-writes
-returns-then-is_ok-2-clause-writes g c = subst (λ (t : SessionState). WritesUnused (g.H.World.outside c.args.host.now) (g.H.World.outside c.update_parts-done.new.disk) t) c.self.view_is c.update_parts-done.ensures.moved.changes
+returns-then-is_ok-2-clause-writes g c = subst (λ (t : SessionState). WritesUnused (g.H.World.outside c.args.host.now) (g.H.World.outside c.update_volume-done.new.disk) t) c.self.view_is c.update_volume-done.ensures.moved.changes
 
 pub returns-clause-writes : goal.returns-clause-writes
-returns-clause-writes g c = subst (λ (t : SessionState). WritesUnused (g.H.World.outside c.args.host.now) (g.H.World.outside c.update_parts-done.new.disk) t) c.self.view_is c.update_parts-done.ensures.moved.changes
+returns-clause-writes g c = subst (λ (t : SessionState). WritesUnused (g.H.World.outside c.args.host.now) (g.H.World.outside c.update_volume-done.new.disk) t) c.self.view_is c.update_volume-done.ensures.moved.changes
 
 pub returns-then-is_ok-2-clause-any_moment : goal.returns-then-is_ok-2-clause-any_moment
-returns-then-is_ok-2-clause-any_moment g c = moments_of (session.the_view c.self.inside) c.args.self.now c.self.view_is c.self.invariant (g.H.World.is_world c.args.host.now) c.update_parts-done.ensures.moved.changes
+returns-then-is_ok-2-clause-any_moment g c = moments_of (session.the_view c.self.inside) c.args.self.now c.self.view_is c.self.invariant (g.H.World.is_world c.args.host.now) c.update_volume-done.ensures.moved.changes
 
 pub returns-clause-any_moment : goal.returns-clause-any_moment
-returns-clause-any_moment g c = moments_of (session.the_view c.self.inside) c.args.self.now c.self.view_is c.self.invariant (g.H.World.is_world c.args.host.now) c.update_parts-done.ensures.moved.changes
+returns-clause-any_moment g c = moments_of (session.the_view c.self.inside) c.args.self.now c.self.view_is c.self.invariant (g.H.World.is_world c.args.host.now) c.update_volume-done.ensures.moved.changes
 
 pub returns-clause-given_up : goal.returns-clause-given_up
-returns-clause-given_up g c = on_err c.match-done.result (refl, ap (λ (o : Overlays). o.working) c.give_up.ensures.none)
+returns-clause-given_up g c = on_err c.match-done.result (refl, ap (λ (o : Overlays). o.working) c.undo.ensures)
 
 pub returns-clause-sound : goal.returns-clause-sound
 returns-clause-sound g c =
@@ -132,8 +122,7 @@ returns-clause-sound g c =
       | in-Ok w ↦ subst stops (sym w.result-is) (λ before same now u is asked room. tt)
       | in-Err w ↦ subst stops (sym w.result-is) (λ before same now u is asked room.
           let has = has_seen s c.args.self.now before c.self.view_is same c.self.invariant in
-          let sound = subst (λ (r : Result Done PortFault). IfErr r (λ fault. IfAsked (outside c.args.host.now) s.geometry (parts s.units s.groups s.meta s.pages c.deref_mut.result.now) c.args.update.now (λ before u. HasRoots before.session s.kept s.gained s.lost → HasRoomFor before u → IsDamage fault → ⊥)))
-          w.in-Err.is c.update_parts-done.ensures.sound in
-          subst IsOutside (sym w.stopped.ensures) (no_damage w.in-Err.fault (λ damage.
-          sound before (subst (λ (r : List ℕ). HasPortParts before.session s.geometry (parts s.units s.groups s.meta s.pages r)) (sym c.deref_mut.ensures.value) has) now u is asked (has_roots s before (same ∙ sym c.self.view_is)) room damage)))
+          let sound = subst (λ (r : Result Done PortFault). IfErr r (λ fault. IfAsked (outside c.args.host.now) c.self.inside.volume c.args.update.now (λ before u. HasRoots before.session s.gained s.lost → HasRoomFor before u → IsDamage fault → ⊥)))
+          w.in-Err.is c.update_volume-done.ensures.sound in
+          subst IsOutside (sym w.stopped.ensures) (no_damage w.in-Err.fault (λ damage. sound before has now u is asked (has_roots s before (same ∙ sym c.self.view_is)) room damage)))
     ]

@@ -1,38 +1,76 @@
-use Rattle.session_core.proofs.Moving.{parts}
-use Rattle.session_core.proofs.TakingPages.{still_logged}
-use Rattle.session_core.proofs.TurnedParts.{gives_moved, swept_moved, turned_holds, with_units}
+use Rattle.std.proofs.Common.{◌≡◌, ◌∙◌, refl, rules, subst, sym}
+use Rattle.std.proofs.lemmas.Result.{on_ok_weaker}
+use Rattle.ex_base.specs.declared.names.Area.TheVariants.{Page}
+use Rattle.session_core.specs.Performed.{CanPerform}
+use Rattle.page_alloc.specs.UnitSet.{UnitSet, free_count, used_at}
+use Rattle.session_core.proofs.Moving.{IsMade, begins_over, fits_there, later_at, made_of, moved_at, parts_same, ready_of, ready_there, volume_moved}
+use Rattle.session_core.proofs.Performing.{performed_owns, performed_shown, performed_sound}
+use Rattle.session_core.proofs.PortParts.{pairs_named}
+use Rattle.session_core.proofs.TakingPages.{logged_at}
 use Rattle.session_core.proofs.session.moving.update_parts.Goals as goal
 
-pub returns-in_err-turn_roots-clause-moved : goal.returns-in_err-turn_roots-clause-moved
-returns-in_err-turn_roots-clause-moved g c =
-    let a = c.args in
-    let b = c.update_on.new in
-    let t = c.turn_roots.new in
-    let mid = parts b.units b.groups b.meta b.pages b.room in
-    gives_moved a.geometry.now (parts a.units.now a.groups.now a.meta.now a.pages.now a.room.now) mid a.kept.now t.units t.groups c.turn_roots.ensures.gives c.update_on.ensures.moved
+pub perform-requires-clause-ready : goal.perform-requires-clause-ready
+perform-requires-clause-ready g c =
+    let v = c.requires.ready.0 in
+    let has = c.requires.ready.1.0 in
+    let outside = g.D.World.outside in
+    let a = c.make-port.result in
+    let made : IsMade v c.args.disk.now a.store.disk.now a.store.geometry a.store.index a.store.units.now a.store.groups.now a.meta.now a.pages.now =
+    made_of v has (search rules) (search rules) (search rules) (search rules) (search rules) (search rules) (search rules) in
+    let ready = ready_there outside v c.args.disk.now a.store.disk.now _ _ _ _ _ _ made c.requires.ready.1.1 in
+    ready_of _ a.store (outside a.store.disk.now).size _ made.geometry refl (fits_there outside v c.args.disk.now a.store.disk.now _ _ _ _ _ _ made c.requires.ready.1.1) ready
+
+pub perform-requires-clause-can : goal.perform-requires-clause-can
+perform-requires-clause-can g c =
+    let units : c.args.units.now ≡ c.make-port.result.store.units.now = search rules in
+    subst (λ (u : UnitSet). CanPerform c.args.update.now (free_count u.geometry (used_at u) Page)) units c.requires.can
 
 pub returns-clause-moved : goal.returns-clause-moved
-returns-clause-moved g c =
-    let a = c.args in
-    let b = c.update_on.new in
-    let t = c.turn_roots.new in
-    let old = parts a.units.now a.groups.now a.meta.now a.pages.now a.room.now in
-    let mid = parts b.units b.groups b.meta b.pages b.room in
-    swept_moved a.geometry.now old (with_units mid t.units t.groups) a.kept.now c.sweep.new.units c.sweep.ensures
-    (gives_moved a.geometry.now old mid a.kept.now t.units t.groups c.turn_roots.ensures.gives c.update_on.ensures.moved)
+returns-clause-moved g c = λ v has ready.
+    let outside = g.D.World.outside in
+    let a = c.make-port.result in
+    let made : IsMade v c.args.disk.now a.store.disk.now a.store.geometry a.store.index a.store.units.now a.store.groups.now a.meta.now a.pages.now =
+    made_of v has (search rules) (search rules) (search rules) (search rules) (search rules) (search rules) (search rules) in
+    let b = c.perform.new.volume in
+    let leads = c.perform.ensures.leads in
+    moved_at outside _ _ b.store.disk.now _ _ _ _ _ made.disk (search rules) made.parts (parts_same v b.store.units.now _ b.store.groups.now _ b.meta.now _ b.pages.now _ (search rules) (search rules) (search rules) (search rules))
+    (volume_moved _ outside v a.store b.store a.store.disk b.store.disk a.store.units b.store.units a.store.groups b.store.groups a.store.index b.store.index a.store.geometry b.store.geometry a.meta b.meta a.pages b.pages a.room b.room
+    made.main refl refl refl refl made.geometry (fits_there outside v c.args.disk.now a.store.disk.now _ _ _ _ _ _ made ready) (ready_there outside v c.args.disk.now a.store.disk.now _ _ _ _ _ _ made ready) leads leads.store)
 
 pub returns-clause-updated : goal.returns-clause-updated
-returns-clause-updated g c = λ before has now u is asked roots rows.
-    let a = c.args in
-    let b = c.update_on.new in
-    let t = c.turn_roots.new in
-    let mid = parts b.units b.groups b.meta b.pages b.room in
-    turned_holds a.geometry.now mid a.kept.now t.units c.sweep.new.units t.groups c.turn_roots.ensures.gives c.sweep.ensures before a.gained.now.items a.lost.now.items t.gained.items t.lost.items
-    c.in_ok-done.done.gone c.in_ok-done.done.come _ has.geometry roots c.in_ok-turn_roots.ensures.turned (c.in_ok-done.ensures.updated before has now u is asked rows)
+returns-clause-updated g c = λ v has ready.
+    let outside = g.D.World.outside in
+    let a = c.make-port.result in
+    let made : IsMade v c.args.disk.now a.store.disk.now a.store.geometry a.store.index a.store.units.now a.store.groups.now a.meta.now a.pages.now =
+    made_of v has (search rules) (search rules) (search rules) (search rules) (search rules) (search rules) (search rules) in
+    let begins = begins_over outside v c.args.disk.now a.store.disk.now _ _ _ _ _ _ made ready _ a (λ fits are. ready_of _ a.store _ _ made.geometry refl fits are) (record { geometry_is = refl; unit = refl; image = refl; held = refl; used = refl; refs = refl; free = refl }) (λ told. told) in
+    let b = c.perform.new.volume in
+    let later = later_at _ b outside b.store.disk.now _ _ v.geometry _ _ (search rules) (c.perform.ensures.leads.store.geometry ∙ made.geometry) (parts_same v b.store.units.now _ b.store.groups.now _ b.meta.now _ b.pages.now _ (search rules) (search rules) (search rules) (search rules)) (record { geometry_is = refl; unit = refl; image = refl; held = refl; used = refl; refs = refl; free = refl }) in
+    performed_shown _ a c.perform.new.volume c.args.update.now c.perform.result c.perform.ensures.updates (outside c.args.disk.now) v begins pairs_named c.perform.ensures.leads _ (returns-clause-moved g c v has ready) later
+
+pub returns-clause-owns : goal.returns-clause-owns
+returns-clause-owns g c = λ v has ready.
+    let outside = g.D.World.outside in
+    let a = c.make-port.result in
+    let made : IsMade v c.args.disk.now a.store.disk.now a.store.geometry a.store.index a.store.units.now a.store.groups.now a.meta.now a.pages.now =
+    made_of v has (search rules) (search rules) (search rules) (search rules) (search rules) (search rules) (search rules) in
+    let begins = begins_over outside v c.args.disk.now a.store.disk.now _ _ _ _ _ _ made ready _ a (λ fits are. ready_of _ a.store _ _ made.geometry refl fits are) (record { geometry_is = refl; unit = refl; image = refl; held = refl; used = refl; refs = refl; free = refl }) (λ told. told) in
+    let b = c.perform.new.volume in
+    let later = later_at _ b outside b.store.disk.now _ _ v.geometry _ _ (search rules) (c.perform.ensures.leads.store.geometry ∙ made.geometry) (parts_same v b.store.units.now _ b.store.groups.now _ b.meta.now _ b.pages.now _ (search rules) (search rules) (search rules) (search rules)) (record { geometry_is = refl; unit = refl; image = refl; held = refl; used = refl; refs = refl; free = refl }) in
+    performed_owns _ a c.perform.new.volume c.args.update.now c.perform.result c.perform.ensures.updates (outside c.args.disk.now) v begins pairs_named c.perform.ensures.leads _ (returns-clause-moved g c v has ready) later
+
+pub returns-clause-sound : goal.returns-clause-sound
+returns-clause-sound g c = λ v has ready.
+    let outside = g.D.World.outside in
+    let a = c.make-port.result in
+    let made : IsMade v c.args.disk.now a.store.disk.now a.store.geometry a.store.index a.store.units.now a.store.groups.now a.meta.now a.pages.now =
+    made_of v has (search rules) (search rules) (search rules) (search rules) (search rules) (search rules) (search rules) in
+    let begins = begins_over outside v c.args.disk.now a.store.disk.now _ _ _ _ _ _ made ready _ a (λ fits are. ready_of _ a.store _ _ made.geometry refl fits are) (record { geometry_is = refl; unit = refl; image = refl; held = refl; used = refl; refs = refl; free = refl }) (λ told. told) in
+    performed_sound _ a c.perform.new.volume c.args.update.now c.perform.result c.perform.ensures.updates (outside c.args.disk.now) v begins
 
 pub returns-clause-shares : goal.returns-clause-shares
 returns-clause-shares g c = λ copies.
-    let b = c.update_on.new in
-    let t = c.turn_roots.new in
-    still_logged c.args.units.now t.units c.sweep.new.units b.pages (λ unit now. c.sweep.ensures.units.used unit now)
-    (still_logged c.args.units.now b.units t.units b.pages c.turn_roots.ensures.gives.fewer (c.in_ok-done.ensures.shares copies))
+    let a = c.make-port.result in
+    let b = c.perform.new.volume in
+    on_ok_weaker c.perform.result
+    (λ takes. logged_at {a = a.store.units.now} {c = b.store.units.now} {p = b.pages.now} (search rules) (search rules) (search rules) (record { taken = takes.taken })) (c.perform.ensures.shares copies)

@@ -17,5 +17,5 @@ returns-clause-counts g c =
       free = done.free;
       touched = refl;
       faults = done.faults;
-      leads = store_moves _ s.store c.drop_ref.new.self s.meta s.pages s.room s.room refl refl done.leads (λ p is stays. done.leads.used p is stays);
+      leads = store_moves _ s.store c.drop_ref.new.self s.meta s.pages s.room s.room refl done.leads (λ p is stays. done.leads.used p is stays);
     }

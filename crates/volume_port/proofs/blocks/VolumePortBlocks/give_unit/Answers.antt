@@ -21,6 +21,6 @@ returns g c =
       kept = done.kept;
       touched = refl;
       faults = done.faults;
-      frees = store_frees _ (λ p. p ≡ c.args.page.0) s.store c.give_unit.new.self s.meta s.pages s.room s.room refl refl done.frees (λ p is stays. done.frees.used p is stays)
+      frees = store_frees _ (λ p. p ≡ c.args.page.0) s.store c.give_unit.new.self s.meta s.pages s.room s.room refl done.frees (λ p is stays. done.frees.used p is stays)
           (λ p held same. both_ways _ c.requires.apart (ap (is_held s.pages.now) (sym same) ∙ held));
     }

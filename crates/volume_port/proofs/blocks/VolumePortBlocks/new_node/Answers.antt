@@ -25,4 +25,4 @@ pub returns-clause-leads : goal.returns-clause-leads
 returns-clause-leads g c =
     let s = c.args.self.now in
     let leads = c.new_node.ensures.leads in
-    store_moves _ s.store c.new_node.new.self s.meta s.pages s.room s.room refl refl leads (λ p is stays. leads.used p is stays)
+    store_moves _ s.store c.new_node.new.self s.meta s.pages s.room s.room refl leads (λ p is stays. leads.used p is stays)

@@ -15,5 +15,5 @@ returns-clause-kept g c =
       held = refl;
       free = done.free;
       touched = refl;
-      leads = store_moves _ s.store c.leaf_into.new.self s.meta s.pages s.room s.room refl refl done.leads (λ p is stays. done.leads.used p is stays);
+      leads = store_moves _ s.store c.leaf_into.new.self s.meta s.pages s.room s.room refl done.leads (λ p is stays. done.leads.used p is stays);
     }

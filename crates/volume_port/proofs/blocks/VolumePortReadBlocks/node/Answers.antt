@@ -20,7 +20,7 @@ returns-in_err-bring g c =
             held = refl;
             free = kept.free;
             touched = refl;
-            leads = store_moves _ s.store c.bring.new.self s.meta s.pages s.room s.room refl refl kept.leads (λ p is stays. kept.leads.used p is stays);
+            leads = store_moves _ s.store c.bring.new.self s.meta s.pages s.room s.room refl kept.leads (λ p is stays. kept.leads.used p is stays);
           },
           search rules,
         ),
@@ -44,7 +44,7 @@ returns g c =
             held = refl;
             free = kept.free;
             touched = refl;
-            leads = store_moves _ s.store c.bring.new.self s.meta s.pages s.room s.room refl refl kept.leads (λ p is stays. kept.leads.used p is stays);
+            leads = store_moves _ s.store c.bring.new.self s.meta s.pages s.room s.room refl kept.leads (λ p is stays. kept.leads.used p is stays);
           },
           tt,
         ),

@@ -22,7 +22,7 @@ returns-in_err-edit-clause-leads g c =
     let frees = counts_frees g.D.World.outside NoUnit store.disk store.units _ store.groups store.index store.geometry refl
     (λ p is stays. take_grows store.units.now c.take-page.new.self page took.used free p is)
     (λ before. taken_counted store.geometry store.units.now c.take-page.new.self page before (area_unit store.geometry Page page area) took.geometry took.used took.refs) in
-    rw c.in_err-edit.ensures.err (store_moves _ store _ s.meta s.pages s.room s.room refl refl frees (λ p is stays. take_grows store.units.now c.take-page.new.self page took.used free p is))
+    rw c.in_err-edit.ensures.err (store_moves _ store _ s.meta s.pages s.room s.room refl frees (λ p is stays. take_grows store.units.now c.take-page.new.self page took.used free p is))
 
 pub returns-clause-leaves : goal.returns-clause-leaves
 returns-clause-leaves g c = c.take-page.ensures.other_free Segment (λ same. cc)

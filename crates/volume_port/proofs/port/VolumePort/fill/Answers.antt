@@ -15,5 +15,5 @@ returns-clause-kept g c =
       held = refl;
       free = kept.free;
       touched = refl;
-      leads = store_moves _ s.store c.read_page.new.store s.meta s.pages s.room _ refl c.read_page.ensures.len kept.leads (λ p is stays. kept.leads.used p is stays);
+      leads = store_moves _ s.store c.read_page.new.store s.meta s.pages s.room _ refl kept.leads (λ p is stays. kept.leads.used p is stays);
     }

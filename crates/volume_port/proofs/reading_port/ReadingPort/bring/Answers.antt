@@ -30,7 +30,6 @@ returns-clause-kept g c =
         kinds = brought.keeps.kinds;
         behind = groups_brought (g.D.World.outside s.disk.now).disk s.groups.now _ s.index c.args.page.0 c.requires.ready.group c.requires.page.0 c.in_ok-bring.ensures.ok;
         told = told_along (g.D.World.outside s.disk.now) _ s.groups.now _ brought.only brought.keeps;
-        room_len = refl;
       };
     }
 
@@ -59,6 +58,5 @@ returns-in_err-bring-clause-kept g c =
         kinds = brought.keeps.kinds;
         behind = groups_not_brought s.groups.now _ s.index c.args.page.0 c.requires.ready.group c.in_err-bring.ensures.err;
         told = told_along (g.D.World.outside s.disk.now) _ s.groups.now _ brought.only brought.keeps;
-        room_len = refl;
       };
     }

@@ -1,0 +1,57 @@
+use Rattle.std.proofs.Common.{ap, refl, subst, sym}
+use Rattle.meta_pages.specs.Overlays.{AreRows}
+use Rattle.table_model.specs.Machines.{shown}
+use Rattle.volume_port.specs.declared.state.VolumeState.{VolumeState}
+use Rattle.session_core.specs.Sessions.{Swept, TakesLogged}
+use Rattle.session_core.specs.TableUpdates.{updated}
+use Rattle.session_core.specs.Updates.{HasParts, HoldsTable, with_parts}
+use Rattle.session_core.proofs.TakingPages.{still_logged}
+use Rattle.session_core.proofs.TurnedParts.{gives_moved, moved_as, swept_moved, turned_holds, with_units}
+use Rattle.session_core.proofs.session.moving.update_volume.Goals as goal
+
+pub update_parts-requires-clause-ready : goal.update_parts-requires-clause-ready
+update_parts-requires-clause-ready g c = (c.args.volume.now, record { geometry = refl; parts = refl }, c.requires.ready)
+
+pub returns-in_err-turn_roots-clause-moved : goal.returns-in_err-turn_roots-clause-moved
+returns-in_err-turn_roots-clause-moved g c =
+    let v = c.args.volume.now in
+    let u = c.update_parts.new in
+    let mid = with_parts v u.units u.groups u.meta u.pages in
+    let t = c.turn_roots.new.volume in
+    let has : HasParts v v.geometry v.units v.groups v.meta v.pages = record { geometry = refl; parts = refl } in
+    moved_as (sym c.turn_roots.ensures.rest) (gives_moved v mid t.units t.groups c.turn_roots.ensures.gives (c.update_parts.ensures.moved v has c.requires.ready))
+
+pub returns-clause-moved : goal.returns-clause-moved
+returns-clause-moved g c =
+    let v = c.args.volume.now in
+    let u = c.update_parts.new in
+    let mid = with_parts v u.units u.groups u.meta u.pages in
+    let t = c.turn_roots.new.volume in
+    let has : HasParts v v.geometry v.units v.groups v.meta v.pages = record { geometry = refl; parts = refl } in
+    swept_moved v t c.sweep.new.units c.sweep.ensures (moved_as (sym c.turn_roots.ensures.rest) (gives_moved v mid t.units t.groups c.turn_roots.ensures.gives (c.update_parts.ensures.moved v has c.requires.ready)))
+
+pub returns-clause-updated : goal.returns-clause-updated
+returns-clause-updated g c = λ before seen now w is asked roots rows.
+    let b = g.D.World.outside c.turn_roots.new.disk in
+    let v = c.args.volume.now in
+    let u = c.update_parts.new in
+    let mid = with_parts v u.units u.groups u.meta u.pages in
+    let t = c.turn_roots.new.volume in
+    let has : HasParts v v.geometry v.units v.groups v.meta v.pages = record { geometry = refl; parts = refl } in
+    let rest = c.turn_roots.ensures.rest in
+    let table = updated w c.in_ok-done.done.oid (shown before.machine) in
+    subst (λ (q : VolumeState). HoldsTable before b (with_units q c.sweep.new.units t.groups) c.turn_roots.new.gained.items c.turn_roots.new.lost.items table) (sym rest)
+    (turned_holds mid t.units c.sweep.new.units t.groups c.turn_roots.ensures.gives (subst (λ (q : VolumeState). Swept q.meta.working q.kept t.units c.sweep.new.units) rest c.sweep.ensures) before c.args.gained.now.items c.args.lost.now.items c.turn_roots.new.gained.items c.turn_roots.new.lost.items
+    c.in_ok-done.done.gone c.in_ok-done.done.come table (ap (λ (q : VolumeState). q.geometry) seen.volume) (ap (λ (q : VolumeState). q.kept) seen.volume) roots c.in_ok-turn_roots.ensures.turned
+    (c.in_ok-done.ensures.updated v has c.requires.ready before seen now w is asked (subst (λ (q : VolumeState). AreRows q.meta) rest rows)))
+
+pub returns-clause-shares : goal.returns-clause-shares
+returns-clause-shares g c = λ copies.
+    let v = c.args.volume.now in
+    let u = c.update_parts.new in
+    let mid = with_parts v u.units u.groups u.meta u.pages in
+    let t = c.turn_roots.new.volume in
+    let has : HasParts v v.geometry v.units v.groups v.meta v.pages = record { geometry = refl; parts = refl } in
+    subst (λ (q : VolumeState). TakesLogged v.units c.sweep.new.units q.pages) (sym c.turn_roots.ensures.rest)
+    (still_logged v.units t.units c.sweep.new.units mid.pages (λ unit now. c.sweep.ensures.units.used unit now)
+    (still_logged v.units mid.units t.units mid.pages c.turn_roots.ensures.gives.fewer (c.in_ok-done.ensures.shares copies)))
