@@ -36,8 +36,8 @@ held_is p opened =
     let frames : map (λ (f : Frames). f.entries) p.groups ≡ [] ∷ [] = ap (map (λ (f : Frames). f.entries)) opened.fresh.groups in
     let working = opened.fresh.working in
     let overlay = opened.images in
-    let kept = opened.fresh.kept in
-    cc (frames, working, overlay, kept)
+    let rest : held (record (opened_session p) { kept = p.pages }) ≡ fresh_held p.geometry p.log (used_at p.units) (refs_at p.units) (is_held p.pages) = cc (frames, working, overlay) in
+    ap (λ (flags : List Bool). held (record (opened_session p) { kept = flags })) opened.fresh.kept ∙ rest
 
 pub shows_opened : {w : Outside} (p : VolumeState) (image : List ℕ) (table : Table) → AreOpened p → IsTrue w.honest
     → OpenedOn image p.geometry w p.log p.meta.committed (used_at p.units) (refs_at p.units) (is_held p.pages) → StandsFor image table

@@ -133,8 +133,7 @@ fn remove_among<P: Pages>(
         (level - 1) entries.old.items) }
     ensures catalog { OnOk result (P.image pages.new catalog_no ≡ P.image pages.old catalog_no) }
     ensures leaves { OnOk result (P.free pages.new Segment ≡ P.free pages.old Segment) }
-    ensures touches { OnOk result
-        (TouchesAtMost P.Ground pages.old pages.new (touches_below level)) }
+    ensures touches { OnOk result (TouchesAtMost P.Ground pages.old pages.new (touches_below level)) }
     ensures leads { P.leads pages.old pages.new }
     ensures cause { HasCause (P.faults pages.old) (P.faults pages.new) result }
 {
@@ -203,8 +202,7 @@ fn remove_below<P: Pages>(
         → HasWay (P.geometry pages.old) (P.image pages.old) index.now key.0) }
     ensures catalog { OnOk result (P.image pages.new catalog_no ≡ P.image pages.old catalog_no) }
     ensures leaves { OnOk result (P.free pages.new Segment ≡ P.free pages.old Segment) }
-    ensures touches { OnOk result
-        (TouchesAtMost P.Ground pages.old pages.new (2 * index.now.level)) }
+    ensures touches { OnOk result (TouchesAtMost P.Ground pages.old pages.new (2 * index.now.level)) }
     ensures leads { P.leads pages.old pages.new }
     ensures cause { HasCause (P.faults pages.old) (P.faults pages.new) result }
 {

@@ -21,7 +21,7 @@ use Rattle.session_core.proofs.Holding.{never_shown, own_free, own_shows, update
 use Rattle.session_core.proofs.PortParts.{IsPortWith, PortBegins}
 use Rattle.session_core.proofs.Roomed.{has_room}
 
-module _ {S : Type 0} (g : ground.Ghosts S) (s t : S) (update : ObjectUpdate) (result : Result Done PortFault) (does : (u : TableUpdate) → IsUpdate update u → Updates g s t u result) 
+module _ {S : Type 0} (g : ground.Ghosts S) (s t : S) (update : ObjectUpdate) (result : Result Done PortFault) (does : (u : TableUpdate) → IsUpdate update u → Updates g s t u result)
     (a : Outside) (old : VolumeState) (begins : PortBegins g s a old) where
   module _ (names : NamesPairs g) (leads : g.leads s t) {b : Outside} (new : VolumeState) (moved : Moved NoUnit a b old new) (later : IsPortWith g t old.geometry b.disk new) where
     -- what it leaves holds the table that it makes,

@@ -1,22 +1,18 @@
 -- What a session finds of the objects of its volume, and why it stops.
-use Rattle.std.specs.Prelude.{true, ◌≡◌, ◌≢◌, ◌⊎◌, ◌≤◌, ◌^◌, ◌++◌, ◌↔◌, ℕ, List, [], ◌∷◌, IsPermutation, IsSome, length, take, drop, All, Option, Some, None, unwrap_or, slice_index_or, nat_eq, bytes_eq, find, option_map, Contains, Result, Ok, Err, ⊤}
+use Rattle.std.specs.Prelude.{true, ◌≡◌, ◌≢◌, ◌⊎◌, ◌≤◌, ◌^◌, ◌++◌, ◌↔◌, ℕ, List, [], ◌∷◌, IsPermutation, IsSome, length, take, drop, Option, Some, None, unwrap_or, slice_index_or, nat_eq, bytes_eq, find, option_map, Contains, Result, Ok, Err, ⊤}
 use Rattle.std.specs.Map.{lookup}
 use Rattle.ex_base.specs.Area.{InPageArea, page_at}
-use Rattle.ex_base.specs.declared.geometry.Geometry.{Geometry}
 use Rattle.ex_base.specs.declared.ground.Ground as ground
 use Rattle.ex_base.specs.declared.faults.PortFault.{PortFault}
 use Rattle.ex_base.specs.declared.faults.PortFault.TheVariants as fault
 use Rattle.ex_base.specs.declared.names.Oid.{Oid}
 use Rattle.ex_base.specs.declared.names.Root.{Root}
-use Rattle.disk_model.specs.Outside.{Outside, ReadsOnly, Rose}
-use Rattle.buffer_groups.specs.Frames.{Frames}
-use Rattle.buffer_groups.specs.Groups.{SameKinds}
-use Rattle.commits.specs.Room.{AreBehindLog}
+use Rattle.disk_model.specs.Outside.{Outside, Rose}
 use Rattle.tree_store.specs.Stored.{unit_bytes}
-use Rattle.volume_port.specs.Logged.{LoggedSet, is_held}
+use Rattle.volume_port.specs.Logged.{is_held}
 use Rattle.volume_port.specs.Ported.{image_over}
 use Rattle.volume_port.specs.Reading.{TellsBytes}
-use Rattle.meta_pages.specs.Overlays.{Overlays, over}
+use Rattle.meta_pages.specs.Overlays.{over}
 use Rattle.slotted_pages.specs.FilePage.{body_of}
 use Rattle.slotted_pages.specs.Edits.{slots_of}
 use Rattle.object_files.specs.Catalog.{FileEntry}

@@ -81,7 +81,12 @@ impl Session {
         ) {
             return Err(stopped(fault));
         }
-        take_back(&self.volume.meta, &mut self.volume.units, &mut self.volume.pages, &self.volume.kept);
+        take_back(
+            &self.volume.meta,
+            &mut self.volume.units,
+            &mut self.volume.pages,
+            &self.volume.kept,
+        );
         self.volume.meta.undo();
         self.rooms.forget();
         self.names.unbind_marked();

@@ -113,14 +113,23 @@ impl Session {
             return Err(stopped(fault));
         }
         let number = number_next(&mut page);
-        if self.volume.meta.edit(alloc, PageNo::CATALOG, &page).is_err() {
+        if self
+            .volume
+            .meta
+            .edit(alloc, PageNo::CATALOG, &page)
+            .is_err()
+        {
             return Err(Stop::Memory);
         }
         // From here on the transaction is committed, or the session is down.
         self.opened = false;
         self.gained.clear();
         self.lost.clear();
-        settle(&self.volume.meta, &mut self.volume.units, &mut self.volume.kept);
+        settle(
+            &self.volume.meta,
+            &mut self.volume.units,
+            &mut self.volume.kept,
+        );
         if let Err(fault) = commit(
             alloc,
             &mut self.volume.log,
@@ -151,7 +160,14 @@ impl Session {
         if self.opened {
             return Ok(Reply::No(Refusal::TxnOpen));
         }
-        if checkpoint(&mut self.volume.log, &mut self.volume.meta, &mut self.volume.groups, host).is_err() {
+        if checkpoint(
+            &mut self.volume.log,
+            &mut self.volume.meta,
+            &mut self.volume.groups,
+            host,
+        )
+        .is_err()
+        {
             return Err(Stop::Disk);
         }
         Ok(Reply::Checkpoint)

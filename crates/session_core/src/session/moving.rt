@@ -22,10 +22,10 @@ ghost use Rattle.volume_port.specs.declared.state.VolumeState.{VolumeState};
 ghost use Rattle.volume_port.specs.State.{AreReady, Moved};
 ghost use Rattle.tree_store.specs.Stored.{NoUnit};
 
+use super::Session;
 use super::objects::stopped;
 use super::settle::{sweep, take_back};
 use super::turning::turn_roots;
-use super::Session;
 use crate::updates::{Done, ObjectUpdate, perform};
 use buffer_groups::Groups;
 use disk_model::{Disk, Host};
@@ -245,7 +245,12 @@ impl Session {
             return Ok(noted.oid);
         }
         let volume = &mut self.volume;
-        take_back(&volume.meta, &mut volume.units, &mut volume.pages, &volume.kept);
+        take_back(
+            &volume.meta,
+            &mut volume.units,
+            &mut volume.pages,
+            &volume.kept,
+        );
         volume.meta.undo();
         self.gained.clear();
         self.lost.clear();

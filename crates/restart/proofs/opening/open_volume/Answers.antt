@@ -107,6 +107,7 @@ returns-clause-parts g c =
         meta = c.checkpoint.ensures.same_geometry ∙ fresh.meta;
         working = c.checkpoint.ensures.working ∙ fresh.working;
         reached = fresh.reached;
+        kept = fresh.kept;
         groups = closed.2;
       };
       log = closed.0;

@@ -10,7 +10,7 @@ use Rattle.session_core.proofs.TurnedParts.{gives_moved, moved_as, swept_moved, 
 use Rattle.session_core.proofs.session.moving.update_volume.Goals as goal
 
 pub update_parts-requires-clause-ready : goal.update_parts-requires-clause-ready
-update_parts-requires-clause-ready g c = (c.args.volume.now, record { geometry = refl; parts = refl }, c.requires.ready)
+update_parts-requires-clause-ready g c = (c.args.volume.now, (record { geometry = refl; parts = refl }, c.requires.ready))
 
 pub returns-in_err-turn_roots-clause-moved : goal.returns-in_err-turn_roots-clause-moved
 returns-in_err-turn_roots-clause-moved g c =
