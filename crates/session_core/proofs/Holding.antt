@@ -193,7 +193,7 @@ module _ {S : Type 0} (g : ground.Ghosts S) (s : S) {a : Outside} (old : VolumeS
     own_port : IsPortOf g s before.session a.disk
     own_port = port_of g s before.session a.disk own_over
 
-    same_table : shown before.machine ≡ table_of (units_in g s) now.shows.working
+    pub same_table : shown before.machine ≡ table_of (units_in g s) now.shows.working
     same_table = table_is g s now own_port
 
     -- the port has what the view shows, and as many free units as the session
@@ -210,6 +210,10 @@ module _ {S : Type 0} (g : ground.Ghosts S) (s : S) {a : Outside} (old : VolumeS
 
     pub own_free : (area : Area) → g.free s area ≡ free_in before.session area
     own_free area = ap (λ (free : Area → ℕ). free area) own_over.free
+
+    -- what the view shows, over units in use
+    pub own_volume : IsVolume g s now.shows.decoded.records now.shows.working
+    own_volume = is_volume g s now has.is own_over
 
   module _ (asks : Volume → Table → Type 0) where
     -- where a volume with such a table excludes a fault, so does a session that shows both

@@ -34,6 +34,7 @@ pub mod Showing
 mod Summing
 mod Tracking
 pub mod Undisturbed
+mod UnitsTaken
 mod Updating
 pub mod Volumes
 pub mod Working

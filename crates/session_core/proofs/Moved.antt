@@ -16,7 +16,7 @@ use Rattle.commits.specs.Room.{IsLogged}
 use Rattle.volume_port.specs.Logged.{LoggedSet, is_held}
 use Rattle.table_model.specs.Machines.{updates_most, touched_most}
 use Rattle.session_core.specs.Sessions.{SessionState, ArePagesUsed, IsSession, IsTracked, HasWork, TakenBack, volume_held}
-use Rattle.std.specs.Prelude.{Result, Ok, Err, IfOk, OnErr, is_ok, Option, None}
+use Rattle.std.specs.Prelude.{Result, Ok, Err, IfOk, OnOk, OnErr, is_ok, Option, None}
 use Rattle.ex_base.specs.declared.faults.PortFault.{PortFault}
 use Rattle.ex_base.specs.declared.names.Oid.{Oid}
 use Rattle.disk_model.specs.Outside.{IsWorld, Leaves}
@@ -179,6 +179,11 @@ note_with_oid note noted same is page slot unique =
 pub on_err : {P : Type 0} (result : Result Oid Stop) → P → OnErr result P
 on_err (Ok oid) p = tt
 on_err (Err stop) p = p
+
+-- what is said of an update that was performed holds of one
+pub when_done : {P : Type 0} (done : Result Done PortFault) → is_ok done ≡ true → OnOk done P → P
+when_done (Ok done) ok p = p
+when_done (Err fault) ok p = absurd (both_ways false refl ok)
 
 -- what holds of the OID that it answered holds of the noted one
 pub at_oid : (P : Oid → Type 0) (note noted : OpNote) (done : Result Done PortFault) → is_ok done ≡ true → noted ≡ note_done note done → IfOk done (λ d. P d.oid) → P noted.oid

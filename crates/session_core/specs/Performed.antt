@@ -29,6 +29,11 @@ NamesOid (update.Remove x) oid = oid ≡ x
 NamesOid (update.Copy copying x unique) oid = oid.unique ≡ unique
 NamesOid (update.Drop x) oid = oid ≡ x
 
+-- the most logged pages that it touches: for a change of bytes the one of its version's record
+abbrev pub charge_of : ObjectUpdate → ℕ
+charge_of (update.Change oid edit) = 1
+charge_of _ = 16
+
 -- it copies a version
 abbrev pub IsCopying : ObjectUpdate → Type 0
 IsCopying (update.Copy copying oid unique) = ⊤

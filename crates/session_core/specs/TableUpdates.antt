@@ -1,7 +1,8 @@
 -- What an update of objects asks of a volume's table, and the table that it leaves.
-use Rattle.std.specs.Prelude.{◌≡◌, ◌⊎◌, ℕ, Bool, true, false, List, length, Option, Some, Contains, Result, IfOk, IfErr, ⊤}
+use Rattle.std.specs.Prelude.{◌≡◌, ◌≤◌, ◌+◌, ◌⊎◌, ℕ, Bool, true, false, List, length, Option, Some, Contains, Result, IfOk, IfErr, ⊤}
 use Rattle.ex_base.specs.declared.ground.Ground as ground
 use Rattle.ex_base.specs.declared.faults.PortFault.{PortFault}
+use Rattle.ex_base.specs.declared.names.Area.{Area}
 use Rattle.ex_base.specs.declared.names.Oid.{Oid}
 use Rattle.ex_base.specs.declared.names.Root.{Root}
 use Rattle.ex_base.specs.Ports.{IsDamage}
@@ -12,11 +13,13 @@ use Rattle.object_records.specs.Record.{Content}
 use Rattle.object_records.specs.declared.Head.{Head}
 use Rattle.table_model.specs.declared.table.Table.{Table}
 use Rattle.version_lists.specs.declared.version.Version.{Version}
+use Rattle.table_model.specs.Needs.{pages_need}
 use Rattle.table_model.specs.Refusals.{branches_if, is_only_one}
 use Rattle.table_model.specs.Tables.{version_at, versions_of, numbered, with_object, with_bytes, with_derived, with_frozen, without_version}
 use Rattle.session_core.specs.declared.updates.Done.{Done}
 use Rattle.versions.specs.Edited.{HasNeed}
-use Rattle.versions.specs.Versions.{AreInUse, Change, HasVersion, InRange, changed, place_of}
+use Rattle.versions.specs.Needs.{edit_need}
+use Rattle.versions.specs.Versions.{AreInUse, Change, HasVersion, InRange, StaysSmall, changed, place_of}
 use Rattle.volume_edits.specs.Edits.{TurnsRoots, trees_of}
 use Rattle.volume_edits.specs.Ported.{IsApart, IsVolume, units_in}
 use Rattle.volume_model.specs.Volume.{Volume, file_pages, table_of}
@@ -90,6 +93,24 @@ abbrev pub HasRoom : {S : Type 0} → ground.Ghosts S → S → TableUpdate → 
 HasRoom g s (Changes oid change) = (index : Index) (head : Head) (content : Content) (bytes : List ℕ) → HasVersion g s index oid head content bytes
     → HasNeed g s (place_of oid) content change (length (changed change bytes))
 HasRoom g s _ = ⊤
+
+-- Of each area's free units at most so many are not free any more.
+abbrev pub TakesWithin : {S : Type 0} → ground.Ghosts S → S → S → (Area → ℕ) → Type 0
+TakesWithin g old new most = (area : Area) → g.free old area ≤ g.free new area + most area
+
+-- The change took at most the units that it may need, and none where the version, of so many bytes after it, stays small.
+pub record TakesForChange {S : Type 0} (g : ground.Ghosts S) (old new : S) (oid : Oid) (content : Content) (change : Change) (n : ℕ) : Type 0 where
+  pub most : TakesWithin g old new (edit_need (g.geometry old) change content)
+  pub small : StaysSmall g old (place_of oid) content n → TakesWithin g old new (λ area. 0)
+
+-- The update took no more units than it may need: a change those of the version that stands there, what removes a version none, and what makes one at
+-- most sixteen pages.
+abbrev pub TakesNeed : {S : Type 0} → ground.Ghosts S → S → S → TableUpdate → Type 0
+TakesNeed g old new (Changes oid change) = g.tells old → (index : Index) (head : Head) (content : Content) (bytes : List ℕ) → HasVersion g old index oid head content bytes
+    → TakesForChange g old new oid content change (length (changed change bytes))
+TakesNeed g old new (Removes oid) = TakesWithin g old new (λ area. 0)
+TakesNeed g old new (Drops oid) = TakesWithin g old new (λ area. 0)
+TakesNeed g old new _ = TakesWithin g old new (pages_need 16)
 
 -- The port's working state becomes a volume with this table. Each of its pages and each unit of its trees is one of before or was free, and of its roots
 -- one went and one came.

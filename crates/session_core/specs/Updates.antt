@@ -1,5 +1,5 @@
 -- What an update makes of the volume of a session.
-use Rattle.std.specs.Prelude.{◌≡◌, ◌≤◌, ◌++◌, ◌∷◌, [], ℕ, Bool, true, false, List, length, Some, None, nat_eq, Option, Result, Ok, Err, All, IsTrue, ⊤}
+use Rattle.std.specs.Prelude.{◌≡◌, ◌≤◌, ◌+◌, ◌++◌, ◌∷◌, [], ℕ, Bool, true, false, List, length, Some, None, nat_eq, Option, Result, Ok, Err, All, IsTrue, ⊤}
 use Rattle.std.specs.Map.{lookup}
 use Rattle.ex_base.specs.declared.geometry.Geometry.{Geometry}
 use Rattle.ex_base.specs.Area.{area_end, catalog_no}
@@ -20,12 +20,13 @@ use Rattle.ex_base.specs.declared.names.Area.TheVariants.{Page, Segment}
 use Rattle.table_model.specs.declared.machine.Machine.{Machine}
 use Rattle.table_model.specs.declared.table.Table.{Table}
 use Rattle.table_model.specs.Machines.{IsMachine}
+use Rattle.table_model.specs.Needs.{pages_need}
 use Rattle.table_model.specs.Machines.{shown}
 use Rattle.session_views.specs.View.{View, ShowsNow}
 use Rattle.session_core.specs.declared.updates.Done.{Done}
 use Rattle.session_core.specs.declared.updates.ObjectUpdate.{ObjectUpdate}
 use Rattle.session_core.specs.Performed.{IsUpdate}
-use Rattle.session_core.specs.TableUpdates.{TableUpdate, Changes, Asks}
+use Rattle.session_core.specs.TableUpdates.{TableUpdate, Changes, Removes, Drops, Asks}
 use Rattle.versions.specs.declared.finding.Found.{Found}
 use Rattle.volume_model.specs.Shown.{Shared, Shows, used_in}
 use Rattle.session_core.specs.Needs.{fits_beside, size_after, units_need}
@@ -152,6 +153,15 @@ abbrev pub HasRoomFor : View SessionState → TableUpdate → Type 0
 HasRoomFor before (Changes oid change) = (found : Found) → TellsVersion before oid found → (area : Area)
     → units_need before.session.geometry found change (fits_beside before (record { oid = oid; found = found }) (size_after change found.size)) area ≤ free_in before.session area
 HasRoomFor before _ = ⊤
+
+-- Of each area's units that were free, as many are free after the update, as this counts them, but those that the change of a version may take, as the
+-- machine counts them; but none where a version is removed; and but sixteen pages where one is made.
+abbrev pub TakesAtMost : (Area → ℕ) → View SessionState → TableUpdate → Type 0
+TakesAtMost free before (Changes oid change) = (found : Found) → TellsVersion before oid found → (area : Area)
+    → free_in before.session area ≤ free area + units_need before.session.geometry found change (fits_beside before (record { oid = oid; found = found }) (size_after change found.size)) area
+TakesAtMost free before (Removes oid) = (area : Area) → free_in before.session area ≤ free area
+TakesAtMost free before (Drops oid) = (area : Area) → free_in before.session area ≤ free area
+TakesAtMost free before _ = (area : Area) → free_in before.session area ≤ free area + pages_need 16 area
 
 -- what holds of each view that shows what stands outside, of a session with this volume, and whose volume and table have what the update asks
 abbrev pub IfAsked : Outside → VolumeState → ObjectUpdate → (View SessionState → TableUpdate → Type 0) → Type 0

@@ -21,7 +21,6 @@ use bound_names::NameMap;
 pub use catalog::view_of;
 use ex_base::{OpNote, Root};
 use file_rooms::Rooms;
-pub use moving::Limit;
 pub use objects::Named;
 use open_scans::OpenScans;
 pub use relatives::Relation;

@@ -2,9 +2,10 @@
 ghost use Rattle.std.specs.Prelude.{◌≡◌, ℕ, List, IfOk, OnOk};
 ghost use Rattle.ex_base.specs.Ports.{HasCause};
 ghost use Rattle.ex_base.specs.declared.names.Area.TheVariants.{Page};
-ghost use Rattle.session_core.specs.TableUpdates.{TableUpdate, Updates};
-ghost use Rattle.session_core.specs.Performed.{CanPerform, IsCopying, IsUpdate, NamesOid};
+ghost use Rattle.session_core.specs.TableUpdates.{TableUpdate, TakesNeed, Updates};
+ghost use Rattle.session_core.specs.Performed.{CanPerform, IsCopying, IsUpdate, NamesOid, charge_of};
 ghost use Rattle.file_index.specs.Taking.{OnlyTakes};
+ghost use Rattle.file_index.specs.Touches.{TouchesAtMost};
 ghost use Rattle.file_rooms.specs.Rooms.{ChangesOne};
 
 mod changing;
@@ -82,6 +83,10 @@ pub fn perform<V: Volume>(
         → Updates V.Ground volume.old volume.new u result }
     ensures shares { IsCopying update.now
         → OnOk result (OnlyTakes V.Ground volume.old volume.new) }
+    ensures takes { (u : TableUpdate) → IsUpdate update.now u
+        → OnOk result (TakesNeed V.Ground volume.old volume.new u) }
+    ensures touches { OnOk result (TouchesAtMost V.Ground volume.old volume.new
+        (charge_of update.now)) }
     ensures rooms { ChangesOne rooms.old rooms.new }
     ensures leads { V.leads volume.old volume.new }
     ensures cause { HasCause (V.faults volume.old) (V.faults volume.new) result }

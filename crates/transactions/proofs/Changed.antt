@@ -1,5 +1,5 @@
 -- A version whose bytes are changed: what the update asks, and the step.
-use Rattle.std.proofs.Common.{◌≡◌, ◌∙◌, ◌≤◌, ◌+◌, ◌-◌, ℕ, true, false, [], ◌∷◌, length, Option, Some, None, Result, Ok, Err, refl, sym, ap, subst}
+use Rattle.std.proofs.Common.{◌≡◌, ◌∙◌, ◌≤◌, ◌+◌, ◌-◌, ℕ, arith, true, false, [], ◌∷◌, length, Option, Some, None, Result, Ok, Err, refl, sym, ap, subst}
 use Rattle.std.specs.Prelude.{IfOk, IfErr, is_none, nat_le, nat_lt, ◌&&◌, ◌==◌, ◌||◌, if◌then◌else◌}
 use Rattle.std.proofs.lemmas.Bool.{ltb-false}
 use Rattle.disk_model.specs.Outside.{Outside, DiskOnly, IsWorld}
@@ -20,7 +20,7 @@ use Rattle.table_model.specs.declared.reply.Refusal.TheVariants as refusal
 use Rattle.table_model.specs.declared.reply.Reply.{Reply}
 use Rattle.table_model.specs.declared.reply.Reply.TheVariants as reply
 use Rattle.version_lists.specs.declared.version.Version.{Version}
-use Rattle.table_model.specs.Machines.{shown, the_oid, size_of}
+use Rattle.table_model.specs.Machines.{shown, the_oid, touched_most, size_of}
 use Rattle.table_model.specs.Needs.{charge}
 use Rattle.table_model.specs.Needs as needs
 use Rattle.table_model.specs.Refusals.{when}
@@ -40,23 +40,21 @@ use Rattle.volume_model.specs.Volume.{is_frozen}
 use Rattle.versions.specs.Versions.{Change, Inserts, Appends, Replaces, Deletes, InRange, changed, count_of, record_len}
 use Rattle.transactions.specs.declared.edits.Admitted.{Admitted}
 use Rattle.transactions.specs.declared.edits.Need.{Need}
-use Rattle.session_core.specs.declared.session.moving.Limit.{Limit}
 use Rattle.session_core.specs.declared.session.objects.Named.{Named}
-use Rattle.transactions.specs.Editing.{AsksFor, IsAdmitted, IsAnswered, IsWithin, bytes_refusal, edit_note, edit_reply, is_outside, limit_of, room_refusal}
-use Rattle.session_core.specs.Needs.{fits_beside, room_beside, root_height, size_after}
+use Rattle.transactions.specs.Editing.{AsksFor, IsAdmitted, IsAnswered, IsWithin, bytes_refusal, edit_note, edit_reply, is_outside, room_refusal}
+use Rattle.session_core.specs.Needs.{fits_beside, room_beside, root_height, size_after, units_need}
 use Rattle.session_core.specs.Finding.{IfShown, IsOutside, LineStops, NamesVersion, TellsVersion}
 use Rattle.transactions.specs.Lines.{UpdatesLine}
 use Rattle.session_core.specs.Meant.{meant, held_view}
 use Rattle.session_core.specs.Counts.{free_in}
 use Rattle.session_core.specs.Sessions.{SessionState, IsSession, volume_held}
 use Rattle.session_core.specs.Steps.{OnlyFrames}
-use Rattle.session_core.specs.Updates.{HasRoomFor, HoldsTable, IfUpdated, Noted, note_with}
+use Rattle.session_core.specs.Updates.{HasRoomFor, HoldsTable, IfUpdated, Noted, TakesAtMost, note_with}
 use Rattle.session_core.specs.TableUpdates as update
 use Rattle.transactions.proofs.EditRefusals.{pick_fits, pick_tall, same_units, units_told}
 use Rattle.transactions.proofs.Naming.{the_oid_named, the_size_named}
 use Rattle.session_core.proofs.Quiet.{with_groups}
-use Rattle.transactions.specs.Editing.{KeptTo}
-use Rattle.transactions.proofs.Updated.{machine_with, noted_steps, own_names, pick_then, room_left, same_machine, same_session, view_then, within_need}
+use Rattle.transactions.proofs.Updated.{KeptTo, machine_with, noted_steps, own_names, pick_then, room_left, same_machine, same_session, view_then, within_need}
 use Rattle.transactions.specs.Lines.{WentOn}
 use Rattle.transactions.proofs.UpdateLines.{counted_then, frames_of, line_refused, opened_then, update_done, update_stopped}
 
@@ -232,9 +230,9 @@ module _ (m : Machine) (x : Reference) (oid : Oid) (size : ℕ) (named : the_oid
 module _ {a : Outside} {before : View SessionState} (now : ShowsNow meant a before) (counted : before.session.units.geometry ≡ before.session.geometry) (is_open : before.session.opened ≡ true) (x : Reference) (change : Change) (given : Admitted)
     (admitted : IsAdmitted before x change given) (within : IsWithin before.session change given) where
   pub change_steps : {b : Outside} (new : SessionState) (oid : Oid) → oid ≡ given.version.oid → DiskOnly a b → Noted before.session new (note_with (edit_note change given.version.oid given.version.found.size) oid)
-      → KeptTo (limit_of before.session given.need) new → HoldsTable before b (volume_held new) new.gained new.lost (with_bytes given.version.oid (changed change) (shown before.machine)) → (r : Request) → AsksFor r x change
+      → length new.meta.working ≤ length before.session.meta.working + 1 → TakesAtMost (free_in new) before (update.Changes given.version.oid change) → HoldsTable before b (volume_held new) new.gained new.lost (with_bytes given.version.oid (changed change) (shown before.machine)) → (r : Request) → AsksFor r x change
       → Stepped meant before r (edit_reply change (size_after change given.version.found.size)) new b
-  change_steps {b} new oid is only noted kept holds r asked =
+  change_steps {b} new oid is only noted touched kept holds r asked =
       let m = before.machine in
       let version = given.version in
       let n = edit_note change version.oid version.found.size in
@@ -247,15 +245,28 @@ module _ {a : Outside} {before : View SessionState} (now : ShowsNow meant a befo
       let small = fits_beside before version (size_after change version.found.size) in
       let fits : q.small ≡ small = pick_fits now counted is_open x version names within.size change small refl after r asked in
       let tall : q.height ≡ root_height version.found.root = pick_tall now counted is_open x version names within.size change small refl after r asked in
+      let taken = kept version.found names.told in
+      let keeps : KeptTo given.need before.session new = record {
+        touched = omega (arith, touched, within.charge);
+        pages = (let pages = taken Page in let need : given.need.pages ≡ units_need before.session.geometry version.found change small Page = ap (λ (e : Need). e.pages) admitted.need in omega (arith, pages, need));
+        segs = (let segs = taken Segment in let need : given.need.segs ≡ units_need before.session.geometry version.found change small Segment = ap (λ (e : Need). e.segs) admitted.need in omega (arith, segs, need));
+      } in
       let pages : given.need.pages ≡ needs.need m.geometry r q Page =
       ap (λ (e : Need). e.pages) admitted.need ∙ sym (same_units change Page now.shows.shared.geometry fits tall) ∙ d.pages q in
       let segs : given.need.segs ≡ needs.need m.geometry r q Segment =
       ap (λ (e : Need). e.segs) admitted.need ∙ sym (same_units change Segment now.shows.shared.geometry fits tall) ∙ d.segs q in
       noted_steps now new n before.session.names table did holds new r (edit_reply change (size_after change version.found.size)) (same_session new n did) only is_open refl (own_names now)
       (admitted.accepted r (held_view (view_then now new n before.session.names table did holds)) asked) (d.reply q) (same_machine m q (d.table q) (d.notes q) (sym now.shows.shared.names) ∙ d.after q)
-      (d.asks q, λ _. within_need now new n before.session.names table did holds given.need r counted kept (within.charge ∙ d.charge) pages segs)
+      (d.asks q, λ _. within_need now new n before.session.names table did holds given.need r counted keeps (within.charge ∙ d.charge) pages segs)
 
 -- ---- the ways of the line
+
+-- it may touch the page that it does
+pub change_left : {a b : Outside} {old mid : SessionState} (change : Change) (given : Admitted) → OnlyFrames a b old mid → IsWithin old change given → length mid.meta.working + 1 ≤ touched_most
+change_left {a} {b} {old} {mid} change given read within =
+    let there = within_then change given read within in
+    let left = (room_left mid given.need there.room).touched in
+    omega (arith, left, there.charge)
 
 -- as the code comes to what was admitted
 pub admitted_so : {w : Outside} {old : SessionState} (x : Reference) (change : Change) (given : Admitted) (told : Result Admitted Refusal) → told ≡ Ok given → IfOk told (λ g. IfShown w old (λ before. IsAdmitted before x change g))
@@ -278,17 +289,18 @@ module _ {a b : Outside} {old mid : SessionState} (x : Reference) (change : Chan
     asks_then : (before : View SessionState) → before.session ≡ old → ShowsNow meant a before → AsksChange (shown before.machine) given.version.oid change
     asks_then before same now = asks_change before x change given.version (admitted before same now).named within.bytes
 
-    -- it is done: the note, the limit and the reply as the code comes to them
-    pub changed_so : (oid : Oid) (n : OpNote) (limit : Limit) (size : ℕ) (told : Reply) → oid ≡ given.version.oid → n ≡ edit_note change given.version.oid given.version.found.size → limit ≡ limit_of mid given.need
-        → size ≡ size_after change given.version.found.size → told ≡ edit_reply change size → Noted mid new (note_with n oid) → KeptTo limit new
+    -- it is done: the note and the reply as the code comes to them
+    pub changed_so : (oid : Oid) (n : OpNote) (size : ℕ) (told : Reply) → oid ≡ given.version.oid → n ≡ edit_note change given.version.oid given.version.found.size
+        → size ≡ size_after change given.version.found.size → told ≡ edit_reply change size → Noted mid new (note_with n oid) → length new.meta.working ≤ length mid.meta.working + 1
+        → IfUpdated b mid (made.Change given.version.oid edit) (TakesAtMost (free_in new))
         → IfUpdated b mid (made.Change given.version.oid edit) (λ before u. HoldsTable before c (volume_held new) new.gained new.lost (update.updated u oid (shown before.machine))) → UpdatesLine a c old new r (Ok told)
-    changed_so oid n limit size told named noting limited sized telling noted kept holds =
+    changed_so oid n size told named noting sized telling noted touched kept holds =
         let did : Noted mid new (note_with (edit_note change given.version.oid given.version.found.size) oid) = subst (λ (o : OpNote). Noted mid new (note_with o oid)) noting noted in
-        let keeps : KeptTo (limit_of mid given.need) new = subst (λ (l : Limit). KeptTo l new) limited kept in
         let is_told : told ≡ edit_reply change (size_after change given.version.found.size) = telling ∙ ap (edit_reply change) sized in
         subst (λ (t : Reply). UpdatesLine a c old new r (Ok t)) (sym is_told)
         (update_done r world is read went (edit_reply change (size_after change given.version.found.size)) (never_no change (size_after change given.version.found.size)) (λ before same now later.
-        change_steps later (counted_then read is) (opened_then read is_open) x change given (admitted_then before x change given same read (admitted before same now)) (within_then change given read within) new oid named went.only did keeps
+        change_steps later (counted_then read is) (opened_then read is_open) x change given (admitted_then before x change given same read (admitted before same now)) (within_then change given read within) new oid named went.only did touched
+        (kept (with_groups before mid) refl later (update.Changes given.version.oid change) (ap (λ (c : Change). update.Changes given.version.oid c) same_change) (asks_then before same now))
         (holds (with_groups before mid) refl later (update.Changes given.version.oid change) (ap (λ (c : Change). update.Changes given.version.oid c) same_change) (asks_then before same now)) r asked))
 
     pub change_stopped : (why : Stop) → LineStops b c why → IfUpdated b mid (made.Change given.version.oid edit) (λ before u. HasRoomFor before u → IsOutside why) → UpdatesLine a c old new r (Err why)

@@ -229,6 +229,7 @@ copy_makes m table copying.Freeze x name given is = record {
   charge = refl;
   pages = λ q. refl;
   segs = λ q. refl;
+  takes = λ v free takes. takes;
   last = λ oid. refl;
   vacant = λ oid number apart. freeze_vacant m.geometry (shown m) table oid number given.oid is.version is.is is.named is.flag apart;
 }
@@ -242,6 +243,7 @@ copy_makes m table copying.Derive x name given is = record {
   charge = refl;
   pages = λ q. refl;
   segs = λ q. refl;
+  takes = λ v free takes. takes;
   last = λ oid. refl;
   vacant = λ oid number apart. derive_vacant m.geometry (shown m) table oid number given.oid is.version is.is is.named is.flag apart;
 }

@@ -1,6 +1,7 @@
 -- How a line is answered that makes a version, once the machine accepts it.
-use Rattle.std.proofs.Common.{◌≡◌, ◌∙◌, ◌+◌, ◌-◌, ◌^◌, ℕ, true, false, List, [], ◌∷◌, ◌++◌, All, AllPairs, Some, None, Ok, Err, refl, sym, ap, subst}
+use Rattle.std.proofs.Common.{◌≡◌, ◌≤◌, ◌∙◌, ◌+◌, ◌-◌, ◌^◌, ℕ, arith, true, false, List, [], ◌∷◌, ◌++◌, All, AllPairs, Some, None, Ok, Err, refl, sym, ap, subst}
 use Rattle.std.specs.Prelude.{IsTrue, ◌==◌, if◌then◌else◌}
+use Rattle.ex_base.specs.declared.names.Area.{Area}
 use Rattle.ex_base.specs.declared.names.Area.TheVariants.{Page, Segment}
 use Rattle.ex_base.specs.declared.names.Oid.{Oid}
 use Rattle.ex_base.specs.declared.names.OpNote.{OpNote}
@@ -16,7 +17,7 @@ use Rattle.table_model.specs.declared.reply.Reply.{Reply}
 use Rattle.table_model.specs.declared.reply.Reply.TheVariants as reply
 use Rattle.table_model.specs.declared.table.Table.{Table}
 use Rattle.table_model.specs.Machines.{IsMachine, shown}
-use Rattle.table_model.specs.Needs.{charge, need}
+use Rattle.table_model.specs.Needs.{charge, need, pages_need}
 use Rattle.table_model.specs.Refusals.{when}
 use Rattle.table_model.specs.Requests.{Request}
 use Rattle.table_model.specs.Steps.{Asks, IsVacant, machine_after, new_oid, note, notes_of, reply_to, table_after}
@@ -27,6 +28,7 @@ use Rattle.version_lists.specs.declared.version.Version.{Version}
 use Rattle.version_lists.specs.Changes.{new_version}
 use Rattle.session_views.specs.View.{View, ShowsNow, Stepped}
 use Rattle.session_core.specs.declared.updates.ObjectUpdate.{ObjectUpdate}
+use Rattle.session_core.specs.Counts.{free_in}
 use Rattle.session_core.specs.Finding.{IfShown}
 use Rattle.session_core.specs.Meant.{meant, place_bound}
 use Rattle.session_core.specs.Performed.{IsUpdate}
@@ -35,14 +37,13 @@ use Rattle.session_core.specs.Sessions.{SessionState, IsSession, volume_held}
 use Rattle.session_core.specs.Steps.{OnlyFrames}
 use Rattle.session_core.specs.TableUpdates.{TableUpdate, updated}
 use Rattle.session_core.specs.TableUpdates as update
-use Rattle.session_core.specs.Updates.{HoldsTable, Noted}
+use Rattle.session_core.specs.Updates.{HoldsTable, Noted, TakesAtMost}
 use Rattle.session_core.proofs.Quiet.{with_groups}
 use Rattle.session_core.proofs.Refusing.{none_is_false}
 use Rattle.session_core.proofs.Taken.{taken_as}
-use Rattle.transactions.specs.Editing.{KeptTo, limit_of}
 use Rattle.transactions.specs.Lines.{Answered, UpdatesLine, WentOn}
 use Rattle.transactions.specs.Making.{MakesVersion, bound_to, making_need}
-use Rattle.transactions.proofs.Updated.{machine_then, machine_with, noted_steps, pick_then, same_machine, within_need}
+use Rattle.transactions.proofs.Updated.{KeptTo, charge_most, machine_then, machine_with, noted_steps, pick_then, same_machine, within_need}
 use Rattle.transactions.proofs.UpdateLines.{counted_then, opened_then, update_done}
 
 -- ---- its number, and its room
@@ -94,12 +95,13 @@ pub record Makes (m : Machine) (r : Request) (name : List ℕ) (kind : NoteKind)
   pub charge : 16 ≡ charge r
   pub pages : (q : Pick) → 16 ≡ need m.geometry r q Page
   pub segs : (q : Pick) → 0 ≡ need m.geometry r q Segment
+  pub takes : (v : View SessionState) (free : Area → ℕ) → TakesAtMost free v u → (area : Area) → free_in v.session area ≤ free area + pages_need 16 area
   pub last : (oid : Oid) → (updated u oid (shown m)).last ≡ (shown m).last
   pub vacant : (oid : Oid) → oid.unique ≡ (shown m).next_unique → AllPairs LieApart (versions_of (updated u oid (shown m))) → All (λ (v : Version). SamePlace v (new_version oid) → ⊥) (versions_of (shown m))
 
 module _ {a b : Outside} {before : View SessionState} (now : ShowsNow meant a before) (counted : before.session.units.geometry ≡ before.session.geometry) (is_open : before.session.opened ≡ true) (r : Request) (name : List ℕ) (kind : NoteKind)
     (told : Oid → Reply) (u : TableUpdate) (makes : Makes before.machine r name kind told u) (spelled : IsTrue (is_name name)) (untaken : takes_name before.session name ≡ false) (oid : Oid) (mid new : SessionState)
-    (number : oid.unique ≡ (shown before.machine).next_unique) (did : Noted before.session mid (note kind oid 0 0)) (kept : KeptTo (limit_of before.session making_need) mid)
+    (number : oid.unique ≡ (shown before.machine).next_unique) (did : Noted before.session mid (note kind oid 0 0)) (kept : KeptTo making_need before.session mid)
     (holds : HoldsTable before b (volume_held mid) mid.gained mid.lost (updated u oid (shown before.machine))) (bound : new ≡ record mid { names = before.session.names ++ bound_to name oid ∷ [] }) (only : DiskOnly a b) where
   abbrev m : Machine
   m = before.machine
@@ -153,4 +155,6 @@ pub line_made : {a b c : Outside} {old mid new : SessionState} (r : Request) (na
 line_made {a} {b} {c} {old} {mid} {new} r name kind told made unique world is is_open read spelled untaken went oid named done never facts =
     update_done r world is read went (told oid) never (λ before same now later.
     let it = facts before same now later in
-    made_steps later (counted_then read is) (opened_then read is_open) r name kind told it.u it.makes spelled untaken oid done.mid new (named ∙ sym it.number) done.noted done.kept (done.holds (with_groups before mid) refl later it.u it.is it.asks) done.bound went.only)
+    let taken = it.makes.takes (with_groups before mid) (free_in done.mid) (done.kept (with_groups before mid) refl later it.u it.is it.asks) in
+    let kept : KeptTo making_need mid done.mid = record { touched = (let most = charge_most made in let touched = done.touched in omega (arith, touched, most)); pages = taken Page; segs = taken Segment } in
+    made_steps later (counted_then read is) (opened_then read is_open) r name kind told it.u it.makes spelled untaken oid done.mid new (named ∙ sym it.number) done.noted kept (done.holds (with_groups before mid) refl later it.u it.is it.asks) done.bound went.only)

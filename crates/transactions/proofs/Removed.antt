@@ -1,10 +1,11 @@
 -- A version that is destroyed or dropped: why the line is refused, and its step.
-use Rattle.std.proofs.Common.{◌≡◌, ◌∙◌, ◌≤◌, ℕ, arith, Bool, true, false, [], ◌∷◌, Option, Some, None, Ok, Err, refl, sym, ap, subst}
+use Rattle.std.proofs.Common.{◌≡◌, ◌∙◌, ◌≤◌, ◌+◌, ℕ, length, arith, Bool, true, false, [], ◌∷◌, Option, Some, None, Ok, Err, refl, sym, ap, subst}
 use Rattle.std.specs.Prelude.{nat_le, not}
 use Rattle.std.specs.Option.{option_or}
 use Rattle.std.proofs.lemmas.Bool.{leb-false}
 use Rattle.disk_model.specs.Outside.{Outside, DiskOnly, IsWorld}
 use Rattle.ex_base.specs.declared.geometry.Geometry.{Geometry}
+use Rattle.ex_base.specs.declared.names.Area.{Area}
 use Rattle.ex_base.specs.declared.names.Area.TheVariants.{Page, Segment}
 use Rattle.ex_base.specs.declared.names.Oid.{Oid}
 use Rattle.ex_base.specs.declared.names.OpNote.{OpNote}
@@ -17,7 +18,7 @@ use Rattle.table_model.specs.declared.reply.Refusal.TheVariants as refusal
 use Rattle.table_model.specs.declared.reply.Reply.{Reply}
 use Rattle.table_model.specs.declared.reply.Reply.TheVariants as reply
 use Rattle.table_model.specs.declared.table.Table.{Table}
-use Rattle.table_model.specs.Machines.{shown, version_of}
+use Rattle.table_model.specs.Machines.{shown, touched_most, version_of}
 use Rattle.table_model.specs.Needs.{charge, need}
 use Rattle.table_model.specs.Refusals.{branches, branches_if, current, current_if, first, frozen, full, has_versions, is_only_one, limits, long_txn, refusal_of, when}
 use Rattle.table_model.specs.Requests.{Reference, Request}
@@ -33,26 +34,26 @@ use Rattle.version_lists.proofs.Lists.{Has, find_has, has_length}
 use Rattle.session_views.specs.declared.engine.Stop.{Stop}
 use Rattle.session_views.specs.View.{View, ShowsNow, Stepped}
 use Rattle.volume_model.specs.Volume.{is_frozen}
-use Rattle.session_core.specs.declared.session.moving.Limit.{Limit}
 use Rattle.session_core.specs.declared.session.objects.Named.{Named}
 use Rattle.session_core.specs.declared.updates.ObjectUpdate.{ObjectUpdate}
 use Rattle.session_core.specs.declared.updates.ObjectUpdate.TheVariants as made
+use Rattle.session_core.specs.Counts.{free_in}
 use Rattle.session_core.specs.Finding.{IfShown, IsOutside, LineStops, NamesVersion, TellsVersion}
 use Rattle.session_core.specs.Meant.{meant}
-use Rattle.session_core.specs.Performed.{IsUpdate}
+use Rattle.session_core.specs.Performed.{IsUpdate, charge_of}
 use Rattle.session_core.specs.Sessions.{SessionState, IsSession, volume_held}
 use Rattle.session_core.specs.Steps.{OnlyFrames}
 use Rattle.session_core.specs.TableUpdates.{AsksDrop, AsksRemoval, TableUpdate, updated}
 use Rattle.session_core.specs.TableUpdates as update
-use Rattle.session_core.specs.Updates.{HasRoomFor, HoldsTable, IfUpdated, Noted, note_with}
+use Rattle.session_core.specs.Updates.{HasRoomFor, HoldsTable, IfUpdated, Noted, TakesAtMost, note_with}
 use Rattle.session_core.proofs.Quiet.{same_view, with_groups}
-use Rattle.transactions.specs.Editing.{KeptTo, limit_of, room_refusal}
+use Rattle.transactions.specs.Editing.{room_refusal}
 use Rattle.transactions.specs.Lines.{Answered, UpdatesLine, WentOn}
 use Rattle.transactions.specs.Removing.{AcceptsOf, removal_need}
 use Rattle.transactions.proofs.Changed.{names_then}
 use Rattle.transactions.proofs.EditRefusals.{joined, names_frozen, names_live, opens, room_is, units_counted, update_counts}
 use Rattle.transactions.proofs.Naming.{the_oid_named, the_version}
-use Rattle.transactions.proofs.Updated.{machine_with, noted_steps, own_names, pick_then, same_machine, same_session, within_need}
+use Rattle.transactions.proofs.Updated.{KeptTo, charge_most, machine_with, noted_steps, own_names, pick_then, room_left, same_machine, same_session, within_need}
 use Rattle.transactions.proofs.UpdateLines.{counted_then, line_refused, opened_then, update_done, update_stopped}
 
 -- from a frozen version of a table another one is derived
@@ -201,6 +202,7 @@ record Takes (m : Machine) (r : Request) (kind : NoteKind) (told : Oid → Reply
   charge : 16 ≡ charge r
   pages : (q : Pick) → 0 ≡ need m.geometry r q Page
   segs : (q : Pick) → 0 ≡ need m.geometry r q Segment
+  takes : (v : View SessionState) (free : Area → ℕ) → TakesAtMost free v u → (area : Area) → free_in v.session area ≤ free area
   last : (updated u oid (shown m)).last ≡ (shown m).last
 
 destroy_takes : (m : Machine) (x : Reference) (oid : Oid) → AcceptsOf m (request.Destroy x) x oid → Takes m (request.Destroy x) note_kind.ObjectRemoved (λ oid. reply.Destroy oid) (update.Removes oid) oid
@@ -214,6 +216,7 @@ destroy_takes m x oid is = record {
   charge = refl;
   pages = λ q. refl;
   segs = λ q. refl;
+  takes = λ v free takes. takes;
   last = refl;
 }
 
@@ -228,11 +231,12 @@ drop_takes m x oid is = record {
   charge = refl;
   pages = λ q. refl;
   segs = λ q. refl;
+  takes = λ v free takes. takes;
   last = refl;
 }
 
 removed_steps : {a b : Outside} {before : View SessionState} (now : ShowsNow meant a before) → before.session.units.geometry ≡ before.session.geometry → before.session.opened ≡ true → (r : Request) (kind : NoteKind) (told : Oid → Reply) (u : TableUpdate) (oid : Oid)
-    → Takes before.machine r kind told u oid → (new : SessionState) → DiskOnly a b → Noted before.session new (note kind oid 0 0) → KeptTo (limit_of before.session removal_need) new
+    → Takes before.machine r kind told u oid → (new : SessionState) → DiskOnly a b → Noted before.session new (note kind oid 0 0) → KeptTo removal_need before.session new
     → HoldsTable before b (volume_held new) new.gained new.lost (updated u oid (shown before.machine)) → Stepped meant before r (told oid) new b
 removed_steps {a} {b} {before} now counted is_open r kind told u oid takes new only did kept holds =
     let m = before.machine in
@@ -245,22 +249,29 @@ removed_steps {a} {b} {before} now counted is_open r kind told u oid takes new o
 
 -- ---- the ways of the line
 
+-- it may touch as many pages as it does
+pub removal_left : {a b : Outside} {old mid : SessionState} → OnlyFrames a b old mid → room_refusal old removal_need ≡ None → length mid.meta.working + 16 ≤ touched_most
+removal_left {a} {b} {old} {mid} read room = (room_left mid removal_need (ap (λ (s : SessionState). room_refusal s removal_need) read.same ∙ room)).touched
+
 pub line_kept : {a b : Outside} {old mid : SessionState} (r : Request) → IsWorld a → IsSession old → OnlyFrames a b old mid → (why : Refusal) → IfShown a old (λ before. Answered before.machine r (Some why)) → UpdatesLine a b old mid r (Ok (reply.No why))
 line_kept r world is read why refuses = line_refused r world read why is (λ before same now after. refuses before same now _)
 
 module _ {a b c : Outside} {old mid new : SessionState} (world : IsWorld a) (is : IsSession old) (is_open : old.opened ≡ true) (read : OnlyFrames a b old mid) (went : WentOn b c mid new) (x : Reference) (oid : Oid) where
   module _ (r : Request) (kind : NoteKind) (told : Oid → Reply) (how : ObjectUpdate) (u : TableUpdate) (is_u : IsUpdate how u)
       (asks : IfShown a old (λ before. (later : ShowsNow meant b (with_groups before mid)) → update.Asks u later.shows.working (shown before.machine))) where
-    -- it is done: the note and the limit as the code comes to them
-    line_removed : IfShown a old (λ before. Takes before.machine r kind told u oid) → ((o : Oid) (why : Refusal) → told o ≡ reply.No why → ⊥) → (gone : Oid) (n : OpNote) (limit : Limit) → gone ≡ oid → n ≡ note kind oid 0 0 → limit ≡ limit_of mid removal_need
-        → Noted mid new (note_with n gone) → KeptTo limit new → IfUpdated b mid how (λ before u. HoldsTable before c (volume_held new) new.gained new.lost (updated u gone (shown before.machine))) → UpdatesLine a c old new r (Ok (told gone))
-    line_removed takes never gone n limit named noting limited noted kept holds =
+    -- it is done: the note as the code comes to it
+    line_removed : IfShown a old (λ before. Takes before.machine r kind told u oid) → ((o : Oid) (why : Refusal) → told o ≡ reply.No why → ⊥) → (gone : Oid) (n : OpNote) → gone ≡ oid → n ≡ note kind oid 0 0
+        → Noted mid new (note_with n gone) → length new.meta.working ≤ length mid.meta.working + charge_of how → IfUpdated b mid how (TakesAtMost (free_in new)) → IfUpdated b mid how (λ before u. HoldsTable before c (volume_held new) new.gained new.lost (updated u gone (shown before.machine))) → UpdatesLine a c old new r (Ok (told gone))
+    line_removed takes never gone n named noting noted touched kept holds =
         let here : Noted mid new (note kind gone 0 0) = subst (λ (o : OpNote). Noted mid new (note_with o gone)) noting noted in
         let did : Noted mid new (note kind oid 0 0) = subst (λ (o : Oid). Noted mid new (note kind o 0 0)) named here in
-        let keeps : KeptTo (limit_of mid removal_need) new = subst (λ (l : Limit). KeptTo l new) limited kept in
         subst (λ (o : Oid). UpdatesLine a c old new r (Ok (told o))) (sym named)
         (update_done r world is read went (told oid) (never oid) (λ before same now later.
-        removed_steps later (counted_then read is) (opened_then read is_open) r kind told u oid (takes before same now) new went.only did keeps
+        let its = takes before same now in
+        let taken = its.takes (with_groups before mid) (free_in new) (kept (with_groups before mid) refl later u is_u (asks before same now later)) in
+        let keeps : KeptTo removal_need mid new =
+        record { touched = (let most = charge_most how in omega (arith, touched, most)); pages = (let pages = taken Page in omega (arith, pages)); segs = (let segs = taken Segment in omega (arith, segs)) } in
+        removed_steps later (counted_then read is) (opened_then read is_open) r kind told u oid its new went.only did keeps
         (subst (λ (o : Oid). HoldsTable (with_groups before mid) c (volume_held new) new.gained new.lost (updated u o (shown before.machine))) named (holds (with_groups before mid) refl later u is_u (asks before same now later)))))
 
     line_unremoved : ((v : View SessionState) → HasRoomFor v u) → (why : Stop) → LineStops b c why → IfUpdated b mid how (λ before u. HasRoomFor before u → IsOutside why) → UpdatesLine a c old new r (Err why)
@@ -268,7 +279,8 @@ module _ {a b c : Outside} {old mid new : SessionState} (world : IsWorld a) (is 
         update_stopped r world is read went why stops (λ before same now later. sound (with_groups before mid) refl later u is_u (asks before same now later) (roomy (with_groups before mid)))
 
   module _ (may : IfShown a old (λ before. AcceptsOf before.machine (request.Destroy x) x oid × AsksRemoval (shown before.machine) oid)) where
-    pub destroyed : (gone : Oid) (n : OpNote) (limit : Limit) → gone ≡ oid → n ≡ note note_kind.ObjectRemoved oid 0 0 → limit ≡ limit_of mid removal_need → Noted mid new (note_with n gone) → KeptTo limit new
+    pub destroyed : (gone : Oid) (n : OpNote) → gone ≡ oid → n ≡ note note_kind.ObjectRemoved oid 0 0 → Noted mid new (note_with n gone) → length new.meta.working ≤ length mid.meta.working + 16
+        → IfUpdated b mid (made.Remove oid) (TakesAtMost (free_in new))
         → IfUpdated b mid (made.Remove oid) (λ before u. HoldsTable before c (volume_held new) new.gained new.lost (updated u gone (shown before.machine))) → UpdatesLine a c old new (request.Destroy x) (Ok (reply.Destroy gone))
     destroyed =
         line_removed (request.Destroy x) note_kind.ObjectRemoved (λ oid. reply.Destroy oid) (made.Remove oid) (update.Removes oid) refl (λ before same now later. (may before same now).1)
@@ -278,7 +290,8 @@ module _ {a b c : Outside} {old mid new : SessionState} (world : IsWorld a) (is 
     destroy_stopped = line_unremoved (request.Destroy x) note_kind.ObjectRemoved (λ oid. reply.Destroy oid) (made.Remove oid) (update.Removes oid) refl (λ before same now later. (may before same now).1) (λ v. tt)
 
   module _ (may : IfShown a old (λ before. AcceptsOf before.machine (request.DropVersion x) x oid × AsksDrop (shown before.machine) oid)) where
-    pub dropped : (gone : Oid) (n : OpNote) (limit : Limit) → gone ≡ oid → n ≡ note note_kind.Dropped oid 0 0 → limit ≡ limit_of mid removal_need → Noted mid new (note_with n gone) → KeptTo limit new
+    pub dropped : (gone : Oid) (n : OpNote) → gone ≡ oid → n ≡ note note_kind.Dropped oid 0 0 → Noted mid new (note_with n gone) → length new.meta.working ≤ length mid.meta.working + 16
+        → IfUpdated b mid (made.Drop oid) (TakesAtMost (free_in new))
         → IfUpdated b mid (made.Drop oid) (λ before u. HoldsTable before c (volume_held new) new.gained new.lost (updated u gone (shown before.machine))) → UpdatesLine a c old new (request.DropVersion x) (Ok (reply.DropVersion gone))
     dropped =
         line_removed (request.DropVersion x) note_kind.Dropped (λ oid. reply.DropVersion oid) (made.Drop oid) (update.Drops oid) refl (λ before same now later. (may before same now).1)

@@ -27,10 +27,13 @@ use Rattle.table_model.proofs.Stepping.{passes, unmet}
 use Rattle.session_views.specs.View.{View, ShowsNow, Stepped}
 use Rattle.volume_model.specs.Shown.{used_in}
 use Rattle.transactions.specs.declared.edits.Need.{Need}
-use Rattle.transactions.specs.Editing.{KeptTo, full_in, limit_of, room_refusal}
+use Rattle.transactions.specs.Editing.{full_in, room_refusal}
 use Rattle.session_core.specs.Meant.{meant, held_view, pick_of}
 use Rattle.session_core.specs.Counts.{free_in}
 use Rattle.transactions.specs.Refused.{long_txn}
+use Rattle.session_core.specs.declared.updates.ObjectUpdate.{ObjectUpdate}
+use Rattle.session_core.specs.declared.updates.ObjectUpdate.TheVariants as made
+use Rattle.session_core.specs.Performed.{charge_of}
 use Rattle.session_core.specs.Sessions.{SessionState, IsSession, volume_held}
 use Rattle.session_core.specs.Updates.{HoldsTable, Noted}
 use Rattle.session_core.proofs.Accepted.{took_place}
@@ -79,6 +82,20 @@ room_left s n none =
       pages = ltb-false (free_in s Page) n.pages (unmet _ _ all.1.0);
       segs = ltb-false (free_in s Segment) n.segs (unmet _ _ all.1.1.0);
     }
+
+-- An update took no more of the touched pages and of the units than this.
+pub record KeptTo (need : Need) (old new : SessionState) : Type 0 where
+  pub touched : length new.meta.working ≤ length old.meta.working + need.charge
+  pub pages : free_in old Page ≤ free_in new Page + need.pages
+  pub segs : free_in old Segment ≤ free_in new Segment + need.segs
+
+-- no update touches more pages than those that make or remove a version may
+pub charge_most : (update : ObjectUpdate) → charge_of update ≤ 16
+charge_most (made.Create file_no unique) = omega arith
+charge_most (made.Change oid edit) = omega arith
+charge_most (made.Remove oid) = omega arith
+charge_most (made.Copy copying oid unique) = omega arith
+charge_most (made.Drop oid) = omega arith
 
 -- a machine with this table, these notes more, these names and the counts that were picked
 abbrev pub machine_with : Machine → Table → List OpNote → List BoundName → Pick → Machine
@@ -190,17 +207,17 @@ module _ {a b : Outside} {before : View SessionState} (now : ShowsNow meant a be
       let most = ap (λ (s : SessionState). units s.geometry area) did.same in
       omega (arith, free_left mid.geometry (used_at mid.units) area, here, most)
 
-  -- what keeps to the limit of a need is within the need
-  pub within_need : (n : Need) (r : Request) → before.session.units.geometry ≡ before.session.geometry → KeptTo (limit_of before.session n) mid → n.charge ≡ charge r
+  -- what took no more than a need is within it
+  pub within_need : (n : Need) (r : Request) → before.session.units.geometry ≡ before.session.geometry → KeptTo n before.session mid → n.charge ≡ charge r
       → n.pages ≡ needs.need before.machine.geometry r (pick_then r) Page → n.segs ≡ needs.need before.machine.geometry r (pick_then r) Segment → WithinNeed before.machine r (pick_then r)
   within_need n r same kept charged pages segs =
       let g = session_geometry now.shows in
       let pages_are : before.machine.pages_used ≡ used_in before.session.geometry (used_at before.session.units) Page = now.shows.used.pages ∙ ap (λ (g : Geometry). used_in g (used_at before.session.units) Page) (sym g) in
       let segs_are : before.machine.segs_used ≡ used_in before.session.geometry (used_at before.session.units) Segment = now.shows.used.segs ∙ ap (λ (g : Geometry). used_in g (used_at before.session.units) Segment) (sym g) in
       record {
-        pages = omega (arith, kept.1, free_before same Page, free_then Page, pages_are, pages);
-        segs = omega (arith, kept.2, free_before same Segment, free_then Segment, segs_are, segs);
-        touched = omega (arith, kept.0, now.shows.used.touched, charged);
+        pages = omega (arith, kept.pages, free_before same Page, free_then Page, pages_are, pages);
+        segs = omega (arith, kept.segs, free_before same Segment, free_then Segment, segs_are, segs);
+        touched = omega (arith, kept.touched, now.shows.used.touched, charged);
       }
 
 -- The names stay, and so does the session that was noted.

@@ -1,7 +1,6 @@
 -- What a line that edits a version asks for, why it is refused, and what it leaves.
 use Rattle.std.specs.Prelude.{◌≡◌, ◌≤◌, ◌^◌, ℕ, ◌+◌, ◌-◌, ◌==◌, List, [], ◌∷◌, length, Bool, false, nat_lt, if◌then◌else◌, Option, Some, None, find, Result, Ok, Err}
 use Rattle.std.specs.Option.{option_or}
-use Rattle.page_alloc.specs.UnitSet.{free_count, used_at}
 use Rattle.object_files.specs.Catalog.{Catalog, FileEntry}
 use Rattle.object_files.specs.Edits.{has_name}
 use Rattle.transactions.specs.declared.creation.NewObject.{NewObject}
@@ -26,7 +25,6 @@ use Rattle.versions.specs.declared.finding.Found.{Found}
 use Rattle.session_views.specs.View.{View}
 use Rattle.versions.specs.Versions.{Change, Inserts, Appends, Replaces, Deletes, count_of}
 use Rattle.transactions.specs.declared.edits.Need.{Need}
-use Rattle.session_core.specs.declared.session.moving.Limit.{Limit}
 use Rattle.volume_model.specs.Shown.{Held}
 use Rattle.volume_model.specs.Volume.{is_frozen}
 use Rattle.transactions.specs.declared.edits.Admitted.{Admitted}
@@ -88,15 +86,6 @@ full_in s area n = when (nat_lt (free_in s area) n) (refusal.Full area n (free_i
 -- the open transaction has no room for an update: of touched pages, of pages, of units of the segment area
 abbrev pub room_refusal : SessionState → Need → Option Refusal
 room_refusal s need = first (long_txn s need.charge ∷ full_in s Page need.pages ∷ full_in s Segment need.segs ∷ [])
-
--- what the update may leave at the most of touched pages, and at the least of free units
-abbrev pub limit_of : SessionState → Need → Limit
-limit_of s need = record { touched = length s.meta.working + need.charge; pages = free_in s Page - need.pages; segs = free_in s Segment - need.segs }
-
--- what is left of the units and the touched pages keeps to the limit
-abbrev pub KeptTo : Limit → SessionState → Type 0
-KeptTo limit s = (length s.meta.working ≤ limit.touched) × (limit.pages ≤ free_count s.units.geometry (used_at s.units) Page)
-    × (limit.segs ≤ free_count s.units.geometry (used_at s.units) Segment)
 
 -- The machine answers a line that asks for the change of the version so: by this refusal, or by none where it accepts the line, whatever the view after.
 abbrev pub IsAnswered : View SessionState → Reference → Change → Option Refusal → Type 0

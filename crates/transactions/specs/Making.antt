@@ -1,5 +1,5 @@
 -- A version that is made under the next unique number, and a name that is bound to it.
-use Rattle.std.specs.Prelude.{◌≡◌, ℕ, ◌-◌, ◌^◌, ◌==◌, List, [], ◌∷◌, ◌++◌, true, if◌then◌else◌, Result, Ok, Err}
+use Rattle.std.specs.Prelude.{◌≡◌, ◌≤◌, ℕ, ◌+◌, ◌-◌, ◌^◌, ◌==◌, List, [], ◌∷◌, ◌++◌, length, true, if◌then◌else◌, Result, Ok, Err}
 use Rattle.disk_model.specs.Outside.{Outside}
 use Rattle.ex_base.specs.declared.names.Oid.{Oid}
 use Rattle.ex_base.specs.declared.notes.NoteKind.{NoteKind}
@@ -10,12 +10,12 @@ use Rattle.table_model.specs.declared.reply.Refusal.TheVariants as refusal
 use Rattle.table_model.specs.Machines.{shown}
 use Rattle.table_model.specs.Steps.{note}
 use Rattle.session_core.specs.declared.updates.ObjectUpdate.{ObjectUpdate}
-use Rattle.session_core.specs.Performed.{NamesOid}
+use Rattle.session_core.specs.Counts.{free_in}
+use Rattle.session_core.specs.Performed.{NamesOid, charge_of}
 use Rattle.session_core.specs.Sessions.{SessionState, volume_held}
 use Rattle.session_core.specs.TableUpdates.{updated}
-use Rattle.session_core.specs.Updates.{HoldsTable, IfUpdated, Noted}
+use Rattle.session_core.specs.Updates.{HoldsTable, IfUpdated, Noted, TakesAtMost}
 use Rattle.transactions.specs.declared.edits.Need.{Need}
-use Rattle.transactions.specs.Editing.{KeptTo, limit_of}
 
 -- what a new version may take
 abbrev pub making_need : Need
@@ -28,11 +28,13 @@ number_in c = if c.next_unique == 2 ^ 64 - 1 then Err refusal.IdsSpent else Ok c
 abbrev pub bound_to : List ℕ → Oid → BoundName
 bound_to name oid = record { name = name; oid = oid; marked = true }
 
--- The update made a version, and the name was bound to it. In between the session had the update's note, and its parts held the updated table.
+-- The update made a version, and the name was bound to it. In between the session had the update's note, and its parts held the updated table; the update
+-- had taken no more than it may.
 pub record MakesVersion (a b : Outside) (old new : SessionState) (update : ObjectUpdate) (kind : NoteKind) (name : List ℕ) (oid : Oid) : Type 0 where
   pub named : NamesOid update oid
   pub mid : SessionState
   pub noted : Noted old mid (note kind oid 0 0)
-  pub kept : KeptTo (limit_of old making_need) mid
+  pub touched : length mid.meta.working ≤ length old.meta.working + charge_of update
+  pub kept : IfUpdated a old update (TakesAtMost (free_in mid))
   pub holds : IfUpdated a old update (λ before u. HoldsTable before b (volume_held mid) mid.gained mid.lost (updated u oid (shown before.machine)))
   pub bound : new ≡ record mid { names = old.names ++ bound_to name oid ∷ [] }

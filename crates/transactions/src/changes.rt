@@ -8,7 +8,7 @@ ghost use Rattle.transactions.specs.Editing.{AsksFor};
 ghost use Rattle.transactions.specs.Lines.{UpdatesLine};
 
 use crate::asked::{Asked, data_count};
-use crate::edits::{admit, limit};
+use crate::edits::admit;
 use crate::needs::{note_of, reply_of, size_after};
 use data_words::data_bytes;
 use disk_model::Host;
@@ -40,12 +40,11 @@ fn change<H: Host>(
         return Err(Stop::Memory);
     };
     let edit = asked.with_bytes(bytes.as_slice());
-    let limit = limit(session, &given.need);
     let oid = given.version.oid;
     let size = given.version.found.size;
     let note = note_of(asked, &oid, size);
     let update = ObjectUpdate::Change { oid, edit };
-    match session.update_objects(alloc, host, &update, &note, &limit) {
+    match session.update_objects(alloc, host, &update, &note) {
         Ok(_) => Ok(reply_of(asked, size_after(asked, size))),
         Err(stop) => Err(stop),
     }

@@ -10,14 +10,14 @@ ghost use Rattle.table_model.specs.Machines.{touched_most};
 ghost use Rattle.session_core.specs.Sessions.{IsSession};
 ghost use Rattle.session_core.specs.Steps.{OnlyFrames};
 ghost use Rattle.table_model.specs.Requests.{reference_of};
-ghost use Rattle.transactions.specs.Editing.{IsAnswered, IsAdmitted, IsWithin, IsNeed, full_in, limit_of, room_refusal, edit_need};
+ghost use Rattle.transactions.specs.Editing.{IsAnswered, IsAdmitted, IsWithin, IsNeed, full_in, room_refusal, edit_need};
 
 use crate::asked::Asked;
 use crate::needs::{is_inside, size_after, units_need};
 use crate::refuse::{is_frozen, refuses_touching};
 use disk_model::{Disk, Host};
 use ex_base::{Area, OBJECT_MOST};
-use session_core::{Limit, Named, Session};
+use session_core::{Named, Session};
 use session_views::Stop;
 use std::alloc::Global;
 use table_model::{Refusal, Subject};
@@ -200,18 +200,5 @@ pub(crate) fn admit<H: Host>(
     match refuses_room(session, &need) {
         Some(why) => Ok(Err(why)),
         None => Ok(Ok(Admitted { version, need })),
-    }
-}
-
-/// What an update with such a need may leave.
-pub(crate) fn limit(session: &Session, need: &Need) -> Limit
-    requires room { room_refusal session.now need.now ≡ None }
-    requires charge { need.now.charge ≤ touched_most }
-    ensures { result ≡ limit_of session.now need.now }
-{
-    Limit {
-        touched: session.touched() + need.charge,
-        pages: (u64::from(session.free(Area::Page)) - need.pages) as u32,
-        segs: (u64::from(session.free(Area::Segment)) - need.segs) as u32,
     }
 }

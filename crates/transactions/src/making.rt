@@ -12,7 +12,7 @@ ghost use Rattle.transactions.specs.Editing.{room_refusal};
 ghost use Rattle.transactions.specs.Lines.{WentOn};
 ghost use Rattle.transactions.specs.Making.{MakesVersion, making_need, number_in};
 
-use crate::edits::{Need, limit};
+use crate::edits::Need;
 use crate::removal::object_note;
 use disk_model::Host;
 use ex_base::{NoteKind, Oid};
@@ -63,9 +63,8 @@ pub(crate) fn make<H: Host>(
     ensures sound { IfErr result (λ why. IfUpdated (H.outside host.old) session.old update.now
         (λ before u. HasRoomFor before u → IsOutside why)) }
 {
-    let limit = limit(session, &MAKING_NEED);
     let note = object_note(kind, &Oid::NONE);
-    let oid = match session.update_objects(alloc, host, update, &note, &limit) {
+    let oid = match session.update_objects(alloc, host, update, &note) {
         Ok(oid) => oid,
         Err(stop) => return Err(stop),
     };

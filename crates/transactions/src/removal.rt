@@ -13,7 +13,7 @@ ghost use Rattle.transactions.specs.Editing.{room_refusal};
 ghost use Rattle.transactions.specs.Lines.{Answered, UpdatesLine};
 ghost use Rattle.transactions.specs.Removing.{AcceptsOf, removal_need};
 
-use crate::edits::{Need, limit, refuses_room};
+use crate::edits::{Need, refuses_room};
 use crate::refuse::is_frozen;
 use disk_model::Host;
 use ex_base::{NoteKind, Oid, OpNote};
@@ -148,10 +148,9 @@ pub(crate) fn destroy<H: Host>(
         Ok(Err(why)) => return Ok(Reply::No(why)),
         Err(stop) => return Err(stop),
     };
-    let limit = limit(session, &REMOVAL_NEED);
     let note = object_note(NoteKind::ObjectRemoved, &oid);
     let update = ObjectUpdate::Remove { oid };
-    match session.update_objects(alloc, host, &update, &note, &limit) {
+    match session.update_objects(alloc, host, &update, &note) {
         Ok(oid) => Ok(Reply::Destroy { oid }),
         Err(stop) => Err(stop),
     }
@@ -176,10 +175,9 @@ pub(crate) fn drop_version<H: Host>(
         Ok(Err(why)) => return Ok(Reply::No(why)),
         Err(stop) => return Err(stop),
     };
-    let limit = limit(session, &REMOVAL_NEED);
     let note = object_note(NoteKind::Dropped, &oid);
     let update = ObjectUpdate::Drop { oid };
-    match session.update_objects(alloc, host, &update, &note, &limit) {
+    match session.update_objects(alloc, host, &update, &note) {
         Ok(oid) => Ok(Reply::DropVersion { oid }),
         Err(stop) => Err(stop),
     }

@@ -1,5 +1,5 @@
 //! Updates of objects, through a port over the volume of a session.
-ghost use Rattle.std.specs.Prelude.{◌≡◌, ◌≤◌, ◌<◌, [], length, suc, true, false, IfOk, IfErr, OnOk, OnErr};
+ghost use Rattle.std.specs.Prelude.{◌≡◌, ◌≤◌, ◌<◌, ◌+◌, [], length, suc, true, false, IfOk, IfErr, OnOk, OnErr};
 ghost use Rattle.ex_base.specs.Ports.{HasCause, IsDamage};
 ghost use Rattle.disk_model.specs.Outside.{DiskOnly, Leaves};
 ghost use Rattle.table_model.specs.Requests.{Request};
@@ -7,17 +7,17 @@ ghost use Rattle.session_views.specs.View.{View, ShowsNow, StandsDuring};
 ghost use Rattle.table_model.specs.Machines.{shown};
 ghost use Rattle.session_core.specs.Meant.{meant};
 ghost use Rattle.ex_base.specs.Sizes.{volume_bytes};
-ghost use Rattle.ex_base.specs.declared.names.Area.TheVariants.{Page, Segment};
+ghost use Rattle.ex_base.specs.declared.names.Area.TheVariants.{Page};
 ghost use Rattle.meta_pages.specs.Overlays.{AreRows};
 ghost use Rattle.op_log.specs.Records.{IsNote};
 ghost use Rattle.page_alloc.specs.UnitSet.{free_count, used_at};
 ghost use Rattle.table_model.specs.Machines.{touched_most, updates_most};
-ghost use Rattle.session_core.specs.Performed.{CanPerform, IsCopying, NamesOid};
+ghost use Rattle.session_core.specs.Performed.{CanPerform, IsCopying, NamesOid, charge_of};
 ghost use Rattle.session_core.specs.TableUpdates.{updated};
 ghost use Rattle.session_core.specs.Finding.{IsOutside, LineStops};
 ghost use Rattle.session_core.specs.Counts.{free_in};
 ghost use Rattle.session_core.specs.Sessions.{SessionState, TakesLogged};
-ghost use Rattle.session_core.specs.Updates.{HasParts, HasRoomFor, HasRoots, HoldsTable, HoldsTurned, IfAsked, IsLoose, OwnsGone, note_done, with_parts};
+ghost use Rattle.session_core.specs.Updates.{HasParts, HasRoomFor, HasRoots, HoldsTable, HoldsTurned, IfAsked, IsLoose, OwnsGone, TakesAtMost, note_done, with_parts};
 ghost use Rattle.volume_port.specs.declared.state.VolumeState.{VolumeState};
 ghost use Rattle.volume_port.specs.State.{AreReady, Moved};
 ghost use Rattle.tree_store.specs.Stored.{NoUnit};
@@ -29,7 +29,7 @@ use super::turning::turn_roots;
 use crate::updates::{Done, ObjectUpdate, perform};
 use buffer_groups::Groups;
 use disk_model::{Disk, Host};
-use ex_base::{Area, Geometry, Oid, OpNote, PortFault, Root};
+use ex_base::{Geometry, Oid, OpNote, PortFault, Root};
 use file_rooms::Rooms;
 use meta_pages::Meta;
 use page_alloc::Units;
@@ -37,30 +37,6 @@ use session_views::Stop;
 use std::alloc::Global;
 use tree_store::Store;
 use volume_port::{LoggedPages, MAIN, PageRoom, VolumePort, VolumeState};
-
-/// What an update may leave: the most touched pages, and the fewest free units of each area.
-#[derive(Clone, Copy)]
-pub struct Limit {
-    /// Touched logged pages, at most.
-    pub touched: u32,
-    /// Free units of the page area, at least.
-    pub pages: u32,
-    /// Those of the segment area.
-    pub segs: u32,
-}
-
-/// Whether an update kept to its limit.
-pub(super) fn keeps_to(meta: &Meta, units: &Units, limit: &Limit) -> bool
-    ensures kept { result ≡ true → (length meta.now.working ≤ limit.now.touched)
-        × (limit.now.pages ≤ free_count units.now.geometry (used_at units.now) Page)
-        × (limit.now.segs ≤ free_count units.now.geometry (used_at units.now) Segment) }
-    ensures rows { AreRows meta.now }
-{
-    let touched = meta.touched();
-    touched <= limit.touched
-        && limit.pages <= units.free(Area::Page)
-        && limit.segs <= units.free(Area::Segment)
-}
 
 /// The note of an update that was performed so: with the OID that it answered.
 fn noted(note: &OpNote, done: &Result<Done, PortFault>) -> OpNote
@@ -115,6 +91,13 @@ fn update_parts<'a, D: Disk>(
         → IfOk result (λ done. IfAsked (D.outside disk.old) v update.now (λ before u.
         OwnsGone before (D.outside disk.new)
         (with_parts v units.new groups.new meta.new pages.new) done.gone done.come)) }
+    ensures touched { OnOk result (length meta.new.working
+        ≤ length meta.old.working + charge_of update.now) }
+    ensures kept { (v : VolumeState)
+        → HasParts v geometry.now units.old groups.old meta.old pages.old
+        → AreReady (D.outside disk.old).size v
+        → OnOk result (IfAsked (D.outside disk.old) v update.now
+        (TakesAtMost (free_count units.new.geometry (used_at units.new)))) }
     ensures sound { (v : VolumeState)
         → HasParts v geometry.now units.old groups.old meta.old pages.old
         → AreReady (D.outside disk.old).size v
@@ -154,9 +137,14 @@ fn update_volume<D: Disk>(
         (D.outside disk.old) (D.outside disk.new) volume.old volume.new }
     ensures few_gained { length gained.new.items ≤ suc (length gained.old.items) }
     ensures few_lost { length lost.new.items ≤ suc (length lost.old.items) }
+    ensures rows { OnOk result (AreRows volume.new.meta) }
+    ensures touched { OnOk result (length volume.new.meta.working
+        ≤ length volume.old.meta.working + charge_of update.now) }
+    ensures kept { OnOk result (IfAsked (D.outside disk.old) volume.old update.now
+        (TakesAtMost (free_count volume.new.units.geometry (used_at volume.new.units)))) }
     ensures updated { IfOk result (λ done. IfAsked (D.outside disk.old) volume.old update.now
         (λ before u. HasRoots before.session gained.old.items lost.old.items
-        → AreRows volume.new.meta → HoldsTable before (D.outside disk.new) volume.new
+        → HoldsTable before (D.outside disk.new) volume.new
         gained.new.items lost.new.items (updated u done.oid (shown before.machine)))) }
     ensures sound { IfErr result (λ fault. IfAsked (D.outside disk.old) volume.old update.now
         (λ before u. HasRoots before.session gained.old.items lost.old.items
@@ -185,30 +173,29 @@ impl Session {
     ghost use Rattle.session_core.specs.Updates.{IfUpdated, Noted, WritesUnused, note_with};
     ghost use Rattle.session_core.specs.Sessions.{volume_held};
 
-    /// Performs an update of objects, and notes it: the note has the OID of the version that was made, changed or removed, which is answered. Where the update
-    /// does not keep to its limit, memory is wanted or the disk fails, the transaction is given up and the call stops.
+    /// Performs an update of objects, and notes it: the note has the OID of the version that was made, changed or removed, which is answered. It takes no more
+    /// than it needs. Where memory is wanted or the disk fails, the transaction is given up and the call stops.
     pub fn update_objects<H: Host>(
         &mut self,
         alloc: Global,
         host: &mut H,
         update: &ObjectUpdate<'_>,
         note: &OpNote,
-        limit: &Limit,
     ) -> Result<Oid, Stop>
         requires room { volume_bytes self.old.geometry ≤ (H.outside host.old).size }
         requires opened { self.old.opened ≡ true }
         requires updates { length self.old.notes < updates_most }
-        requires touched { limit.now.touched ≤ touched_most }
+        requires touched { length self.old.meta.working + charge_of update.now ≤ touched_most }
         requires note { IsNote note.now }
         requires can { CanPerform update.now (free_in self.old Page) }
         ensures named { IfOk result (NamesOid update.now) }
         ensures shares { IsCopying update.now
             → OnOk result (TakesLogged self.old.units self.new.units self.new.pages) }
         ensures noted { IfOk result (λ oid. Noted self.old self.new (note_with note.now oid)) }
-        ensures kept { OnOk result ((length self.new.meta.working ≤ limit.now.touched)
-            × (limit.now.pages ≤ free_count self.new.units.geometry (used_at self.new.units) Page)
-            × (limit.now.segs ≤ free_count self.new.units.geometry
-            (used_at self.new.units) Segment)) }
+        ensures touched { OnOk result (length self.new.meta.working
+            ≤ length self.old.meta.working + charge_of update.now) }
+        ensures kept { OnOk result (IfUpdated (H.outside host.old) self.old update.now
+            (TakesAtMost (free_in self.new))) }
         ensures holds { IfOk result (λ oid. IfUpdated (H.outside host.old) self.old update.now
             (λ before u. HoldsTable before (H.outside host.new) (volume_held self.new)
             self.new.gained self.new.lost (updated u oid (shown before.machine)))) }
@@ -238,10 +225,7 @@ impl Session {
             update,
         );
         let noted = noted(note, &done);
-        if done.is_ok()
-            && keeps_to(&self.volume.meta, &self.volume.units, limit)
-            && self.notes.push(noted).is_ok()
-        {
+        if done.is_ok() && self.notes.push(noted).is_ok() {
             return Ok(noted.oid);
         }
         let volume = &mut self.volume;

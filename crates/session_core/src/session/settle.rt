@@ -1,6 +1,7 @@
 //! The logged pages at the end of an update, and of a transaction.
 ghost use Rattle.std.specs.Prelude.{◌≡◌, ◌<◌, length, slice_set, true, false};
 ghost use Rattle.ex_base.specs.Area.{InPageArea, area_end};
+ghost use Rattle.meta_pages.specs.Overlays.{AreRows};
 ghost use Rattle.page_alloc.specs.UnitSet.{refs_at, used_at};
 ghost use Rattle.session_core.specs.Sessions.{OnlyGives, Settled, Swept, TakenBack, is_kept};
 
@@ -108,7 +109,8 @@ fn sweep_page(units: &mut Units, page: PageNo, image: bool, kept: bool)
 pub(super) fn sweep(meta: &Meta, units: &mut Units, kept: &Filled<bool>)
     requires geometry { units.old.geometry ≡ meta.now.geometry }
     requires flags { length kept.now ≡ area_end meta.now.geometry }
-    ensures { Swept meta.now.working kept.now units.old units.new }
+    ensures swept { Swept meta.now.working kept.now units.old units.new }
+    ensures rows { AreRows meta.now }
 {
     for index in 0..meta.touched() {
         if let Some((page, image)) = meta.touched_at(index) {

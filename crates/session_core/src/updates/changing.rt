@@ -1,9 +1,10 @@
 //! A version is changed.
-ghost use Rattle.std.specs.Prelude.{◌≡◌, IfOk};
+ghost use Rattle.std.specs.Prelude.{◌≡◌, IfOk, OnOk};
 ghost use Rattle.ex_base.specs.Ports.{HasCause};
+ghost use Rattle.file_index.specs.Touches.{TouchesAtMost};
 ghost use Rattle.versions.specs.Edited.{change_of};
 ghost use Rattle.file_rooms.specs.Rooms.{ChangesOne};
-ghost use Rattle.session_core.specs.TableUpdates.{Changes, Updates};
+ghost use Rattle.session_core.specs.TableUpdates.{Changes, TakesNeed, Updates};
 
 use super::Done;
 use ex_base::{Oid, PortFault, Volume};
@@ -23,6 +24,9 @@ pub fn change<V: Volume>(
     ensures named { IfOk result (λ done. done.oid ≡ oid.now) }
     ensures updates { Updates V.Ground volume.old volume.new
         (Changes oid.now (change_of edit.now)) result }
+    ensures takes { OnOk result (TakesNeed V.Ground volume.old volume.new
+        (Changes oid.now (change_of edit.now))) }
+    ensures touches { OnOk result (TouchesAtMost V.Ground volume.old volume.new 1) }
     ensures rooms { ChangesOne rooms.old rooms.new }
     ensures leads { V.leads volume.old volume.new }
     ensures cause { HasCause (V.faults volume.old) (V.faults volume.new) result }

@@ -3,9 +3,10 @@ ghost use Rattle.std.specs.Prelude.{◌≡◌, ◌≤◌, ◌<◌, ◌+◌, ◌^
 ghost use Rattle.ex_base.specs.Ports.{HasCause};
 ghost use Rattle.ex_base.specs.declared.names.Area.TheVariants.{Page};
 ghost use Rattle.file_index.specs.Taking.{OnlyTakes};
+ghost use Rattle.file_index.specs.Touches.{TouchesAtMost};
 ghost use Rattle.file_rooms.specs.Rooms.{ChangesOne};
 ghost use Rattle.session_core.specs.Performed.{copies};
-ghost use Rattle.session_core.specs.TableUpdates.{Updates};
+ghost use Rattle.session_core.specs.TableUpdates.{TakesNeed, Updates};
 
 use super::Done;
 use super::creating::count_number;
@@ -40,6 +41,9 @@ pub fn copy<V: Volume>(
     ensures named { IfOk result (λ done. done.oid.unique ≡ unique) }
     ensures updates { Updates V.Ground volume.old volume.new (copies copying oid.now unique) result }
     ensures shares { OnOk result (OnlyTakes V.Ground volume.old volume.new) }
+    ensures takes { OnOk result (TakesNeed V.Ground volume.old volume.new
+        (copies copying oid.now unique)) }
+    ensures touches { OnOk result (TouchesAtMost V.Ground volume.old volume.new 16) }
     ensures rooms { ChangesOne rooms.old rooms.new }
     ensures leads { V.leads volume.old volume.new }
     ensures cause { HasCause (V.faults volume.old) (V.faults volume.new) result }

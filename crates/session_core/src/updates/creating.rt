@@ -7,11 +7,12 @@ ghost use Rattle.ex_base.specs.declared.names.Area.TheVariants.{Page};
 ghost use Rattle.ex_base.specs.Seen.{catalog_seen, nothing_seen};
 ghost use Rattle.file_bodies.specs.Damage.{IsCatalogFault};
 ghost use Rattle.file_index.specs.Taking.{OnlyTakes};
+ghost use Rattle.file_index.specs.Touches.{TouchesAtMost};
 ghost use Rattle.object_files.specs.Edits.{IsCatalogPage};
 ghost use Rattle.object_files.specs.Reads.{catalog_on};
 ghost use Rattle.volume_edits.specs.Edits.{WritesCatalog, catalog_numbered};
 ghost use Rattle.file_rooms.specs.Rooms.{ChangesOne};
-ghost use Rattle.session_core.specs.TableUpdates.{Makes, Updates};
+ghost use Rattle.session_core.specs.TableUpdates.{Makes, TakesNeed, Updates};
 
 use super::Done;
 use ex_base::{PageNo, PortFault, Seen, Volume};
@@ -57,6 +58,7 @@ pub(super) fn count_number<V: Volume>(
         + 1) (catalog_on (V.image volume.old catalog_no)))) }
     ensures free { OnOk result (V.free volume.new ≡ V.free volume.old) }
     ensures takes { OnOk result (OnlyTakes V.Ground volume.old volume.new) }
+    ensures touches { OnOk result (TouchesAtMost V.Ground volume.old volume.new 1) }
     ensures sound { IfErr result (λ fault. IsDamage fault → V.tells volume.old
         → IsCatalogPage (V.image volume.old catalog_no) → ⊥) }
     ensures fault { IfErr result (λ fault. V.tells volume.old
@@ -87,6 +89,9 @@ pub fn create<V: Volume>(
     ensures named { IfOk result (λ done. done.oid.unique ≡ unique) }
     ensures updates { (name : List ℕ)
         → Updates V.Ground volume.old volume.new (Makes name file_no unique) result }
+    ensures takes { (name : List ℕ) → OnOk result (TakesNeed V.Ground volume.old volume.new
+        (Makes name file_no unique)) }
+    ensures touches { OnOk result (TouchesAtMost V.Ground volume.old volume.new 16) }
     ensures rooms { ChangesOne rooms.old rooms.new }
     ensures leads { V.leads volume.old volume.new }
     ensures cause { HasCause (V.faults volume.old) (V.faults volume.new) result }

@@ -1,8 +1,9 @@
 //! A version is removed.
-ghost use Rattle.std.specs.Prelude.{◌≡◌, IfOk};
+ghost use Rattle.std.specs.Prelude.{◌≡◌, IfOk, OnOk};
 ghost use Rattle.ex_base.specs.Ports.{HasCause};
+ghost use Rattle.file_index.specs.Touches.{TouchesAtMost};
 ghost use Rattle.file_rooms.specs.Rooms.{ChangesOne};
-ghost use Rattle.session_core.specs.TableUpdates.{Drops, Removes, Updates};
+ghost use Rattle.session_core.specs.TableUpdates.{Drops, Removes, TakesNeed, Updates};
 
 use super::Done;
 use ex_base::{Oid, PortFault, Volume};
@@ -20,6 +21,8 @@ pub fn remove<V: Volume>(
     requires { V.ready volume.old }
     ensures named { IfOk result (λ done. done.oid ≡ oid.now) }
     ensures updates { Updates V.Ground volume.old volume.new (Removes oid.now) result }
+    ensures takes { OnOk result (TakesNeed V.Ground volume.old volume.new (Removes oid.now)) }
+    ensures touches { OnOk result (TouchesAtMost V.Ground volume.old volume.new 16) }
     ensures rooms { ChangesOne rooms.old rooms.new }
     ensures leads { V.leads volume.old volume.new }
     ensures cause { HasCause (V.faults volume.old) (V.faults volume.new) result }
@@ -47,6 +50,8 @@ pub fn drop_frozen<V: Volume>(
     requires { V.ready volume.old }
     ensures named { IfOk result (λ done. done.oid ≡ oid.now) }
     ensures updates { Updates V.Ground volume.old volume.new (Drops oid.now) result }
+    ensures takes { OnOk result (TakesNeed V.Ground volume.old volume.new (Drops oid.now)) }
+    ensures touches { OnOk result (TouchesAtMost V.Ground volume.old volume.new 16) }
     ensures rooms { ChangesOne rooms.old rooms.new }
     ensures leads { V.leads volume.old volume.new }
     ensures cause { HasCause (V.faults volume.old) (V.faults volume.new) result }

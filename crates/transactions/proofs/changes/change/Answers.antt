@@ -2,7 +2,7 @@ use Rattle.std.proofs.Common.{sym}
 use Rattle.table_model.specs.Requests.{reference_of}
 use Rattle.session_views.specs.declared.engine.Stop.TheVariants as stop
 use Rattle.transactions.specs.Asking.{asked_change}
-use Rattle.transactions.proofs.Changed.{admitted_so, answered_so, change_refused, change_stopped, changed_so, within_so}
+use Rattle.transactions.proofs.Changed.{admitted_so, answered_so, change_left, change_refused, change_stopped, changed_so, within_so}
 use Rattle.transactions.specs.Lines.{WentOn}
 use Rattle.transactions.proofs.UpdateLines.{line_stopped}
 use Rattle.transactions.proofs.changes.change.Goals as goal
@@ -20,6 +20,11 @@ returns-in-Err g c = λ r asked. line_stopped r (g.H.World.is_world c.args.host.
 pub returns-in_default : goal.returns-in_default
 returns-in_default g c = λ r asked. line_stopped r (g.H.World.is_world c.args.host.now) c.admit.ensures.only stop.Memory tt (λ before same now. tt)
 
+pub update_objects-requires-clause-touched : goal.update_objects-requires-clause-touched
+update_objects-requires-clause-touched g c =
+    let change = asked_change c.args.asked.now in
+    change_left change c.in-Ok-Ok.given c.admit.ensures.only (within_so c.args.session.now change c.in-Ok-Ok.given c.in-Ok-Ok.field-0 c.in-Ok-Ok.field-0-is c.in-Ok-Ok.ensures.limits)
+
 pub returns-in-Ok-update_objects : goal.returns-in-Ok-update_objects
 returns-in-Ok-update_objects g c = λ r asked.
     let x = reference_of c.args.x.now in
@@ -29,8 +34,8 @@ returns-in-Ok-update_objects g c = λ r asked.
     record { only = c.update_objects.ensures.only; writes = c.update_objects.ensures.writes; geometry = c.update_objects.ensures.geometry; log = c.update_objects.ensures.log; down = c.update_objects.ensures.down; moments = c.update_objects.ensures.any_moment } in
     changed_so x change (g.H.World.is_world c.args.host.now) c.admit.ensures.session c.requires.is_open c.admit.ensures.only r asked given
     (admitted_so x change given c.in-Ok-Ok.field-0 c.in-Ok-Ok.field-0-is c.in-Ok-Ok.ensures.admitted) (within_so c.args.session.now change given c.in-Ok-Ok.field-0 c.in-Ok-Ok.field-0-is c.in-Ok-Ok.ensures.limits)
-    went c.with_bytes-edit.result (sym c.with_bytes-edit.ensures) c.in-Ok-update_objects.field-0 c.note_of-note.result c.limit-limit.result c.size_after.result c.reply_of.result c.in-Ok-update_objects.ensures.named c.note_of-note.ensures c.limit-limit.ensures c.size_after.ensures c.reply_of.ensures
-    c.in-Ok-update_objects.ensures.noted c.in-Ok-update_objects.ensures.kept c.in-Ok-update_objects.ensures.holds
+    went c.with_bytes-edit.result (sym c.with_bytes-edit.ensures) c.in-Ok-update_objects.field-0 c.note_of-note.result c.size_after.result c.reply_of.result c.in-Ok-update_objects.ensures.named c.note_of-note.ensures c.size_after.ensures c.reply_of.ensures
+    c.in-Ok-update_objects.ensures.noted c.in-Ok-update_objects.ensures.touched c.in-Ok-update_objects.ensures.kept c.in-Ok-update_objects.ensures.holds
 
 pub returns : goal.returns
 returns g c = λ r asked.

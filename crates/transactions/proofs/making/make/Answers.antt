@@ -1,10 +1,16 @@
-use Rattle.std.proofs.Common.{subst}
+use Rattle.std.proofs.Common.{subst, arith}
 use Rattle.ex_base.specs.declared.names.OpNote.{OpNote}
-use Rattle.session_core.specs.declared.session.moving.Limit.{Limit}
 use Rattle.session_core.specs.Updates.{Noted, note_with}
-use Rattle.transactions.specs.Editing.{KeptTo}
+use Rattle.transactions.specs.Making.{making_need}
 use Rattle.transactions.proofs.Made.{bound_then}
+use Rattle.transactions.proofs.Updated.{charge_most, room_left}
 use Rattle.transactions.proofs.making.make.Goals as goal
+
+pub update_objects-requires-clause-touched : goal.update_objects-requires-clause-touched
+update_objects-requires-clause-touched g c =
+    let most = charge_most c.args.update.now in
+    let left = (room_left c.args.session.now making_need c.requires.has_room).touched in
+    omega (arith, left, most)
 
 pub returns-in-Ok-bind-clause-made : goal.returns-in-Ok-bind-clause-made
 returns-in-Ok-bind-clause-made g c =
@@ -15,7 +21,8 @@ returns-in-Ok-bind-clause-made g c =
       named = c.in-Ok.ensures.named;
       mid = mid;
       noted = did;
-      kept = subst (λ (l : Limit). KeptTo l mid) c.limit-limit.ensures c.in-Ok.ensures.kept;
+      touched = c.in-Ok.ensures.touched;
+      kept = c.in-Ok.ensures.kept;
       holds = c.in-Ok.ensures.holds;
       bound = bound_then c.args.name.now oid did c.in-Ok-bind.ensures.ok;
     }

@@ -1,13 +1,14 @@
-use Rattle.std.proofs.Common.{◌∙◌, Some, sym}
+use Rattle.std.proofs.Common.{◌≡◌, ◌∙◌, None, Some, sym}
 use Rattle.table_model.specs.Machines.{shown}
 use Rattle.table_model.specs.Requests.{reference_of}
 use Rattle.table_model.specs.Requests as request
 use Rattle.session_core.specs.Finding.{IfShown}
 use Rattle.session_core.specs.TableUpdates.{AsksDrop}
 use Rattle.session_core.proofs.Refusing.{closed_refused}
+use Rattle.transactions.specs.Editing.{room_refusal}
 use Rattle.transactions.specs.Lines.{Answered}
-use Rattle.transactions.specs.Removing.{AcceptsOf}
-use Rattle.transactions.proofs.Removed.{dropped, drop_stopped, line_kept}
+use Rattle.transactions.specs.Removing.{AcceptsOf, removal_need}
+use Rattle.transactions.proofs.Removed.{dropped, drop_stopped, line_kept, removal_left}
 use Rattle.transactions.proofs.UpdateLines.{admitted_with, line_closed, line_stopped, refused_with}
 use Rattle.transactions.proofs.removal.drop_version.Goals as goal
 
@@ -25,6 +26,10 @@ returns-in-Ok-Err g c =
 pub returns-in-Err : goal.returns-in-Err
 returns-in-Err g c = line_stopped (request.DropVersion (reference_of c.args.x.now)) (g.H.World.is_world c.args.host.now) c.admit_drop.ensures.only c.in-Err.stop c.in-Err.ensures.stops c.in-Err.ensures.sound
 
+pub update_objects-requires-clause-touched : goal.update_objects-requires-clause-touched
+update_objects-requires-clause-touched g c =
+    removal_left c.admit_drop.ensures.only (admitted_with (λ oid. room_refusal c.args.session.now removal_need ≡ None) c.in-Ok-Ok.oid c.in-Ok-Ok.field-0 c.in-Ok-Ok.field-0-is c.in-Ok-Ok.ensures.limits)
+
 pub returns-in-Ok : goal.returns-in-Ok
 returns-in-Ok g c =
     let x = reference_of c.args.x.now in
@@ -32,7 +37,7 @@ returns-in-Ok g c =
     (record { only = c.update_objects.ensures.only; writes = c.update_objects.ensures.writes; geometry = c.update_objects.ensures.geometry; log = c.update_objects.ensures.log; down = c.update_objects.ensures.down; moments = c.update_objects.ensures.any_moment })
     x c.in-Ok-Ok.oid
     (admitted_with (λ oid. IfShown (g.H.World.outside c.args.host.now) c.args.session.now (λ before. AcceptsOf before.machine (request.DropVersion x) x oid × AsksDrop (shown before.machine) oid)) c.in-Ok-Ok.oid c.in-Ok-Ok.field-0 c.in-Ok-Ok.field-0-is c.in-Ok-Ok.ensures.admitted)
-    c.in-Ok.oid c.object_note-note.result c.limit-limit.result c.in-Ok.ensures.named c.object_note-note.ensures c.limit-limit.ensures c.in-Ok.ensures.noted c.in-Ok.ensures.kept c.in-Ok.ensures.holds
+    c.in-Ok.oid c.object_note-note.result c.in-Ok.ensures.named c.object_note-note.ensures c.in-Ok.ensures.noted c.in-Ok.ensures.touched c.in-Ok.ensures.kept c.in-Ok.ensures.holds
 
 pub returns-in-Err-update_objects : goal.returns-in-Err-update_objects
 returns-in-Err-update_objects g c =

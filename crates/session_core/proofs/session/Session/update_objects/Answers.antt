@@ -1,4 +1,4 @@
-use Rattle.std.proofs.Common.{◌≡◌, ◌∙◌, ◌++◌, ◌∷◌, ◌<◌, ◌≤◌, ◌^◌, List, [], refl, sym, ap, subst, arith, rules, length}
+use Rattle.std.proofs.Common.{◌≡◌, ◌∙◌, ◌+◌, ◌++◌, ◌∷◌, ◌<◌, ◌≤◌, ◌^◌, List, [], refl, sym, ap, subst, arith, rules, length}
 use Rattle.std.specs.Prelude.{Result, IfErr}
 use Rattle.ex_base.specs.declared.faults.PortFault.{PortFault}
 use Rattle.ex_base.specs.declared.names.Oid.{Oid}
@@ -6,21 +6,21 @@ use Rattle.ex_base.specs.declared.names.Area.TheVariants.{Page}
 use Rattle.ex_base.specs.declared.names.OpNote.{OpNote}
 use Rattle.ex_base.specs.Ports.{IsDamage}
 use Rattle.ex_base.specs.Sizes.{volume_bytes}
-use Rattle.meta_pages.specs.Overlays.{AreRows, Overlays}
+use Rattle.meta_pages.specs.Overlays.{Overlays}
 use Rattle.session_views.specs.declared.engine.Stop.{Stop}
-use Rattle.table_model.specs.Machines.{shown, updates_most}
+use Rattle.table_model.specs.Machines.{shown, touched_most, updates_most}
 use Rattle.volume_port.specs.declared.state.VolumeState.{VolumeState}
 use Rattle.session_core.specs.Counts.{free_in}
 use Rattle.session_core.specs.Finding.{IsOutside}
-use Rattle.session_core.specs.Performed.{CanPerform, NamesOid}
+use Rattle.session_core.specs.Performed.{CanPerform, NamesOid, charge_of}
 use Rattle.session_core.specs.Sessions.{SessionState, IsSession}
 use Rattle.session_core.specs.TableUpdates.{updated}
 use Rattle.session_core.specs.Updates.{HasRoomFor, HasRoots, HoldsTable, IfAsked, IfUpdated, WritesUnused, note_with}
 use Rattle.session_core.specs.contracts.session.Session as session
 use Rattle.session_core.specs.declared.updates.Done.{Done}
 use Rattle.session_core.proofs.Finding.{no_damage}
-use Rattle.session_core.proofs.Moved.{at_oid, given_up_at, has_roots, has_seen, moments_of, moved_session, moved_to, note_with_oid, noted_so, on_err, session_ready}
-use Rattle.session_core.proofs.session.Session.update_objects.Goals.{else-is_ok-via-then-is_ok+then-keeps_to+else-is_ok-2, else-is_ok-via-then-is_ok+else-keeps_to, else-is_ok-via-else-is_ok, in-Err, in-Ok}
+use Rattle.session_core.proofs.Moved.{at_oid, given_up_at, has_roots, has_seen, moments_of, moved_session, moved_to, note_with_oid, noted_so, on_err, session_ready, when_done}
+use Rattle.session_core.proofs.session.Session.update_objects.Goals.{else-is_ok-via-then-is_ok+else-is_ok-2, else-is_ok-via-else-is_ok, in-Err, in-Ok}
 use Rattle.session_core.proofs.session.Session.update_objects.Goals as goal
 
 pub update_volume-done-requires-clause-ready : goal.update_volume-done-requires-clause-ready
@@ -37,7 +37,10 @@ invariant_of-self g c =
     let done = c.update_volume-done.new in
     let p = done.volume in
     let moved = c.update_volume-done.ensures.moved in
-    let kept = c.keeps_to.ensures.kept c.if-keeps_to.true in
+    let ok = sym c.is_ok.ensures.value ∙ c.if-is_ok.true in
+    let touched : length p.meta.working ≤ length s.meta.working + charge_of c.args.update.now = when_done c.update_volume-done.result ok c.update_volume-done.ensures.touched in
+    let charged = subst (λ (t : SessionState). length t.meta.working + charge_of c.args.update.now ≤ touched_most) (sym c.self.view_is) c.requires.touched in
+    let rows = when_done c.update_volume-done.result ok c.update_volume-done.ensures.rows in
     let pushed : c.push.new.self.items ≡ s.notes ++ c.noted-noted.result ∷ [] = search rules in
     let same = noted_so c.args.note.now c.noted-noted.result c.update_volume-done.result (sym c.is_ok.ensures.value ∙ c.if-is_ok.true) c.noted-noted.ensures in
     let page : c.noted-noted.result.oid.page.0 < 2 ^ 32 = search rules in
@@ -46,7 +49,7 @@ invariant_of-self g c =
     let whole = note_with_oid c.args.note.now c.noted-noted.result same c.requires.note page slot unique in
     let few : length s.notes < updates_most = subst (λ (t : SessionState). length t.notes < updates_most) (sym c.self.view_is) c.requires.updates in
     subst (λ ns. IsSession (record (moved_to s p) { notes = ns; gained = done.gained.items; lost = done.lost.items })) (sym pushed)
-    (moved_session s p c.self.invariant moved done.gained.items done.lost.items c.update_volume-done.ensures.few_gained c.update_volume-done.ensures.few_lost c.noted-noted.result whole few (omega (arith, kept.0, c.requires.touched)) c.keeps_to.ensures.rows.working_rising
+    (moved_session s p c.self.invariant moved done.gained.items done.lost.items c.update_volume-done.ensures.few_gained c.update_volume-done.ensures.few_lost c.noted-noted.result whole few (omega (arith, touched, charged)) rows.working_rising
     (ap (λ (t : SessionState). t.opened) c.self.view_is ∙ c.requires.opened))
 
 pub returns-then-is_ok-2-clause-named : goal.returns-then-is_ok-2-clause-named
@@ -59,9 +62,18 @@ returns-then-is_ok-2-clause-holds g c = λ before same now u is asked.
     let p = done.volume in
     let moved = c.update_volume-done.ensures.moved in
     let outside = g.H.World.outside in
-    at_oid (λ (oid : Oid). IfAsked (outside c.args.host.now) c.self.inside.volume c.args.update.now (λ before u. HasRoots before.session s.gained s.lost → AreRows p.meta → HoldsTable before (outside done.disk) p done.gained.items done.lost.items (updated u oid (shown before.machine))))
+    at_oid (λ (oid : Oid). IfAsked (outside c.args.host.now) c.self.inside.volume c.args.update.now (λ before u. HasRoots before.session s.gained s.lost → HoldsTable before (outside done.disk) p done.gained.items done.lost.items (updated u oid (shown before.machine))))
     c.args.note.now c.noted-noted.result c.update_volume-done.result (sym c.is_ok.ensures.value ∙ c.if-is_ok.true) c.noted-noted.ensures c.update_volume-done.ensures.updated
-    before (has_seen s c.args.self.now before c.self.view_is same c.self.invariant) now u is asked (has_roots s before (same ∙ sym c.self.view_is)) c.keeps_to.ensures.rows
+    before (has_seen s c.args.self.now before c.self.view_is same c.self.invariant) now u is asked (has_roots s before (same ∙ sym c.self.view_is))
+
+pub returns-then-is_ok-2-clause-touched : goal.returns-then-is_ok-2-clause-touched
+returns-then-is_ok-2-clause-touched g c =
+    subst (λ (t : SessionState). length c.update_volume-done.new.volume.meta.working ≤ length t.meta.working + charge_of c.args.update.now) c.self.view_is
+    (when_done c.update_volume-done.result (sym c.is_ok.ensures.value ∙ c.if-is_ok.true) c.update_volume-done.ensures.touched)
+
+pub returns-then-is_ok-2-clause-kept : goal.returns-then-is_ok-2-clause-kept
+returns-then-is_ok-2-clause-kept g c = λ before same now u is asked.
+    when_done c.update_volume-done.result (sym c.is_ok.ensures.value ∙ c.if-is_ok.true) c.update_volume-done.ensures.kept before (has_seen (session.the_view c.self.inside) c.args.self.now before c.self.view_is same c.self.invariant) now u is asked
 
 pub returns-then-is_ok-2-clause-noted : goal.returns-then-is_ok-2-clause-noted
 returns-then-is_ok-2-clause-noted g c =
@@ -87,10 +99,9 @@ invariant_of-self-2 g c =
     let p = done.volume in
     let moved = c.update_volume-done.ensures.moved in
     let same : session.the_view c.else-is_ok.self-inside ≡ record (moved_to s p) { gained = done.gained.items; lost = done.lost.items } = elim c.else-is_ok.branch [
-      | else-is_ok-via-then-is_ok+then-keeps_to+else-is_ok-2 w ↦
+      | else-is_ok-via-then-is_ok+else-is_ok-2 w ↦
           let failed : w.push.new.self.items ≡ s.notes = search rules in
           ap session.the_view w.self-inside-is ∙ ap (λ ns. record (moved_to s p) { notes = ns; gained = done.gained.items; lost = done.lost.items }) failed
-      | else-is_ok-via-then-is_ok+else-keeps_to w ↦ ap session.the_view w.self-inside-is
       | else-is_ok-via-else-is_ok w ↦ ap session.the_view w.self-inside-is
     ] in
     let none : c.clear.new.self.items ≡ [] = search rules in

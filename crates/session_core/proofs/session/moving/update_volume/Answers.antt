@@ -1,10 +1,14 @@
-use Rattle.std.proofs.Common.{ap, refl, subst, sym}
+use Rattle.std.proofs.Common.{◌+◌, ◌≤◌, ap, length, refl, subst, sym, arith}
 use Rattle.meta_pages.specs.Overlays.{AreRows}
+use Rattle.ex_base.specs.declared.names.Area.{Area}
+use Rattle.page_alloc.specs.UnitSet.{free_count, used_at}
 use Rattle.table_model.specs.Machines.{shown}
 use Rattle.volume_port.specs.declared.state.VolumeState.{VolumeState}
 use Rattle.session_core.specs.Sessions.{Swept, TakesLogged}
 use Rattle.session_core.specs.TableUpdates.{updated}
 use Rattle.session_core.specs.Updates.{HasParts, HoldsTable, with_parts}
+use Rattle.session_core.specs.Performed.{charge_of}
+use Rattle.session_core.proofs.Roomed.{takes_still}
 use Rattle.session_core.proofs.TakingPages.{still_logged}
 use Rattle.session_core.proofs.TurnedParts.{gives_moved, moved_as, swept_moved, turned_holds, with_units}
 use Rattle.session_core.proofs.session.moving.update_volume.Goals as goal
@@ -28,10 +32,10 @@ returns-clause-moved g c =
     let mid = with_parts v u.units u.groups u.meta u.pages in
     let t = c.turn_roots.new.volume in
     let has : HasParts v v.geometry v.units v.groups v.meta v.pages = record { geometry = refl; parts = refl } in
-    swept_moved v t c.sweep.new.units c.sweep.ensures (moved_as (sym c.turn_roots.ensures.rest) (gives_moved v mid t.units t.groups c.turn_roots.ensures.gives (c.update_parts.ensures.moved v has c.requires.ready)))
+    swept_moved v t c.sweep.new.units c.sweep.ensures.swept (moved_as (sym c.turn_roots.ensures.rest) (gives_moved v mid t.units t.groups c.turn_roots.ensures.gives (c.update_parts.ensures.moved v has c.requires.ready)))
 
 pub returns-clause-updated : goal.returns-clause-updated
-returns-clause-updated g c = λ before seen now w is asked roots rows.
+returns-clause-updated g c = λ before seen now w is asked roots.
     let b = g.D.World.outside c.turn_roots.new.disk in
     let v = c.args.volume.now in
     let u = c.update_parts.new in
@@ -41,9 +45,9 @@ returns-clause-updated g c = λ before seen now w is asked roots rows.
     let rest = c.turn_roots.ensures.rest in
     let table = updated w c.in_ok-done.done.oid (shown before.machine) in
     subst (λ (q : VolumeState). HoldsTable before b (with_units q c.sweep.new.units t.groups) c.turn_roots.new.gained.items c.turn_roots.new.lost.items table) (sym rest)
-    (turned_holds mid t.units c.sweep.new.units t.groups c.turn_roots.ensures.gives (subst (λ (q : VolumeState). Swept q.meta.working q.kept t.units c.sweep.new.units) rest c.sweep.ensures) before c.args.gained.now.items c.args.lost.now.items c.turn_roots.new.gained.items c.turn_roots.new.lost.items
+    (turned_holds mid t.units c.sweep.new.units t.groups c.turn_roots.ensures.gives (subst (λ (q : VolumeState). Swept q.meta.working q.kept t.units c.sweep.new.units) rest c.sweep.ensures.swept) before c.args.gained.now.items c.args.lost.now.items c.turn_roots.new.gained.items c.turn_roots.new.lost.items
     c.in_ok-done.done.gone c.in_ok-done.done.come table (ap (λ (q : VolumeState). q.geometry) seen.volume) (ap (λ (q : VolumeState). q.kept) seen.volume) roots c.in_ok-turn_roots.ensures.turned
-    (c.in_ok-done.ensures.updated v has c.requires.ready before seen now w is asked (subst (λ (q : VolumeState). AreRows q.meta) rest rows)))
+    (c.in_ok-done.ensures.updated v has c.requires.ready before seen now w is asked (subst (λ (q : VolumeState). AreRows q.meta) rest c.sweep.ensures.rows)))
 
 pub returns-clause-shares : goal.returns-clause-shares
 returns-clause-shares g c = λ copies.
@@ -53,5 +57,19 @@ returns-clause-shares g c = λ copies.
     let t = c.turn_roots.new.volume in
     let has : HasParts v v.geometry v.units v.groups v.meta v.pages = record { geometry = refl; parts = refl } in
     subst (λ (q : VolumeState). TakesLogged v.units c.sweep.new.units q.pages) (sym c.turn_roots.ensures.rest)
-    (still_logged v.units t.units c.sweep.new.units mid.pages (λ unit now. c.sweep.ensures.units.used unit now)
+    (still_logged v.units t.units c.sweep.new.units mid.pages (λ unit now. c.sweep.ensures.swept.units.used unit now)
     (still_logged v.units mid.units t.units mid.pages c.turn_roots.ensures.gives.fewer (c.in_ok-done.ensures.shares copies)))
+
+pub returns-clause-touched : goal.returns-clause-touched
+returns-clause-touched g c =
+    subst (λ (q : VolumeState). length q.meta.working ≤ length c.args.volume.now.meta.working + charge_of c.args.update.now) (sym c.turn_roots.ensures.rest) c.in_ok-done.ensures.touched
+
+pub returns-clause-kept : goal.returns-clause-kept
+returns-clause-kept g c = λ before seen now u is asked.
+    let v = c.args.volume.now in
+    let mid = c.update_parts.new.units in
+    let swept = c.sweep.new.units in
+    let has : HasParts v v.geometry v.units v.groups v.meta v.pages = record { geometry = refl; parts = refl } in
+    takes_still before (free_count mid.geometry (used_at mid)) (free_count swept.geometry (used_at swept))
+    (λ area. let turned = c.turn_roots.ensures.gives.free area in let given = c.sweep.ensures.swept.units.free area in omega (arith, turned, given))
+    u (c.in_ok-done.ensures.kept v has c.requires.ready before seen now u is asked)

@@ -9,9 +9,10 @@ use Rattle.session_core.proofs.Copied.{done_of, fault_of, told_of}
 use Rattle.session_core.specs.declared.updates.copying.Copying.{Copying}
 use Rattle.session_core.specs.declared.updates.copying.Copying.TheVariants as copying
 use Rattle.session_core.specs.Performed.{copies}
-use Rattle.session_core.specs.TableUpdates.{Updates}
+use Rattle.session_core.specs.TableUpdates.{TakesNeed, Updates}
 use Rattle.session_core.proofs.Copied.{derive_failed, derived_made, freeze_failed, frozen_made, uncounted, unfiled}
 use Rattle.file_rooms.proofs.Remembered.{number_kept}
+use Rattle.session_core.proofs.UnitsTaken.{copy_taken, pages_taken}
 use Rattle.session_core.proofs.updates.copying.copy.Goals as goal
 use Rattle.session_core.proofs.updates.copying.copy.Goals.{in-Freeze, in-Derive}
 
@@ -66,4 +67,24 @@ returns-in-Err-clause-updates g c =
           (subst (λ volume. Updates g.V.Ground c.args.volume.now volume (copies copying.Derive c.args.oid.now c.args.unique) (Err c.in-Err.fault)) (sym w.volume-is)
           (derive_failed g.V.Ground c.args.volume.now w.derive-copied.new.volume c.args.oid.now c.args.unique mid c.file_of.new.volume c.count_number.ensures.leads c.in_ok-count_number.ensures.counts c.file_of.ensures.kept c.in_ok-file_of.field-0 c.of_file-room.result.file_no room filed
           c.in-Err.fault (fault_of _ w.derive-copied.result c.in-Err.fault failed w.derive-copied.ensures.sound)))
+    ]
+
+pub returns-in-Ok-clause-takes : goal.returns-in-Ok-clause-takes
+returns-in-Ok-clause-takes g c =
+    let G = g.V.Ground in
+    let old = c.args.volume.now in
+    let none = c.file_of.ensures.kept.free ∙ c.in_ok-count_number.ensures.free in
+    elim c.match-copying.branch [
+      | in-Freeze w ↦
+          let did : w.freeze-copied.result ≡ Ok c.in-Ok.made = sym w.copied-is ∙ c.in-Ok.is in
+          let told = w.freeze-copied.ensures in
+          subst (λ volume. TakesNeed G old volume (copies c.args.copying c.args.oid.now c.args.unique)) (sym w.volume-is)
+          (copy_taken G old w.freeze-copied.new.volume c.args.copying c.args.oid.now c.args.unique
+          (pages_taken G old c.file_of.new.volume w.freeze-copied.new.volume none (done_of _ w.freeze-copied.result c.in-Ok.made did told.pages) (done_of _ w.freeze-copied.result c.in-Ok.made did told.leaves)))
+      | in-Derive w ↦
+          let did : w.derive-copied.result ≡ Ok c.in-Ok.made = sym w.copied-is ∙ c.in-Ok.is in
+          let told = w.derive-copied.ensures in
+          subst (λ volume. TakesNeed G old volume (copies c.args.copying c.args.oid.now c.args.unique)) (sym w.volume-is)
+          (copy_taken G old w.derive-copied.new.volume c.args.copying c.args.oid.now c.args.unique
+          (pages_taken G old c.file_of.new.volume w.derive-copied.new.volume none (done_of _ w.derive-copied.result c.in-Ok.made did told.pages) (done_of _ w.derive-copied.result c.in-Ok.made did told.leaves)))
     ]

@@ -4,6 +4,7 @@ use Rattle.volume_edits.specs.Ported.{index_named}
 use Rattle.volume_edits.proofs.Contents.{has_catalog}
 use Rattle.session_core.proofs.Making.{becomes, its_file}
 use Rattle.file_rooms.proofs.Remembered.{number_kept, one_kept}
+use Rattle.session_core.proofs.UnitsTaken.{pages_taken}
 use Rattle.session_core.proofs.updates.creating.create.Goals as goal
 
 pub returns-in_err-count_number-clause-updates : goal.returns-in_err-count_number-clause-updates
@@ -42,3 +43,7 @@ returns-in-Err-clause-updates g c = λ name.
 
 pub returns-in-Ok-clause-rooms : goal.returns-in-Ok-clause-rooms
 returns-in-Ok-clause-rooms g c = one_kept c.args.rooms.now c.keep.new.self c.create.new.room c.keep.ensures
+
+pub returns-in-Ok-clause-takes : goal.returns-in-Ok-clause-takes
+returns-in-Ok-clause-takes g c = λ name.
+    pages_taken g.V.Ground c.args.volume.now c.count_number.new.volume c.create.new.volume c.in_ok-count_number.ensures.free c.in-Ok.ensures.pages c.in-Ok.ensures.leaves
