@@ -8,7 +8,7 @@ work=$(mktemp -d)
 trap 'rm -rf "$work"' EXIT
 mkdir -p "$work/crates/placing_bench/src"
 cp "$root/HANDLES" "$work/"
-crates='ex_base disk_model page_alloc buffer_groups count_nodes tree_store memory_ports slotted_pages index_pages file_index object_files file_bodies'
+crates='ex_base disk_model page_alloc buffer_groups trees tree_store memory_ports slotted_pages file_index object_files file_bodies'
 for name in $crates; do
     cp -r "$root/crates/$name" "$work/crates/"
     grep "^$name:" "$root/crates.txt" >> "$work/crates.txt"

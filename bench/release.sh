@@ -9,7 +9,7 @@ work=$(mktemp -d)
 trap 'rm -rf "$work"' EXIT
 mkdir -p "$work/crates/release_bench/src"
 cp "$root/HANDLES" "$work/"
-for name in ex_base disk_model memory_host version_lists table_model count_nodes leaf_segments slotted_pages object_records index_pages file_index object_files \
+for name in ex_base disk_model memory_host version_lists table_model slotted_pages object_records file_index object_files \
     page_entries trees tree_insert version_delete page_alloc buffer_groups meta_pages tree_store op_log session_views volume_model volume_port; do
     mkdir "$work/crates/$name"
     (cd "$root/crates/$name" && tar cf - --exclude=./out --exclude=./must-fail .) | (cd "$work/crates/$name" && tar xf -)

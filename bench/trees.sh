@@ -7,7 +7,7 @@ work=$(mktemp -d)
 trap 'rm -rf "$work"' EXIT
 mkdir -p "$work/crates/tree_bench/src"
 cp "$root/HANDLES" "$work/"
-for name in ex_base disk_model buffer_groups page_alloc count_nodes leaf_segments trees tree_store tree_insert memory_ports; do
+for name in ex_base disk_model buffer_groups page_alloc trees tree_store tree_insert memory_ports; do
     cp -r "$root/crates/$name" "$work/crates/"
 done
 cat > "$work/crates.txt" <<'EOF'
@@ -15,12 +15,10 @@ ex_base: byteorder thiserror
 disk_model: ex_base
 page_alloc: ex_base
 buffer_groups: ex_base disk_model lru
-count_nodes: ex_base
-leaf_segments: ex_base
-trees: ex_base count_nodes leaf_segments
-tree_store: ex_base disk_model buffer_groups page_alloc count_nodes
-tree_insert: ex_base count_nodes leaf_segments trees
-memory_ports: ex_base buffer_groups page_alloc count_nodes tree_store
+trees: ex_base
+tree_store: ex_base disk_model buffer_groups page_alloc trees
+tree_insert: ex_base trees
+memory_ports: ex_base buffer_groups page_alloc trees tree_store
 tree_bench: ex_base memory_ports tree_insert
 EOF
 cd "$work/crates/tree_bench"

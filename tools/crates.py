@@ -3,7 +3,7 @@
 
     tools/crates.py            prints all of it
     tools/crates.py --check    says what breaks a rule, and ends with status 1 where something does: the longest chain to exsm has at most
-                               eleven crates, a crate at most 100 functions and four must-fail edits, each crate stands in a band of
+                               ten crates, a crate at most 100 functions and four must-fail edits, each crate stands in a band of
                                crates.txt behind all that it stands on, no crate is named that no file uses, the documents name each
                                ported crate among what is trusted, and they have the picture that --write would write
     tools/crates.py --write    writes the picture into docs/ARCHITECTURE.md and README.md, each between two lines of marks
@@ -18,7 +18,7 @@ import sys
 
 TOP = os.path.dirname(os.path.dirname(os.path.abspath(__file__)))
 PROGRAM = "exsm"
-CHAIN_MOST, FUNCTIONS_MOST, EDITS_MOST = 11, 100, 4
+CHAIN_MOST, FUNCTIONS_MOST, EDITS_MOST = 10, 100, 4
 ROW_MOST = 92
 BEGIN, END = "<!-- written by tools/crates.py --write -->", "<!-- end of what it writes -->"
 

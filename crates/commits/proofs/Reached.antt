@@ -10,8 +10,8 @@ use Rattle.ex_base.proofs.Each.{each_as, each_from, each_of}
 use Rattle.op_log.specs.declared.record.LogRecord.{LogRecord}
 use Rattle.op_log.specs.AfterLog.{AllApply}
 use Rattle.op_log.specs.Log.{SaysLog}
-use Rattle.count_nodes.specs.declared.Pair.{Pair}
-use Rattle.count_nodes.specs.Node.{pairs_on}
+use Rattle.trees.specs.declared.Pair.{Pair}
+use Rattle.trees.specs.Node.{pairs_on}
 use Rattle.trees.specs.Trees.{Units, IsNamed, RootNamed, units_on, root_units, root_units_at}
 use Rattle.trees.proofs.SameUnits.{Kept}
 use Rattle.volume_model.proofs.FilePages.{file_pages_are}

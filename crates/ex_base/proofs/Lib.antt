@@ -20,3 +20,4 @@ pub mod SamePlaces
 pub mod Spread
 pub mod Supers
 pub mod Writing
+pub mod Splices

@@ -16,6 +16,7 @@ mod names;
 mod needs;
 mod notes;
 mod pages;
+mod splice;
 mod superblock;
 
 pub use blocks::{Blocks, ReadBlocks};
@@ -34,8 +35,9 @@ pub use limits::{
     TOUCHED_MOST, UPDATES_MOST,
 };
 pub use named_fields::{get_page, get_place, put_page, put_place};
-pub use names::{Area, Oid, OpNote, PageNo, Place, Root};
+pub use names::{Area, Index, Oid, OpNote, PageNo, Place, Root};
 pub use needs::{delete_need, growth_need, replace_need};
 pub use notes::NoteKind;
 pub use pages::{Pages, ReadPages, ReadVolume, Volume};
+pub use splice::replace_bytes;
 pub use superblock::{has_magic, read_super, write_super};

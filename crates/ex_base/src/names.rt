@@ -70,3 +70,13 @@ impl Root {
         size: 0,
     };
 }
+
+/// An index: its root, the root's level and the file's number.
+#[derive(Clone, Copy, Debug, PartialEq, Eq)]
+pub struct Index {
+    /// The top index page, or the one page of the file at level 0; none of a file without pages.
+    pub root: Option<PageNo>,
+    /// How many index pages stand over each page of the file.
+    pub level: u8,
+    pub file_no: u32,
+}

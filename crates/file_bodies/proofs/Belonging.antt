@@ -4,7 +4,7 @@ use Rattle.std.specs.Prelude.{Contains}
 use Rattle.ex_base.specs.declared.ground.Ground as ground
 use Rattle.ex_base.specs.Ports.{Keeps}
 use Rattle.slotted_pages.specs.Reads.{page_on, IsPage}
-use Rattle.index_pages.specs.declared.Index.{Index}
+use Rattle.ex_base.specs.declared.names.Index.{Index}
 use Rattle.file_index.specs.Index.{IsFilesPage}
 use Rattle.ex_base.specs.declared.names.Place.{Place}
 use Rattle.ex_base.proofs.Counts.{contains_times}

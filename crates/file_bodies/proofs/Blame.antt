@@ -10,7 +10,7 @@ use Rattle.ex_base.specs.declared.names.Place.{Place}
 use Rattle.ex_base.specs.Area.{catalog_no}
 use Rattle.ex_base.specs.Ports.{Keeps}
 use Rattle.slotted_pages.specs.Reads.{page_on, IsPage}
-use Rattle.index_pages.specs.declared.Index.{Index}
+use Rattle.ex_base.specs.declared.names.Index.{Index}
 use Rattle.file_index.specs.Index.{IsFilesPage}
 use Rattle.ex_base.specs.Seen.{file_page_seen, nothing_seen, record_seen}
 use Rattle.file_index.specs.Damage.{every_page, HasWay, IsIndexFault, found_in}

@@ -9,7 +9,7 @@ use Rattle.ex_base.specs.Area.{catalog_no}
 use Rattle.ex_base.specs.Order.{AllDiffer}
 use Rattle.ex_base.proofs.Counts.{not_equal}
 use Rattle.ex_base.proofs.Members.{contains_later}
-use Rattle.index_pages.specs.declared.Index.{Index}
+use Rattle.ex_base.specs.declared.names.Index.{Index}
 use Rattle.file_index.specs.Index.{HasRoot}
 use Rattle.file_index.proofs.Counts.{changes_same}
 use Rattle.object_files.specs.Catalog.{FileEntry, Catalog, CatalogOf, IsEntry, number_of}

@@ -11,7 +11,7 @@ use Rattle.ex_base.proofs.Rows.{each-append}
 use Rattle.ex_base.proofs.Counts.{contains_times, same_or_not, times-append, times_apart, times_contains, times_here}
 use Rattle.slotted_pages.specs.FilePage.{Slot}
 use Rattle.slotted_pages.specs.Edits.{slots_of}
-use Rattle.index_pages.specs.declared.Index.{Index}
+use Rattle.ex_base.specs.declared.names.Index.{Index}
 use Rattle.file_index.specs.Index.{Rises, IsFilesPage}
 use Rattle.file_index.specs.Least.{IsLeastFrom}
 use Rattle.file_index.proofs.Picking.{rises_low, rises_of}

@@ -10,7 +10,7 @@ use Rattle.ex_base.specs.Ports.{TakesPage}
 use Rattle.slotted_pages.specs.FilePage.{Slot, FilePage, SlotsOf}
 use Rattle.slotted_pages.specs.Reads.{page_on}
 use Rattle.slotted_pages.specs.Edits.{slots_of, with_slot, with_slots, place_for}
-use Rattle.index_pages.specs.declared.Index.{Index}
+use Rattle.ex_base.specs.declared.names.Index.{Index}
 use Rattle.file_index.specs.Edits.{EditsIndex, put_in}
 use Rattle.object_files.specs.Edits.{IsCatalogPage}
 use Rattle.file_bodies.specs.Bodies.{place_at}

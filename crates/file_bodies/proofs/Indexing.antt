@@ -10,7 +10,7 @@ use Rattle.ex_base.specs.Ports.{times, TakesPage}
 use Rattle.ex_base.proofs.Counts.{contains_times, same_or_not, times-append, times_apart, times_contains}
 use Rattle.slotted_pages.specs.FilePage.{FilePage, SlotsOf}
 use Rattle.slotted_pages.specs.Edits.{slots_of}
-use Rattle.index_pages.specs.declared.Index.{Index}
+use Rattle.ex_base.specs.declared.names.Index.{Index}
 use Rattle.file_index.specs.Changes.{Changes, count_of}
 use Rattle.file_index.specs.Index.{IsFilesPage, HasPlacedRoot, IsIndex, pages_of}
 use Rattle.file_index.specs.Edits.{HasIndex, EditsIndex, put_in}

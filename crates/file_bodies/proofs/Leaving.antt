@@ -10,7 +10,7 @@ use Rattle.ex_base.specs.Ports.{times, Keeps, GivesPage}
 use Rattle.ex_base.proofs.Counts.{contains_times, times-append, times_contains, times_here}
 use Rattle.slotted_pages.specs.FilePage.{Slot}
 use Rattle.slotted_pages.specs.Edits.{slots_of, with_slot, trimmed}
-use Rattle.index_pages.specs.declared.Index.{Index}
+use Rattle.ex_base.specs.declared.names.Index.{Index}
 use Rattle.file_index.specs.Changes.{Changes}
 use Rattle.file_index.specs.Index.{IsIndex, pages_of}
 use Rattle.file_index.specs.Edits.{take_out}

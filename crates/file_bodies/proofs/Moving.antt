@@ -13,7 +13,7 @@ use Rattle.ex_base.specs.Ports.{times, Keeps, PutsImage}
 use Rattle.ex_base.proofs.Counts.{same_or_not, times-append, times_apart, times_here}
 use Rattle.slotted_pages.specs.FilePage.{Slot, FilePage, SlotsOf}
 use Rattle.slotted_pages.specs.Edits.{slots_of}
-use Rattle.index_pages.specs.declared.Index.{Index}
+use Rattle.ex_base.specs.declared.names.Index.{Index}
 use Rattle.file_index.specs.Changes.{Changes, count_of}
 use Rattle.file_index.specs.Index.{IsFilesPage, IsIndex, keys_of, pages_of}
 use Rattle.file_index.specs.Edits.{HasIndex}

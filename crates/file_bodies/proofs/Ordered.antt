@@ -5,7 +5,7 @@ use Rattle.ex_base.specs.declared.ground.Ground as ground
 use Rattle.ex_base.specs.declared.names.Place.{Place}
 use Rattle.slotted_pages.specs.FilePage.{Slot}
 use Rattle.slotted_pages.specs.Edits.{slots_of}
-use Rattle.index_pages.specs.declared.Index.{Index}
+use Rattle.ex_base.specs.declared.names.Index.{Index}
 use Rattle.file_index.specs.Index.{Rises}
 use Rattle.file_index.proofs.Picking.{rises_of}
 use Rattle.file_bodies.specs.Bodies.{Row, bodies_from, bodies_on, bodies_of, pages_in, InPlaceOrder}

@@ -9,7 +9,7 @@ use Rattle.ex_base.specs.Ports.{Keeps, PutsImage}
 use Rattle.slotted_pages.specs.FilePage.{Slot, room_of}
 use Rattle.slotted_pages.specs.Edits.{slots_of, with_slot, place_for, need_of, vacant_at}
 use Rattle.slotted_pages.proofs.EditLaws.{long_enough}
-use Rattle.index_pages.specs.declared.Index.{Index}
+use Rattle.ex_base.specs.declared.names.Index.{Index}
 use Rattle.file_bodies.specs.declared.placing.Room.{Room}
 use Rattle.file_bodies.specs.Bodies.{pages_in}
 use Rattle.file_bodies.specs.Files.{HasFile, EditsFile}

@@ -10,7 +10,7 @@ use Rattle.ex_base.proofs.Counts.{contains_times}
 use Rattle.ex_base.proofs.Keeping.{keeps_refl}
 use Rattle.slotted_pages.specs.FilePage.{Slot, room_of}
 use Rattle.slotted_pages.specs.Edits.{slots_of, place_for, need_of, vacant_at}
-use Rattle.index_pages.specs.declared.Index.{Index}
+use Rattle.ex_base.specs.declared.names.Index.{Index}
 use Rattle.file_index.specs.Index.{IsFilesPage}
 use Rattle.file_index.specs.Least.{IsLeastFrom}
 use Rattle.file_bodies.specs.Bodies.{pages_in}

@@ -9,7 +9,7 @@ use Rattle.slotted_pages.specs.FilePage.{Slot, SlotsOf}
 use Rattle.slotted_pages.specs.Reads.{page_on, IsPage}
 use Rattle.slotted_pages.specs.Edits.{slots_of, with_slot, with_slots, trimmed}
 use Rattle.slotted_pages.proofs.EditLaws.{long_enough}
-use Rattle.index_pages.specs.declared.Index.{Index}
+use Rattle.ex_base.specs.declared.names.Index.{Index}
 use Rattle.file_index.specs.Index.{IsFilesPage}
 use Rattle.file_bodies.specs.Bodies.{Row, bodies_from, bodies_on, pages_in, EditsRow}
 use Rattle.file_bodies.specs.Files.{IsPageOf, IsLive, HasFile, HasBody, EditsFile}

@@ -5,7 +5,7 @@ use Rattle.ex_base.specs.declared.names.Place.{Place}
 use Rattle.ex_base.specs.Order.{InOrder}
 use Rattle.slotted_pages.specs.FilePage.{Slot}
 use Rattle.slotted_pages.specs.Edits.{slots_of}
-use Rattle.index_pages.specs.declared.Index.{Index}
+use Rattle.ex_base.specs.declared.names.Index.{Index}
 use Rattle.file_index.specs.Index.{keys_of}
 
 -- a body and the place that it stands at

@@ -9,7 +9,7 @@ use Rattle.ex_base.specs.declared.names.Place.{Place}
 use Rattle.ex_base.specs.Area.{catalog_no}
 use Rattle.slotted_pages.specs.Reads.{page_on, IsPage}
 use Rattle.slotted_pages.specs.Edits.{slots_of, with_slot, trimmed}
-use Rattle.index_pages.specs.declared.Index.{Index}
+use Rattle.ex_base.specs.declared.names.Index.{Index}
 use Rattle.file_index.specs.Index.{IsFilesPage, seen}
 use Rattle.ex_base.specs.Seen.{catalog_seen, file_page_seen, nothing_seen, record_seen}
 use Rattle.file_index.specs.Damage.{every_page, HasWay, IsIndexFault, IsAddingFault, IsRemovalFault, found_in}

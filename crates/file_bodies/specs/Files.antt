@@ -8,7 +8,7 @@ use Rattle.ex_base.specs.Ports.{times}
 use Rattle.slotted_pages.specs.FilePage.{Slot}
 use Rattle.slotted_pages.specs.Reads.{page_on, IsPage}
 use Rattle.slotted_pages.specs.Edits.{slots_of, body_in}
-use Rattle.index_pages.specs.declared.Index.{Index}
+use Rattle.ex_base.specs.declared.names.Index.{Index}
 use Rattle.file_index.specs.Changes.{Changes, count_of}
 use Rattle.file_index.specs.Index.{IsIndex, pages_of}
 use Rattle.object_files.specs.Catalog.{FileEntry, Catalog}

@@ -5,7 +5,7 @@ use Rattle.ex_base.specs.declared.ground.Ground as ground
 use Rattle.ex_base.specs.declared.names.Place.{Place}
 use Rattle.slotted_pages.specs.FilePage.{Slot}
 use Rattle.slotted_pages.specs.Edits.{slots_of, place_for}
-use Rattle.index_pages.specs.declared.Index.{Index}
+use Rattle.ex_base.specs.declared.names.Index.{Index}
 use Rattle.file_bodies.specs.declared.placing.Room.{Room}
 use Rattle.file_bodies.specs.Bodies.{Row, pages_in}
 use Rattle.file_bodies.specs.Files.{EditsFile}

@@ -5,7 +5,7 @@ use Rattle.ex_base.specs.declared.names.Place.{Place}
 use Rattle.slotted_pages.specs.FilePage.{SlotsOf}
 use Rattle.slotted_pages.specs.Reads.{page_on}
 use Rattle.slotted_pages.specs.Edits.{slots_of, with_slot, with_slots}
-use Rattle.index_pages.specs.declared.Index.{Index}
+use Rattle.ex_base.specs.declared.names.Index.{Index}
 use Rattle.file_index.specs.Index.{IsFilesPage}
 use Rattle.file_bodies.specs.declared.placing.Room.{Room}
 use Rattle.file_bodies.specs.Bodies.{pages_in}

@@ -3,7 +3,7 @@ use Rattle.std.specs.Prelude.{◌≡◌, ℕ, ◌∷◌, Contains}
 use Rattle.ex_base.specs.declared.ground.Ground as ground
 use Rattle.ex_base.specs.Area.{catalog_no}
 use Rattle.object_files.specs.Reads.{catalog_on}
-use Rattle.index_pages.specs.declared.Index.{Index}
+use Rattle.ex_base.specs.declared.names.Index.{Index}
 use Rattle.file_index.specs.Changes.{Changes}
 use Rattle.file_index.specs.Edits.{take_out}
 use Rattle.file_bodies.specs.Bodies.{pages_in}

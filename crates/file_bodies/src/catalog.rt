@@ -15,8 +15,7 @@ ghost use Rattle.file_bodies.specs.Files.{index_in, index_at, with_index};
 ghost use Rattle.file_bodies.specs.Indexes.{IsUsable, SetsIndex};
 ghost use Rattle.file_bodies.specs.Damage.{root_seen, ListsFile, IsCatalogFault, IsFileFault, IsRootFault};
 
-use ex_base::{PageNo, Pages, PortFault, ReadPages, Seen};
-use index_pages::Index;
+use ex_base::{Index, PageNo, Pages, PortFault, ReadPages, Seen};
 use object_files::{CatalogView, set_index};
 use std::alloc::Global;
 

@@ -3,7 +3,7 @@ ghost use Rattle.std.specs.Prelude.{◌≡◌, ◌≤◌, ◌+◌, ◌↔◌, �
 ghost use Rattle.ex_base.specs.Ports.{Keeps, HasCause, IsDamage, PutsImage};
 ghost use Rattle.slotted_pages.specs.FilePage.{room_of};
 ghost use Rattle.slotted_pages.specs.Edits.{slots_of};
-ghost use Rattle.index_pages.specs.declared.Index.{Index};
+ghost use Rattle.ex_base.specs.declared.names.Index.{Index};
 ghost use Rattle.file_index.specs.Touches.{TouchesAtMost};
 ghost use Rattle.file_bodies.specs.Files.{HasBody, EditsFile};
 ghost use Rattle.file_bodies.specs.Damage.{HasRecordAt, IsPlaceFault};

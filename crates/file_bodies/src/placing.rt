@@ -2,7 +2,7 @@
 ghost use Rattle.std.specs.Prelude.{◌≡◌, ◌≤◌, ◌+◌, ℕ, true, length, None, IfOk, IfErr, IfSome, IfNone, OnOk};
 ghost use Rattle.ex_base.specs.declared.names.Area.TheVariants.{Page, Segment};
 ghost use Rattle.ex_base.specs.Ports.{Keeps, HasCause, IsDamage};
-ghost use Rattle.index_pages.specs.declared.Index.{Index};
+ghost use Rattle.ex_base.specs.declared.names.Index.{Index};
 ghost use Rattle.file_index.specs.Index.{IsFilesPage};
 ghost use Rattle.file_index.specs.Taking.{OnlyTakes};
 ghost use Rattle.file_index.specs.Touches.{TouchesAtMost};
@@ -18,9 +18,8 @@ ghost use Rattle.file_bodies.specs.Placing.{IsPlaced, NoneFrom, start_of, lowere
 
 use crate::catalog::{change_index, index_of};
 use crate::page::{load_page, page_buffer};
-use ex_base::{PageNo, Pages, Place, PortFault, ReadPages};
+use ex_base::{Index, PageNo, Pages, Place, PortFault, ReadPages};
 use file_index::{add, at_least};
-use index_pages::Index;
 use slotted_pages::{empty_page, insert_body};
 use std::alloc::Global;
 

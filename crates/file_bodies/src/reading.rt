@@ -4,7 +4,7 @@ ghost use Rattle.std.specs.Borrow.{sem};
 ghost use Rattle.ex_base.specs.Ports.{Rests, Keeps, HasCause, IsDamage};
 ghost use Rattle.slotted_pages.specs.Reads.{page_on, IsPage};
 ghost use Rattle.slotted_pages.specs.Edits.{slots_of};
-ghost use Rattle.index_pages.specs.declared.Index.{Index};
+ghost use Rattle.ex_base.specs.declared.names.Index.{Index};
 ghost use Rattle.file_index.specs.Index.{IsFilesPage};
 ghost use Rattle.file_bodies.specs.Bodies.{bodies_of, pages_in, InPlaceOrder};
 ghost use Rattle.file_bodies.specs.Files.{HasFile, HasFileOf, HasBody, IsOfFile, HasSomeBody};
@@ -15,9 +15,8 @@ ghost use Rattle.file_bodies.specs.Places.{IsNext, FirstFrom};
 
 use crate::catalog::{find_index, index_of};
 use crate::page::{body_on, file_on, live_slot, may_be_of_file};
-use ex_base::{PageNo, Place, PortFault, ReadPages};
+use ex_base::{Index, PageNo, Place, PortFault, ReadPages};
 use file_index::at_least;
-use index_pages::Index;
 use std::alloc::Global;
 
 /// The bodies of a whole file stand in order of their places.

@@ -2,7 +2,7 @@
 ghost use Rattle.std.specs.Prelude.{◌≡◌, ◌≤◌, ℕ, List, length, Contains, true, IfErr, OnOk};
 ghost use Rattle.ex_base.specs.declared.names.Area.TheVariants.{Page, Segment};
 ghost use Rattle.ex_base.specs.Ports.{HasCause, IsDamage};
-ghost use Rattle.index_pages.specs.declared.Index.{Index};
+ghost use Rattle.ex_base.specs.declared.names.Index.{Index};
 ghost use Rattle.file_index.specs.Index.{IsFilesPage};
 ghost use Rattle.file_index.specs.Taking.{OnlyGives};
 ghost use Rattle.file_index.specs.Touches.{TouchesAtMost};

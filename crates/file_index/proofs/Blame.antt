@@ -7,9 +7,9 @@ use Rattle.ex_base.specs.declared.faults.PortFault.{PortFault}
 use Rattle.ex_base.specs.declared.faults.PortFault.TheVariants.{Disk, Memory, Damaged}
 use Rattle.ex_base.specs.declared.geometry.Geometry.{Geometry}
 use Rattle.ex_base.specs.declared.names.PageNo.{PageNo}
-use Rattle.index_pages.specs.declared.Entry.{Entry}
-use Rattle.index_pages.specs.IndexPage.{EntriesOf, Indexed, indexed_on, level_on, file_on, entries_on}
-use Rattle.index_pages.proofs.PageLaws.{spelled_reads}
+use Rattle.file_index.specs.declared.Entry.{Entry}
+use Rattle.file_index.specs.IndexPage.{EntriesOf, Indexed, indexed_on, level_on, file_on, entries_on}
+use Rattle.file_index.proofs.PageLaws.{spelled_reads}
 use Rattle.file_index.specs.Index.{IsFilesPage, least_entries, seen, key_seen}
 use Rattle.file_index.specs.Nodes.{first_key}
 use Rattle.ex_base.specs.Seen.{nothing_seen}

@@ -1,9 +1,9 @@
 -- A page that was written is an index again.
 use Rattle.std.proofs.Common.{◌≡◌, ◌≤◌, ◌<◌, ◌+◌, ◌*◌, ◌/◌, ◌^◌, ℕ, List, [], ◌∷◌, ◌++◌, length, take, drop, Option, Some, None, refl, sym, ap, subst, ◌∙◌, arith}
 use Rattle.std.specs.List.{flat_map, AllByRecursion}
-use Rattle.index_pages.specs.declared.Entry.{Entry}
-use Rattle.index_pages.specs.IndexPage.{EntriesOf, IsIndexPage, HasEntryFields, RiseFrom, entries_on, index_page, most_entries}
-use Rattle.index_pages.proofs.PageLaws.{spelled_reads, written_reads}
+use Rattle.file_index.specs.declared.Entry.{Entry}
+use Rattle.file_index.specs.IndexPage.{EntriesOf, IsIndexPage, HasEntryFields, RiseFrom, entries_on, index_page, most_entries}
+use Rattle.file_index.proofs.PageLaws.{spelled_reads, written_reads}
 use Rattle.std.proofs.lemmas.List.{take-append-drop}
 use Rattle.ex_base.specs.declared.ground.Ground as ground
 use Rattle.ex_base.specs.Sizes.{least_page, most_page}

@@ -7,7 +7,7 @@ use Rattle.ex_base.specs.declared.geometry.Geometry.{Geometry}
 use Rattle.ex_base.specs.Ports.{times}
 use Rattle.ex_base.proofs.Rows.{each-append}
 use Rattle.ex_base.proofs.Counts.{times-append}
-use Rattle.index_pages.specs.declared.Entry.{Entry}
+use Rattle.file_index.specs.declared.Entry.{Entry}
 use Rattle.file_index.specs.Changes.{count_of, Changes}
 use Rattle.file_index.specs.Index.{IsUnder, Rises, keys_under, pages_under}
 use Rattle.file_index.specs.Edits.{keys_among, pages_among, IsRow, Becomes}

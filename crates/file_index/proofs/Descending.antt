@@ -5,8 +5,8 @@ use Rattle.ex_base.specs.declared.ground.Ground as ground
 use Rattle.ex_base.specs.declared.geometry.Geometry.{Geometry}
 use Rattle.ex_base.specs.Ports.{Keeps}
 use Rattle.ex_base.proofs.Counts.{times_here}
-use Rattle.index_pages.specs.declared.Entry.{Entry}
-use Rattle.index_pages.specs.IndexPage.{entries_on, most_entries}
+use Rattle.file_index.specs.declared.Entry.{Entry}
+use Rattle.file_index.specs.IndexPage.{entries_on, most_entries}
 use Rattle.file_index.specs.Changes.{Changes}
 use Rattle.file_index.specs.Index.{IsFilesPage, IsNamed}
 use Rattle.file_index.specs.Nodes.{heads, entries_of, first_key, Stored, IsPlace}

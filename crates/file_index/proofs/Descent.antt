@@ -4,8 +4,8 @@ use Rattle.std.specs.List.{flat_map, AllByRecursion}
 use Rattle.ex_base.specs.Ports.{Keeps}
 use Rattle.ex_base.specs.declared.names.PageNo.{PageNo}
 use Rattle.ex_base.specs.declared.ground.Ground as ground
-use Rattle.index_pages.specs.declared.Entry.{Entry}
-use Rattle.index_pages.specs.IndexPage.{entries_on}
+use Rattle.file_index.specs.declared.Entry.{Entry}
+use Rattle.file_index.specs.IndexPage.{entries_on}
 use Rattle.file_index.specs.declared.step.Step.{Step}
 use Rattle.file_index.specs.Index.{IsFilesPage, IsNamed, HasLeast, IsUnder, Rises, keys_under}
 use Rattle.file_index.specs.Least.{first_from, pick}

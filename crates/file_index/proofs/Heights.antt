@@ -8,8 +8,8 @@ use Rattle.ex_base.specs.declared.geometry.Geometry.{Geometry}
 use Rattle.ex_base.specs.declared.names.PageNo.{PageNo}
 use Rattle.ex_base.specs.Sizes.{least_page, geometry_is}
 use Rattle.ex_base.proofs.Each.{each_joined}
-use Rattle.index_pages.specs.declared.Entry.{Entry}
-use Rattle.index_pages.specs.IndexPage.{entries_on, most_entries}
+use Rattle.file_index.specs.declared.Entry.{Entry}
+use Rattle.file_index.specs.IndexPage.{entries_on, most_entries}
 use Rattle.file_index.specs.Index.{IsFilesPage, IsUnder, IsIndex, Rises, keys_under, keys_of, pages_under, pages_of}
 use Rattle.file_index.proofs.Picking.{rises_of}
 

@@ -2,7 +2,7 @@
 use Rattle.std.proofs.Common.{◌≡◌, ◌≢◌, ◌<◌, ℕ, Bool, true, false, nat_lt, List, [], ◌∷◌, refl, sym, subst, ◌∙◌, arith, ltb-true, ltb-false}
 use Rattle.std.specs.Prelude.{slice_index_or, if◌then◌else◌}
 use Rattle.ex_base.specs.declared.ground.Ground as ground
-use Rattle.index_pages.specs.declared.Entry.{Entry}
+use Rattle.file_index.specs.declared.Entry.{Entry}
 use Rattle.file_index.specs.Index.{IsFilesPage}
 use Rattle.file_index.specs.Nodes.{IsPlace, PutsLeaf, RemovesLeaf, leaves_of}
 use Rattle.file_index.specs.Edits.{IsRow, Becomes, put_in, take_out}

@@ -19,3 +19,6 @@ pub mod Roots
 pub mod Tops
 pub mod Mending
 pub mod Heights
+pub mod EntryLaws
+pub mod WriteLaws
+pub mod PageLaws

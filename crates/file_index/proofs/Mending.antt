@@ -7,8 +7,8 @@ use Rattle.ex_base.specs.declared.ground.Ground as ground
 use Rattle.ex_base.specs.declared.geometry.Geometry.{Geometry}
 use Rattle.ex_base.specs.Ports.{times, Keeps}
 use Rattle.ex_base.proofs.Counts.{not_equal, times_here}
-use Rattle.index_pages.specs.declared.Entry.{Entry}
-use Rattle.index_pages.specs.IndexPage.{entries_on, most_entries}
+use Rattle.file_index.specs.declared.Entry.{Entry}
+use Rattle.file_index.specs.IndexPage.{entries_on, most_entries}
 use Rattle.file_index.specs.declared.spreading.Pair.{Pair}
 use Rattle.file_index.specs.Changes.{Changes}
 use Rattle.file_index.specs.Index.{IsFilesPage, IsNamed, Rises, keys_under}

@@ -2,9 +2,9 @@
 use Rattle.std.proofs.Common.{◌≡◌, ℕ, Bool, true, false, eqb, eq-eqb, List, [], ◌∷◌, Option, Some, None, refl, ap, ◌∙◌}
 use Rattle.std.specs.Prelude.{slice_get, ◌&&◌, not}
 use Rattle.ex_base.specs.declared.faults.Seen.{Seen}
-use Rattle.index_pages.specs.declared.Entry.{Entry}
-use Rattle.index_pages.specs.IndexPage.{entries_on}
-use Rattle.index_pages.proofs.PageLaws.{ReadsAs, spelled_reads}
+use Rattle.file_index.specs.declared.Entry.{Entry}
+use Rattle.file_index.specs.IndexPage.{entries_on}
+use Rattle.file_index.proofs.PageLaws.{ReadsAs, spelled_reads}
 use Rattle.file_index.specs.Index.{IsNamed, HasLeast, key_seen}
 
 pub named_reads : (size : ℕ) (page : List ℕ) (level file_no : ℕ) (least : Option ℕ) → IsNamed size page level file_no least → ReadsAs page level file_no (entries_on page)

@@ -3,7 +3,7 @@ use Rattle.std.proofs.Common.{◌≡◌, ◌<◌, ◌+◌, ℕ, zero, suc, Bool,
 use Rattle.std.specs.Prelude.{slice_set}
 use Rattle.std.specs.List.{insert, remove}
 use Rattle.std.proofs.lemmas.List.{length-append}
-use Rattle.index_pages.specs.declared.Entry.{Entry}
+use Rattle.file_index.specs.declared.Entry.{Entry}
 use Rattle.file_index.specs.Nodes.{joined}
 
 pub set_parts : (xs : List Entry) (at : ℕ) (y : Entry) → at < length xs → slice_set xs at y ≡ take at xs ++ (y ∷ drop (at + 1) xs)

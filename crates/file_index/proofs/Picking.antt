@@ -4,7 +4,7 @@ use Rattle.std.specs.Prelude.{slice_get, Contains, if◌then◌else◌}
 use Rattle.std.specs.List.{flat_map, AllByRecursion}
 use Rattle.std.proofs.lemmas.List.{append-nil}
 use Rattle.ex_base.specs.declared.names.PageNo.{PageNo}
-use Rattle.index_pages.specs.declared.Entry.{Entry}
+use Rattle.file_index.specs.declared.Entry.{Entry}
 use Rattle.file_index.specs.declared.step.Step.{Step}
 use Rattle.ex_base.specs.Order.{Rising}
 use Rattle.ex_base.proofs.Members.{contains_cases, contains_later}

@@ -5,9 +5,9 @@ use Rattle.ex_base.specs.declared.names.PageNo.{PageNo}
 use Rattle.ex_base.specs.declared.geometry.Geometry.{Geometry}
 use Rattle.ex_base.specs.Ports.{times, Keeps, GivesPage}
 use Rattle.ex_base.proofs.Counts.{times-append, times_here}
-use Rattle.index_pages.specs.declared.Entry.{Entry}
-use Rattle.index_pages.specs.IndexPage.{entries_on, most_entries}
-use Rattle.index_pages.specs.declared.Index.{Index}
+use Rattle.file_index.specs.declared.Entry.{Entry}
+use Rattle.file_index.specs.IndexPage.{entries_on, most_entries}
+use Rattle.ex_base.specs.declared.names.Index.{Index}
 use Rattle.file_index.specs.Changes.{Changes, count_of}
 use Rattle.file_index.specs.Index.{IsFilesPage, IsNamed, IsUnder, HasLeast, Rises, keys_under, pages_under}
 use Rattle.file_index.specs.Nodes.{IsWritten, Stored, heads, first_key, leaves_of}

@@ -7,8 +7,8 @@ use Rattle.ex_base.specs.declared.geometry.Geometry.{Geometry}
 use Rattle.ex_base.specs.declared.ground.Ground as ground
 use Rattle.ex_base.specs.declared.names.PageNo.{PageNo}
 use Rattle.ex_base.proofs.Counts.{not_equal}
-use Rattle.index_pages.specs.declared.Entry.{Entry}
-use Rattle.index_pages.specs.IndexPage.{entries_on}
+use Rattle.file_index.specs.declared.Entry.{Entry}
+use Rattle.file_index.specs.IndexPage.{entries_on}
 use Rattle.file_index.specs.declared.step.Step.{Step}
 use Rattle.file_index.specs.Least.{pick_from, pick, page_no}
 use Rattle.file_index.specs.Damage.{every_page, IsGoneFault, IsPageFault, IsNamedAt, place_in, no_entry, entry_in, child_in, place_beside, beside_in, IsWay, IsWayFault, IsWayUnder, IsFaultUnder, IsEntryFault, IsBesideFault, IsBesideUnder, IsBesideFrom, IsWayFrom, IsFaultFrom, found_under}

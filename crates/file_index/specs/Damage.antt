@@ -7,9 +7,9 @@ use Rattle.ex_base.specs.declared.faults.PortFault.TheVariants.{Disk, Memory, Da
 use Rattle.ex_base.specs.declared.geometry.Geometry.{Geometry}
 use Rattle.ex_base.specs.declared.names.PageNo.{PageNo}
 use Rattle.ex_base.specs.Ports.{IsDamage}
-use Rattle.index_pages.specs.declared.Entry.{Entry}
-use Rattle.index_pages.specs.IndexPage.{EntriesOf, level_on, entries_on}
-use Rattle.index_pages.specs.declared.Index.{Index}
+use Rattle.file_index.specs.declared.Entry.{Entry}
+use Rattle.file_index.specs.IndexPage.{EntriesOf, level_on, entries_on}
+use Rattle.ex_base.specs.declared.names.Index.{Index}
 use Rattle.file_index.specs.Index.{IsFilesPage, IsNamed, least_entries, seen, key_seen}
 use Rattle.file_index.specs.Least.{page_no, pick}
 use Rattle.file_index.specs.Nodes.{first_key}

@@ -3,8 +3,8 @@ use Rattle.std.specs.Prelude.{◌≡◌, ◌≤◌, ◌+◌, ℕ, true, List, []
 use Rattle.std.specs.List.{flat_map, AllByRecursion}
 use Rattle.ex_base.specs.declared.ground.Ground as ground
 use Rattle.ex_base.specs.Ports.{times}
-use Rattle.index_pages.specs.declared.Entry.{Entry}
-use Rattle.index_pages.specs.declared.Index.{Index}
+use Rattle.file_index.specs.declared.Entry.{Entry}
+use Rattle.ex_base.specs.declared.names.Index.{Index}
 use Rattle.file_index.specs.Changes.{Changes, count_of}
 use Rattle.file_index.specs.Index.{IsUnder, IsIndex, Rises, keys_under, pages_under, keys_of, pages_of, HasRoot}
 use Rattle.std.specs.Prelude.{Some}

@@ -8,8 +8,8 @@ use Rattle.ex_base.specs.Seen.{index_seen}
 use Rattle.ex_base.specs.Area.{InPageArea, catalog_no}
 use Rattle.ex_base.specs.Order.{Rising}
 use Rattle.ex_base.specs.Ports.{times}
-use Rattle.index_pages.specs.declared.Entry.{Entry}
-use Rattle.index_pages.specs.IndexPage.{EntriesOf, entries_on, most_entries}
+use Rattle.file_index.specs.declared.Entry.{Entry}
+use Rattle.file_index.specs.IndexPage.{EntriesOf, entries_on, most_entries}
 
 -- the page may be one of a file: it lies in the page area and is not the catalog
 abbrev pub IsFilesPage : Geometry → ℕ → Type 0

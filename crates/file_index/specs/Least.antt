@@ -1,7 +1,7 @@
 -- The least file page that is not below a key.
 use Rattle.std.specs.Prelude.{◌≤◌, ◌<◌, ℕ, List, [], ◌∷◌, Option, Some, None, nat_lt, if◌then◌else◌, Contains}
 use Rattle.ex_base.specs.declared.names.PageNo.{PageNo}
-use Rattle.index_pages.specs.declared.Entry.{Entry}
+use Rattle.file_index.specs.declared.Entry.{Entry}
 use Rattle.file_index.specs.declared.step.Step.{Step}
 
 -- the least of the pages that is not below the key; none where there is none

@@ -6,3 +6,5 @@ pub mod Edits
 pub mod Index
 pub mod Least
 pub mod Nodes
+pub mod IndexPage
+pub mod Reads

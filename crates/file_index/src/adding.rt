@@ -3,8 +3,8 @@ ghost use Rattle.std.specs.Prelude.{◌≡◌, ◌≤◌, ◌<◌, ◌+◌, ◌-
 ghost use Rattle.ex_base.specs.declared.names.Area.TheVariants.{Page, Segment};
 ghost use Rattle.ex_base.specs.Area.{catalog_no};
 ghost use Rattle.ex_base.specs.Ports.{HasCause, IsDamage};
-ghost use Rattle.index_pages.specs.IndexPage.{most_entries};
-ghost use Rattle.index_pages.specs.declared.Index.{Index};
+ghost use Rattle.file_index.specs.IndexPage.{most_entries};
+ghost use Rattle.ex_base.specs.declared.names.Index.{Index};
 ghost use Rattle.file_index.specs.Index.{IsFilesPage, HasRoot, HasPlacedRoot};
 ghost use Rattle.file_index.specs.Nodes.{PutsLeaf, leaves_of, IsRootOver};
 ghost use Rattle.file_index.specs.Edits.{IsRow, Becomes, HasIndex, EditsIndex, GrowsTo, put_in};
@@ -12,12 +12,12 @@ ghost use Rattle.file_index.specs.Damage.{IsWayUnder, IsFaultUnder, HasWay, IsIn
 ghost use Rattle.file_index.specs.Touches.{TouchesAtMost, index_touches, touches_below};
 ghost use Rattle.file_index.specs.Taking.{OnlyTakes};
 
+use crate::Entry;
 use crate::named::{Named, no_index_page};
 use crate::nodes::{entries_at, page_buffer, take_index};
 use crate::rows::{entry_over, place_of, replace_one};
 use crate::storing::store;
-use ex_base::{INDEX_LEVEL_MOST, PageNo, Pages, PortFault};
-use index_pages::{Entry, Index};
+use ex_base::{INDEX_LEVEL_MOST, Index, PageNo, Pages, PortFault};
 use std::alloc::Global;
 
 /// Puts a page of the file beside the one that a key leads to, and answers whether the entries changed.

@@ -1,15 +1,14 @@
 //! The least page of a file that is not below a key.
 ghost use Rattle.std.specs.Prelude.{◌≡◌, ◌≤◌, ℕ, length, IfOk, IfErr, OnOk};
 ghost use Rattle.ex_base.specs.Ports.{Keeps, HasCause, IsDamage};
-ghost use Rattle.index_pages.specs.IndexPage.{entries_on};
+ghost use Rattle.file_index.specs.IndexPage.{entries_on};
 ghost use Rattle.file_index.specs.Index.{IsFilesPage, IsNamed, IsUnder, Rises, keys_under, keys_of, IsIndex, HasRoot};
 ghost use Rattle.file_index.specs.Least.{pick, first_from, IsLeastFrom, IsAtLeast};
 ghost use Rattle.file_index.specs.Damage.{every_page, IsPageFault, IsNamedAt, IsWay, IsWayFault, HasWay, IsIndexFault, found_under, found_in};
 
 use crate::named::{Named, checked, no_index_page};
 use crate::step::{Step, pick};
-use ex_base::{PageNo, PortFault, ReadPages};
-use index_pages::Index;
+use ex_base::{Index, PageNo, PortFault, ReadPages};
 use std::alloc::Global;
 
 /// The entry of an index page that a key leads to.

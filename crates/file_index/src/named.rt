@@ -1,16 +1,16 @@
 //! One index page and what names it.
 ghost use Rattle.std.specs.Prelude.{◌≡◌, ◌≢◌, ◌≤◌, ℕ, Bool, length, IfOk, IfErr};
 ghost use Rattle.ex_base.specs.Ports.{IsDamage, Cause, HasCause};
-ghost use Rattle.index_pages.specs.IndexPage.{indexed_on, most_entries};
+ghost use Rattle.file_index.specs.IndexPage.{indexed_on, most_entries};
 ghost use Rattle.ex_base.specs.declared.geometry.Geometry.{Geometry};
 ghost use Rattle.ex_base.specs.declared.faults.PortFault.TheVariants.{Damaged};
 ghost use Rattle.file_index.specs.Index.{IsFilesPage, IsNamed, least_entries, seen, key_seen};
 ghost use Rattle.ex_base.specs.Seen.{nothing_seen};
 ghost use Rattle.file_index.specs.Damage.{IsPageFault};
 
+use crate::view::IndexView;
+use crate::{ENTRIES_AT, ENTRY_BYTES};
 use ex_base::{PageNo, PortFault, Seen};
-use index_pages::view::IndexView;
-use index_pages::{ENTRIES_AT, ENTRY_BYTES};
 
 /// What names an index page.
 #[derive(Clone, Copy, Debug, PartialEq, Eq)]

@@ -3,7 +3,7 @@ ghost use Rattle.std.specs.Prelude.{◌≡◌, ◌⊎◌, ◌≤◌, ◌<◌, �
 ghost use Rattle.ex_base.specs.declared.names.Area.TheVariants.{Page};
 ghost use Rattle.ex_base.specs.Area.{catalog_no};
 ghost use Rattle.ex_base.specs.Ports.{Keeps, HasCause, IsDamage};
-ghost use Rattle.index_pages.specs.IndexPage.{entries_on, most_entries};
+ghost use Rattle.file_index.specs.IndexPage.{entries_on, most_entries};
 ghost use Rattle.file_index.specs.Index.{IsFilesPage, IsNamed, least_entries};
 ghost use Rattle.file_index.specs.Changes.{Changes};
 ghost use Rattle.file_index.specs.Nodes.{IsWritten};
@@ -11,10 +11,10 @@ ghost use Rattle.file_index.specs.Damage.{IsPageFault};
 ghost use Rattle.file_index.specs.Touches.{TouchesAtMost};
 ghost use Rattle.file_index.specs.Taking.{OnlyTakes};
 
+use crate::Entry;
 use crate::named::{Named, checked, no_index_page};
+use crate::write::write_index;
 use ex_base::{PageNo, Pages, PortFault, ReadPages};
-use index_pages::Entry;
-use index_pages::write::write_index;
 use std::alloc::Global;
 
 /// Zeros, as many as a page has bytes.

@@ -3,7 +3,7 @@ ghost use Rattle.std.specs.Prelude.{◌≡◌, ◌⊎◌, ◌≢◌, ◌≤◌, 
 ghost use Rattle.ex_base.specs.declared.names.Area.TheVariants.{Page, Segment};
 ghost use Rattle.ex_base.specs.Area.{catalog_no};
 ghost use Rattle.ex_base.specs.Ports.{HasCause, IsDamage};
-ghost use Rattle.index_pages.specs.IndexPage.{most_entries};
+ghost use Rattle.file_index.specs.IndexPage.{most_entries};
 ghost use Rattle.file_index.specs.Changes.{Changes};
 ghost use Rattle.file_index.specs.Index.{IsFilesPage, HasRoot};
 ghost use Rattle.file_index.specs.Nodes.{IsWritten, RemovesLeaf, first_key};
@@ -12,12 +12,12 @@ ghost use Rattle.file_index.specs.Damage.{IsWayUnder, IsFaultUnder, IsBesideUnde
 ghost use Rattle.file_index.specs.Touches.{TouchesAtMost, index_touches, touches_below};
 ghost use Rattle.file_index.specs.Taking.{OnlyGives};
 
+use crate::Entry;
 use crate::named::{Named, most_entries, no_index_page};
 use crate::nodes::{entries_at, page_buffer, put_index};
 use crate::rows::{place_of, replace_one, replace_two};
 use crate::spreading::{Pair, spread};
-use ex_base::{PageNo, Pages, PortFault};
-use index_pages::{Entry, Index};
+use ex_base::{Index, PageNo, Pages, PortFault};
 use std::alloc::Global;
 
 /// Takes a page of the file out of the entries, where it is the key's, and answers whether they changed.

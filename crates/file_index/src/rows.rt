@@ -4,8 +4,8 @@ ghost use Rattle.ex_base.specs.Ports.{IsDamage, HasCause};
 ghost use Rattle.file_index.specs.Nodes.{IsPlace, entries_of, first_key};
 ghost use Rattle.file_index.specs.Damage.{place_in};
 
+use crate::Entry;
 use ex_base::{PageNo, PortFault};
-use index_pages::Entry;
 
 /// The last entry whose key is not above the key, else the first one.
 pub fn place_of(entries: &[Entry], key: u32) -> usize

@@ -3,7 +3,7 @@ ghost use Rattle.std.specs.Prelude.{◌≡◌, ◌≢◌, ◌≤◌, ◌<◌, �
 ghost use Rattle.ex_base.specs.declared.names.Area.TheVariants.{Page};
 ghost use Rattle.ex_base.specs.Area.{catalog_no};
 ghost use Rattle.ex_base.specs.Ports.{HasCause, IsDamage};
-ghost use Rattle.index_pages.specs.IndexPage.{entries_on, most_entries};
+ghost use Rattle.file_index.specs.IndexPage.{entries_on, most_entries};
 ghost use Rattle.file_index.specs.Changes.{Changes};
 ghost use Rattle.file_index.specs.Index.{IsFilesPage, IsNamed};
 ghost use Rattle.file_index.specs.Damage.{IsPageFault};
@@ -11,11 +11,11 @@ ghost use Rattle.file_index.specs.Nodes.{Stored, heads, entries_of, first_key, j
 ghost use Rattle.file_index.specs.Touches.{TouchesAtMost};
 ghost use Rattle.file_index.specs.Taking.{OnlyGives};
 
+use crate::Entry;
 use crate::named::{Named, most_entries};
 use crate::nodes::{entries_at, put_index};
 use crate::storing::left_part;
 use ex_base::{PageNo, Pages, PortFault};
-use index_pages::Entry;
 use std::alloc::Global;
 
 /// Two pages side by side, one of which has too few entries.

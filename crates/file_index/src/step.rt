@@ -1,11 +1,11 @@
 //! The entry that a key leads to.
 ghost use Rattle.std.specs.Prelude.{◌≡◌, ◌≤◌, ◌<◌, length, Some, drop};
-ghost use Rattle.index_pages.specs.IndexPage.{Indexed};
+ghost use Rattle.file_index.specs.IndexPage.{Indexed};
 ghost use Rattle.file_index.specs.Least.{pick, IsAtLeast};
 
+use crate::Entry;
+use crate::view::IndexView;
 use ex_base::PageNo;
-use index_pages::Entry;
-use index_pages::view::IndexView;
 
 /// The entry that a key leads to, and the first file page behind all that it leads to.
 #[derive(Clone, Copy, Debug, PartialEq, Eq)]

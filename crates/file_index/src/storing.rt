@@ -3,17 +3,17 @@ ghost use Rattle.std.specs.Prelude.{◌≡◌, ◌≢◌, ◌≤◌, ◌<◌, �
 ghost use Rattle.ex_base.specs.declared.names.Area.TheVariants.{Page};
 ghost use Rattle.ex_base.specs.Area.{catalog_no};
 ghost use Rattle.ex_base.specs.Ports.{HasCause, IsDamage};
-ghost use Rattle.index_pages.specs.IndexPage.{most_entries};
+ghost use Rattle.file_index.specs.IndexPage.{most_entries};
 ghost use Rattle.file_index.specs.Index.{IsFilesPage};
 ghost use Rattle.file_index.specs.Changes.{Changes};
 ghost use Rattle.file_index.specs.Nodes.{Stored, left_part, heads, entries_of};
 ghost use Rattle.file_index.specs.Touches.{TouchesAtMost};
 ghost use Rattle.file_index.specs.Taking.{OnlyTakes};
 
+use crate::Entry;
 use crate::named::{Named, most_entries};
 use crate::nodes::{put_index, take_index};
 use ex_base::{Pages, PortFault};
-use index_pages::Entry;
 use std::alloc::Global;
 
 /// How many of so many entries stand on the left one of two pages.

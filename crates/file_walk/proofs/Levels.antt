@@ -5,8 +5,8 @@ use Rattle.ex_base.specs.declared.geometry.Geometry.{Geometry}
 use Rattle.ex_base.specs.Ports.{times}
 use Rattle.ex_base.proofs.Rows.{each-append}
 use Rattle.ex_base.proofs.Counts.{times_here}
-use Rattle.index_pages.specs.declared.Entry.{Entry}
-use Rattle.index_pages.specs.IndexPage.{entries_on}
+use Rattle.file_index.specs.declared.Entry.{Entry}
+use Rattle.file_index.specs.IndexPage.{entries_on}
 use Rattle.file_index.specs.Edits.{keys_among, pages_among}
 use Rattle.file_index.specs.Index.{IsFilesPage, IsNamed, HasKey, IsUnder, keys_under, pages_under}
 use Rattle.file_index.proofs.Counts.{count_is}

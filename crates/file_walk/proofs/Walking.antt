@@ -11,8 +11,8 @@ use Rattle.ex_base.specs.Ports.{times}
 use Rattle.ex_base.proofs.Rows.{each-append}
 use Rattle.ex_base.proofs.Counts.{times-append}
 use Rattle.page_alloc.specs.UnitSet.{UnitSet, used_at}
-use Rattle.index_pages.specs.declared.Entry.{Entry}
-use Rattle.index_pages.specs.IndexPage.{entries_on}
+use Rattle.file_index.specs.declared.Entry.{Entry}
+use Rattle.file_index.specs.IndexPage.{entries_on}
 use Rattle.file_index.specs.Edits.{keys_among, pages_among}
 use Rattle.file_index.specs.Index.{IsFilesPage, IsNamed, HasKey, keys_under, pages_under, keys_of, pages_of}
 use Rattle.file_index.proofs.Counts.{count_most}

@@ -2,12 +2,12 @@
 ghost use Rattle.std.specs.Prelude.{◌≡◌, ◌≤◌, length, IfSome, IfNone, IfOk, IfErr, OnSome, IsTrue, ◌↔◌};
 ghost use Rattle.ex_base.specs.Area.{InPageArea};
 ghost use Rattle.ex_base.specs.Ports.{Keeps, HasCause, IsDamage};
-ghost use Rattle.index_pages.specs.IndexPage.{indexed_on, entries_on};
+ghost use Rattle.file_index.specs.IndexPage.{indexed_on, entries_on};
 ghost use Rattle.file_index.specs.Index.{IsNamed, HasKey, least_entries};
 
 use ex_base::{PageNo, PortFault, ReadPages};
-use index_pages::view::IndexView;
-use index_pages::{ENTRIES_AT, ENTRY_BYTES, Entry};
+use file_index::view::IndexView;
+use file_index::{ENTRIES_AT, ENTRY_BYTES, Entry};
 use std::alloc::Global;
 
 /// The least number of entries of a root.

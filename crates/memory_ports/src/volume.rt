@@ -63,7 +63,7 @@ fn fresh_flags(alloc: Global, geometry: &Geometry) -> Result<Vec<bool>, AllocErr
 impl Ground for MemoryVolume {
     ghost use Rattle.std.proofs.Common.{le_refl};
     ghost use Rattle.page_alloc.specs.UnitSet.{used_at, refs_at, free_count};
-    ghost use Rattle.count_nodes.specs.Names.{names_on};
+    ghost use Rattle.trees.specs.Names.{names_on};
     ghost use Rattle.tree_store.specs.Stored.{unit_bytes};
     ghost use Rattle.memory_ports.specs.InMemory.{IsVolume, Follows, follows_same, follows_on, image_in, leaf_in};
 

@@ -4,8 +4,8 @@ use Rattle.std.proofs.lemmas.Nat.{mul-le}
 use Rattle.std.specs.List.{AllByRecursion}
 use Rattle.ex_base.specs.declared.geometry.Geometry.{Geometry}
 use Rattle.ex_base.specs.Sizes.{leaf_bytes, least_page}
-use Rattle.count_nodes.specs.declared.Pair.{Pair}
-use Rattle.count_nodes.specs.Node.{pairs_on}
+use Rattle.trees.specs.declared.Pair.{Pair}
+use Rattle.trees.specs.Node.{pairs_on}
 use Rattle.trees.specs.Shape.{IsHalfFull, IsRoot}
 use Rattle.trees.specs.Trees.{Units, IsNamed, HasSize, EachChild, for_each_child, shape_on}
 use Rattle.trees.specs.declared.rows.Part.{Part}

@@ -5,9 +5,9 @@ use Rattle.ex_base.specs.declared.geometry.Geometry.{Geometry}
 use Rattle.ex_base.specs.Area.{InPageArea}
 use Rattle.ex_base.specs.Ports.{times, refs_most}
 use Rattle.ex_base.proofs.Counts.{none_or_some, same_or_not, not_equal, times-append, times_here, times_apart}
-use Rattle.count_nodes.specs.declared.Pair.{Pair}
-use Rattle.count_nodes.specs.Names.{page_of_pair}
-use Rattle.count_nodes.specs.Node.{pairs_on}
+use Rattle.trees.specs.declared.Pair.{Pair}
+use Rattle.trees.specs.Names.{page_of_pair}
+use Rattle.trees.specs.Node.{pairs_on}
 use Rattle.trees.specs.Owners.{StandsAt, named_on, all_named}
 use Rattle.trees.specs.Trees.{Units}
 use Rattle.trees.specs.declared.rows.Part.{Part}

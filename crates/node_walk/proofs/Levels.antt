@@ -6,9 +6,9 @@ use Rattle.ex_base.specs.declared.geometry.Geometry.{Geometry}
 use Rattle.ex_base.specs.Area.{InPageArea, NamesLeaf}
 use Rattle.ex_base.specs.Sizes.{most_page}
 use Rattle.ex_base.proofs.Members.{contains_later, contains_none}
-use Rattle.count_nodes.specs.declared.Pair.{Pair}
-use Rattle.count_nodes.specs.Node.{PairsOf, pairs_on}
-use Rattle.count_nodes.proofs.NodeLaws.{spelled_reads}
+use Rattle.trees.specs.declared.Pair.{Pair}
+use Rattle.trees.specs.Node.{PairsOf, pairs_on}
+use Rattle.trees.proofs.NodeLaws.{spelled_reads}
 use Rattle.trees.specs.Owners.{StandsAt}
 use Rattle.trees.specs.Trees.{Units, IsNamed, units_on}
 use Rattle.trees.specs.declared.rows.Part.{Part}

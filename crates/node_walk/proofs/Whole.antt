@@ -7,8 +7,8 @@ use Rattle.ex_base.specs.declared.geometry.Geometry.{Geometry}
 use Rattle.ex_base.proofs.Members.{contains_cases, contains_none}
 use Rattle.ex_base.specs.Area.{InPageArea}
 use Rattle.ex_base.proofs.Each.{each_as, each_mapped, each_with}
-use Rattle.count_nodes.specs.Names.{page_of_pair}
-use Rattle.count_nodes.specs.Node.{pairs_on}
+use Rattle.trees.specs.Names.{page_of_pair}
+use Rattle.trees.specs.Node.{pairs_on}
 use Rattle.trees.specs.Owners.{IsInner, StandsAt}
 use Rattle.trees.specs.Trees.{Units, IsNamed, units_on}
 use Rattle.trees.specs.declared.rows.Part.{Part}

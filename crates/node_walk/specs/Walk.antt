@@ -5,7 +5,7 @@ use Rattle.ex_base.specs.declared.geometry.Geometry.{Geometry}
 use Rattle.ex_base.specs.declared.names.PageNo.{PageNo}
 use Rattle.ex_base.specs.declared.names.Root.{Root}
 use Rattle.ex_base.specs.Sizes.{leaf_bytes, object_most}
-use Rattle.count_nodes.specs.Node.{PairsOf, pairs_on, total_of}
+use Rattle.trees.specs.Node.{PairsOf, pairs_on, total_of}
 use Rattle.page_alloc.specs.UnitSet.{UnitSet, used_at, refs_at}
 use Rattle.trees.specs.Owners.{StandsAt}
 use Rattle.trees.specs.Trees.{Units, IsNamed}

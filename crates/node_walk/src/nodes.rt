@@ -2,14 +2,14 @@
 ghost use Rattle.std.specs.Prelude.{◌≡◌, ◌↔◌, ◌≤◌, ℕ, List, IsTrue, IfOk, IfErr, IfSome, IfNone};
 ghost use Rattle.ex_base.specs.Area.{NamesLeaf, InPageArea};
 ghost use Rattle.ex_base.specs.Ports.{Keeps, HasCause, IsDamage};
-ghost use Rattle.count_nodes.specs.declared.Pair.{Pair};
-ghost use Rattle.count_nodes.specs.Node.{PairsOf, RiseFrom};
+ghost use Rattle.trees.specs.declared.Pair.{Pair};
+ghost use Rattle.trees.specs.Node.{PairsOf, RiseFrom};
 ghost use Rattle.trees.specs.Rows.{parts_of};
 ghost use Rattle.node_walk.specs.Walk.{IsNodeOn};
 
-use count_nodes::view::NodeView;
 use ex_base::{Geometry, PageNo, PortFault, ReadPages};
 use std::alloc::{AllocError, Global};
+use trees::view::NodeView;
 use trees::{Part, put};
 
 /// What is noted of a unit of a tree: its level, and of a node its bytes and the number of its pairs.

@@ -10,9 +10,7 @@ use crate::{
     CATALOG, COUNT, ENTRY_LEN, FILE_NO, FIRST_UNIQUE, HEAD_LEN, KIND, LAST, LEVEL, NAME,
     NEXT_UNIQUE, ROOT,
 };
-use ex_base::{get_u16, put_bytes, put_page, put_u16, put_u32, put_u64};
-use index_pages::Index;
-use slotted_pages::replace_bytes;
+use ex_base::{Index, get_u16, put_bytes, put_page, put_u16, put_u32, put_u64, replace_bytes};
 
 /// Makes a page the catalog of a fresh volume: no file, next unique number 1, last transaction 0.
 pub fn empty_catalog(image: &mut [u8])

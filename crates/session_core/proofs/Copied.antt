@@ -10,7 +10,7 @@ use Rattle.ex_base.specs.Ports.{IsDamage, Keeps}
 use Rattle.ex_base.specs.declared.names.Place.{Place}
 use Rattle.slotted_pages.specs.Edits.{slots_of}
 use Rattle.file_bodies.specs.Bodies.{pages_in}
-use Rattle.index_pages.specs.declared.Index.{Index}
+use Rattle.ex_base.specs.declared.names.Index.{Index}
 use Rattle.file_bodies.specs.Files.{HasBody}
 use Rattle.object_files.specs.Edits.{IsCatalogPage}
 use Rattle.op_log.specs.declared.record.LogRecord.{LogRecord}

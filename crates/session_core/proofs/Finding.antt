@@ -20,7 +20,7 @@ use Rattle.tree_store.specs.Stored.{unit_bytes}
 use Rattle.meta_pages.specs.Overlays.{Overlays, over}
 use Rattle.slotted_pages.specs.FilePage.{Slot, body_of}
 use Rattle.slotted_pages.specs.Edits.{slots_of}
-use Rattle.index_pages.specs.declared.Index.{Index}
+use Rattle.ex_base.specs.declared.names.Index.{Index}
 use Rattle.file_index.specs.Index.{IsFilesPage}
 use Rattle.file_index.proofs.Heights.{keys_of_pages}
 use Rattle.file_bodies.specs.Bodies.{bodies_of, pages_in}

@@ -9,7 +9,7 @@ use Rattle.ex_base.specs.Ports.{IsDamage}
 use Rattle.ex_base.proofs.Members.{In, in_contains}
 use Rattle.disk_model.specs.Outside.{Outside}
 use Rattle.buffer_groups.specs.Frames.{Frames}
-use Rattle.index_pages.specs.declared.Index.{Index}
+use Rattle.ex_base.specs.declared.names.Index.{Index}
 use Rattle.file_bodies.specs.Bodies.{Row, bodies_of}
 use Rattle.file_bodies.specs.Files.{HasFile}
 use Rattle.object_files.specs.Catalog.{FileEntry}

@@ -1,10 +1,10 @@
 -- A port over the volume of a session.
 use Rattle.std.proofs.Common.{◌≡◌, ℕ, List, map, Option, arith}
 use Rattle.ex_base.specs.Sizes.{most_page}
-use Rattle.count_nodes.specs.declared.Pair.{Pair}
-use Rattle.count_nodes.specs.Names.{names_on, page_of_pair}
-use Rattle.count_nodes.specs.Node.{PairsOf}
-use Rattle.count_nodes.proofs.NameLaws.{names_of_node}
+use Rattle.trees.specs.declared.Pair.{Pair}
+use Rattle.trees.specs.Names.{names_on, page_of_pair}
+use Rattle.trees.specs.Node.{PairsOf}
+use Rattle.trees.proofs.NameLaws.{names_of_node}
 use Rattle.ex_base.specs.declared.geometry.Geometry.{Geometry}
 use Rattle.ex_base.specs.declared.ground.Ground as ground
 use Rattle.page_alloc.specs.UnitSet.{free_count, refs_at, used_at}

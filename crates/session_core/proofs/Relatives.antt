@@ -9,7 +9,7 @@ use Rattle.ex_base.specs.declared.faults.PortFault.{PortFault}
 use Rattle.ex_base.specs.declared.names.Oid.{Oid}
 use Rattle.ex_base.specs.Ports.{IsDamage}
 use Rattle.disk_model.specs.Outside.{Outside}
-use Rattle.index_pages.specs.declared.Index.{Index}
+use Rattle.ex_base.specs.declared.names.Index.{Index}
 use Rattle.file_bodies.specs.Bodies.{bodies_of}
 use Rattle.object_records.specs.Record.{Record}
 use Rattle.version_lists.specs.declared.version.Version.{Version}

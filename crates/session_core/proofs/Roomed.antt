@@ -8,7 +8,7 @@ use Rattle.ex_base.specs.declared.geometry.Geometry.{Geometry}
 use Rattle.ex_base.specs.declared.names.Area.{Area}
 use Rattle.ex_base.specs.declared.names.Oid.{Oid}
 use Rattle.ex_base.specs.declared.names.Root.{Root}
-use Rattle.index_pages.specs.declared.Index.{Index}
+use Rattle.ex_base.specs.declared.names.Index.{Index}
 use Rattle.object_records.specs.Record.{Content, Small, Large, Record}
 use Rattle.object_records.specs.declared.Head.{Head}
 use Rattle.session_core.specs.TableUpdates.{Asks, Changes, Derives, Drops, Freezes, HasRoom, Makes, Removes, TableUpdate, TakesForChange, TakesNeed}

@@ -11,8 +11,8 @@ use Rattle.ex_base.specs.declared.names.Root.{Root}
 use Rattle.ex_base.specs.Area.{InPageArea}
 use Rattle.ex_base.proofs.Each.{split_each}
 use Rattle.disk_model.specs.Outside.{Outside}
-use Rattle.count_nodes.specs.declared.Pair.{Pair}
-use Rattle.count_nodes.specs.Node.{pairs_on}
+use Rattle.trees.specs.declared.Pair.{Pair}
+use Rattle.trees.specs.Node.{pairs_on}
 use Rattle.trees.specs.Shape.{Subtree, leaves_of}
 use Rattle.trees.specs.Trees.{Units, IsNamed, RootNamed, RootSpells, for_each_child, root_shape, root_shape_at, root_units_at, shape_on, units_on}
 use Rattle.object_records.specs.Record.{Content, Large, Record}

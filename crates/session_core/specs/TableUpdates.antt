@@ -7,7 +7,7 @@ use Rattle.ex_base.specs.declared.names.Oid.{Oid}
 use Rattle.ex_base.specs.declared.names.Root.{Root}
 use Rattle.ex_base.specs.Ports.{IsDamage}
 use Rattle.op_log.specs.declared.record.LogRecord.{LogRecord}
-use Rattle.index_pages.specs.declared.Index.{Index}
+use Rattle.ex_base.specs.declared.names.Index.{Index}
 use Rattle.object_files.specs.Catalog.{FileEntry}
 use Rattle.object_records.specs.Record.{Content}
 use Rattle.object_records.specs.declared.Head.{Head}

@@ -5,31 +5,10 @@ use Rattle.ex_base.specs.Bytes.{bytes_at, written}
 use Rattle.ex_base.specs.Fields.{two_bytes, zeros, number_at}
 use Rattle.ex_base.proofs.FieldLaws.{two_is, number_at-drop}
 use Rattle.ex_base.proofs.Places.{written_next}
+use Rattle.ex_base.proofs.Splices.{length-written, take-written, drop-written, drop-written-at}
 use Rattle.slotted_pages.specs.Reads.{added, read_lens}
 use Rattle.slotted_pages.specs.Edits.{begin_read, len_field, directory_of}
 use Rattle.slotted_pages.proofs.LoopLaws.{lens_more, sum_more}
-
--- ---- what a written field leaves
-
-pub length-written : (x f : List ℕ) (at : ℕ) → at + length f ≤ length x → length (written x at f) ≡ length x
-length-written x f at fits = omega (arith, length-append (take at x ++ f) (drop (at + length f) x), length-append (take at x) f, length-take at x, length-drop (at + length f) x)
-
-pub take-written : (x f : List ℕ) (at m : ℕ) → m ≤ at → at ≤ length x → take m (written x at f) ≡ take m x
-take-written x f at m le fits =
-    let len : m ≤ length (take at x) = omega (arith, length-take at x) in
-    ap (take m) (append_assoc (take at x) f (drop (at + length f) x)) ∙ take-append-le m (take at x) (f ++ drop (at + length f) x) len ∙ take-take m at x le
-
-pub drop-written : (x f : List ℕ) (at m : ℕ) → at + length f ≤ m → m ≤ length x → drop m (written x at f) ≡ drop m x
-drop-written x f at m le fits =
-    let len : length (take at x ++ f) ≡ at + length f = omega (arith, length-append (take at x) f, length-take at x) in
-    let count : at + length f + (m - (at + length f)) ≡ m = omega arith in
-    ap (λ (k : ℕ). drop k (written x at f)) (sym count) ∙ sym (drop-drop (m - (at + length f)) (at + length f) (written x at f))
-    ∙ ap (λ (t : List ℕ). drop (m - (at + length f)) t) (drop_at (take at x ++ f) (drop (at + length f) x) (at + length f) len)
-    ∙ drop-drop (m - (at + length f)) (at + length f) x ∙ ap (λ (k : ℕ). drop k x) count
-
-pub drop-written-at : (x f : List ℕ) (at : ℕ) → at ≤ length x → drop at (written x at f) ≡ f ++ drop (at + length f) x
-drop-written-at x f at fits =
-    ap (drop at) (append_assoc (take at x) f (drop (at + length f) x)) ∙ drop_at (take at x) (f ++ drop (at + length f) x) at (omega (arith, length-take at x))
 
 -- a bytes_at in front of m
 pub part_front : (a b : List ℕ) (m at n : ℕ) → take m a ≡ take m b → at + n ≤ m → m ≤ length a → m ≤ length b → bytes_at a at n ≡ bytes_at b at n
@@ -56,23 +35,6 @@ number_behind a b m at e le =
   where
     one : (x : List ℕ) → m + (at - m) ≡ at → number_at 2 x at ≡ number_at 2 (drop (at - m) (drop m x)) 0
     one x count = number_at-drop 2 x at ∙ ap (λ (t : List ℕ). number_at 2 t 0) (ap (λ (k : ℕ). drop k x) (sym count) ∙ sym (drop-drop (at - m) m x))
-
--- ---- bytes that are replaced
-
-pub replaced : (x body tail : List ℕ) (start tlen limit : ℕ) → length tail ≡ tlen → start + length body + tlen ≤ limit → limit ≤ length x → written (written (written x (start + length body) tail) start body) (start + length body + tlen) (zeros (limit - (start + length body + tlen))) ≡ take start x ++ body ++ tail ++ zeros (limit - (start + length body + tlen)) ++ drop limit x
-replaced x body tail start tlen limit len fits room =
-    let behind : ℕ = start + length body in
-    let end : ℕ = start + length body + tlen in
-    let moved : List ℕ = written x (start + length body) tail in
-    let first : length (take start x) ≡ start = omega (arith, length-take start x) in
-    let front : take start (written x (start + length body) tail) ≡ take start x = take-written x tail (start + length body) start (omega arith) (omega arith) in
-    let rest : drop (start + length body) (written x (start + length body) tail) ≡ tail ++ drop (start + length body + tlen) x =
-    drop-written-at x tail (start + length body) (omega arith) ∙ ap (λ (k : ℕ). tail ++ drop (start + length body + k) x) len in
-    let put : written (written x (start + length body) tail) start body ≡ (take start x ++ body ++ tail) ++ drop (start + length body + tlen) x =
-    ap (λ (t : List ℕ). t ++ body ++ drop (start + length body) (written x (start + length body) tail)) front ∙ ap (λ (t : List ℕ). (take start x ++ body) ++ t) rest ∙ sym (append_assoc (take start x ++ body) tail (drop (start + length body + tlen) x)) in
-    let all : length (take start x ++ body ++ tail) ≡ start + length body + tlen = omega (arith, first, len, length-append (take start x ++ body) tail, length-append (take start x) body) in
-    ap (λ (t : List ℕ). written t (start + length body + tlen) (zeros (limit - (start + length body + tlen)))) put
-    ∙ written_next (take start x ++ body ++ tail) (zeros (limit - (start + length body + tlen))) x (start + length body + tlen) limit all (omega (arith, length-replicate {A = ℕ} (limit - (start + length body + tlen)) 0))
 
 -- ---- one field, and the directory
 

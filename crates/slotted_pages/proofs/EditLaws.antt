@@ -14,7 +14,8 @@ use Rattle.slotted_pages.specs.Edits.{with_slot, with_slots, slot_with, Left, le
 use Rattle.slotted_pages.proofs.PageLaws.{len_of, parts_of, slots_read, slots_back, page_fields, length-directory}
 use Rattle.slotted_pages.proofs.ViewLaws.{total_len}
 use Rattle.slotted_pages.proofs.LoopLaws.{lens_more}
-use Rattle.slotted_pages.proofs.BytesLaws.{length-written, take-written, drop-written, drop-written-at, part_front, number_front, number_behind, begin_some}
+use Rattle.ex_base.proofs.Splices.{length-written, take-written, drop-written, drop-written-at}
+use Rattle.slotted_pages.proofs.BytesLaws.{part_front, number_front, number_behind, begin_some}
 
 -- ---- the lengths on a page
 

@@ -5,10 +5,10 @@ ghost use Rattle.slotted_pages.specs.FilePage.{SlotsOf, room_of};
 ghost use Rattle.slotted_pages.specs.Reads.{IsPage, page_on};
 ghost use Rattle.slotted_pages.specs.Edits.{with_slot, with_slots, slots_of, body_in, slot_with, trimmed, place_for, Left};
 
-use crate::bytes::{replace_bytes, write_directory};
+use crate::bytes::write_directory;
 use crate::reads::{count_without, first_vacant, len_below, len_in, lens_end, room_in};
 use crate::{COUNT, FIELD_LEN, FILE_NO, FILE_PAGE, KIND, LENGTH};
-use ex_base::{get_u16, put_u16, put_u32};
+use ex_base::{get_u16, put_u16, put_u32, replace_bytes};
 
 /// Makes a page a file page without slots.
 pub fn empty_page(image: &mut [u8], file_no: u32)

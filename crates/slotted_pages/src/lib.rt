@@ -12,7 +12,6 @@ mod reads;
 mod view;
 mod whole;
 
-pub use bytes::replace_bytes;
 pub use edit::{empty_page, insert_body, remove_body, resize_body};
 pub use view::SlottedView;
 pub use whole::{SlotBody, write_slots};

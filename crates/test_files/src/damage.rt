@@ -4,10 +4,9 @@ ghost use Rattle.ex_base.specs.Area.{InPageArea};
 
 use crate::bodies::{FILE, PAGE, write_catalog};
 use crate::index::{FIRST_PAGE, NO_PAGES, fits};
-use ex_base::{Area, Geometry, PageNo, Place, PortFault, ReadVolume, Seen, Volume, get_u32};
+use ex_base::{Area, Geometry, Index, PageNo, Place, PortFault, ReadVolume, Seen, Volume, get_u32};
 use file_bodies::{Room, change_body, next_place, place_body, remove_from_file};
 use file_index::{at_least, remove};
-use index_pages::Index;
 use memory_ports::MemoryVolume;
 use std::alloc::Global;
 use std::process::Abort;

@@ -1,9 +1,8 @@
 ghost use Rattle.std.specs.Prelude.{◌≤◌, IsTrue};
 ghost use Rattle.file_index.specs.Index.{HasRoot};
 
-use ex_base::{Area, Geometry, PageNo, ReadVolume, Volume};
+use ex_base::{Area, Geometry, Index, PageNo, ReadVolume, Volume};
 use file_index::{add, at_least, remove};
-use index_pages::Index;
 use memory_ports::MemoryVolume;
 use std::alloc::Global;
 use std::process::Abort;

@@ -5,8 +5,6 @@ ghost use Rattle.object_records.specs.Record.{IsRootField};
 ghost use Rattle.page_alloc.specs.UnitSet.{refs_at};
 ghost use Rattle.node_walk.specs.declared.ObjectRoot.{ObjectRoot as RootOfObject};
 
-use count_nodes::Pair;
-use count_nodes::write::write_node;
 use ex_base::{Geometry, OBJECT_MOST, PageNo, ReadVolume, Root, Volume};
 use memory_ports::{MemoryVolume, put_at};
 use node_walk::{ObjectRoot, walk_trees};
@@ -15,6 +13,8 @@ use session_views::{OpenFault, Part};
 use std::alloc::Global;
 use std::process::Abort;
 use std::test::Fail;
+use trees::Pair;
+use trees::write::write_node;
 
 /// A node that is written: its page, its level, and the counts and pages of its pairs. At page 0 there is no pair, and no node.
 type NodeRow = (u32, u8, [(u32, u32); 2]);

@@ -3,14 +3,14 @@
 use crate::tests::{
     LENGTHS_MOST, Object, fresh, grown, leaves_of, replaced, shortened, spells, walk,
 };
-use count_nodes::names::{name_at, names_len};
-use count_nodes::width::Width;
 use ex_base::{Area, Blocks, OBJECT_MOST, PageNo, PortFault, Root, Seen};
 use std::alloc::Global;
 use std::process::Abort;
 use std::test::Fail;
 use tree_insert::{leaf_lengths, read};
 use trees::is_root_for;
+use trees::names::{name_at, names_len};
+use trees::width::Width;
 
 /// A tree below a node: how many bytes it spells, and its page.
 #[derive(Clone, Copy)]

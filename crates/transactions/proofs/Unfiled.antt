@@ -14,8 +14,8 @@ use Rattle.ex_base.specs.Area.{catalog_no}
 use Rattle.ex_base.specs.Order.{AllDiffer, RisingTexts}
 use Rattle.ex_base.proofs.Lists.{texts_tail}
 use Rattle.op_log.specs.declared.record.LogRecord.{LogRecord}
-use Rattle.index_pages.specs.declared.Entry.{Entry}
-use Rattle.index_pages.specs.IndexPage.{entries_on}
+use Rattle.file_index.specs.declared.Entry.{Entry}
+use Rattle.file_index.specs.IndexPage.{entries_on}
 use Rattle.slotted_pages.specs.FilePage.{FilePage, Slot, EndsLive}
 use Rattle.file_index.specs.Index.{IsUnder, IsRoot, keys_under, keys_of, pages_of}
 use Rattle.object_files.specs.Catalog.{FileEntry, name_of}

@@ -11,7 +11,7 @@ use Rattle.ex_base.proofs.Each.{split_each}
 use Rattle.trees.specs.Trees.{Units}
 use Rattle.trees.specs.declared.rows.Part.{Part}
 use Rattle.trees.specs.Damage.{IsNodeAt, IsSoundWay, NamesNode}
-use Rattle.count_nodes.specs.Node.{pairs_on}
+use Rattle.trees.specs.Node.{pairs_on}
 use Rattle.trees.specs.Rows.{IsFilled, IsRowOn, parts_of, row_size}
 use Rattle.trees.proofs.Ways.{way_back}
 use Rattle.trees.specs.Built.{AreSome}

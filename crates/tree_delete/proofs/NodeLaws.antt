@@ -8,9 +8,9 @@ use Rattle.ex_base.specs.Sizes.{object_most}
 use Rattle.ex_base.specs.declared.geometry.Geometry.{Geometry}
 use Rattle.ex_base.specs.declared.ground.Ground as ground
 use Rattle.ex_base.proofs.Rows.{each-append}
-use Rattle.count_nodes.specs.declared.Pair.{Pair}
-use Rattle.count_nodes.specs.Node.{pairs_on}
-use Rattle.count_nodes.specs.Split.{most_pairs}
+use Rattle.trees.specs.declared.Pair.{Pair}
+use Rattle.trees.specs.Node.{pairs_on}
+use Rattle.trees.specs.Split.{most_pairs}
 use Rattle.trees.specs.Shape.{Subtree}
 use Rattle.trees.specs.Trees.{Units, for_each_child, bytes_on, shape_on, units_on}
 use Rattle.trees.specs.declared.rows.Part.{Part}

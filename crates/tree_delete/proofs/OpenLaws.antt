@@ -7,7 +7,7 @@ use Rattle.ex_base.specs.declared.geometry.Geometry.{Geometry}
 use Rattle.ex_base.specs.declared.ground.Ground as ground
 use Rattle.ex_base.proofs.Rows.{each-append}
 use Rattle.ex_base.proofs.Each.{split_each}
-use Rattle.count_nodes.specs.Split.{most_pairs}
+use Rattle.trees.specs.Split.{most_pairs}
 use Rattle.trees.specs.Trees.{Units}
 use Rattle.trees.specs.declared.rows.Part.{Part}
 use Rattle.trees.specs.Rows.{row_size, row_bytes, row_shape, row_units}

@@ -13,8 +13,8 @@ use Rattle.ex_base.specs.Even.{sum_of}
 use Rattle.ex_base.proofs.Rows.{each-append, IsRow, IsRow-as}
 use Rattle.ex_base.proofs.Spread.{least_parts_is}
 use Rattle.ex_base.proofs.Each.{each_as}
-use Rattle.count_nodes.specs.Split.{most_pairs, nodes_for, nodes_over}
-use Rattle.count_nodes.proofs.Nodes.{nodes_over_many, nodes_over_few}
+use Rattle.trees.specs.Split.{most_pairs, nodes_for, nodes_over}
+use Rattle.trees.proofs.Splits.{nodes_over_many, nodes_over_few}
 use Rattle.trees.specs.Shape.{Subtree, IsHalfFull, total}
 use Rattle.trees.specs.Trees.{Units, shape_on}
 use Rattle.trees.specs.declared.rows.Part.{Part}

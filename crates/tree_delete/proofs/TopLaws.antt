@@ -12,8 +12,8 @@ use Rattle.ex_base.specs.declared.ground.Ground as ground
 use Rattle.ex_base.specs.declared.names.PageNo.{PageNo}
 use Rattle.ex_base.specs.declared.names.Root.{Root}
 use Rattle.ex_base.proofs.Rows.{IsRow-as}
-use Rattle.count_nodes.specs.Split.{most_pairs, nodes_over}
-use Rattle.count_nodes.proofs.Nodes.{nodes_over_many, nodes_over_few, fewer_nodes}
+use Rattle.trees.specs.Split.{most_pairs, nodes_over}
+use Rattle.trees.proofs.Splits.{nodes_over_many, nodes_over_few, fewer_nodes}
 use Rattle.trees.specs.Shape.{Subtree, IsHalfFull, IsRoot, IsBalanced, total, rooted}
 use Rattle.trees.specs.Trees.{RootSpells, RootNamed, RootSized, root_shape, root_shape_at, root_bytes_at, root_units, root_units_at, bytes_on, shape_on, units_on}
 use Rattle.trees.proofs.TreeLaws.{length-bytes_on}

@@ -4,7 +4,7 @@ use Rattle.std.specs.List.{AllByRecursion, flat_map}
 use Rattle.ex_base.specs.declared.geometry.Geometry.{Geometry}
 use Rattle.ex_base.specs.Area.{NamesLeaf}
 use Rattle.ex_base.specs.Sizes.{leaf_bytes}
-use Rattle.count_nodes.specs.Node.{pairs_on}
+use Rattle.trees.specs.Node.{pairs_on}
 use Rattle.trees.specs.Trees.{Units}
 use Rattle.trees.specs.declared.rows.Part.{Part}
 use Rattle.trees.specs.Damage.{IsNodeAt}

@@ -5,7 +5,7 @@ use Rattle.ex_base.specs.declared.geometry.Geometry.{Geometry}
 use Rattle.ex_base.specs.declared.ground.Ground as ground
 use Rattle.ex_base.specs.Edits.{deleted}
 use Rattle.ex_base.specs.Sizes.{leaf_bytes, object_most}
-use Rattle.count_nodes.specs.Split.{most_pairs}
+use Rattle.trees.specs.Split.{most_pairs}
 use Rattle.trees.specs.Shape.{Subtree, IsHalfFull}
 use Rattle.trees.specs.Trees.{Units}
 use Rattle.trees.specs.declared.rows.Part.{Part}

@@ -2,7 +2,7 @@
 ghost use Rattle.ex_base.specs.Area.{NamesLeaf};
 ghost use Rattle.std.specs.Prelude.{◌≡◌, ℕ, suc, ◌≤◌, ◌<◌, ◌+◌, ◌-◌, ◌*◌, ◌^◌, length, IfOk, IfErr, OnOk};
 ghost use Rattle.ex_base.specs.Ports.{Keeps, HasCause};
-ghost use Rattle.count_nodes.specs.Split.{most_pairs};
+ghost use Rattle.trees.specs.Split.{most_pairs};
 ghost use Rattle.ex_base.specs.declared.faults.PortFault.{PortFault};
 ghost use Rattle.trees.specs.Damage.{IsWalkFault, IsSoundWay};
 ghost use Rattle.trees.specs.Rows.{row_size};

@@ -1,6 +1,6 @@
 // Cutting a row: down the one or two paths at the ends of the range, and new leaves and nodes on the way back.
 ghost use Rattle.std.specs.Prelude.{◌≡◌, IfErr, ℕ, ◌≤◌, ◌<◌, ◌+◌, ◌-◌, ◌*◌, ◌^◌, length, IfOk, OnOk};
-ghost use Rattle.count_nodes.specs.Split.{most_pairs};
+ghost use Rattle.trees.specs.Split.{most_pairs};
 ghost use Rattle.ex_base.specs.Ports.{HasCause};
 ghost use Rattle.ex_base.specs.Sizes.{leaf_bytes};
 ghost use Rattle.ex_base.specs.declared.names.Area.TheVariants.{Page, Segment};

@@ -13,7 +13,7 @@ use Rattle.ex_base.specs.declared.faults.PortFault.TheVariants.{Disk, Memory, Da
 use Rattle.ex_base.specs.declared.geometry.Geometry.{Geometry}
 use Rattle.ex_base.proofs.Rows.{sum_of-take_drop, each-append}
 use Rattle.ex_base.proofs.Spread.{plain, Between}
-use Rattle.count_nodes.specs.Split.{most_pairs}
+use Rattle.trees.specs.Split.{most_pairs}
 use Rattle.trees.specs.Trees.{Units, bytes_on, shape_on, units_on}
 use Rattle.trees.specs.declared.rows.Part.{Part}
 use Rattle.trees.specs.Damage.{NamesNode, IsWalkFault, AnyPart}

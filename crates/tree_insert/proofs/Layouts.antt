@@ -9,8 +9,8 @@ use Rattle.std.proofs.Math.Seq.{take-length}
 use Rattle.ex_base.specs.Even.{sum_of, evenly, least_parts}
 use Rattle.ex_base.proofs.Rows.{sum_of-append, IsRow-as}
 use Rattle.ex_base.proofs.Spread.{plain, least_parts_is, some_part, length-evenly}
-use Rattle.leaf_segments.specs.Layout.{Layout, placed, insert_layout, append_layout, overflowing, overflowing_last, left_or_spread, right_or_spread, spread, filled, insert_leaves, append_leaves}
-use Rattle.leaf_segments.proofs.Placed.{LeafRow, AreLeaves, insert_leaves_row, append_leaves_row}
+use Rattle.trees.specs.Layout.{Layout, placed, insert_layout, append_layout, overflowing, overflowing_last, left_or_spread, right_or_spread, spread, filled, insert_leaves, append_leaves}
+use Rattle.trees.proofs.Placed.{LeafRow, AreLeaves, insert_leaves_row, append_leaves_row}
 use Rattle.tree_insert.specs.declared.layout.Growth.{Growth}
 use Rattle.tree_insert.specs.declared.layout.Growth.TheVariants.{Insert, Append}
 use Rattle.tree_insert.specs.Growth.{layout_by, IsSpot, row_by}

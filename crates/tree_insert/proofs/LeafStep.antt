@@ -11,8 +11,8 @@ use Rattle.ex_base.specs.Sizes.{leaf_bytes}
 use Rattle.ex_base.proofs.Rows.{each-append, each-take, each-drop, sum_of-append, sum_of-take_drop}
 use Rattle.ex_base.proofs.Spread.{plain, Between}
 use Rattle.ex_base.proofs.Each.{split_each}
-use Rattle.leaf_segments.specs.Layout.{Layout}
-use Rattle.leaf_segments.proofs.Placed.{AreLeaves}
+use Rattle.trees.specs.Layout.{Layout}
+use Rattle.trees.proofs.Placed.{AreLeaves}
 use Rattle.trees.specs.Shape.{Subtree}
 use Rattle.trees.specs.declared.rows.Part.{Part}
 use Rattle.trees.specs.Rows.{row_size, row_bytes, row_shape}

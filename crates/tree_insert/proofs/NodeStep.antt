@@ -9,9 +9,9 @@ use Rattle.ex_base.specs.Ports.{Keeps}
 use Rattle.ex_base.specs.declared.geometry.Geometry.{Geometry}
 use Rattle.ex_base.specs.declared.ground.Ground as ground
 use Rattle.ex_base.proofs.Rows.{sum_of-append, each-append, each-take, each-drop}
-use Rattle.count_nodes.specs.declared.Pair.{Pair}
-use Rattle.count_nodes.specs.Node.{RiseFrom, pairs_on, total_of}
-use Rattle.count_nodes.specs.Split.{nodes_over}
+use Rattle.trees.specs.declared.Pair.{Pair}
+use Rattle.trees.specs.Node.{RiseFrom, pairs_on, total_of}
+use Rattle.trees.specs.Split.{nodes_over}
 use Rattle.trees.specs.Shape.{Subtree, total, change_at, change_last, insert_parts, append_parts}
 use Rattle.trees.specs.Trees.{Units, EachChild, for_each_child, IsNamed, HasSize, bytes_on, shape_on, units_on}
 use Rattle.trees.specs.declared.rows.Part.{Part}

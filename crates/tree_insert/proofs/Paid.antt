@@ -2,7 +2,7 @@
 use Rattle.std.proofs.Common.{◌≡◌, ◌≢◌, ℕ, zero, suc, ◌+◌, ◌-◌, ◌*◌, ◌<◌, ◌≤◌, ◌^◌, ap, subst, sym, ◌∙◌, refl, arith, inl, inr}
 use Rattle.std.proofs.lemmas.Bool.{cases_lt}
 use Rattle.std.proofs.Math.Nat.{mul-le-mul, mul-le-mul_left, le_of_mul-le-mul_left}
-use Rattle.count_nodes.specs.Split.{most_pairs, nodes_for}
+use Rattle.trees.specs.Split.{most_pairs, nodes_for}
 use Rattle.trees.proofs.Paid.{for_is, most_times}
 
 pub level_up : (level k : ℕ) → level ≢ 0 → level * k ≡ (level - 1) * k + k

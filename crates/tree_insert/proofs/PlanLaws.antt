@@ -5,9 +5,9 @@ use Rattle.std.proofs.lemmas.List.{length-append, length-replicate, take_more}
 use Rattle.std.proofs.lemmas.Bool.{cond_both}
 use Rattle.ex_base.specs.Even.{evenly, least_parts}
 use Rattle.ex_base.proofs.Spread.{least_parts_is, at_least_two, length-evenly}
-use Rattle.leaf_segments.specs.declared.Plan.{Plan}
-use Rattle.leaf_segments.specs.Layout.{filled, layout_of}
-use Rattle.leaf_segments.specs.Plans.{IsPlan}
+use Rattle.trees.specs.declared.plans.Plan.{Plan}
+use Rattle.trees.specs.Layout.{filled, layout_of}
+use Rattle.trees.specs.Plans.{IsPlan}
 
 pub length-filled : (full total : ℕ) → 1 ≤ full → full < total → length (filled full total) ≡ least_parts full total
 unfolding filled

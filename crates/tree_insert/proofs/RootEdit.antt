@@ -16,7 +16,7 @@ use Rattle.ex_base.proofs.Rows.{each-append}
 use Rattle.ex_base.proofs.Each.{each_as}
 use Rattle.ex_base.proofs.Geometries.{leaf_some}
 use Rattle.ex_base.proofs.NeedLaws.{growth_need_up, growth_few}
-use Rattle.leaf_segments.specs.Layout.{first_lengths}
+use Rattle.trees.specs.Layout.{first_lengths}
 use Rattle.trees.specs.Shape.{Subtree, Shape, one_tree, IsBalanced, ins_shape, app_shape}
 use Rattle.trees.specs.Trees.{Units, RootSpells, RootNamed, RootSized, root_shape, root_bytes, root_units, shape_on, units_on, bytes_on}
 use Rattle.trees.proofs.SameUnits.{bytes_same, shape_same, named_same, sized_same}

@@ -10,15 +10,15 @@ use Rattle.ex_base.specs.Area.{NamesLeaf}
 use Rattle.ex_base.specs.Sizes.{leaf_bytes}
 use Rattle.ex_base.specs.Ports.{Keeps}
 use Rattle.ex_base.proofs.Spread.{plain, Between}
-use Rattle.leaf_segments.specs.Layout.{Layout, append_layout, insert_layout, first_lengths, filled, placed, in_place}
-use Rattle.leaf_segments.proofs.Placed.{LeafRow, filled_row}
+use Rattle.trees.specs.Layout.{Layout, append_layout, insert_layout, first_lengths, filled, placed, in_place}
+use Rattle.trees.proofs.Placed.{LeafRow, filled_row}
 use Rattle.trees.specs.Shape.{insert_parts, append_parts}
 use Rattle.trees.specs.Trees.{shape_on}
 use Rattle.trees.specs.declared.rows.Part.{Part}
 use Rattle.trees.specs.Rows.{row_size, row_bytes, row_shape, IsRowOn}
 use Rattle.trees.specs.Made.{Extends, Holds, Took, pages_of, sizes_of, changed}
 use Rattle.trees.specs.Built.{AreSome, Built, even_lens}
-use Rattle.count_nodes.specs.Split.{nodes_over}
+use Rattle.trees.specs.Split.{nodes_over}
 use Rattle.tree_insert.specs.declared.layout.Growth.{Growth}
 use Rattle.tree_insert.specs.declared.layout.Growth.TheVariants.{Insert, Append}
 use Rattle.trees.specs.Counted.{Counted, NamesPairs}

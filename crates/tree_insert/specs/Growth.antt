@@ -1,6 +1,6 @@
 -- What an insert or an append makes of a row of leaves or of trees.
 use Rattle.std.specs.Prelude.{◌≡◌, ℕ, zero, suc, ◌≤◌, List, Option, None}
-use Rattle.leaf_segments.specs.Layout.{Layout, insert_layout, append_layout, insert_leaves, append_leaves}
+use Rattle.trees.specs.Layout.{Layout, insert_layout, append_layout, insert_leaves, append_leaves}
 use Rattle.trees.specs.Shape.{Subtree, total, change_at, change_last, insert_parts, append_parts}
 use Rattle.tree_insert.specs.declared.layout.Growth.{Growth}
 use Rattle.tree_insert.specs.declared.layout.Growth.TheVariants.{Insert, Append}

@@ -6,7 +6,7 @@ ghost use Rattle.ex_base.specs.Needs.{growth_leaves, growth_need};
 ghost use Rattle.ex_base.specs.Ports.{HasCause, IsDamage};
 ghost use Rattle.ex_base.specs.Sizes.{leaf_bytes, object_most};
 ghost use Rattle.ex_base.specs.declared.names.Area.TheVariants.{Page, Segment};
-ghost use Rattle.leaf_segments.specs.Layout.{first_lengths};
+ghost use Rattle.trees.specs.Layout.{first_lengths};
 ghost use Rattle.trees.specs.Shape.{ins_shape, app_shape};
 ghost use Rattle.trees.specs.Trees.{RootSpells, root_shape, root_units, shape_on};
 ghost use Rattle.trees.specs.Damage.{IsWalkFault, IsRootFault, IsWhole, IsSoundWay, IsSoundRoot};
@@ -23,8 +23,8 @@ ghost use Rattle.trees.specs.Roots.{IsRootFor};
 use crate::grow::{grow_leaves, grow_row};
 use crate::layout::{Growth, lengths_of};
 use ex_base::{Blocks, PortFault, ROOT_LEAST, Root};
-use leaf_segments::plan_append;
 use std::alloc::Global;
+use trees::plans::plan_append;
 use trees::{Change, Part, nodes_over, rooted, row_of, write_leaves};
 
 /// The leaves of a tree's first bytes.

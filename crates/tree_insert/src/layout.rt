@@ -2,15 +2,15 @@
 ghost use Rattle.std.specs.Prelude.{◌≡◌, ◌≤◌, ◌<◌, ◌+◌, ◌^◌, length, take, drop, true, IfOk};
 ghost use Rattle.std.specs.List.{AllByRecursion};
 ghost use Rattle.ex_base.specs.Sizes.{object_most};
-ghost use Rattle.leaf_segments.specs.Layout.{layout_of};
-ghost use Rattle.leaf_segments.specs.Plans.{IsPlan};
+ghost use Rattle.trees.specs.Layout.{layout_of};
+ghost use Rattle.trees.specs.Plans.{IsPlan};
 ghost use Rattle.trees.specs.Rows.{row_size};
 ghost use Rattle.trees.specs.Made.{sizes_of};
 ghost use Rattle.tree_insert.specs.Places.{IsAt, last_of, first_of, size_at, flag};
 ghost use Rattle.tree_insert.specs.Growth.{layout_by};
 
-use leaf_segments::{Plan, plan_append, plan_insert};
 use std::alloc::{AllocError, Global};
+use trees::plans::{Plan, plan_append, plan_insert};
 use trees::{Part, put};
 
 /// How new bytes are laid out over leaves.

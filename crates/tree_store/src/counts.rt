@@ -1,13 +1,13 @@
 //! The references that a node's pairs make.
 ghost use Rattle.std.specs.Prelude.{◌≡◌, ℕ, length};
-ghost use Rattle.count_nodes.specs.Names.{names_on};
+ghost use Rattle.trees.specs.Names.{names_on};
 ghost use Rattle.ex_base.specs.Ports.{with_refs, times};
 ghost use Rattle.page_alloc.specs.UnitSet.{used_at, refs_at};
 ghost use Rattle.tree_store.specs.Stored.{IsCounted};
 
-use count_nodes::names::{name_at, names_len};
 use ex_base::Geometry;
 use page_alloc::Units;
+use trees::names::{name_at, names_len};
 
 /// Adds a reference to each used unit that a node names, as often as the node names it.
 pub fn count_names(units: &mut Units, geometry: &Geometry, bytes: &[u8])

@@ -97,7 +97,7 @@ impl<'a, D: Disk> Store<'a, D> {
 impl<'a, D: Disk> Ground for Store<'a, D> {
     ghost use Rattle.tree_store.specs.Stored.{unit_bytes, Fits, Tells, Frees, NoUnit, frees_same, frees_on, frees_wider};
     ghost use Rattle.tree_store.specs.Whole.{leaf_whole};
-    ghost use Rattle.count_nodes.specs.Names.{names_on};
+    ghost use Rattle.trees.specs.Names.{names_on};
     ghost use Rattle.page_alloc.specs.UnitSet.{used_at, refs_at, free_count};
 
     ghost geometry = { λ s. s.geometry };
@@ -226,7 +226,7 @@ impl<'a, D: Disk> Blocks for Store<'a, D> {
     ghost use Rattle.ex_base.specs.declared.names.Area.TheVariants.{Page, Segment};
     ghost use Rattle.buffer_groups.specs.Groups.{HasFrame};
     ghost use Rattle.page_alloc.specs.UnitSet.{used_at, refs_at};
-    ghost use Rattle.count_nodes.specs.Names.{names_on};
+    ghost use Rattle.trees.specs.Names.{names_on};
     ghost use Rattle.tree_store.specs.Stored.{Fits, unit_bytes};
     ghost use Rattle.ex_base.specs.Sizes.{leaf_bytes};
 

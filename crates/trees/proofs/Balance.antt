@@ -4,9 +4,9 @@ use Rattle.std.specs.List.{AllByRecursion}
 use Rattle.std.proofs.lemmas.Bool.{cases_lt, cond_both}
 use Rattle.ex_base.specs.Even.{sum_of}
 use Rattle.ex_base.proofs.Rows.{IsRow, IsRow-append, IsRow-as, IsRow-cons}
-use Rattle.count_nodes.specs.Split.{most_pairs, nodes_over}
-use Rattle.count_nodes.proofs.Nodes.{nodes_over_many, nodes_over_few, fewer_nodes}
-use Rattle.leaf_segments.proofs.Placed.{IsCapacity, insert_leaves_row, append_leaves_row, FirstLeaves, alone, several, first_lengths_are, insert_lone, append_lone}
+use Rattle.trees.specs.Split.{most_pairs, nodes_over}
+use Rattle.trees.proofs.Splits.{nodes_over_many, nodes_over_few, fewer_nodes}
+use Rattle.trees.proofs.Placed.{IsCapacity, insert_leaves_row, append_leaves_row, FirstLeaves, alone, several, first_lengths_are, insert_lone, append_lone}
 use Rattle.trees.specs.Shape.{Subtree, Shape, total, size_of, IsHalfFull, IsRoot, IsBalanced, change_at, change_last, insert_parts, append_parts, rooted, ins_shape, app_shape}
 
 -- the least fan and leaf

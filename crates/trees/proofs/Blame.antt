@@ -5,7 +5,7 @@ use Rattle.ex_base.specs.declared.faults.PortFault.TheVariants.{Disk, Memory, Da
 use Rattle.ex_base.specs.declared.ground.Ground as ground
 use Rattle.ex_base.specs.Ports.{Keeps}
 use Rattle.ex_base.specs.declared.geometry.Geometry.{Geometry}
-use Rattle.count_nodes.specs.Node.{pairs_on}
+use Rattle.trees.specs.Node.{pairs_on}
 use Rattle.trees.specs.Trees.{Units}
 use Rattle.trees.specs.declared.rows.Part.{Part}
 use Rattle.trees.specs.Rows.{parts_of, IsFilled, IsRowOn}

@@ -10,10 +10,10 @@ use Rattle.ex_base.specs.Ports.{CountsNames, Keeps, TakesUnit, times, refs_most,
 use Rattle.ex_base.proofs.Rows.{each-append}
 use Rattle.ex_base.proofs.Each.{each_as}
 use Rattle.ex_base.proofs.Counts.{times-append, times_apart, times_here}
-use Rattle.count_nodes.specs.declared.Pair.{Pair}
-use Rattle.count_nodes.specs.Names.{page_of_pair}
-use Rattle.count_nodes.specs.Node.{PairsOf}
-use Rattle.count_nodes.proofs.NodeLaws.{spelled_reads}
+use Rattle.trees.specs.declared.Pair.{Pair}
+use Rattle.trees.specs.Names.{page_of_pair}
+use Rattle.trees.specs.Node.{PairsOf}
+use Rattle.trees.proofs.NodeLaws.{spelled_reads}
 use Rattle.trees.specs.Trees.{Units}
 use Rattle.trees.specs.Made.{Extends, IsTaken}
 use Rattle.trees.specs.Owners.{named_on, all_named}

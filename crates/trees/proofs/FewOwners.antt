@@ -6,9 +6,9 @@ use Rattle.std.proofs.Math.Nat.{mul-le-mul, mul-le-mul_right}
 use Rattle.ex_base.specs.declared.geometry.Geometry.{Geometry}
 use Rattle.ex_base.specs.Ports.{times, refs_most}
 use Rattle.ex_base.proofs.Counts.{times_most, few_once}
-use Rattle.count_nodes.specs.Names.{page_of_pair}
-use Rattle.count_nodes.specs.Node.{pairs_on}
-use Rattle.count_nodes.specs.Split.{most_pairs}
+use Rattle.trees.specs.Names.{page_of_pair}
+use Rattle.trees.specs.Node.{pairs_on}
+use Rattle.trees.specs.Split.{most_pairs}
 use Rattle.trees.specs.Trees.{Units}
 use Rattle.trees.specs.Owners.{IsInner, IsOwned, named_on, all_named}
 use Rattle.trees.proofs.Parts.{narrow}

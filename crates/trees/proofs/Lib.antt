@@ -23,3 +23,11 @@ pub mod Kept
 pub mod RootSteps
 pub mod Growing
 pub mod Paid
+pub mod Splits
+pub mod PairLaws
+pub mod NodeLaws
+pub mod Children
+pub mod WriteLaws
+pub mod NameLaws
+pub mod Placed
+pub mod Lengths

@@ -13,11 +13,11 @@ use Rattle.ex_base.specs.Even.{sum_of, evenly, cut_by, least_parts}
 use Rattle.ex_base.specs.declared.geometry.Geometry.{Geometry}
 use Rattle.ex_base.proofs.Rows.{each-append, each-take, each-drop, IsRow}
 use Rattle.ex_base.proofs.Spread.{Between, evenly_row, least_parts_is, IsLeast, just_one, less_than_children, some_part, length-evenly, IsPiece, row_of_pieces, cut_count}
-use Rattle.count_nodes.specs.declared.Pair.{Pair}
-use Rattle.count_nodes.specs.declared.width.Width.TheVariants.{Wide}
-use Rattle.count_nodes.specs.Node.{IsNode, PairsOf, HasPairFields, RiseFrom, pairs_on, node_page, total_of}
-use Rattle.count_nodes.specs.Split.{most_pairs, nodes_for}
-use Rattle.count_nodes.proofs.NodeLaws.{spelled_reads}
+use Rattle.trees.specs.declared.Pair.{Pair}
+use Rattle.trees.specs.declared.width.Width.TheVariants.{Wide}
+use Rattle.trees.specs.Node.{IsNode, PairsOf, HasPairFields, RiseFrom, pairs_on, node_page, total_of}
+use Rattle.trees.specs.Split.{most_pairs, nodes_for}
+use Rattle.trees.proofs.NodeLaws.{spelled_reads}
 use Rattle.ex_base.proofs.Keeping.{keeps_refl}
 use Rattle.ex_base.proofs.Each.{each_as, each_at, split_each}
 use Rattle.ex_base.specs.Ports.{TakesUnit, CountsNames}
@@ -32,7 +32,7 @@ use Rattle.trees.proofs.Kept.{row_extends, holds_on}
 use Rattle.trees.proofs.Counts.{counted_node, counted_on, counted_same}
 use Rattle.trees.specs.Counted.{Counted, NamesPairs}
 use Rattle.trees.specs.Owners.{named_on}
-use Rattle.count_nodes.specs.Names.{page_of_pair}
+use Rattle.trees.specs.Names.{page_of_pair}
 use Rattle.trees.proofs.Laid.{spent_none, spent_on, extends_refl, extends_on, extends_node, took_more, has_left, has_right, plain}
 
 -- ---- pairs, one after the other

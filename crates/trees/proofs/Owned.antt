@@ -9,9 +9,9 @@ use Rattle.ex_base.specs.declared.names.Root.{Root}
 use Rattle.ex_base.specs.Area.{InPageArea, NamesLeaf}
 use Rattle.ex_base.specs.Ports.{times}
 use Rattle.ex_base.proofs.Counts.{times-append, times_apart, times_here}
-use Rattle.count_nodes.specs.declared.Pair.{Pair}
-use Rattle.count_nodes.specs.Node.{PairsOf, pairs_on, level_on}
-use Rattle.count_nodes.proofs.NodeLaws.{spelled_reads}
+use Rattle.trees.specs.declared.Pair.{Pair}
+use Rattle.trees.specs.Node.{PairsOf, pairs_on, level_on}
+use Rattle.trees.proofs.NodeLaws.{spelled_reads}
 use Rattle.trees.specs.Trees.{Units, IsNamed, RootNamed, units_on, root_units, root_units_at}
 use Rattle.trees.specs.Owners.{named_on, all_named, StandsAt, IsInner, IsOwned}
 

@@ -9,9 +9,9 @@ use Rattle.ex_base.specs.Area.{InPageArea, catalog_no}
 use Rattle.ex_base.specs.Ports.{times}
 use Rattle.ex_base.proofs.Counts.{times-append, times_here}
 use Rattle.ex_base.proofs.Each.{each_joined}
-use Rattle.count_nodes.specs.declared.Pair.{Pair}
-use Rattle.count_nodes.specs.Names.{page_of_pair}
-use Rattle.count_nodes.specs.Node.{pairs_on}
+use Rattle.trees.specs.declared.Pair.{Pair}
+use Rattle.trees.specs.Names.{page_of_pair}
+use Rattle.trees.specs.Node.{pairs_on}
 use Rattle.trees.specs.Owners.{IsOwned, named_on, page_here, root_pages}
 use Rattle.trees.specs.Shown.{BytesShown}
 use Rattle.trees.specs.Trees.{Units, IsNamed, RootNamed, root_units_at, units_on}

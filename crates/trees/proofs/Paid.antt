@@ -3,7 +3,7 @@ use Rattle.std.proofs.Common.{◌≡◌, ℕ, zero, suc, ◌+◌, ◌-◌, ◌*�
 use Rattle.std.proofs.lemmas.Bool.{cases_lt}
 use Rattle.std.proofs.Math.Nat.{mul-le-mul_left, mul-le-mul_right, le_of_mul-le-mul_left, pow-le-pow_right}
 use Rattle.ex_base.proofs.Spread.{IsLeast, least_parts_is}
-use Rattle.count_nodes.specs.Split.{most_pairs, nodes_for}
+use Rattle.trees.specs.Split.{most_pairs, nodes_for}
 
 pub for_is : (fan count : ℕ) → IsLeast (most_pairs fan) count (nodes_for fan count)
 for_is fan count = least_parts_is (most_pairs fan) count (omega arith)

@@ -5,9 +5,9 @@ use Rattle.std.proofs.lemmas.List.{append-nil, drop-take, length-take-le}
 use Rattle.ex_base.proofs.Rows.{each-append}
 use Rattle.std.specs.Prelude.{slice_index, slice_get}
 use Rattle.std.specs.List.{AllByRecursion}
-use Rattle.count_nodes.specs.declared.Pair.{Pair}
-use Rattle.count_nodes.specs.Node.{RiseFrom, total_of, counts_of, start_of, pairs_on}
-use Rattle.count_nodes.proofs.Children.{count_here}
+use Rattle.trees.specs.declared.Pair.{Pair}
+use Rattle.trees.specs.Node.{RiseFrom, total_of, counts_of, start_of, pairs_on}
+use Rattle.trees.proofs.Children.{count_here}
 use Rattle.trees.specs.declared.rows.Part.{Part}
 use Rattle.trees.specs.Rows.{parts_of, row_size, AreHalfFull, FitLeaves, IsCounted, IsRowOn}
 use Rattle.ex_base.specs.Sizes.{leaf_bytes, most_page}

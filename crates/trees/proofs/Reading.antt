@@ -10,8 +10,8 @@ use Rattle.ex_base.proofs.Keeping.{keeps_on}
 use Rattle.ex_base.specs.Ports.{Keeps}
 use Rattle.ex_base.specs.declared.ground.Ground as ground
 use Rattle.std.specs.List.{flat_map, concat}
-use Rattle.count_nodes.specs.declared.Pair.{Pair}
-use Rattle.count_nodes.specs.Node.{pairs_on}
+use Rattle.trees.specs.declared.Pair.{Pair}
+use Rattle.trees.specs.Node.{pairs_on}
 use Rattle.trees.specs.Trees.{Units, IsNamed, HasSize, EachChild, for_each_child, bytes_on}
 use Rattle.trees.proofs.TreeLaws.{length-bytes_on, AreWhole}
 use Rattle.trees.specs.declared.rows.Part.{Part}

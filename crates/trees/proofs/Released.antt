@@ -6,7 +6,7 @@ use Rattle.ex_base.specs.declared.geometry.Geometry.{Geometry}
 use Rattle.ex_base.specs.Area.{InPageArea}
 use Rattle.ex_base.specs.Ports.{times}
 use Rattle.ex_base.proofs.Counts.{times-append, times_apart, times_here}
-use Rattle.count_nodes.specs.Node.{PairsOf, pairs_on}
+use Rattle.trees.specs.Node.{PairsOf, pairs_on}
 use Rattle.trees.specs.Trees.{Units}
 use Rattle.trees.specs.Owners.{named_on, all_named, StandsAt, IsInner, IsOwned}
 use Rattle.trees.proofs.Owned.{some_of}

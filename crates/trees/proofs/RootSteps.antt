@@ -5,7 +5,7 @@ use Rattle.std.proofs.lemmas.Bool.{cases_Bool}
 use Rattle.std.specs.List.{AllByRecursion}
 use Rattle.ex_base.specs.declared.names.Root.{Root}
 use Rattle.ex_base.specs.Even.{cut_by}
-use Rattle.count_nodes.specs.Split.{nodes_over}
+use Rattle.trees.specs.Split.{nodes_over}
 use Rattle.ex_base.specs.declared.ground.Ground as ground
 use Rattle.ex_base.proofs.Each.{each_as}
 use Rattle.trees.specs.Shape.{Subtree, rooted}

@@ -14,7 +14,7 @@ use Rattle.trees.specs.Trees.{Units, bytes_on}
 use Rattle.trees.specs.declared.rows.Part.{Part}
 use Rattle.ex_base.specs.declared.faults.PortFault.{PortFault}
 use Rattle.ex_base.specs.declared.faults.PortFault.TheVariants.{Disk, Memory, Damaged}
-use Rattle.count_nodes.specs.Node.{pairs_on}
+use Rattle.trees.specs.Node.{pairs_on}
 use Rattle.trees.specs.Damage.{IsSoundWay, IsWalkFault, IsNodeAt}
 use Rattle.trees.specs.Spans.{IsSpan}
 use Rattle.trees.proofs.SpanLaws.{span_trees, span_bytes}

@@ -10,9 +10,9 @@ use Rattle.ex_base.specs.declared.names.Root.{Root}
 use Rattle.ex_base.specs.Area.{NamesLeaf, catalog_no}
 use Rattle.ex_base.specs.Ports.{IsDamage}
 use Rattle.ex_base.specs.Sizes.{leaf_bytes}
-use Rattle.count_nodes.specs.declared.Pair.{Pair}
-use Rattle.count_nodes.specs.Node.{level_on, pairs_on, total_of}
-use Rattle.count_nodes.proofs.NodeLaws.{spelled_reads}
+use Rattle.trees.specs.declared.Pair.{Pair}
+use Rattle.trees.specs.Node.{level_on, pairs_on, total_of}
+use Rattle.trees.proofs.NodeLaws.{spelled_reads}
 use Rattle.trees.specs.Shape.{Subtree, IsHalfFull, IsRoot}
 use Rattle.trees.specs.Trees.{Units, IsNamed, HasSize, RootSpells, for_each_child, shape_on, units_on, root_units}
 use Rattle.trees.specs.declared.rows.Part.{Part}

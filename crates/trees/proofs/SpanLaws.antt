@@ -9,9 +9,9 @@ use Rattle.ex_base.specs.Sizes.{leaf_bytes}
 use Rattle.ex_base.specs.declared.faults.PortFault.{PortFault}
 use Rattle.ex_base.specs.declared.geometry.Geometry.{Geometry}
 use Rattle.ex_base.proofs.Rows.{each-take, each-drop, sum_of-append}
-use Rattle.count_nodes.specs.declared.Pair.{Pair}
-use Rattle.count_nodes.specs.Node.{RiseFrom, counts_of, start_of, IsFirst}
-use Rattle.count_nodes.proofs.Children.{length-counts}
+use Rattle.trees.specs.declared.Pair.{Pair}
+use Rattle.trees.specs.Node.{RiseFrom, counts_of, start_of, IsFirst}
+use Rattle.trees.proofs.Children.{length-counts}
 use Rattle.trees.specs.Trees.{Units}
 use Rattle.trees.specs.declared.rows.Part.{Part}
 use Rattle.trees.specs.Rows.{parts_of, row_size, row_bytes, size_of_part, AreTrees, FitLeaves, IsFilled}

@@ -5,8 +5,8 @@ use Rattle.std.proofs.lemmas.List.{length-append, length-take}
 use Rattle.ex_base.specs.declared.geometry.Geometry.{Geometry}
 use Rattle.ex_base.specs.Area.{NamesLeaf}
 use Rattle.ex_base.specs.Sizes.{leaf_bytes}
-use Rattle.count_nodes.specs.declared.Pair.{Pair}
-use Rattle.count_nodes.specs.Node.{pairs_on, total_of, RiseFrom}
+use Rattle.trees.specs.declared.Pair.{Pair}
+use Rattle.trees.specs.Node.{pairs_on, total_of, RiseFrom}
 use Rattle.trees.specs.Trees.{Units, for_each_child, EachChild, IsNamed, HasSize, bytes_on}
 
 -- the units that leaves name are whole

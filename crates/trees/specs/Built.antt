@@ -2,7 +2,7 @@
 use Rattle.std.specs.Prelude.{◌≡◌, ◌⊎◌, ℕ, suc, ◌≤◌, List}
 use Rattle.std.specs.List.{AllByRecursion}
 use Rattle.ex_base.specs.Even.{cut_by, evenly, sum_of}
-use Rattle.count_nodes.specs.Split.{nodes_for}
+use Rattle.trees.specs.Split.{nodes_for}
 use Rattle.ex_base.specs.declared.ground.Ground as ground
 use Rattle.trees.specs.declared.rows.Part.{Part}
 use Rattle.trees.specs.Rows.{AreTrees, row_units, row_bytes, row_shape}

@@ -5,9 +5,9 @@ use Rattle.ex_base.specs.declared.geometry.Geometry.{Geometry}
 use Rattle.ex_base.specs.declared.ground.Ground as ground
 use Rattle.ex_base.specs.Area.{InPageArea, IsUnit}
 use Rattle.ex_base.specs.Ports.{times, refs_most}
-use Rattle.count_nodes.specs.declared.Pair.{Pair}
-use Rattle.count_nodes.specs.Names.{page_of_pair}
-use Rattle.count_nodes.specs.Node.{PairsOf}
+use Rattle.trees.specs.declared.Pair.{Pair}
+use Rattle.trees.specs.Names.{page_of_pair}
+use Rattle.trees.specs.Node.{PairsOf}
 use Rattle.trees.specs.Made.{IsTaken}
 use Rattle.trees.specs.Owners.{all_named}
 

@@ -9,8 +9,8 @@ use Rattle.ex_base.specs.declared.names.PageNo.{PageNo}
 use Rattle.ex_base.specs.declared.names.Root.{Root}
 use Rattle.ex_base.specs.Area.{InPageArea, NamesLeaf, catalog_no}
 use Rattle.ex_base.specs.Seen.{node_seen, leaf_seen, nothing_seen}
-use Rattle.count_nodes.specs.declared.Pair.{Pair}
-use Rattle.count_nodes.specs.Node.{PairsOf, level_on, pairs_on, total_of}
+use Rattle.trees.specs.declared.Pair.{Pair}
+use Rattle.trees.specs.Node.{PairsOf, level_on, pairs_on, total_of}
 use Rattle.trees.specs.Trees.{Units, RootSpells, root_units}
 use Rattle.trees.specs.declared.rows.Part.{Part}
 use Rattle.trees.specs.Rows.{IsFilled, IsRowOn, parts_of}

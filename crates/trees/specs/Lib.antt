@@ -10,3 +10,9 @@ pub mod Owners
 pub mod Counted
 pub mod Grown
 pub mod Shown
+pub mod Node
+pub mod Split
+pub mod Reads
+pub mod Names
+pub mod Layout
+pub mod Plans

@@ -6,8 +6,8 @@ use Rattle.ex_base.specs.declared.names.PageNo.{PageNo}
 use Rattle.ex_base.specs.declared.names.Root.{Root}
 use Rattle.ex_base.specs.Area.{InPageArea, NamesLeaf}
 use Rattle.ex_base.specs.Ports.{times}
-use Rattle.count_nodes.specs.Names.{page_of_pair}
-use Rattle.count_nodes.specs.Node.{PairsOf, pairs_on}
+use Rattle.trees.specs.Names.{page_of_pair}
+use Rattle.trees.specs.Node.{PairsOf, pairs_on}
 use Rattle.trees.specs.Trees.{Units}
 
 -- the units that a node names, each as often as it names it

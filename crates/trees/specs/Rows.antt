@@ -4,9 +4,9 @@ use Rattle.std.specs.List.{flat_map, AllByRecursion}
 use Rattle.ex_base.specs.declared.geometry.Geometry.{Geometry}
 use Rattle.ex_base.specs.Even.{sum_of}
 use Rattle.ex_base.specs.Sizes.{leaf_bytes}
-use Rattle.count_nodes.specs.declared.Pair.{Pair}
-use Rattle.count_nodes.specs.Node.{PairsOf, pairs_on, total_of}
-use Rattle.count_nodes.specs.Split.{most_pairs}
+use Rattle.trees.specs.declared.Pair.{Pair}
+use Rattle.trees.specs.Node.{PairsOf, pairs_on, total_of}
+use Rattle.trees.specs.Split.{most_pairs}
 use Rattle.trees.specs.Shape.{Subtree}
 use Rattle.trees.specs.Trees.{Units, IsNamed, HasSize, bytes_on, shape_on, units_on}
 use Rattle.trees.specs.declared.rows.Part.{Part}

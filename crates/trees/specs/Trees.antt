@@ -6,8 +6,8 @@ use Rattle.ex_base.specs.declared.geometry.Geometry.{Geometry}
 use Rattle.ex_base.specs.declared.names.Root.{Root}
 use Rattle.ex_base.specs.Area.{InPageArea, NamesLeaf, leaf_at, area_end}
 use Rattle.ex_base.specs.Sizes.{leaf_bytes}
-use Rattle.count_nodes.specs.declared.Pair.{Pair}
-use Rattle.count_nodes.specs.Node.{PairsOf, pairs_on, total_of}
+use Rattle.trees.specs.declared.Pair.{Pair}
+use Rattle.trees.specs.Node.{PairsOf, pairs_on, total_of}
 use Rattle.trees.specs.Shape.{Subtree, Shape, IsBalanced}
 
 -- the bytes of each unit: a page of the page area, or a whole leaf of the segment area

@@ -1,13 +1,13 @@
 // The node on a lent page: that it is the one that its parent asks, and its children.
 ghost use Rattle.std.specs.Prelude.{◌≡◌, ◌≤◌, ◌<◌, ◌-◌, ◌^◌, ◌↔◌, length, take, drop, IfOk, IfErr, IsTrue, ℕ};
-ghost use Rattle.count_nodes.specs.Node.{RiseFrom, node_on, total_of};
+ghost use Rattle.trees.specs.Node.{RiseFrom, node_on, total_of};
 ghost use Rattle.ex_base.specs.Ports.{HasCause};
 ghost use Rattle.trees.specs.Damage.{IsNodeFault};
 ghost use Rattle.trees.specs.Rows.{parts_of, AreHalfFull, IsFilled, IsRowOn};
 
 use crate::faults::no_node;
 use crate::rows::Part;
-use count_nodes::view::NodeView;
+use crate::view::NodeView;
 use ex_base::{Geometry, PortFault, Seen};
 use std::alloc::{AllocError, Global};
 

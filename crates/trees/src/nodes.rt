@@ -1,7 +1,7 @@
 // The step over nodes: a row of trees is put under new nodes.
 ghost use Rattle.std.specs.Prelude.{◌≡◌, ℕ, suc, [], ◌∷◌, ◌≤◌, ◌<◌, ◌+◌, ◌-◌, ◌*◌, ◌^◌, length, OnOk, IfOk, IfErr};
-ghost use Rattle.count_nodes.specs.Node.{node_page};
-ghost use Rattle.count_nodes.specs.Split.{most_pairs, nodes_for};
+ghost use Rattle.trees.specs.Node.{node_page};
+ghost use Rattle.trees.specs.Split.{most_pairs, nodes_for};
 ghost use Rattle.ex_base.specs.Ports.{HasCause, IsDamage, TakesUnit, CountsNames};
 ghost use Rattle.ex_base.specs.Sizes.{object_most};
 ghost use Rattle.ex_base.specs.declared.names.Area.TheVariants.{Page};
@@ -10,10 +10,10 @@ ghost use Rattle.trees.specs.Made.{Extends, Spent, Holds, Took, pages_of};
 ghost use Rattle.trees.specs.Counted.{Counted, NamesPairs};
 ghost use Rattle.trees.specs.Built.{Built, IsCut, AreSome, even_lens};
 
+use crate::Pair;
 use crate::rows::{Part, piece, put};
-use count_nodes::Pair;
-use count_nodes::split::{split_len, split_parts};
-use count_nodes::write::write_node;
+use crate::split::{split_len, split_parts};
+use crate::write::write_node;
 use ex_base::{Blocks, PortFault};
 use std::alloc::{AllocError, Global};
 

@@ -1,7 +1,7 @@
 // The trees side by side below a node that have a range of its bytes, found by bisection on the lent page.
 ghost use Rattle.std.specs.Prelude.{◌≤◌, ◌<◌, ◌+◌, ◌-◌, ◌^◌, length, IfOk, IfErr, OnOk, ℕ};
 ghost use Rattle.ex_base.specs.Ports.{Keeps, HasCause};
-ghost use Rattle.count_nodes.specs.Node.{pairs_on, total_of, RiseFrom};
+ghost use Rattle.trees.specs.Node.{pairs_on, total_of, RiseFrom};
 ghost use Rattle.trees.specs.Damage.{IsNodeAt, IsNodeFault};
 ghost use Rattle.trees.specs.Rows.{parts_of, row_size, FitLeaves, IsFilled, IsRowOn};
 ghost use Rattle.trees.specs.Spans.{IsSpan};
@@ -9,7 +9,7 @@ ghost use Rattle.trees.specs.Spans.{IsSpan};
 use crate::faults::no_node;
 use crate::lent_nodes::{asked_node, children};
 use crate::rows::{Part, names_node};
-use count_nodes::view::NodeView;
+use crate::view::NodeView;
 use ex_base::{Geometry, PortFault, ReadBlocks};
 use std::alloc::{AllocError, Global};
 

@@ -11,8 +11,8 @@ use Rattle.ex_base.specs.Area.{InPageArea}
 use Rattle.ex_base.specs.Ports.{times}
 use Rattle.ex_base.proofs.Counts.{times-append, times_here}
 use Rattle.ex_base.proofs.Each.{split_each}
-use Rattle.count_nodes.specs.declared.Pair.{Pair}
-use Rattle.count_nodes.specs.Node.{pairs_on}
+use Rattle.trees.specs.declared.Pair.{Pair}
+use Rattle.trees.specs.Node.{pairs_on}
 use Rattle.trees.specs.Trees.{Units}
 use Rattle.trees.specs.Owners.{named_on, StandsAt}
 use Rattle.trees.proofs.Released.{named_left}

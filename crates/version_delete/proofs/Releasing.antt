@@ -12,8 +12,8 @@ use Rattle.ex_base.specs.Ports.{times, Keeps, CountsRefs, GivesUnit, without_ref
 use Rattle.ex_base.specs.Sizes.{most_page}
 use Rattle.ex_base.proofs.Counts.{times-append, times_apart, times_here}
 use Rattle.ex_base.proofs.Each.{split_each}
-use Rattle.count_nodes.specs.declared.Pair.{Pair}
-use Rattle.count_nodes.specs.Node.{pairs_on}
+use Rattle.trees.specs.declared.Pair.{Pair}
+use Rattle.trees.specs.Node.{pairs_on}
 use Rattle.trees.specs.Trees.{Units}
 use Rattle.trees.specs.Owners.{named_on, all_named, StandsAt, IsInner, IsOwned}
 use Rattle.trees.proofs.Owned.{at_one, page_no_leaf, one_level}

@@ -10,7 +10,7 @@ use Rattle.slotted_pages.specs.FilePage.{Slot}
 use Rattle.object_files.specs.Catalog.{FileEntry, Catalog}
 use Rattle.object_files.specs.Reads.{catalog_on}
 use Rattle.object_files.specs.Edits.{indexed, with_entries}
-use Rattle.index_pages.specs.declared.Index.{Index}
+use Rattle.ex_base.specs.declared.names.Index.{Index}
 use Rattle.file_index.specs.Changes.{Changes}
 use Rattle.file_index.proofs.Counts.{keeps_changes, changes_trans}
 use Rattle.file_bodies.specs.Bodies.{bodies_of}

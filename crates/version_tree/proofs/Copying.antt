@@ -18,7 +18,7 @@ use Rattle.object_records.specs.declared.Head.{Head}
 use Rattle.object_records.specs.declared.State.{State}
 use Rattle.object_records.specs.declared.State.TheVariants.{Current, Frozen}
 use Rattle.object_records.proofs.RecordLaws.{record_read}
-use Rattle.index_pages.specs.declared.Index.{Index}
+use Rattle.ex_base.specs.declared.names.Index.{Index}
 use Rattle.file_index.proofs.Counts.{changes_same}
 use Rattle.file_bodies.specs.Bodies.{Row, bodies_of, pages_in}
 use Rattle.file_bodies.specs.Files.{HasFile, HasBody, all_pages}

@@ -10,7 +10,7 @@ use Rattle.ex_base.specs.declared.names.Place.{Place}
 use Rattle.ex_base.specs.Ports.{Keeps}
 use Rattle.object_records.specs.Record.{Record, BodyOf}
 use Rattle.object_records.specs.declared.Head.{Head}
-use Rattle.index_pages.specs.declared.Index.{Index}
+use Rattle.ex_base.specs.declared.names.Index.{Index}
 use Rattle.file_bodies.specs.Bodies.{Row, IsBefore, InPlaceOrder, bodies_of}
 use Rattle.file_bodies.specs.Files.{HasFile, HasBody}
 use Rattle.file_bodies.specs.Places.{IsFrom, IsFirstFrom, FirstFrom, IsNext}

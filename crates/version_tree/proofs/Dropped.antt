@@ -10,7 +10,7 @@ use Rattle.object_records.specs.Reads.{record_on}
 use Rattle.object_records.specs.declared.Head.{Head}
 use Rattle.object_records.specs.declared.State.TheVariants.{Frozen}
 use Rattle.object_records.proofs.RecordLaws.{record_read}
-use Rattle.index_pages.specs.declared.Index.{Index}
+use Rattle.ex_base.specs.declared.names.Index.{Index}
 use Rattle.file_bodies.specs.Bodies.{Row, bodies_of}
 use Rattle.file_bodies.specs.Files.{HasBody}
 use Rattle.file_bodies.specs.Places.{RemovesBody}

@@ -6,7 +6,7 @@ use Rattle.ex_base.specs.declared.ground.Ground as ground
 use Rattle.ex_base.specs.declared.names.Place.{Place}
 use Rattle.ex_base.proofs.Counts.{contains_times}
 use Rattle.slotted_pages.specs.Edits.{slots_of}
-use Rattle.index_pages.specs.declared.Index.{Index}
+use Rattle.ex_base.specs.declared.names.Index.{Index}
 use Rattle.file_bodies.specs.Bodies.{pages_in}
 use Rattle.file_bodies.specs.Files.{HasBody, IsPageOf}
 use Rattle.file_bodies.proofs.Rows.{each_at}

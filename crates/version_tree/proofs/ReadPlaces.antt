@@ -14,7 +14,7 @@ use Rattle.object_records.specs.declared.State.{State}
 use Rattle.object_records.specs.declared.State.TheVariants.{Frozen}
 use Rattle.slotted_pages.specs.Edits.{slots_of}
 use Rattle.slotted_pages.specs.Reads.{page_on, IsPage}
-use Rattle.index_pages.specs.declared.Index.{Index}
+use Rattle.ex_base.specs.declared.names.Index.{Index}
 use Rattle.file_bodies.specs.declared.placing.Room.{Room}
 use Rattle.file_bodies.specs.Damage.{IsBelongingFault, IsTakingFault}
 use Rattle.file_bodies.specs.Files.{HasBody, HasSomeBody}

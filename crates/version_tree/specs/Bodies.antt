@@ -9,7 +9,7 @@ use Rattle.object_records.specs.Record.{Record}
 use Rattle.object_records.specs.declared.Head.{Head}
 use Rattle.object_records.specs.declared.State.TheVariants.{Current, Frozen}
 use Rattle.object_files.specs.Reads.{catalog_on}
-use Rattle.index_pages.specs.declared.Index.{Index}
+use Rattle.ex_base.specs.declared.names.Index.{Index}
 use Rattle.file_index.specs.Changes.{Changes}
 use Rattle.file_bodies.specs.Bodies.{Row, bodies_of}
 use Rattle.file_bodies.specs.Files.{HasFile, all_pages, with_index}

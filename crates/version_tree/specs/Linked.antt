@@ -9,7 +9,7 @@ use Rattle.object_records.specs.Reads.{record_on}
 use Rattle.object_records.specs.declared.Head.{Head}
 use Rattle.object_records.specs.declared.State.{State}
 use Rattle.object_records.specs.declared.State.TheVariants.{Current, Frozen}
-use Rattle.index_pages.specs.declared.Index.{Index}
+use Rattle.ex_base.specs.declared.names.Index.{Index}
 use Rattle.file_bodies.specs.Bodies.{Row, bodies_of}
 use Rattle.file_bodies.specs.Files.{HasFile}
 use Rattle.versions.specs.Listed.{oid_at}

@@ -13,7 +13,7 @@ use Rattle.slotted_pages.specs.Reads.{page_on, IsPage}
 use Rattle.object_records.specs.Record.{Record, BodyOf}
 use Rattle.object_records.specs.declared.Head.{Head}
 use Rattle.object_records.specs.declared.State.TheVariants.{Frozen}
-use Rattle.index_pages.specs.declared.Index.{Index}
+use Rattle.ex_base.specs.declared.names.Index.{Index}
 use Rattle.file_bodies.specs.Bodies.{Row}
 use Rattle.file_bodies.specs.Damage.{IsBelongingFault}
 use Rattle.file_bodies.specs.Files.{HasBody, HasSomeBody}

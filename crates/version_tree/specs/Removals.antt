@@ -7,7 +7,7 @@ use Rattle.ex_base.specs.declared.names.Place.{Place}
 use Rattle.object_records.specs.Record.{Record, BodyOf}
 use Rattle.object_records.specs.Reads.{record_on}
 use Rattle.object_records.specs.declared.State.TheVariants.{Current, Frozen}
-use Rattle.index_pages.specs.declared.Index.{Index}
+use Rattle.ex_base.specs.declared.names.Index.{Index}
 use Rattle.file_bodies.specs.Bodies.{Row, bodies_of}
 use Rattle.file_bodies.specs.Damage.{IsTakingFault}
 use Rattle.versions.specs.Damage.{record_fault, StandsOn}

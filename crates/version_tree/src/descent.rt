@@ -4,7 +4,7 @@ ghost use Rattle.ex_base.specs.Ports.{Keeps, HasCause, IsDamage};
 ghost use Rattle.ex_base.specs.declared.names.Place.{Place};
 ghost use Rattle.slotted_pages.specs.Reads.{page_on, IsPage};
 ghost use Rattle.object_records.specs.Record.{Record, BodyOf};
-ghost use Rattle.index_pages.specs.declared.Index.{Index};
+ghost use Rattle.ex_base.specs.declared.names.Index.{Index};
 ghost use Rattle.file_bodies.specs.Bodies.{bodies_of};
 ghost use Rattle.file_bodies.specs.Files.{HasFile, HasBody};
 ghost use Rattle.versions.specs.Listed.{oid_at, AreByNumber, AreReadable, rank_of, start_rank};

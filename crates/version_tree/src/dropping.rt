@@ -4,7 +4,7 @@ ghost use Rattle.ex_base.specs.Ports.{HasCause, IsDamage};
 ghost use Rattle.ex_base.specs.declared.names.Area.TheVariants.{Page, Segment};
 ghost use Rattle.object_records.specs.Record.{Record, BodyOf};
 ghost use Rattle.object_records.specs.declared.State.TheVariants.{Frozen};
-ghost use Rattle.index_pages.specs.declared.Index.{Index};
+ghost use Rattle.ex_base.specs.declared.names.Index.{Index};
 ghost use Rattle.file_index.specs.Touches.{TouchesAtMost};
 ghost use Rattle.file_index.specs.Taking.{OnlyGives};
 ghost use Rattle.file_bodies.specs.Damage.{IsTakingFault};

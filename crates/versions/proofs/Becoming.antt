@@ -11,7 +11,7 @@ use Rattle.ex_base.specs.Area.{catalog_no}
 use Rattle.ex_base.specs.Ports.{times, Keeps, PutsImage}
 use Rattle.slotted_pages.specs.Edits.{slots_of}
 use Rattle.object_files.specs.Edits.{IsCatalogPage}
-use Rattle.index_pages.specs.declared.Index.{Index}
+use Rattle.ex_base.specs.declared.names.Index.{Index}
 use Rattle.file_index.specs.Changes.{count_of}
 use Rattle.file_index.specs.Index.{IsIndex, pages_of}
 use Rattle.file_index.proofs.Counts.{is_counted, count_most}

@@ -10,7 +10,7 @@ use Rattle.ex_base.specs.Ports.{Keeps}
 use Rattle.ex_base.proofs.Keeping.{keeps_on}
 use Rattle.object_records.specs.Record.{Content}
 use Rattle.object_records.specs.declared.Head.{Head}
-use Rattle.index_pages.specs.declared.Index.{Index}
+use Rattle.ex_base.specs.declared.names.Index.{Index}
 use Rattle.versions.specs.Versions.{HoldsVersion}
 use Rattle.versions.proofs.Standing.{kept_holds}
 

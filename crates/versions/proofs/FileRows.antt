@@ -8,7 +8,7 @@ use Rattle.ex_base.specs.Ports.{times}
 use Rattle.ex_base.proofs.Counts.{times_contains, times_here}
 use Rattle.slotted_pages.specs.FilePage.{Slot}
 use Rattle.slotted_pages.specs.Edits.{slots_of}
-use Rattle.index_pages.specs.declared.Index.{Index}
+use Rattle.ex_base.specs.declared.names.Index.{Index}
 use Rattle.file_bodies.specs.Bodies.{Row, place_at, bodies_from, bodies_on, bodies_of, pages_in}
 use Rattle.file_bodies.specs.Files.{HasFile, HasBody, EditsFile}
 

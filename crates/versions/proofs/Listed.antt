@@ -6,7 +6,7 @@ use Rattle.ex_base.specs.declared.names.Place.{Place}
 use Rattle.ex_base.specs.Ports.{Keeps}
 use Rattle.object_records.specs.Record.{Record, BodyOf}
 use Rattle.object_records.specs.Reads.{record_on}
-use Rattle.index_pages.specs.declared.Index.{Index}
+use Rattle.ex_base.specs.declared.names.Index.{Index}
 use Rattle.file_bodies.specs.Bodies.{Row, bodies_of}
 use Rattle.file_bodies.specs.Damage.{HasListed, IsLook, page_from, page_in}
 use Rattle.file_bodies.specs.Files.{HasFile, HasBody}

@@ -21,7 +21,7 @@ use Rattle.object_records.specs.declared.Head.{Head}
 use Rattle.object_records.specs.Record.{Record, Small, IsRecord, BodyOf, state_byte, content_bytes}
 use Rattle.object_records.specs.Reads.{small_record, large_record}
 use Rattle.object_records.proofs.RecordLaws.{record_fields}
-use Rattle.index_pages.specs.declared.Index.{Index}
+use Rattle.ex_base.specs.declared.names.Index.{Index}
 use Rattle.file_bodies.specs.Bodies.{pages_in}
 use Rattle.file_bodies.specs.Files.{HasBody, IsPageOf}
 use Rattle.file_bodies.proofs.Rows.{each_at}

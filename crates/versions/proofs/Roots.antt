@@ -14,8 +14,8 @@ use Rattle.std.proofs.lemmas.Nat.{mul-le}
 use Rattle.trees.specs.Shape.{Subtree, total, IsHalfFull, IsRoot, IsBalanced}
 use Rattle.trees.specs.Trees.{Units, RootSpells, RootNamed, RootSized, IsNamed, HasSize, EachChild, for_each_child, root_bytes_at, root_shape_at, shape_on}
 use Rattle.trees.proofs.TreeLaws.{AreWhole, length-bytes_on}
-use Rattle.count_nodes.specs.declared.Pair.{Pair}
-use Rattle.count_nodes.specs.Node.{RiseFrom, pairs_on, total_of}
+use Rattle.trees.specs.declared.Pair.{Pair}
+use Rattle.trees.specs.Node.{RiseFrom, pairs_on, total_of}
 use Rattle.trees.specs.Roots.{IsRootFor}
 use Rattle.versions.specs.Put.{IsPlaced}
 

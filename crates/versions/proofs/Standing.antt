@@ -18,7 +18,7 @@ use Rattle.ex_base.specs.Ports.{Keeps}
 use Rattle.ex_base.proofs.Each.{each_as}
 use Rattle.object_records.specs.Record.{Content, Small, Large, Record, BodyOf}
 use Rattle.object_records.specs.declared.Head.{Head}
-use Rattle.index_pages.specs.declared.Index.{Index}
+use Rattle.ex_base.specs.declared.names.Index.{Index}
 use Rattle.file_bodies.specs.Files.{HasFileOf, HasBody, HasSomeBody}
 use Rattle.file_bodies.proofs.Moving.{kept_body}
 use Rattle.file_bodies.proofs.Belonging.{file_of_body}

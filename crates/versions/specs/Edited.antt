@@ -5,7 +5,7 @@ use Rattle.ex_base.specs.declared.names.Area.{Area}
 use Rattle.ex_base.specs.declared.names.Oid.{Oid}
 use Rattle.ex_base.specs.declared.names.Place.{Place}
 use Rattle.ex_base.specs.declared.names.Root.{Root}
-use Rattle.index_pages.specs.declared.Index.{Index}
+use Rattle.ex_base.specs.declared.names.Index.{Index}
 use Rattle.object_records.specs.Record.{Content}
 use Rattle.object_records.specs.declared.Head.{Head}
 use Rattle.versions.specs.declared.editing.Edit.{Edit}

@@ -5,7 +5,7 @@ use Rattle.ex_base.specs.declared.names.PageNo.{PageNo}
 use Rattle.ex_base.specs.declared.names.Place.{Place}
 use Rattle.ex_base.specs.Ports.{PutsImage}
 use Rattle.object_records.specs.Record.{Record, BodyOf}
-use Rattle.index_pages.specs.declared.Index.{Index}
+use Rattle.ex_base.specs.declared.names.Index.{Index}
 use Rattle.file_bodies.specs.Files.{EditsFile}
 
 -- the page of a root, where it has one, isn't page 0

@@ -13,7 +13,7 @@ use Rattle.object_records.specs.declared.Head.{Head}
 use Rattle.object_records.specs.declared.State.TheVariants.{Current}
 use Rattle.slotted_pages.specs.FilePage.{room_of}
 use Rattle.slotted_pages.specs.Edits.{slots_of}
-use Rattle.index_pages.specs.declared.Index.{Index}
+use Rattle.ex_base.specs.declared.names.Index.{Index}
 use Rattle.trees.specs.Shape.{Shape, ins_shape, app_shape}
 use Rattle.trees.specs.Trees.{Units, RootSpells, root_shape, root_units}
 use Rattle.trees.specs.Grown.{Turned}

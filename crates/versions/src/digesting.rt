@@ -6,7 +6,7 @@ ghost use Rattle.ex_base.specs.Bytes.{bytes_at};
 ghost use Rattle.ex_base.specs.Ports.{Keeps, HasCause, IsDamage};
 ghost use Rattle.object_records.specs.Record.{Content};
 ghost use Rattle.object_records.specs.declared.Head.{Head};
-ghost use Rattle.index_pages.specs.declared.Index.{Index};
+ghost use Rattle.ex_base.specs.declared.names.Index.{Index};
 ghost use Rattle.versions.specs.Versions.{HoldsVersion};
 ghost use Rattle.versions.specs.Damage.{IsVersionFault};
 

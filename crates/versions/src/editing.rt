@@ -7,7 +7,7 @@ ghost use Rattle.object_records.specs.Record.{Content, Record, Small, BodyOf, Is
 ghost use Rattle.object_records.specs.Reads.{small_record};
 ghost use Rattle.object_records.specs.declared.Head.{Head};
 ghost use Rattle.object_records.specs.declared.State.TheVariants.{Current};
-ghost use Rattle.index_pages.specs.declared.Index.{Index};
+ghost use Rattle.ex_base.specs.declared.names.Index.{Index};
 ghost use Rattle.file_index.specs.Touches.{TouchesAtMost};
 ghost use Rattle.file_bodies.specs.Files.{HasFileOf, HasBody};
 ghost use Rattle.versions.specs.Versions.{HasRecord, HasVersion, Stands, Change, AreInUse, StaysSmall, FitsIn, InRange, changed, count_of, place_of};

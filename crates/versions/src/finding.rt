@@ -5,7 +5,7 @@ ghost use Rattle.ex_base.specs.Ports.{Keeps, HasCause, IsDamage};
 ghost use Rattle.object_records.specs.Record.{Content, Record, BodyOf, IsRecord};
 ghost use Rattle.object_records.specs.Reads.{small_record};
 ghost use Rattle.object_records.specs.declared.Head.{Head};
-ghost use Rattle.index_pages.specs.declared.Index.{Index};
+ghost use Rattle.ex_base.specs.declared.names.Index.{Index};
 ghost use Rattle.file_bodies.specs.Files.{HasFileOf, HasBody};
 ghost use Rattle.trees.specs.Roots.{IsRootFor};
 ghost use Rattle.versions.specs.Versions.{HasRecord, HoldsVersion, Stands, place_of};

@@ -6,7 +6,7 @@ ghost use Rattle.ex_base.specs.Ports.{HasCause, IsDamage};
 ghost use Rattle.ex_base.specs.declared.names.Area.{Area};
 ghost use Rattle.object_records.specs.Record.{IsRecord, Small, Large};
 ghost use Rattle.object_records.specs.Reads.{small_record, large_record};
-ghost use Rattle.index_pages.specs.declared.Index.{Index};
+ghost use Rattle.ex_base.specs.declared.names.Index.{Index};
 ghost use Rattle.file_index.specs.Touches.{TouchesAtMost};
 ghost use Rattle.file_bodies.specs.Files.{HasBody};
 ghost use Rattle.trees.specs.Trees.{RootSpells, root_shape, root_units};

@@ -17,7 +17,7 @@ use Rattle.ex_base.proofs.Each.{each_as, each_mapped, each_unmapped, split_each}
 use Rattle.ex_base.proofs.Members.{In, contains_in, each_in, from_flat, in_contains, in_either, in_left, in_right, into_flat, of_each}
 use Rattle.ex_base.proofs.Rows.{each-append}
 use Rattle.op_log.specs.declared.record.LogRecord.{LogRecord}
-use Rattle.index_pages.specs.declared.Index.{Index}
+use Rattle.ex_base.specs.declared.names.Index.{Index}
 use Rattle.file_index.specs.Changes.{count_of}
 use Rattle.file_index.specs.Index.{IsFilesPage, pages_of}
 use Rattle.file_index.proofs.Counts.{count_most, is_counted}

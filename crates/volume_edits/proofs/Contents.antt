@@ -15,7 +15,7 @@ use Rattle.op_log.specs.declared.record.LogRecord.{LogRecord}
 use Rattle.slotted_pages.specs.FilePage.{FilePage, SlotsOf}
 use Rattle.slotted_pages.specs.Reads.{page_on}
 use Rattle.slotted_pages.proofs.PageLaws.{page_read_is}
-use Rattle.index_pages.specs.declared.Index.{Index}
+use Rattle.ex_base.specs.declared.names.Index.{Index}
 use Rattle.file_index.specs.Index.{IsFilesPage, keys_of, pages_of}
 use Rattle.file_bodies.specs.Bodies.{Row, bodies_on, bodies_of}
 use Rattle.file_bodies.specs.Files.{HasCatalog, HasFile, HasFiles, IsPageOf, index_at, index_in}

@@ -13,7 +13,7 @@ use Rattle.version_lists.specs.Changes.{created_in}
 use Rattle.version_lists.proofs.Changes.{created_linked}
 use Rattle.version_lists.proofs.Lists.{Rises}
 use Rattle.table_model.specs.Tables.{with_object}
-use Rattle.index_pages.specs.declared.Index.{Index}
+use Rattle.ex_base.specs.declared.names.Index.{Index}
 use Rattle.file_index.specs.Taking.{OnlyTakes}
 use Rattle.object_files.specs.Catalog.{FileEntry, name_of, number_of as entry_number}
 use Rattle.file_bodies.specs.Bodies.{bodies_of}

@@ -12,7 +12,7 @@ use Rattle.ex_base.proofs.Each.{split_each, each_as, each_joined, each_parted, f
 use Rattle.ex_base.proofs.Counts.{times-append}
 use Rattle.ex_base.proofs.Members.{In, contains_in, each_in, in_contains, in_either, in_left, in_right, of_each}
 use Rattle.version_lists.specs.Objects.{objects_formed}
-use Rattle.index_pages.specs.declared.Index.{Index}
+use Rattle.ex_base.specs.declared.names.Index.{Index}
 use Rattle.file_index.specs.Index.{IsFilesPage, IsIndex, keys_of, pages_of}
 use Rattle.file_index.proofs.Counts.{count_most, is_counted}
 use Rattle.file_index.proofs.Heights.{keys_of_pages, index_of_pages}

@@ -15,8 +15,8 @@ use Rattle.ex_base.proofs.Booleans.{none_below_some}
 use Rattle.op_log.specs.declared.record.LogRecord.{LogRecord}
 use Rattle.slotted_pages.specs.FilePage.{Slot, EndsLive}
 use Rattle.slotted_pages.specs.Edits.{slots_of}
-use Rattle.index_pages.specs.declared.Entry.{Entry}
-use Rattle.index_pages.specs.IndexPage.{entries_on}
+use Rattle.file_index.specs.declared.Entry.{Entry}
+use Rattle.file_index.specs.IndexPage.{entries_on}
 use Rattle.file_index.specs.Index.{IsUnder, IsIndex, keys_under, keys_of}
 use Rattle.file_bodies.specs.Bodies.{Row, row_of, place_at, bodies_from, bodies_on, bodies_of, pages_in}
 use Rattle.file_bodies.specs.Files.{IsPageOf}

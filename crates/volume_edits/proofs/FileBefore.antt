@@ -3,7 +3,7 @@ use Rattle.std.proofs.Common.{List, ◌∷◌, ◌++◌, subst}
 use Rattle.std.specs.List.{AllByRecursion}
 use Rattle.ex_base.specs.declared.ground.Ground as ground
 use Rattle.ex_base.proofs.Each.{each_as, split_each}
-use Rattle.index_pages.specs.declared.Index.{Index}
+use Rattle.ex_base.specs.declared.names.Index.{Index}
 use Rattle.op_log.specs.declared.record.LogRecord.{LogRecord}
 use Rattle.volume_model.specs.Links.{AreLinked, HasObjects, HaveOlders, NumbersDiffer, PlacesDiffer, place_in}
 use Rattle.volume_model.specs.Parts.{HasBodies}

@@ -9,7 +9,7 @@ use Rattle.ex_base.specs.Ports.{times}
 use Rattle.ex_base.proofs.Each.{each_as}
 use Rattle.ex_base.proofs.Members.{In, contains_in, from_flat, in_contains, into_flat, of_each}
 use Rattle.object_records.specs.Record.{Content, Small, Large}
-use Rattle.index_pages.specs.declared.Index.{Index}
+use Rattle.ex_base.specs.declared.names.Index.{Index}
 use Rattle.file_index.specs.Taking.{OnlyTakes, OnlyGives}
 use Rattle.trees.specs.Damage.{IsWhole}
 use Rattle.trees.specs.Owners.{root_pages}

@@ -16,7 +16,7 @@ use Rattle.version_lists.proofs.Lists.{Rises}
 use Rattle.table_model.specs.Tables.{with_frozen}
 use Rattle.object_records.specs.Record.{Record}
 use Rattle.object_records.specs.declared.State.TheVariants.{Current}
-use Rattle.index_pages.specs.declared.Index.{Index}
+use Rattle.ex_base.specs.declared.names.Index.{Index}
 use Rattle.file_index.specs.Taking.{OnlyTakes}
 use Rattle.file_bodies.specs.Bodies.{bodies_of}
 use Rattle.trees.specs.Owners.{root_pages}

@@ -12,7 +12,7 @@ use Rattle.version_lists.specs.Objects.{objects_formed}
 use Rattle.table_model.specs.declared.table.TableFile.{TableFile}
 use Rattle.table_model.specs.declared.table.Table.{Table}
 use Rattle.slotted_pages.specs.Reads.{page_on}
-use Rattle.index_pages.specs.declared.Index.{Index}
+use Rattle.ex_base.specs.declared.names.Index.{Index}
 use Rattle.file_index.specs.Index.{keys_of, pages_of}
 use Rattle.object_files.specs.Catalog.{FileEntry, Catalog}
 use Rattle.file_bodies.specs.Files.{all_pages}

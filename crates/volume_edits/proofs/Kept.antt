@@ -8,8 +8,8 @@ use Rattle.ex_base.specs.declared.geometry.Geometry.{Geometry}
 use Rattle.ex_base.specs.Area.{IsUnit}
 use Rattle.ex_base.specs.Sizes.{leaf_bytes}
 use Rattle.ex_base.proofs.Each.{each_as, each_joined, each_of, each_parted, flat_same, map_same}
-use Rattle.count_nodes.specs.declared.Pair.{Pair}
-use Rattle.count_nodes.specs.Node.{pairs_on}
+use Rattle.trees.specs.declared.Pair.{Pair}
+use Rattle.trees.specs.Node.{pairs_on}
 use Rattle.object_files.specs.Catalog.{FileEntry}
 use Rattle.object_records.specs.Record.{Content, Small, Large}
 use Rattle.trees.specs.Shape.{IsBalanced}

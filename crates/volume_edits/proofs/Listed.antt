@@ -11,7 +11,7 @@ use Rattle.ex_base.specs.declared.names.Place.{Place}
 use Rattle.ex_base.specs.Order.{RisingTexts}
 use Rattle.ex_base.proofs.Members.{In, in_contains, of_each}
 use Rattle.op_log.specs.declared.record.LogRecord.{LogRecord}
-use Rattle.index_pages.specs.declared.Index.{Index}
+use Rattle.ex_base.specs.declared.names.Index.{Index}
 use Rattle.file_bodies.specs.Bodies.{Row, bodies_of}
 use Rattle.file_bodies.specs.Files.{HasFile, index_at}
 use Rattle.object_files.specs.Catalog.{FileEntry, name_of}

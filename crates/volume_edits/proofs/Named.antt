@@ -13,7 +13,7 @@ use Rattle.version_lists.specs.declared.version.Version.{Version}
 use Rattle.version_lists.proofs.Lists.{rises_filter, rises_map, Has, Rises}
 use Rattle.version_lists.proofs.Links.{found_by_oid}
 use Rattle.object_records.specs.Record.{Content, Record}
-use Rattle.index_pages.specs.declared.Index.{Index}
+use Rattle.ex_base.specs.declared.names.Index.{Index}
 use Rattle.file_bodies.specs.Bodies.{bodies_of}
 use Rattle.trees.specs.Trees.{Units}
 use Rattle.volume_model.specs.Volume.{Stored, oid_of, root_in, roots_in, stands_at, stored_in, unique_of, version_of, versions_stored}

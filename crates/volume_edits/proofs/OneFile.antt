@@ -11,7 +11,7 @@ use Rattle.ex_base.proofs.Each.{each_as}
 use Rattle.ex_base.proofs.Members.{In, contains_in, each_in, from_flat, in_contains, into_flat, of_each}
 use Rattle.version_lists.proofs.Lists.{Has, has_back, has_either, has_front}
 use Rattle.table_model.specs.declared.table.Table.{Table}
-use Rattle.index_pages.specs.declared.Index.{Index}
+use Rattle.ex_base.specs.declared.names.Index.{Index}
 use Rattle.file_bodies.specs.Bodies.{bodies_of}
 use Rattle.file_bodies.specs.Files.{HasFile, with_index}
 use Rattle.file_bodies.proofs.Ordered.{ordered}

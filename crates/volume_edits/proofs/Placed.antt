@@ -5,7 +5,7 @@ use Rattle.std.specs.List.{AllZip}
 use Rattle.ex_base.specs.declared.ground.Ground as ground
 use Rattle.slotted_pages.specs.FilePage.{FilePage}
 use Rattle.slotted_pages.specs.Reads.{page_on}
-use Rattle.index_pages.specs.declared.Index.{Index}
+use Rattle.ex_base.specs.declared.names.Index.{Index}
 use Rattle.file_index.specs.Index.{keys_of, pages_of}
 use Rattle.object_files.specs.Catalog.{FileEntry}
 use Rattle.file_bodies.specs.Bodies.{bodies_of}

@@ -11,7 +11,7 @@ use Rattle.ex_base.specs.Order.{AllDiffer}
 use Rattle.ex_base.specs.Ports.{times}
 use Rattle.ex_base.proofs.Counts.{none_or_some, not_equal, same_or_not, times-append, times_apart, times_here}
 use Rattle.ex_base.proofs.Members.{each_in, in_left, in_right}
-use Rattle.index_pages.specs.declared.Index.{Index}
+use Rattle.ex_base.specs.declared.names.Index.{Index}
 use Rattle.file_index.specs.Changes.{Changes, count_of}
 use Rattle.file_index.proofs.Counts.{count_most, count_is}
 use Rattle.object_files.specs.Catalog.{FileEntry, Catalog, CatalogOf, number_of}

@@ -7,7 +7,7 @@ use Rattle.ex_base.specs.declared.names.Oid.{Oid}
 use Rattle.ex_base.specs.declared.names.Place.{Place}
 use Rattle.ex_base.specs.declared.names.Root.{Root}
 use Rattle.op_log.specs.declared.record.LogRecord.{LogRecord}
-use Rattle.index_pages.specs.declared.Index.{Index}
+use Rattle.ex_base.specs.declared.names.Index.{Index}
 use Rattle.file_bodies.specs.Bodies.{bodies_of, pages_in}
 use Rattle.object_records.specs.declared.Head.{Head}
 use Rattle.object_records.specs.Record.{Content, Small, Large, Record, BodyOf}

@@ -8,7 +8,7 @@ use Rattle.ex_base.specs.declared.names.Root.{Root}
 use Rattle.ex_base.specs.Area.{IsUnit}
 use Rattle.ex_base.proofs.Each.{each_with}
 use Rattle.ex_base.proofs.Members.{In, in_right}
-use Rattle.index_pages.specs.declared.Index.{Index}
+use Rattle.ex_base.specs.declared.names.Index.{Index}
 use Rattle.file_bodies.specs.Bodies.{Row, bodies_of, pages_in}
 use Rattle.object_records.specs.Record.{Content, Small, Large, Record, BodyOf}
 use Rattle.trees.specs.Trees.{root_units, RootNamed}

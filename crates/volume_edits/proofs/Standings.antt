@@ -10,7 +10,7 @@ use Rattle.ex_base.specs.declared.names.Oid.{Oid}
 use Rattle.ex_base.specs.declared.names.Place.{Place}
 use Rattle.ex_base.proofs.Members.{contains_in, each_in, of_each}
 use Rattle.op_log.specs.declared.record.LogRecord.{LogRecord}
-use Rattle.index_pages.specs.declared.Index.{Index}
+use Rattle.ex_base.specs.declared.names.Index.{Index}
 use Rattle.file_bodies.specs.Bodies.{Row, InPlaceOrder, bodies_of}
 use Rattle.file_bodies.proofs.Ordered.{ordered}
 use Rattle.object_files.specs.Catalog.{FileEntry}

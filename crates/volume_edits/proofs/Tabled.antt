@@ -21,7 +21,7 @@ use Rattle.version_lists.proofs.Sorted.{order_left}
 use Rattle.table_model.specs.declared.table.TableFile.{TableFile}
 use Rattle.table_model.specs.declared.table.Table.{Table}
 use Rattle.table_model.specs.Tables.{in_each_file, object_added, with_object, with_versions}
-use Rattle.index_pages.specs.declared.Index.{Index}
+use Rattle.ex_base.specs.declared.names.Index.{Index}
 use Rattle.object_files.specs.Catalog.{FileEntry, name_of}
 use Rattle.trees.specs.Trees.{Units}
 use Rattle.op_log.specs.declared.record.LogRecord.{LogRecord}

@@ -17,7 +17,7 @@ use Rattle.version_lists.proofs.Changes.{without_absent}
 use Rattle.table_model.specs.Tables.{without_version}
 use Rattle.object_records.specs.Record.{Record}
 use Rattle.object_records.specs.declared.State.TheVariants.{Current}
-use Rattle.index_pages.specs.declared.Index.{Index}
+use Rattle.ex_base.specs.declared.names.Index.{Index}
 use Rattle.file_index.specs.Taking.{OnlyGives}
 use Rattle.file_bodies.specs.Bodies.{Row, bodies_of}
 use Rattle.trees.specs.Owners.{root_pages}

@@ -12,7 +12,7 @@ use Rattle.ex_base.specs.Ports.{Keeps, times}
 use Rattle.ex_base.proofs.Each.{each_as}
 use Rattle.ex_base.proofs.Members.{contains_in, in_contains, in_left}
 use Rattle.object_records.specs.Record.{Content, Small, Large}
-use Rattle.index_pages.specs.declared.Index.{Index}
+use Rattle.ex_base.specs.declared.names.Index.{Index}
 use Rattle.file_index.specs.Taking.{OnlyTakes, OnlyGives}
 use Rattle.trees.specs.Damage.{IsWhole}
 use Rattle.trees.specs.Made.{IsTaken}

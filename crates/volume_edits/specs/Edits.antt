@@ -7,7 +7,7 @@ use Rattle.ex_base.specs.declared.names.Root.{Root}
 use Rattle.ex_base.specs.Area.{catalog_no}
 use Rattle.ex_base.specs.Ports.{PutsImage, times}
 use Rattle.op_log.specs.declared.record.LogRecord.{LogRecord}
-use Rattle.index_pages.specs.declared.Index.{Index}
+use Rattle.ex_base.specs.declared.names.Index.{Index}
 use Rattle.file_bodies.specs.Files.{with_index}
 use Rattle.object_files.specs.Catalog.{FileEntry, Catalog, CatalogOf}
 use Rattle.trees.specs.Counted.{Counted, NamesPairs}

@@ -5,7 +5,7 @@ use Rattle.ex_base.specs.declared.ground.Ground as ground
 use Rattle.ex_base.specs.Area.{InPageArea, catalog_no, area_end}
 use Rattle.op_log.specs.declared.record.LogRecord.{LogRecord}
 use Rattle.slotted_pages.specs.Reads.{page_on}
-use Rattle.index_pages.specs.declared.Index.{Index}
+use Rattle.ex_base.specs.declared.names.Index.{Index}
 use Rattle.file_index.specs.Index.{pages_of}
 use Rattle.file_bodies.specs.Bodies.{bodies_of, pages_in}
 use Rattle.file_bodies.specs.Files.{HasFile, index_at}

@@ -10,7 +10,7 @@ ghost use Rattle.ex_base.specs.Area.{catalog_no};
 ghost use Rattle.ex_base.specs.Ports.{Keeps, GivesUnit, times};
 ghost use Rattle.op_log.specs.declared.record.LogRecord.{LogRecord};
 ghost use Rattle.file_bodies.specs.Files.{HasFile, HasFiles};
-ghost use Rattle.index_pages.specs.declared.Index.{Index};
+ghost use Rattle.ex_base.specs.declared.names.Index.{Index};
 ghost use Rattle.file_index.specs.Taking.{OnlyTakes, OnlyGives};
 ghost use Rattle.file_bodies.specs.Bodies.{bodies_of};
 ghost use Rattle.object_files.specs.Catalog.{FileEntry, name_of};

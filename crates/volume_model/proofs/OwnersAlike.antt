@@ -8,9 +8,9 @@ use Rattle.ex_base.specs.declared.names.Root.{Root}
 use Rattle.ex_base.specs.Area.{InPageArea}
 use Rattle.ex_base.specs.Ports.{times}
 use Rattle.ex_base.proofs.Counts.{times-append, times_here}
-use Rattle.count_nodes.specs.declared.Pair.{Pair}
-use Rattle.count_nodes.specs.Names.{page_of_pair}
-use Rattle.count_nodes.specs.Node.{pairs_on}
+use Rattle.trees.specs.declared.Pair.{Pair}
+use Rattle.trees.specs.Names.{page_of_pair}
+use Rattle.trees.specs.Node.{pairs_on}
 use Rattle.trees.specs.Owners.{IsInner, IsOwned, StandsAt, all_named, named_on, page_here, root_pages}
 use Rattle.trees.specs.Trees.{IsNamed, Units}
 use Rattle.trees.proofs.Owned.{at_one, one_level, some_of}

@@ -10,9 +10,9 @@ use Rattle.ex_base.specs.Area.{InPageArea, NamesLeaf}
 use Rattle.ex_base.specs.Ports.{times, refs_most}
 use Rattle.ex_base.proofs.Counts.{times-append, times_apart, times_here}
 use Rattle.ex_base.proofs.Rows.{each-append}
-use Rattle.count_nodes.specs.declared.Pair.{Pair}
-use Rattle.count_nodes.specs.Names.{page_of_pair}
-use Rattle.count_nodes.specs.Node.{pairs_on}
+use Rattle.trees.specs.declared.Pair.{Pair}
+use Rattle.trees.specs.Names.{page_of_pair}
+use Rattle.trees.specs.Node.{pairs_on}
 use Rattle.trees.specs.Owners.{IsInner, IsOwned, StandsAt, all_named, named_on, page_here, root_pages}
 use Rattle.trees.specs.Trees.{IsNamed, RootNamed, Units, root_units_at, root_units, units_on}
 use Rattle.trees.proofs.FewOwners.{references_below_end}

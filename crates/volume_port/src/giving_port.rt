@@ -36,7 +36,7 @@ pub struct GivingPort<'a, D: Disk> {
 }
 
 impl<'a, D: Disk> Ground for GivingPort<'a, D> {
-    ghost use Rattle.count_nodes.specs.Names.{names_on};
+    ghost use Rattle.trees.specs.Names.{names_on};
     ghost use Rattle.page_alloc.specs.UnitSet.{used_at, free_count};
     ghost use Rattle.tree_store.specs.Stored.{unit_bytes, Tells, NoUnit};
     ghost use Rattle.tree_store.specs.Whole.{leaf_whole};

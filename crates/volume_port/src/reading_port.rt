@@ -35,7 +35,7 @@ pub struct ReadingPort<'a, D: Disk> {
 }
 
 impl<'a, D: Disk> Ground for ReadingPort<'a, D> {
-    ghost use Rattle.count_nodes.specs.Names.{names_on};
+    ghost use Rattle.trees.specs.Names.{names_on};
     ghost use Rattle.tree_store.specs.Stored.{unit_bytes};
     ghost use Rattle.tree_store.specs.Whole.{leaf_whole};
     ghost use Rattle.volume_port.specs.Logged.{is_held};

@@ -1,5 +1,5 @@
 use Rattle.std.proofs.Common.{ℕ, length, subst, sym}
-use Rattle.index_pages.specs.declared.Index.{Index}
+use Rattle.ex_base.specs.declared.names.Index.{Index}
 use Rattle.file_bodies.specs.Places.{NoRoom, PlacesBody, PutsBody}
 use Rattle.file_bodies.specs.Placing.{start_of}
 use Rattle.file_bodies.proofs.Belonging.{the_index, found_file}

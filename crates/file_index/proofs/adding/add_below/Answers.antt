@@ -3,9 +3,9 @@ use Rattle.std.proofs.lemmas.Result.{IfOk-weaker}
 use Rattle.ex_base.specs.declared.geometry.Geometry.{Geometry}
 use Rattle.ex_base.specs.declared.names.PageNo.{PageNo}
 use Rattle.ex_base.proofs.Results.{if_ok_on_ok}
-use Rattle.index_pages.specs.declared.Entry.{Entry}
+use Rattle.file_index.specs.declared.Entry.{Entry}
 use Rattle.file_index.specs.Index.{IsFilesPage}
-use Rattle.index_pages.specs.declared.Index.{Index}
+use Rattle.ex_base.specs.declared.names.Index.{Index}
 use Rattle.file_index.specs.Edits.{EditsIndex, put_in}
 use Rattle.file_index.proofs.Blame.{way_here}
 use Rattle.file_index.proofs.Ways.{page_way, page_fault, root_way, root_fault}

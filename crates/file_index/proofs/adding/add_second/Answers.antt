@@ -1,7 +1,7 @@
 use Rattle.std.proofs.Common.{◌≡◌, ◌≢◌, true, List, subst, sym, eqb, eq-eqb}
 use Rattle.std.proofs.lemmas.Result.{IfOk-weaker}
-use Rattle.index_pages.specs.declared.Entry.{Entry}
-use Rattle.index_pages.specs.declared.Index.{Index}
+use Rattle.file_index.specs.declared.Entry.{Entry}
+use Rattle.ex_base.specs.declared.names.Index.{Index}
 use Rattle.file_index.specs.Nodes.{IsWritten}
 use Rattle.file_index.specs.Edits.{EditsIndex, put_in}
 use Rattle.file_index.proofs.Tops.{second_added}

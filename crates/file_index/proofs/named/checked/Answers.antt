@@ -1,6 +1,6 @@
 use Rattle.std.proofs.Common.{◌≡◌, ◌≤◌, length, arith, ℕ, Option, Some, ap, ◌∙◌, sym, subst}
 use Rattle.std.specs.Prelude.{slice_get}
-use Rattle.index_pages.specs.IndexPage.{Indexed, entries_on}
+use Rattle.file_index.specs.IndexPage.{Indexed, entries_on}
 use Rattle.file_index.specs.Index.{seen, least_entries}
 use Rattle.file_index.proofs.Blame.{file_of, of_index, shown, blames_outside, blames_other}
 use Rattle.file_index.proofs.Naming.{named_reads, key_same, seen_differs}

@@ -3,8 +3,8 @@ use Rattle.std.proofs.lemmas.Result.{on_ok_weaker}
 use Rattle.ex_base.proofs.Results.{if_err_handed}
 use Rattle.std.specs.Prelude.{◌==◌, if◌then◌else◌}
 use Rattle.ex_base.specs.declared.geometry.Geometry.{Geometry}
-use Rattle.index_pages.specs.declared.Entry.{Entry}
-use Rattle.index_pages.specs.IndexPage.{entries_on}
+use Rattle.file_index.specs.declared.Entry.{Entry}
+use Rattle.file_index.specs.IndexPage.{entries_on}
 use Rattle.file_index.specs.Edits.{take_out}
 use Rattle.file_index.specs.Nodes.{IsPlace, IsWritten, first_key}
 use Rattle.file_index.specs.Damage.{place_in, beside_in, IsWay, IsWayFault, IsEntryFault}

@@ -1,6 +1,6 @@
 use Rattle.std.proofs.Common.{◌≡◌, ◌≢◌, None, inl, inr, ◌-◌, ◌∙◌, suc, sym, List, subst, arith, true≢false}
 use Rattle.ex_base.proofs.Results.{if_err_handed}
-use Rattle.index_pages.specs.declared.Entry.{Entry}
+use Rattle.file_index.specs.declared.Entry.{Entry}
 use Rattle.file_index.specs.Edits.{take_out}
 use Rattle.file_index.specs.Nodes.{IsWritten}
 use Rattle.file_index.proofs.Blame.{way_here}

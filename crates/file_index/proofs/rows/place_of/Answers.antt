@@ -1,6 +1,6 @@
 use Rattle.std.proofs.Common.{◌≤◌, ◌+◌, arith, subst}
 use Rattle.std.specs.Prelude.{slice_index_or}
-use Rattle.index_pages.specs.declared.Entry.{Entry}
+use Rattle.file_index.specs.declared.Entry.{Entry}
 use Rattle.file_index.specs.Damage.{no_entry}
 use Rattle.file_index.proofs.Ways.{any_default, place_goes, place_ends}
 use Rattle.file_index.proofs.rows.place_of.Goals as goal

@@ -1,6 +1,6 @@
 use Rattle.std.proofs.Common.{◌≡◌, ◌+◌, drop, ◌≤◌, ◌<◌, ◌-◌, length}
 use Rattle.std.specs.Prelude.{slice_index_or}
-use Rattle.index_pages.specs.declared.Entry.{Entry}
+use Rattle.file_index.specs.declared.Entry.{Entry}
 use Rattle.file_index.specs.Damage.{place_in}
 use Rattle.file_index.proofs.rows.place_of.Given as goal
 

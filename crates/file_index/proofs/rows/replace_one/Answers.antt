@@ -1,5 +1,5 @@
 use Rattle.std.proofs.Common.{◌+◌, ◌∷◌, ◌++◌, Option, sym, ap, ◌∙◌, take, drop}
-use Rattle.index_pages.specs.declared.Entry.{Entry}
+use Rattle.file_index.specs.declared.Entry.{Entry}
 use Rattle.file_index.specs.Nodes.{entries_of}
 use Rattle.file_index.proofs.Parts.{set_parts}
 use Rattle.file_index.proofs.rows.replace_one.Goals as goal

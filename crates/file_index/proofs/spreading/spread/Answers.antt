@@ -1,6 +1,6 @@
 use Rattle.std.proofs.Common.{◌≡◌, ◌≤◌, ℕ, Option, Some, length, ap, subst, ◌∙◌, arith}
-use Rattle.index_pages.specs.declared.Entry.{Entry}
-use Rattle.index_pages.specs.IndexPage.{entries_on}
+use Rattle.file_index.specs.declared.Entry.{Entry}
+use Rattle.file_index.specs.IndexPage.{entries_on}
 use Rattle.ex_base.specs.Sizes.{least_page}
 use Rattle.file_index.specs.declared.named.Named.{Named}
 use Rattle.file_index.specs.Index.{least_entries}

@@ -4,7 +4,7 @@ use Rattle.std.specs.Prelude.{slice_index_or}
 use Rattle.ex_base.specs.declared.geometry.Geometry.{Geometry}
 use Rattle.ex_base.specs.Area.{catalog_no}
 use Rattle.page_alloc.specs.UnitSet.{used_at}
-use Rattle.index_pages.specs.IndexPage.{entries_on}
+use Rattle.file_index.specs.IndexPage.{entries_on}
 use Rattle.file_index.specs.Index.{IsNamed}
 use Rattle.file_walk.specs.Indexes.{AddsIndex, AddsPages, IsFreeIndex}
 use Rattle.file_walk.proofs.Lists.{on_some}

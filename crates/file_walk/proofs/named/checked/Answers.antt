@@ -1,5 +1,5 @@
 use Rattle.std.proofs.Common.{ap, ◌∙◌}
-use Rattle.index_pages.specs.IndexPage.{Indexed}
+use Rattle.file_index.specs.IndexPage.{Indexed}
 use Rattle.file_index.proofs.Naming.{named_reads}
 use Rattle.file_walk.proofs.named.checked.Goals.{then-level-named-via-then-level-named, then-level-named-via-else-level-named+then-file_no-named}
 use Rattle.file_walk.proofs.named.checked.Goals as goal

@@ -1,6 +1,6 @@
 use Rattle.std.proofs.Common.{ℕ, List, IfNone, subst}
-use Rattle.count_nodes.specs.declared.Pair.{Pair}
-use Rattle.count_nodes.specs.Node.{PairsOf}
+use Rattle.trees.specs.declared.Pair.{Pair}
+use Rattle.trees.specs.Node.{PairsOf}
 use Rattle.node_walk.proofs.nodes.read_node.Goals as goal
 
 pub returns-clause-none : goal.returns-clause-none

@@ -1,6 +1,6 @@
 use Rattle.std.proofs.Common.{◌∙◌, ◌+◌, ◌-◌, ◌*◌, ◌≤◌, suc, length, ap, sym, subst, arith}
 use Rattle.std.proofs.Math.Nat.{mul-le-mul_right}
-use Rattle.count_nodes.specs.Split.{most_pairs}
+use Rattle.trees.specs.Split.{most_pairs}
 use Rattle.trees.specs.Rows.{row_size}
 use Rattle.trees.specs.Made.{Holds}
 use Rattle.tree_delete.specs.Cuts.{IsOpened, IsCutOf}

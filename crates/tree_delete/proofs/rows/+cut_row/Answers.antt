@@ -9,7 +9,7 @@ use Rattle.ex_base.specs.declared.names.Area.TheVariants.{Page, Segment}
 use Rattle.ex_base.specs.Sizes.{leaf_bytes}
 use Rattle.ex_base.proofs.Results.{if_err_handed, if_ok_from}
 use Rattle.ex_base.proofs.Geometries.{page_le}
-use Rattle.count_nodes.specs.Split.{nodes_for}
+use Rattle.trees.specs.Split.{nodes_for}
 use Rattle.trees.specs.declared.rows.Part.{Part}
 use Rattle.trees.specs.Rows.{row_size}
 use Rattle.trees.proofs.Laid.{extends_on, extends_kept}

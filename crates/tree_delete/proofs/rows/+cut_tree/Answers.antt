@@ -3,7 +3,7 @@ use Rattle.std.proofs.lemmas.Result.{IfErr-weaker, IfOk-at_ok, on_ok_weaker}
 use Rattle.std.specs.Vec.{vec_len}
 use Rattle.trees.proofs.Laid.{extends_on, extends_kept}
 use Rattle.tree_delete.proofs.OpenLaws.{three_sizes}
-use Rattle.count_nodes.specs.Split.{most_pairs}
+use Rattle.trees.specs.Split.{most_pairs}
 use Rattle.tree_delete.proofs.Ends.{ends_kept}
 use Rattle.tree_delete.proofs.RowLaws.{empty_row, no_size, no_len, some_len}
 use Rattle.ex_base.specs.declared.geometry.Geometry.{Geometry}

@@ -1,6 +1,6 @@
 use Rattle.std.proofs.Common.{arith, ◌-◌, ◌/◌, ◌∙◌, ap, subst, length}
 use Rattle.std.proofs.lemmas.Result.{IfOk-at_ok}
-use Rattle.leaf_segments.specs.Layout.{layout_of}
+use Rattle.trees.specs.Layout.{layout_of}
 use Rattle.tree_insert.proofs.RootGrow.{AreFirst, first_plan, first_grown, first_count, first_grew}
 use Rattle.tree_insert.proofs.edit.first_leaves.Goals as goal
 use Rattle.ex_base.proofs.Geometries.{leaf_some, page_le}

@@ -7,7 +7,7 @@ use Rattle.ex_base.specs.declared.names.Area.{Area}
 use Rattle.ex_base.specs.declared.names.Area.TheVariants.{Page, Segment}
 use Rattle.ex_base.specs.Needs.{growth_leaves}
 use Rattle.ex_base.specs.Sizes.{leaf_bytes, object_most}
-use Rattle.count_nodes.specs.Split.{nodes_for}
+use Rattle.trees.specs.Split.{nodes_for}
 use Rattle.trees.specs.declared.rows.Part.{Part}
 use Rattle.trees.specs.Damage.{IsNodeFault, IsSoundWay, IsWalkFault}
 use Rattle.trees.proofs.Blame.{walk_back, walk_node, walk_below}

@@ -4,7 +4,7 @@ use Rattle.ex_base.specs.Even.{sum_of}
 use Rattle.ex_base.proofs.Spread.{plain, Between}
 use Rattle.ex_base.proofs.Geometries.{leaf_some}
 use Rattle.ex_base.proofs.Results.{if_err_handed}
-use Rattle.leaf_segments.specs.Layout.{layout_of}
+use Rattle.trees.specs.Layout.{layout_of}
 use Rattle.trees.specs.declared.rows.Part.{Part}
 use Rattle.trees.specs.Damage.{IsWalkFault}
 use Rattle.trees.proofs.Blame.{walk_part}

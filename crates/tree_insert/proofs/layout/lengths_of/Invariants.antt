@@ -1,5 +1,5 @@
 use Rattle.std.proofs.Common.{◌≡◌, take}
-use Rattle.leaf_segments.specs.Layout.{layout_of}
+use Rattle.trees.specs.Layout.{layout_of}
 use Rattle.tree_insert.proofs.layout.lengths_of.Given as goal
 
 abbrev pub invariant-loop-index : goal.invariant-loop-index

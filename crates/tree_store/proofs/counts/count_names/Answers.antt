@@ -1,5 +1,5 @@
 use Rattle.std.proofs.Common.{true≢false, sym, ◌∙◌, arith}
-use Rattle.count_nodes.specs.Names.{names_on}
+use Rattle.trees.specs.Names.{names_on}
 use Rattle.ex_base.specs.Sizes.{least_page}
 use Rattle.tree_store.proofs.Counting.{counted_all, counted_one, counted_skip}
 use Rattle.tree_store.proofs.counts.count_names.Goals.{then-names_unit, else-names_unit}

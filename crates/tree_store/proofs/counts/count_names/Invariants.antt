@@ -1,4 +1,4 @@
-use Rattle.count_nodes.specs.Names.{names_on}
+use Rattle.trees.specs.Names.{names_on}
 use Rattle.tree_store.proofs.Counting.{CountedSoFar}
 use Rattle.tree_store.proofs.counts.count_names.Given as goal
 

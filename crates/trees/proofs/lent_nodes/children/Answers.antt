@@ -1,5 +1,5 @@
 use Rattle.std.proofs.Common.{arith, rules, ◌+◌, ◌-◌, ◌∙◌, List, [], ◌≡◌, Some, slice_get, take, drop, ap, sym, subst}
-use Rattle.count_nodes.specs.declared.Pair.{Pair}
+use Rattle.trees.specs.declared.Pair.{Pair}
 use Rattle.trees.specs.Rows.{parts_of}
 use Rattle.trees.proofs.Parts.{ChildrenFrom, rise_at, first_child, next_from, children_between}
 use Rattle.trees.proofs.lent_nodes.children.Goals as goal

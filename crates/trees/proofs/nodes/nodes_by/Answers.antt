@@ -1,7 +1,7 @@
 use Rattle.std.proofs.Common.{rules, arith, subst, sym, length, ap, get_or, ◌≤◌, ◌<◌, ◌^◌, ◌+◌, drop}
 use Rattle.std.proofs.lemmas.List.{length-take-le, length-drop}
 use Rattle.ex_base.specs.declared.geometry.Geometry.{Geometry}
-use Rattle.count_nodes.specs.Split.{most_pairs}
+use Rattle.trees.specs.Split.{most_pairs}
 use Rattle.trees.specs.Rows.{row_size}
 use Rattle.trees.proofs.Over.{IsFit, over_all, node_step, piece_fits, lens_at, length_small, size_of_take, size_of_drop}
 use Rattle.trees.proofs.nodes.nodes_by.Goals as goal

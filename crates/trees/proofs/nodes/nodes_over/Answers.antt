@@ -1,6 +1,6 @@
 use Rattle.std.proofs.Common.{◌≡◌, ◌∙◌, ap, sym, subst, length, arith, IfOk, OnOk}
 use Rattle.ex_base.specs.declared.geometry.Geometry.{Geometry}
-use Rattle.count_nodes.specs.Split.{most_pairs}
+use Rattle.trees.specs.Split.{most_pairs}
 use Rattle.trees.specs.Made.{Spent}
 use Rattle.trees.specs.Built.{IsCut, even_lens}
 use Rattle.trees.proofs.Over.{even_cut, length-even_lens}

@@ -3,7 +3,7 @@ use Rattle.std.proofs.lemmas.List.{length-take-le, length-drop}
 use Rattle.std.proofs.lemmas.Result.{IfErr-weaker, on_ok_weaker}
 use Rattle.ex_base.specs.Area.{NamesLeaf}
 use Rattle.ex_base.proofs.Results.{if_err_handed}
-use Rattle.count_nodes.specs.Node.{pairs_on}
+use Rattle.trees.specs.Node.{pairs_on}
 use Rattle.trees.specs.Rows.{parts_of, row_size, FitLeaves}
 use Rattle.trees.specs.Damage.{IsSoundWay, IsWalkFault}
 use Rattle.trees.proofs.Ways.{way_inner, way_kept}

@@ -3,7 +3,7 @@ use Rattle.ex_base.specs.declared.geometry.Geometry.{Geometry}
 use Rattle.ex_base.specs.declared.names.Area.TheVariants.{Page}
 use Rattle.ex_base.specs.Sizes.{object_most}
 use Rattle.ex_base.proofs.Results.{on_ok_both}
-use Rattle.count_nodes.specs.Split.{nodes_for}
+use Rattle.trees.specs.Split.{nodes_for}
 use Rattle.trees.specs.declared.rows.Part.{Part}
 use Rattle.trees.specs.Rows.{row_size}
 use Rattle.trees.specs.Made.{Holds}

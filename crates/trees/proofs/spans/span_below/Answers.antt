@@ -1,5 +1,5 @@
 use Rattle.trees.proofs.SpanLaws.{span_here}
-use Rattle.count_nodes.proofs.Children.{length-counts}
+use Rattle.trees.proofs.Children.{length-counts}
 use Rattle.std.proofs.Common.{arith}
 use Rattle.trees.proofs.spans.span_below.Goals as goal
 

@@ -1,6 +1,6 @@
 use Rattle.std.proofs.Common.{◌-◌, IfOk, subst}
 use Rattle.ex_base.proofs.Results.{if_ok_both}
-use Rattle.count_nodes.specs.Node.{pairs_on}
+use Rattle.trees.specs.Node.{pairs_on}
 use Rattle.trees.specs.Rows.{parts_of, FitLeaves, IsFilled}
 use Rattle.trees.specs.Spans.{IsSpan}
 use Rattle.trees.proofs.SpanLaws.{span_fits}

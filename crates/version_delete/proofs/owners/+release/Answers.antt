@@ -4,7 +4,7 @@ use Rattle.ex_base.specs.Area.{InPageArea}
 use Rattle.ex_base.specs.Ports.{without_ref}
 use Rattle.trees.specs.Rows.{parts_of, IsRowOn, IsFilled}
 use Rattle.trees.specs.Trees.{Units}
-use Rattle.count_nodes.specs.Node.{pairs_on}
+use Rattle.trees.specs.Node.{pairs_on}
 use Rattle.trees.specs.Counted.{HasCounts}
 use Rattle.version_delete.specs.Released.{AreApart, IsFreed, Released}
 use Rattle.version_delete.proofs.Releasing.{drops_of, drops_kept, not_last, node_released, so_far_more, gives_last, gives_less, gives_on, counts_given, all_of, some_level, suc_less, node_left, gives_geometry}

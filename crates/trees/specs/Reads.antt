@@ -1,0 +1,16 @@
+-- What a page has to show to be a node, field by field.
+use Rattle.std.specs.Prelude.{◌≡◌, ℕ, ◌+◌, ◌*◌, ◌≤◌, List, length, take, drop, slice_index}
+use Rattle.ex_base.specs.Fields.{AreZero, number_at}
+use Rattle.trees.specs.Split.{most_pairs}
+use Rattle.trees.specs.Node.{kind_of, pair_len, width_on, read_pairs, RiseFrom}
+
+pub record NodeReads (fan : ℕ) (page : List ℕ) : Type 0 where
+  pub long : 8 ≤ length page
+  pub kind : slice_index page 0 ≡ kind_of (width_on page)
+  pub inner : 1 ≤ slice_index page 1
+  pub gap : AreZero (take 4 (drop 4 page))
+  pub some : 1 ≤ number_at 2 page 2
+  pub few : number_at 2 page 2 ≤ most_pairs fan
+  pub room : 8 + pair_len (width_on page) * number_at 2 page 2 ≤ length page
+  pub rising : RiseFrom 0 (read_pairs (width_on page) (number_at 2 page 2) (drop 8 page))
+  pub rest : AreZero (drop (8 + pair_len (width_on page) * number_at 2 page 2) page)
