@@ -59,8 +59,9 @@ class Log:
             ended = re.fullmatch(r"gate: ended with status \d+, wall ([\d.]+) seconds, processors ([\d.]+) seconds", line)
             if ended:
                 self.wall, self.processors = float(ended[1]), float(ended[2])
-            part = re.search(r"rt: (\w+): \d+ of its \d+ must-fail edits were tried by an earlier run", line)
-            if part:
+            # (where all were, the log that measured them holds)
+            part = re.search(r"rt: (\w+): (\d+) of its (\d+) must-fail edits were tried by an earlier run", line)
+            if part and part[2] != part[3]:
                 self.part.add(("edit", part[1]))
             last = re.fullmatch(r"\[ *[\d.]+\] (\d+ passed, \d+ failed.*)", line)
             self.last = last[1] if last else self.last
