@@ -61,6 +61,32 @@ class InFolder(unittest.TestCase):
         return volume
 
 
+# An object of 1,000 bytes, with which the scripts of rows begin.
+BASE = "begin\nfile a\ncreate a as @x\nappend @x rep:1000:61\ncommit\n"
+
+
+class OfRows(InFolder):
+    """A test of scripts and their replies on a small volume."""
+
+    def small(self) -> None:
+        """Makes the volume of the rows: 64 pages and 16 units."""
+        self.format(pages=64, segs=16, fan=2)
+
+    def replies(self, script: str) -> list[str]:
+        """What a script is answered, in a run that comes to its end."""
+        ran = self.exsm("run", "v", given=script.encode())
+        self.assertEqual(ran.status, 0, ran.errors)
+        return ran.lines
+
+    def check_rows(self, rows: dict[str, tuple[str, list[str]]]) -> None:
+        """Runs each script behind BASE on a new volume, and compares the replies to its own lines."""
+        for name, (script, wanted) in rows.items():
+            with self.subTest(name):
+                self.small()
+                self.assertEqual(self.replies(BASE + script)[BASE.count("\n"):], wanted)
+                os.remove("v")
+
+
 class Terminal:
     """The runner in a terminal, its history in the folder of the test."""
 

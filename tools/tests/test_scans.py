@@ -6,13 +6,11 @@ import random
 import subprocess
 
 from exsm_client import Refused, Store
-from tests.support import SECONDS, InFolder
+from tests.support import BASE, SECONDS, OfRows
 
 SEED = 9
 SCANS = 64
 STEPS = 300
-BASE = "begin\nfile a\ncreate a as @x\nappend @x rep:1000:61\ncommit\n"
-
 # Scripts that begin with BASE, and what its lines behind it are answered.
 AFTER_BASE = {
     "a scan outlives an abort, and keeps what it reaches in use": (
@@ -82,26 +80,12 @@ class Bytes:
         return f"delete @x {place} {count}"
 
 
-class Scans(InFolder):
+class Scans(OfRows):
     """What lines on scans and groups are answered."""
-
-    def small(self) -> None:
-        """Makes the volume of the rows: 64 pages and 16 units."""
-        self.format(pages=64, segs=16, fan=2)
-
-    def replies(self, script: str) -> list[str]:
-        """What a script is answered, in a run that comes to its end."""
-        ran = self.exsm("run", "v", given=script.encode())
-        self.assertEqual(ran.status, 0, ran.errors)
-        return ran.lines
 
     def test_rows(self) -> None:
         """scripts and their replies"""
-        for name, (script, wanted) in AFTER_BASE.items():
-            with self.subTest(name):
-                self.small()
-                self.assertEqual(self.replies(BASE + script)[5:], wanted)
-                os.remove("v")
+        self.check_rows(AFTER_BASE)
         self.small()
         self.assertEqual(self.replies(REFUSALS[0]), REFUSALS[1])
 

@@ -14,7 +14,7 @@ from exsm_client import Store
 from exsm_log import SLOT
 from exsm_records import Record
 from exsm_volume import Volume
-from tests.support import SECONDS, InFolder
+from tests.support import BASE, SECONDS, OfRows
 
 SEED = 17
 TRANSACTIONS = 150
@@ -24,7 +24,6 @@ STATE_AND_LINKS = (1, *range(10, 22))
 MANY = 1000
 WIDE = 100
 SLOWER_MOST = 40
-BASE = "begin\nfile a\ncreate a as @x\nappend @x rep:1000:61\ncommit\n"
 BRANCHES = ("begin\nfreeze @x as @v\nderive @v as @y\nreplace @y 0 hex:42\nversions @x\ndrop @v\ndestroy @x\n"
             "versions @y\ndestroy @y\nderive @y as @z\ndrop @v\ncommit\nspace\nlist a\n")
 
@@ -247,24 +246,10 @@ class Random:
             self.test.assertEqual(self.store.versions(version.oid), trees.listed(number))
 
 
-class Versions(InFolder):
-    def small(self) -> None:
-        """Makes the volume of the rows: 64 pages and 16 units."""
-        self.format(pages=64, segs=16, fan=2)
-
-    def replies(self, script: str) -> list[str]:
-        """What a script is answered, in a run that comes to its end."""
-        ran = self.exsm("run", "v", given=script.encode())
-        self.assertEqual(ran.status, 0, ran.errors)
-        return ran.lines
-
+class Versions(OfRows):
     def test_rows(self) -> None:
         """versions: scripts and their replies"""
-        for name, (script, wanted) in AFTER_BASE.items():
-            with self.subTest(name):
-                self.small()
-                self.assertEqual(self.replies(BASE + script)[5:], wanted)
-                os.remove("v")
+        self.check_rows(AFTER_BASE)
 
     def test_random_trees(self) -> None:
         """versions: random lines, committed and aborted, beside a plain model and the reader of the bytes"""
