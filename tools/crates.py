@@ -180,7 +180,7 @@ def chains(graph):
     return (
         f"The longest chain to `{PROGRAM}` has {len(longest)} crates: {' ← '.join(f'`{it}`' for it in longest)}.\n\n"
         f"The heaviest chain has {graph.heaviest[top]:,} of all {whole:,} lines of code, contracts and proofs, {share:.0f} %: "
-        f"{' ← '.join(f'`{it}`' for it in heaviest)}. A gate takes at least that share of the time of one processor, however many there are."
+        f"{' ← '.join(f'`{it}`' for it in heaviest)}. A gate that proves all takes at least as long as these crates take one after the other, however many processors there are."
     )
 
 

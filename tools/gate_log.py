@@ -82,10 +82,9 @@ def earlier():
 
 
 def table(logs):
-    seconds, part, before = {}, set(), earlier()
+    seconds, before = {}, earlier()
     for log in logs:
-        seconds.update(log.seconds)
-        part = (part | log.part) - {it for it in log.seconds if it not in log.part}
+        seconds.update({key: it for key, it in log.seconds.items() if key not in log.part})
     rows, sums, of_crate, starred, kept = [], dict.fromkeys(KINDS, 0), {}, False, []
     for crate in crates():
         fields = []
@@ -95,7 +94,7 @@ def table(logs):
             if kind == "tests" and not has_tests(crate) or kind == "edit" and not edits:
                 fields.append(NONE[kind])
                 continue
-            if key in seconds and key not in part:
+            if key in seconds:
                 number, star = round(seconds[key]), ""
             elif key in before:
                 number, star, starred = before[key], "*", True
@@ -119,7 +118,7 @@ def table(logs):
     if not last:
         text += ["No run of these crates as a whole was measured."]
     elif last.wall:
-        text += [f"The last run, of {last.begun}, took {last.wall / 60:.0f} minutes on {last.number} processors, of which it used {last.processors / 60:.0f} processor minutes.{f' Its last line: `{last.last}`.' if last.last else ''}"]
+        text += [f"The last run, of {last.begun}, took {last.wall / 60:.0f} minutes on {last.number} processors, of which it used {last.processors / 60:.0f} processor minutes, and kept what earlier runs had proved.{f' Its last line: `{last.last}`.' if last.last else ''}"]
     else:
         text += [f"The last run, of {last.begun}, was cut off."]
     if starred:
