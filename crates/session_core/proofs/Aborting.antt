@@ -43,11 +43,11 @@ use Rattle.session_core.specs.Steps.{Steps}
 use Rattle.session_core.proofs.Accepted.{took_place}
 use Rattle.session_core.proofs.Ending.{AtRest, committed_side, exact_at_rest, fewer_used, pages_go, rests_shown, same_refs, scan_roots}
 use Rattle.session_core.proofs.Finding.{stopped_outside, stopped_so}
-use Rattle.session_core.proofs.Frames.{frames_shown}
+use Rattle.volume_port.proofs.Frames.{frames_shown}
 use Rattle.session_core.proofs.Quiet.{left_before, now_after, quiet_moments}
 use Rattle.session_core.proofs.Refusing.{abort_accepted}
 use Rattle.session_core.proofs.Releasing.{GaveUp, StandFirst, fits_session, given_free, left_owned, own_roots, tells_now}
-use Rattle.session_core.proofs.Showing.{session_geometry, view_of}
+use Rattle.volume_model.proofs.Showing.{session_geometry, view_of}
 use Rattle.session_core.proofs.Tracking.{freed_back, held_back}
 
 module _ {a : Outside} {before : View SessionState} (now : ShowsNow meant a before) (session : IsSession before.session) where

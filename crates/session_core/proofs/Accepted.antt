@@ -35,11 +35,12 @@ use Rattle.session_core.specs.Catalogs.{FramesLend, catalog_bytes}
 use Rattle.session_core.specs.Meant.{meant, pick_of, held_view}
 use Rattle.session_core.specs.Counts.{used_of}
 use Rattle.session_core.specs.Steps.{OnlyFrames, Steps, StepsQuietly}
-use Rattle.session_core.proofs.Volumes.{parts_same, table_same, idle_of}
-use Rattle.session_core.proofs.Showing.{view_of, KeepsVolume, WorksAs, shows_after, shows_catalog, reads_catalog, working_catalog, session_geometry}
+use Rattle.volume_model.proofs.Volumes.{parts_same, table_same, idle_of}
+use Rattle.volume_model.proofs.Showing.{view_of, KeepsVolume, WorksAs, shows_after, shows_catalog, session_geometry}
+use Rattle.volume_port.proofs.HeldCatalog.{reads_catalog, working_catalog}
 use Rattle.session_core.proofs.Quiet.{AreSizes, refused_at_once, quiet_moments, quiet_refusal, shown_lends, later_frames, left_before, now_after}
 use Rattle.session_core.proofs.Refusing.{begin_accepted, spent_refused, free_left}
-use Rattle.session_core.proofs.Working.{begun_units}
+use Rattle.volume_port.proofs.Working.{begun_units}
 
 -- ---- any accepted command that takes no unit
 

@@ -23,18 +23,14 @@ use Rattle.volume_model.specs.Volume.{Decoded, Volume, file_pages, reach_of, tab
 use Rattle.volume_edits.specs.Ported.{ShowsVolume, units_in, IsApart}
 use Rattle.volume_port.specs.Logged.{is_held}
 use Rattle.volume_port.specs.Ported.{image_over, in_pages}
+use Rattle.volume_port.proofs.HeldCatalog.{laid_over_log}
 use Rattle.volume_port.proofs.WorkingRows.{in_area}
 use Rattle.session_core.specs.Sessions.{SessionState, IsTracked, is_kept}
 use Rattle.session_core.specs.Finding.{IsPortOf, held_image}
 use Rattle.session_core.specs.Meant.{meant, held_view}
-use Rattle.session_core.proofs.Volumes.{Parts, shown_parts, shown_table}
+use Rattle.volume_model.proofs.Volumes.{Parts, shown_parts, shown_table}
 
 -- ---- a unit's bytes
-
-laid_over_log : (row : Option (Option (List ℕ))) (image : Option (List ℕ)) (home : List ℕ) → laid_over_page (unwrap_or image home) home row ≡ unwrap_or (over row image) home
-laid_over_log None image home = refl
-laid_over_log (Some None) image home = refl
-laid_over_log (Some (Some bytes)) image home = refl
 
 pub page_bytes : (g : Geometry) (disk : List ℕ) (u : ℕ) → ltb u (area_end g) ≡ true → unit_bytes g (Some disk) u ≡ page_at g disk u
 page_bytes g disk u lt = rw lt refl

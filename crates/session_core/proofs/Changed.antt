@@ -21,8 +21,8 @@ use Rattle.volume_edits.proofs.Changing.{changes_volume}
 use Rattle.volume_edits.proofs.Showing.{version_found}
 use Rattle.volume_model.specs.Volume.{Volume, table_of}
 use Rattle.session_core.specs.TableUpdates.{AsksChange, BecomesVolume, Changes, Updates}
-use Rattle.session_core.proofs.States.{is_current}
-use Rattle.session_core.proofs.Tables.{bytes_stay, nothing_changed, table_formed}
+use Rattle.volume_model.proofs.States.{is_current}
+use Rattle.volume_edits.proofs.Tables.{bytes_stay, nothing_changed, table_formed}
 use Rattle.session_core.proofs.MovedVolumes.{changed_volume, in_use, kept_volume}
 
 -- an edit of the version, whose new bytes are those that the change makes, with the roots that go and come

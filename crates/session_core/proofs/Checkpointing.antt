@@ -25,9 +25,9 @@ use Rattle.table_model.specs.declared.reply.Reply.TheVariants as reply
 use Rattle.session_core.specs.Sessions.{SessionState, IsSession, held}
 use Rattle.session_core.specs.Meant.{meant, pick_of, held_view}
 use Rattle.session_core.proofs.Accepted.{took_place}
-use Rattle.session_core.proofs.Frames.{frames_shown}
+use Rattle.volume_port.proofs.Frames.{frames_shown}
 use Rattle.session_core.proofs.Refusing.{checkpoint_accepted}
-use Rattle.session_core.proofs.Volumes.{idle_of}
+use Rattle.volume_model.proofs.Volumes.{idle_of}
 use Rattle.trees.specs.Owners.{IsOwned, root_pages}
 use Rattle.ex_base.proofs.Members.{contains_later}
 use Rattle.volume_model.specs.Homes.{home}
@@ -40,7 +40,7 @@ use Rattle.session_core.proofs.Ending.{AtRest, committed_side, rests_shown, scan
 use Rattle.std.proofs.lemmas.Bool.{both_ways}
 use Rattle.volume_port.specs.Logged.{is_held}
 use Rattle.page_alloc.specs.UnitSet.{refs_at, used_at}
-use Rattle.session_core.proofs.Showing.{view_of, session_geometry}
+use Rattle.volume_model.proofs.Showing.{view_of, session_geometry}
 
 no_overlay : (rows : List PageRow) → ((page : ℕ) → lookup (nat_eq page) rows ≡ None) → rows ≡ []
 no_overlay [] none = refl

@@ -34,11 +34,11 @@ use Rattle.session_core.specs.Opening.{ShowsThen, without_scan}
 use Rattle.session_core.specs.Sessions.{IsSession, SessionState, held}
 use Rattle.session_core.proofs.Ending.{scan_roots}
 use Rattle.session_core.proofs.Finding.{stopped_outside}
-use Rattle.session_core.proofs.Frames.{frames_shown}
+use Rattle.volume_port.proofs.Frames.{frames_shown}
 use Rattle.session_core.proofs.OtherScans.{rescanned, scanning}
 use Rattle.session_core.proofs.Quiet.{left_before, now_after, shows_frames}
 use Rattle.session_core.proofs.Releasing.{GaveUp, StandFirst, fits_session, left_owned, own_roots, tells_now}
-use Rattle.session_core.proofs.Showing.{session_geometry}
+use Rattle.volume_model.proofs.Showing.{session_geometry}
 
 -- ---- an item taken out of a list
 

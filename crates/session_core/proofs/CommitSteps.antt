@@ -27,7 +27,7 @@ use Rattle.session_core.specs.Commits.{working_reach}
 use Rattle.session_core.specs.Sessions.{SessionState, IsSession, Settled, held}
 use Rattle.session_core.specs.Meant.{meant, pick_of, held_view}
 use Rattle.session_core.proofs.Accepted.{took_place}
-use Rattle.session_core.proofs.Frames.{frames_shown}
+use Rattle.volume_port.proofs.Frames.{frames_shown}
 use Rattle.session_core.proofs.Quiet.{left_before, shown_lends}
 use Rattle.session_core.proofs.Refusing.{commit_accepted}
 use Rattle.trees.specs.Owners.{IsOwned, root_pages}
@@ -42,8 +42,8 @@ use Rattle.session_core.proofs.Releasing.{GaveUp, StandFirst, TellsDisk, given_f
 use Rattle.session_core.proofs.Committing.{Commits, FramesAfter, committed_as, committed_session, commits_table, kept_left, may_commit, new_reach, numbered, numbered_pages, numbered_rows, owners_left}
 use Rattle.session_core.proofs.Ending.{AtRest, committed_side, exact_at_rest, fewer_used, rests_shown, scan_roots}
 use Rattle.page_alloc.specs.UnitSet.{UnitSet, refs_at, used_at}
-use Rattle.session_core.proofs.ScansReach.{scans_reach_same}
-use Rattle.session_core.proofs.Showing.{view_of, shows_catalog, session_geometry}
+use Rattle.volume_model.proofs.ScansReach.{scans_reach_same}
+use Rattle.volume_model.proofs.Showing.{view_of, shows_catalog, session_geometry}
 
 -- From the catalog that was read on: the trees whose roots the transaction lost are given up, and then the commit is made.
 pub record GaveLost (a i m : Outside) (s : SessionState) (was : List Frames) (given : UnitSet) (groups : List Frames) : Type 0 where

@@ -35,8 +35,8 @@ use Rattle.session_core.specs.Sessions.{SessionState, IsSession, IsTracked, Sett
 use Rattle.session_core.specs.Meant.{meant, held_view}
 use Rattle.session_core.proofs.Quiet.{left_before, quiet_moments}
 use Rattle.session_core.proofs.Refusing.{none_is_false}
-use Rattle.session_core.proofs.Volumes.{shown_parts}
-use Rattle.session_core.proofs.KeptOff.{Others, SameOff, others_kept, trees_off, trees_kept, table_off}
+use Rattle.volume_model.proofs.Volumes.{shown_parts}
+use Rattle.volume_model.proofs.KeptOff.{Others, SameOff, others_kept, trees_off, trees_kept, table_off}
 use Rattle.trees.specs.Owners.{IsOwned, root_pages}
 use Rattle.ex_base.proofs.Counts.{contains_times, times-append}
 use Rattle.ex_base.proofs.Members.{contains_later}
@@ -55,8 +55,8 @@ use Rattle.volume_port.proofs.WorkingRows.{put_other}
 use Rattle.page_alloc.specs.UnitSet.{UnitSet, refs_at, used_at}
 use Rattle.op_log.specs.AfterLog.{logged}
 use Rattle.commits.proofs.Reached.{reach_behind}
-use Rattle.session_core.proofs.Showing.{view_of, trees_in, shows_catalog, session_geometry}
-use Rattle.session_core.proofs.Working.{lookup_put, each_put, images_of_files, working_image, same_off}
+use Rattle.volume_model.proofs.Showing.{view_of, trees_in, shows_catalog, session_geometry}
+use Rattle.volume_port.proofs.Working.{lookup_put, each_put, images_of_files, working_image, same_off}
 
 -- ---- what a commit asks
 

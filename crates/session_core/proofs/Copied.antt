@@ -40,7 +40,7 @@ use Rattle.session_core.specs.Performed.{copies}
 use Rattle.session_core.specs.TableUpdates.{AsksCopy, BecomesVolume, Updates}
 use Rattle.session_core.specs.TableUpdates.{Derives as DerivesVersion, Freezes as FreezesVersion}
 use Rattle.session_core.proofs.Making.{above, becomes_counted, counted, low, some}
-use Rattle.session_core.proofs.States.{is_current, is_frozen_state}
+use Rattle.volume_model.proofs.States.{is_current, is_frozen_state}
 
 module _ {S : Type 0} (g : ground.Ghosts S) (old mid : S) (records : List LogRecord) (v : Volume) (vol : IsVolume g old records v) (oid : Oid) (frozen : Bool) (unique : ℕ) (asks : AsksCopy v (table_of (units_in g old) v) oid frozen unique)
     (writes : WritesCatalog g old mid (catalog_numbered (unique + 1) (catalog_on (g.image old catalog_no)))) where

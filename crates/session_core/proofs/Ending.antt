@@ -29,7 +29,7 @@ use Rattle.volume_model.proofs.ExactView.{exact_shown, no_page_shown}
 use Rattle.session_core.specs.Meant.{held_view}
 use Rattle.session_core.specs.Sessions.{IsSession, OnlyGives, SessionState}
 use Rattle.session_core.proofs.Refusing.{free_left}
-use Rattle.session_core.proofs.Showing.{session_geometry, view_of}
+use Rattle.volume_model.proofs.Showing.{session_geometry, view_of}
 
 -- ---- the counts
 

@@ -60,7 +60,7 @@ use Rattle.session_core.specs.Meant.{meant, held_view}
 use Rattle.session_core.specs.Finding.{IsPortOver, PortShows, IfShown, LineStops, IsOutside, IsFound, TellsVersion, held_image, content_named, record_named, stop_at, stop_or}
 use Rattle.session_core.specs.Steps.{OnlyFrames}
 use Rattle.session_core.proofs.Bridge.{shows_volume, table_is, image_shown, session_geometry}
-use Rattle.session_core.proofs.Frames.{frames_lent}
+use Rattle.volume_port.proofs.Frames.{frames_lent}
 
 -- ---- what a reading leaves
 

@@ -45,9 +45,9 @@ use Rattle.session_core.proofs.Bridge.{image_is, image_shown, kept_page, no_imag
 use Rattle.session_core.proofs.Ending.{in_second}
 use Rattle.session_core.proofs.Finding.{shown_tells}
 use Rattle.session_core.proofs.Homes.{home_kept}
-use Rattle.session_core.proofs.KeptOff.{trees_kept}
+use Rattle.volume_model.proofs.KeptOff.{trees_kept}
 use Rattle.session_core.proofs.Ruling.{image_most, volume_rules}
-use Rattle.session_core.proofs.Showing.{trees_in}
+use Rattle.volume_model.proofs.Showing.{trees_in}
 use Rattle.session_core.proofs.PortParts.{IsPortWith, port_of}
 use Rattle.session_core.proofs.Turning.{owners_turned, owns_gone}
 use Rattle.session_core.proofs.Updating.{LeavesVolume, IsSettled, update_stays, updates_show}

@@ -6,14 +6,12 @@ mod Digests
 pub mod Stopping
 pub mod Ending
 pub mod Finding
-mod Frames
 mod Holding
 mod Homes
 mod PortParts
 mod Turning
 mod TurnedParts
 mod TakingOut
-pub mod KeptOff
 pub mod Listing
 mod Moved
 mod Moving
@@ -30,33 +28,25 @@ pub mod Sessions
 mod Settling
 mod Sweeping
 mod Shaping
-pub mod Showing
 mod Summing
 mod Tracking
 pub mod Undisturbed
 mod UnitsTaken
 mod Updating
-pub mod Volumes
-pub mod Working
 mod Writing
-mod Tables
 mod Tallies
 mod MovedVolumes
 mod Changed
 mod Removed
-mod States
 mod Copied
 mod Relatives
 pub mod TakingPages
-mod OlderVersion
 mod Making
 mod Recorded
-mod Records
 pub mod OtherScans
 pub mod Opening
 pub mod Closing
 mod Releasing
-mod ScansReach
 mod Aborting
 mod CommitSteps
 mod Checkpointing

@@ -28,7 +28,7 @@ use Rattle.volume_model.specs.Volume.{Volume, file_pages, reach_of, table_of}
 use Rattle.volume_model.proofs.Places.{sep_one}
 use Rattle.session_core.specs.declared.updates.Done.{Done}
 use Rattle.session_core.specs.TableUpdates.{BecomesVolume, TableUpdate, Updates, updated}
-use Rattle.session_core.proofs.Tables.{bytes_agree}
+use Rattle.volume_edits.proofs.Tables.{bytes_agree}
 
 module _ {S : Type 0} (g : ground.Ghosts S) (old : S) (records : List LogRecord) (v : Volume) (vol : IsVolume g old records v) where
   abbrev U : Units

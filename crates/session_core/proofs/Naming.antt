@@ -18,7 +18,7 @@ use Rattle.session_core.specs.Steps.{OnlyFrames}
 use Rattle.session_core.specs.Finding.{IsMissing, IsUnnamed, LineStops, oid_among}
 use Rattle.volume_model.specs.Shown.{working_units}
 use Rattle.session_core.proofs.OutOfRange.{none_out_of_range}
-use Rattle.session_core.proofs.Volumes.{shown_parts, shown_table}
+use Rattle.volume_model.proofs.Volumes.{shown_parts, shown_table}
 
 -- ---- the names of a view
 

@@ -35,7 +35,7 @@ use Rattle.session_core.specs.Opening.{IfTold, ScanOpened, ShowsThen, first_row,
 use Rattle.session_core.specs.Sessions.{IsSession, SessionState}
 use Rattle.session_core.specs.Steps.{OnlyFrames}
 use Rattle.session_core.proofs.Ending.{few_scan_roots, scan_roots}
-use Rattle.session_core.proofs.Frames.{all_of_each}
+use Rattle.volume_port.proofs.Frames.{all_of_each}
 use Rattle.session_core.proofs.OtherScans.{rescanned, scanning}
 use Rattle.session_core.proofs.Quiet.{same_view}
 use Rattle.session_core.proofs.Recorded.{root_there, shown_home, spelled_home}

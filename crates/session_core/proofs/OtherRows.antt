@@ -29,7 +29,7 @@ use Rattle.session_core.specs.Sessions.{IsSession, SessionState, held}
 use Rattle.session_core.specs.Steps.{OnlyFrames}
 use Rattle.session_core.proofs.Quiet.{later_frames, left_before}
 use Rattle.session_core.proofs.ScanBytes.{home_whole, same_len}
-use Rattle.session_core.proofs.Showing.{view_of}
+use Rattle.volume_model.proofs.Showing.{view_of}
 use Rattle.session_core.proofs.Taken.{scan_as}
 
 -- ---- a view with other scans, groups and frames

@@ -18,8 +18,8 @@ use Rattle.volume_edits.proofs.Contents.{at_beside}
 use Rattle.volume_edits.proofs.Counted.{file_lies}
 use Rattle.volume_edits.proofs.Finding.{found_or_not, row_stored}
 use Rattle.session_core.specs.Finding.{IsOutOfRange}
-use Rattle.session_core.proofs.Records.{OfVersion, record_of}
-use Rattle.session_core.proofs.Volumes.{Parts}
+use Rattle.volume_edits.proofs.Records.{OfVersion, record_of}
+use Rattle.volume_model.proofs.Volumes.{Parts}
 
 -- the place of a body on a page is on the page, in one of its slots
 placed_from : (page slot : ℕ) (slots : List Slot) (row : Place × List ℕ) → In row (bodies_from page slot slots) → (row.0.page.0 ≡ page) × (row.0.slot < slot + length slots)

@@ -22,8 +22,8 @@ use Rattle.session_core.specs.Sessions.{SessionState, held, IsSession}
 use Rattle.session_core.specs.Catalogs.{FramesLend}
 use Rattle.session_core.specs.Meant.{meant, pick_of, held_view}
 use Rattle.session_core.specs.Steps.{OnlyFrames, Stops, StepsQuietly}
-use Rattle.session_core.proofs.Frames.{frames_shown, frames_lent}
-use Rattle.session_core.proofs.Showing.{view_of, session_geometry}
+use Rattle.volume_port.proofs.Frames.{frames_shown, frames_lent}
+use Rattle.volume_model.proofs.Showing.{view_of, session_geometry}
 
 -- ---- other frames
 

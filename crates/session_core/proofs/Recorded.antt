@@ -49,9 +49,9 @@ use Rattle.session_core.specs.Finding.{content_named, held_image}
 use Rattle.session_core.specs.Meant.{held_view}
 use Rattle.session_core.specs.Sessions.{SessionState}
 use Rattle.session_core.proofs.Bridge.{image_is, page_bytes, session_geometry}
-use Rattle.session_core.proofs.Records.{record_of}
+use Rattle.volume_edits.proofs.Records.{record_of}
 use Rattle.session_core.proofs.Ruling.{image_most}
-use Rattle.session_core.proofs.Volumes.{Parts, shown_parts, shown_table}
+use Rattle.volume_model.proofs.Volumes.{Parts, shown_parts, shown_table}
 
 -- ---- a body on a page
 

@@ -37,7 +37,7 @@ use Rattle.session_core.specs.declared.session.objects.Named.{Named}
 use Rattle.session_core.specs.declared.session.relatives.Relation.TheVariants as relation
 use Rattle.versions.specs.declared.finding.Found.{Found}
 use Rattle.session_core.proofs.Finding.{no_damage, reads_live}
-use Rattle.session_core.proofs.OlderVersion.{named_there, numbered_is, older_there, only_by_branches}
+use Rattle.volume_edits.proofs.OlderVersion.{named_there, numbered_is, older_there, only_by_branches}
 
 module _ {S : Type 0} (g : ground.Ghosts S) (s : S) {before : View SessionState} (shows : PortShows g s before) (oid : Oid) (version : Version) (is : version_at (shown before.machine) oid ≡ Some version) where
   reads : ReadsVersion g s oid version

@@ -26,7 +26,7 @@ use Rattle.session_core.specs.Sessions.{IsSession, SessionState, is_kept}
 use Rattle.session_core.proofs.Ending.{AsFree}
 use Rattle.session_core.proofs.Quiet.{shown_lends}
 use Rattle.session_core.proofs.Sessions.{main_there}
-use Rattle.session_core.proofs.Showing.{session_geometry}
+use Rattle.volume_model.proofs.Showing.{session_geometry}
 
 -- Of a session with these frames the trees of these roots were given up: the units and the frames after it.
 pub record GaveUp (a b : Outside) (s : SessionState) (was : List Frames) (roots : List Root) (units : UnitSet) (groups : List Frames) : Type 0 where

@@ -23,7 +23,7 @@ use Rattle.volume_edits.proofs.Standings.{linked_there, newer_in_table, only_in_
 use Rattle.volume_model.specs.Volume.{table_of}
 use Rattle.session_core.specs.TableUpdates.{BecomesVolume, Drops as DropsVersion, Removes, Updates}
 use Rattle.session_core.proofs.MovedVolumes.{moved_volume}
-use Rattle.session_core.proofs.States.{is_current, is_frozen_state}
+use Rattle.volume_model.proofs.States.{is_current, is_frozen_state}
 
 module _ {S : Type 0} (g : ground.Ghosts S) (old new : S) (oid : Oid) where
   -- the root that is answered is that of the record

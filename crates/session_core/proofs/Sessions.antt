@@ -36,7 +36,7 @@ use Rattle.std.proofs.lemmas.List.{length-map}
 use Rattle.std.proofs.lemmas.Bool.{both_ways}
 use Rattle.session_core.specs.Steps.{OnlyFrames}
 use Rattle.disk_model.specs.Outside.{Outside}
-use Rattle.session_core.proofs.Working.{lookup_put, length_put, firsts_put}
+use Rattle.volume_port.proofs.Working.{lookup_put, length_put, firsts_put}
 
 -- `main` is among the groups
 pub main_there : (rows : List GroupRow) (groups : List Frames) → AreGroupsOf rows groups → 0 < length groups

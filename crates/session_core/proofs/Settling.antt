@@ -11,7 +11,7 @@ use Rattle.meta_pages.specs.Rows.{IsAbove, IsRising}
 use Rattle.page_alloc.specs.UnitSet.{UnitSet, refs_at, used_at}
 use Rattle.volume_model.specs.Shown.{WorkingRow}
 use Rattle.volume_port.specs.Logged.{LoggedSet, is_held}
-use Rattle.session_core.proofs.Frames.{each_of_all}
+use Rattle.volume_port.proofs.Frames.{each_of_all}
 use Rattle.session_core.specs.Sessions.{OnlyGives, Settled, TakenBack, WasTaken, is_there, is_kept}
 use Rattle.ex_base.proofs.Options.{none_from_test}
 

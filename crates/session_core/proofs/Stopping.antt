@@ -16,7 +16,7 @@ use Rattle.session_core.specs.Meant.{meant}
 use Rattle.session_core.specs.Finding.{IfShown, IsOutside, LineStops}
 use Rattle.session_core.specs.Steps.{Steps, Stops, StepsQuietly}
 use Rattle.session_core.proofs.Quiet.{quiet_moments, shown_lends}
-use Rattle.session_core.proofs.Showing.{reads_catalog}
+use Rattle.volume_port.proofs.HeldCatalog.{reads_catalog}
 
 -- ---- why it stops
 

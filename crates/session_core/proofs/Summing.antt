@@ -39,12 +39,13 @@ use Rattle.session_core.specs.Steps.{OnlyFrames, Stops}
 use Rattle.session_core.specs.Summaries.{AreTotals, IfCatalog, IsTally, SumsUp, objects_if, objects_named, versions_if, versions_named}
 use Rattle.session_core.proofs.Accepted.{ReadsCatalog, shown_on, used_is}
 use Rattle.session_core.proofs.Listing.{on_after}
-use Rattle.session_core.proofs.Records.{paired}
+use Rattle.volume_edits.proofs.Records.{paired}
 use Rattle.session_core.proofs.Stopping.{unread_outside, unread_stops}
 use Rattle.session_core.proofs.Naming.{frames_twice, later_stops}
 use Rattle.session_core.proofs.Quiet.{nothing_changed, same_view, shown_lends, with_groups}
-use Rattle.session_core.proofs.Showing.{held_catalog, reads_catalog, session_geometry}
-use Rattle.session_core.proofs.Volumes.{Parts, as_many_files, shown_parts, shown_table}
+use Rattle.volume_model.proofs.Showing.{session_geometry}
+use Rattle.volume_port.proofs.HeldCatalog.{held_catalog, reads_catalog}
+use Rattle.volume_model.proofs.Volumes.{Parts, as_many_files, shown_parts, shown_table}
 
 -- ---- the entries of a catalog, one after the other
 

@@ -45,7 +45,7 @@ use Rattle.session_core.specs.Turning.{RootsTurned, TakenOut, WasCommitted, WasG
 use Rattle.session_core.proofs.Ending.{few_scan_roots, pages_go, same_refs, scan_roots}
 use Rattle.session_core.proofs.Homes.{home_is, home_kept}
 use Rattle.session_core.proofs.PortParts.{IsPortWith}
-use Rattle.session_core.proofs.Showing.{session_geometry}
+use Rattle.volume_model.proofs.Showing.{session_geometry}
 
 -- ---- the same owners, as a port has them
 

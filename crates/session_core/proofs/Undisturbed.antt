@@ -15,7 +15,7 @@ use Rattle.session_views.specs.View.{View, ShowsNow}
 use Rattle.session_core.specs.Meant.{meant}
 use Rattle.session_core.specs.Sessions.{IsSession, SessionState}
 use Rattle.session_core.specs.Updates.{WritesUnused}
-use Rattle.session_core.proofs.Showing.{session_geometry}
+use Rattle.volume_model.proofs.Showing.{session_geometry}
 use Rattle.session_core.proofs.Updating.{changes_now, counted_now, reach_settled, update_stays}
 
 -- what was read at most wrote nowhere

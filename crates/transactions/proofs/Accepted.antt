@@ -43,15 +43,15 @@ use Rattle.table_model.specs.Tables as tables
 use Rattle.transactions.proofs.Files.{no_pages_there}
 use Rattle.transactions.proofs.Unfiled.{HasAll, volume_without, all_of, not_empty_as, gone_of, pages_without, stored_without, others_without, table_without_file}
 use Rattle.session_core.specs.Steps.{OnlyFrames, StepsQuietly}
-use Rattle.session_core.proofs.Volumes.{names_shown, shown_parts}
-use Rattle.session_core.proofs.KeptOff.{Others, others_kept, table_off}
+use Rattle.volume_model.proofs.Volumes.{names_shown, shown_parts}
+use Rattle.volume_model.proofs.KeptOff.{Others, others_kept, table_off}
 use Rattle.transactions.proofs.Filed.{volume_with, pages_with, stored_with, others_with, table_with_file}
 use Rattle.volume_port.proofs.WorkingRows.{put_other}
 use Rattle.std.proofs.lemmas.Bool.{cases_eq}
-use Rattle.session_core.proofs.Showing.{view_of, WorksAs, shows_catalog, session_geometry}
+use Rattle.volume_model.proofs.Showing.{view_of, WorksAs, shows_catalog, session_geometry}
 use Rattle.session_core.proofs.Quiet.{quiet_refusal, nothing_changed, shown_lends, same_view, with_groups}
 use Rattle.transactions.proofs.Refusing.{same_counts, file_refused, unfile_refused}
-use Rattle.session_core.proofs.Working.{lookup_put, firsts_put, each_put, images_of_files, working_image, same_off}
+use Rattle.volume_port.proofs.Working.{lookup_put, firsts_put, each_put, images_of_files, working_image, same_off}
 use Rattle.ex_base.proofs.Options.{some_apart_inside}
 use Rattle.ex_base.specs.declared.notes.NoteKind.TheVariants as note_kind
 use Rattle.ex_base.specs.declared.notes.NoteKind.{NoteKind}

@@ -34,7 +34,7 @@ use Rattle.session_core.specs.Sessions.{IsSession, SessionState}
 use Rattle.session_core.proofs.Accepted.{took_place}
 use Rattle.session_core.proofs.Ending.{fewer_used}
 use Rattle.session_core.proofs.Quiet.{nothing_changed}
-use Rattle.session_core.proofs.Showing.{session_geometry}
+use Rattle.volume_model.proofs.Showing.{session_geometry}
 use Rattle.session_core.proofs.Taken.{no_scan_as, scan_as}
 use Rattle.transactions.specs.Lines.{ScansLine}
 use Rattle.transactions.proofs.ScanLines.{scans_refused, scans_stopped}

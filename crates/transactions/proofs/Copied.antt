@@ -42,7 +42,7 @@ use Rattle.session_core.specs.Updates.{HasRoomFor, IfUpdated}
 use Rattle.session_core.proofs.Accepted.{ReadsCatalog, shown_on}
 use Rattle.session_core.proofs.Quiet.{same_view, shown_lends, with_groups}
 use Rattle.session_core.proofs.Refusing.{closed_refused, none_is_false}
-use Rattle.session_core.proofs.Showing.{shows_catalog}
+use Rattle.volume_model.proofs.Showing.{shows_catalog}
 use Rattle.session_core.proofs.Taken.{taken_as}
 use Rattle.transactions.specs.declared.copying.Original.{Original}
 use Rattle.transactions.specs.Copies.{CanCopy, IsOriginal, MayCopy, copies_frozen, copy_kind, copy_refusal, copy_reply, copy_request, found_refusal, kind_refusal}

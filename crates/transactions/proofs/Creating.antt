@@ -43,7 +43,7 @@ use Rattle.transactions.proofs.EditRefusals.{UpdateCounts, opens, room_back, roo
 use Rattle.session_core.proofs.Quiet.{shown_lends, with_groups}
 use Rattle.transactions.proofs.Refusing.{missing, same_counts}
 use Rattle.session_core.proofs.Refusing.{none_is_false}
-use Rattle.session_core.proofs.Showing.{shows_catalog}
+use Rattle.volume_model.proofs.Showing.{shows_catalog}
 use Rattle.session_core.proofs.Taken.{taken_as}
 use Rattle.transactions.proofs.UpdateLines.{counted_then, line_refused, opened_then, update_stopped}
 use Rattle.transactions.proofs.Made.{Makes, MakesIn, line_made}

@@ -39,7 +39,7 @@ use Rattle.session_core.specs.Needs.{fits_beside, size_after, root_height}
 use Rattle.transactions.proofs.Naming.{names_pass, refuses_missing, the_oid_named, the_size_named, the_version}
 use Rattle.session_core.proofs.Picking.{pick_small, pick_height}
 use Rattle.session_core.proofs.Refusing.{free_left, none_is_false}
-use Rattle.session_core.proofs.Showing.{session_geometry}
+use Rattle.volume_model.proofs.Showing.{session_geometry}
 
 -- ---- the counts
 

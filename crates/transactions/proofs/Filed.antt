@@ -16,7 +16,7 @@ use Rattle.table_model.specs.Tables.{file_inserted, with_file}
 use Rattle.volume_model.specs.Parts.{HasIndex, HasPages, HasBodies, HasBalance}
 use Rattle.volume_model.specs.Links.{Apart, HasObjects}
 use Rattle.volume_model.specs.Volume.{Stored, FileContent, Volume, stored_in, pages_of_file, file_pages, roots_in, unique_of, file_of, table_of}
-use Rattle.session_core.proofs.KeptOff.{Others}
+use Rattle.volume_model.proofs.KeptOff.{Others}
 
 -- a file without pages
 abbrev pub empty_file : FileContent

@@ -27,8 +27,8 @@ use Rattle.std.proofs.lemmas.List.{length-map}
 use Rattle.object_files.specs.Catalog.{name_of}
 use Rattle.volume_model.specs.Parts.{HasIndex}
 use Rattle.volume_model.specs.Shown.{working_units}
-use Rattle.session_core.proofs.Volumes.{names_shown, shown_parts}
-use Rattle.session_core.proofs.Showing.{shows_catalog, session_geometry}
+use Rattle.volume_model.proofs.Volumes.{names_shown, shown_parts}
+use Rattle.volume_model.proofs.Showing.{shows_catalog, session_geometry}
 use Rattle.session_core.proofs.Refusing.{SameOpen, free_left, none_is_false}
 
 -- ---- the file of a name

@@ -31,7 +31,7 @@ use Rattle.version_lists.specs.Objects.{objects_formed}
 use Rattle.volume_edits.proofs.Emptied.{as_many, none_formed}
 use Rattle.volume_edits.proofs.FileVersions.{IsFile, linked_file}
 use Rattle.transactions.specs.Refused.{has_pages}
-use Rattle.session_core.proofs.KeptOff.{Others}
+use Rattle.volume_model.proofs.KeptOff.{Others}
 use Rattle.transactions.proofs.Filed.{empty_file}
 use Rattle.std.proofs.lemmas.Bool.{both_ways}
 use Rattle.ex_base.proofs.Options.{none_from_test}

@@ -38,7 +38,7 @@ use Rattle.session_core.specs.Sessions.{SessionState, IsSession, volume_held}
 use Rattle.session_core.specs.Updates.{HoldsTable, Noted}
 use Rattle.session_core.proofs.Accepted.{took_place}
 use Rattle.session_core.proofs.Refusing.{free_left, none_is_false}
-use Rattle.session_core.proofs.Showing.{session_geometry}
+use Rattle.volume_model.proofs.Showing.{session_geometry}
 
 -- a session with other names
 pub renamed : (s : SessionState) (names : List BoundName) → IsSession s → IsSession (record s { names = names })

@@ -37,7 +37,7 @@ use Rattle.volume_model.proofs.Places.{Sep, each_has, has_stands, sep_filter, se
 use Rattle.volume_model.proofs.Versions.{has_stored, stored_has}
 use Rattle.volume_edits.proofs.FileVersions.{IsFile, all_of, found_by_number, from_table, into_table, linked_file, one_record, table_apart}
 use Rattle.volume_edits.proofs.Finding.{row_stored}
-use Rattle.volume_edits.proofs.InOrder.{permuted_by}
+use Rattle.volume_model.proofs.InOrder.{permuted_by}
 use Rattle.volume_edits.proofs.Lists.{Paired}
 use Rattle.volume_edits.proofs.RecordEdits.{stored_at, stored_of}
 use Rattle.volume_edits.proofs.RowLinks.{from_rows, row_stands_at}

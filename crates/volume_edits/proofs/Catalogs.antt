@@ -22,7 +22,7 @@ use Rattle.volume_model.specs.Parts.{HasBodies, HasIndex, HasPages, HasNodes, Ha
 use Rattle.volume_model.specs.Links.{Apart, HasObjects, NumbersDiffer}
 use Rattle.volume_model.specs.Volume.{Stored, FileContent, Volume, stored_in, pages_of_file, file_pages, unique_of, roots_in, reach_of, table_of}
 use Rattle.volume_edits.specs.Ported.{IsVolume, IsApart, units_in}
-use Rattle.volume_edits.proofs.Kept.{RootKept, StoredKept, units_of_root, named_root, balance_kept, roots_of_stored, objects_kept, files_same}
+use Rattle.volume_model.proofs.Kept.{RootKept, StoredKept, units_of_root, named_root, balance_kept, roots_of_stored, objects_kept, files_same}
 use Rattle.volume_edits.proofs.Counted.{file_lies, in_area}
 use Rattle.volume_edits.proofs.Frames.{past_area}
 use Rattle.volume_edits.proofs.PagesRead.{pages_kept}

@@ -60,7 +60,7 @@ use Rattle.volume_edits.proofs.FileBefore.{own_links, own_numbers, whole_objects
 use Rattle.volume_edits.proofs.Frames.{Frame, IsTreeOf}
 use Rattle.volume_edits.proofs.Counted.{in_area}
 use Rattle.volume_edits.proofs.Holes.{Hole, catalog_with, filled, pages_filled, pages_first, pages_last, stored_filled, stored_first, stored_last}
-use Rattle.volume_edits.proofs.Kept.{StoredKept, content_same, stored_same}
+use Rattle.volume_model.proofs.Kept.{StoredKept, content_same, stored_same}
 use Rattle.volume_edits.proofs.Lists.{Paired, map_around}
 use Rattle.volume_edits.proofs.Placed.{Placed, placed, records_of}
 use Rattle.volume_edits.proofs.RecordEdits.{EditsStored, stored_at, stored_of}

@@ -30,7 +30,7 @@ use Rattle.volume_model.proofs.Standing.{files_at, places_differ}
 use Rattle.volume_edits.specs.Ported.{IsVolume, units_in}
 use Rattle.volume_edits.proofs.PagesRead.{bodies_read, own_pages, pages_kept}
 use Rattle.volume_edits.proofs.Lists.{each_around, each_between, flat_around, Paired, zip_split, zip_joined}
-use Rattle.volume_edits.proofs.Kept.{StoredKept, roots_of_stored, RootKept, units_of_root, named_root, balance_kept, files_same}
+use Rattle.volume_model.proofs.Kept.{StoredKept, roots_of_stored, RootKept, units_of_root, named_root, balance_kept, files_same}
 use Rattle.volume_edits.proofs.Counted.{files_lie, Counted, pages_counted, held_of, differ_of, in_area}
 pub use Rattle.volume_edits.proofs.VolumeTrees.{IsTree, IsFine}
 use Rattle.volume_edits.proofs.VolumeTrees.{IsVolumeTree, volume_trees}

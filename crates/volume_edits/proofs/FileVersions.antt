@@ -32,7 +32,7 @@ use Rattle.volume_model.proofs.Versions.{has_stored, stored_has, stored_rises}
 use Rattle.volume_edits.proofs.Lists.{Paired}
 use Rattle.volume_edits.proofs.TurnCounts.{sep_back, sep_both, sep_cross, sep_front}
 use Rattle.volume_edits.proofs.Finding.{same_as_oid}
-use Rattle.volume_edits.proofs.InOrder.{permuted_from, permuted_has}
+use Rattle.volume_model.proofs.InOrder.{permuted_from, permuted_has}
 
 -- ---- items that differ
 

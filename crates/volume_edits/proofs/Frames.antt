@@ -16,7 +16,7 @@ use Rattle.trees.specs.Trees.{root_units, RootNamed}
 use Rattle.volume_model.specs.Links.{Apart}
 use Rattle.volume_model.specs.Volume.{Volume, file_pages, roots_in, stored_in, reach_of}
 use Rattle.volume_edits.specs.Ported.{ShowsVolume, IsVolume, IsApart, units_in}
-use Rattle.volume_edits.proofs.Kept.{root_placed}
+use Rattle.volume_model.proofs.Kept.{root_placed}
 use Rattle.volume_edits.proofs.Counted.{in_area}
 
 -- the unit keeps its bytes, stays in use, and is no logged page

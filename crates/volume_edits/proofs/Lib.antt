@@ -18,7 +18,6 @@ pub mod Deriving
 pub mod Dropping
 pub mod TakingOut
 pub mod Lists
-pub mod Kept
 pub mod PagesRead
 pub mod Counted
 pub mod Frames
@@ -27,7 +26,6 @@ pub mod Holes
 pub mod Edited
 pub mod Contents
 pub mod Finding
-pub mod InOrder
 pub mod FileVersions
 pub mod Showing
 pub mod Placed
@@ -56,3 +54,6 @@ pub mod Lineages
 pub mod Standings
 pub mod Staying
 pub mod Emptied
+pub mod OlderVersion
+pub mod Records
+pub mod Tables

@@ -34,7 +34,7 @@ use Rattle.volume_model.proofs.Numbers.{derived_by_place, number_there, place_by
 use Rattle.volume_model.proofs.Places.{Sep, sep_map, sep_one, sep_unlike}
 use Rattle.ex_base.proofs.SamePlaces.{at_itself, same_place_is}
 use Rattle.volume_edits.proofs.FileVersions.{IsFile, linked_file, sep_permuted}
-use Rattle.volume_edits.proofs.InOrder.{permuted_from, permuted_has, sorted_rises}
+use Rattle.volume_model.proofs.InOrder.{permuted_from, permuted_has, sorted_rises}
 use Rattle.volume_edits.proofs.RecordEdits.{stored_of}
 
 -- ---- lists

@@ -40,7 +40,7 @@ use Rattle.volume_edits.proofs.Naming.{texts_differ}
 use Rattle.volume_edits.proofs.Contents.{Beside, content_of, pairs}
 use Rattle.volume_edits.proofs.FileVersions.{IsFile, linked_file, sep_permuted}
 use Rattle.volume_edits.proofs.Finding.{file_in}
-use Rattle.volume_edits.proofs.InOrder.{permuted_from, permuted_has, sorted_rises}
+use Rattle.volume_model.proofs.InOrder.{permuted_from, permuted_has, sorted_rises}
 use Rattle.volume_edits.proofs.Showing.{whole}
 
 -- ---- the rows of a file

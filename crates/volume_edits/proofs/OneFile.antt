@@ -25,7 +25,7 @@ use Rattle.versions.specs.Versions.{AreInUse}
 use Rattle.version_tree.specs.Bodies.{PlaceChange, EditsBodies}
 use Rattle.volume_edits.specs.Ported.{IsVolume, IsApart, units_in}
 use Rattle.volume_edits.specs.Edits.{MovesVolume, TurnsRoots, trees_of}
-use Rattle.volume_edits.proofs.Kept.{StoredKept, content_same, stored_same}
+use Rattle.volume_model.proofs.Kept.{StoredKept, content_same, stored_same}
 use Rattle.volume_edits.proofs.Lists.{Paired}
 use Rattle.volume_edits.proofs.RecordEdits.{EditsStored, IsWritten}
 use Rattle.volume_edits.proofs.RecordUpdates.{IsAbove, SameBytes, SameTrees}

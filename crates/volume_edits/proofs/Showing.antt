@@ -27,7 +27,7 @@ use Rattle.volume_model.specs.Volume.{Stored, FileContent, Volume, stored_in, un
 use Rattle.volume_model.proofs.Places.{Sep}
 use Rattle.volume_edits.specs.Ported.{ShowsVolume, IsVolume, units_in, index_named}
 use Rattle.volume_edits.specs.Shown.{HasShown, ReadsVersion, SameShape}
-use Rattle.volume_edits.proofs.Kept.{RootKept, units_of_root, spelled_root, shape_of_root}
+use Rattle.volume_model.proofs.Kept.{RootKept, units_of_root, spelled_root, shape_of_root}
 use Rattle.volume_edits.proofs.Frames.{IsPlacedUnit, IsTreeOf, placed_units, tree_units, own_bytes}
 use Rattle.volume_edits.proofs.Contents.{Beside, found_at, content_of, pairs}
 use Rattle.volume_edits.proofs.FileVersions.{IsFile, found_by_oid, from_table, into_table, numbers_differ, table_apart, whole_files}

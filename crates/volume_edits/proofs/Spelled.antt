@@ -15,7 +15,7 @@ use Rattle.trees.specs.Trees.{root_units, RootNamed}
 use Rattle.versions.specs.Versions.{HasRecord, Spells, IsTreeUnit, place_of, content_units}
 use Rattle.volume_model.specs.Volume.{root_in, content_in}
 use Rattle.volume_edits.specs.Ported.{IsApart, units_in}
-use Rattle.volume_edits.proofs.Kept.{RootKept, root_placed, units_of_root, spelled_root}
+use Rattle.volume_model.proofs.Kept.{RootKept, root_placed, units_of_root, spelled_root}
 use Rattle.volume_edits.proofs.Frames.{own_bytes}
 use Rattle.volume_edits.proofs.Finding.{StandsAt, row_stands}
 use Rattle.volume_edits.proofs.VolumeTrees.{IsFine, IsTree}

@@ -20,7 +20,7 @@ use Rattle.volume_model.specs.Parts.{HasIndex, HasPages, HasNodes, HasBalance, H
 use Rattle.volume_model.specs.Links.{Apart}
 use Rattle.volume_model.specs.Volume.{FileContent, Volume, stored_in, pages_of_file, file_pages, roots_in, reach_of, table_of}
 use Rattle.volume_edits.specs.Ported.{ShowsVolume, IsVolume, IsApart, KeepsReach, units_in}
-use Rattle.volume_edits.proofs.Kept.{RootKept, StoredKept, units_of_root, named_root, balance_kept, roots_of_stored, objects_kept, files_same}
+use Rattle.volume_model.proofs.Kept.{RootKept, StoredKept, units_of_root, named_root, balance_kept, roots_of_stored, objects_kept, files_same}
 use Rattle.volume_edits.proofs.Counted.{in_area}
 use Rattle.volume_edits.proofs.Frames.{past_area}
 use Rattle.volume_edits.proofs.PagesRead.{pages_kept}

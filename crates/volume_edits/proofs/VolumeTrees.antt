@@ -12,7 +12,7 @@ use Rattle.op_log.specs.declared.record.LogRecord.{LogRecord}
 use Rattle.volume_model.specs.Parts.{HasBalance}
 use Rattle.volume_model.specs.Volume.{Volume, roots_in, stored_in}
 use Rattle.volume_edits.specs.Ported.{IsApart, IsVolume, units_in}
-use Rattle.volume_edits.proofs.Kept.{RootKept, root_placed, spelled_root, units_of_root}
+use Rattle.volume_model.proofs.Kept.{RootKept, root_placed, spelled_root, units_of_root}
 use Rattle.volume_edits.proofs.Frames.{IsTreeOf, own_bytes, tree_units}
 
 abbrev pub IsTree : Geometry → Units → Root → Type 0

@@ -24,3 +24,10 @@ pub mod OwnersSwept
 pub mod OwnersUpdated
 pub mod FewRoots
 pub mod OwnersScanned
+pub mod KeptOff
+pub mod Volumes
+pub mod ScansReach
+pub mod States
+pub mod Showing
+pub mod Kept
+pub mod InOrder

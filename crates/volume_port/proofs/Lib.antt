@@ -7,3 +7,6 @@ pub mod Giving
 pub mod GivingUp
 pub mod Owning
 pub mod LeafPieces
+pub mod Frames
+pub mod Working
+pub mod HeldCatalog

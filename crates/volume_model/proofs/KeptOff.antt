@@ -15,7 +15,7 @@ use Rattle.trees.proofs.SameUnits.{Kept}
 use Rattle.ex_base.proofs.Each.{each_as, each_parted, each_with, flat_same, zip_as}
 use Rattle.session_views.specs.declared.Part.{Part}
 use Rattle.session_views.specs.declared.Part.TheVariants.{File, Page, Body, Node, Balance, Unique}
-use Rattle.volume_edits.proofs.Kept.{RootKept, RootsKept, StoredKept, balance_kept, files_same, named_root, objects_kept, roots_of_stored, units_of_root}
+use Rattle.volume_model.proofs.Kept.{RootKept, RootsKept, StoredKept, balance_kept, files_same, named_root, objects_kept, roots_of_stored, units_of_root}
 use Rattle.volume_model.specs.Parts.{HasIndex, HasPage, HasPages, HasNodes, HasBalance, HoldsOf}
 use Rattle.volume_model.specs.Links.{Apart}
 use Rattle.volume_model.specs.SameVolume.{index_same}

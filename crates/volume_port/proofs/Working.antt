@@ -12,10 +12,10 @@ use Rattle.session_views.specs.View.{View}
 use Rattle.volume_model.specs.Shown.{Held, WorkingRow, IsWorkingPage, laid_over, laid_over_page, working_units}
 use Rattle.volume_model.specs.Volume.{Volume, Decoded, file_pages, units_of}
 use Rattle.ex_base.specs.Area.{area_end, page_at, leaf_at}
-use Rattle.session_core.proofs.KeptOff.{SameOff}
+use Rattle.volume_model.proofs.KeptOff.{SameOff}
 use Rattle.volume_port.proofs.WorkingRows.{put_other}
 use Rattle.std.proofs.lemmas.Bool.{cases_eq}
-use Rattle.session_core.proofs.Showing.{page_unit}
+use Rattle.volume_model.proofs.Showing.{page_unit}
 
 -- ---- rows
 

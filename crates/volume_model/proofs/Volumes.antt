@@ -7,7 +7,7 @@ use Rattle.ex_base.proofs.Each.{each_from}
 use Rattle.op_log.specs.declared.record.LogRecord.{LogRecord}
 use Rattle.object_files.specs.Catalog.{FileEntry, name_of}
 use Rattle.trees.specs.Trees.{Units, root_units}
-use Rattle.session_core.proofs.KeptOff.{trees_kept}
+use Rattle.volume_model.proofs.KeptOff.{trees_kept}
 use Rattle.table_model.specs.declared.table.Table.{Table}
 use Rattle.table_model.specs.declared.table.TableFile.{TableFile}
 use Rattle.table_model.specs.Machines.{shown}

@@ -17,7 +17,7 @@ use Rattle.volume_edits.proofs.Finding.{beside_file, oid_same}
 use Rattle.volume_edits.proofs.Lists.{Paired}
 use Rattle.volume_model.specs.Parts.{HasIndex}
 use Rattle.volume_model.specs.Volume.{FileContent, Stored, Volume, oid_of, stored_in, table_of, version_of}
-use Rattle.session_core.proofs.Volumes.{Parts}
+use Rattle.volume_model.proofs.Volumes.{Parts}
 
 -- The version is what this record of a file of the volume is read as.
 pub record OfVersion (units : Units) (v : Volume) (oid : Oid) (version : Version) : Type 0 where

@@ -1,6 +1,6 @@
 -- When the view of a session goes on showing its volume.
 use Rattle.std.proofs.Common.{◌≡◌, ◌∙◌, ◌⊎◌, ◌↔◌, ℕ, ◌+◌, Bool, true, cond, ltb, List, ◌∷◌, ◌++◌, length, map, Option, Some, None, nat_eq, refl, sym, ap, subst, arith}
-use Rattle.std.specs.Prelude.{Contains, unwrap_or, IsSome}
+use Rattle.std.specs.Prelude.{Contains, IsSome}
 use Rattle.std.specs.List.{AllByRecursion, AllZip, flat_map}
 use Rattle.std.specs.Map.{lookup}
 use Rattle.std.proofs.lemmas.Bool.Decides.{nat_tests}
@@ -12,7 +12,6 @@ use Rattle.volume_model.specs.Shown.{HeldScan}
 use Rattle.ex_base.specs.Area.{catalog_no, area_end, page_at, leaf_at}
 use Rattle.ex_base.specs.Order.{Rising}
 use Rattle.op_log.specs.AfterLog.{logged, after_log}
-use Rattle.meta_pages.specs.Overlays.{over}
 use Rattle.object_files.specs.Catalog.{CatalogOf}
 use Rattle.table_model.specs.declared.machine.Machine.{Machine}
 use Rattle.table_model.specs.Machines.{IsMachine, shown}
@@ -28,31 +27,13 @@ use Rattle.volume_model.specs.TreesShown.{TreesShown}
 use Rattle.volume_model.specs.Volume.{Volume, Decoded, table_of, file_pages, roots_in, stored_in}
 use Rattle.trees.specs.Owners.{IsOwned, root_pages}
 use Rattle.trees.specs.Trees.{Units, root_units}
-use Rattle.session_core.proofs.Volumes.{shown_parts, shown_table}
+use Rattle.volume_model.proofs.Volumes.{shown_parts, shown_table}
 
 -- ---- the catalog that a view shows
 
 -- the catalog's page lies in the page area
 pub page_unit : (g : Geometry) (f : ℕ → List ℕ) (leaf : List ℕ) → cond (ltb catalog_no (area_end g)) (f catalog_no) leaf ≡ f catalog_no
 page_unit g f leaf = cond-true (ltb catalog_no (area_end g)) (f catalog_no) leaf (let some = g.some_pages in grind (arith, nat_tests))
-
-pub laid_over_log : (row : Option (Option (List ℕ))) (image : Option (List ℕ)) (home : List ℕ) → laid_over_page (unwrap_or image home) home row ≡ unwrap_or (over row image) home
-laid_over_log None image home = refl
-laid_over_log (Some None) image home = refl
-laid_over_log (Some (Some bytes)) image home = refl
-
--- the bytes of the catalog, as the pages that the session holds give them
-abbrev pub held_catalog : Held → List ℕ → List ℕ
-held_catalog s disk = unwrap_or (over (lookup (nat_eq catalog_no) s.working_pages) (lookup (nat_eq catalog_no) s.overlay)) (page_at s.geometry disk catalog_no)
-
-pub working_catalog : (d : Decoded) (v : View Held) → OverlayShown d v → v.session.geometry ≡ d.geometry → working_units d v.disk v.session.working_pages catalog_no ≡ held_catalog v.session v.disk
-working_catalog d v overlay same =
-    let rows = v.session.working_pages in
-    let home = page_at d.geometry v.disk catalog_no in
-    page_unit d.geometry (laid_over d.geometry v.disk (after_log d.geometry d.records v.disk) rows) (leaf_at d.geometry v.disk catalog_no)
-    ∙ laid_over_log (lookup (nat_eq catalog_no) rows) (logged d.records catalog_no) home
-    ∙ ap (λ (image : Option (List ℕ)). unwrap_or (over (lookup (nat_eq catalog_no) rows) image) home) (sym (overlay.just catalog_no))
-    ∙ ap (λ (g : Geometry). unwrap_or (over (lookup (nat_eq catalog_no) rows) (lookup (nat_eq catalog_no) v.session.overlay)) (page_at g v.disk catalog_no)) (sym same)
 
 -- what it shows: the catalog, and the table of its volume
 pub record ShowsCatalog (d : Decoded) (v : View Held) (working : Volume) : Type 0 where
@@ -65,11 +46,6 @@ shows_catalog {may_leave} {v} shows = let parts = shown_parts shows in record { 
 
 pub session_geometry : {may_leave : List ℕ → Type 0} {v : View Held} (shows : Shows may_leave v) → v.session.geometry ≡ shows.decoded.geometry
 session_geometry {may_leave} {v} shows = sym shows.shared.geometry ∙ shows.geometry
-
--- The bytes of the catalog, as the session reads them, are the catalog that the view shows.
-pub reads_catalog : {may_leave : List ℕ → Type 0} {v : View Held} (shows : Shows may_leave v) → CatalogOf (held_catalog v.session v.disk) shows.working.catalog
-reads_catalog {may_leave} {v} shows =
-    subst (λ (bytes : List ℕ). CatalogOf bytes shows.working.catalog) (working_catalog shows.decoded v shows.overlay (session_geometry shows)) (shows_catalog shows).catalog
 
 -- ---- a view after a step that writes nothing
 
