@@ -3,7 +3,7 @@ import os
 import re
 from collections import defaultdict
 
-from crate_code import TOP, files_below, text_of
+from crate_code import TOP, edits_of, text_of
 
 # The most tests that are told of one call.
 TESTS_MOST = 4
@@ -30,7 +30,7 @@ def edits_by_function(sources, crates):
     """Returns, for each crate and function of some crates, the must-fail edits that change something that it leads to."""
     found = defaultdict(list)
     for crate in crates:
-        for path in files_below(f"crates/{crate}/must-fail", ".edit"):
+        for path in edits_of(crate):
             for it in sources.leads_to(crates, edited_functions(sources, crate, path) or []):
                 found[it.crate, it.full()].append((crate, os.path.basename(path)[: -len(".edit")]))
     return found
@@ -38,7 +38,7 @@ def edits_by_function(sources, crates):
 
 def edit_names(crate):
     """Returns the must-fail edits of a crate, by their names, with their files."""
-    return {os.path.basename(it)[: -len(".edit")]: it for it in files_below(f"crates/{crate}/must-fail", ".edit")}
+    return {os.path.basename(it)[: -len(".edit")]: it for it in edits_of(crate)}
 
 
 def tests_by_name(sources):

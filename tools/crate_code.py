@@ -11,12 +11,23 @@ def text_of(path):
         return it.read()
 
 
+def named_crates():
+    """Returns the crates of crates.txt in its order, each with those that it names."""
+    lines = [it.split(":", 1) for it in text_of("crates.txt").split("\n") if ":" in it and not it.startswith("#")]
+    return {name.split()[0]: names.split() for name, names in lines}
+
+
 def files_below(folder, ending):
     for at, folders, names in os.walk(f"{TOP}/{folder}"):
         folders[:] = sorted(it for it in folders if it != "out")
         for name in sorted(names):
             if name.endswith(ending):
                 yield os.path.relpath(f"{at}/{name}", TOP)
+
+
+def edits_of(crate):
+    """Returns the files of a crate's must-fail edits."""
+    return list(files_below(f"crates/{crate}/must-fail", ".edit"))
 
 
 class Function:
@@ -94,9 +105,8 @@ class Sources:
     """The crates with their functions, types and records."""
 
     def __init__(self):
-        lines = [it.split(":", 1) for it in text_of("crates.txt").split("\n") if ":" in it and not it.startswith("#")]
         # The crates that each crate of crates.txt names.
-        self.below = {name.split()[0]: names.split() for name, names in lines}
+        self.below = named_crates()
         self.crates = sorted(os.listdir(f"{TOP}/crates"))
         self.functions, self.types, self.fields = {}, set(), defaultdict(set)
         # The ghost members of traits.

@@ -16,16 +16,14 @@ import os
 import re
 import sys
 
-TOP = os.path.dirname(os.path.dirname(os.path.abspath(__file__)))
+sys.dont_write_bytecode = True
+
+from crate_code import TOP, edits_of, files_below, named_crates, text_of
+
 PROGRAM = "exsm"
 CHAIN_MOST, FUNCTIONS_MOST, EDITS_MOST = 10, 100, 4
 ROW_MOST = 92
 BEGIN, END = "<!-- written by tools/crates.py --write -->", "<!-- end of what it writes -->"
-
-
-def text_of(path):
-    with open(path, encoding="utf-8") as it:
-        return it.read()
 
 
 def short(words):
@@ -46,21 +44,17 @@ class Crate:
         self.name, self.band = name, band
         self.below = [it for it in named if it in own]
         self.of_kit = [it for it in named if it not in own]
-        self.folder = f"{TOP}/crates/{name}"
+        self.folder = f"crates/{name}"
         self.functions = self.tests = self.code = self.contract = self.spec = self.proof = 0
         self.about = ""
         # The crates that the code, the definitions and the proofs name.
         self.uses = {"code": set(), "specs": set(), "proofs": set()}
         for part in ("src", "specs", "proofs"):
-            for at, folders, files in os.walk(f"{self.folder}/{part}"):
-                folders.sort()
-                for file in sorted(files):
-                    if file.endswith(".rt"):
-                        self.read_code(f"{at}/{file}")
-                    elif file.endswith(".antt"):
-                        self.read_definitions(f"{at}/{file}", part)
-        edits = f"{self.folder}/must-fail"
-        self.edits = sum(it.endswith(".edit") for it in os.listdir(edits)) if os.path.isdir(edits) else 0
+            for path in files_below(f"crates/{name}/{part}", ".rt"):
+                self.read_code(path)
+            for path in files_below(f"crates/{name}/{part}", ".antt"):
+                self.read_definitions(path, part)
+        self.edits = len(edits_of(name))
 
     def read_code(self, path):
         text = text_of(path)
@@ -101,17 +95,16 @@ class Crate:
 
 def read_crates():
     """Returns the crates in the order of crates.txt, and the bands with their words in that order."""
-    lines = text_of(f"{TOP}/crates.txt").split("\n")
-    own = {it.split(":")[0].split()[0] for it in lines if ":" in it and not it.startswith("#")}
+    named = named_crates()
     crates, bands, band = {}, {}, ""
-    for line in lines:
+    for line in text_of("crates.txt").split("\n"):
         of_band = re.fullmatch(r"# (\w[\w ]*): (.*)", line)
         if of_band:
             band = of_band[1]
             bands[band] = of_band[2]
         elif ":" in line and not line.startswith("#"):
-            name, named = line.split(":", 1)
-            crates[name.split()[0]] = Crate(name.split()[0], band, named.split(), own)
+            name = line.split(":")[0].split()[0]
+            crates[name] = Crate(name, band, named[name], named)
     return crates, bands
 
 
@@ -193,7 +186,7 @@ def of_documents(crates, bands, graph):
 
 def with_picture(path, text):
     """Returns a document's text with what stands between the marks replaced, or None where it has no marks."""
-    was = text_of(f"{TOP}/{path}")
+    was = text_of(path)
     if was.count(BEGIN) != 1 or was.count(END) != 1:
         return None
     before, rest = was.split(BEGIN)
@@ -221,7 +214,7 @@ def broken(crates, bands, graph):
             yield f"{it.name} has {it.edits} must-fail edits, above {EDITS_MOST}"
         if not it.band:
             yield f"{it.name} stands in no band of crates.txt: a band begins with a line '# NAME: what it is'"
-        if not os.path.isdir(f"{it.folder}/src"):
+        if not os.path.isdir(f"{TOP}/{it.folder}/src"):
             yield f"{it.name} stands in crates.txt and has no folder"
         elif not it.about:
             yield f"{it.name} has no line //! that says what it is"
@@ -232,7 +225,7 @@ def broken(crates, bands, graph):
     for name, other in unused(crates):
         yield f"{name} names {other} in crates.txt, and no file of it does"
     for path, word in (("README.md", "**Trusted**"), ("docs/PROMISES.md", "Trusted:")):
-        trusted = text_of(f"{TOP}/{path}").partition(word)[2].partition("\n\n")[0]
+        trusted = text_of(path).partition(word)[2].partition("\n\n")[0]
         for name in sorted({other for it in crates.values() for other in it.of_kit if it.used_in(other)}):
             if f"`{name}`" not in trusted:
                 yield f"{path} doesn't say that {name} is trusted"
@@ -240,7 +233,7 @@ def broken(crates, bands, graph):
         now = with_picture(path, text)
         if now is None:
             yield f"{path} has no place for the picture: the lines {BEGIN} and {END}"
-        elif now != text_of(f"{TOP}/{path}"):
+        elif now != text_of(path):
             yield f"{path} has an old picture: run tools/crates.py --write"
 
 

@@ -8,37 +8,26 @@
 What no log measured, since the run kept an earlier proof, is taken from the table that stands there, with a star. Where that has none
 either, the field says `kept`. So a table without stars comes from a run of `tools/gate --anew`, or from the logs of all parts of one.
 """
-import os
 import re
 import sys
 
-TOP = os.path.dirname(os.path.dirname(os.path.abspath(__file__)))
-PAGE = f"{TOP}/docs/GATE.md"
+sys.dont_write_bytecode = True
+
+from crate_code import TOP, edits_of, files_below, named_crates, text_of
+
+PAGE = "docs/GATE.md"
 BEGIN, END = "<!-- written by tools/gate_log.py -->", "<!-- end of what it writes -->"
 KINDS = ("proof", "tests", "edit")
 NONE = {"tests": "no tests", "edit": "no edits"}
 
 
-def text_of(path):
+def log_text(path):
     with open(path, encoding="utf-8", errors="replace") as it:
         return it.read()
 
 
-def crates():
-    lines = text_of(f"{TOP}/crates.txt").split("\n")
-    return [it.split(":")[0].split()[0] for it in lines if ":" in it and not it.startswith("#")]
-
-
 def has_tests(crate):
-    for at, _, files in os.walk(f"{TOP}/crates/{crate}/src"):
-        if any(it.endswith(".rt") and "#[test]" in text_of(f"{at}/{it}") for it in files):
-            return True
-    return False
-
-
-def edits_of(crate):
-    folder = f"{TOP}/crates/{crate}/must-fail"
-    return sum(it.endswith(".edit") for it in os.listdir(folder)) if os.path.isdir(folder) else 0
+    return any("#[test]" in text_of(it) for it in files_below(f"crates/{crate}/src", ".rt"))
 
 
 class Log:
@@ -47,7 +36,7 @@ class Log:
     def __init__(self, path):
         self.seconds, self.part = {}, set()
         self.begun = self.wall = self.processors = self.last = None
-        lines = text_of(path).split("\n")
+        lines = log_text(path).split("\n")
         for line in lines:
             work = re.fullmatch(r"gate: work (\w+) (\w+) ([\d.]+)", line)
             if work:
@@ -76,7 +65,7 @@ def earlier():
         for kind, field in zip(KINDS, row[1].split("|")):
             number = re.match(r"\s*([\d,]+)\*?(?: \((\d+)\))?\s*$", field)
             # What the edits cost says nothing once there are others.
-            if number and (kind != "edit" or int(number[2] or 0) == edits_of(row[0])):
+            if number and (kind != "edit" or int(number[2] or 0) == len(edits_of(row[0]))):
                 found[kind, row[0]] = int(number[1].replace(",", ""))
     return found
 
@@ -86,10 +75,10 @@ def table(logs):
     for log in logs:
         seconds.update({key: it for key, it in log.seconds.items() if key not in log.part})
     rows, sums, of_crate, starred, kept = [], dict.fromkeys(KINDS, 0), {}, False, []
-    for crate in crates():
+    for crate in named_crates():
         fields = []
         for kind in KINDS:
-            key, edits = (kind, crate), edits_of(crate)
+            key, edits = (kind, crate), len(edits_of(crate))
             behind = f" ({edits})" if kind == "edit" else ""
             if kind == "tests" and not has_tests(crate) or kind == "edit" and not edits:
                 fields.append(NONE[kind])
@@ -108,7 +97,7 @@ def table(logs):
         rows.append(f"| `{crate}` | {' | '.join(fields)} |")
     minutes = {it: sums[it] / 60 for it in KINDS}
     last = logs[-1] if logs else None
-    edits = sum(edits_of(it) for it in crates())
+    edits = sum(len(edits_of(it)) for it in named_crates())
     text = ["| Crate | Proof | Tests | Edits |", "|---|---|---|---|", *rows]
     text += [f"| all, in minutes | {minutes['proof']:.0f} | {minutes['tests']:.0f} | {minutes['edit']:.0f} ({edits}) |", ""]
     whole = "In all" if not kept else "Of what has a figure"
@@ -140,7 +129,7 @@ def main(words):
     if page.count(BEGIN) != 1 or END not in page:
         sys.exit(f"docs/GATE.md has no place for the table: the lines {BEGIN} and {END}")
     before, rest = page.split(BEGIN)
-    with open(PAGE, "w", encoding="utf-8") as it:
+    with open(f"{TOP}/{PAGE}", "w", encoding="utf-8") as it:
         it.write(f"{before}{BEGIN}\n{text}\n{END}{rest.split(END, 1)[1]}")
     print(f"docs/GATE.md has its table; {len(kept)} fields say `kept`")
     return 0
