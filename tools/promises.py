@@ -4,9 +4,10 @@
     tools/promises.py            writes docs/MAP.md
     tools/promises.py --check    writes nothing; status 1 where the page is old or a name isn't there
 
-Both end with status 1 where a name of PROMISES.md, or of the tables of clauses in README.md, is no clause of the call that it names, or
-where a row of docs/TOUR.md names a function that isn't in its file, one of docs/GLOSSARY.md a word that isn't in its file, a document a
-file that isn't there, or a must-fail edit can't be applied.
+Both end with status 1 where a name of PROMISES.md, or of the tables of clauses in README.md, is no clause of the call that it names,
+where one of README's tables of fields is no field of the records in the words above it, where a row of docs/TOUR.md names a function that
+isn't in its file, or one of its ways has another number of files, where one of docs/GLOSSARY.md names a word that isn't in its file, a
+document a file that isn't there, or where a must-fail edit can't be applied.
 
 How a row is read. A section's head names its crates. The columns Call and Clauses fall into parts by `;`, which belong together where
 there are as many in both, else all clauses belong to all calls. Each clause is to be one of some call of its part, and each call is to
@@ -185,15 +186,28 @@ class Page:
                 before.update(self.row(cells, crates, section, before))
 
     def read_readme(self):
-        """Looks at the tables of README that name the clauses of a call at their head."""
-        call = None
+        """Looks at the tables of README with clauses of a call, named at their head, or fields of records, named in the words above."""
+        call, records, words = None, None, ""
         for line in text_of("README.md").split("\n"):
             cells = cells_of(line)
-            of = re.fullmatch(r"Clause of `(\w+)`", cells[-1]) if cells else None
-            call = of[1] if of else call if cells else None
-            for name in re.findall(r"`(\w+)`", cells[1]) if call and not of and len(cells) == 2 else ():
-                if not any(it.promises(name) for it in self.sources.find(call, ["exsm_run"])):
-                    self.fault("README.md", f"`{name}` is no clause of `{call}`")
+            if not cells:
+                call, records, words = None, None, line or words
+                continue
+            of = re.fullmatch(r"Clause of `(\w+)`", cells[-1])
+            if of or cells[-1] == "Field":
+                call = of[1] if of else None
+                records = None if of else [it for it in re.findall(r"`(\w+)`", words) if it in self.sources.fields]
+                if records == []:
+                    self.fault("README.md", f"a table of fields has no record in the words above: {words[:60]}")
+            elif (call or records) and len(cells) == 2:
+                self.look_at_readme(call, records, re.findall(r"`(\w+)`", cells[1]))
+
+    def look_at_readme(self, call, records, names):
+        for name in names:
+            if call and not any(it.promises(name) for it in self.sources.find(call, ["exsm_run"])):
+                self.fault("README.md", f"`{name}` is no clause of `{call}`")
+            if records and not any(name in self.sources.fields[it] for it in records):
+                self.fault("README.md", f"`{name}` is no field of {' or '.join(f'`{it}`' for it in records)}")
 
 
 def faults_of_tour(sources):
@@ -207,6 +221,23 @@ def faults_of_tour(sources):
         for name in re.findall(r"`([^`]+)`", cells[-1]):
             if not any(name in (it.name, it.full()) for it in inside):
                 yield f"{TOUR}: there is no `{name}` in crates/{path[1]}"
+
+
+def faults_of_ways():
+    """Yields the ways of the tour whose number of files isn't that of the files in the sections that the way names."""
+    section, files = "", defaultdict(set)
+    for line in text_of(TOUR).split("\n"):
+        cells = cells_of(line, "|")
+        section = line.lstrip("# ") if line.startswith("#") else section
+        path = re.fullmatch(r"`([^`]+\.rt)`", cells[-2]) if len(cells) > 2 else None
+        if path:
+            files[section].add(path[1])
+        elif len(cells) == 4 and cells[2].isdigit():
+            sections = cells[1].split(", ")
+            yield from (f"{TOUR}: there is no section `{it}`" for it in sections if it not in files)
+            number = len(set().union(*(files[it] for it in sections)))
+            if number != int(cells[2]):
+                yield f"{TOUR}: {cells[0]} passes {number} files, not {cells[2]}"
 
 
 def faults_of_glossary():
@@ -287,7 +318,7 @@ def main(words):
     page = Page(sources)
     page.read()
     page.read_readme()
-    page.faults += [*faults_of_tour(sources), *faults_of_glossary(), *faults_of_paths()]
+    page.faults += [*faults_of_tour(sources), *faults_of_ways(), *faults_of_glossary(), *faults_of_paths()]
     text, lone = the_map(page, sources)
     is_old = not os.path.isfile(f"{TOP}/{MAP}") or text_of(MAP) != text
     print("".join(f"{it}\n" for it in page.faults), end="")
