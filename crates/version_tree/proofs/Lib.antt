@@ -4,6 +4,8 @@ pub mod Linking
 pub mod ReadPlaces
 pub mod HeadLaws
 pub mod Copying
+pub mod WholeLinks
+pub mod RoomsKept
 pub mod Dropped
 pub mod TakenOut
 pub mod LineageOrder

@@ -26,8 +26,8 @@ use Rattle.versions.specs.declared.finding.Found.{Found}
 use Rattle.versions.proofs.Records.{one_record}
 use Rattle.versions.proofs.Results.{at_this, same_some}
 use Rattle.version_tree.specs.Linked.{head_in}
-use Rattle.version_tree.specs.Links.{IsNewerFault, IsNewerOn, IsOlderFault, IsOlderOn, IsReadingFault, IsReadOn, IsRecordFault, IsStored, IsStoredFault, IsVersionOn, IsWalkFault, IsWalkedFrom, NewerOn, OidOn, OlderOn, ReadOn, at_newer, at_older, by_look, in_its_file, no_record, no_version, not_above, not_below, not_derived, not_frozen, oid_read, on_way, ports_own, read_own}
-use Rattle.version_tree.specs.Copies.{IsCopyFault, IsDerivingFault, IsFreezingFault, IsOutOf, by_copy, of_copy, unturned_older}
+use Rattle.version_tree.specs.Links.{IsNewerFault, IsNewerOn, IsOlderFault, IsOlderOn, IsReadingFault, IsReadOn, IsRecordFault, IsStored, IsStoredFault, IsVersionOn, IsWalkFault, IsWalkedFrom, LacksNeighbours, NewerOn, OidOn, OlderOn, ReadOn, at_newer, at_older, by_look, in_its_file, no_record, no_version, not_above, not_below, not_derived, not_frozen, oid_read, on_way, ports_own, read_own}
+use Rattle.version_tree.specs.Copies.{AreOutOf, IsCopyFault, IsDerivingFault, IsFreezingFault, IsOutOf, by_copy, of_copy, unturned_older}
 use Rattle.version_tree.specs.Removals.{IsDroppingFault, IsOnlyOn, IsTakingOutFault, by_search, by_taking, of_file, unmoved_newer, unmoved_older, unnamed}
 use Rattle.version_tree.specs.declared.links.Stored.{Stored}
 
@@ -220,14 +220,18 @@ module _ {S : Type 0} (g : ground.Ghosts S) where
   stored_reading s place oid fault same (no_record never is) = no_version
       (λ index r has. never has.body r (subst (λ (p : Place). HasSomeBody g s p has.body) (sym same) (record { index = index; has = has.stands })) has.spelled) (is ∙ ap record_fault same)
 
-  -- no file of a room has the version that was read, where none has its record
-  pub out_of : (s : S) (room : Room) (oid : Oid) (was : Stored) → IsVersionOn (g.image s) oid was → ((index : Index) (is : Record) → HasRecord g s index oid is → index.file_no ≡ room.file_no → ⊥) → IsOutOf g s room (place_of oid) was.body.items
-  out_of s room oid was v never index is has spelled file = never index is (record {
+  -- a file that has the record that was read has the version
+  abbrev pub record_there : (s : S) (index : Index) (oid : Oid) (was : Stored) → IsVersionOn (g.image s) oid was → (is : Record) → HasBody g s index (place_of oid) was.body.items → BodyOf was.body.items is → HasRecord g s index oid is
+  record_there s index oid was v is has spelled = record {
     body = was.body.items;
     stands = has;
     spelled = spelled;
     number = ap (λ (r : Record). r.head.unique) (one_record was.body.items is v.version.is spelled v.version.spelled) ∙ v.version.number;
-  }) file
+  }
+
+  -- no file of a room has the version that was read, where none has its record
+  pub out_of : (s : S) (room : Room) (oid : Oid) (was : Stored) → IsVersionOn (g.image s) oid was → ((index : Index) (is : Record) → HasRecord g s index oid is → index.file_no ≡ room.file_no → ⊥) → IsOutOf g s room (place_of oid) was.body.items
+  out_of s room oid was v never index is has spelled file = never index is (record_there s index oid was v is has spelled) file
 
 -- ---- what the calls tell, of the version that was read
 
@@ -242,23 +246,23 @@ module _ {S : Type 0} (g : ground.Ghosts S) (s : S) where
 
   pub freezing_of : (seen : ℕ → List ℕ) (room : Room) (oid : Oid) (was : Stored) (older : Option Stored) (fault : PortFault) → IsVersionOn (g.image s) oid was → ReadOn seen was.head.older older
       → (IsCopyFault (g.geometry s) (g.held s) (g.image s) room was.place was.body.items fault × (IsDamage fault → IsOutOf g s room (place_of oid) was.body.items)) ⊎ IsSomeAnd older (λ (t : Stored). IsRecordFault t.place fault)
-      → IsFreezingFault g s room (place_of oid) was.body.items fault
-  freezing_of seen room oid was older fault v up (inl h) = of_copy (subst (λ (p : Place). IsCopyFault (g.geometry s) (g.held s) (g.image s) room p was.body.items fault) v.read.at h.0) h.1
-  freezing_of seen room oid was older fault v up (inr h) =
+      → (IsDamage fault → AreOutOf g s room (place_of oid) was.body.items) → IsFreezingFault g s room (place_of oid) was.body.items fault
+  freezing_of seen room oid was older fault v up (inl h) out = of_copy (subst (λ (p : Place). IsCopyFault (g.geometry s) (g.held s) (g.image s) room p was.body.items fault) v.read.at h.0) h.1
+  freezing_of seen room oid was older fault v up (inr h) out =
       let n = older_in (g.image s) oid was v (named_and seen was.head.older older (λ (p : Place). IsRecordFault p fault) up h) in
-      unturned_older n.at n.is n.holds
+      unturned_older n.at n.is n.holds out
 
   module _ (t : S) (seen : ℕ → List ℕ) where
     pub dropping_of : (later : ℕ → List ℕ) (oid : Oid) (was newer : Stored) (older : Option Stored) (fault : PortFault) → IsVersionOn (g.image s) oid was → ReadOn seen was.head.older older → ReadOn later was.head.newer (Some newer)
         → IsTakingFault (g.geometry s) (g.held s) (g.image s) (g.held t) (g.image t) was.place fault ⊎ IsRecordFault newer.place fault ⊎ IsSomeAnd older (λ (o : Stored). IsRecordFault o.place fault)
-        → IsDroppingFault g s t (place_of oid) was.body.items fault
-    dropping_of later oid was newer older fault v up down (inl h) = of_file (subst (λ (p : Place). IsTakingFault (g.geometry s) (g.held s) (g.image s) (g.held t) (g.image t) p fault) v.read.at h)
-    dropping_of later oid was newer older fault v up down (inr (inl h)) =
+        → (IsDamage fault → LacksNeighbours g s (place_of oid) was.body.items) → IsDroppingFault g s t (place_of oid) was.body.items fault
+    dropping_of later oid was newer older fault v up down (inl h) lacks = of_file (subst (λ (p : Place). IsTakingFault (g.geometry s) (g.held s) (g.image s) (g.held t) (g.image t) p fault) v.read.at h)
+    dropping_of later oid was newer older fault v up down (inr (inl h)) lacks =
         let n = named_and later was.head.newer (Some newer) (λ (p : Place). IsRecordFault p fault) down h in
-        unmoved_newer n.at (subst (λ (h : Head). h.newer ≡ Some n.at) v.read.head n.is) n.holds
-    dropping_of later oid was newer older fault v up down (inr (inr h)) =
+        unmoved_newer n.at (subst (λ (h : Head). h.newer ≡ Some n.at) v.read.head n.is) n.holds lacks
+    dropping_of later oid was newer older fault v up down (inr (inr h)) lacks =
         let n = older_in (g.image s) oid was v (named_and seen was.head.older older (λ (p : Place). IsRecordFault p fault) up h) in
-        unmoved_older n.at n.is n.holds
+        unmoved_older n.at n.is n.holds lacks
 
     pub searching_of : (oid : Oid) (was : Stored) (older : Option Stored) (fault : PortFault) → IsVersionOn (g.image s) oid was → ReadOn seen was.head.older older
         → IsSomeAnd older (λ (o : Stored). IsWalkFault (g.geometry s) (g.image s) o.place fault) → IsTakingOutFault g s t (place_of oid) was.body.items fault
@@ -268,8 +272,8 @@ module _ {S : Type 0} (g : ground.Ghosts S) (s : S) where
 
     pub taking_of : (oid : Oid) (was : Stored) (older : Option Stored) (fault : PortFault) → IsVersionOn (g.image s) oid was → ReadOn seen was.head.older older
         → IsTakingFault (g.geometry s) (g.held s) (g.image s) (g.held t) (g.image t) was.place fault ⊎ IsSomeAnd older (λ (o : Stored). IsRecordFault o.place fault)
-        → IsTakingOutFault g s t (place_of oid) was.body.items fault
-    taking_of oid was older fault v up (inl h) = by_taking (subst (λ (p : Place). IsTakingFault (g.geometry s) (g.held s) (g.image s) (g.held t) (g.image t) p fault) v.read.at h)
-    taking_of oid was older fault v up (inr h) =
+        → (IsDamage fault → LacksNeighbours g s (place_of oid) was.body.items) → IsTakingOutFault g s t (place_of oid) was.body.items fault
+    taking_of oid was older fault v up (inl h) lacks = by_taking (subst (λ (p : Place). IsTakingFault (g.geometry s) (g.held s) (g.image s) (g.held t) (g.image t) p fault) v.read.at h)
+    taking_of oid was older fault v up (inr h) lacks =
         let n = older_in (g.image s) oid was v (named_and seen was.head.older older (λ (p : Place). IsRecordFault p fault) up h) in
-        unnamed n.at n.is n.holds
+        unnamed n.at n.is n.holds lacks

@@ -21,7 +21,7 @@ use Rattle.versions.specs.Damage.{record_fault}
 use Rattle.versions.specs.Versions.{place_of}
 use Rattle.version_tree.specs.Bodies.{PlaceChange, EditsBodies, body_at, derived_head, frozen_head, newer_head, older_head, with_head}
 use Rattle.version_tree.specs.Linked.{head_in}
-use Rattle.version_tree.specs.Links.{IsOlderFault, IsRecordFault, StandsIn, StoredAt}
+use Rattle.version_tree.specs.Links.{HasNeighbours, IsOlderFault, IsRecordFault, StandsIn, StoredAt}
 use Rattle.version_tree.specs.declared.links.Stored.{Stored}
 
 -- the bytes of the record of a content
@@ -55,6 +55,10 @@ pub data IsCopyFault (g : Geometry) (held : ℕ → Bool) (image : ℕ → List 
 -- no whole file that a room is of has a record with a body at a place
 abbrev pub IsOutOf : {S : Type 0} → ground.Ghosts S → S → Room → Place → List ℕ → Type 0
 IsOutOf g s room place body = (index : Index) (is : Record) → HasBody g s index place body → BodyOf body is → index.file_no ≡ room.file_no → ⊥
+
+-- no whole file that a room is of has a record with a body at a place and the records that its links name
+abbrev pub AreOutOf : {S : Type 0} → ground.Ghosts S → S → Room → Place → List ℕ → Type 0
+AreOutOf g s room place body = (index : Index) → HasNeighbours g s index place body → index.file_no ≡ room.file_no → ⊥
 
 -- ---- a link that turns
 
@@ -152,9 +156,9 @@ pub data IsDerivingFault {S : Type 0} (g : ground.Ghosts S) (s : S) (room : Room
   by_copy : IsCopyFault (g.geometry s) (g.held s) (g.image s) room place body fault → (IsDamage fault → IsOutOf g s room place body) → IsDerivingFault g s room place body fault
 
 -- What a call tells that freezes the version with a body at a place: that this isn't current; of its older link; of the copy, of which no damage is told where a
--- whole file of the room has the version; or that the record that the link names can't name the copy.
+-- whole file of the room has the version; or that the record that the link names can't name the copy, of which none is told where the file has that record too.
 pub data IsFreezingFault {S : Type 0} (g : ground.Ghosts S) (s : S) (room : Room) (place : Place) (body : List ℕ) (fault : PortFault) : Type 0 where
   not_current : ((head_in body).state ≡ Current → ⊥) → fault ≡ record_fault place → IsFreezingFault g s room place body fault
   of_older : IsOlderFault g s (head_in body) fault → IsFreezingFault g s room place body fault
   of_copy : IsCopyFault (g.geometry s) (g.held s) (g.image s) room place body fault → (IsDamage fault → IsOutOf g s room place body) → IsFreezingFault g s room place body fault
-  unturned_older : (older : Place) → (head_in body).older ≡ Some older → IsRecordFault older fault → IsFreezingFault g s room place body fault
+  unturned_older : (older : Place) → (head_in body).older ≡ Some older → IsRecordFault older fault → (IsDamage fault → AreOutOf g s room place body) → IsFreezingFault g s room place body fault

@@ -49,6 +49,25 @@ pub record StandsIn {S : Type 0} (g : ground.Ghosts S) (s : S) (index : Index) (
   pub spelled : BodyOf stored.body.items is
   pub head : stored.head ≡ is.head
 
+-- A record stands at a place of a whole file.
+pub record HasSomeRecord {S : Type 0} (g : ground.Ghosts S) (s : S) (index : Index) (place : Place) : Type 0 where
+  pub body : List ℕ
+  pub has : HasBody g s index place body
+  pub is : Record
+  pub spelled : BodyOf body is
+
+-- A whole file has the record with a body at a place, and the records that its links name.
+pub record HasNeighbours {S : Type 0} (g : ground.Ghosts S) (s : S) (index : Index) (place : Place) (body : List ℕ) : Type 0 where
+  pub has : HasBody g s index place body
+  pub is : Record
+  pub spelled : BodyOf body is
+  pub older : IfSome is.head.older (HasSomeRecord g s index)
+  pub newer : IfSome is.head.newer (HasSomeRecord g s index)
+
+-- no whole file has all of them
+abbrev pub LacksNeighbours : {S : Type 0} → ground.Ghosts S → S → Place → List ℕ → Type 0
+LacksNeighbours g s place body = (index : Index) → HasNeighbours g s index place body → ⊥
+
 abbrev pub oid_read : Option Stored → Option Oid
 oid_read None = None
 oid_read (Some stored) = Some (oid_at stored.place stored.head.unique)

@@ -2,6 +2,7 @@
 use Rattle.std.specs.Prelude.{◌≡◌, ◌≢◌, ℕ, Bool, not, List, [], ◌∷◌, ◌++◌, filter, Option, Some, None, IfSome, IsSome}
 use Rattle.ex_base.specs.declared.ground.Ground as ground
 use Rattle.ex_base.specs.declared.faults.PortFault.{PortFault}
+use Rattle.ex_base.specs.Ports.{IsDamage}
 use Rattle.ex_base.specs.declared.names.Oid.{Oid}
 use Rattle.ex_base.specs.declared.names.Place.{Place}
 use Rattle.object_records.specs.Record.{Record, BodyOf}
@@ -15,7 +16,7 @@ use Rattle.versions.specs.Versions.{place_of}
 use Rattle.version_tree.specs.Bodies.{PlaceChange, EditsBodies, body_at, newer_head, older_head, same_place, with_head}
 use Rattle.version_tree.specs.Copies.{IsRead, TurnsLink}
 use Rattle.version_tree.specs.Linked.{derived_from, head_in, only_place}
-use Rattle.version_tree.specs.Links.{IsNewerFault, IsOlderFault, IsRecordFault, IsWalkFault, StandsIn}
+use Rattle.version_tree.specs.Links.{IsNewerFault, IsOlderFault, IsRecordFault, IsWalkFault, LacksNeighbours, StandsIn}
 use Rattle.version_tree.specs.declared.links.Stored.{Stored}
 
 -- ---- a frozen version that goes
@@ -128,14 +129,14 @@ pub record TakesOut {S : Type 0} (g : ground.Ghosts S) (old new : S) (index : In
 -- ---- what is told
 
 -- What a call tells that drops the version with a body at a place: that this isn't frozen, or has no newer place; of its links; of its file (`t` is the state in
--- which it is told); or that a record that one of the links names can't be linked past it.
+-- which it is told); or that a record that one of the links names can't be linked past it, of which no damage is told where a whole file has it and both of these.
 pub data IsDroppingFault {S : Type 0} (g : ground.Ghosts S) (s t : S) (place : Place) (body : List ℕ) (fault : PortFault) : Type 0 where
   not_asked : ((head_in body).state ≡ Frozen → IsSome (head_in body).newer → ⊥) → fault ≡ record_fault place → IsDroppingFault g s t place body fault
   of_older : IsOlderFault g s (head_in body) fault → IsDroppingFault g s t place body fault
   of_newer : IsNewerFault g s place (head_in body) fault → IsDroppingFault g s t place body fault
   of_file : IsTakingFault (g.geometry s) (g.held s) (g.image s) (g.held t) (g.image t) place fault → IsDroppingFault g s t place body fault
-  unmoved_newer : (newer : Place) → (head_in body).newer ≡ Some newer → IsRecordFault newer fault → IsDroppingFault g s t place body fault
-  unmoved_older : (older : Place) → (head_in body).older ≡ Some older → IsRecordFault older fault → IsDroppingFault g s t place body fault
+  unmoved_newer : (newer : Place) → (head_in body).newer ≡ Some newer → IsRecordFault newer fault → (IsDamage fault → LacksNeighbours g s place body) → IsDroppingFault g s t place body fault
+  unmoved_older : (older : Place) → (head_in body).older ≡ Some older → IsRecordFault older fault → (IsDamage fault → LacksNeighbours g s place body) → IsDroppingFault g s t place body fault
 
 -- The version at an older place names a newer one: it is the only one that is derived from it.
 pub record IsOnlyOn (image : ℕ → List ℕ) (link : Option Place) : Type 0 where
@@ -147,11 +148,11 @@ pub record IsOnlyOn (image : ℕ → List ℕ) (link : Option Place) : Type 0 wh
 
 -- What a call tells that takes out the current version with a body at a place: that this isn't current; of its older link; that it is no branch; of the walk
 -- over the file of the version that the link names; of its own file (`t` is the state in which it is told); or that the record of that version can't name the
--- only other one.
+-- only other one, of which no damage is told where a whole file has both.
 pub data IsTakingOutFault {S : Type 0} (g : ground.Ghosts S) (s t : S) (place : Place) (body : List ℕ) (fault : PortFault) : Type 0 where
   not_current : ((head_in body).state ≡ Current → ⊥) → fault ≡ record_fault place → IsTakingOutFault g s t place body fault
   to_older : IsOlderFault g s (head_in body) fault → IsTakingOutFault g s t place body fault
   no_branch : IsOnlyOn (g.image s) (head_in body).older → fault ≡ record_fault place → IsTakingOutFault g s t place body fault
   by_search : (older : Place) → (head_in body).older ≡ Some older → IsWalkFault (g.geometry s) (g.image s) older fault → IsTakingOutFault g s t place body fault
   by_taking : IsTakingFault (g.geometry s) (g.held s) (g.image s) (g.held t) (g.image t) place fault → IsTakingOutFault g s t place body fault
-  unnamed : (older : Place) → (head_in body).older ≡ Some older → IsRecordFault older fault → IsTakingOutFault g s t place body fault
+  unnamed : (older : Place) → (head_in body).older ≡ Some older → IsRecordFault older fault → (IsDamage fault → LacksNeighbours g s place body) → IsTakingOutFault g s t place body fault

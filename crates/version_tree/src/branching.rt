@@ -1,5 +1,5 @@
 //! A version that is derived from a frozen one.
-ghost use Rattle.std.specs.Prelude.{◌≡◌, ◌≤◌, ◌+◌, IfOk, IfErr, OnOk, None};
+ghost use Rattle.std.specs.Prelude.{◌≡◌, ◌≤◌, ◌+◌, IfOk, IfErr, OnOk, None, length};
 ghost use Rattle.ex_base.specs.Ports.{HasCause, IsDamage};
 ghost use Rattle.ex_base.specs.declared.names.Area.TheVariants.{Page, Segment};
 ghost use Rattle.object_records.specs.Record.{Record};
@@ -7,6 +7,8 @@ ghost use Rattle.object_records.specs.declared.State.TheVariants.{Frozen};
 ghost use Rattle.ex_base.specs.declared.names.Index.{Index};
 ghost use Rattle.file_index.specs.Touches.{TouchesAtMost};
 ghost use Rattle.file_index.specs.Taking.{OnlyTakes};
+ghost use Rattle.file_bodies.specs.Files.{HasFile};
+ghost use Rattle.file_bodies.specs.Places.{IsChosen, IsRoom};
 ghost use Rattle.versions.specs.Versions.{HasRecord, place_of, root_of};
 ghost use Rattle.versions.specs.Listed.{oid_at};
 ghost use Rattle.version_tree.specs.Touches.{version_touches};
@@ -68,8 +70,15 @@ fn derive_read<V: Volume>(
     ensures derived { IfOk result (λ place. V.tells volume.old → (index : Index) (is : Record)
         → IsVersionIn V.Ground volume.old index was.now is → index.file_no ≡ room.old.file_no
         → Derives V.Ground volume.old volume.new index was.now.place is (oid_at place unique)) }
-    ensures room { IfOk result (λ place. (room.new.file_no ≡ room.old.file_no)
-        × (room.new.from ≡ place.page)) }
+    ensures chosen { IfOk result (λ place. V.tells volume.old → (index : Index)
+        → HasFile V.Ground volume.old index → index.file_no ≡ room.old.file_no
+        → IsRoom V.Ground volume.old index room.old
+        → IsChosen V.Ground volume.old index (length was.now.body.items) place) }
+    ensures room { IfOk result (λ place. room.new ≡ record {
+      file_no = room.old.file_no;
+      from = place.page;
+      len = length was.now.body.items;
+    }) }
     ensures pages { OnOk result (V.free volume.old Page ≤ V.free volume.new Page + 7) }
     ensures takes { OnOk result (OnlyTakes V.Ground volume.old volume.new) }
     ensures sound { IfErr result (λ fault. IsDamage fault → V.tells volume.old
@@ -116,8 +125,15 @@ pub fn derive<V: Volume>(
     ensures number { IfOk result (λ made. made.oid.unique ≡ unique) }
     ensures come { IfOk result (λ made. V.tells volume.old → (index : Index) (is : Record)
         → HasRecord V.Ground volume.old index oid.now is → made.come ≡ root_of is.content) }
+    ensures chosen { IfOk result (λ made. V.tells volume.old → (index : Index) (is : Record)
+        → (has : HasRecord V.Ground volume.old index oid.now is)
+        → index.file_no ≡ room.old.file_no → IsRoom V.Ground volume.old index room.old
+        → IsChosen V.Ground volume.old index (length has.body) (place_of made.oid)) }
     ensures room { IfOk result (λ made. (room.new.file_no ≡ room.old.file_no)
         × (room.new.from ≡ made.oid.page)) }
+    ensures len { OnOk result (V.tells volume.old → (index : Index) (is : Record)
+        → (has : HasRecord V.Ground volume.old index oid.now is)
+        → room.new.len ≡ length has.body) }
     ensures pages { OnOk result (V.free volume.old Page ≤ V.free volume.new Page + 7) }
     ensures takes { OnOk result (OnlyTakes V.Ground volume.old volume.new) }
     ensures sound { IfErr result (λ fault. IsDamage fault → V.tells volume.old

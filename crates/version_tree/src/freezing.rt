@@ -1,5 +1,5 @@
 //! A version that is frozen: a frozen copy comes between it and its older one.
-ghost use Rattle.std.specs.Prelude.{◌≡◌, ◌≤◌, ◌+◌, ◌⊎◌, IfOk, IfErr, IfSome, IsSomeAnd, OnOk, List, Option, Some};
+ghost use Rattle.std.specs.Prelude.{◌≡◌, ◌≤◌, ◌+◌, ◌⊎◌, IfOk, IfErr, IfSome, IsSomeAnd, OnOk, List, Option, Some, length};
 ghost use Rattle.ex_base.specs.Ports.{HasCause, IsDamage};
 ghost use Rattle.ex_base.specs.declared.names.Area.TheVariants.{Page, Segment};
 ghost use Rattle.ex_base.specs.declared.names.Place.{Place};
@@ -10,6 +10,7 @@ ghost use Rattle.file_index.specs.Touches.{TouchesAtMost};
 ghost use Rattle.file_index.specs.Taking.{OnlyTakes};
 ghost use Rattle.file_bodies.specs.Bodies.{Row, bodies_of};
 ghost use Rattle.file_bodies.specs.Files.{HasFile};
+ghost use Rattle.file_bodies.specs.Places.{IsChosen, IsRoom};
 ghost use Rattle.versions.specs.Versions.{HasRecord, place_of, root_of};
 ghost use Rattle.versions.specs.Listed.{oid_at};
 ghost use Rattle.version_tree.specs.Touches.{version_touches};
@@ -104,8 +105,15 @@ fn freeze_read<V: Volume>(
         → IsRead V.Ground volume.old index was.now older.now is → is.head.state ≡ Current
         → index.file_no ≡ room.old.file_no
         → Freezes V.Ground volume.old volume.new index was.now.place is (oid_at place unique)) }
-    ensures room { IfOk result (λ place. (room.new.file_no ≡ room.old.file_no)
-        × (room.new.from ≡ place.page)) }
+    ensures chosen { IfOk result (λ place. V.tells volume.old → (index : Index)
+        → HasFile V.Ground volume.old index → index.file_no ≡ room.old.file_no
+        → IsRoom V.Ground volume.old index room.old
+        → IsChosen V.Ground volume.old index (length was.now.body.items) place) }
+    ensures room { IfOk result (λ place. room.new ≡ record {
+      file_no = room.old.file_no;
+      from = place.page;
+      len = length was.now.body.items;
+    }) }
     ensures pages { OnOk result (V.free volume.old Page ≤ V.free volume.new Page + 7) }
     ensures takes { OnOk result (OnlyTakes V.Ground volume.old volume.new) }
     ensures sound { IfErr result (λ fault. IsDamage fault → V.tells volume.old
@@ -163,8 +171,15 @@ pub fn freeze<V: Volume>(
     ensures number { IfOk result (λ made. made.oid.unique ≡ unique) }
     ensures come { IfOk result (λ made. V.tells volume.old → (index : Index) (is : Record)
         → HasRecord V.Ground volume.old index oid.now is → made.come ≡ root_of is.content) }
+    ensures chosen { IfOk result (λ made. V.tells volume.old → (index : Index) (is : Record)
+        → (has : HasRecord V.Ground volume.old index oid.now is)
+        → index.file_no ≡ room.old.file_no → IsRoom V.Ground volume.old index room.old
+        → IsChosen V.Ground volume.old index (length has.body) (place_of made.oid)) }
     ensures room { IfOk result (λ made. (room.new.file_no ≡ room.old.file_no)
         × (room.new.from ≡ made.oid.page)) }
+    ensures len { OnOk result (V.tells volume.old → (index : Index) (is : Record)
+        → (has : HasRecord V.Ground volume.old index oid.now is)
+        → room.new.len ≡ length has.body) }
     ensures pages { OnOk result (V.free volume.old Page ≤ V.free volume.new Page + 7) }
     ensures takes { OnOk result (OnlyTakes V.Ground volume.old volume.new) }
     ensures sound { IfErr result (λ fault. IsDamage fault → V.tells volume.old

@@ -10,6 +10,7 @@ ghost use Rattle.file_index.specs.Touches.{TouchesAtMost};
 ghost use Rattle.file_index.specs.Taking.{OnlyTakes};
 ghost use Rattle.file_bodies.specs.Touches.{body_touches};
 ghost use Rattle.file_bodies.specs.Files.{HasFile, HasBody};
+ghost use Rattle.file_bodies.specs.Places.{IsChosen, IsRoom};
 ghost use Rattle.version_tree.specs.Bodies.{SameUnits, with_head};
 ghost use Rattle.version_tree.specs.Copies.{CopiesRecord, content_len, IsCopyFault, IsHead, IsNamed};
 ghost use Rattle.version_tree.specs.Links.{IsRecordFault};
@@ -134,6 +135,10 @@ pub(crate) fn put_copy<V: Volume>(
         → HasFile V.Ground volume.old index → index.file_no ≡ room.old.file_no
         → BodyOf stored.now.body.items is
         → CopiesRecord V.Ground volume.old volume.new index place (with_head head.now is)) }
+    ensures chosen { IfOk result (λ place. V.tells volume.old → (index : Index)
+        → HasFile V.Ground volume.old index → index.file_no ≡ room.old.file_no
+        → IsRoom V.Ground volume.old index room.old
+        → IsChosen V.Ground volume.old index (length stored.now.body.items) place) }
     ensures room { IfOk result (λ place. room.new ≡ record {
       file_no = room.old.file_no;
       from = place.page;

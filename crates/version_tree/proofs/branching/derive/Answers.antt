@@ -1,4 +1,4 @@
-use Rattle.std.proofs.Common.{◌≡◌, ℕ, List, true, false, refl, subst, sym, ap, ◌∙◌, arith}
+use Rattle.std.proofs.Common.{◌≡◌, ℕ, List, length, true, false, refl, subst, sym, ap, ◌∙◌, arith}
 use Rattle.ex_base.specs.declared.names.Oid.{Oid}
 use Rattle.object_records.specs.Record.{BodyOf}
 use Rattle.ex_base.specs.declared.names.Area.{Area}
@@ -6,13 +6,17 @@ use Rattle.ex_base.specs.declared.names.Area.TheVariants.{Page}
 use Rattle.ex_base.proofs.Results.{if_err_handed}
 use Rattle.object_records.specs.declared.Head.{Head}
 use Rattle.object_records.specs.declared.State.TheVariants.{Frozen}
+use Rattle.file_bodies.specs.Places.{IsChosen}
+use Rattle.file_bodies.specs.declared.placing.Room.{Room}
 use Rattle.file_bodies.proofs.Blame.{carried_held}
+use Rattle.file_bodies.proofs.Moving.{kept_file}
 use Rattle.versions.specs.Versions.{place_of}
 use Rattle.version_tree.specs.Copies.{Derives, IsCopyFault, not_asked}
 use Rattle.versions.specs.Damage.{record_fault}
 use Rattle.version_tree.specs.Links.{of_body, of_version}
 use Rattle.version_tree.proofs.Copying.{kept_derives, version_in}
 use Rattle.version_tree.proofs.Linking.{head_read, linked_limits}
+use Rattle.version_tree.proofs.RoomsKept.{chosen_back, room_kept}
 use Rattle.version_tree.proofs.ReadPlaces.{deriving_of, other_state, out_of, state_read}
 use Rattle.version_tree.proofs.branching.derive.Goals as goal
 
@@ -43,6 +47,20 @@ returns-in-Ok-clause-derived g c = λ told index is has file.
     let v = version_in g.V.Ground c.args.volume.now c.stored_version.new.volume index (place_of c.args.oid.now) has.body is c.in_ok-version.version kept has.stands has.spelled at (c.in_ok-version.ensures.fits told index is has) in
     subst (λ (o : Oid). Derives g.V.Ground c.args.volume.now c.derive_read.new.volume index (place_of c.args.oid.now) is o) (sym c.oid_at.ensures)
     (kept_derives g.V.Ground c.args.volume.now c.stored_version.new.volume c.derive_read.new.volume index c.in_ok-version.version.place (place_of c.args.oid.now) is _ at.stands kept (c.in-Ok.ensures.derived told_b index is v file))
+
+pub returns-in-Ok-clause-chosen : goal.returns-in-Ok-clause-chosen
+returns-in-Ok-clause-chosen g c = λ told index is has same room.
+    let kept = c.stored_version.ensures.kept in
+    let told_b = g.V.Ground.leads_told c.args.volume.now c.stored_version.new.volume kept.leads told in
+    let at = c.in_ok-version.ensures.stored told index is has in
+    subst (λ (o : Oid). IsChosen g.V.Ground c.args.volume.now index (length has.body) (place_of o)) (sym c.oid_at.ensures)
+    (chosen_back g.V.Ground c.args.volume.now c.stored_version.new.volume kept index (length has.body) c.in-Ok.place
+    (subst (λ (n : ℕ). IsChosen g.V.Ground c.stored_version.new.volume index n c.in-Ok.place) (ap (λ (t : List ℕ). length t) at.bytes)
+    (c.in-Ok.ensures.chosen told_b index (kept_file g.V.Ground c.args.volume.now c.stored_version.new.volume index kept has.stands.file) same (room_kept g.V.Ground c.args.volume.now c.stored_version.new.volume kept index c.args.room.now room))))
+
+pub returns-in-Ok-clause-len : goal.returns-in-Ok-clause-len
+returns-in-Ok-clause-len g c = λ told index is has.
+    ap (λ (r : Room). r.len) c.in-Ok.ensures.room ∙ ap (λ (t : List ℕ). length t) (c.in_ok-version.ensures.stored told index is has).bytes
 
 pub returns-in-Ok-clause-reads : goal.returns-in-Ok-clause-reads
 returns-in-Ok-clause-reads g c = λ told.

@@ -19,7 +19,8 @@ use Rattle.version_tree.specs.Links.{IsRecordFault, ReadOn, StoredAt, of_body, o
 use Rattle.version_tree.specs.Removals.{not_asked, of_newer, of_older}
 use Rattle.version_tree.proofs.Dropped.{between_of, kept_drops, none_linked}
 use Rattle.version_tree.proofs.Linking.{head_read, kept_linked, linked_limits}
-use Rattle.version_tree.proofs.ReadPlaces.{dropping_of, newer_read, newer_told, none_named, not_some, older_read, older_told, other_state, some_named, state_read}
+use Rattle.version_tree.proofs.WholeLinks.{between_whole}
+use Rattle.version_tree.proofs.ReadPlaces.{dropping_of, err_both, newer_read, newer_told, none_named, not_some, older_read, older_told, other_state, some_named, state_read}
 use Rattle.versions.proofs.Results.{ok_of}
 use Rattle.version_tree.specs.declared.links.Stored.{Stored}
 use Rattle.version_tree.proofs.dropping.drop_version.Goals as goal
@@ -127,12 +128,13 @@ pub returns-in-Some-clause-touches : goal.returns-in-Some-clause-touches
 returns-in-Some-clause-touches g c = on_ok_weaker c.drop_read.result (λ t. omega (arith, t, c.stored_version.ensures.kept.touched, c.linked_older.ensures.kept.touched, c.linked_newer.ensures.kept.touched)) c.drop_read.ensures.touches
 
 pub returns-in-Some-clause-fault : goal.returns-in-Some-clause-fault
-returns-in-Some-clause-fault g c = IfErr-weaker c.drop_read.result _ _ (λ fault h told.
+returns-in-Some-clause-fault g c = IfErr-weaker c.drop_read.result _ _ (λ fault both told.
     let ab = c.stored_version.ensures.kept in
     let ad = keeps_on g.V.Ground c.args.volume.now c.stored_version.new.volume c.linked_older.new.volume ab c.linked_older.ensures.kept in
     let kept = keeps_on g.V.Ground c.args.volume.now c.linked_older.new.volume c.linked_newer.new.volume ad c.linked_newer.ensures.kept in
     let told_b = g.V.Ground.leads_told c.args.volume.now c.stored_version.new.volume ab.leads told in
     let told_d = g.V.Ground.leads_told c.args.volume.now c.linked_older.new.volume ad.leads told in
+    let told_e = g.V.Ground.leads_told c.args.volume.now c.linked_newer.new.volume kept.leads told in
     let v = c.in_ok-version.ensures.reads told in
     let down = subst (λ (o : Option Stored). ReadOn (g.V.Ground.image c.linked_older.new.volume) c.in_ok-version.version.head.newer o) c.in-Some.is (c.in_ok-found.ensures.reads told_d) in
     of_body c.in_ok-version.version.body.items v.read.stands
@@ -140,7 +142,12 @@ returns-in-Some-clause-fault g c = IfErr-weaker c.drop_read.result _ _ (λ fault
     c.args.oid.now c.in_ok-version.version c.in-Some.newer c.in_ok-older.older fault v (c.in_ok-older.ensures.reads told_b) down
     (carried_held g.V.Ground c.args.volume.now c.linked_newer.new.volume
     (λ y k u. IsTakingFault y k u (g.V.Ground.held c.drop_read.new.volume) (g.V.Ground.image c.drop_read.new.volume) c.in_ok-version.version.place fault
-    ⊎ IsRecordFault c.in-Some.newer.place fault ⊎ IsSomeAnd c.in_ok-older.older (λ (s : Stored). IsRecordFault s.place fault)) kept h told))) c.drop_read.ensures.fault
+    ⊎ IsRecordFault c.in-Some.newer.place fault ⊎ IsSomeAnd c.in_ok-older.older (λ (s : Stored). IsRecordFault s.place fault)) kept both.0 told)
+    (λ damage index n. both.1 damage told_e index n.is
+    (between_whole g.V.Ground c.args.volume.now c.linked_newer.new.volume kept index c.args.oid.now c.in_ok-version.version c.in_ok-older.older (g.V.Ground.image c.stored_version.new.volume) ab.images v
+    (c.in_ok-older.ensures.reads told_b) (c.in_ok-older.ensures.link told_b) (c.in_ok-version.ensures.fits told index) n
+    c.in-Some.newer (g.V.Ground.image c.linked_older.new.volume) ad.images down (c.in_ok-found.ensures.link told_d) (c.is_frozen.ensures.0 c.in_ok-check.ensures.holds)))))
+    (err_both c.drop_read.result _ _ c.drop_read.ensures.fault c.drop_read.ensures.sound)
 
 pub returns-in-Some-clause-dropped : goal.returns-in-Some-clause-dropped
 returns-in-Some-clause-dropped g c = on_ok_weaker c.drop_read.result (λ h told links index is has.

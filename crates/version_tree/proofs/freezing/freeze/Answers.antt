@@ -11,8 +11,10 @@ use Rattle.ex_base.proofs.Keeping.{keeps_on}
 use Rattle.ex_base.proofs.Results.{if_err_handed}
 use Rattle.object_records.specs.declared.Head.{Head}
 use Rattle.object_records.specs.declared.State.TheVariants.{Current}
+use Rattle.file_bodies.specs.Places.{IsChosen}
+use Rattle.file_bodies.specs.declared.placing.Room.{Room}
 use Rattle.file_bodies.proofs.Blame.{carried_held}
-use Rattle.file_bodies.proofs.Moving.{kept_body}
+use Rattle.file_bodies.proofs.Moving.{kept_body, kept_file}
 use Rattle.versions.specs.Versions.{place_of}
 use Rattle.version_tree.specs.Copies.{Freezes, IsCopyFault, IsVersionIn, not_current, of_older}
 use Rattle.versions.specs.Damage.{record_fault}
@@ -20,7 +22,9 @@ use Rattle.version_tree.specs.Links.{IsRecordFault, of_body, of_version}
 use Rattle.version_tree.specs.declared.links.Stored.{Stored}
 use Rattle.version_tree.proofs.Copying.{kept_freezes, read_of, version_in}
 use Rattle.version_tree.proofs.Linking.{head_read, kept_linked, linked_limits}
+use Rattle.version_tree.proofs.RoomsKept.{chosen_back, room_kept}
 use Rattle.version_tree.proofs.ReadPlaces.{first_kept, freezing_of, older_read, older_told, other_state, out_of, state_read}
+use Rattle.version_tree.proofs.WholeLinks.{read_whole}
 use Rattle.version_tree.proofs.freezing.freeze.Goals as goal
 
 pub returns-in_err-version-clause-sound : goal.returns-in_err-version-clause-sound
@@ -73,6 +77,20 @@ returns-in-Ok-clause-frozen g c = λ told links index is has file.
     (keeps_on g.V.Ground c.args.volume.now c.stored_version.new.volume c.linked_older.new.volume kept later)
     (c.in-Ok.ensures.frozen told_d index is read current file))
 
+pub returns-in-Ok-clause-chosen : goal.returns-in-Ok-clause-chosen
+returns-in-Ok-clause-chosen g c = λ told index is has same room.
+    let kept = keeps_on g.V.Ground c.args.volume.now c.stored_version.new.volume c.linked_older.new.volume c.stored_version.ensures.kept c.linked_older.ensures.kept in
+    let told_d = g.V.Ground.leads_told c.args.volume.now c.linked_older.new.volume kept.leads told in
+    let at = c.in_ok-version.ensures.stored told index is has in
+    subst (λ (o : Oid). IsChosen g.V.Ground c.args.volume.now index (length has.body) (place_of o)) (sym c.oid_at.ensures)
+    (chosen_back g.V.Ground c.args.volume.now c.linked_older.new.volume kept index (length has.body) c.in-Ok.place
+    (subst (λ (n : ℕ). IsChosen g.V.Ground c.linked_older.new.volume index n c.in-Ok.place) (ap (λ (t : List ℕ). length t) at.bytes)
+    (c.in-Ok.ensures.chosen told_d index (kept_file g.V.Ground c.args.volume.now c.linked_older.new.volume index kept has.stands.file) same (room_kept g.V.Ground c.args.volume.now c.linked_older.new.volume kept index c.args.room.now room))))
+
+pub returns-in-Ok-clause-len : goal.returns-in-Ok-clause-len
+returns-in-Ok-clause-len g c = λ told index is has.
+    ap (λ (r : Room). r.len) c.in-Ok.ensures.room ∙ ap (λ (t : List ℕ). length t) (c.in_ok-version.ensures.stored told index is has).bytes
+
 pub returns-in-Ok-clause-reads : goal.returns-in-Ok-clause-reads
 returns-in-Ok-clause-reads g c = λ told.
     let kept = c.stored_version.ensures.kept in
@@ -117,6 +135,7 @@ returns-clause-fault g c = λ told.
     let kept = c.stored_version.ensures.kept in
     let both = keeps_on g.V.Ground c.args.volume.now c.stored_version.new.volume c.linked_older.new.volume kept c.linked_older.ensures.kept in
     let told_b = g.V.Ground.leads_told c.args.volume.now c.stored_version.new.volume kept.leads told in
+    let told_d = g.V.Ground.leads_told c.args.volume.now c.linked_older.new.volume both.leads told in
     let v = c.in_ok-version.ensures.reads told in
     of_body c.in_ok-version.version.body.items v.read.stands
     (freezing_of g.V.Ground c.args.volume.now (g.V.Ground.image c.stored_version.new.volume) c.args.room.now c.args.oid.now c.in_ok-version.version c.in_ok-older.older c.in-Err.fault v (c.in_ok-older.ensures.reads told_b)
@@ -129,4 +148,8 @@ returns-clause-fault g c = λ told.
     (carried_held g.V.Ground c.args.volume.now c.linked_older.new.volume
     (λ y k u. (IsCopyFault y k u c.args.room.now c.in_ok-version.version.place c.in_ok-version.version.body.items c.in-Err.fault
     × (IsDamage c.in-Err.fault → (index : Index) (is : Record) → IsVersionIn g.V.Ground c.linked_older.new.volume index c.in_ok-version.version is → index.file_no ≡ c.args.room.now.file_no → ⊥))
-    ⊎ IsSomeAnd c.in_ok-older.older (λ (s : Stored). IsRecordFault s.place c.in-Err.fault)) both c.in-Err.ensures.fault told)))
+    ⊎ IsSomeAnd c.in_ok-older.older (λ (s : Stored). IsRecordFault s.place c.in-Err.fault)) both c.in-Err.ensures.fault told))
+    (λ damage index n file.
+    let read = read_whole g.V.Ground c.args.volume.now c.linked_older.new.volume both index c.args.oid.now c.in_ok-version.version c.in_ok-older.older (g.V.Ground.image c.stored_version.new.volume) kept.images v
+    (c.in_ok-older.ensures.reads told_b) (c.in_ok-older.ensures.link told_b) (c.in_ok-version.ensures.fits told index) n in
+    c.in-Err.ensures.sound damage told_d index n.is read (ap (λ (h : Head). h.state) (sym read.head) ∙ c.is_current.ensures.0 c.in_ok-check.ensures.holds) file))

@@ -3,6 +3,7 @@ use Rattle.std.proofs.lemmas.Result.{IfOk-weaker, IfErr-weaker}
 use Rattle.ex_base.proofs.Results.{cause_handed, if_err_handed}
 use Rattle.object_records.specs.Record.{BodyOf}
 use Rattle.file_bodies.specs.Damage.{IsListedFault, IsPlacingFault}
+use Rattle.file_bodies.specs.Places.{IsChosen}
 use Rattle.file_bodies.specs.Placing.{start_of}
 use Rattle.version_tree.specs.Bodies.{with_head}
 use Rattle.version_tree.specs.Copies.{uncopied, unplaced}
@@ -17,6 +18,10 @@ returns-clause-copies g c = IfOk-weaker c.place_body.result _ _ (λ place puts t
   spelled = subst (λ (t : List ℕ). BodyOf t (with_head c.args.head.now is)) (sym c.deref.ensures.value) (c.in_ok-body.ensures.body is spelled);
   puts = puts told index file same;
 }) c.place_body.ensures.anywhere
+
+pub returns-clause-chosen : goal.returns-clause-chosen
+returns-clause-chosen g c = IfOk-weaker c.place_body.result _ _ (λ place placed told index file same room.
+    subst (λ (n : ℕ). IsChosen g.V.Ground c.args.volume.now index n place) (ap (λ (t : List ℕ). length t) c.deref.ensures.value ∙ c.in_ok-body.ensures.len) (placed told index file same room).chosen) c.place_body.ensures.placed
 
 pub returns-clause-fault : goal.returns-clause-fault
 returns-clause-fault g c = IfErr-weaker c.place_body.result _ _ (λ fault h told. unplaced

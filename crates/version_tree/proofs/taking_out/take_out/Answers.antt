@@ -21,7 +21,8 @@ use Rattle.version_tree.specs.Removals.{IsBranch, no_branch, not_current, other_
 use Rattle.version_tree.proofs.Copying.{just_stand, read_of}
 use Rattle.version_tree.proofs.DerivedRows.{linked_readable}
 use Rattle.version_tree.proofs.Linking.{head_read, kept_linked, linked_limits}
-use Rattle.version_tree.proofs.ReadPlaces.{each_named, older_read, older_told, only_on, other_state, searching_of, state_read, taking_of}
+use Rattle.version_tree.proofs.WholeLinks.{read_whole}
+use Rattle.version_tree.proofs.ReadPlaces.{each_named, err_both, older_read, older_told, only_on, other_state, searching_of, state_read, taking_of}
 use Rattle.versions.proofs.Results.{ok_of}
 use Rattle.version_tree.proofs.TakenOut.{branch_of, branch_read, kept_takes, leaving_of}
 use Rattle.version_tree.proofs.taking_out.take_out.Goals as goal
@@ -161,9 +162,12 @@ pub returns-clause-touches : goal.returns-clause-touches
 returns-clause-touches g c = on_ok_weaker c.take_read.result (λ t. omega (arith, t, c.stored_version.ensures.kept.touched, c.linked_older.ensures.kept.touched, c.other_from.ensures.kept.touched)) c.take_read.ensures.touches
 
 pub returns-clause-fault : goal.returns-clause-fault
-returns-clause-fault g c = IfErr-weaker c.take_read.result _ _ (λ fault h told.
-    let kept = keeps_on g.V.Ground c.args.volume.now c.linked_older.new.volume c.other_from.new.volume
-    (keeps_on g.V.Ground c.args.volume.now c.stored_version.new.volume c.linked_older.new.volume c.stored_version.ensures.kept c.linked_older.ensures.kept) c.other_from.ensures.kept in
+returns-clause-fault g c = IfErr-weaker c.take_read.result _ _ (λ fault both told.
+    let ab = c.stored_version.ensures.kept in
+    let ad = keeps_on g.V.Ground c.args.volume.now c.stored_version.new.volume c.linked_older.new.volume ab c.linked_older.ensures.kept in
+    let kept = keeps_on g.V.Ground c.args.volume.now c.linked_older.new.volume c.other_from.new.volume ad c.other_from.ensures.kept in
+    let told_d = g.V.Ground.leads_told c.args.volume.now c.linked_older.new.volume ad.leads told in
+    let told_e = g.V.Ground.leads_told c.args.volume.now c.other_from.new.volume kept.leads told in
     let told_b = g.V.Ground.leads_told c.args.volume.now c.stored_version.new.volume c.stored_version.ensures.kept.leads told in
     let v = c.in_ok-version.ensures.reads told in
     of_body c.in_ok-version.version.body.items v.read.stands
@@ -171,7 +175,17 @@ returns-clause-fault g c = IfErr-weaker c.take_read.result _ _ (λ fault h told.
     c.args.oid.now c.in_ok-version.version c.in_ok-older.older fault v (c.in_ok-older.ensures.reads told_b)
     (carried_held g.V.Ground c.args.volume.now c.other_from.new.volume
     (λ y k u. IsTakingFault y k u (g.V.Ground.held c.take_read.new.volume) (g.V.Ground.image c.take_read.new.volume) c.in_ok-version.version.place fault
-    ⊎ IsSomeAnd c.in_ok-older.older (λ (s : Stored). IsRecordFault s.place fault)) kept h told))) c.take_read.ensures.fault
+    ⊎ IsSomeAnd c.in_ok-older.older (λ (s : Stored). IsRecordFault s.place fault)) kept both.0 told)
+    (λ damage index n.
+    let read_d = read_whole g.V.Ground c.args.volume.now c.linked_older.new.volume ad index c.args.oid.now c.in_ok-version.version c.in_ok-older.older (g.V.Ground.image c.stored_version.new.volume) ab.images v
+    (c.in_ok-older.ensures.reads told_b) (c.in_ok-older.ensures.link told_b) (c.in_ok-version.ensures.fits told index) n in
+    let read_e = read_whole g.V.Ground c.args.volume.now c.other_from.new.volume kept index c.args.oid.now c.in_ok-version.version c.in_ok-older.older (g.V.Ground.image c.stored_version.new.volume) ab.images v
+    (c.in_ok-older.ensures.reads told_b) (c.in_ok-older.ensures.link told_b) (c.in_ok-version.ensures.fits told index) n in
+    let current = ap (λ (h : Head). h.state) (sym read_e.head) ∙ c.is_current.ensures.0 c.in_ok-check.ensures.holds in
+    let left = subst (λ (i : ℕ → List ℕ). c.in_ok-other.other ≡ other_from (bodies_of i index) c.in_ok-version.version.place c.in_ok-older.older) (sym c.other_from.ensures.kept.images)
+    (c.in_ok-other.ensures.other told_d index (just_stand g.V.Ground c.linked_older.new.volume index c.in_ok-older.older read_d.frozen)) in
+    both.1 damage told_e index n.is (leaving_of g.V.Ground c.other_from.new.volume index c.in_ok-version.version c.in_ok-older.older c.in_ok-other.other n.is read_e current left))))
+    (err_both c.take_read.result _ _ c.take_read.ensures.fault c.take_read.ensures.sound)
 
 pub returns-clause-taken_out : goal.returns-clause-taken_out
 returns-clause-taken_out g c = on_ok_weaker c.take_read.result (λ h told links index is has.
