@@ -1,6 +1,7 @@
 #!/usr/bin/env bash
 # Measures sessions on a real file: whole runs of exsm, less the run of an empty script on the same volume. Beside each, a plain write and fdatasync of as
-# many bytes. Words: the folder to work in (it must lie on the disk that is to be measured; none: a new one under /tmp). EXSM names another program.
+# many bytes; and where a script commits more than once, one in as many pieces, each with its fdatasync, since that is as durable. Words: the folder to work
+# in (it must lie on the disk that is to be measured; none: a new one under /tmp). EXSM names another program.
 set -eu
 top="$(cd "$(dirname "${BASH_SOURCE[0]}")/.." && pwd)"
 work="${1:-$(mktemp -d)}"
@@ -10,9 +11,26 @@ exsm="${EXSM:-$top/crates/exsm/out/exsm}"
 
 now() { date +%s%N; }
 
-# ms NAME SCRIPT BYTES: the time of the script on the volume, and of a plain write of BYTES.
+# in_pieces BYTES PIECES: the milliseconds of a plain write of so many bytes, with a sync behind each piece.
+in_pieces() {
+    python3 - "$work/plain" "$1" "$2" <<'EOF'
+import os
+import sys
+import time
+
+path, size, pieces = sys.argv[1], int(sys.argv[2]), int(sys.argv[3])
+file = os.open(path, os.O_WRONLY | os.O_CREAT | os.O_TRUNC)
+begun = time.perf_counter_ns()
+for piece in range(pieces):
+    os.write(file, bytes(size * (piece + 1) // pieces - size * piece // pieces))
+    os.fdatasync(file)
+print((time.perf_counter_ns() - begun) // 1000000)
+EOF
+}
+
+# measure NAME SCRIPT BYTES: the time of the script on the volume, and of plain writes of BYTES.
 measure() {
-    local name="$1" script="$2" bytes="$3" start end empty whole plain
+    local name="$1" script="$2" bytes="$3" start end empty whole plain commits synced=""
     start=$(now); "$exsm" run "$work/v" </dev/null >/dev/null; end=$(now); empty=$((end - start))
     start=$(now); "$exsm" run "$work/v" <"$script" >"$work/replies"; end=$(now); whole=$((end - start))
     if grep -q '^no ' "$work/replies"; then
@@ -21,7 +39,9 @@ measure() {
     fi
     head -c "$bytes" /dev/zero >"$work/bytes"
     start=$(now); dd if="$work/bytes" of="$work/plain" bs=1M conv=fdatasync status=none; end=$(now); plain=$((end - start))
-    echo "$name: $(((whole - empty) / 1000000)) ms, a plain write of $bytes bytes $((plain / 1000000)) ms"
+    commits=$(grep -c '^commit$' "$script" || true)
+    [ "$commits" -le 1 ] || synced=", in $commits synced pieces $(in_pieces "$bytes" "$commits") ms"
+    echo "$name: $(((whole - empty) / 1000000)) ms, a plain write of $bytes bytes $((plain / 1000000)) ms$synced"
 }
 
 rm -f "$work/v"
