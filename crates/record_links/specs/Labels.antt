@@ -4,7 +4,7 @@ use Rattle.ex_base.specs.declared.names.Place.{Place}
 use Rattle.record_links.specs.declared.Linked.{Linked}
 use Rattle.record_links.specs.Links.{same_place}
 
--- A record and the one at its older place have one label. Of two records with one label just one has no older place.
+-- A record and the one at its older place have one label. Of the records with one label at most one has no older place.
 pub record LabelsObjects (records : List Linked) (label : Place → ℕ) : Type 0 where
   pub joined : (r older : Linked) → Contains records r → Contains records older → r.head.older ≡ Some older.place → label r.place ≡ label older.place
   pub one_first : (r s : Linked) → Contains records r → Contains records s → r.head.older ≡ None → s.head.older ≡ None → label r.place ≡ label s.place → r.place ≡ s.place
