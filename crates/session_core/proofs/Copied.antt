@@ -20,10 +20,11 @@ use Rattle.object_records.specs.Record.{Record}
 use Rattle.object_records.specs.declared.State.TheVariants.{Current, Frozen}
 use Rattle.table_model.specs.declared.table.Table.{Table}
 use Rattle.table_model.specs.Tables.{numbered, version_at, with_derived, with_frozen}
+use Rattle.versions.specs.Found.{HasLimits}
 use Rattle.versions.specs.Versions.{AreInUse, HasRecord, place_of, root_of}
 use Rattle.version_tree.specs.declared.copied.Copied.{Copied}
 use Rattle.version_tree.specs.Copies.{Derives, Freezes}
-use Rattle.version_tree.proofs.Linking.{file_back}
+use Rattle.version_tree.proofs.Linking.{file_back, linked_limits}
 use Rattle.version_tree.specs.Linked.{AreLinked}
 use Rattle.volume_model.specs.Volume.{Volume, table_of}
 use Rattle.volume_edits.specs.Edits.{RecatalogsVolume, WritesCatalog, catalog_numbered, table_numbered}
@@ -201,7 +202,7 @@ module _ {S : Type 0} (g : ground.Ghosts S) (old new : S) (oid : Oid) (unique : 
       }
 
       pub derive_failed : (fault : PortFault)
-          → (IsDamage fault → g.tells now → AreLinked g now → (index : Index) (is : Record) → HasRecord g now index oid is → is.head.state ≡ Frozen → index.file_no ≡ room_no → ⊥)
+          → (IsDamage fault → g.tells now → (index : Index) (is : Record) → HasRecord g now index oid is → HasLimits (g.geometry now) is.content → is.head.state ≡ Frozen → index.file_no ≡ room_no → ⊥)
           → Updates g old new (DerivesVersion oid unique) (Err fault)
       derive_failed fault sound = record {
         done = tt;
@@ -210,5 +211,5 @@ module _ {S : Type 0} (g : ground.Ghosts S) (old new : S) (oid : Oid) (unique : 
             let at = found g old now records v vol oid true unique asks writes in
             let has = its_record g old now records v vol oid true unique asks writes in
             let is = own g old now records v vol oid true unique asks writes in
-            sound damage (tells_now tells) (linked g old now records v vol oid true unique asks writes) at.index is has (is_old g old now records v vol oid true unique asks writes refl) (in_file tells at.index is has);
+            sound damage (tells_now tells) at.index is has (linked_limits g now at.index oid is (linked g old now records v vol oid true unique asks writes) has) (is_old g old now records v vol oid true unique asks writes refl) (in_file tells at.index is has);
       }

@@ -1,6 +1,6 @@
 -- Records as they were read of the pages, and what is told of the places that their links name.
 use Rattle.std.proofs.Common.{◌≡◌, ◌<◌, ◌⊎◌, ℕ, Bool, true, false, List, Option, Some, None, Result, Ok, Err, IfErr, refl, sym, ap, subst, ◌∙◌, inl, inr}
-use Rattle.std.specs.Prelude.{IfSome, IsSome, IsSomeAnd, slice_index_or}
+use Rattle.std.specs.Prelude.{IfSome, IsSome, IsSomeAnd}
 use Rattle.ex_base.specs.declared.faults.PortFault.{PortFault}
 use Rattle.ex_base.specs.declared.faults.PortFault.TheVariants.{Disk, Memory, Damaged}
 use Rattle.ex_base.specs.declared.geometry.Geometry.{Geometry}
@@ -12,19 +12,17 @@ use Rattle.object_records.specs.Record.{Record, BodyOf}
 use Rattle.object_records.specs.declared.Head.{Head}
 use Rattle.object_records.specs.declared.State.{State}
 use Rattle.object_records.specs.declared.State.TheVariants.{Frozen}
-use Rattle.slotted_pages.specs.Edits.{slots_of}
 use Rattle.slotted_pages.specs.Reads.{page_on, IsPage}
 use Rattle.ex_base.specs.declared.names.Index.{Index}
 use Rattle.file_bodies.specs.declared.placing.Room.{Room}
 use Rattle.file_bodies.specs.Damage.{IsBelongingFault, IsTakingFault}
 use Rattle.file_bodies.specs.Files.{HasBody, HasSomeBody}
 use Rattle.file_bodies.proofs.Moving.{kept_body}
-use Rattle.versions.specs.Damage.{record_fault, StandsOn, IsFoundAt, IsListingFault, IsStepFault, IsWalkedOut, in_file, own, of_page, unread}
+use Rattle.versions.specs.Damage.{record_fault, StandsOn, IsListingFault, IsStepFault, IsWalkedOut, in_file, own, of_page, unread}
 use Rattle.versions.specs.Listed.{oid_at}
 use Rattle.versions.specs.Versions.{HasRecord, place_of}
-use Rattle.versions.specs.declared.finding.Found.{Found}
 use Rattle.versions.proofs.Records.{one_record}
-use Rattle.versions.proofs.Results.{at_this, same_some}
+use Rattle.versions.proofs.Results.{at_this}
 use Rattle.version_tree.specs.Linked.{head_in}
 use Rattle.version_tree.specs.Links.{IsNewerFault, IsNewerOn, IsOlderFault, IsOlderOn, IsReadingFault, IsReadOn, IsRecordFault, IsStored, IsStoredFault, IsVersionOn, IsWalkFault, IsWalkedFrom, LacksNeighbours, NewerOn, OidOn, OlderOn, ReadOn, at_newer, at_older, by_look, in_its_file, no_record, no_version, not_above, not_below, not_derived, not_frozen, oid_read, on_way, ports_own, read_own}
 use Rattle.version_tree.specs.Copies.{AreOutOf, IsCopyFault, IsDerivingFault, IsFreezingFault, IsOutOf, by_copy, of_copy, unturned_older}
@@ -48,15 +46,6 @@ read_on image place body stored is stands = record {
   stands = subst (StandsOn image place) (sym is.bytes) stands;
   head = subst (λ (b : List ℕ). stored.head ≡ head_in b) (sym is.bytes) is.head;
 }
-
--- the version that was found is the one that was read
-pub version_on : (g : Geometry) (image : ℕ → List ℕ) (oid : Oid) (found : Found) (stored : Stored) → IsFoundAt g image oid found → IsReadOn image (place_of oid) stored → IsVersionOn image oid stored
-version_on g image oid found stored f read =
-    let same : f.body ≡ stored.body.items = same_some (slice_index_or (slots_of (image oid.page.0)) oid.slot None) f.body stored.body.items f.stands read.stands in
-    record {
-      read = read;
-      version = record { stands = read.stands; is = f.told.is; spelled = subst (λ (b : List ℕ). BodyOf b f.told.is) same f.told.spelled; number = f.told.number };
-    }
 
 -- what holds of a fault, and what else does
 pub err_both : {X E : Type 0} (r : Result X E) (P Q : E → Type 0) → IfErr r P → IfErr r Q → IfErr r (λ e. P e × Q e)

@@ -10,12 +10,13 @@ ghost use Rattle.file_index.specs.Taking.{OnlyTakes};
 ghost use Rattle.file_bodies.specs.Files.{HasFile};
 ghost use Rattle.file_bodies.specs.Places.{IsChosen, IsRoom};
 ghost use Rattle.versions.specs.Versions.{HasRecord, place_of, root_of};
+ghost use Rattle.versions.specs.Found.{HasLimits};
 ghost use Rattle.versions.specs.Listed.{oid_at};
 ghost use Rattle.version_tree.specs.Touches.{version_touches};
 ghost use Rattle.version_tree.specs.Bodies.{SameUnits, newer_head};
 ghost use Rattle.version_tree.specs.Copies.{Derives, IsCopyFault, IsDerivingFault, IsVersionIn, UnlinksIn};
 ghost use Rattle.version_tree.specs.Links.{IsLinkedFault, IsReadAnd, IsRecordFault};
-ghost use Rattle.version_tree.specs.Linked.{AreLinked, head_in};
+ghost use Rattle.version_tree.specs.Linked.{head_in};
 
 use crate::copied::Copied;
 use crate::heads::{put_copy, put_head};
@@ -137,8 +138,8 @@ pub fn derive<V: Volume>(
     ensures pages { OnOk result (V.free volume.old Page ≤ V.free volume.new Page + 7) }
     ensures takes { OnOk result (OnlyTakes V.Ground volume.old volume.new) }
     ensures sound { IfErr result (λ fault. IsDamage fault → V.tells volume.old
-        → AreLinked V.Ground volume.old → (index : Index) (is : Record)
-        → HasRecord V.Ground volume.old index oid.now is → is.head.state ≡ Frozen
+        → (index : Index) (is : Record) → HasRecord V.Ground volume.old index oid.now is
+        → HasLimits (V.geometry volume.old) is.content → is.head.state ≡ Frozen
         → index.file_no ≡ room.old.file_no → ⊥) }
     ensures fault { IfErr result (λ fault. V.tells volume.old
         → IsLinkedFault V.Ground volume.old oid.now

@@ -211,7 +211,7 @@ fn list_one(alloc: Global, stored: &Stored) -> Result<Vec<Oid>, PortFault>
     }
 }
 
-/// The versions that are derived from a version, in order of unique number. Only where there are more than one the file is searched.
+/// The versions that are derived from a version, in order of unique number. The file is searched unless the version names the only one.
 pub fn derived<V: ReadVolume>(
     volume: &mut V,
     alloc: Global,

@@ -18,7 +18,7 @@ use ex_base::{Oid, PageNo, Place, PortFault, ReadVolume, Seen};
 use file_bodies::body_at;
 use object_records::{Head, State};
 use std::alloc::Global;
-use versions::{check, find, head_of, no_record, place_of, stood};
+use versions::{check, head_of, no_record, place_of, stood, told_of};
 
 /// A record as it was read: where it stands, its head, and its body.
 #[derive(Drop)]
@@ -113,9 +113,11 @@ pub(crate) fn stored_version<V: ReadVolume>(
     ensures cause { HasCause (V.faults volume.old) (V.faults volume.new) result }
 {
     let place = place_of(oid);
-    let told = find(volume, alloc, oid)?;
+    let stored = stored_at(volume, alloc, place)?;
+    let geometry = volume.geometry();
+    let told = told_of(&stored.body, &geometry, oid)?;
     stood(told, place)?;
-    stored_at(volume, alloc, place)
+    Ok(stored)
 }
 
 /// The kind under which the unique number of a version is asked for: below that of a frozen one derived from it, or above that of the one it is derived

@@ -16,7 +16,7 @@ use Rattle.file_bodies.proofs.Blame.{carried}
 use Rattle.trees.specs.Trees.{Units}
 use Rattle.trees.specs.Damage.{IsRootFault}
 use Rattle.versions.specs.Versions.{place_of}
-use Rattle.versions.specs.Damage.{record_fault, root_fault, IsFoundAt, IsRootAt, IsPutFault, IsBytesFault, IsVersionFault, IsStepFault, in_file, ports, no_place, no_limits, ports_own, unlike, bad_made, looking, small, own, of_page, unread}
+use Rattle.versions.specs.Damage.{record_fault, root_fault, HasSoundWay, IsFoundAnd, IsFoundAt, IsReadThrough, IsRootAt, IsPutFault, IsBytesFault, IsVersionFault, IsStepFault, in_file, ports, no_place, no_limits, ports_own, unlike, bad_made, looking, small, own, of_page, unread}
 use Rattle.versions.specs.declared.finding.Found.{Found}
 use Rattle.versions.proofs.Standing.{large_content}
 
@@ -65,6 +65,12 @@ module _ {S : Type 0} (g : ground.Ghosts S) (a b : S) (kept : Keeps g a b) where
 
   pub tree_kept : (root : Root) (fault : PortFault) → (g.tells b → IsRootFault (g.geometry b) (g.unit b) root fault) → g.tells a → IsRootFault (g.geometry a) (g.unit a) root fault
   tree_kept root fault h told = over_units (λ y units image. IsRootFault y units root fault) h told
+
+  pub way_kept : (pos len : ℕ) (root : Root) → (g.tells b → HasSoundWay (g.geometry b) (g.unit b) pos len root) → g.tells a → HasSoundWay (g.geometry a) (g.unit a) pos len root
+  way_kept pos len root h told = over_units (λ y units image. HasSoundWay y units pos len root) h told
+
+  pub through_kept : (oid : Oid) (pos len : ℕ) → (g.tells b → IsFoundAnd (g.geometry b) (g.image b) oid (IsReadThrough (g.geometry b) (g.unit b) pos len)) → g.tells a → IsFoundAnd (g.geometry a) (g.image a) oid (IsReadThrough (g.geometry a) (g.unit a) pos len)
+  through_kept oid pos len h told = over_units (λ y units image. IsFoundAnd y image oid (IsReadThrough y units pos len)) h told
 
   pub bytes_kept : (oid : Oid) (root : Root) (fault : PortFault) → (g.tells b → IsBytesFault (g.geometry b) (g.unit b) oid root fault) → g.tells a → IsBytesFault (g.geometry a) (g.unit a) oid root fault
   bytes_kept oid root fault h told = over_units (λ y units image. IsBytesFault y units oid root fault) h told

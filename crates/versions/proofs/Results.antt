@@ -1,6 +1,6 @@
 -- What holds of a result that is handed on.
 use Rattle.std.proofs.Common.{◌≡◌, Option, Some, None, Result, Ok, Err, IfErr, OnOk, subst, sym, ap, ◌∙◌}
-use Rattle.std.specs.Prelude.{MatchOption, IfSome}
+use Rattle.std.specs.Prelude.{MatchOption, IfNone, IfSome}
 
 pub match_some : {A : Type 0} (o : Option A) (x : A) (N : Type 0) (P : A → Type 0) → o ≡ Some x → MatchOption o N P → P x
 match_some o x N P is h = subst (λ (p : Option _). MatchOption p N P) is h
@@ -33,6 +33,11 @@ at_this o x P is p = subst (λ (q : Option _). IfSome q P) (sym is) p
 
 pub at_nothing : {A : Type 0} (o : Option A) (P : A → Type 0) → o ≡ None → IfSome o P
 at_nothing o P is = subst (λ (q : Option _). IfSome q P) (sym is) tt
+
+-- what follows where nothing is there
+pub none_then : {A : Type 0} (o : Option A) (P Q : Type 0) → (P → Q) → IfNone o P → IfNone o Q
+none_then None P Q f p = f p
+none_then (Some x) P Q f p = p
 
 -- what was looked for is there or not
 pub of_found : {A : Type 0} (o : Option A) (N : Type 0) (P Q : A → Type 0) (R : Type 0) → MatchOption o N P → IfSome o Q → (N → R) → ((x : A) → P x → Q x → R) → R

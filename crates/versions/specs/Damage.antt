@@ -1,5 +1,5 @@
 -- What a fault of a call on versions says of the page, the record or the root that isn't what names it.
-use Rattle.std.specs.Prelude.{◌≡◌, ◌≤◌, ℕ, List, Option, Some, None, slice_index_or}
+use Rattle.std.specs.Prelude.{◌≡◌, ◌≤◌, ◌<◌, ◌+◌, ℕ, List, Option, Some, None, IfSome, slice_index_or}
 use Rattle.ex_base.specs.declared.faults.PortFault.{PortFault}
 use Rattle.ex_base.specs.declared.faults.PortFault.TheVariants.{Damaged}
 use Rattle.ex_base.specs.declared.geometry.Geometry.{Geometry}
@@ -7,6 +7,7 @@ use Rattle.ex_base.specs.declared.names.Oid.{Oid}
 use Rattle.ex_base.specs.declared.names.PageNo.{PageNo}
 use Rattle.ex_base.specs.declared.names.Place.{Place}
 use Rattle.ex_base.specs.declared.names.Root.{Root}
+use Rattle.ex_base.specs.Area.{NamesLeaf}
 use Rattle.ex_base.specs.Ports.{IsDamage}
 use Rattle.slotted_pages.specs.Edits.{slots_of}
 use Rattle.object_records.specs.Record.{Large, Record, BodyOf}
@@ -14,7 +15,7 @@ use Rattle.ex_base.specs.Seen.{header_seen, nothing_seen, record_seen}
 use Rattle.file_index.specs.Damage.{every_page}
 use Rattle.file_bodies.specs.Damage.{page_from, HasListed, IsBelongingFault, IsListedFault, IsLook, IsLookFault}
 use Rattle.trees.specs.Trees.{Units}
-use Rattle.trees.specs.Damage.{IsRootFault}
+use Rattle.trees.specs.Damage.{IsRootFault, IsSoundRoot}
 use Rattle.trees.specs.Roots.{IsRootFor}
 use Rattle.versions.specs.Listed.{rank_of, start_rank}
 use Rattle.versions.specs.Versions.{place_of}
@@ -51,6 +52,20 @@ pub record IsRootAt (image : ℕ → List ℕ) (oid : Oid) (root : Root) : Type 
   pub is : Record
   pub spelled : BodyOf body is
   pub large : is.content ≡ Large root
+
+-- What a call has read of a version: what a look for it tells, of which something holds.
+pub record IsFoundAnd (g : Geometry) (image : ℕ → List ℕ) (oid : Oid) (Holds : Found → Type 0) : Type 0 where
+  pub found : Found
+  pub at : IsFoundAt g image oid found
+  pub holds : Holds found
+
+-- on the way down from a root to each of so many bytes from a position on, each node and the leaf at its end are what names them
+abbrev pub HasSoundWay : Geometry → Units → ℕ → ℕ → Root → Type 0
+HasSoundWay g units pos len root = (byte : ℕ) → pos ≤ byte → byte < pos + len → IsSoundRoot g units (NamesLeaf g) root byte byte
+
+-- so many bytes from a position on lie inside of a version, and where it is large, the way to them is sound
+abbrev pub IsReadThrough : Geometry → Units → ℕ → ℕ → Found → Type 0
+IsReadThrough g units pos len found = (pos + len ≤ found.size) × IfSome found.root (HasSoundWay g units pos len)
 
 -- ---- what the calls tell
 

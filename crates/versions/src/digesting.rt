@@ -8,7 +8,7 @@ ghost use Rattle.object_records.specs.Record.{Content};
 ghost use Rattle.object_records.specs.declared.Head.{Head};
 ghost use Rattle.ex_base.specs.declared.names.Index.{Index};
 ghost use Rattle.versions.specs.Versions.{HoldsVersion};
-ghost use Rattle.versions.specs.Damage.{IsVersionFault};
+ghost use Rattle.versions.specs.Damage.{IsFoundAnd, IsReadThrough, IsVersionFault};
 
 use crate::finding::read_at;
 use ex_base::{Oid, PortFault, ReadVolume};
@@ -48,6 +48,9 @@ fn feed<V: ReadVolume>(
         → (pos + length piece.old ≤ length bytes) × ((message : List ℕ)
         → Holds256 hasher.old message
         → Holds256 hasher.new (message ++ bytes_at bytes pos (length piece.old)))) }
+    ensures reads { OnOk result (V.tells volume.old
+        → IsFoundAnd (V.geometry volume.old) (V.image volume.old) oid.now
+        (IsReadThrough (V.geometry volume.old) (V.unit volume.old) pos (length piece.old))) }
     ensures sound { IfErr result (λ fault. IsDamage fault → V.tells volume.old
         → (index : Index) (head : Head) (content : Content) (bytes : List ℕ)
         → HoldsVersion V.Ground volume.old index oid.now head content bytes
@@ -81,6 +84,9 @@ pub fn digest_at<V: ReadVolume>(
         → (index : Index) (head : Head) (content : Content) (bytes : List ℕ)
         → HoldsVersion V.Ground volume.old index oid.now head content bytes
         → (size ≤ length bytes) × (hash ≡ sha256 (take size bytes))) }
+    ensures reads { OnOk result (V.tells volume.old → 0 < size
+        → IsFoundAnd (V.geometry volume.old) (V.image volume.old) oid.now
+        (IsReadThrough (V.geometry volume.old) (V.unit volume.old) 0 size)) }
     ensures sound { IfErr result (λ fault. IsDamage fault → V.tells volume.old
         → (index : Index) (head : Head) (content : Content) (bytes : List ℕ)
         → HoldsVersion V.Ground volume.old index oid.now head content bytes

@@ -15,7 +15,7 @@ ghost use Rattle.ex_base.specs.Needs.{growth_need};
 ghost use Rattle.versions.specs.Needs.{edit_need};
 ghost use Rattle.versions.specs.Edited.{change_of, HasNeed, TurnsVersion};
 ghost use Rattle.versions.specs.Put.{PutsRecord};
-ghost use Rattle.versions.specs.Damage.{no_tree, IsStepFault, IsBytesFault, IsVersionFault};
+ghost use Rattle.versions.specs.Damage.{no_tree, IsFoundAnd, IsStepFault, IsBytesFault, IsVersionFault};
 ghost use Rattle.file_bodies.specs.Damage.{IsPlaceFault};
 
 use crate::finding::{Found, find, read_small, stood};
@@ -404,6 +404,9 @@ pub fn apply<V: Volume>(
         → Stands V.Ground volume.old oid.now) }
     ensures asked { OnOk result (V.tells volume.old → (index : Index) (is : Record)
         → HasRecord V.Ground volume.old index oid.now is → is.head.state ≡ Current) }
+    ensures reads { OnOk result (V.tells volume.old
+        → IsFoundAnd (V.geometry volume.old) (V.image volume.old) oid.now
+        (λ found. (found.head.state ≡ Current) × InRange (change_of edit.now) found.size)) }
     ensures size { IfOk result (λ done. V.tells volume.old
         → (index : Index) (head : Head) (content : Content) (bytes : List ℕ)
         → HasVersion V.Ground volume.old index oid.now head content bytes

@@ -1,16 +1,17 @@
 //! What is told of the version that an OID names, and its bytes.
-ghost use Rattle.std.specs.Prelude.{◌≡◌, ◌↔◌, IsTrue, ◌≤◌, ◌+◌, ℕ, List, length, [], ◌<◌, IfOk, IfErr, IfSome, IfNone, IsSome, OnOk, Some, None};
+ghost use Rattle.std.specs.Prelude.{◌≡◌, ◌≢◌, ◌↔◌, IsTrue, ◌≤◌, ◌+◌, ℕ, List, length, [], ◌<◌, IfOk, IfErr, IfSome, IfNone, IsSome, OnOk, Some, None};
 ghost use Rattle.ex_base.specs.Bytes.{bytes_at};
 ghost use Rattle.ex_base.specs.Ports.{Keeps, HasCause, IsDamage};
-ghost use Rattle.object_records.specs.Record.{Content, Record, BodyOf, IsRecord};
-ghost use Rattle.object_records.specs.Reads.{small_record};
+ghost use Rattle.object_records.specs.Record.{Content, Small, Record, BodyOf, IsRecord};
+ghost use Rattle.object_records.specs.Reads.{content_of, small_record};
 ghost use Rattle.object_records.specs.declared.Head.{Head};
 ghost use Rattle.ex_base.specs.declared.names.Index.{Index};
+ghost use Rattle.file_bodies.specs.Damage.{IsBelonging};
 ghost use Rattle.file_bodies.specs.Files.{HasFileOf, HasBody};
 ghost use Rattle.trees.specs.Roots.{IsRootFor};
 ghost use Rattle.versions.specs.Versions.{HasRecord, HoldsVersion, Stands, place_of};
-ghost use Rattle.versions.specs.Found.{IsReadable, IsRecordBody, IsTold, found_of};
-ghost use Rattle.versions.specs.Damage.{record_fault, IsFoundAt, IsBodyFault, IsFindingFault, IsStepFault, IsVersionFault};
+ghost use Rattle.versions.specs.Found.{HasLimits, IsReadable, IsRecordBody, IsTold, found_of};
+ghost use Rattle.versions.specs.Damage.{record_fault, IsFoundAnd, IsFoundAt, IsReadThrough, IsBodyFault, IsFindingFault, IsStepFault, IsVersionFault};
 
 use crate::recorded::{check, no_record, no_root, place_of};
 use ex_base::{Geometry, Oid, Place, PortFault, ReadVolume, Root};
@@ -30,19 +31,16 @@ pub struct Found {
     pub root: Option<Root>,
 }
 
-/// What a record tells, none where it has another unique number than the OID.
-fn told_of(body: &[u8], geometry: &Geometry, oid: &Oid) -> Result<Option<Found>, PortFault>
-    ensures some { IfOk result
-        (λ found. IfSome found (λ found. IsTold geometry.now oid.now.unique body.now found)) }
-    ensures none { IfOk result (λ found. IfNone found ((is : Record) → BodyOf body.now is
-        → is.head.unique ≡ oid.now.unique → ⊥)) }
-    ensures sound { IfErr result (λ fault. IsRecordBody geometry.now body.now → ⊥) }
-    ensures fault { IfErr result (IsBodyFault geometry.now oid.now body.now) }
+/// What a record tells that is seen in a body, none where it has another unique number than the OID.
+fn told_by(view: &RecordView, geometry: &Geometry, oid: &Oid) -> Result<Option<Found>, PortFault>
+    ensures some { IfOk result (λ found. IfSome found (λ found. (body : List ℕ)
+        → BodyOf body view.now → IsTold geometry.now oid.now.unique body found)) }
+    ensures none { IfOk result (λ found. IfNone found (view.now.head.unique ≢ oid.now.unique)) }
+    ensures sound { IfErr result (λ fault. HasLimits geometry.now view.now.content → ⊥) }
+    ensures fault { IfErr result (λ fault. (body : List ℕ) → BodyOf body view.now
+        → IsBodyFault geometry.now oid.now body fault) }
     ensures cause { (before now : ℕ) → HasCause before now result }
 {
-    let Some(view) = RecordView::of(body) else {
-        return Err(no_record(place_of(oid)));
-    };
     let head = view.head();
     if head.unique != oid.unique {
         return Ok(None);
@@ -66,6 +64,38 @@ fn told_of(body: &[u8], geometry: &Geometry, oid: &Oid) -> Result<Option<Found>,
     }
 }
 
+/// What a record tells, none where it has another unique number than the OID.
+pub fn told_of(body: &[u8], geometry: &Geometry, oid: &Oid) -> Result<Option<Found>, PortFault>
+    ensures some { IfOk result
+        (λ found. IfSome found (λ found. IsTold geometry.now oid.now.unique body.now found)) }
+    ensures none { IfOk result (λ found. IfNone found ((is : Record) → BodyOf body.now is
+        → is.head.unique ≡ oid.now.unique → ⊥)) }
+    ensures sound { IfErr result (λ fault. IsRecordBody geometry.now body.now → ⊥) }
+    ensures fault { IfErr result (IsBodyFault geometry.now oid.now body.now) }
+    ensures cause { (before now : ℕ) → HasCause before now result }
+{
+    match RecordView::of(body) {
+        Some(view) => told_by(&view, geometry, oid),
+        None => Err(no_record(place_of(oid))),
+    }
+}
+
+/// Copies the bytes of a small version from a position on, as many as `out` holds, where it has them.
+fn copy_inside(payload: &Payload, pos: u64, out: &mut [u8])
+    ensures bytes { (bytes : List ℕ) → content_of payload.now ≡ Small bytes
+        → pos + length out.old ≤ length bytes → out.new ≡ bytes_at bytes pos (length out.old) }
+    ensures len { length out.new ≡ length out.old }
+{
+    let Payload::Small(bytes) = payload else {
+        return;
+    };
+    if !is_inside(pos, out.len(), bytes.len() as u64) {
+        return;
+    }
+    let from = pos as usize;
+    out.copy_from_slice(&bytes[from..from + out.len()]);
+}
+
 /// What a record tells, as `told_of` tells it. Of a small version the bytes from a position on are copied, as many as `out` holds, where it has them.
 fn told_reading(
     body: &[u8],
@@ -87,13 +117,18 @@ fn told_reading(
     ensures fault { IfErr result (IsBodyFault geometry.now oid.now body.now) }
     ensures cause { (before now : ℕ) → HasCause before now result }
 {
-    let told = told_of(body, geometry, oid)?;
-    if let Some(found) = told {
-        if found.root.is_none() && is_inside(pos, out.len(), found.size) {
-            copy_record(body, place_of(oid), pos, out)?;
+    let Some(view) = RecordView::of(body) else {
+        return Err(no_record(place_of(oid)));
+    };
+    match told_by(&view, geometry, oid) {
+        Ok(Some(found)) => {
+            let payload = view.payload();
+            copy_inside(&payload, pos, out);
+            Ok(Some(found))
         }
+        Ok(None) => Ok(None),
+        Err(fault) => Err(fault),
     }
-    Ok(told)
 }
 
 /// What is told of the version that an OID names, as `find` tells it. Of a small version the bytes from a position on are copied, as many as `out` holds,
@@ -130,6 +165,8 @@ fn find_reading<V: ReadVolume>(
         (λ root. found.size ≡ root.size))) }
     ensures reads { IfOk result (λ found. IfSome found (λ found. V.tells volume.old
         → IsFoundAt (V.geometry volume.old) (V.image volume.old) oid.now found)) }
+    ensures way { OnOk result (V.tells volume.old
+        → IsBelonging (V.geometry volume.old) (V.image volume.old) oid.now.page.0) }
     ensures sound { IfErr result (λ fault. IsDamage fault → V.tells volume.old
         → HasFileOf V.Ground volume.old oid.now.page.0
         → IsReadable V.Ground volume.old (place_of oid.now) → ⊥) }
@@ -171,6 +208,8 @@ pub fn find<V: ReadVolume>(
         (λ root. found.size ≡ root.size))) }
     ensures reads { IfOk result (λ found. IfSome found (λ found. V.tells volume.old
         → IsFoundAt (V.geometry volume.old) (V.image volume.old) oid.now found)) }
+    ensures way { OnOk result (V.tells volume.old
+        → IsBelonging (V.geometry volume.old) (V.image volume.old) oid.now.page.0) }
     ensures sound { IfErr result (λ fault. IsDamage fault → V.tells volume.old
         → HasFileOf V.Ground volume.old oid.now.page.0
         → IsReadable V.Ground volume.old (place_of oid.now) → ⊥) }
@@ -294,6 +333,9 @@ pub fn read_at<V: ReadVolume>(
         → (index : Index) (head : Head) (content : Content) (bytes : List ℕ)
         → HoldsVersion V.Ground volume.old index oid.now head content bytes
         → (pos + length out.old ≤ length bytes) × (out.new ≡ bytes_at bytes pos (length out.old))) }
+    ensures reads { OnOk result (V.tells volume.old
+        → IsFoundAnd (V.geometry volume.old) (V.image volume.old) oid.now
+        (IsReadThrough (V.geometry volume.old) (V.unit volume.old) pos (length out.old))) }
     ensures sound { IfErr result (λ fault. IsDamage fault → V.tells volume.old
         → (index : Index) (head : Head) (content : Content) (bytes : List ℕ)
         → HoldsVersion V.Ground volume.old index oid.now head content bytes

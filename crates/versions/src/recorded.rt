@@ -1,5 +1,5 @@
 //! A record as it is read at the place that an OID names.
-ghost use Rattle.std.specs.Prelude.{◌≡◌, ℕ, IfErr, OnOk, IsTrue, false};
+ghost use Rattle.std.specs.Prelude.{◌≡◌, ℕ, IfErr, OnOk, IsTrue, None, false};
 ghost use Rattle.ex_base.specs.Ports.{Cause, HasCause, IsDamage};
 ghost use Rattle.ex_base.specs.Seen.{nothing_seen};
 ghost use Rattle.object_records.specs.Record.{Record, BodyOf};
@@ -30,7 +30,8 @@ pub fn oid_at(place: Place, unique: u64) -> Oid
 
 /// The root of the version whose record is in a body: none of a small one, nor where no record is.
 pub fn root_in(body: &[u8]) -> Option<Root>
-    ensures { (is : Record) → BodyOf body.now is → result ≡ root_of is.content }
+    ensures root { (is : Record) → BodyOf body.now is → result ≡ root_of is.content }
+    ensures none { ((is : Record) → BodyOf body.now is → ⊥) → result ≡ None }
 {
     let Some(view) = RecordView::of(body) else {
         return None;

@@ -15,20 +15,20 @@ use Rattle.version_tree.specs.Copies.{Derives, IsCopyFault, not_asked}
 use Rattle.versions.specs.Damage.{record_fault}
 use Rattle.version_tree.specs.Links.{of_body, of_version}
 use Rattle.version_tree.proofs.Copying.{kept_derives, version_in}
-use Rattle.version_tree.proofs.Linking.{head_read, linked_limits}
+use Rattle.version_tree.proofs.Linking.{head_read}
 use Rattle.version_tree.proofs.RoomsKept.{chosen_back, room_kept}
 use Rattle.version_tree.proofs.ReadPlaces.{deriving_of, other_state, out_of, state_read}
 use Rattle.version_tree.proofs.branching.derive.Goals as goal
 
 pub returns-in_err-version-clause-sound : goal.returns-in_err-version-clause-sound
-returns-in_err-version-clause-sound g c = if_err_handed c.from_residual.result _ _ c.from_residual.ensures.1 (λ damage told links index is has frozen file.
-    c.in_err-version.ensures.sound damage told index is has (linked_limits g.V.Ground c.args.volume.now index c.args.oid.now is links has))
+returns-in_err-version-clause-sound g c = if_err_handed c.from_residual.result _ _ c.from_residual.ensures.1 (λ damage told index is has limits frozen file.
+    c.in_err-version.ensures.sound damage told index is has limits)
 
 pub returns-in_err-version-clause-fault : goal.returns-in_err-version-clause-fault
 returns-in_err-version-clause-fault g c = if_err_handed c.from_residual.result _ _ c.from_residual.ensures.1 (λ told. of_version (c.in_err-version.ensures.fault told))
 
 pub returns-in_err-check-clause-sound : goal.returns-in_err-check-clause-sound
-returns-in_err-check-clause-sound g c = if_err_handed c.from_residual-in_err-check.result _ _ c.from_residual-in_err-check.ensures.1 (λ damage told links index is has frozen file.
+returns-in_err-check-clause-sound g c = if_err_handed c.from_residual-in_err-check.result _ _ c.from_residual-in_err-check.ensures.1 (λ damage told index is has limits frozen file.
     let at = c.in_ok-version.ensures.stored told index is has in
     let yes : c.is_frozen.result ≡ true = c.is_frozen.ensures.1 (ap (λ (h : Head). h.state) (head_read g.V.Ground has.body is c.in_ok-version.version.head has.spelled at.head) ∙ frozen) in
     let isnt : c.is_frozen.result ≡ false = c.in_err-check.ensures.fault.0 in
@@ -74,7 +74,7 @@ returns-in-Ok-clause-reads g c = λ told.
 pub returns-in-Ok-clause-come : goal.returns-in-Ok-clause-come
 returns-in-Ok-clause-come g c = λ told index is has.
     let at = c.in_ok-version.ensures.stored told index is has in
-    c.root_in.ensures is (subst (λ (b : List ℕ). BodyOf b is) (sym (c.deref.ensures.value ∙ at.bytes)) has.spelled)
+    c.root_in.ensures.root is (subst (λ (b : List ℕ). BodyOf b is) (sym (c.deref.ensures.value ∙ at.bytes)) has.spelled)
 
 pub returns-in-Ok-clause-asked : goal.returns-in-Ok-clause-asked
 returns-in-Ok-clause-asked g c = λ told index is has.
@@ -85,7 +85,7 @@ pub returns-in-Ok-clause-pages : goal.returns-in-Ok-clause-pages
 returns-in-Ok-clause-pages g c = omega (arith, c.in-Ok.ensures.pages, ap (λ (f : Area → ℕ). f Page) c.stored_version.ensures.kept.free)
 
 pub returns-clause-sound : goal.returns-clause-sound
-returns-clause-sound g c = λ damage told links index is has frozen file.
+returns-clause-sound g c = λ damage told index is has limits frozen file.
     c.in-Err.ensures.sound damage (g.V.Ground.leads_told c.args.volume.now c.stored_version.new.volume c.stored_version.ensures.kept.leads told) index is
     (version_in g.V.Ground c.args.volume.now c.stored_version.new.volume index (place_of c.args.oid.now) has.body is c.in_ok-version.version c.stored_version.ensures.kept has.stands has.spelled (c.in_ok-version.ensures.stored told index is has) (c.in_ok-version.ensures.fits told index is has)) file
 

@@ -20,7 +20,7 @@ returns-in-Ok-clause-dropped g c = λ told index is m.
     drops g.V.Ground c.args.volume.now c.remove_from_file.new.pages index c.args.was.now c.args.newer.now c.args.older.now is m gone c.put_head.new.volume put c.turn_older.new.volume turned
 
 pub returns-in-Ok-clause-gone : goal.returns-in-Ok-clause-gone
-returns-in-Ok-clause-gone g c = λ is spelled. c.root_in.ensures is (subst (λ (b : List ℕ). BodyOf b is) (sym c.deref.ensures.value) spelled)
+returns-in-Ok-clause-gone g c = λ is spelled. c.root_in.ensures.root is (subst (λ (b : List ℕ). BodyOf b is) (sym c.deref.ensures.value) spelled)
 
 pub returns-in-Ok-clause-pages : goal.returns-in-Ok-clause-pages
 returns-in-Ok-clause-pages g c = omega (arith, c.in_ok-remove_from_file.ensures.free, ap (λ (f : Area → ℕ). f Page) c.in_ok-put_head.ensures.free, ap (λ (f : Area → ℕ). f Page) c.in-Ok.ensures.free)

@@ -105,7 +105,7 @@ returns-in-Ok-clause-reads g c = λ told.
 pub returns-in-Ok-clause-come : goal.returns-in-Ok-clause-come
 returns-in-Ok-clause-come g c = λ told index is has.
     let at = c.in_ok-version.ensures.stored told index is has in
-    c.root_in.ensures is (subst (λ (b : List ℕ). BodyOf b is) (sym (c.deref.ensures.value ∙ at.bytes)) has.spelled)
+    c.root_in.ensures.root is (subst (λ (b : List ℕ). BodyOf b is) (sym (c.deref.ensures.value ∙ at.bytes)) has.spelled)
 
 pub returns-in-Ok-clause-asked : goal.returns-in-Ok-clause-asked
 returns-in-Ok-clause-asked g c = λ told index is has.

@@ -1,6 +1,7 @@
 use Rattle.std.proofs.Common.{◌≡◌, ◌≤◌, ◌+◌, ℕ, length, take, subst, arith}
 use Rattle.std.proofs.lemmas.List.{length-take}
 use Rattle.sha2.specs.Hashers.{Holds256}
+use Rattle.versions.specs.Damage.{IsFoundAnd, IsReadThrough}
 use Rattle.versions.proofs.Faults.{version_kept}
 use Rattle.versions.proofs.Standing.{kept_holds}
 use Rattle.versions.proofs.Fed.{FedTo, fed_more}
@@ -20,7 +21,7 @@ pieces-preserved g c =
     let long : length (take c.piece_len-len.result c.pieces.buffer) ≡ c.piece_len-len.result = omega (arith, c.piece_len-len.ensures, length-take {A = ℕ}) in
     subst (λ (n : ℕ). FedTo g.V.Ground c.args.volume.now c.feed.new.volume c.args.oid.now c.args.size (c.pieces.at + n) c.feed.new.hasher) long
     (fed_more g.V.Ground c.args.volume.now c.pieces.volume c.feed.new.volume c.args.oid.now c.args.size c.pieces.at (length (take c.piece_len-len.result c.pieces.buffer)) c.pieces.hasher c.feed.new.hasher c.pieces.invariant
-    (record { kept = c.feed.ensures.kept; fed = c.in-Ok.ensures.fed })
+    (record { kept = c.feed.ensures.kept; fed = c.in-Ok.ensures.fed; reads = c.in-Ok.ensures.reads })
     (omega (arith, c.pieces.invariant.inside, c.pieces-test.true, c.piece_len-len.ensures, length-take {A = ℕ})))
 
 pub returns-clause-hash : goal.returns-clause-hash
@@ -28,3 +29,9 @@ returns-clause-hash g c = λ told index head content bytes has.
     let so_far = c.pieces.invariant.fed told index head content bytes has in
     let same : c.pieces.at ≡ c.args.size = omega (arith, c.pieces.invariant.inside, c.pieces-test.false) in
     (subst (λ (n : ℕ). n ≤ length bytes) same so_far.0, c.finalize.ensures (take c.args.size bytes) (subst (λ (n : ℕ). Holds256 c.pieces.hasher (take n bytes)) same so_far.1))
+
+pub returns-clause-reads : goal.returns-clause-reads
+returns-clause-reads g c = λ told some.
+    let same : c.pieces.at ≡ c.args.size = omega (arith, c.pieces.invariant.inside, c.pieces-test.false) in
+    subst (λ (n : ℕ). IsFoundAnd (g.V.Ground.geometry c.args.volume.now) (g.V.Ground.image c.args.volume.now) c.args.oid.now (IsReadThrough (g.V.Ground.geometry c.args.volume.now) (g.V.Ground.unit c.args.volume.now) 0 n)) same
+    (c.pieces.invariant.reads told (omega (arith, some, same)))

@@ -220,6 +220,29 @@ returns-in-Some-clause-asked g c = ok_of c.edit_large.result _ (λ told index is
     let f_is = same_some c.in_ok-told.told c.in_ok-found.found _ c.in_ok-found.ensures.some (c.in_ok-told.ensures.told told index is has) in
     sym (ap (λ (f : Found). f.head.state) f_is) ∙ (c.is_editable.ensures.0 c.in_ok-check.ensures.holds).0)
 
+-- ---- what was read
+
+pub returns-then-count-eq0-clause-reads : goal.returns-then-count-eq0-clause-reads
+returns-then-count-eq0-clause-reads g c = λ told. record {
+  found = c.in_ok-found.found;
+  at = at_some c.in_ok-told.told c.in_ok-found.found _ c.in_ok-found.ensures.some c.in_ok-told.ensures.reads told;
+  holds = c.is_editable.ensures.0 c.in_ok-check.ensures.holds;
+}
+
+pub returns-in-None-clause-reads : goal.returns-in-None-clause-reads
+returns-in-None-clause-reads g c = ok_of c.edit_small.result _ (λ told. record {
+  found = c.in_ok-found.found;
+  at = at_some c.in_ok-told.told c.in_ok-found.found _ c.in_ok-found.ensures.some c.in_ok-told.ensures.reads told;
+  holds = c.is_editable.ensures.0 c.in_ok-check.ensures.holds;
+})
+
+pub returns-in-Some-clause-reads : goal.returns-in-Some-clause-reads
+returns-in-Some-clause-reads g c = ok_of c.edit_large.result _ (λ told. record {
+  found = c.in_ok-found.found;
+  at = at_some c.in_ok-told.told c.in_ok-found.found _ c.in_ok-found.ensures.some c.in_ok-told.ensures.reads told;
+  holds = c.is_editable.ensures.0 c.in_ok-check.ensures.holds;
+})
+
 -- ---- what is told
 
 pub returns-in_err-told-clause-fault : goal.returns-in_err-told-clause-fault

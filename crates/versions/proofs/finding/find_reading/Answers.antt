@@ -3,13 +3,13 @@ use Rattle.ex_base.specs.declared.names.Place.{Place}
 use Rattle.file_bodies.specs.Files.{HasFileOf, HasBody, HasSomeBody}
 use Rattle.ex_base.specs.declared.geometry.Geometry.{Geometry}
 use Rattle.ex_base.proofs.Results.{if_ok_both}
-use Rattle.file_bodies.specs.Damage.{IsBelongingFault}
+use Rattle.file_bodies.specs.Damage.{IsBelonging, IsBelongingFault}
 use Rattle.std.proofs.lemmas.Result.{IfOk-weaker, IfErr-weaker}
 use Rattle.ex_base.proofs.Options.{at_some}
 use Rattle.versions.specs.Found.{IsTold, IsRecordBody}
 use Rattle.versions.specs.Damage.{StandsOn, IsBodyFault, in_file, at_place}
 use Rattle.ex_base.proofs.Options.{if_some_both, some_both}
-use Rattle.versions.proofs.Results.{same_some, match_some, match_none}
+use Rattle.versions.proofs.Results.{same_some, match_some, match_none, ok_of}
 use Rattle.object_records.specs.Record.{BodyOf}
 use Rattle.object_records.specs.Reads.{small_record}
 use Rattle.versions.proofs.Standing.{found_is, told_size, file_at, one_body, small_version}
@@ -65,3 +65,9 @@ returns-in-Ok-Some-clause-bytes g c = if_ok_both c.told_reading.result _ _ _ (λ
     let held = small_version g.V.Ground c.args.volume.now index c.args.oid.now head content bytes f f_is small has in
     copies small inside head bytes
     (subst (λ (b : List ℕ). BodyOf b (small_record head bytes)) (sym (one_body g.V.Ground c.args.volume.now index (place_of c.args.oid.now) c.in-Ok-Some.body.now held.stored.body stands held.stored.stands)) held.stored.spelled)) some copied) c.told_reading.ensures.some c.told_reading.ensures.bytes
+
+pub returns-in-Ok-Some-clause-way : goal.returns-in-Ok-Some-clause-way
+returns-in-Ok-Some-clause-way g c = ok_of c.told_reading.result _ (λ told. subst (λ (p : Place). IsBelonging (g.V.Ground.geometry c.args.volume.now) (g.V.Ground.image c.args.volume.now) p.page.0) c.place_of.ensures (c.in-Ok-Some.ensures.way told))
+
+pub returns-in-Ok-None-clause-way : goal.returns-in-Ok-None-clause-way
+returns-in-Ok-None-clause-way g c = λ told. subst (λ (p : Place). IsBelonging (g.V.Ground.geometry c.args.volume.now) (g.V.Ground.image c.args.volume.now) p.page.0) c.place_of.ensures (c.in-Ok-None.ensures.way told)

@@ -7,8 +7,8 @@ use Rattle.object_records.specs.Record.{Large}
 use Rattle.versions.specs.Versions.{place_of}
 use Rattle.file_bodies.proofs.Belonging.{file_of_body}
 use Rattle.versions.specs.Damage.{record_fault, looking, small, large, unlike, in_tree}
-use Rattle.versions.proofs.Faults.{root_at, tree_kept}
-use Rattle.versions.proofs.Results.{none_some, same_some}
+use Rattle.versions.proofs.Faults.{root_at, tree_kept, way_kept}
+use Rattle.versions.proofs.Results.{at_nothing, at_this, none_some, same_some}
 use Rattle.versions.proofs.Standing.{version_readable, version_whole, kept_holds, large_version}
 use Rattle.versions.proofs.finding.read_at.Goals as goal
 
@@ -66,3 +66,27 @@ returns-in-Some-clause-fault g c = IfErr-weaker c.read.result _ _ (λ fault h to
     let at = at_some c.in_ok-told.told c.in_ok-found.found _ c.in_ok-found.ensures.some c.in_ok-told.ensures.reads told in
     large c.in-Some.root (root_at (g.V.Ground.geometry c.args.volume.now) (g.V.Ground.image c.args.volume.now) c.args.oid.now c.in_ok-found.found c.in-Some.root at c.in-Some.is)
     (in_tree (tree_kept g.V.Ground c.args.volume.now c.find_reading.new.volume c.find_reading.ensures.kept c.in-Some.root fault h told))) c.read.ensures.fault
+
+-- ---- what was read
+
+pub returns-in-None-clause-reads : goal.returns-in-None-clause-reads
+returns-in-None-clause-reads g c = λ told.
+    let len : length c.find_reading.new.out ≡ length c.args.out.now = c.in_ok-told.ensures.len in
+    record {
+      found = c.in_ok-found.found;
+      at = at_some c.in_ok-told.told c.in_ok-found.found _ c.in_ok-found.ensures.some c.in_ok-told.ensures.reads told;
+      holds = (omega (arith, len, c.is_inside.ensures.0 c.in_ok-check.ensures.holds), at_nothing c.in_ok-found.found.root _ c.in-None.is);
+    }
+
+pub returns-in-Some-clause-reads : goal.returns-in-Some-clause-reads
+returns-in-Some-clause-reads g c = on_ok_weaker c.read.result (λ way told.
+    let len : length c.find_reading.new.out ≡ length c.args.out.now = c.in_ok-told.ensures.len in
+    record {
+      found = c.in_ok-found.found;
+      at = at_some c.in_ok-told.told c.in_ok-found.found _ c.in_ok-found.ensures.some c.in_ok-told.ensures.reads told;
+      holds = (
+        omega (arith, len, c.is_inside.ensures.0 c.in_ok-check.ensures.holds),
+        at_this c.in_ok-found.found.root c.in-Some.root _ c.in-Some.is
+            (λ byte low high. way_kept g.V.Ground c.args.volume.now c.find_reading.new.volume c.find_reading.ensures.kept c.args.pos (length c.find_reading.new.out) c.in-Some.root way told byte low (omega (arith, high, len))),
+      );
+    }) c.read.ensures.way
