@@ -1,4 +1,4 @@
-//! The links of a file's records, tested in one pass over what an opening keeps of them, and which object each record belongs to.
+//! The links of a file's records, tested by what an opening keeps of them, and which object each record belongs to.
 //!
 //! Each older place is looked up once. What is derived from each record is counted on the way, so that newer places need no search. It takes n log n
 //! steps and a few words a record.
