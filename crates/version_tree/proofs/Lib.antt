@@ -10,5 +10,4 @@ pub mod Dropped
 pub mod TakenOut
 pub mod LineageOrder
 pub mod MemberRuns
-pub mod MemberRows
-pub mod DerivedRows
+pub mod RowsGathered

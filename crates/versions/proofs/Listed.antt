@@ -1,11 +1,9 @@
 -- How far the rows of a file are listed.
-use Rattle.std.proofs.Common.{◌≡◌, ◌≤◌, ◌+◌, ℕ, List, [], ◌++◌, Option, Some, None, refl, sym, subst}
+use Rattle.std.proofs.Common.{◌≡◌, ◌≤◌, ◌+◌, ℕ, List, [], ◌∷◌, ◌++◌, Option, Some, None, refl, sym, subst}
 use Rattle.ex_base.specs.declared.ground.Ground as ground
-use Rattle.ex_base.specs.declared.names.Oid.{Oid}
 use Rattle.ex_base.specs.declared.names.Place.{Place}
 use Rattle.ex_base.specs.Ports.{Keeps}
 use Rattle.object_records.specs.Record.{Record, BodyOf}
-use Rattle.object_records.specs.Reads.{record_on}
 use Rattle.ex_base.specs.declared.names.Index.{Index}
 use Rattle.file_bodies.specs.Bodies.{Row, bodies_of}
 use Rattle.file_bodies.specs.Damage.{HasListed, IsLook, page_from, page_in}
@@ -15,9 +13,9 @@ use Rattle.file_bodies.proofs.Blame.{carried}
 use Rattle.file_bodies.proofs.Moving.{kept_file}
 use Rattle.file_bodies.proofs.Ordered.{ordered}
 use Rattle.versions.specs.Damage.{ComesNext, IsWalkedOut, IsWalkedTo, at_front}
-use Rattle.versions.specs.Listed.{oids_in, oids_of, rank_of, start_rank, AreReadable}
+use Rattle.versions.specs.Listed.{rank_of, start_rank, AreReadable}
 use Rattle.versions.proofs.FileRows.{InRows, in_mid, row_stands}
-use Rattle.versions.proofs.RowsListed.{IsShort, IsListed, key_of, slot_of, none_listed, next_listed, all_listed, next_rank, at_mid}
+use Rattle.versions.proofs.RowsListed.{Gathers, IsShort, IsListed, key_of, slot_of, none_listed, next_listed, all_listed, next_rank, at_mid}
 
 -- the first row from there on, as the record says it
 next_first : (rows : List Row) (after : Option Place) (place : Place) → IsNext rows after (Some place) → IsFirstFrom rows (key_of after) (slot_of after) place
@@ -47,16 +45,16 @@ module _ {S : Type 0} (g : ground.Ghosts S) where
   }
 
   -- Up to a place the rows of the file are listed, in a state with the same meanings.
-  pub record ListedTo (a b : S) (file_no : ℕ) (after : Option Place) (oids : List Oid) : Type 0 where
+  pub record ListedTo {A : Type 0} (of : List Row → List A) (a b : S) (file_no : ℕ) (after : Option Place) (items : List A) : Type 0 where
     pub kept : Keeps g a b
     pub short : IsShort after
-    pub listed : g.tells a → (index : Index) → HasFile g a index → index.file_no ≡ file_no → IsListed (bodies_of (g.image a) index) (key_of after) (slot_of after) oids
+    pub listed : g.tells a → (index : Index) → HasFile g a index → index.file_no ≡ file_no → IsListed of (bodies_of (g.image a) index) (key_of after) (slot_of after) items
     pub walked : g.tells a → IsWalkedTo (g.geometry a) (g.image a) file_no after
 
-  pub listed_none : (a : S) (file_no : ℕ) → ListedTo a a file_no None []
-  listed_none a file_no = record { kept = record { units = refl; images = refl; used = refl; refs = refl; held = refl; free = refl; touched = refl; leads = g.leads_refl a }; short = tt; listed = λ told index file is. none_listed (bodies_of (g.image a) index); walked = λ told. at_front }
+  pub listed_none : {A : Type 0} (of : List Row → List A) → Gathers of → (a : S) (file_no : ℕ) → ListedTo of a a file_no None []
+  listed_none of gathers a file_no = record { kept = record { units = refl; images = refl; used = refl; refs = refl; held = refl; free = refl; touched = refl; leads = g.leads_refl a }; short = tt; listed = λ told index file is. none_listed of gathers (bodies_of (g.image a) index); walked = λ told. at_front }
 
-  module _ (a b : S) (file_no : ℕ) (after : Option Place) (oids : List Oid) (to : ListedTo a b file_no after oids) (told : g.tells a) (index : Index) (file : HasFile g a index) (is : index.file_no ≡ file_no) where
+  module _ {A : Type 0} (of : List Row → List A) (a b : S) (file_no : ℕ) (after : Option Place) (items : List A) (to : ListedTo of a b file_no after items) (told : g.tells a) (index : Index) (file : HasFile g a index) (is : index.file_no ≡ file_no) where
     pub told_b : g.tells b
     told_b = g.leads_told a b to.kept.leads told
 
@@ -66,8 +64,8 @@ module _ {S : Type 0} (g : ground.Ghosts S) where
     same_rows : (o : Option Place) → IsNext (bodies_of (g.image b) index) after o → IsNext (bodies_of (g.image a) index) after o
     same_rows o = subst (λ (f : ℕ → List ℕ). IsNext (bodies_of f index) after o) to.kept.images
 
-    pub done : IsNext (bodies_of (g.image b) index) after None → oids ≡ oids_of (bodies_of (g.image a) index)
-    done next = all_listed (bodies_of (g.image a) index) (key_of after) (slot_of after) oids (to.listed told index file is) (none_next (bodies_of (g.image a) index) after (same_rows None next))
+    pub done : IsNext (bodies_of (g.image b) index) after None → items ≡ of (bodies_of (g.image a) index)
+    done next = all_listed of (bodies_of (g.image a) index) (key_of after) (slot_of after) items (to.listed told index file is) (none_next (bodies_of (g.image a) index) after (same_rows None next))
 
     module _ (place : Place) (next : IsNext (bodies_of (g.image b) index) after (Some place)) where
       pub first : IsFirstFrom (bodies_of (g.image a) index) (key_of after) (slot_of after) place
@@ -82,5 +80,5 @@ module _ {S : Type 0} (g : ground.Ghosts S) where
       pub readable : AreReadable (bodies_of (g.image a) index) → (r : Record) × BodyOf first.body r
       readable all = at_mid (λ (row : Row). (r : Record) × BodyOf row.1 r) first.front (place, first.body) first.back (subst AreReadable first.is all)
 
-      pub one_more : IsListed (bodies_of (g.image a) index) place.page.0 (place.slot + 1) (oids ++ oids_in place (record_on first.body).head)
-      one_more = next_listed (bodies_of (g.image a) index) (key_of after) (slot_of after) oids place first (ordered g a index file) (to.listed told index file is)
+      pub one_more : Gathers of → IsListed of (bodies_of (g.image a) index) place.page.0 (place.slot + 1) (items ++ of ((place, first.body) ∷ []))
+      one_more gathers = next_listed of gathers (bodies_of (g.image a) index) (key_of after) (slot_of after) items place first (ordered g a index file) (to.listed told index file is)

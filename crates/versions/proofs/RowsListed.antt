@@ -24,12 +24,17 @@ abbrev pub IsShort : Option Place → Type 0
 IsShort None = Unit {0}
 IsShort (Some place) = place.slot < 65536
 
--- The rows up to a place are listed: those before it, of which these are the OIDs, and those behind it.
-pub record IsListed (rows : List Row) (key slot : ℕ) (oids : List Oid) : Type 0 where
+-- What is gathered of rows is gathered of each of them.
+pub record Gathers {A : Type 0} (of : List Row → List A) : Type 0 where
+  pub none : of [] ≡ []
+  pub append : (xs ys : List Row) → of (xs ++ ys) ≡ of xs ++ of ys
+
+-- The rows up to a place are listed: those before it, of which this was gathered, and those behind it.
+pub record IsListed {A : Type 0} (of : List Row → List A) (rows : List Row) (key slot : ℕ) (items : List A) : Type 0 where
   pub front : List Row
   pub back : List Row
   pub is : rows ≡ front ++ back
-  pub oids_are : oids ≡ oids_of front
+  pub items_are : items ≡ of front
   pub before : AllByRecursion (λ (row : Row). ¬ IsFrom key slot row.0) front
   pub behind : AllByRecursion (λ (row : Row). IsFrom key slot row.0) back
 
@@ -43,8 +48,8 @@ from_start (row ∷ rows) = (at row.0, from_start rows)
       | inr le ↦ inr (omega arith, omega arith)
     ]
 
-pub none_listed : (rows : List Row) → IsListed rows 0 0 []
-none_listed rows = record { front = []; back = rows; is = refl; oids_are = refl; before = tt; behind = from_start rows }
+pub none_listed : {A : Type 0} (of : List Row → List A) → Gathers of → (rows : List Row) → IsListed of rows 0 0 []
+none_listed of gathers rows = record { front = []; back = rows; is = refl; items_are = sym gathers.none; before = tt; behind = from_start rows }
 
 -- ---- the next row
 
@@ -53,14 +58,10 @@ all_passed key slot [] [] passed behind = refl
 all_passed key slot [] (row ∷ back) passed behind = absurd (passed.0 behind.0)
 all_passed key slot (x ∷ front) back passed behind = all_passed key slot front back passed.1 behind
 
-oids_app : (xs ys : List Row) → oids_of (xs ++ ys) ≡ oids_of xs ++ oids_of ys
-oids_app [] ys = refl
-oids_app (x ∷ xs) ys = ap (λ (t : List Oid). oids_in x.0 (record_on x.1).head ++ t) (oids_app xs ys) ∙ sym (append_assoc (oids_in x.0 (record_on x.1).head) (oids_of xs) (oids_of ys))
-
-pub all_listed : (rows : List Row) (key slot : ℕ) (oids : List Oid) → IsListed rows key slot oids → AllByRecursion (λ (row : Row). ¬ IsFrom key slot row.0) rows → oids ≡ oids_of rows
-all_listed rows key slot oids h passed =
+pub all_listed : {A : Type 0} (of : List Row → List A) (rows : List Row) (key slot : ℕ) (items : List A) → IsListed of rows key slot items → AllByRecursion (λ (row : Row). ¬ IsFrom key slot row.0) rows → items ≡ of rows
+all_listed of rows key slot items h passed =
     let none = all_passed key slot h.front h.back (subst (AllByRecursion (λ (row : Row). ¬ IsFrom key slot row.0)) h.is passed) h.behind in
-    h.oids_are ∙ ap oids_of (sym (h.is ∙ ap (λ (t : List Row). h.front ++ t) none ∙ append-nil h.front))
+    h.items_are ∙ ap of (sym (h.is ∙ ap (λ (t : List Row). h.front ++ t) none ∙ append-nil h.front))
 
 pub record SameCut (front back front2 : List Row) (row : Row) (back2 : List Row) : Type 0 where
   pub fronts : front ≡ front2
@@ -163,9 +164,9 @@ each_app P [] x each p = (p, tt)
 each_app P (y ∷ xs) x each p = (each.0, each_app P xs x each.1 p)
 
 -- the next row is listed
-pub next_listed : (rows : List Row) (key slot : ℕ) (oids : List Oid) (place : Place) (first : IsFirstFrom rows key slot place) → InPlaceOrder rows → IsListed rows key slot oids
-    → IsListed rows place.page.0 (place.slot + 1) (oids ++ oids_in place (record_on first.body).head)
-next_listed rows key slot oids place first order h =
+pub next_listed : {A : Type 0} (of : List Row → List A) → Gathers of → (rows : List Row) (key slot : ℕ) (items : List A) (place : Place) (first : IsFirstFrom rows key slot place) → InPlaceOrder rows → IsListed of rows key slot items
+    → IsListed of rows place.page.0 (place.slot + 1) (items ++ of ((place, first.body) ∷ []))
+next_listed {A = A} of gathers rows key slot items place first order h =
     let row : Row = (place, first.body) in
     let cut = same_cut key slot h.front h.back first.front row first.back (sym h.is ∙ first.is) h.before h.behind first.passed first.reached in
     let o = subst InPlaceOrder first.is order in
@@ -173,11 +174,23 @@ next_listed rows key slot oids place first order h =
       front = first.front ++ (row ∷ []);
       back = first.back;
       is = first.is ∙ sym (append_assoc first.front (row ∷ []) first.back);
-      oids_are = ap (λ (t : List Oid). t ++ oids_in place (record_on first.body).head) (h.oids_are ∙ ap oids_of cut.fronts) ∙ sym (oids_app first.front (row ∷ []) ∙ ap (λ (t : List Oid). oids_of first.front ++ t) (append-nil (oids_in place (record_on first.body).head)));
+      items_are = ap (λ (t : List A). t ++ of (row ∷ [])) (h.items_are ∙ ap of cut.fronts) ∙ sym (gathers.append first.front (row ∷ []));
       before = each_app (λ (r : Row). ¬ IsFrom place.page.0 (place.slot + 1) r.0) first.front row
           (each_map (λ (r : Row). IsBefore r.0 place) (λ (r : Row). ¬ IsFrom place.page.0 (place.slot + 1) r.0) first.front (λ r b. not_from r.0 place b) (earlier first.front row first.back o)) (not_itself place);
       behind = each_map (λ (r : Row). IsBefore place r.0) (λ (r : Row). IsFrom place.page.0 (place.slot + 1) r.0) first.back (λ r b. is_from place r.0 b) (later row first.back (back_order first.front row first.back o));
     }
+
+-- ---- the OIDs of current versions
+
+oids_app : (xs ys : List Row) → oids_of (xs ++ ys) ≡ oids_of xs ++ oids_of ys
+oids_app [] ys = refl
+oids_app (x ∷ xs) ys = ap (λ (t : List Oid). oids_in x.0 (record_on x.1).head ++ t) (oids_app xs ys) ∙ sym (append_assoc (oids_in x.0 (record_on x.1).head) (oids_of xs) (oids_of ys))
+
+pub gathers_oids : Gathers oids_of
+gathers_oids = record { none = refl; append = oids_app }
+
+pub oids_in_row : (row : Row) → oids_of (row ∷ []) ≡ oids_in row.0 (record_on row.1).head
+oids_in_row row = append-nil (oids_in row.0 (record_on row.1).head)
 
 -- ---- ranks
 

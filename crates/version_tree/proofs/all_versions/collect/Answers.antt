@@ -1,4 +1,4 @@
-use Rattle.std.proofs.Common.{◌+◌, None, subst, sym}
+use Rattle.std.proofs.Common.{◌+◌, None, map, subst, sym}
 use Rattle.file_bodies.specs.Bodies.{bodies_of}
 use Rattle.file_bodies.specs.Places.{IsNext}
 use Rattle.file_index.specs.Damage.{every_page}
@@ -6,34 +6,36 @@ use Rattle.file_bodies.specs.Damage.{IsListedFault, IsLookFault, page_from}
 use Rattle.file_bodies.proofs.Blame.{carried}
 use Rattle.file_bodies.proofs.Moving.{kept_body}
 use Rattle.versions.specs.Damage.{IsStepFault, on_to, stepping, walking}
-use Rattle.versions.proofs.Listed.{comes_next, walked_out}
+use Rattle.versions.proofs.Listed.{ListedTo, comes_next, listed_none, told_b, file_b, done, first, stands, rises, readable, one_more, walked_out}
+use Rattle.versions.proofs.RowsListed.{IsListed}
+use Rattle.version_tree.specs.Lineage.{member_of}
 use Rattle.ex_base.proofs.Keeping.{keeps_on}
-use Rattle.version_tree.proofs.MemberRows.{IsCollected, CollectedTo, collected_none, told_b, file_b, done, first, stands, rises, readable, one_more}
+use Rattle.version_tree.proofs.RowsGathered.{gathers_members}
 use Rattle.version_tree.proofs.all_versions.collect.Goals as goal
 
 pub places-init : goal.places-init
-places-init g c = subst (CollectedTo g.V.Ground c.args.volume.now c.args.volume.now c.args.file_no None) (sym c.new-members.ensures.items) (collected_none g.V.Ground c.args.volume.now c.args.file_no)
+places-init g c = subst (ListedTo g.V.Ground (map member_of) c.args.volume.now c.args.volume.now c.args.file_no None) (sym c.new-members.ensures.items) (listed_none g.V.Ground (map member_of) gathers_members c.args.volume.now c.args.file_no)
 
 pub returns-in-Ok-None-clause-members : goal.returns-in-Ok-None-clause-members
 returns-in-Ok-None-clause-members g c = λ told index file is.
-    let tb = told_b g.V.Ground c.args.volume.now c.places.volume c.args.file_no c.places.after c.places.members.items c.places.invariant told index file is in
-    let fb = file_b g.V.Ground c.args.volume.now c.places.volume c.args.file_no c.places.after c.places.members.items c.places.invariant told index file is in
-    done g.V.Ground c.args.volume.now c.places.volume c.args.file_no c.places.after c.places.members.items c.places.invariant told index file is (subst (IsNext (bodies_of (g.V.Ground.image c.places.volume) index) c.places.after) c.in-Ok-None.field-0-is (c.in-Ok-None.ensures.next tb index fb is))
+    let tb = told_b g.V.Ground (map member_of) c.args.volume.now c.places.volume c.args.file_no c.places.after c.places.members.items c.places.invariant told index file is in
+    let fb = file_b g.V.Ground (map member_of) c.args.volume.now c.places.volume c.args.file_no c.places.after c.places.members.items c.places.invariant told index file is in
+    done g.V.Ground (map member_of) c.args.volume.now c.places.volume c.args.file_no c.places.after c.places.members.items c.places.invariant told index file is (subst (IsNext (bodies_of (g.V.Ground.image c.places.volume) index) c.places.after) c.in-Ok-None.field-0-is (c.in-Ok-None.ensures.next tb index fb is))
 
 pub returns-in-Err-clause-sound : goal.returns-in-Err-clause-sound
-returns-in-Err-clause-sound g c = λ damage told index file is all. c.in-Err.ensures.sound damage (told_b g.V.Ground c.args.volume.now c.places.volume c.args.file_no c.places.after c.places.members.items c.places.invariant told index file is) index (file_b g.V.Ground c.args.volume.now c.places.volume c.args.file_no c.places.after c.places.members.items c.places.invariant told index file is) is
+returns-in-Err-clause-sound g c = λ damage told index file is all. c.in-Err.ensures.sound damage (told_b g.V.Ground (map member_of) c.args.volume.now c.places.volume c.args.file_no c.places.after c.places.members.items c.places.invariant told index file is) index (file_b g.V.Ground (map member_of) c.args.volume.now c.places.volume c.args.file_no c.places.after c.places.members.items c.places.invariant told index file is) is
 
 pub returns-in-Err-collect_at-clause-sound : goal.returns-in-Err-collect_at-clause-sound
 returns-in-Err-collect_at-clause-sound g c = λ damage told index file is all.
-    let tb = told_b g.V.Ground c.args.volume.now c.places.volume c.args.file_no c.places.after c.places.members.items c.places.invariant told index file is in
-    let fb = file_b g.V.Ground c.args.volume.now c.places.volume c.args.file_no c.places.after c.places.members.items c.places.invariant told index file is in
+    let tb = told_b g.V.Ground (map member_of) c.args.volume.now c.places.volume c.args.file_no c.places.after c.places.members.items c.places.invariant told index file is in
+    let fb = file_b g.V.Ground (map member_of) c.args.volume.now c.places.volume c.args.file_no c.places.after c.places.members.items c.places.invariant told index file is in
     let next = subst (IsNext (bodies_of (g.V.Ground.image c.places.volume) index) c.places.after) c.in-Ok-Some.field-0-is (c.in-Ok-Some.ensures.next tb index fb is) in
-    let row = first g.V.Ground c.args.volume.now c.places.volume c.args.file_no c.places.after c.places.members.items c.places.invariant told index file is c.in-Ok-Some.place next in
+    let row = first g.V.Ground (map member_of) c.args.volume.now c.places.volume c.args.file_no c.places.after c.places.members.items c.places.invariant told index file is c.in-Ok-Some.place next in
     let kept = keeps_on g.V.Ground c.args.volume.now c.places.volume c.next_place.new.pages c.places.invariant.kept c.next_place.ensures.kept in
     let told_n = g.V.Ground.leads_told c.args.volume.now c.next_place.new.pages kept.leads told in
-    let stands_n = kept_body g.V.Ground c.args.volume.now c.next_place.new.pages index c.in-Ok-Some.place row.body kept (stands g.V.Ground c.args.volume.now c.places.volume c.args.file_no c.places.after c.places.members.items c.places.invariant told index file is c.in-Ok-Some.place next) in
-    let rb = readable g.V.Ground c.args.volume.now c.places.volume c.args.file_no c.places.after c.places.members.items c.places.invariant told index file is c.in-Ok-Some.place next all in
-    c.in-Err-collect_at.ensures.sound damage told_n (rises g.V.Ground c.args.volume.now c.places.volume c.args.file_no c.places.after c.places.members.items c.places.invariant told index file is c.in-Ok-Some.place next) index row.body rb.0 stands_n rb.1
+    let stands_n = kept_body g.V.Ground c.args.volume.now c.next_place.new.pages index c.in-Ok-Some.place row.body kept (stands g.V.Ground (map member_of) c.args.volume.now c.places.volume c.args.file_no c.places.after c.places.members.items c.places.invariant told index file is c.in-Ok-Some.place next) in
+    let rb = readable g.V.Ground (map member_of) c.args.volume.now c.places.volume c.args.file_no c.places.after c.places.members.items c.places.invariant told index file is c.in-Ok-Some.place next all in
+    c.in-Err-collect_at.ensures.sound damage told_n (rises g.V.Ground (map member_of) c.args.volume.now c.places.volume c.args.file_no c.places.after c.places.members.items c.places.invariant told index file is c.in-Ok-Some.place next) index row.body rb.0 stands_n rb.1
 
 pub places-preserved : goal.places-preserved
 places-preserved g c = record {
@@ -42,14 +44,14 @@ places-preserved g c = record {
   walked = λ told. on_to c.places.after c.in-Ok-Some.place (c.places.invariant.walked told)
       (comes_next g.V.Ground c.args.volume.now c.places.volume c.args.file_no c.places.after _ c.in-Ok-Some.place c.places.invariant.kept c.in-Ok-Some.ensures.way c.in-Ok-Some.field-0-is told) c.in-Ok.ensures.rises;
   listed = λ told index file is.
-      let tb = told_b g.V.Ground c.args.volume.now c.places.volume c.args.file_no c.places.after c.places.members.items c.places.invariant told index file is in
-      let fb = file_b g.V.Ground c.args.volume.now c.places.volume c.args.file_no c.places.after c.places.members.items c.places.invariant told index file is in
+      let tb = told_b g.V.Ground (map member_of) c.args.volume.now c.places.volume c.args.file_no c.places.after c.places.members.items c.places.invariant told index file is in
+      let fb = file_b g.V.Ground (map member_of) c.args.volume.now c.places.volume c.args.file_no c.places.after c.places.members.items c.places.invariant told index file is in
       let next = subst (IsNext (bodies_of (g.V.Ground.image c.places.volume) index) c.places.after) c.in-Ok-Some.field-0-is (c.in-Ok-Some.ensures.next tb index fb is) in
-      let row = first g.V.Ground c.args.volume.now c.places.volume c.args.file_no c.places.after c.places.members.items c.places.invariant told index file is c.in-Ok-Some.place next in
+      let row = first g.V.Ground (map member_of) c.args.volume.now c.places.volume c.args.file_no c.places.after c.places.members.items c.places.invariant told index file is c.in-Ok-Some.place next in
       let kept = keeps_on g.V.Ground c.args.volume.now c.places.volume c.next_place.new.pages c.places.invariant.kept c.next_place.ensures.kept in
       let told_n = g.V.Ground.leads_told c.args.volume.now c.next_place.new.pages kept.leads told in
-      let stands_n = kept_body g.V.Ground c.args.volume.now c.next_place.new.pages index c.in-Ok-Some.place row.body kept (stands g.V.Ground c.args.volume.now c.places.volume c.args.file_no c.places.after c.places.members.items c.places.invariant told index file is c.in-Ok-Some.place next) in
-      subst (IsCollected (bodies_of (g.V.Ground.image c.args.volume.now) index) c.in-Ok-Some.place.page.0 (c.in-Ok-Some.place.slot + 1)) (sym (c.in-Ok.ensures.collected told_n index row.body stands_n)) (one_more g.V.Ground c.args.volume.now c.places.volume c.args.file_no c.places.after c.places.members.items c.places.invariant told index file is c.in-Ok-Some.place next);
+      let stands_n = kept_body g.V.Ground c.args.volume.now c.next_place.new.pages index c.in-Ok-Some.place row.body kept (stands g.V.Ground (map member_of) c.args.volume.now c.places.volume c.args.file_no c.places.after c.places.members.items c.places.invariant told index file is c.in-Ok-Some.place next) in
+      subst (IsListed (map member_of) (bodies_of (g.V.Ground.image c.args.volume.now) index) c.in-Ok-Some.place.page.0 (c.in-Ok-Some.place.slot + 1)) (sym (c.in-Ok.ensures.collected told_n index row.body stands_n)) (one_more g.V.Ground (map member_of) c.args.volume.now c.places.volume c.args.file_no c.places.after c.places.members.items c.places.invariant told index file is c.in-Ok-Some.place next gathers_members);
 }
 
 pub returns-in-Err-clause-fault : goal.returns-in-Err-clause-fault

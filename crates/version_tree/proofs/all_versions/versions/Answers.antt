@@ -13,7 +13,7 @@ use Rattle.versions.proofs.Results.{ok_of}
 use Rattle.version_tree.specs.Lineage.{listed, member_of}
 use Rattle.version_tree.specs.Links.{IsWalkFault, IsWalkedFrom, of_body, of_version, ports_own}
 use Rattle.version_tree.specs.declared.lineage.Member.{Member}
-use Rattle.version_tree.proofs.DerivedRows.{linked_readable}
+use Rattle.version_tree.proofs.RowsGathered.{linked_readable}
 use Rattle.version_tree.proofs.Linking.{head_read, kept_linked, linked_limits}
 use Rattle.version_tree.proofs.all_versions.versions.Goals as goal
 

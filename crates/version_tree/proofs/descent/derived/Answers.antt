@@ -16,7 +16,7 @@ use Rattle.versions.proofs.Results.{ok_of}
 use Rattle.version_tree.specs.Linked.{oids_from}
 use Rattle.version_tree.specs.Links.{IsWalkFault, IsWalkedFrom, ReadOn, StoredAt, by_newer, by_walk, of_body, of_version, ports_own}
 use Rattle.version_tree.specs.declared.links.Stored.{Stored}
-use Rattle.version_tree.proofs.DerivedRows.{linked_readable, one_derived}
+use Rattle.version_tree.proofs.RowsGathered.{linked_readable, one_derived}
 use Rattle.version_tree.proofs.Linking.{kept_linked, linked_limits}
 use Rattle.version_tree.proofs.ReadPlaces.{newer_read, newer_told, none_named, not_some, some_named}
 use Rattle.version_tree.proofs.descent.derived.Goals as goal

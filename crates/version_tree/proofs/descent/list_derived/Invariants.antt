@@ -1,10 +1,11 @@
 use Rattle.std.proofs.Common.{◌-◌}
 use Rattle.versions.specs.Listed.{start_rank}
-use Rattle.version_tree.proofs.DerivedRows.{DerivedTo}
+use Rattle.versions.proofs.Listed.{ListedTo}
+use Rattle.version_tree.specs.Linked.{oids_from}
 use Rattle.version_tree.proofs.descent.list_derived.Given as goal
 
 abbrev pub invariant-places : goal.invariant-places
-invariant-places g l = DerivedTo g.V.Ground l.from l.initial.volume l.volume l.file_no l.after l.oids.items
+invariant-places g l = ListedTo g.V.Ground (oids_from l.from) l.initial.volume l.volume l.file_no l.after l.oids.items
 
 abbrev pub decreases-places : goal.decreases-places
 decreases-places g l = 281474976710656 - start_rank l.after

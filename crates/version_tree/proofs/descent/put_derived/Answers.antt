@@ -1,7 +1,7 @@
 use Rattle.std.proofs.Common.{◌≡◌, ◌++◌, ◌∷◌, [], List, true, false, sym, ap, ◌∙◌}
 use Rattle.std.proofs.lemmas.List.{append-nil}
 use Rattle.ex_base.specs.declared.names.Oid.{Oid}
-use Rattle.version_tree.proofs.DerivedRows.{is_linked, not_linked}
+use Rattle.version_tree.proofs.RowsGathered.{is_linked, not_linked}
 use Rattle.version_tree.proofs.descent.put_derived.Goals as goal
 
 pub returns-then-not-is_at-clause-put : goal.returns-then-not-is_at-clause-put

@@ -19,7 +19,7 @@ use Rattle.version_tree.specs.Links.{IsRecordFault, IsWalkFault, IsWalkedFrom, o
 use Rattle.version_tree.specs.declared.links.Stored.{Stored}
 use Rattle.version_tree.specs.Removals.{IsBranch, no_branch, not_current, other_from, to_older}
 use Rattle.version_tree.proofs.Copying.{just_stand, read_of}
-use Rattle.version_tree.proofs.DerivedRows.{linked_readable}
+use Rattle.version_tree.proofs.RowsGathered.{linked_readable}
 use Rattle.version_tree.proofs.Linking.{head_read, kept_linked, linked_limits}
 use Rattle.version_tree.proofs.WholeLinks.{read_whole}
 use Rattle.version_tree.proofs.ReadPlaces.{each_named, err_both, older_read, older_told, only_on, other_state, searching_of, state_read, taking_of}

@@ -1,4 +1,6 @@
-use Rattle.std.proofs.Common.{◌+◌, None, subst, sym}
+use Rattle.std.proofs.Common.{◌+◌, ◌++◌, List, None, subst, sym, ap, ◌∙◌}
+use Rattle.ex_base.specs.declared.names.Oid.{Oid}
+use Rattle.versions.specs.Listed.{oids_of}
 use Rattle.file_bodies.specs.Bodies.{bodies_of}
 use Rattle.file_bodies.specs.Places.{IsNext}
 use Rattle.file_index.specs.Damage.{every_page}
@@ -7,33 +9,33 @@ use Rattle.file_bodies.proofs.Blame.{carried}
 use Rattle.file_bodies.proofs.Moving.{kept_body}
 use Rattle.versions.specs.Damage.{IsStepFault, on_to, stepping, walking}
 use Rattle.ex_base.proofs.Keeping.{keeps_on}
-use Rattle.versions.proofs.RowsListed.{IsListed}
+use Rattle.versions.proofs.RowsListed.{IsListed, gathers_oids, oids_in_row}
 use Rattle.versions.proofs.Listed.{ListedTo, comes_next, listed_none, told_b, file_b, done, first, stands, rises, readable, one_more, walked_out}
 use Rattle.versions.proofs.listing.list_file.Goals as goal
 
 pub places-init : goal.places-init
-places-init g c = subst (ListedTo g.V.Ground c.args.volume.now c.args.volume.now c.args.file_no None) (sym c.new-oids.ensures.items) (listed_none g.V.Ground c.args.volume.now c.args.file_no)
+places-init g c = subst (ListedTo g.V.Ground oids_of c.args.volume.now c.args.volume.now c.args.file_no None) (sym c.new-oids.ensures.items) (listed_none g.V.Ground oids_of gathers_oids c.args.volume.now c.args.file_no)
 
 pub returns-in-Ok-None-clause-oids : goal.returns-in-Ok-None-clause-oids
 returns-in-Ok-None-clause-oids g c = λ told index file is.
-    let tb = told_b g.V.Ground c.args.volume.now c.places.volume c.args.file_no c.places.after c.places.oids.items c.places.invariant told index file is in
-    let fb = file_b g.V.Ground c.args.volume.now c.places.volume c.args.file_no c.places.after c.places.oids.items c.places.invariant told index file is in
-    done g.V.Ground c.args.volume.now c.places.volume c.args.file_no c.places.after c.places.oids.items c.places.invariant told index file is (subst (IsNext (bodies_of (g.V.Ground.image c.places.volume) index) c.places.after) c.in-Ok-None.field-0-is (c.in-Ok-None.ensures.next tb index fb is))
+    let tb = told_b g.V.Ground oids_of c.args.volume.now c.places.volume c.args.file_no c.places.after c.places.oids.items c.places.invariant told index file is in
+    let fb = file_b g.V.Ground oids_of c.args.volume.now c.places.volume c.args.file_no c.places.after c.places.oids.items c.places.invariant told index file is in
+    done g.V.Ground oids_of c.args.volume.now c.places.volume c.args.file_no c.places.after c.places.oids.items c.places.invariant told index file is (subst (IsNext (bodies_of (g.V.Ground.image c.places.volume) index) c.places.after) c.in-Ok-None.field-0-is (c.in-Ok-None.ensures.next tb index fb is))
 
 pub returns-in-Err-clause-sound : goal.returns-in-Err-clause-sound
-returns-in-Err-clause-sound g c = λ damage told index file is all. c.in-Err.ensures.sound damage (told_b g.V.Ground c.args.volume.now c.places.volume c.args.file_no c.places.after c.places.oids.items c.places.invariant told index file is) index (file_b g.V.Ground c.args.volume.now c.places.volume c.args.file_no c.places.after c.places.oids.items c.places.invariant told index file is) is
+returns-in-Err-clause-sound g c = λ damage told index file is all. c.in-Err.ensures.sound damage (told_b g.V.Ground oids_of c.args.volume.now c.places.volume c.args.file_no c.places.after c.places.oids.items c.places.invariant told index file is) index (file_b g.V.Ground oids_of c.args.volume.now c.places.volume c.args.file_no c.places.after c.places.oids.items c.places.invariant told index file is) is
 
 pub returns-in-Err-list_place-clause-sound : goal.returns-in-Err-list_place-clause-sound
 returns-in-Err-list_place-clause-sound g c = λ damage told index file is all.
-    let tb = told_b g.V.Ground c.args.volume.now c.places.volume c.args.file_no c.places.after c.places.oids.items c.places.invariant told index file is in
-    let fb = file_b g.V.Ground c.args.volume.now c.places.volume c.args.file_no c.places.after c.places.oids.items c.places.invariant told index file is in
+    let tb = told_b g.V.Ground oids_of c.args.volume.now c.places.volume c.args.file_no c.places.after c.places.oids.items c.places.invariant told index file is in
+    let fb = file_b g.V.Ground oids_of c.args.volume.now c.places.volume c.args.file_no c.places.after c.places.oids.items c.places.invariant told index file is in
     let next = subst (IsNext (bodies_of (g.V.Ground.image c.places.volume) index) c.places.after) c.in-Ok-Some.field-0-is (c.in-Ok-Some.ensures.next tb index fb is) in
-    let row = first g.V.Ground c.args.volume.now c.places.volume c.args.file_no c.places.after c.places.oids.items c.places.invariant told index file is c.in-Ok-Some.place next in
+    let row = first g.V.Ground oids_of c.args.volume.now c.places.volume c.args.file_no c.places.after c.places.oids.items c.places.invariant told index file is c.in-Ok-Some.place next in
     let kept = keeps_on g.V.Ground c.args.volume.now c.places.volume c.next_place.new.pages c.places.invariant.kept c.next_place.ensures.kept in
     let told_n = g.V.Ground.leads_told c.args.volume.now c.next_place.new.pages kept.leads told in
-    let stands_n = kept_body g.V.Ground c.args.volume.now c.next_place.new.pages index c.in-Ok-Some.place row.body kept (stands g.V.Ground c.args.volume.now c.places.volume c.args.file_no c.places.after c.places.oids.items c.places.invariant told index file is c.in-Ok-Some.place next) in
-    let rb = readable g.V.Ground c.args.volume.now c.places.volume c.args.file_no c.places.after c.places.oids.items c.places.invariant told index file is c.in-Ok-Some.place next all in
-    c.in-Err-list_place.ensures.sound damage told_n (rises g.V.Ground c.args.volume.now c.places.volume c.args.file_no c.places.after c.places.oids.items c.places.invariant told index file is c.in-Ok-Some.place next) index row.body rb.0 stands_n rb.1
+    let stands_n = kept_body g.V.Ground c.args.volume.now c.next_place.new.pages index c.in-Ok-Some.place row.body kept (stands g.V.Ground oids_of c.args.volume.now c.places.volume c.args.file_no c.places.after c.places.oids.items c.places.invariant told index file is c.in-Ok-Some.place next) in
+    let rb = readable g.V.Ground oids_of c.args.volume.now c.places.volume c.args.file_no c.places.after c.places.oids.items c.places.invariant told index file is c.in-Ok-Some.place next all in
+    c.in-Err-list_place.ensures.sound damage told_n (rises g.V.Ground oids_of c.args.volume.now c.places.volume c.args.file_no c.places.after c.places.oids.items c.places.invariant told index file is c.in-Ok-Some.place next) index row.body rb.0 stands_n rb.1
 
 pub places-preserved : goal.places-preserved
 places-preserved g c = record {
@@ -42,14 +44,14 @@ places-preserved g c = record {
   walked = λ told. on_to c.places.after c.in-Ok-Some.place (c.places.invariant.walked told)
       (comes_next g.V.Ground c.args.volume.now c.places.volume c.args.file_no c.places.after _ c.in-Ok-Some.place c.places.invariant.kept c.in-Ok-Some.ensures.way c.in-Ok-Some.field-0-is told) c.in-Ok.ensures.rises;
   listed = λ told index file is.
-      let tb = told_b g.V.Ground c.args.volume.now c.places.volume c.args.file_no c.places.after c.places.oids.items c.places.invariant told index file is in
-      let fb = file_b g.V.Ground c.args.volume.now c.places.volume c.args.file_no c.places.after c.places.oids.items c.places.invariant told index file is in
+      let tb = told_b g.V.Ground oids_of c.args.volume.now c.places.volume c.args.file_no c.places.after c.places.oids.items c.places.invariant told index file is in
+      let fb = file_b g.V.Ground oids_of c.args.volume.now c.places.volume c.args.file_no c.places.after c.places.oids.items c.places.invariant told index file is in
       let next = subst (IsNext (bodies_of (g.V.Ground.image c.places.volume) index) c.places.after) c.in-Ok-Some.field-0-is (c.in-Ok-Some.ensures.next tb index fb is) in
-      let row = first g.V.Ground c.args.volume.now c.places.volume c.args.file_no c.places.after c.places.oids.items c.places.invariant told index file is c.in-Ok-Some.place next in
+      let row = first g.V.Ground oids_of c.args.volume.now c.places.volume c.args.file_no c.places.after c.places.oids.items c.places.invariant told index file is c.in-Ok-Some.place next in
       let kept = keeps_on g.V.Ground c.args.volume.now c.places.volume c.next_place.new.pages c.places.invariant.kept c.next_place.ensures.kept in
       let told_n = g.V.Ground.leads_told c.args.volume.now c.next_place.new.pages kept.leads told in
-      let stands_n = kept_body g.V.Ground c.args.volume.now c.next_place.new.pages index c.in-Ok-Some.place row.body kept (stands g.V.Ground c.args.volume.now c.places.volume c.args.file_no c.places.after c.places.oids.items c.places.invariant told index file is c.in-Ok-Some.place next) in
-      subst (IsListed (bodies_of (g.V.Ground.image c.args.volume.now) index) c.in-Ok-Some.place.page.0 (c.in-Ok-Some.place.slot + 1)) (sym (c.in-Ok.ensures.listed told_n index row.body stands_n)) (one_more g.V.Ground c.args.volume.now c.places.volume c.args.file_no c.places.after c.places.oids.items c.places.invariant told index file is c.in-Ok-Some.place next);
+      let stands_n = kept_body g.V.Ground c.args.volume.now c.next_place.new.pages index c.in-Ok-Some.place row.body kept (stands g.V.Ground oids_of c.args.volume.now c.places.volume c.args.file_no c.places.after c.places.oids.items c.places.invariant told index file is c.in-Ok-Some.place next) in
+      subst (IsListed oids_of (bodies_of (g.V.Ground.image c.args.volume.now) index) c.in-Ok-Some.place.page.0 (c.in-Ok-Some.place.slot + 1)) (ap (λ (t : List Oid). c.places.oids.items ++ t) (oids_in_row (c.in-Ok-Some.place, row.body)) ∙ sym (c.in-Ok.ensures.listed told_n index row.body stands_n)) (one_more g.V.Ground oids_of c.args.volume.now c.places.volume c.args.file_no c.places.after c.places.oids.items c.places.invariant told index file is c.in-Ok-Some.place next gathers_oids);
 }
 
 pub returns-in-Err-clause-fault : goal.returns-in-Err-clause-fault
