@@ -153,6 +153,10 @@ impl Geometry {
             return false;
         }
         let offset = page.0 - first;
+        // Units of one page, which most volumes have, cost no division.
+        if self.seg_len == 1 {
+            return offset < self.segs;
+        }
         offset % self.seg_len == 0 && offset / self.seg_len < self.segs
     }
 
