@@ -1,7 +1,7 @@
 // The units of one area, by their place in it.
 ghost use Rattle.std.specs.Prelude.{◌≡◌, ℕ, ◌+◌, ◌-◌, ◌<◌, ◌≤◌, ◌↔◌, IsTrue, true, false, length, slice_index_or, slice_set, IfOk, replicate, if◌then◌else◌, ◌&&◌};
 ghost use Rattle.ex_base.specs.Ports.{with_ref, without_ref};
-ghost use Rattle.page_alloc.specs.Flags.{IsFirstFree, count_free};
+ghost use Rattle.page_alloc.specs.Flags.{AllUsedBelow, IsFirstFree, count_free};
 
 use crate::filled::Filled;
 use crate::search::{BLOCK, GROUP, first_free};
@@ -17,6 +17,8 @@ pub struct AreaUnits {
     crowded: Vec<bool>,
     // no free unit lies before it
     low: usize,
+    // no free unit lies behind `low` and before it
+    next: usize,
     free: u32,
 }
 
@@ -29,7 +31,15 @@ impl Model for AreaUnits {
 
     ghost view = { λ a. record { used = a.used; refs = a.refs } };
 
-    ghost invariant = { λ a. IsSound a.used a.refs a.full.items a.crowded.items a.low a.free };
+    ghost invariant = { λ a. IsSound a.used a.refs a.full.items a.crowded.items a.low a.next a.free };
+}
+
+/// Up to where no free unit lies behind the lowest that may be free, after one is given back.
+fn up_to(low: usize, next: usize, at: usize) -> usize
+    ensures first { at < low → result ≡ low }
+    ensures later { low ≤ at → (result ≤ next) × (result ≤ at) }
+{
+    if at < low { low } else { next.min(at) }
 }
 
 impl AreaUnits {
@@ -44,6 +54,7 @@ impl AreaUnits {
             full: vec![in alloc; false; count / GROUP + 1]?,
             crowded: vec![in alloc; false; count / BLOCK + 1]?,
             low: 0,
+            next: 0,
             free: count as u32,
         })
     }
@@ -61,6 +72,18 @@ impl AreaUnits {
         self.used.get(at)
     }
 
+    // A place that no free unit precedes, as far behind as is known.
+    fn start(&self) -> usize
+        requires { 0 < count_free self.now.used }
+        ensures { AllUsedBelow self.now.used result }
+    {
+        if self.used.get(self.low) {
+            self.low.max(self.next)
+        } else {
+            self.low
+        }
+    }
+
     /// Takes the first free unit.
     pub fn take(&mut self) -> usize
         requires { 0 < count_free self.old.used }
@@ -69,9 +92,10 @@ impl AreaUnits {
         ensures refs { self.new.refs ≡ self.old.refs }
         ensures fresh { slice_index_or self.old.refs result 0 ≡ 0 }
     {
-        let at = first_free(&self.used, &mut self.full, &mut self.crowded, self.low);
+        let from = self.start();
+        let at = first_free(&self.used, &mut self.full, &mut self.crowded, from);
         self.used.set(at, true);
-        self.low = at + 1;
+        self.low = (at + 1).max(self.next);
         self.free -= 1;
         at
     }
@@ -99,6 +123,7 @@ impl AreaUnits {
         self.refs.set(at, 0);
         self.full[at / GROUP] = false;
         self.crowded[at / BLOCK] = false;
+        self.next = up_to(self.low, self.next, at);
         self.low = self.low.min(at);
         self.free += 1;
     }
