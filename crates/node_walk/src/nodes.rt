@@ -3,14 +3,13 @@ ghost use Rattle.std.specs.Prelude.{◌≡◌, ◌↔◌, ◌≤◌, ℕ, List, 
 ghost use Rattle.ex_base.specs.Area.{NamesLeaf, InPageArea};
 ghost use Rattle.ex_base.specs.Ports.{Keeps, HasCause, IsDamage};
 ghost use Rattle.trees.specs.declared.Pair.{Pair};
-ghost use Rattle.trees.specs.Node.{PairsOf, RiseFrom};
-ghost use Rattle.trees.specs.Rows.{parts_of};
+ghost use Rattle.trees.specs.Node.{PairsOf};
 ghost use Rattle.node_walk.specs.Walk.{IsNodeOn};
 
 use ex_base::{Geometry, PageNo, PortFault, ReadPages};
 use std::alloc::{AllocError, Global};
 use trees::view::NodeView;
-use trees::{Part, put};
+use trees::{Part, all_children};
 
 /// What is noted of a unit of a tree: its level, and of a node its bytes and the number of its pairs.
 #[derive(Clone, Copy)]
@@ -34,25 +33,6 @@ pub(crate) struct Node {
     pub below: Vec<Part>,
 }
 
-/// The children of a node, each with its own number of bytes.
-fn children(alloc: Global, node: &NodeView) -> Result<Vec<Part>, AllocError>
-    requires { RiseFrom 0 node.now.pairs }
-    ensures { IfOk result (λ row. row.items ≡ parts_of 0 node.now.pairs) }
-{
-    let mut row = Vec::new(alloc);
-    let mut before = 0;
-    for index in 0..node.len() {
-        let pair = node.pair(index);
-        let part = Part {
-            size: pair.count - before,
-            page: pair.page,
-        };
-        put(&mut row, part)?;
-        before = pair.count;
-    }
-    Ok(row)
-}
-
 /// The node that stands on a page, where it is in its grammar.
 fn node_on(alloc: Global, bytes: &[u8], fan: u32) -> Result<Option<Node>, AllocError>
     requires { fan ≤ 340 }
@@ -69,7 +49,7 @@ fn node_on(alloc: Global, bytes: &[u8], fan: u32) -> Result<Option<Node>, AllocE
         total: node.total(),
         pairs: node.len(),
     };
-    let below = children(alloc, &node)?;
+    let below = all_children(alloc, &node)?;
     Ok(Some(Node { met, below }))
 }
 

@@ -426,7 +426,7 @@ fn widths_of<B: Blocks>(
     if names == 0 {
         return Ok(None);
     }
-    let (first, last) = (name_at(bytes, 0), name_at(bytes, names - 1));
+    let (first, last) = (name_at(bytes, width, 0), name_at(bytes, width, names - 1));
     let Some(first) = width_at(blocks, alloc, first)? else {
         return Ok(None);
     };

@@ -8,6 +8,7 @@ ghost use Rattle.tree_store.specs.Stored.{IsCounted};
 use ex_base::Geometry;
 use page_alloc::Units;
 use trees::names::{name_at, names_len};
+use trees::width::Width;
 
 /// Adds a reference to each used unit that a node names, as often as the node names it.
 pub fn count_names(units: &mut Units, geometry: &Geometry, bytes: &[u8])
@@ -18,8 +19,9 @@ pub fn count_names(units: &mut Units, geometry: &Geometry, bytes: &[u8])
     ensures used { used_at units.new ≡ used_at units.old }
     ensures counted { IsCounted geometry.now units.new }
 {
+    let width = Width::of(bytes);
     for index in 0..names_len(bytes) {
-        let page = name_at(bytes, index);
+        let page = name_at(bytes, width, index);
         if geometry.names_unit(page) {
             units.add_ref(page);
         }

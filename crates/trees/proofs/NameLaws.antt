@@ -1,5 +1,5 @@
 -- What a page names, by index; a node names the pages of its pairs.
-use Rattle.std.proofs.Common.{◌≡◌, ℕ, zero, suc, ◌+◌, ◌-◌, ◌*◌, ◌/◌, ◌<◌, ◌≤◌, min, List, [], ◌∷◌, length, map, drop, Some, refl, sym, ap, subst, ◌∙◌, arith}
+use Rattle.std.proofs.Common.{◌≡◌, ℕ, zero, suc, ◌+◌, ◌-◌, ◌*◌, ◌/◌, ◌<◌, ◌≤◌, List, length, map, drop, Some, sym, ap, subst, ◌∙◌, arith}
 use Rattle.std.specs.Prelude.{slice_get}
 use Rattle.std.proofs.lemmas.List.{drop-drop, length-map}
 use Rattle.std.proofs.lemmas.Nat.{le-div}
@@ -10,7 +10,7 @@ use Rattle.trees.specs.declared.Pair.{Pair}
 use Rattle.trees.specs.declared.width.Width.{Width}
 use Rattle.trees.specs.Node.{count_len, pair_len, width_on, PairsOf, read_pairs, pairs_on}
 use Rattle.trees.specs.Names.{names_on, page_of_pair, pairs_read}
-use Rattle.trees.proofs.NodeLaws.{length-pairs_on, spelled_reads}
+use Rattle.trees.proofs.NodeLaws.{spelled_reads}
 use Rattle.trees.proofs.PairLaws.{length-read_pairs, pair_inside, some_pair}
 
 pub length-names : (page : List ℕ) → length (names_on page) ≡ pairs_read page

@@ -65,9 +65,6 @@ next_child pairs i before row pair h e =
       start = sym (count_here pairs i pair e) ∙ sym (start-next pairs i);
     }
 
-pub all_children : (pairs : List Pair) (index before : ℕ) (row : List Part) → ChildrenSoFar pairs index before row → length pairs ≤ index → row ≡ parts_of 0 pairs
-all_children pairs index before row h end = h.row_is ∙ take_all index (parts_of 0 pairs) (omega (arith, length-parts 0 pairs))
-
 -- the children of a node from an index up to another
 pub record ChildrenFrom (pairs : List Pair) (from index before : ℕ) (row : List Part) : Type 0 where
   pub children : ChildrenSoFar pairs index before (take from (parts_of 0 pairs) ++ row)

@@ -16,9 +16,10 @@ fn are_half_full(node: &NodeView, full: u32) -> bool
     requires { RiseFrom 0 node.now.pairs }
     ensures { IsTrue result ↔ AreHalfFull full (parts_of 0 node.now.pairs) }
 {
+    let pairs = node.pairs();
     let mut before = 0;
     for index in 0..node.len() {
-        let count = node.pair(index).count;
+        let count = pairs.at(index).count;
         let size = count - before;
         if size < (full / 2) as u64 || size > full as u64 {
             return false;
@@ -66,6 +67,14 @@ pub(crate) fn asked_node<'a>(
         return Err(no_node(part.page, level, part.size));
     }
     Ok(node)
+}
+
+/// The children of a node.
+pub fn all_children(alloc: Global, node: &NodeView) -> Result<Vec<Part>, AllocError>
+    requires { RiseFrom 0 node.now.pairs }
+    ensures { IfOk result (λ row. row.items ≡ parts_of 0 node.now.pairs) }
+{
+    children(alloc, node, 0, node.len())
 }
 
 /// The children of a node from one index up to another.

@@ -25,6 +25,7 @@ pub mod write;
 use ex_base::PageNo;
 pub use faults::{no_leaf, no_node};
 pub use leaves::{Change, write_leaves};
+pub use lent_nodes::all_children;
 pub use nodes::{nodes_by, nodes_over};
 pub use read::read_row;
 pub use root_step::rooted;

@@ -1,5 +1,6 @@
 //! The units that stand on a page as children, whether the page is a node or not.
 ghost use Rattle.std.specs.Prelude.{◌≡◌, ◌<◌, ◌≤◌, Some, length, slice_get};
+ghost use Rattle.trees.specs.Node.{width_on};
 ghost use Rattle.trees.specs.Names.{names_on};
 
 use crate::width::Width;
@@ -15,12 +16,12 @@ pub fn names_len(page: &[u8]) -> usize
     (get_u16(page, LEN_AT) as usize).min(room)
 }
 
-/// The unit that a page names at an index.
-pub fn name_at(page: &[u8], index: usize) -> PageNo
-    requires { index < length (names_on page.now) }
+/// The unit that a page names at an index. How wide its counts are is looked at once for all of them.
+pub fn name_at(page: &[u8], width: Width, index: usize) -> PageNo
+    requires index { index < length (names_on page.now) }
+    requires width { width ≡ width_on page.now }
     ensures { slice_get (names_on page.now) index ≡ Some result.0 }
 {
-    let width = Width::of(page);
     let at = PAIRS_AT + width.pair_len() * index;
     PageNo(get_u32(page, at + width.count_len()))
 }

@@ -12,7 +12,7 @@ ghost use Rattle.trees.specs.Built.{Built, IsCut, AreSome, even_lens};
 
 use crate::Pair;
 use crate::rows::{Part, piece, put};
-use crate::split::{split_len, split_parts};
+use crate::split::{even_part, split_parts};
 use crate::write::write_node;
 use ex_base::{Blocks, PortFault};
 use std::alloc::{AllocError, Global};
@@ -125,7 +125,7 @@ fn even_lens(alloc: Global, count: u32, fan: u32) -> Result<Vec<u32>, AllocError
     let parts = split_parts(count, fan);
     let mut lens = Vec::new(alloc);
     for index in 0..parts {
-        put(&mut lens, split_len(count, parts, index))?;
+        put(&mut lens, even_part(parts, count as u64, index, count))?;
     }
     Ok(lens)
 }

@@ -1,10 +1,12 @@
 //! How an insert or an append lays its bytes out over leaves. Leaves hold bytes alone; how many each holds is fixed by these plans. No call takes
 //! memory.
 ghost use Rattle.std.specs.Prelude.{◌≡◌, ◌+◌, ◌*◌, ◌^◌, ◌<◌, ◌≤◌, slice_index, unwrap_or, false, [], ◌∷◌};
-ghost use Rattle.ex_base.specs.Even.{least_parts, evenly};
+ghost use Rattle.ex_base.specs.Even.{least_parts};
 ghost use Rattle.ex_base.specs.Sizes.{object_most};
 ghost use Rattle.trees.specs.Layout.{layout_of, spread, left_or_spread, right_or_spread, overflowing, insert_layout, overflowing_last, append_layout, in_place, filled};
 ghost use Rattle.trees.specs.Plans.{IsPlan};
+
+use crate::split::even_part;
 
 /// What stands in the place of a leaf: the neighbours that it takes in, and the leaves that hold the total.
 #[derive(Clone, Copy, Debug, PartialEq, Eq)]
@@ -174,20 +176,6 @@ pub fn plan_append(left: Option<u32>, leaf: u32, n: u64, cap: u32) -> Plan
                 filled_plan(false, total, cap)
             }
         }
-    }
-}
-
-/// The bytes in the part at an index, where a total stands evenly in so many parts.
-fn even_part(parts: u32, total: u64, index: u32, cap: u32) -> u32
-    requires index { index < parts }
-    requires fits { total ≤ parts * cap }
-    ensures { result ≡ slice_index (evenly parts total) index }
-{
-    let each = total / parts as u64;
-    if (index as u64) < total % parts as u64 {
-        (each + 1) as u32
-    } else {
-        each as u32
     }
 }
 

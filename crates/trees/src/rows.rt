@@ -6,7 +6,7 @@ ghost use Rattle.trees.specs.Damage.{NamesNode, IsNodeFault};
 ghost use Rattle.trees.specs.Rows.{IsCounted, IsRowOn};
 
 use crate::faults::no_node;
-use crate::lent_nodes::{asked_node, children};
+use crate::lent_nodes::{all_children, asked_node};
 use ex_base::{Geometry, PageNo, PortFault, ReadBlocks};
 use std::alloc::{AllocError, Global};
 
@@ -50,7 +50,7 @@ fn row_on(
     ensures cause { (before now : ℕ) → HasCause before now result }
 {
     match asked_node(bytes, geometry, level, part, least) {
-        Ok(node) => Ok(children(alloc, &node, 0, node.len())?),
+        Ok(node) => Ok(all_children(alloc, &node)?),
         Err(fault) => Err(fault),
     }
 }

@@ -1,4 +1,4 @@
-ghost use Rattle.std.specs.Prelude.{◌≡◌, ◌<◌, ◌≤◌, slice_index};
+ghost use Rattle.std.specs.Prelude.{◌≡◌, ◌<◌, ◌≤◌, ◌*◌, slice_index};
 ghost use Rattle.ex_base.specs.Even.{evenly};
 ghost use Rattle.trees.specs.Split.{nodes_for};
 
@@ -12,14 +12,16 @@ pub fn split_parts(pairs: u32, fan: u32) -> u32
     ((pairs as u64 + (most - 1)) / most) as u32
 }
 
-/// The number of pairs in the node at an index, where they stand evenly in so many nodes.
-pub fn split_len(pairs: u32, parts: u32, index: u32) -> u32
-    requires { index < parts }
-    ensures { result ≡ slice_index (evenly parts pairs) index }
+/// How many stand in the part at an index, where a total stands evenly in so many parts, of which none has more than `most`.
+pub(crate) fn even_part(parts: u32, total: u64, index: u32, most: u32) -> u32
+    requires index { index < parts }
+    requires fits { total ≤ parts * most }
+    ensures { result ≡ slice_index (evenly parts total) index }
 {
-    if index < pairs % parts {
-        pairs / parts + 1
+    let each = total / parts as u64;
+    if (index as u64) < total % parts as u64 {
+        (each + 1) as u32
     } else {
-        pairs / parts
+        each as u32
     }
 }

@@ -81,20 +81,7 @@ impl<'a> NodeView<'a> {
         u32::from(get_u16(self.page, LEN_AT))
     }
 
-    /// The pair at an index.
-    pub fn pair(&self, index: u32) -> Pair
-        requires { index < length self.now.pairs }
-        ensures { slice_get self.now.pairs index ≡ Some result }
-    {
-        let width = Width::of(self.page);
-        let at = PAIRS_AT + width.pair_len() * index as usize;
-        Pair {
-            count: width.count(self.page, at),
-            page: PageNo(get_u32(self.page, at + width.count_len())),
-        }
-    }
-
-    /// The pairs, of which many are looked at.
+    /// The pairs.
     pub fn pairs(&self) -> Pairs<'a>
         ensures { result ≡ self.now.pairs }
     {
@@ -108,7 +95,7 @@ impl<'a> NodeView<'a> {
     pub fn total(&self) -> u64
         ensures { result ≡ total_of self.now.pairs }
     {
-        self.pair(self.len() - 1).count
+        self.pairs().at(self.len() - 1).count
     }
 
     /// Where the bytes of the child at an index begin.
@@ -119,7 +106,7 @@ impl<'a> NodeView<'a> {
         if index == 0 {
             return 0;
         }
-        self.pair(index - 1).count
+        self.pairs().at(index - 1).count
     }
 
     /// The first child whose count is greater than the position, by bisection.
@@ -129,11 +116,12 @@ impl<'a> NodeView<'a> {
     {
         // A use of the field gives the proof that the counts rise.
         let _ = &self.page;
+        let pairs = self.pairs();
         let mut low = 0;
         let mut high = self.len() - 1;
         while low < high {
             let middle = low + (high - low) / 2;
-            if pos < self.pair(middle).count {
+            if pos < pairs.at(middle).count {
                 high = middle;
             } else {
                 low = middle + 1;
@@ -149,21 +137,6 @@ impl<'a> NodeView<'a> {
         ensures inside { result.1 ≡ pos - start_of self.now.pairs result.0 }
     {
         let index = self.first_above(pos);
-        (index, pos - self.start(index))
-    }
-
-    /// The first child whose count is at least the position, and the position inside it.
-    pub fn child_for_insert(&self, pos: u64) -> (u32, u64)
-        requires { pos ≤ total_of self.now.pairs }
-        ensures first { IsFirst (λ count. pos ≤ count) (counts_of self.now.pairs) result.0 }
-        ensures inside { result.1 ≡ pos - start_of self.now.pairs result.0 }
-    {
-        if pos == 0 {
-            // A use of the field gives the proof that there is a child.
-            let _ = &self.page;
-            return (0, 0);
-        }
-        let index = self.first_above(pos - 1);
         (index, pos - self.start(index))
     }
 }

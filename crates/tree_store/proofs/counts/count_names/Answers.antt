@@ -8,6 +8,9 @@ use Rattle.tree_store.proofs.counts.count_names.Goals as goal
 pub names_len-index-end-requires : goal.names_len-index-end-requires
 names_len-index-end-requires c = omega (arith, c.requires.page, least_page c.args.geometry.now)
 
+pub of-width-requires : goal.of-width-requires
+of-width-requires c = omega (arith, c.requires.page, least_page c.args.geometry.now)
+
 pub loop-index-preserved : goal.loop-index-preserved
 loop-index-preserved c =
     let geometry = c.args.geometry.now in
