@@ -229,8 +229,8 @@ fn grow<B: Blocks>(
     let geometry = blocks.geometry();
     let mut buffer = vec![in alloc; 0u8; geometry.leaf_bytes() as usize]?;
     let row = new_parts(blocks, alloc, &mut buffer, growth, root, pos, given)?;
-    let mut page = vec![in alloc; 0u8; geometry.page_size as usize]?;
-    rooted(blocks, alloc, &mut page, root.height, &row)
+    let page = &mut buffer[..geometry.page_size as usize];
+    rooted(blocks, alloc, page, root.height, &row)
 }
 
 /// Puts bytes behind those that a root spells, and gives the new root. The old one still spells its bytes. Faults are the port's own, or tell of a page
