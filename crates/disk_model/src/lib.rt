@@ -2,9 +2,5 @@
 #![tactic(auto)]
 
 mod host;
-mod send;
-mod settle;
 
-pub use host::{Disk, Failed, Host, Sink, Source, World};
-pub use send::send_all;
-pub use settle::write_settled;
+pub use host::{Disk, Failed, Host, Sink, Source, World, send_all, write_settled};

@@ -6,8 +6,8 @@ use Rattle.table_model.specs.declared.reply.Refusal.TheVariants as refusal
 use Rattle.table_model.specs.Words.{data_most}
 use Rattle.table_model.specs.Requests.{Request, Reference}
 use Rattle.table_model.specs.Requests as request
-use Rattle.script_lang.specs.declared.verbs.Verb.{Verb}
-use Rattle.script_lang.specs.declared.verbs.Verb.TheVariants as verb
+use Rattle.script_lang.specs.declared.parser.Verb.{Verb}
+use Rattle.script_lang.specs.declared.parser.Verb.TheVariants as verb
 use Rattle.script_lang.specs.Forms.{◌>>=◌}
 use Rattle.script_lang.specs.Grammar.{Slot, Key, Name, At, Number, Frames, Of, Given, policy, spells, within}
 use Rattle.script_lang.specs.Reading.{Reading, Silent, Asks, Fails, is_comment, Says}

@@ -6,8 +6,8 @@ use Rattle.table_model.specs.Requests.{Request, Reference}
 use Rattle.table_model.specs.Requests as request
 use Rattle.script_lang.specs.Forms.{◌>>=◌, name_in, bound_in, number_in, reference_in, count_in}
 use Rattle.script_lang.specs.Reading.{Reading, Asks, Fails}
-use Rattle.script_lang.specs.declared.verbs.Verb.{Verb}
-use Rattle.script_lang.specs.declared.verbs.Verb.TheVariants as verb
+use Rattle.script_lang.specs.declared.parser.Verb.{Verb}
+use Rattle.script_lang.specs.declared.parser.Verb.TheVariants as verb
 
 -- ---- so many words and no more
 

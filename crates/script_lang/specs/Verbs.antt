@@ -1,7 +1,7 @@
 -- The first word of each command.
 use Rattle.std.specs.Prelude.{ℕ, List, codes}
-use Rattle.script_lang.specs.declared.verbs.Verb.{Verb}
-use Rattle.script_lang.specs.declared.verbs.Verb.TheVariants as verb
+use Rattle.script_lang.specs.declared.parser.Verb.{Verb}
+use Rattle.script_lang.specs.declared.parser.Verb.TheVariants as verb
 use Rattle.table_model.specs.Requests.{Request}
 use Rattle.table_model.specs.Requests as request
 

@@ -9,7 +9,7 @@ ghost use Rattle.script_lang.specs.Reading.{Asks, Fails};
 ghost use Rattle.script_lang.specs.Spoken.{one_of, two_of, three_of, five_of, alone, only_name, only_reference, key_in, name_as, reference_as, range, edit, addition, advance, frames_in, policy_in, group, short_scan, long_scan, scan, plain, said};
 
 use crate::forms::{bound_name, data_count, is_word, name, number, subject};
-use crate::verbs::Verb;
+use crate::parser::Verb;
 use crate::words::Words;
 use table_model::{Command, DATA_MOST, FRAMES_MOST, Refusal, Subject};
 

@@ -4,7 +4,6 @@
 mod commands;
 mod forms;
 mod parser;
-mod verbs;
 mod words;
 
 pub use parser::parse;

@@ -1,15 +1,116 @@
-//! What a line says.
+//! What a line says: by its first word the verb, and by the others what is asked.
 
-ghost use Rattle.std.specs.Prelude.{◌≡◌, ◌⊎◌, IfErr, IfOk, IfSome, IsTrue};
+ghost use Rattle.std.specs.Prelude.{◌≡◌, ◌⊎◌, IfErr, IfOk, IfSome, IsTrue, MatchOption, bytes_eq, true, false};
 ghost use Rattle.table_model.specs.Requests.{is_request, request_of};
 ghost use Rattle.script_lines.specs.Lines.{Short};
 ghost use Rattle.script_lang.specs.Reading.{Reading, Reads, is_comment};
 ghost use Rattle.script_lang.specs.Parsed.{reading_of};
+ghost use Rattle.script_lang.specs.declared.parser.Verb.{Verb};
+ghost use Rattle.script_lang.specs.Verbs.{word_of};
 
 use crate::commands::command;
-use crate::verbs::verb_of;
+use crate::forms::is_word;
 use crate::words::Words;
 use table_model::{Command, Refusal};
+
+/// What a command does, by its first word.
+#[derive(Clone, Copy)]
+pub enum Verb {
+    Begin,
+    Commit,
+    Abort,
+    Checkpoint,
+    Log,
+    Files,
+    Space,
+    File,
+    Unfile,
+    List,
+    Close,
+    Destroy,
+    Size,
+    Stat,
+    Digest,
+    Versions,
+    Drop,
+    Create,
+    Freeze,
+    Derive,
+    Read,
+    Insert,
+    Append,
+    Replace,
+    Delete,
+    Group,
+    Scan,
+    Next,
+}
+
+/// The command that a word begins.
+pub(crate) fn verb_of(word: &[u8]) -> Option<Verb>
+    ensures { MatchOption result ((v : Verb) → bytes_eq word.now (word_of v) ≡ false)
+        (λ v. bytes_eq word.now (word_of v) ≡ true) }
+{
+    if is_word(word, "begin") {
+        Some(Verb::Begin)
+    } else if is_word(word, "commit") {
+        Some(Verb::Commit)
+    } else if is_word(word, "abort") {
+        Some(Verb::Abort)
+    } else if is_word(word, "checkpoint") {
+        Some(Verb::Checkpoint)
+    } else if is_word(word, "log") {
+        Some(Verb::Log)
+    } else if is_word(word, "files") {
+        Some(Verb::Files)
+    } else if is_word(word, "space") {
+        Some(Verb::Space)
+    } else if is_word(word, "file") {
+        Some(Verb::File)
+    } else if is_word(word, "unfile") {
+        Some(Verb::Unfile)
+    } else if is_word(word, "list") {
+        Some(Verb::List)
+    } else if is_word(word, "close") {
+        Some(Verb::Close)
+    } else if is_word(word, "destroy") {
+        Some(Verb::Destroy)
+    } else if is_word(word, "size") {
+        Some(Verb::Size)
+    } else if is_word(word, "stat") {
+        Some(Verb::Stat)
+    } else if is_word(word, "digest") {
+        Some(Verb::Digest)
+    } else if is_word(word, "versions") {
+        Some(Verb::Versions)
+    } else if is_word(word, "drop") {
+        Some(Verb::Drop)
+    } else if is_word(word, "create") {
+        Some(Verb::Create)
+    } else if is_word(word, "freeze") {
+        Some(Verb::Freeze)
+    } else if is_word(word, "derive") {
+        Some(Verb::Derive)
+    } else if is_word(word, "read") {
+        Some(Verb::Read)
+    } else if is_word(word, "insert") {
+        Some(Verb::Insert)
+    } else if is_word(word, "append") {
+        Some(Verb::Append)
+    } else if is_word(word, "replace") {
+        Some(Verb::Replace)
+    } else if is_word(word, "delete") {
+        Some(Verb::Delete)
+    } else if is_word(word, "group") {
+        Some(Verb::Group)
+    } else if is_word(word, "scan") {
+        Some(Verb::Scan)
+    } else if is_word(word, "next") {
+        Some(Verb::Next)
+    } else {
+        None
+    }
+}
 
 /// Whether the word begins with `#`.
 fn begins_comment(word: &[u8]) -> bool
