@@ -4,11 +4,23 @@ ghost use Rattle.std.specs.Prelude.{◌≡◌, ◌<◌, ◌≤◌, ◌+◌, ◌^
 use std::alloc::{AllocError, Global};
 use std::marker::Model;
 
-/// A list of a fixed length, of equal elements at first. Room for all of them is taken when it is made, but it is written only up to the last place that
-/// was set, so the system gives no memory for what lies behind. Contracts see the whole list.
+/// How many elements are written together where one behind all written ones is set.
+const STEP: usize = 1024;
+
+/// The end of the elements that are written so that one at a place can be set.
+fn end_behind(at: usize, len: usize) -> usize
+    requires { at < len }
+    ensures behind { at < result }
+    ensures inside { result ≤ len }
+{
+    if len - at > STEP { at + STEP } else { len }
+}
+
+/// A list of a fixed length, of equal elements at first. Room for all of them is taken when it is made, but it is written only up to a few behind the
+/// last place that was set, so the system gives no memory for what lies further behind. Contracts see the whole list.
 #[derive(Drop)]
 pub struct Filled<T: Copy> {
-    // the elements up to the last place that was set
+    // the elements up to the last place that was set, and a few behind it
     written: Vec<T>,
     // what each element behind them is
     rest: T,
@@ -88,7 +100,8 @@ impl<T: Copy> Filled<T> {
         requires { at < length self.old }
         ensures { self.new ≡ slice_set self.old at element }
     {
-        if at >= self.written.len() && self.written.resize(at + 1, self.rest).is_err() {
+        let end = end_behind(at, self.len);
+        if at >= self.written.len() && self.written.resize(end, self.rest).is_err() {
             unreachable!();
         }
         self.written[at] = element;

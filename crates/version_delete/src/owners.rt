@@ -15,6 +15,7 @@ use std::sync::ledger::Ledger;
 use trees::{Part, names_node, no_leaf, no_node, row_of};
 
 /// Takes an owner away from a leaf. Where none is left it is given back.
+#[inline(always)]
 fn release_leaf<B: CountBlocks>(blocks: &mut B, page: PageNo) -> Result<(), PortFault>
     requires ready { B.ready blocks.old }
     requires counts { HasCounts B.Ground blocks.old }
