@@ -11,15 +11,12 @@ ghost use Rattle.exsm_run.specs.Format.{format_line, IsFormatStatus, IsFormatted
 
 use crate::status::Status;
 use disk_model::{Disk, Failed, Host, send_all, write_settled};
-use ex_base::{Geometry, has_magic, write_super};
+use ex_base::{Geometry, PageNo, has_magic, write_super};
 use object_files::empty_catalog;
 use std::alloc::{AllocError, Global};
 
 /// How many bytes of the superblock are the magic.
 const MAGIC_LEN: usize = 8;
-
-/// The page of the catalog.
-const CATALOG: u64 = 257;
 
 /// What the first byte of the log is where no record counts.
 const CLOSED: u8 = 0;
@@ -162,7 +159,7 @@ fn prepare<D: Disk>(
     let page = geometry.page_size as u64;
     disk.write(MAGIC_LEN as u64, &superblock[MAGIC_LEN..])?;
     disk.write(page, &[CLOSED])?;
-    disk.write(CATALOG * page, catalog)?;
+    disk.write(PageNo::CATALOG.0 as u64 * page, catalog)?;
     disk.sync()
 }
 

@@ -1,3 +1,4 @@
 pub mod Rows
 pub mod Beside
 pub mod Grouped
+pub mod Removed

@@ -41,7 +41,8 @@ use Rattle.session_core.specs.Meant.{held_view, meant, pick_of}
 use Rattle.session_core.specs.Sessions.{IsSession, OnlyGives, SessionState, TakenBack, aborted, held, is_kept}
 use Rattle.session_core.specs.Steps.{Steps}
 use Rattle.session_core.proofs.Accepted.{took_place}
-use Rattle.session_core.proofs.Ending.{AtRest, committed_side, exact_at_rest, fewer_used, pages_go, rests_shown, same_refs, scan_roots}
+use Rattle.session_core.proofs.Ending.{fewer_used, pages_go, same_refs, scan_roots}
+use Rattle.volume_model.proofs.AtRest.{AtRest, committed_side, exact_at_rest, rests_shown}
 use Rattle.session_core.proofs.Finding.{stopped_outside, stopped_so}
 use Rattle.volume_port.proofs.Frames.{frames_shown}
 use Rattle.session_core.proofs.Quiet.{left_before, now_after, quiet_moments}
@@ -110,7 +111,7 @@ module _ {a : Outside} {before : View SessionState} (now : ShowsNow meant a befo
       table = now.shows.committed;
       geometry = now.shows.geometry;
       rules = rules;
-      shared = record { geometry = now.shows.shared.geometry; notes = refl; names = ap kept now.shows.shared.names; group_rows = now.shows.shared.group_rows; open_txn = refl; up = now.shows.shared.up };
+      shared = record { geometry = now.shows.shared.geometry; notes = refl; names = ap kept now.shows.shared.names; group_rows = now.shows.shared.group_rows; open_txn = refl; up = refl };
       closed = refl;
       untouched = refl;
       no_pages = refl;
@@ -159,7 +160,7 @@ module _ {a b : Outside} (s : SessionState) (world : IsWorld a) (is : IsSession 
   abort_done new given groups pages units opened gave back same = record {
     only = gave.gives.only.nothing.only;
     geometry = ap (λ (t : SessionState). t.geometry) (sym same);
-    down = ap (λ (t : SessionState). t.down) (sym same);
+    down = ap (λ (t : SessionState). t.down) (sym same) ∙ sym (is.up opened);
     stops = tt;
     sound = tt;
     refused = λ (why, told). absurd (cc);
@@ -198,7 +199,7 @@ module _ {a b : Outside} (s : SessionState) (world : IsWorld a) (is : IsSession 
 
 pub aborted_as : (s : SessionState) (meta : Overlays) (pages : LoggedSet) (units : UnitSet) (groups : List Frames) (notes : List OpNote) (gained lost : List Root) (names : List BoundName)
     → meta ≡ record s.meta { working = [] } → notes ≡ [] → gained ≡ [] → lost ≡ [] → names ≡ kept s.names
-    → aborted s pages units groups ≡ record s { meta = meta; pages = pages; units = units; groups = groups; notes = notes; gained = gained; lost = lost; names = names; opened = false }
+    → aborted s pages units groups ≡ record s { meta = meta; pages = pages; units = units; groups = groups; notes = notes; gained = gained; lost = lost; names = names; opened = false; down = false }
 aborted_as s meta pages units groups notes gained lost names is none no_gained no_lost unbound = cc (is, none, no_gained, no_lost, unbound)
 
 -- Where no page became free, none did in the release.

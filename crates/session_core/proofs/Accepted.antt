@@ -116,7 +116,7 @@ begin_steps {a} {b} {before} now new groups page same frames closed reads lends 
     (ap (λ (n : ℕ). reply.Begin (n + 1)) (sym number)) refl (tt, λ none. absurd (cc)) in
     stepped_by now request.Begin (reply.Begin ((catalog_on page).last + 1)) after s new d.volume same frames refl step
     (record { geometry = refl; committed = refl; machine_scans = refl; pages = refl; segs = refl; scans = refl; used = refl; refs = refl; gained = refl; lost = refl; held = refl; kept = refl; overlay = refl; log = refl })
-    (record { geometry = now.shows.shared.geometry; notes = refl; names = now.shows.shared.names; group_rows = now.shows.shared.group_rows; open_txn = refl; up = now.shows.shared.up })
+    (record { geometry = now.shows.shared.geometry; notes = refl; names = now.shows.shared.names; group_rows = now.shows.shared.group_rows; open_txn = refl; up = refl })
     (record {
       working = record {
         parts = parts_same d.geometry d.records (units_of d before.disk) (working_units d before.disk rows) d.volume units now.shows.parts.1.1;
@@ -147,10 +147,10 @@ accepted_quietly old mid new r told only geometry log down accepts steps = recor
   stepped = steps;
 }
 
-pub begin_quietly : {a b : Outside} (old mid new : SessionState) (page : List ℕ) (last : ℕ) → IsSession old → OnlyFrames a b old mid → old.opened ≡ false → ReadsCatalog a old page → last ≡ (catalog_on page).last → (last ≢ 2 ^ 64 - 1)
+pub begin_quietly : {a b : Outside} (old mid new : SessionState) (page : List ℕ) (last : ℕ) → IsSession old → OnlyFrames a b old mid → old.opened ≡ false → old.down ≡ false → ReadsCatalog a old page → last ≡ (catalog_on page).last → (last ≢ 2 ^ 64 - 1)
     → begun mid page ≡ new → StepsQuietly a b old new request.Begin (Ok (reply.Begin (last + 1)))
-begin_quietly {a} {b} old mid new page last is only closed reads number room same =
-    accepted_quietly old mid new request.Begin (reply.Begin (last + 1)) only (ap (λ (s : SessionState). s.geometry) (sym same)) (ap (λ (s : SessionState). s.log) (sym same)) (ap (λ (s : SessionState). s.down) (sym same)) (λ why told. absurd (cc))
+begin_quietly {a} {b} old mid new page last is only closed up reads number room same =
+    accepted_quietly old mid new request.Begin (reply.Begin (last + 1)) only (ap (λ (s : SessionState). s.geometry) (sym same)) (ap (λ (s : SessionState). s.log) (sym same)) (ap (λ (s : SessionState). s.down) (sym same) ∙ sym (ap (λ (s : SessionState). s.down) only.same ∙ up)) (λ why told. absurd (cc))
     (λ before from now.
     let session = subst IsSession (sym from) is in
     let at = ap (λ (s : SessionState). begun s page) (ap (λ (s : SessionState). record s { groups = mid.groups }) from ∙ sym only.same) ∙ same in

@@ -36,7 +36,8 @@ use Rattle.volume_model.specs.OwnersShown.{OwnersShown, logged_pages}
 use Rattle.volume_model.proofs.OwnersSwept.{committed as owners_committed, homes_owned, lost_first}
 use Rattle.volume_model.proofs.ScansKept.{owned_stay, scans_shown}
 use Rattle.session_core.proofs.Committing.{FramesAfter}
-use Rattle.session_core.proofs.Ending.{AtRest, committed_side, rests_shown, scan_roots}
+use Rattle.session_core.proofs.Ending.{scan_roots}
+use Rattle.volume_model.proofs.AtRest.{AtRest, committed_side, rests_shown}
 use Rattle.std.proofs.lemmas.Bool.{both_ways}
 use Rattle.volume_port.specs.Logged.{is_held}
 use Rattle.page_alloc.specs.UnitSet.{refs_at, used_at}
@@ -98,7 +99,7 @@ module _ {a b : Outside} {before : View SessionState} (now : ShowsNow meant a be
   owned : IsOwned d.geometry (home d.geometry before.disk) (used_at s.units) (refs_at s.units) (logged_pages d d.volume) (root_pages (roots_in (stored_in d.volume) ++ scan_roots s))
   owned =
       subst (λ (w : Volume). IsOwned d.geometry (home d.geometry before.disk) (used_at s.units) (refs_at s.units) (logged_pages d w) (root_pages (roots_in (stored_in w) ++ scan_roots s))) idle.1
-      (subst (λ (roots : List Root). IsOwned d.geometry (home d.geometry before.disk) (used_at s.units) (refs_at s.units) (logged_pages d now.shows.working) (root_pages roots ++ root_pages (roots_in (stored_in now.shows.working) ++ scan_roots s))) (session.idle closed).2
+      (subst (λ (roots : List Root). IsOwned d.geometry (home d.geometry before.disk) (used_at s.units) (refs_at s.units) (logged_pages d now.shows.working) (root_pages roots ++ root_pages (roots_in (stored_in now.shows.working) ++ scan_roots s))) (session.idle closed now.shows.shared.up).2
       (lost_first d (scan_roots s) now.shows.working (used_at s.units) (refs_at s.units) s.gained s.lost before.disk now.shows.owners))
 
   none_go : PagesGo (used_at s.units) (used_at s.units) (refs_at s.units) (file_pages d.volume) (catalog_no ∷ file_pages d.volume)
@@ -110,8 +111,8 @@ module _ {a b : Outside} {before : View SessionState} (now : ShowsNow meant a be
 
   owners_home : OwnersShown e (used_at s.units) (refs_at s.units) s.gained s.lost (scan_roots s) done.0 d.volume
   owners_home =
-      subst (λ (roots : List Root). OwnersShown e (used_at s.units) (refs_at s.units) roots s.lost (scan_roots s) done.0 d.volume) (sym (session.idle closed).1)
-      (subst (λ (roots : List Root). OwnersShown e (used_at s.units) (refs_at s.units) [] roots (scan_roots s) done.0 d.volume) (sym (session.idle closed).2)
+      subst (λ (roots : List Root). OwnersShown e (used_at s.units) (refs_at s.units) roots s.lost (scan_roots s) done.0 d.volume) (sym (session.idle closed now.shows.shared.up).1)
+      (subst (λ (roots : List Root). OwnersShown e (used_at s.units) (refs_at s.units) [] roots (scan_roots s) done.0 d.volume) (sym (session.idle closed now.shows.shared.up).2)
       (owners_committed d (scan_roots s) d.volume [] (used_at s.units) (used_at s.units) (refs_at s.units) before.disk done.0 owned
       (λ u area some. homes_owned d (scan_roots s) d.volume (held_view before) now.shows.overlay (used_at s.units) (refs_at s.units) (root_pages (roots_in (stored_in d.volume) ++ scan_roots s)) before.disk done.0 owned done.2.homes u area some) none_go))
 

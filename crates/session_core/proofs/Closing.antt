@@ -1,10 +1,8 @@
 -- A session that shows, once one of its scans was closed.
-use Rattle.std.proofs.Common.{◌≡◌, ◌∙◌, ◌+◌, ◌<◌, ◌≤◌, ℕ, zero, suc, List, [], ◌∷◌, map, length, take, drop, All, Option, Some, None, refl, sym, ap, subst, arith, inl, inr, ⊎_elim}
+use Rattle.std.proofs.Common.{◌≡◌, ◌∙◌, ◌+◌, ◌<◌, ◌≤◌, ℕ, suc, List, [], ◌∷◌, map, length, take, drop, All, Option, Some, None, refl, sym, ap, subst, arith, inl, inr}
 use Rattle.std.specs.Prelude.{slice_get}
 use Rattle.std.specs.List.{AllByRecursion, AllZip, remove}
-use Rattle.std.proofs.lemmas.List.{length-append, length-drop, length-take}
 use Rattle.std.proofs.lemmas.List.Elements.{All-append, All-drop, All-take}
-use Rattle.std.proofs.lemmas.Option.{slice_get_cases}
 use Rattle.ex_base.specs.declared.faults.PortFault.{PortFault}
 use Rattle.ex_base.specs.declared.geometry.Geometry.{Geometry}
 use Rattle.ex_base.specs.declared.names.Area.TheVariants.{Page, Segment}
@@ -15,6 +13,7 @@ use Rattle.ex_base.proofs.Members.{In, into_flat, of_each}
 use Rattle.disk_model.specs.Outside.{Outside}
 use Rattle.buffer_groups.specs.Frames.{Frames}
 use Rattle.open_scans.specs.OpenScans.{AtRow, IsOpenScan, OpenRow, scan_of}
+use Rattle.open_scans.proofs.Removed.{fewer_left, in_at, map_removed, roots_removed, row_at, zip_removed}
 use Rattle.page_alloc.specs.UnitSet.{UnitSet, refs_at, used_at}
 use Rattle.session_views.specs.declared.engine.Stop.{Stop}
 use Rattle.session_views.specs.View.{View, ShowsNow}
@@ -26,7 +25,6 @@ use Rattle.volume_model.specs.OwnersShown.{OwnersShown, logged_pages, roots_held
 use Rattle.volume_model.specs.Shown.{HeldScan, ScanShown, root_here, roots_here, used_in}
 use Rattle.volume_model.specs.Volume.{Decoded, Volume}
 use Rattle.volume_model.proofs.OwnersScanned as scanned
-use Rattle.volume_model.proofs.ScansKept.{roots_more}
 use Rattle.volume_port.specs.GivingUp.{GivesTrees, OwnRoots, ReleasesRoots, is_logged}
 use Rattle.session_core.specs.Finding.{IfShown, IsOutside, stop_at}
 use Rattle.session_core.specs.Meant.{held_view, meant}
@@ -39,44 +37,6 @@ use Rattle.session_core.proofs.OtherScans.{rescanned, scanning}
 use Rattle.session_core.proofs.Quiet.{left_before, now_after, shows_frames}
 use Rattle.session_core.proofs.Releasing.{GaveUp, StandFirst, fits_session, left_owned, own_roots, tells_now}
 use Rattle.volume_model.proofs.Showing.{session_geometry}
-
--- ---- an item taken out of a list
-
-pub row_at : {A : Type 0} (xs : List A) (i : ℕ) → i < length xs → (x : A) × (slice_get xs i ≡ Some x)
-row_at xs i inside = ⊎_elim (λ (x, lt, is, same). (x, is)) (λ (past, none). absurd (omega (arith, inside, past))) (slice_get_cases xs i).1
-
-in_at : {A : Type 0} (xs : List A) (i : ℕ) (x : A) → slice_get xs i ≡ Some x → In x xs
-in_at [] i x is = absurd (let none : None ≡ Some x = is in cc)
-in_at (y ∷ xs) zero x is = inl (let same : Some y ≡ Some x = is in cc)
-in_at (y ∷ xs) (suc i) x is = inr (in_at xs i x is)
-
-zip_removed : {A B : Type 0} (R : A → B → Type 0) (xs : List A) (ys : List B) (i : ℕ) → AllZip R xs ys → AllZip R (remove xs i) (remove ys i)
-zip_removed R [] [] zero each = tt
-zip_removed R [] [] (suc i) each = tt
-zip_removed R [] (y ∷ ys) i each = absurd each
-zip_removed R (x ∷ xs) [] i each = absurd each
-zip_removed R (x ∷ xs) (y ∷ ys) zero each = each.1
-zip_removed R (x ∷ xs) (y ∷ ys) (suc i) each = (each.0, zip_removed R xs ys i each.1)
-
-map_removed : (rows : List OpenRow) (i : ℕ) → map scan_of (remove rows i) ≡ remove (map scan_of rows) i
-map_removed [] zero = refl
-map_removed [] (suc i) = refl
-map_removed (row ∷ rows) zero = refl
-map_removed (row ∷ rows) (suc i) = ap (λ (scans : List HeldScan). row.scan ∷ scans) (map_removed rows i)
-
--- the pages of the roots of the other scans, and that of the one that was taken out
-roots_removed : (u : ℕ) (rows : List OpenRow) (i : ℕ) (row : OpenRow) → slice_get rows i ≡ Some row
-    → times u (root_pages (roots_here (map scan_of (remove rows i)))) + times u (root_pages (root_here row.scan.root)) ≡ times u (root_pages (roots_here (map scan_of rows)))
-roots_removed u [] i row is = absurd (let none : None ≡ Some row = is in cc)
-roots_removed u (first ∷ rows) zero row is =
-    let here : Some first ≡ Some row = is in
-    let same : first ≡ row = cc in
-    omega (arith, roots_more u first.scan (map scan_of rows), ap (λ (r : OpenRow). times u (root_pages (root_here r.scan.root))) same)
-roots_removed u (first ∷ rows) (suc i) row is =
-    omega (arith, roots_more u first.scan (map scan_of rows), roots_more u first.scan (map scan_of (remove rows i)), roots_removed u rows i row is)
-
-fewer_left : {A : Type 0} (xs : List A) (i : ℕ) → length (remove xs i) ≤ length xs
-fewer_left xs i = omega (arith, length-append (take i xs) (drop (suc i) xs), length-take i xs, length-drop (suc i) xs)
 
 -- ---- what the scan's tree owns
 
@@ -167,7 +127,6 @@ module _ {a : Outside} {before : View SessionState} (now : ShowsNow meant a befo
         let g = first.shows.decoded.geometry in
         let frames = frames_shown g b.disk before.disk new.groups (gave.gives.only.nothing.disk ∙ now.holds)
         (subst (λ (h : Geometry). All (λ (f : Frames). f.page_size ≡ h.page_size) new.groups) (session_geometry first.shows) fits.frames) told.2 in
-        let later : View SessionState = record { machine = after; session = new; disk = before.disk } in
         now_after gave.gives.only first refl (shows_frames (held new) first.shows (left_before gave.gives.only first) (ap held same) frames)
 
 -- ---- the session after it
@@ -196,6 +155,7 @@ close_session s index is =
       few_pages = is.few_pages;
       in_order = is.in_order;
       work = is.work;
+      up = is.up;
       idle = is.idle;
     }
 

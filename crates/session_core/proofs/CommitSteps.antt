@@ -40,7 +40,8 @@ use Rattle.volume_port.specs.GivingUp.{OwnRoots}
 use Rattle.session_core.specs.Catalogs.{FramesLend}
 use Rattle.session_core.proofs.Releasing.{GaveUp, StandFirst, TellsDisk, given_free, left_owned, own_roots}
 use Rattle.session_core.proofs.Committing.{Commits, FramesAfter, committed_as, committed_session, commits_table, kept_left, may_commit, new_reach, numbered, numbered_pages, numbered_rows, owners_left}
-use Rattle.session_core.proofs.Ending.{AtRest, committed_side, exact_at_rest, fewer_used, rests_shown, scan_roots}
+use Rattle.session_core.proofs.Ending.{fewer_used, scan_roots}
+use Rattle.volume_model.proofs.AtRest.{AtRest, committed_side, exact_at_rest, rests_shown}
 use Rattle.page_alloc.specs.UnitSet.{UnitSet, refs_at, used_at}
 use Rattle.volume_model.proofs.ScansReach.{scans_reach_same}
 use Rattle.volume_model.proofs.Showing.{view_of, shows_catalog, session_geometry}
@@ -138,7 +139,7 @@ module _ {a i m b : Outside} {before : View SessionState} (now : ShowsNow meant 
     table = commits_table now.shows page ∙ sym done.2.table;
     geometry = now.shows.geometry;
     rules = steps_keep o request.Commit (pick_of (held_view before) request.Commit (view_of after (held left) done.0)) (reply.Commit txn) after now.shows.rules refl step;
-    shared = record { geometry = now.shows.shared.geometry; notes = refl; names = ap unmarked now.shows.shared.names; group_rows = now.shows.shared.group_rows; open_txn = refl; up = now.shows.shared.up };
+    shared = record { geometry = now.shows.shared.geometry; notes = refl; names = ap unmarked now.shows.shared.names; group_rows = now.shows.shared.group_rows; open_txn = refl; up = refl };
     closed = refl;
     untouched = refl;
     no_pages = none;

@@ -44,7 +44,8 @@ use Rattle.volume_model.specs.Homes.{home}
 use Rattle.volume_model.specs.OwnersMoved.{PagesGo}
 use Rattle.volume_model.specs.OwnersShown.{OwnersShown, logged_pages}
 use Rattle.volume_model.proofs.OwnersSwept.{committed as owners_committed, homes_owned}
-use Rattle.session_core.proofs.Ending.{committed_side, in_second, pages_go, same_refs, scan_roots}
+use Rattle.session_core.proofs.Ending.{pages_go, same_refs, scan_roots}
+use Rattle.volume_model.proofs.AtRest.{committed_side, in_second}
 use Rattle.session_core.proofs.Tracking.{kept_settled, tracked_put}
 use Rattle.std.proofs.lemmas.List.Elements.{Contains-append_left, Contains-append_cases}
 use Rattle.std.proofs.lemmas.Bool.{cases_eq, both_ways, false_from_ne_true}
@@ -257,7 +258,7 @@ commit_moments {a} {m} {b} {before} now page session world reads opened catalog 
 -- the session after a commit
 abbrev pub committed_session : SessionState → LogState → Overlays → List Frames → List Bool → UnitSet → SessionState
 committed_session s log meta groups kept units =
-    record s { log = log; meta = meta; kept = kept; units = units; groups = groups; notes = []; gained = []; lost = []; names = unmarked s.names; opened = false }
+    record s { log = log; meta = meta; kept = kept; units = units; groups = groups; notes = []; gained = []; lost = []; names = unmarked s.names; opened = false; down = false }
 
 -- the frames after a step that wrote
 pub record FramesAfter (b : Outside) (g : Geometry) (groups : List Frames) : Type 0 where

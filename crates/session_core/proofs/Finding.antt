@@ -59,7 +59,8 @@ use Rattle.session_core.specs.Sessions.{SessionState, IsSession}
 use Rattle.session_core.specs.Meant.{meant, held_view}
 use Rattle.session_core.specs.Finding.{IsPortOver, PortShows, IfShown, LineStops, IsOutside, IsFound, TellsVersion, held_image, content_named, record_named, stop_at, stop_or}
 use Rattle.session_core.specs.Steps.{OnlyFrames}
-use Rattle.session_core.proofs.Bridge.{shows_volume, table_is, image_shown, session_geometry}
+use Rattle.session_core.proofs.Bridge.{shows_volume, table_is, image_shown}
+use Rattle.volume_model.proofs.Showing.{session_geometry}
 use Rattle.volume_port.proofs.Frames.{frames_lent}
 
 -- ---- what a reading leaves
@@ -115,6 +116,7 @@ read_session s groups left is = record {
   few_pages = is.few_pages;
   in_order = is.in_order;
   work = is.work;
+  up = is.up;
   idle = is.idle;
 }
 

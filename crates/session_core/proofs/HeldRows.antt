@@ -49,6 +49,7 @@ scans_session s scans are is = record {
   few_pages = is.few_pages;
   in_order = is.in_order;
   work = is.work;
+  up = is.up;
   idle = is.idle;
 }
 
@@ -125,6 +126,7 @@ grouped_session s row few is =
       few_pages = is.few_pages;
       in_order = is.in_order;
       work = is.work;
+      up = is.up;
       idle = is.idle;
     }
 

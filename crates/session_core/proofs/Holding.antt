@@ -20,7 +20,7 @@ use Rattle.table_model.specs.declared.table.Table.{Table}
 use Rattle.table_model.specs.Machines.{shown}
 use Rattle.table_model.specs.Tables.{IsTable}
 use Rattle.ex_base.specs.declared.names.Area.{Area}
-use Rattle.session_core.specs.TableUpdates.{BecomesVolume}
+use Rattle.volume_edits.specs.TableUpdates.{BecomesVolume}
 use Rattle.op_log.specs.declared.record.LogRecord.{LogRecord}
 use Rattle.session_views.specs.View.{View, ShowsNow}
 use Rattle.versions.specs.Versions.{AreInUse}
@@ -41,8 +41,9 @@ use Rattle.session_core.specs.Counts.{free_in}
 use Rattle.session_core.specs.Updates.{HasVolume, HoldsTurned, KeepsTurned, OwnsGone}
 use Rattle.volume_port.specs.State.{Moved}
 use Rattle.volume_port.specs.declared.state.VolumeState.{VolumeState}
-use Rattle.session_core.proofs.Bridge.{image_is, image_shown, kept_page, no_image, shows_volume, table_is, volume_kept}
-use Rattle.session_core.proofs.Ending.{in_second}
+use Rattle.session_core.proofs.Bridge.{image_shown, kept_page, shows_volume, table_is, volume_kept}
+use Rattle.volume_port.proofs.WorkingUnits.{image_is, no_image}
+use Rattle.volume_model.proofs.AtRest.{in_second}
 use Rattle.session_core.proofs.Finding.{shown_tells}
 use Rattle.session_core.proofs.Homes.{home_kept}
 use Rattle.volume_model.proofs.KeptOff.{trees_kept}

@@ -15,7 +15,7 @@ use Rattle.volume_model.specs.Homes.{home}
 use Rattle.session_core.specs.Meant.{meant}
 use Rattle.session_core.specs.Sessions.{IsSession, SessionState}
 use Rattle.session_core.specs.Updates.{WritesUnused}
-use Rattle.session_core.proofs.Bridge.{leaf_bytes_at, page_bytes}
+use Rattle.volume_port.proofs.WorkingUnits.{leaf_bytes_at, page_bytes}
 use Rattle.session_core.proofs.Updating.{changes_now, counted_now}
 
 pub home_is : (g : Geometry) (disk : List ℕ) → unit_bytes g (Some disk) ≡ home g disk

@@ -31,17 +31,14 @@ mod Shaping
 mod Summing
 mod Tracking
 pub mod Undisturbed
-mod UnitsTaken
 mod Updating
 mod Writing
 mod Tallies
-mod MovedVolumes
 mod Changed
 mod Removed
 mod Copied
 mod Relatives
 pub mod TakingPages
-mod Making
 mod Recorded
 pub mod OtherScans
 pub mod Opening
@@ -54,3 +51,4 @@ pub mod Taken
 mod ScanBytes
 pub mod HeldRows
 pub mod OtherRows
+mod Followed

@@ -120,18 +120,19 @@ module _ {a b : Outside} (s : SessionState) (p : VolumeState) (is : IsSession s)
     few_pages = few;
     in_order = rising;
     work = λ _. work_moved opened;
+    up = is.up;
     idle = λ shut. absurd (both_ways _ shut opened);
   })
 
   -- one that was given up: the working pages are again those of the committed state
   pub given_up : (gained lost : List Root) (meta : Overlays) (pages : LoggedSet) (units : UnitSet) → gained ≡ [] → lost ≡ [] → meta ≡ record p.meta { working = [] } → TakenBack p.meta.working p.kept p.pages pages p.units units
-      → IsSession (record (moved_to s p) { meta = meta; pages = pages; units = units; gained = gained; lost = lost; opened = false })
+      → IsSession (record (moved_to s p) { meta = meta; pages = pages; units = units; gained = gained; lost = lost; opened = false; down = false })
   given_up gained lost meta pages units none_gained none_lost emptied taken =
       let back = subst (λ (flags : List Bool). TakenBack p.meta.working flags p.pages pages p.units units) kept_is taken in
-      subst (λ (v : VolumeState). IsSession (record (moved_to s v) { meta = meta; pages = pages; units = units; gained = gained; lost = lost; opened = false })) (sym moved.rest)
-      (subst (λ (m : Overlays). IsSession (record s { meta = m; pages = pages; units = units; groups = p.groups; gained = gained; lost = lost; opened = false })) (sym emptied)
-      (subst (λ (roots : List Root). IsSession (record s { meta = record p.meta { working = [] }; pages = pages; units = units; groups = p.groups; gained = roots; lost = lost; opened = false })) (sym none_gained)
-      (subst (λ (roots : List Root). IsSession (record s { meta = record p.meta { working = [] }; pages = pages; units = units; groups = p.groups; gained = []; lost = roots; opened = false })) (sym none_lost) (record {
+      subst (λ (v : VolumeState). IsSession (record (moved_to s v) { meta = meta; pages = pages; units = units; gained = gained; lost = lost; opened = false; down = false })) (sym moved.rest)
+      (subst (λ (m : Overlays). IsSession (record s { meta = m; pages = pages; units = units; groups = p.groups; gained = gained; lost = lost; opened = false; down = false })) (sym emptied)
+      (subst (λ (roots : List Root). IsSession (record s { meta = record p.meta { working = [] }; pages = pages; units = units; groups = p.groups; gained = roots; lost = lost; opened = false; down = false })) (sym none_gained)
+      (subst (λ (roots : List Root). IsSession (record s { meta = record p.meta { working = [] }; pages = pages; units = units; groups = p.groups; gained = []; lost = roots; opened = false; down = false })) (sym none_lost) (record {
         log = is.log;
         meta = ready.overlay;
         units = counted_gives s.geometry _ p.units units ready.fits.counted back.units;
@@ -151,15 +152,16 @@ module _ {a b : Outside} (s : SessionState) (p : VolumeState) (is : IsSession s)
         few_pages = omega arith;
         in_order = tt;
         work = λ opened. absurd (cc);
-        idle = λ _. (refl, refl, refl);
+        up = λ _. refl;
+        idle = λ _ _. (refl, refl, refl);
       }))))
 
   -- the same, where the session was like that
   pub given_up_at : (inside : SessionState) (was_gained was_lost : List Root) → inside ≡ record (moved_to s p) { gained = was_gained; lost = was_lost } → (gained lost : List Root) (meta : Overlays) (pages : LoggedSet) (units : UnitSet)
       → gained ≡ [] → lost ≡ [] → meta ≡ record inside.meta { working = [] } → TakenBack inside.meta.working inside.kept inside.pages pages inside.units units
-      → IsSession (record inside { meta = meta; pages = pages; units = units; gained = gained; lost = lost; opened = false })
+      → IsSession (record inside { meta = meta; pages = pages; units = units; gained = gained; lost = lost; opened = false; down = false })
   given_up_at inside was_gained was_lost same gained lost meta pages units none_gained none_lost emptied taken =
-      subst (λ (t : SessionState). IsSession (record t { meta = meta; pages = pages; units = units; gained = gained; lost = lost; opened = false })) (sym same)
+      subst (λ (t : SessionState). IsSession (record t { meta = meta; pages = pages; units = units; gained = gained; lost = lost; opened = false; down = false })) (sym same)
       (given_up gained lost meta pages units none_gained none_lost (emptied ∙ ap (λ (t : SessionState). record t.meta { working = [] }) same)
       (subst (λ (t : SessionState). TakenBack t.meta.working t.kept t.pages pages t.units units) same taken))
 

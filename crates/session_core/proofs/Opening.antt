@@ -164,6 +164,7 @@ open_session s units row is used counted one few = record {
   few_pages = is.few_pages;
   in_order = is.in_order;
   work = is.work;
+  up = is.up;
   idle = is.idle;
 }
 

@@ -10,7 +10,8 @@ use Rattle.meta_pages.specs.Overlays.{AreRows}
 use Rattle.session_core.specs.declared.updates.Done.{Done}
 use Rattle.session_core.specs.declared.updates.ObjectUpdate.{ObjectUpdate}
 use Rattle.session_core.specs.Performed.{IsUpdate}
-use Rattle.session_core.specs.TableUpdates.{Asks, HasRoom, TableUpdate, TakesNeed, Updates, updated}
+use Rattle.volume_edits.specs.TableUpdates.{Asks, HasRoom, TableUpdate, TakesNeed, updated}
+use Rattle.session_core.specs.Performed.{Updates}
 use Rattle.page_alloc.specs.UnitSet.{free_count, used_at}
 use Rattle.table_model.specs.declared.table.Table.{Table}
 use Rattle.table_model.specs.Machines.{shown}

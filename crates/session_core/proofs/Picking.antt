@@ -6,7 +6,6 @@ use Rattle.std.specs.Map.{lookup}
 use Rattle.ex_base.specs.declared.names.Oid.{Oid}
 use Rattle.ex_base.specs.declared.names.Root.{Root}
 use Rattle.ex_base.specs.Area.{InPageArea, area_end, page_at, leaf_at}
-use Rattle.meta_pages.specs.Overlays.{over}
 use Rattle.slotted_pages.specs.FilePage.{Slot, body_of, room_of}
 use Rattle.slotted_pages.specs.Edits.{slots_of}
 use Rattle.object_records.specs.Record.{Content, Small, Large}
@@ -16,16 +15,12 @@ use Rattle.versions.specs.Versions.{record_len}
 use Rattle.versions.specs.Found.{root_of, size_of}
 use Rattle.versions.specs.declared.finding.Found.{Found}
 use Rattle.volume_model.specs.Shown.{Held, laid_over_page}
+use Rattle.volume_port.proofs.HeldCatalog.{laid_over_log}
 use Rattle.session_core.specs.declared.session.objects.Named.{Named}
 use Rattle.session_core.specs.Sessions.{SessionState}
 use Rattle.session_core.specs.Meant.{held_view, units_held, slots_at, content_at, fits_small, height_of}
 use Rattle.session_core.specs.Finding.{TellsVersion, held_image, content_named}
 use Rattle.session_core.specs.Needs.{root_height, room_beside, fits_beside}
-
-laid : (committed : Option (List ℕ)) (home : List ℕ) (row : Option (Option (List ℕ))) → laid_over_page (unwrap_or committed home) home row ≡ unwrap_or (over row committed) home
-laid committed home None = refl
-laid committed home (Some None) = refl
-laid committed home (Some (Some image)) = refl
 
 body_is : (slot : Slot) → unwrap_or slot [] ≡ body_of slot
 body_is None = refl
@@ -35,7 +30,7 @@ body_is (Some body) = refl
 pub unit_at : (v : View Held) (page : ℕ) → InPageArea v.session.geometry page → units_held v page ≡ held_image v.session v.disk page
 unit_at v page lies =
     cond-true (nat_lt page (area_end v.session.geometry)) (laid_over_page (unwrap_or (lookup (nat_eq page) v.session.overlay) (page_at v.session.geometry v.disk page)) (page_at v.session.geometry v.disk page) (lookup (nat_eq page) v.session.working_pages)) (leaf_at v.session.geometry v.disk page) (lt-ltb page (area_end v.session.geometry) lies.1)
-    ∙ laid (lookup (nat_eq page) v.session.overlay) (page_at v.session.geometry v.disk page) (lookup (nat_eq page) v.session.working_pages)
+    ∙ laid_over_log (lookup (nat_eq page) v.session.working_pages) (lookup (nat_eq page) v.session.overlay) (page_at v.session.geometry v.disk page)
 
 module _ (v : View Held) (oid : Oid) (lies : InPageArea v.session.geometry oid.page.0) where
   abbrev page : ℕ

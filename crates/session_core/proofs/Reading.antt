@@ -58,6 +58,7 @@ other_frames s groups disk keeps behind is = record {
   few_pages = is.few_pages;
   in_order = is.in_order;
   work = is.work;
+  up = is.up;
   idle = is.idle;
 }
 

@@ -1,10 +1,9 @@
 -- Where the record of a version of a shown table stands, and what its tree is at home.
-use Rattle.std.proofs.Common.{◌≡◌, ◌∙◌, ◌+◌, ◌≤◌, ◌<◌, ℕ, zero, suc, List, [], ◌∷◌, length, Option, Some, None, refl, sym, ap, subst, arith, inl, inr, nat_lt, nat_eq}
+use Rattle.std.proofs.Common.{◌≡◌, ◌∙◌, ◌≤◌, ◌<◌, ℕ, List, [], ◌∷◌, length, Option, Some, None, refl, sym, ap, subst, arith, inl, inr, nat_lt, nat_eq}
 use Rattle.std.specs.Prelude.{slice_index_or, unwrap_or}
-use Rattle.std.specs.List.{AllZip, zip}
+use Rattle.std.specs.List.{zip}
 use Rattle.std.specs.Map.{lookup}
 use Rattle.std.proofs.lemmas.Bool.{cond-true, lt-ltb}
-use Rattle.std.proofs.lemmas.List.{length-append}
 use Rattle.ex_base.specs.declared.geometry.Geometry.{Geometry}
 use Rattle.ex_base.specs.declared.names.Oid.{Oid}
 use Rattle.ex_base.specs.declared.names.Place.{Place}
@@ -20,7 +19,7 @@ use Rattle.object_records.proofs.RecordLaws.{record_read}
 use Rattle.op_log.specs.AfterLog.{logged}
 use Rattle.op_log.specs.declared.record.LogRecord.{LogRecord}
 use Rattle.slotted_pages.specs.Edits.{slots_of}
-use Rattle.slotted_pages.specs.FilePage.{FilePage, Slot, SlotsOf, bodies, body_of}
+use Rattle.slotted_pages.specs.FilePage.{FilePage, Slot, SlotsOf, body_of}
 use Rattle.file_bodies.proofs.Pages.{slots_are}
 use Rattle.session_views.specs.View.{View}
 use Rattle.version_lists.specs.declared.version.Version.{Version}
@@ -48,39 +47,13 @@ use Rattle.volume_model.proofs.OwnersAlike.{first_pages}
 use Rattle.session_core.specs.Finding.{content_named, held_image}
 use Rattle.session_core.specs.Meant.{held_view}
 use Rattle.session_core.specs.Sessions.{SessionState}
-use Rattle.session_core.proofs.Bridge.{image_is, page_bytes, session_geometry}
+use Rattle.volume_model.proofs.Showing.{session_geometry}
+use Rattle.volume_model.proofs.SlotBodies.{body_inside, slot_in, zip_at}
+use Rattle.volume_port.proofs.HeldCatalog.{laid_over_log}
+use Rattle.volume_port.proofs.WorkingUnits.{image_is, page_bytes}
 use Rattle.volume_edits.proofs.Records.{record_of}
 use Rattle.session_core.proofs.Ruling.{image_most}
 use Rattle.volume_model.proofs.Volumes.{Parts, shown_parts, shown_table}
-
--- ---- a body on a page
-
--- a body of a page stands in its slot
-slot_in : (page slot : ℕ) (slots : List Slot) (row : Place × List ℕ) → In row (bodies_from page slot slots) → (row.0.page.0 ≡ page) × ((k : ℕ) × (row.0.slot ≡ slot + k) × (slice_index_or slots k None ≡ Some row.1))
-slot_in page slot [] row has = absurd has
-slot_in page slot (None ∷ slots) row has =
-    let rest = slot_in page (suc slot) slots row has in
-    (rest.0, (suc rest.1.0, omega (arith, rest.1.1), rest.1.2))
-slot_in page slot (Some body ∷ slots) row (inl same) =
-    (ap (λ (r : Place × List ℕ). r.0.page.0) same, (0, omega (arith, ap (λ (r : Place × List ℕ). r.0.slot) same), ap (λ (r : Place × List ℕ). Some r.1) (sym same)))
-slot_in page slot (Some body ∷ slots) row (inr has) =
-    let rest = slot_in page (suc slot) slots row has in
-    (rest.0, (suc rest.1.0, omega (arith, rest.1.1), rest.1.2))
-
--- it is one of the page's bodies
-body_inside : (slots : List Slot) (k : ℕ) (body : List ℕ) → slice_index_or slots k None ≡ Some body → length body ≤ length (bodies slots)
-body_inside [] k body is = absurd (let none : None ≡ Some body = is in cc)
-body_inside (slot ∷ slots) zero body is =
-    let here : slot ≡ Some body = is in
-    omega (arith, ap (λ (s : Slot). length (body_of s)) here, length-append (body_of slot) (bodies slots))
-body_inside (slot ∷ slots) (suc k) body is = omega (arith, body_inside slots k body is, length-append (body_of slot) (bodies slots))
-
--- what holds of two items that stand beside each other
-zip_at : {A B : Type 0} (R : A → B → Type 0) (xs : List A) (ys : List B) (pair : A × B) → AllZip R xs ys → In pair (zip xs ys) → R pair.0 pair.1
-zip_at R [] ys pair each has = absurd has
-zip_at R (x ∷ xs) [] pair each has = absurd has
-zip_at {A} {B} R (x ∷ xs) (y ∷ ys) pair each (inl same) = subst (λ (p : A × B). R p.0 p.1) (sym same) each.0
-zip_at R (x ∷ xs) (y ∷ ys) pair each (inr has) = zip_at R xs ys pair each.1 has
 
 -- ---- the record of a version
 
@@ -128,11 +101,6 @@ module _ (g : Geometry) (records : List LogRecord) (units : Units) (v : Volume) 
 
 -- ---- as a view shows it
 
-laid : (committed : Option (List ℕ)) (home : List ℕ) (row : Option (Option (List ℕ))) → laid_over_page (unwrap_or committed home) home row ≡ unwrap_or (over row committed) home
-laid committed home None = refl
-laid committed home (Some None) = refl
-laid committed home (Some (Some image)) = refl
-
 -- the page of a root in a list
 page_of : (u : ℕ) (root : Root) (roots : List Root) → In root roots → 1 ≤ times u (root_pages (root_here (Some root))) → 1 ≤ times u (root_pages roots)
 page_of u root [] inside has = absurd inside
@@ -162,7 +130,7 @@ module _ {may_leave : List ℕ → Type 0} (before : View SessionState) (shows :
       let base = page_at d.geometry v.disk page in
       let row = lookup (nat_eq page) v.session.working_pages in
       cond-true (nat_lt page (area_end d.geometry)) (laid_over_page (unwrap_or (logged d.records page) base) base row) (leaf_at d.geometry v.disk page) (lt-ltb page (area_end d.geometry) lies.1)
-      ∙ laid (logged d.records page) base row
+      ∙ laid_over_log row (logged d.records page) base
       ∙ ap (λ (o : Option (List ℕ)). unwrap_or (over row o) base) (sym (shows.overlay.just page))
       ∙ ap (λ (g : Geometry). unwrap_or (over row (lookup (nat_eq page) v.session.overlay)) (page_at g v.disk page)) (sym same_geometry)
 

@@ -20,7 +20,6 @@ use Rattle.table_model.specs.Machines.{IsMachine, IsWorking, shown}
 use Rattle.table_model.specs.Refusals.{branches_if, is_only_one}
 use Rattle.table_model.specs.Steps.{oids, versions_if}
 use Rattle.table_model.specs.Tables.{IsTable, object_at, version_at, versions_of}
-use Rattle.session_views.specs.declared.engine.Stop.{Stop}
 use Rattle.session_views.specs.View.{View, ShowsNow}
 use Rattle.versions.specs.Listed.{AreByNumber}
 use Rattle.versions.specs.Versions.{HasRecord, place_of}
@@ -30,13 +29,13 @@ use Rattle.volume_edits.specs.Ported.{units_in}
 use Rattle.volume_edits.specs.Shown.{ReadsVersion}
 use Rattle.volume_model.specs.Volume.{table_of}
 use Rattle.volume_edits.proofs.Standings.{derived_in_table, linked_there, listed_in_table, older_in_table}
-use Rattle.session_core.specs.Finding.{AreRelatives, IfShown, IfVersion, IsFound, IsOutside, PortShows, TellsVersion, oids_if, stop_at}
+use Rattle.session_core.specs.Finding.{AreRelatives, IfShown, IfVersion, IsFound, PortShows, TellsVersion, oids_if}
 use Rattle.session_core.specs.Meant.{meant}
 use Rattle.session_core.specs.Sessions.{SessionState}
 use Rattle.session_core.specs.declared.session.objects.Named.{Named}
 use Rattle.session_core.specs.declared.session.relatives.Relation.TheVariants as relation
 use Rattle.versions.specs.declared.finding.Found.{Found}
-use Rattle.session_core.proofs.Finding.{no_damage, reads_live}
+use Rattle.session_core.proofs.Finding.{reads_live}
 use Rattle.volume_edits.proofs.OlderVersion.{named_there, numbered_is, older_there, only_by_branches}
 
 module _ {S : Type 0} (g : ground.Ghosts S) (s : S) {before : View SessionState} (shows : PortShows g s before) (oid : Oid) (version : Version) (is : version_at (shown before.machine) oid ≡ Some version) where
@@ -112,9 +111,6 @@ derived_counted m version found are =
 pub is_derived : {A : Type 0} (older : Option A) → is_some older ≡ true → older ≡ None → ⊥
 is_derived None some is = absurd cc
 is_derived (Some x) some is = absurd cc
-
-pub same_first : {A : Type 0} (x y : A) → Some x ≡ Some y → x ≡ y
-same_first x y same = cc
 
 module _ {w : Outside} {before : View SessionState} (now : ShowsNow meant w before) (version : Named) (told : TellsVersion before version.oid version.found) (derived : version.found.head.older ≡ None → ⊥) where
   abbrev t : Table

@@ -94,6 +94,7 @@ given_session {a} {b} s units groups is room gives =
       few_pages = is.few_pages;
       in_order = is.in_order;
       work = is.work;
+      up = is.up;
       idle = is.idle;
     }
 

@@ -21,8 +21,9 @@ use Rattle.volume_edits.proofs.TakenOut.{removes_version}
 use Rattle.volume_edits.proofs.Showing.{version_found}
 use Rattle.volume_edits.proofs.Standings.{linked_there, newer_in_table, only_in_table}
 use Rattle.volume_model.specs.Volume.{table_of}
-use Rattle.session_core.specs.TableUpdates.{BecomesVolume, Drops as DropsVersion, Removes, Updates}
-use Rattle.session_core.proofs.MovedVolumes.{moved_volume}
+use Rattle.volume_edits.specs.TableUpdates.{BecomesVolume, Drops as DropsVersion, Removes}
+use Rattle.session_core.specs.Performed.{Updates}
+use Rattle.volume_edits.proofs.MovedVolumes.{moved_volume}
 use Rattle.volume_model.proofs.States.{is_current, is_frozen_state}
 
 module _ {S : Type 0} (g : ground.Ghosts S) (old new : S) (oid : Oid) where

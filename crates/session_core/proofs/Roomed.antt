@@ -1,8 +1,9 @@
 -- An update that has its room in a session has it in the session's port.
 use Rattle.std.proofs.Common.{◌≡◌, ◌∙◌, ℕ, ◌+◌, ◌≤◌, Bool, Option, true, false, List, length, take, drop, ◌++◌, Some, refl, sym, ap, subst, arith, inl, inr}
-use Rattle.std.specs.Prelude.{is_none, nat_le, ◌&&◌, ◌||◌, ◌==◌, if◌then◌else◌}
+use Rattle.std.specs.Prelude.{is_none, nat_le, ◌&&◌, ◌==◌, if◌then◌else◌}
 use Rattle.std.proofs.lemmas.Bool.{cases_Bool, leb-true}
 use Rattle.std.proofs.lemmas.List.{length-append, length-take, length-drop}
+use Rattle.std.proofs.Math.Bool.{or-false, or-true}
 use Rattle.ex_base.specs.declared.ground.Ground as ground
 use Rattle.ex_base.specs.declared.geometry.Geometry.{Geometry}
 use Rattle.ex_base.specs.declared.names.Area.{Area}
@@ -11,7 +12,7 @@ use Rattle.ex_base.specs.declared.names.Root.{Root}
 use Rattle.ex_base.specs.declared.names.Index.{Index}
 use Rattle.object_records.specs.Record.{Content, Small, Large, Record}
 use Rattle.object_records.specs.declared.Head.{Head}
-use Rattle.session_core.specs.TableUpdates.{Asks, Changes, Derives, Drops, Freezes, HasRoom, Makes, Removes, TableUpdate, TakesForChange, TakesNeed}
+use Rattle.volume_edits.specs.TableUpdates.{Asks, Changes, Derives, Drops, Freezes, HasRoom, Makes, Removes, TableUpdate, TakesForChange, TakesNeed}
 use Rattle.op_log.specs.declared.record.LogRecord.{LogRecord}
 use Rattle.session_views.specs.View.{View}
 use Rattle.slotted_pages.specs.Edits.{slots_of}
@@ -46,14 +47,6 @@ length_after (Appends given) bytes range = length-append bytes given
 length_after (Replaces pos given) bytes range = omega (arith, range, length-append (take pos bytes) given, length-append (take pos bytes ++ given) (drop (pos + length given) bytes), length-append given (drop (pos + length given) bytes), length-append (take pos bytes) (given ++ drop (pos + length given) bytes), length-take pos bytes, length-drop (pos + length given) bytes)
 length_after (Deletes pos len) bytes range = omega (arith, range, length-append (take pos bytes) (drop (pos + len) bytes), length-take pos bytes, length-drop (pos + len) bytes)
 
-or_not : (b : Bool) → (b || false) ≡ b
-or_not true = refl
-or_not false = refl
-
-or_so : (b : Bool) → (b || true) ≡ true
-or_so true = refl
-or_so false = refl
-
 height_is : (content : Content) → root_height (root_of content) ≡ height_in content
 height_is (Small held) = refl
 height_is (Large root) = refl
@@ -61,12 +54,12 @@ height_is (Large root) = refl
 -- where the version doesn't stay small, the session counts for its change what the port asks for
 need_is : (g : Geometry) (found : Found) (change : Change) (content : Content) (area : Area) → found.root ≡ root_of content → units_need g found change false area ≡ edit_need g change content area
 need_is g found change content area root =
-    ap (λ (b : Bool). if b then 0 else most_need g change (root_height found.root) area) (or_not (count_of change == 0))
+    ap (λ (b : Bool). if b then 0 else most_need g change (root_height found.root) area) (or-false (count_of change == 0))
     ∙ ap (λ (height : ℕ). if count_of change == 0 then 0 else most_need g change height area) (ap root_height root ∙ height_is content)
 
 -- and where it stays small, nothing
 small_need : (g : Geometry) (found : Found) (change : Change) (area : Area) → units_need g found change true area ≡ 0
-small_need g found change area = ap (λ (b : Bool). if b then 0 else most_need g change (root_height found.root) area) (or_so (count_of change == 0))
+small_need g found change area = ap (λ (b : Bool). if b then 0 else most_need g change (root_height found.root) area) (or-true (count_of change == 0))
 
 module _ {S : Type 0} (g : ground.Ghosts S) (s : S) {before : View SessionState} (shows : PortShows g s before) where
   -- a version whose record fits beside the others stays small

@@ -20,7 +20,7 @@ use Rattle.volume_edits.specs.Ported.{ShowsVolume, units_in}
 use Rattle.volume_model.proofs.RulesOfTable.{table_rules}
 use Rattle.volume_model.specs.Volume.{Volume, table_of}
 use Rattle.volume_port.specs.Ported.{image_over}
-use Rattle.session_core.proofs.Bridge.{image_is}
+use Rattle.volume_port.proofs.WorkingUnits.{image_is}
 
 -- ---- the catalog's page
 

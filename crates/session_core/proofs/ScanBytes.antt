@@ -35,7 +35,7 @@ use Rattle.session_core.specs.Finding.{IsPortOver}
 use Rattle.session_core.specs.Meant.{meant, held_view}
 use Rattle.session_core.specs.ScanRows.{AtScan, PortScans, bytes_next}
 use Rattle.session_core.specs.Sessions.{SessionState}
-use Rattle.session_core.proofs.Bridge.{session_geometry}
+use Rattle.volume_model.proofs.Showing.{session_geometry}
 use Rattle.session_core.proofs.Finding.{shown_tells}
 use Rattle.session_core.proofs.Homes.{home_is}
 

@@ -43,8 +43,8 @@ pub main_there : (rows : List GroupRow) (groups : List Frames) → AreGroupsOf r
 main_there rows groups are = (let many : length groups ≡ length (main_kind ∷ map kind_of_row rows) = sym (length-map groups kind_of) ∙ ap (λ (kinds : List (ℕ × Policy)). length kinds) are in omega (arith, many))
 
 -- with other working pages and notes
-abbrev pub working_on : SessionState → Overlays → List OpNote → Bool → SessionState
-working_on s meta notes opened = record s { meta = meta; notes = notes; opened = opened }
+abbrev pub working_on : SessionState → Overlays → List OpNote → Bool → Bool → SessionState
+working_on s meta notes opened down = record s { meta = meta; notes = notes; opened = opened; down = down }
 
 -- what holds of other notes of a session
 pub record AreNoted (s : SessionState) (notes : List OpNote) : Type 0 where
@@ -53,9 +53,9 @@ pub record AreNoted (s : SessionState) (notes : List OpNote) : Type 0 where
   pub gained : length s.gained ≤ length notes
   pub lost : length s.lost ≤ length notes
 
-pub works_on : (s : SessionState) (rows : List WorkingRow) (notes : List OpNote) (opened : Bool) (meta : Overlays) → IsSession s → meta ≡ record s.meta { working = rows } → length rows ≤ touched_most → AreNoted s notes → IsRising rows
-    → (opened ≡ true → HasWork (record s.meta { working = rows })) → IsTracked s.geometry rows s.pages s.kept → (opened ≡ false → (rows ≡ []) × (s.gained ≡ []) × (s.lost ≡ [])) → IsSession (working_on s meta notes opened)
-works_on s rows notes opened meta is same few_rows noted rising work tracked idle = subst (λ (m : Overlays). IsSession (working_on s m notes opened)) (sym same) (record {
+pub works_on : (s : SessionState) (rows : List WorkingRow) (notes : List OpNote) (opened down : Bool) (meta : Overlays) → IsSession s → meta ≡ record s.meta { working = rows } → length rows ≤ touched_most → AreNoted s notes → IsRising rows
+    → (opened ≡ true → HasWork (record s.meta { working = rows })) → IsTracked s.geometry rows s.pages s.kept → (opened ≡ true → down ≡ false) → (opened ≡ false → down ≡ false → (rows ≡ []) × (s.gained ≡ []) × (s.lost ≡ [])) → IsSession (working_on s meta notes opened down)
+works_on s rows notes opened down meta is same few_rows noted rising work tracked up idle = subst (λ (m : Overlays). IsSession (working_on s m notes opened down)) (sym same) (record {
   log = is.log;
   meta = is.meta;
   units = is.units;
@@ -75,6 +75,7 @@ works_on s rows notes opened meta is same few_rows noted rising work tracked idl
   few_pages = few_rows;
   in_order = rising;
   work = work;
+  up = up;
   idle = idle;
 })
 
@@ -93,39 +94,39 @@ pub record MayUpdate (s : SessionState) (page : List ℕ) (kind : NoteKind) : Ty
   pub opened : s.opened ≡ true
 
 pub edited : (s now : SessionState) (page : List ℕ) (kind : NoteKind) (meta : Overlays) (notes : List OpNote) → s ≡ now → IsSession s → MayUpdate now page kind → meta ≡ record s.meta { working = with_row catalog_no (Some page) s.meta.working }
-    → notes ≡ s.notes → IsSession (working_on s meta notes s.opened)
+    → notes ≡ s.notes → IsSession (working_on s meta notes s.opened s.down)
 edited s now page kind meta notes is session may same noted =
     let here = subst (λ (t : SessionState). MayUpdate t page kind) (sym is) may in
-    works_on s (with_row catalog_no (Some page) s.meta.working) notes s.opened meta session same (omega (arith, length_put catalog_no (Some page) s.meta.working, here.touched))
-    (subst (λ (l : List OpNote). AreNoted s l) (sym noted) (record { few = session.few_notes; each = session.notes; gained = session.few_gained; lost = session.few_lost })) (rising_with catalog_no (Some page) s.meta.working session.in_order) (λ _. has_work s.meta page) (tracked_put s.geometry s.meta.working s.pages s.kept session.pages page) (λ closed. absurd (both_ways _ closed here.opened))
+    works_on s (with_row catalog_no (Some page) s.meta.working) notes s.opened s.down meta session same (omega (arith, length_put catalog_no (Some page) s.meta.working, here.touched))
+    (subst (λ (l : List OpNote). AreNoted s l) (sym noted) (record { few = session.few_notes; each = session.notes; gained = session.few_gained; lost = session.few_lost })) (rising_with catalog_no (Some page) s.meta.working session.in_order) (λ _. has_work s.meta page) (tracked_put s.geometry s.meta.working s.pages s.kept session.pages page) session.up (λ closed. absurd (both_ways _ closed here.opened))
 
 pub noted : (s now : SessionState) (page : List ℕ) (kind : NoteKind) (meta : Overlays) (notes : List OpNote) → s ≡ now → IsSession s → MayUpdate now page kind → meta ≡ record s.meta { working = with_row catalog_no (Some page) s.meta.working }
-    → notes ≡ s.notes ++ note kind no_oid 0 0 ∷ [] → IsSession (working_on s meta notes s.opened)
+    → notes ≡ s.notes ++ note kind no_oid 0 0 ∷ [] → IsSession (working_on s meta notes s.opened s.down)
 noted s now page kind meta notes is session may same pushed =
     let here = subst (λ (t : SessionState). MayUpdate t page kind) (sym is) may in
-    works_on s (with_row catalog_no (Some page) s.meta.working) notes s.opened meta session same (omega (arith, length_put catalog_no (Some page) s.meta.working, here.touched))
+    works_on s (with_row catalog_no (Some page) s.meta.working) notes s.opened s.down meta session same (omega (arith, length_put catalog_no (Some page) s.meta.working, here.touched))
     (subst (λ (l : List OpNote). AreNoted s l) (sym pushed) (record {
       few = omega (arith, length-append s.notes (note kind no_oid 0 0 ∷ []), here.updates);
       each = each-push IsNote s.notes (note kind no_oid 0 0) session.notes (is_note kind);
       gained = omega (arith, length-append s.notes (note kind no_oid 0 0 ∷ []), session.few_gained);
       lost = omega (arith, length-append s.notes (note kind no_oid 0 0 ∷ []), session.few_lost);
-    })) (rising_with catalog_no (Some page) s.meta.working session.in_order) (λ _. has_work s.meta page) (tracked_put s.geometry s.meta.working s.pages s.kept session.pages page) (λ closed. absurd (both_ways _ closed here.opened))
+    })) (rising_with catalog_no (Some page) s.meta.working session.in_order) (λ _. has_work s.meta page) (tracked_put s.geometry s.meta.working s.pages s.kept session.pages page) session.up (λ closed. absurd (both_ways _ closed here.opened))
 
--- a transaction that could not be opened, and one that was
-pub not_begun : (s : SessionState) (meta : Overlays) → IsSession s → s.opened ≡ false → meta ≡ record s.meta { working = [] } → IsSession (working_on s meta s.notes s.opened)
-not_begun s meta is closed same = works_on s [] s.notes s.opened meta is same (omega arith) (record { few = is.few_notes; each = is.notes; gained = is.few_gained; lost = is.few_lost }) tt (λ opened. absurd (both_ways _ closed opened)) (subst (λ (rows : List WorkingRow). IsTracked s.geometry rows s.pages s.kept) (is.idle closed).0 is.pages) (λ _. (refl, (is.idle closed).1, (is.idle closed).2))
+-- a transaction that could not be opened, and one that was, in a session that isn't down
+pub not_begun : (s : SessionState) (meta : Overlays) → IsSession s → s.opened ≡ false → s.down ≡ false → meta ≡ record s.meta { working = [] } → IsSession (working_on s meta s.notes s.opened s.down)
+not_begun s meta is closed up same = works_on s [] s.notes s.opened s.down meta is same (omega arith) (record { few = is.few_notes; each = is.notes; gained = is.few_gained; lost = is.few_lost }) tt (λ opened. absurd (both_ways _ closed opened)) (subst (λ (rows : List WorkingRow). IsTracked s.geometry rows s.pages s.kept) (is.idle closed up).0 is.pages) is.up (λ _ _. (refl, (is.idle closed up).1, (is.idle closed up).2))
 
-pub is_begun : (s : SessionState) (meta : Overlays) (notes : List OpNote) (page : List ℕ) → IsSession s → s.opened ≡ false → meta ≡ record s.meta { working = (catalog_no, Some page) ∷ [] } → notes ≡ []
-    → IsSession (working_on s meta notes true)
-is_begun s meta notes page is closed same none =
-    works_on s ((catalog_no, Some page) ∷ []) notes true meta is same (omega arith) (subst (λ (l : List OpNote). AreNoted s l) (sym none) (record {
+pub is_begun : (s : SessionState) (meta : Overlays) (notes : List OpNote) (page : List ℕ) → IsSession s → s.opened ≡ false → s.down ≡ false → meta ≡ record s.meta { working = (catalog_no, Some page) ∷ [] } → notes ≡ []
+    → IsSession (working_on s meta notes true false)
+is_begun s meta notes page is closed up same none =
+    works_on s ((catalog_no, Some page) ∷ []) notes true false meta is same (omega arith) (subst (λ (l : List OpNote). AreNoted s l) (sym none) (record {
       few = omega arith;
       each = tt;
-      gained = omega (arith, ap (λ (l : List Root). length l) (is.idle closed).1);
-      lost = omega (arith, ap (λ (l : List Root). length l) (is.idle closed).2);
+      gained = omega (arith, ap (λ (l : List Root). length l) (is.idle closed up).1);
+      lost = omega (arith, ap (λ (l : List Root). length l) (is.idle closed up).2);
     })) (tt, tt)
     (λ _. record { image = page; there = refl })
-    (tracked_put s.geometry [] s.pages s.kept (subst (λ (rows : List WorkingRow). IsTracked s.geometry rows s.pages s.kept) (is.idle closed).0 is.pages) page) (λ shut. absurd (cc))
+    (tracked_put s.geometry [] s.pages s.kept (subst (λ (rows : List WorkingRow). IsTracked s.geometry rows s.pages s.kept) (is.idle closed up).0 is.pages) page) (λ _. refl) (λ shut. absurd (cc))
 
 -- what a session is seen as
 pub seen : {s now : SessionState} → s ≡ now → IsSession s → IsSession now
@@ -134,10 +135,13 @@ seen is session = subst IsSession is session
 pub still_closed : {a b : Outside} {s now old later : SessionState} → s ≡ now → later ≡ old → OnlyFrames a b old now → later.opened ≡ false → s.opened ≡ false
 still_closed is from only closed = ap (λ (s : SessionState). s.opened) is ∙ ap (λ (s : SessionState). s.opened) only.same ∙ ap (λ (s : SessionState). s.opened) (sym from) ∙ closed
 
+pub still_up : {a b : Outside} {s now old : SessionState} → s ≡ now → OnlyFrames a b old now → old.down ≡ false → s.down ≡ false
+still_up is only up = ap (λ (s : SessionState). s.down) is ∙ ap (λ (s : SessionState). s.down) only.same ∙ up
+
 pub number_left : (last : ℕ) (page : List ℕ) → IsCatalogPage page → last ≡ (catalog_on page).last → (last ≢ 2 ^ 64 - 1) → (catalog_on page).last < 2 ^ 64 - 1
 number_left last page is same apart = omega (arith, is.fits.last, apart, same)
 
-pub begun_is : (s now : SessionState) (meta : Overlays) (notes : List OpNote) (page : List ℕ) → s ≡ now → meta ≡ record s.meta { working = (catalog_no, Some page) ∷ [] } → notes ≡ [] → begun now page ≡ working_on s meta notes true
+pub begun_is : (s now : SessionState) (meta : Overlays) (notes : List OpNote) (page : List ℕ) → s ≡ now → meta ≡ record s.meta { working = (catalog_no, Some page) ∷ [] } → notes ≡ [] → begun now page ≡ working_on s meta notes true false
 begun_is s now meta notes page is same none = ap (λ (t : SessionState). begun t page) (sym is) ∙ cc (same, none)
 
 pub if_error : {T E P : Type 0} (r : Result T E) → is_err r ≡ true → OnErr r P → P
@@ -202,7 +206,7 @@ pub record NoRoots (notes : List OpNote) (gains loses : List Root) : Type 0 wher
 
 pub after_commit : (s : SessionState) (edited : Overlays) (page : List ℕ) (log : LogState) (meta : Overlays) (later : List Frames) (kept : List Bool) (units : UnitSet) (notes : List OpNote) (gained lost : List Root) (names : List BoundName) → IsSession s
     → edited ≡ record s.meta { working = with_row catalog_no (Some page) s.meta.working } → LeftByCommit s edited log meta s.groups later kept units → NoRoots notes gained lost
-    → IsSession (record s { log = log; meta = meta; kept = kept; units = units; groups = later; notes = notes; gained = gained; lost = lost; names = names; opened = false })
+    → IsSession (record s { log = log; meta = meta; kept = kept; units = units; groups = later; notes = notes; gained = gained; lost = lost; names = names; opened = false; down = false })
 after_commit s edited page log meta later kept units notes gained lost names is same left none_left =
     let rows = with_row catalog_no (Some page) s.meta.working in
     let settled = subst (λ (o : Overlays). Settled o.working s.kept kept s.units units) same left.settled in
@@ -227,17 +231,18 @@ after_commit s edited page log meta later kept units notes gained lost names is 
       few_pages = subst (λ (none : List WorkingRow). length none ≤ touched_most) (sym left.none) (omega arith);
       in_order = subst IsRising (sym left.none) tt;
       work = λ opened. absurd (cc);
-      idle = λ _. (left.none, none_left.gained, none_left.lost);
+      up = λ _. refl;
+      idle = λ _ _. (left.none, none_left.gained, none_left.lost);
     }
 
 -- ---- after an abort
 
 pub after_abort : (s : SessionState) (meta : Overlays) (pages : LoggedSet) (units : UnitSet) (notes : List OpNote) (gained lost : List Root) (names : List BoundName) → IsSession s → meta ≡ record s.meta { working = [] }
     → TakenBack s.meta.working s.kept s.pages pages s.units units → notes ≡ [] → gained ≡ [] → lost ≡ []
-    → IsSession (record s { meta = meta; pages = pages; units = units; notes = notes; gained = gained; lost = lost; names = names; opened = false })
+    → IsSession (record s { meta = meta; pages = pages; units = units; notes = notes; gained = gained; lost = lost; names = names; opened = false; down = false })
 after_abort s meta pages units notes gained lost names is same back none no_gained no_lost =
-    subst (λ (m : Overlays). IsSession (record s { meta = m; pages = pages; units = units; notes = notes; gained = gained; lost = lost; names = names; opened = false })) (sym same)
-    (subst (λ (l : List OpNote). IsSession (record s { meta = record s.meta { working = [] }; pages = pages; units = units; notes = l; gained = gained; lost = lost; names = names; opened = false })) (sym none) (record {
+    subst (λ (m : Overlays). IsSession (record s { meta = m; pages = pages; units = units; notes = notes; gained = gained; lost = lost; names = names; opened = false; down = false })) (sym same)
+    (subst (λ (l : List OpNote). IsSession (record s { meta = record s.meta { working = [] }; pages = pages; units = units; notes = l; gained = gained; lost = lost; names = names; opened = false; down = false })) (sym none) (record {
       log = is.log;
       meta = is.meta;
       units = counted_gives s.geometry _ s.units units is.units back.units;
@@ -257,5 +262,6 @@ after_abort s meta pages units notes gained lost names is same back none no_gain
       few_pages = omega arith;
       in_order = tt;
       work = λ opened. absurd (cc);
-      idle = λ _. (refl, no_gained, no_lost);
+      up = λ _. refl;
+      idle = λ _ _. (refl, no_gained, no_lost);
     }))

@@ -1,6 +1,6 @@
 -- Why a step on the catalog stops, and quiet steps as steps.
-use Rattle.std.proofs.Common.{◌≡◌, ◌≢◌, ◌⊎◌, ℕ, Result, Ok, Err, refl, sym, ap, subst, inl, inr, arith}
-use Rattle.std.specs.Prelude.{IfErr}
+use Rattle.std.proofs.Common.{◌≡◌, ◌≢◌, ◌⊎◌, ℕ, Result, refl, sym, ap, subst, inl, inr, arith}
+use Rattle.std.proofs.lemmas.Result.{IfErr-weaker}
 use Rattle.disk_model.specs.Outside.{Outside, IsWorld}
 use Rattle.table_model.specs.declared.reply.Reply.{Reply}
 use Rattle.table_model.specs.Requests.{Request}
@@ -44,6 +44,13 @@ unread_stops a b old stop.Disk stops = stops
 unread_stops a b old (stop.Damaged page want got) stops = damage_shows a old page want got stops
 unread_stops a b old stop.Down stops = stops
 
+-- What comes from outside of the volume is a fault of the disk or want of memory.
+pub disk_or_memory : (why : Stop) → IsOutside why → (why ≡ stop.Disk) ⊎ (why ≡ stop.Memory)
+disk_or_memory stop.Disk h = inl refl
+disk_or_memory stop.Memory h = inr refl
+disk_or_memory stop.Down h = absurd h
+disk_or_memory (stop.Damaged page want got) h = absurd h
+
 outside_by : (why : Stop) → (why ≡ stop.Disk) ⊎ (why ≡ stop.Memory) → IsOutside why
 outside_by why (inl is) = subst IsOutside (sym is) tt
 outside_by why (inr is) = subst IsOutside (sym is) tt
@@ -53,18 +60,14 @@ unread_outside b why is stops = λ before same now. outside_by why (sound_stop b
 
 -- ---- a step that writes nothing
 
-if_err : (P Q : Stop → Type 0) (result : Result Reply Stop) → ((why : Stop) → P why → Q why) → IfErr result P → IfErr result Q
-if_err P Q (Ok told) f has = tt
-if_err P Q (Err why) f has = f why has
-
 -- A quiet step is a step.
 pub quietly : {a b : Outside} {old new : SessionState} (r : Request) (result : Result Reply Stop) → IsWorld a → IsSession old → StepsQuietly a b old new r result → Steps a b old new r result
 quietly {a} {b} {old} r result world session quiet = record {
   only = quiet.reads.nothing.only;
   geometry = quiet.geometry;
   down = quiet.down;
-  stops = if_err (Stops a b old) (LineStops a b) result (unread_stops a b old) quiet.stops;
-  sound = if_err (Stops a b old) (λ why. IfShown a old (λ before. IsOutside why)) result (λ why stops. unread_outside b why session stops) quiet.stops;
+  stops = IfErr-weaker result (Stops a b old) (LineStops a b) (unread_stops a b old) quiet.stops;
+  sound = IfErr-weaker result (Stops a b old) (λ why. IfShown a old (λ before. IsOutside why)) (λ why stops. unread_outside b why session stops) quiet.stops;
   refused = quiet.refused;
   quiet = λ _. (quiet.reads, quiet.log);
   stepped = quiet.stepped;

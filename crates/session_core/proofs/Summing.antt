@@ -1,6 +1,6 @@
 -- What a session sums up of what it shows.
 use Rattle.std.proofs.Common.{◌≡◌, ◌∙◌, ◌⊎◌, ℕ, zero, suc, ◌+◌, ◌≤◌, ◌<◌, ◌*◌, ◌^◌, false, Bool, cond, List, [], ◌∷◌, ◌++◌, length, map, take, Option, Some, Result, Ok, Err, refl, sym, ap, subst, arith, add-one, length-append, inl, inr}
-use Rattle.std.specs.Prelude.{Contains, IfErr, OnOk, bytes_eq, find, slice_get}
+use Rattle.std.specs.Prelude.{Contains, IfErr, bytes_eq, find, slice_get}
 use Rattle.std.specs.List.{AllByRecursion, AllZip, flat_map, zip}
 use Rattle.std.proofs.lemmas.List.{map-append}
 use Rattle.std.proofs.lemmas.Slice.Eq.{bytes_eq-Decides}
@@ -40,7 +40,7 @@ use Rattle.session_core.specs.Summaries.{AreTotals, IfCatalog, IsTally, SumsUp, 
 use Rattle.session_core.proofs.Accepted.{ReadsCatalog, shown_on, used_is}
 use Rattle.session_core.proofs.Listing.{on_after}
 use Rattle.volume_edits.proofs.Records.{paired}
-use Rattle.session_core.proofs.Stopping.{unread_outside, unread_stops}
+use Rattle.session_core.proofs.Stopping.{disk_or_memory, unread_outside, unread_stops}
 use Rattle.session_core.proofs.Naming.{frames_twice, later_stops}
 use Rattle.session_core.proofs.Quiet.{nothing_changed, same_view, shown_lends, with_groups}
 use Rattle.volume_model.proofs.Showing.{session_geometry}
@@ -234,16 +234,6 @@ module _ {a b c : Outside} {old mid new : SessionState} (page : List ℕ) (one :
     shows = λ before same now. same_view before same now (frames_twice one two) is.sizes;
   }
 
-disk_or_memory : (why : Stop) → IsOutside why → (why ≡ stop.Disk) ⊎ (why ≡ stop.Memory)
-disk_or_memory stop.Disk h = inl refl
-disk_or_memory stop.Memory h = inr refl
-disk_or_memory stop.Down h = absurd h
-disk_or_memory (stop.Damaged page want got) h = absurd h
-
 pub sums_soundly : {a b : Outside} {old new : SessionState} (result : Result Summary Stop) → SumsUp a b old new result → (before : View SessionState) (why : Stop) → before.session ≡ old → ShowsNow meant a before → result ≡ Err why
     → (why ≡ stop.Disk) ⊎ (why ≡ stop.Memory)
 sums_soundly {a} {b} {old} result sums before why same now is = disk_or_memory why ((subst (λ (o : Result Summary Stop). IfErr o (λ w. IfShown a old (λ before. IsOutside w))) is sums.sound) before same now)
-
-pub on_ok : {T E P : Type 0} (result : Result T E) → P → OnOk result P
-on_ok (Ok x) p = p
-on_ok (Err e) p = tt

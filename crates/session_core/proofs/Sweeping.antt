@@ -7,7 +7,8 @@ use Rattle.meta_pages.specs.Rows.{IsRising}
 use Rattle.page_alloc.specs.UnitSet.{UnitSet, refs_at, used_at}
 use Rattle.volume_model.specs.Held.{WorkingRow}
 use Rattle.session_core.specs.Sessions.{OnlyGives, Swept, WasGivenBack, is_kept}
-use Rattle.session_core.proofs.Settling.{free_still, gives_on, next_here, next_keeps, next_other}
+use Rattle.session_core.proofs.Settling.{free_still, gives_on}
+use Rattle.volume_port.proofs.FirstRows.{next_here, next_keeps, next_other}
 
 pub swept_next : (rows : List WorkingRow) (i : ℕ) (row : WorkingRow) (kept : List Bool) (u v w : UnitSet) (image flag : Bool) → IsRising rows → slice_get rows i ≡ Some row
     → image ≡ is_some row.1 → flag ≡ is_kept kept row.0 → Swept (take i rows) kept u v

@@ -36,6 +36,7 @@ use Rattle.volume_edits.proofs.Contents.{content_of, pairs}
 use Rattle.volume_edits.proofs.FileVersions.{IsFile, linked_file}
 use Rattle.volume_edits.proofs.Finding.{file_in}
 use Rattle.volume_edits.proofs.Listed.{beside_entry, file_there}
+use Rattle.volume_edits.proofs.Lists.{as_long}
 use Rattle.volume_edits.proofs.Showing.{apart_numbers, whole}
 use Rattle.volume_model.specs.Parts.{IsStored}
 use Rattle.volume_model.specs.Volume.{FileContent, Stored, file_of, version_of, versions_stored}
@@ -69,12 +70,6 @@ same_none None (Some y) both = absurd (none-some y (sym (both.0 refl)))
 same_none (Some x) None both = absurd (none-some x (sym (both.1 refl)))
 same_none (Some x) (Some y) both = refl
 
-as_many_rows : (rows : List Row) (stored : List Stored) → AllZip IsStored rows stored → length rows ≡ length stored
-as_many_rows [] [] h = refl
-as_many_rows [] (s ∷ stored) h = absurd h
-as_many_rows (row ∷ rows) [] h = absurd h
-as_many_rows (row ∷ rows) (s ∷ stored) h = omega (arith, as_many_rows rows stored h.1)
-
 module _ (units : Units) (all : List Stored) (told : (x : Stored) → Has all x → (x.body.head.older ≡ None) ↔ ((version_of units all x).older ≡ None)) where
   -- the records without an older place are the versions without an older one
   firsts_read : (rows : List Row) (stored : List Stored) → ((x : Stored) → Has stored x → Has all x) → AllZip IsStored rows stored
@@ -106,9 +101,8 @@ objects_counted units f rows told h =
 -- and as many versions as records.
 versions_counted : (units : Units) (e : FileEntry) (f : FileContent) (rows : List Row) → IsFile f → AllZip IsStored rows f.stored → length (map member_of rows) ≡ length (versions_in (file_of units (e, f)))
 versions_counted units e f rows whole h =
-    let vs : List Version = versions_stored units f.stored in
     length-map rows member_of
-    ∙ as_many_rows rows f.stored h
+    ∙ as_long IsStored rows f.stored h
     ∙ sym (length-map f.stored (version_of units f.stored))
     ∙ sym (length_permutation (map (version_of units f.stored) f.stored) (versions_stored units f.stored) (order_permutation number_of (map (version_of units f.stored) f.stored)))
     ∙ sym (length_permutation (versions_stored units f.stored) (versions_in (file_of units (e, f))) (formed_permutation (versions_stored units f.stored) (linked_file units f whole)))

@@ -40,7 +40,7 @@ use Rattle.volume_port.specs.State.{Moved}
 use Rattle.volume_port.specs.declared.state.VolumeState.{VolumeState}
 use Rattle.session_core.specs.Meant.{meant}
 use Rattle.session_core.specs.Sessions.{IsSession, SessionState, Swept, is_kept, volume_held}
-use Rattle.session_core.specs.TableUpdates.{BecomesVolume}
+use Rattle.volume_edits.specs.TableUpdates.{BecomesVolume}
 use Rattle.session_core.specs.Turning.{RootsTurned, TakenOut, WasCommitted, WasGained}
 use Rattle.session_core.proofs.Ending.{few_scan_roots, pages_go, same_refs, scan_roots}
 use Rattle.session_core.proofs.Homes.{home_is, home_kept}

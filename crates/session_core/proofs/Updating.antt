@@ -48,11 +48,12 @@ use Rattle.session_core.specs.Commits.{scans_reach}
 use Rattle.session_core.specs.Finding.{IsPortOf}
 use Rattle.session_core.specs.Updates.{MachineWith, WritesUnused}
 use Rattle.session_core.specs.Meant.{meant}
-use Rattle.session_core.proofs.Bridge.{same_unit, units_over}
-use Rattle.session_core.proofs.Ending.{in_first, scan_roots}
+use Rattle.volume_port.proofs.WorkingUnits.{same_unit, units_over}
+use Rattle.session_core.proofs.Ending.{scan_roots}
+use Rattle.volume_model.proofs.AtRest.{in_first}
 use Rattle.volume_port.proofs.Frames.{frames_shown}
 use Rattle.session_core.proofs.Sessions.{firsts_rise}
-use Rattle.session_core.proofs.Settling.{here_is, here_or}
+use Rattle.volume_port.proofs.FirstRows.{here_is, here_or}
 use Rattle.volume_model.proofs.Showing.{session_geometry, view_of}
 use Rattle.volume_model.proofs.Volumes.{Parts}
 

@@ -212,7 +212,7 @@ module _ {a i m b : Outside} (old : SessionState) (page image : List ℕ) (numbe
   commit_done new same = record {
     only = disk_trans kept.reads.nothing.only kept.only;
     geometry = ap (λ (t : SessionState). t.geometry) (sym same);
-    down = ap (λ (t : SessionState). t.down) (sym same);
+    down = ap (λ (t : SessionState). t.down) (sym same) ∙ sym (kept.session.up kept.opened);
     stops = tt;
     sound = tt;
     refused = λ (why, told). absurd (cc);
@@ -259,12 +259,12 @@ frames_at m b s mid two edited groups later only is edit own lends sizes = recor
 }
 
 closes : (two : SessionState) (log : LogState) (meta : Overlays) (later : List Frames) (flags : List Bool) (units : UnitSet) (notes : List OpNote) (gained lost : List Root) (names : List BoundName) → notes ≡ [] → gained ≡ [] → lost ≡ [] → names ≡ unmarked two.names
-    → committed_session two log meta later flags units ≡ record two { log = log; meta = meta; kept = flags; units = units; groups = later; notes = notes; gained = gained; lost = lost; names = names; opened = false }
+    → committed_session two log meta later flags units ≡ record two { log = log; meta = meta; kept = flags; units = units; groups = later; notes = notes; gained = gained; lost = lost; names = names; opened = false; down = false }
 closes two log meta later flags units notes gained lost names none no_gained no_lost unmark = cc (none, no_gained, no_lost, unmark)
 
 pub closed_as : (s mid two : SessionState) (log : LogState) (meta : Overlays) (later : List Frames) (flags : List Bool) (units : UnitSet) (notes : List OpNote) (gained lost : List Root) (names : List BoundName)
     → mid ≡ record s { groups = mid.groups } → two ≡ mid → notes ≡ [] → gained ≡ [] → lost ≡ [] → names ≡ unmarked two.names
-    → committed_session s log meta later flags units ≡ record two { log = log; meta = meta; kept = flags; units = units; groups = later; notes = notes; gained = gained; lost = lost; names = names; opened = false }
+    → committed_session s log meta later flags units ≡ record two { log = log; meta = meta; kept = flags; units = units; groups = later; notes = notes; gained = gained; lost = lost; names = names; opened = false; down = false }
 closed_as s mid two log meta later flags units notes gained lost names only is none no_gained no_lost unmark =
     ap (λ (t : SessionState). committed_session t log meta later flags units) (sym (is ∙ only)) ∙ closes two log meta later flags units notes gained lost names none no_gained no_lost unmark
 

@@ -5,7 +5,6 @@ pub mod Steps
 pub mod Finding
 pub mod Counts
 pub mod Needs
-pub mod TableUpdates
 pub mod Performed
 pub mod Turning
 pub mod Updates
@@ -13,3 +12,4 @@ pub mod Commits
 pub mod Summaries
 pub mod ScanRows
 pub mod Opening
+pub mod Phases

@@ -31,11 +31,13 @@ pub record ScanOpened (a b : Outside) (old new : SessionState) (row : OpenRow) :
 abbrev pub OpensScan : Outside → Outside → SessionState → SessionState → List ℕ → Option Root → ℕ → Type 0
 OpensScan a b old new name root group = (small : List ℕ) × ScanOpened a b old new (first_row name root small group)
 
--- The scan at an index was closed. Units became free, but none that is logged, the disk was read at most, and of the rest of the session nothing changed
--- but frames.
-pub record ScanClosed (a b : Outside) (old new : SessionState) (index : ℕ) : Type 0 where
-  pub gives : GivesTrees (is_logged old.pages old.kept) old.geometry a b old.units new.units old.groups new.groups
-  pub same : new ≡ record old { groups = new.groups; units = new.units; scans = remove old.scans index }
+-- Units became free, but none that is logged, and the disk was read at most.
+abbrev pub GivesUnits : Outside → Outside → SessionState → SessionState → Type 0
+GivesUnits a b old new = GivesTrees (is_logged old.pages old.kept) old.geometry a b old.units new.units old.groups new.groups
+
+-- the session without the scan at an index, with the units and the frames that another one has
+abbrev pub closed_at : ℕ → SessionState → SessionState → SessionState
+closed_at index old new = record old { groups = new.groups; units = new.units; scans = remove old.scans index }
 
 -- ---- the machines that the session shows then
 

@@ -1,12 +1,20 @@
--- What the calls of this crate are asked for, as an update of the table.
-use Rattle.std.specs.Prelude.{◌≡◌, ◌≤◌, ◌<◌, ◌+◌, ◌^◌, ℕ, List, ⊤}
+-- What an update of objects is asked for, as an update of the table, and what it does.
+use Rattle.std.specs.Prelude.{◌≡◌, ◌≤◌, ◌<◌, ◌+◌, ◌^◌, ℕ, List, Result, IfOk, IfErr, ⊤}
+use Rattle.ex_base.specs.declared.ground.Ground as ground
+use Rattle.ex_base.specs.declared.faults.PortFault.{PortFault}
 use Rattle.ex_base.specs.declared.names.Oid.{Oid}
+use Rattle.ex_base.specs.Ports.{IsDamage}
+use Rattle.op_log.specs.declared.record.LogRecord.{LogRecord}
 use Rattle.versions.specs.Edited.{change_of}
+use Rattle.versions.specs.Versions.{AreInUse}
+use Rattle.session_core.specs.declared.updates.Done.{Done}
 use Rattle.session_core.specs.declared.updates.ObjectUpdate.{ObjectUpdate}
 use Rattle.session_core.specs.declared.updates.ObjectUpdate.TheVariants as update
 use Rattle.session_core.specs.declared.updates.copying.Copying.{Copying}
 use Rattle.session_core.specs.declared.updates.copying.Copying.TheVariants as copying
-use Rattle.session_core.specs.TableUpdates.{TableUpdate, Makes, Changes, Removes, Freezes, Derives, Drops}
+use Rattle.volume_edits.specs.Ported.{IsApart, IsVolume, units_in}
+use Rattle.volume_edits.specs.TableUpdates.{Asks, BecomesVolume, HasRoom, TableUpdate, Makes, Changes, Removes, Freezes, Derives, Drops, updated}
+use Rattle.volume_model.specs.Volume.{Volume, table_of}
 
 -- a copy of a version, as an update of the table
 abbrev pub copies : Copying → Oid → ℕ → TableUpdate
@@ -44,3 +52,10 @@ abbrev pub CanPerform : ObjectUpdate → ℕ → Type 0
 CanPerform (update.Create file_no unique) free = (7 ≤ free) × (unique + 1 < 2 ^ 64)
 CanPerform (update.Copy copying oid unique) free = (7 ≤ free) × (unique + 1 < 2 ^ 64)
 CanPerform _ free = ⊤
+
+-- What an update does with a volume that has what it asks: the volume becomes one with the updated table, and its roots turn as is told; and where the
+-- update has its room, no page of the volume is told to be damaged.
+pub record Updates {S : Type 0} (g : ground.Ghosts S) (old new : S) (u : TableUpdate) (result : Result Done PortFault) : Type 0 where
+  pub done : IfOk result (λ done. (records : List LogRecord) (v : Volume) → g.tells old → IsVolume g old records v → Asks u v (table_of (units_in g old) v) → IsApart g new → AreInUse g new
+      → BecomesVolume g old new records v (updated u done.oid (table_of (units_in g old) v)) done.gone done.come)
+  pub sound : IfErr result (λ fault. IsDamage fault → (records : List LogRecord) (v : Volume) → g.tells old → IsVolume g old records v → Asks u v (table_of (units_in g old) v) → HasRoom g old u → ⊥)

@@ -99,7 +99,7 @@ fresh_session v = record {
 
 -- after a transaction was opened, with this catalog
 abbrev pub begun : SessionState → List ℕ → SessionState
-begun s page = record s { meta = record s.meta { working = (catalog_no, Some page) ∷ [] }; notes = []; opened = true }
+begun s page = record s { meta = record s.meta { working = (catalog_no, Some page) ∷ [] }; notes = []; opened = true; down = false }
 
 -- after the transaction was given up, with these logged pages, units and frames: no page is touched, no root was gained or lost, and the names that it
 -- bound are unbound
@@ -114,6 +114,7 @@ aborted s pages units groups = record s {
   lost = [];
   names = kept s.names;
   opened = false;
+  down = false;
 }
 
 -- Of the units none became used, and of those that were used these are still, and those that have references. Each has the references that it had.
@@ -203,7 +204,8 @@ pub record ArePagesUsed (used : ℕ → Bool) (pages : LoggedSet) (kept : List B
 
 -- What holds of every session: its parts are of one geometry; the groups are `main` and those that were made, each with its frames and its policy; its
 -- logged pages are used; log, overlay and frames are such that a commit can be made; scans and groups are within their limits; an open transaction is within
--- its own, and has a working catalog; each of its updates gains and loses one root at most. Without one no page is touched, and no root is gained or lost.
+-- its own, and has a working catalog; each of its updates gains and loses one root at most. Without one no page is touched, and no root is gained or lost,
+-- unless the session is down, which has no open transaction.
 pub record IsSession (s : SessionState) : Type 0 where
   pub log : s.log.geometry ≡ s.geometry
   pub meta : s.meta.geometry ≡ s.geometry
@@ -224,4 +226,5 @@ pub record IsSession (s : SessionState) : Type 0 where
   pub few_pages : length s.meta.working ≤ touched_most
   pub in_order : IsRising s.meta.working
   pub work : s.opened ≡ true → HasWork s.meta
-  pub idle : s.opened ≡ false → (s.meta.working ≡ []) × (s.gained ≡ []) × (s.lost ≡ [])
+  pub up : s.opened ≡ true → s.down ≡ false
+  pub idle : s.opened ≡ false → s.down ≡ false → (s.meta.working ≡ []) × (s.gained ≡ []) × (s.lost ≡ [])

@@ -26,7 +26,7 @@ use Rattle.session_views.specs.View.{View, ShowsNow}
 use Rattle.session_core.specs.declared.updates.Done.{Done}
 use Rattle.session_core.specs.declared.updates.ObjectUpdate.{ObjectUpdate}
 use Rattle.session_core.specs.Performed.{IsUpdate}
-use Rattle.session_core.specs.TableUpdates.{TableUpdate, Changes, Removes, Drops, Asks}
+use Rattle.volume_edits.specs.TableUpdates.{TableUpdate, Changes, Removes, Drops, Asks}
 use Rattle.versions.specs.declared.finding.Found.{Found}
 use Rattle.volume_model.specs.Shown.{Shared, Shows, used_in}
 use Rattle.session_core.specs.Needs.{fits_beside, size_after, units_need}
@@ -145,6 +145,11 @@ pub record Noted (old new : SessionState) (noted : OpNote) : Type 0 where
     gained = new.gained;
     lost = new.lost;
   }
+
+-- The transaction was given up: none is open, and no page is touched.
+pub record GivenUp (s : SessionState) : Type 0 where
+  pub closed : s.opened ≡ false
+  pub untouched : s.meta.working ≡ []
 
 -- ---- what an update asks of the session
 

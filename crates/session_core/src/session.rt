@@ -9,6 +9,7 @@ mod groups;
 mod moving;
 mod objects;
 mod opening;
+mod phase;
 mod pieces;
 mod relatives;
 mod settle;
@@ -23,6 +24,7 @@ use ex_base::{OpNote, Root};
 use file_rooms::Rooms;
 pub use objects::Named;
 use open_scans::OpenScans;
+use phase::Phase;
 pub use relatives::Relation;
 use std::alloc::Global;
 use std::marker::Model;
@@ -49,20 +51,19 @@ pub struct Session {
     group_rows: GroupRows,
     // of the working state's files, and no part of what contracts see
     rooms: Rooms,
-    // a transaction is open
-    opened: bool,
-    // a step met a fault
-    down: bool,
+    // idle, with an open transaction, or down since a step met a fault
+    phase: Phase,
 }
 
 impl Model for Session {
+    ghost use Rattle.session_core.specs.Phases.{is_down, is_open};
     ghost use Rattle.session_core.specs.Sessions.{SessionState, IsSession};
 
     ghost Value = { SessionState };
 
-    ghost view = { λ s. record { geometry = s.volume.geometry; log = s.volume.log; meta = s.volume.meta; pages = s.volume.pages; kept = s.volume.kept; units = s.volume.units; groups = s.volume.groups; notes = s.notes.items; gained = s.gained.items; lost = s.lost.items; names = s.names; scans = s.scans; group_rows = s.group_rows; opened = s.opened; down = s.down } };
+    ghost view = { λ s. record { geometry = s.volume.geometry; log = s.volume.log; meta = s.volume.meta; pages = s.volume.pages; kept = s.volume.kept; units = s.volume.units; groups = s.volume.groups; notes = s.notes.items; gained = s.gained.items; lost = s.lost.items; names = s.names; scans = s.scans; group_rows = s.group_rows; opened = is_open s.phase; down = is_down s.phase } };
 
-    ghost invariant = { λ s. IsSession (record { geometry = s.volume.geometry; log = s.volume.log; meta = s.volume.meta; pages = s.volume.pages; kept = s.volume.kept; units = s.volume.units; groups = s.volume.groups; notes = s.notes.items; gained = s.gained.items; lost = s.lost.items; names = s.names; scans = s.scans; group_rows = s.group_rows; opened = s.opened; down = s.down }) };
+    ghost invariant = { λ s. IsSession (record { geometry = s.volume.geometry; log = s.volume.log; meta = s.volume.meta; pages = s.volume.pages; kept = s.volume.kept; units = s.volume.units; groups = s.volume.groups; notes = s.notes.items; gained = s.gained.items; lost = s.lost.items; names = s.names; scans = s.scans; group_rows = s.group_rows; opened = is_open s.phase; down = is_down s.phase }) };
 }
 
 impl Session {
@@ -106,8 +107,7 @@ impl Session {
             scans: OpenScans::new(alloc),
             group_rows: GroupRows::make(alloc),
             rooms: Rooms::new(alloc),
-            opened: false,
-            down: false,
+            phase: Phase::Idle,
         }
     }
 }

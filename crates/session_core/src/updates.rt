@@ -2,7 +2,8 @@
 ghost use Rattle.std.specs.Prelude.{◌≡◌, ℕ, List, IfOk, OnOk};
 ghost use Rattle.ex_base.specs.Ports.{HasCause};
 ghost use Rattle.ex_base.specs.declared.names.Area.TheVariants.{Page};
-ghost use Rattle.session_core.specs.TableUpdates.{TableUpdate, TakesNeed, Updates};
+ghost use Rattle.volume_edits.specs.TableUpdates.{TableUpdate, TakesNeed};
+ghost use Rattle.session_core.specs.Performed.{Updates};
 ghost use Rattle.session_core.specs.Performed.{CanPerform, IsCopying, IsUpdate, NamesOid, charge_of};
 ghost use Rattle.file_index.specs.Taking.{OnlyTakes};
 ghost use Rattle.file_index.specs.Touches.{TouchesAtMost};

@@ -12,7 +12,7 @@ use Rattle.ex_base.specs.Edits.{inserted, deleted, replaced, appended}
 use Rattle.ex_base.specs.Sizes.{object_most}
 use Rattle.ex_base.specs.declared.notes.NoteKind.TheVariants as note_kind
 use Rattle.session_core.specs.declared.updates.ObjectUpdate.TheVariants as made
-use Rattle.session_core.specs.TableUpdates.{AsksChange}
+use Rattle.volume_edits.specs.TableUpdates.{AsksChange}
 use Rattle.table_model.specs.declared.machine.Machine.{Machine}
 use Rattle.table_model.specs.declared.machine.Pick.{Pick}
 use Rattle.table_model.specs.declared.reply.Refusal.{Refusal}
@@ -50,7 +50,7 @@ use Rattle.session_core.specs.Counts.{free_in}
 use Rattle.session_core.specs.Sessions.{SessionState, IsSession, volume_held}
 use Rattle.session_core.specs.Steps.{OnlyFrames}
 use Rattle.session_core.specs.Updates.{HasRoomFor, HoldsTable, IfUpdated, Noted, TakesAtMost, note_with}
-use Rattle.session_core.specs.TableUpdates as update
+use Rattle.volume_edits.specs.TableUpdates as update
 use Rattle.transactions.proofs.EditRefusals.{pick_fits, pick_tall, same_units, units_told}
 use Rattle.transactions.proofs.Naming.{the_oid_named, the_size_named}
 use Rattle.session_core.proofs.Quiet.{with_groups}

@@ -29,7 +29,7 @@ use Rattle.table_model.proofs.StepsKeep.{steps_keep}
 use Rattle.volume_model.specs.Shown.{used_in}
 use Rattle.session_core.specs.Finding.{IfShown, IsOutside, LineStops}
 use Rattle.session_core.specs.Meant.{held_view, meant, pick_of}
-use Rattle.session_core.specs.Opening.{ScanClosed, ShowsThen, without_scan}
+use Rattle.session_core.specs.Opening.{GivesUnits, ShowsThen, closed_at, without_scan}
 use Rattle.session_core.specs.Sessions.{IsSession, SessionState}
 use Rattle.session_core.proofs.Accepted.{took_place}
 use Rattle.session_core.proofs.Ending.{fewer_used}
@@ -112,13 +112,13 @@ close_stopped name why reads same stops sound =
       down = ap (λ (s : SessionState). s.down) same;
     }) stops sound
 
-pub close_done : {a b : Outside} {old new : SessionState} (name : List ℕ) (index : ℕ) → IsTrue (is_request (request.Close name)) → IsSession old → scan_index old.scans name ≡ Some index → ReadsOnly a b → ScanClosed a b old new index
+pub close_done : {a b : Outside} {old new : SessionState} (name : List ℕ) (index : ℕ) → IsTrue (is_request (request.Close name)) → IsSession old → scan_index old.scans name ≡ Some index → ReadsOnly a b → GivesUnits a b old new → new ≡ closed_at index old new
     → IfShown a old (λ before. ShowsThen before b new (without_scan index new before.machine)) → ScansLine a b old new (request.Close name) (Ok (reply.Close name))
-close_done {a} {b} {old} {new} name index form is there reads closed shows = record {
+close_done {a} {b} {old} {new} name index form is there reads gives closed shows = record {
   reads = reads;
   geometry = geometry_stays;
-  log = ap (λ (s : SessionState). s.log) closed.same;
-  down = ap (λ (s : SessionState). s.down) closed.same;
+  log = ap (λ (s : SessionState). s.log) closed;
+  down = ap (λ (s : SessionState). s.down) closed;
   stops = tt;
   sound = tt;
   refused = λ (why, refused). absurd (cc);
@@ -136,8 +136,8 @@ close_done {a} {b} {old} {new} name index form is there reads closed shows = rec
       let geometry : new.geometry ≡ now.shows.decoded.geometry = geometry_stays ∙ ap (λ (s : SessionState). s.geometry) (sym same) ∙ session_geometry now.shows in
       let fewer = fewer_used now.shows (subst IsSession (sym same) is) new.units
       (record {
-        geometry = closed.gives.geometry ∙ ap (λ (s : SessionState). s.units.geometry) (sym same);
-        free = λ (area : Area). subst (λ (s : SessionState). FreeAs s area) (sym same) (closed.gives.free area);
+        geometry = gives.geometry ∙ ap (λ (s : SessionState). s.units.geometry) (sym same);
+        free = λ (area : Area). subst (λ (s : SessionState). FreeAs s area) (sym same) (gives.free area);
       }) in
       let pages : used_in new.geometry (used_at new.units) Page ≤ m.pages_used = omega (arith, fewer.pages, ap (λ (g : Geometry). used_in g (used_at new.units) Page) geometry) in
       let segs : used_in new.geometry (used_at new.units) Segment ≤ m.segs_used = omega (arith, fewer.segs, ap (λ (g : Geometry). used_in g (used_at new.units) Segment) geometry) in
@@ -151,7 +151,7 @@ close_done {a} {b} {old} {new} name index form is there reads closed shows = rec
 }
   where
     geometry_stays : new.geometry ≡ old.geometry
-    geometry_stays = ap (λ (s : SessionState). s.geometry) closed.same
+    geometry_stays = ap (λ (s : SessionState). s.geometry) closed
 
     FreeAs : SessionState → Area → Type 0
     FreeAs s area = free_count s.units.geometry (used_at s.units) area ≤ free_count new.units.geometry (used_at new.units) area

@@ -1,5 +1,5 @@
 -- One step on any command.
-use Rattle.std.proofs.Common.{◌≡◌, ◌≢◌, ◌⊎◌, ℕ, List, Some, true, true≢false, Result, Ok, Err, refl, sym, ap, subst, inl, inr, ◌∙◌}
+use Rattle.std.proofs.Common.{◌≡◌, ◌≢◌, ◌⊎◌, ℕ, List, Some, true, true≢false, Result, Ok, Err, sym, ap, subst, ◌∙◌}
 use Rattle.std.specs.Prelude.{IfOk, IfErr}
 use Rattle.disk_model.specs.Outside.{Outside, IsWorld, Rose}
 use Rattle.ex_base.specs.declared.faults.Seen.{Seen}
@@ -22,7 +22,7 @@ use Rattle.op_log.specs.Log.{SaysLog}
 use Rattle.op_log.specs.declared.record.LogRecord.{LogRecord}
 use Rattle.volume_model.specs.Durable.{IsDurable}
 use Rattle.session_core.proofs.Quiet.{quiet_moments}
-use Rattle.session_core.proofs.Stopping.{quietly}
+use Rattle.session_core.proofs.Stopping.{disk_or_memory, quietly}
 use Rattle.session_core.proofs.Undisturbed.{durable_unwritten, records_unwritten, writes_nowhere}
 
 -- ---- any command
@@ -135,12 +135,6 @@ stops_damaged {a} {b} {old} r result answers catalog page want got is = subst (�
 
 pub not_down : {a b : Outside} {old new : SessionState} (r : Request) (result : Result Reply Stop) → Answers a b old new r result → result ≡ Err stop.Down → ⊥
 not_down {a} {b} r result answers is = subst (λ (o : Result Reply Stop). IfErr o (LineStops a b)) is answers.stops
-
-disk_or_memory : (why : Stop) → IsOutside why → (why ≡ stop.Disk) ⊎ (why ≡ stop.Memory)
-disk_or_memory stop.Memory is = inr refl
-disk_or_memory stop.Disk is = inl refl
-disk_or_memory stop.Down is = absurd is
-disk_or_memory (stop.Damaged page want got) is = absurd is
 
 pub is_sound : {a b : Outside} {old new : SessionState} (r : Request) (result : Result Reply Stop) → Answers a b old new r result → (before : View SessionState) (why : Stop) → before.session ≡ old → ShowsNow meant a before → result ≡ Err why
     → (why ≡ stop.Disk) ⊎ (why ≡ stop.Memory)

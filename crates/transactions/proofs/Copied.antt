@@ -37,7 +37,7 @@ use Rattle.session_core.specs.Performed.{copies}
 use Rattle.session_core.specs.ScanRows.{takes_name}
 use Rattle.session_core.specs.Sessions.{IsSession, SessionState}
 use Rattle.session_core.specs.Steps.{OnlyFrames}
-use Rattle.session_core.specs.TableUpdates as update
+use Rattle.volume_edits.specs.TableUpdates as update
 use Rattle.session_core.specs.Updates.{HasRoomFor, IfUpdated}
 use Rattle.session_core.proofs.Accepted.{ReadsCatalog, shown_on}
 use Rattle.session_core.proofs.Quiet.{same_view, shown_lends, with_groups}

@@ -11,8 +11,8 @@ use Rattle.object_files.specs.Catalog.{Catalog, FileEntry}
 use Rattle.object_files.specs.Edits.{has_name}
 use Rattle.object_files.specs.Reads.{catalog_on}
 use Rattle.session_core.specs.declared.updates.ObjectUpdate.TheVariants as made_update
-use Rattle.session_core.specs.TableUpdates.{AsksFile}
-use Rattle.session_core.specs.TableUpdates as update
+use Rattle.volume_edits.specs.TableUpdates.{AsksFile}
+use Rattle.volume_edits.specs.TableUpdates as update
 use Rattle.table_model.specs.declared.machine.Pick.{Pick}
 use Rattle.table_model.specs.declared.reply.Refusal.{Refusal}
 use Rattle.table_model.specs.declared.reply.Refusal.TheVariants as refusal

@@ -35,8 +35,8 @@ use Rattle.session_core.specs.Performed.{IsUpdate}
 use Rattle.session_core.specs.ScanRows.{takes_name}
 use Rattle.session_core.specs.Sessions.{SessionState, IsSession, volume_held}
 use Rattle.session_core.specs.Steps.{OnlyFrames}
-use Rattle.session_core.specs.TableUpdates.{TableUpdate, updated}
-use Rattle.session_core.specs.TableUpdates as update
+use Rattle.volume_edits.specs.TableUpdates.{TableUpdate, updated}
+use Rattle.volume_edits.specs.TableUpdates as update
 use Rattle.session_core.specs.Updates.{HoldsTable, Noted, TakesAtMost}
 use Rattle.session_core.proofs.Quiet.{with_groups}
 use Rattle.session_core.proofs.Refusing.{none_is_false}

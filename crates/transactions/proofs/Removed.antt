@@ -43,8 +43,8 @@ use Rattle.session_core.specs.Meant.{meant}
 use Rattle.session_core.specs.Performed.{IsUpdate, charge_of}
 use Rattle.session_core.specs.Sessions.{SessionState, IsSession, volume_held}
 use Rattle.session_core.specs.Steps.{OnlyFrames}
-use Rattle.session_core.specs.TableUpdates.{AsksDrop, AsksRemoval, TableUpdate, updated}
-use Rattle.session_core.specs.TableUpdates as update
+use Rattle.volume_edits.specs.TableUpdates.{AsksDrop, AsksRemoval, TableUpdate, updated}
+use Rattle.volume_edits.specs.TableUpdates as update
 use Rattle.session_core.specs.Updates.{HasRoomFor, HoldsTable, IfUpdated, Noted, TakesAtMost, note_with}
 use Rattle.session_core.proofs.Quiet.{same_view, with_groups}
 use Rattle.transactions.specs.Editing.{room_refusal}

@@ -24,6 +24,7 @@ use Rattle.trees.specs.Trees.{Units, RootNamed, root_units}
 use Rattle.table_model.specs.declared.table.TableFile.{TableFile}
 use Rattle.table_model.specs.Tables as tables
 use Rattle.table_model.specs.Refusals.{has_objects}
+use Rattle.volume_edits.proofs.Lists.{as_long}
 use Rattle.volume_model.specs.Parts.{HasIndex, HasPage, HasPages, HasBodies, IsStored, bodies_from, bodies_in, HasBalance}
 use Rattle.volume_model.specs.Links.{Apart, HasObjects}
 use Rattle.volume_model.specs.Volume.{Stored, FileContent, Volume, stored_in, pages_of_file, file_pages, roots_in, unique_of, versions_stored, file_of, table_of}
@@ -93,12 +94,6 @@ some_bodies units e (n ∷ numbers) [] some h = absurd h
 some_bodies units e (n ∷ numbers) (p ∷ pages) some h =
     let here = some_body n 0 p.slots h.0.1 h.0.0.fits.last in
     omega (arith, here, length-append (bodies_from n 0 p.slots) (flat_map (λ (row : ℕ × FilePage). bodies_from row.0 0 row.1.slots) (zip numbers pages)))
-
-as_long : {A B : Type 0} (R : A → B → Type 0) (xs : List A) (ys : List B) → AllZip R xs ys → length xs ≡ length ys
-as_long R [] [] h = refl
-as_long R [] (y ∷ ys) h = absurd h
-as_long R (x ∷ xs) [] h = absurd h
-as_long R (x ∷ xs) (y ∷ ys) h = ap suc (as_long R xs ys h.1)
 
 rooted : (g : Geometry) (units : Units) (e : FileEntry) (f : FileContent) → HasAll g units e f → is_some e.root ≡ true → 1 ≤ length f.stored
 rooted g units e f all some =

@@ -62,6 +62,7 @@ renamed s names is = record {
   few_pages = is.few_pages;
   in_order = is.in_order;
   work = is.work;
+  up = is.up;
   idle = is.idle;
 }
 

@@ -13,7 +13,7 @@ use Rattle.session_core.specs.declared.updates.ObjectUpdate.{ObjectUpdate}
 use Rattle.session_core.specs.Counts.{free_in}
 use Rattle.session_core.specs.Performed.{NamesOid, charge_of}
 use Rattle.session_core.specs.Sessions.{SessionState, volume_held}
-use Rattle.session_core.specs.TableUpdates.{updated}
+use Rattle.volume_edits.specs.TableUpdates.{updated}
 use Rattle.session_core.specs.Updates.{HoldsTable, IfUpdated, Noted, TakesAtMost}
 use Rattle.transactions.specs.declared.edits.Need.{Need}
 

@@ -45,6 +45,7 @@ fn answer<H: Host>(
     command: &Command<'_>,
 ) -> Result<Reply, Stop>
     requires session { IsSession session.old }
+    requires up { session.old.down ≡ false }
     requires room { volume_bytes session.old.geometry ≤ (H.outside host.old).size }
     requires form { IsTrue (is_request (request_of command.now)) }
     ensures answers { Answers (H.outside host.old) (H.outside host.new) session.old session.new

@@ -4,7 +4,7 @@ ghost use Rattle.ex_base.specs.Sizes.{volume_bytes};
 ghost use Rattle.session_core.specs.Finding.{IfShown, IsOutside, LineStops};
 ghost use Rattle.session_core.specs.Sessions.{IsSession};
 ghost use Rattle.session_core.specs.Steps.{OnlyFrames};
-ghost use Rattle.session_core.specs.TableUpdates.{AsksDrop, AsksRemoval};
+ghost use Rattle.volume_edits.specs.TableUpdates.{AsksDrop, AsksRemoval};
 ghost use Rattle.table_model.specs.Machines.{shown};
 ghost use Rattle.table_model.specs.Requests.{reference_of};
 ghost use Rattle.table_model.specs.Steps.{note};

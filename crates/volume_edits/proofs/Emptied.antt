@@ -41,7 +41,7 @@ use Rattle.volume_edits.proofs.Contents.{Beside, content_of, pairs, at_beside}
 use Rattle.volume_edits.proofs.FileVersions.{IsFile, linked_file}
 use Rattle.volume_edits.proofs.Finding.{file_in}
 use Rattle.volume_edits.proofs.Listed.{file_there, beside_entry}
-use Rattle.volume_edits.proofs.Listing.{bare}
+use Rattle.volume_model.proofs.FilesListed.{bare}
 use Rattle.volume_edits.proofs.Showing.{whole}
 
 -- ---- a page of a file has a body

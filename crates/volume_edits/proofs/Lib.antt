@@ -57,3 +57,8 @@ pub mod Emptied
 pub mod OlderVersion
 pub mod Records
 pub mod Tables
+pub mod CopiedVolumes
+pub mod BytesChanged
+pub mod Making
+pub mod MovedVolumes
+pub mod UnitsTaken

@@ -1,5 +1,5 @@
 -- Lists: membership, counts, and one item among others.
-use Rattle.std.proofs.Common.{◌≡◌, ◌≢◌, ℕ, ◌+◌, ◌≤◌, List, [], ◌∷◌, ◌++◌, map, refl, sym, ap, subst, ◌∙◌, arith, inl, inr, ◌⊎◌}
+use Rattle.std.proofs.Common.{◌≡◌, ◌≢◌, ℕ, suc, ◌+◌, ◌≤◌, List, [], ◌∷◌, ◌++◌, length, map, refl, sym, ap, subst, ◌∙◌, arith, inl, inr, ◌⊎◌}
 use Rattle.std.specs.List.{flat_map, AllByRecursion, AllZip, zip}
 use Rattle.std.specs.List.Sorted.{IsPermutation}
 use Rattle.std.proofs.lemmas.List.Sorted.{IsPermutation-sym, IsPermutation-trans, IsPermutation-cons, IsPermutation-middle, IsPermutation-refl}
@@ -51,6 +51,12 @@ times_around n xs ys zs = omega (arith, times-append n xs (ys ++ zs), times-appe
 
 abbrev pub Paired : {A B : Type 0} → List A → List B → Type 0
 Paired {A} {B} xs ys = AllZip (λ (x : A) (y : B). Unit {0}) xs ys
+
+pub as_long : {A B : Type 0} (R : A → B → Type 0) (xs : List A) (ys : List B) → AllZip R xs ys → length xs ≡ length ys
+as_long R [] [] h = refl
+as_long R [] (y ∷ ys) h = absurd h
+as_long R (x ∷ xs) [] h = absurd h
+as_long R (x ∷ xs) (y ∷ ys) h = ap suc (as_long R xs ys h.1)
 
 pub zip_split : {A B : Type 0} (R : A → B → Type 0) (xs ys : List A) (us vs : List B) → Paired xs us → AllZip R (xs ++ ys) (us ++ vs) → AllZip R xs us × AllZip R ys vs
 zip_split R [] ys [] vs p h = (tt, h)

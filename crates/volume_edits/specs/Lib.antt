@@ -1,3 +1,4 @@
 pub mod Ported
 pub mod Shown
 pub mod Edits
+pub mod TableUpdates

@@ -31,3 +31,6 @@ pub mod States
 pub mod Showing
 pub mod Kept
 pub mod InOrder
+pub mod FilesListed
+pub mod AtRest
+pub mod SlotBodies

@@ -10,3 +10,5 @@ pub mod LeafPieces
 pub mod Frames
 pub mod Working
 pub mod HeldCatalog
+pub mod FirstRows
+pub mod WorkingUnits

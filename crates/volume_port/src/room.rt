@@ -1,5 +1,5 @@
 //! Room for the bytes of a page.
-ghost use Rattle.std.specs.Prelude.{◌≡◌, [], OnOk};
+ghost use Rattle.std.specs.Prelude.{◌≡◌, [], OnOk, OnErr};
 
 use std::alloc::{AllocError, Global};
 use std::marker::Model;
@@ -28,9 +28,10 @@ impl PageRoom {
         }
     }
 
-    /// The bytes of a page come in the place of those that were there.
+    /// The bytes of a page come in the place of those that were there. Where memory is wanted, none are there.
     pub fn fill(&mut self, page: &[u8]) -> Result<(), AllocError>
-        ensures { OnOk result (self.new ≡ page.now) }
+        ensures filled { OnOk result (self.new ≡ page.now) }
+        ensures emptied { OnErr result (self.new ≡ []) }
     {
         self.bytes.clear();
         self.bytes.extend_from_slice(page)

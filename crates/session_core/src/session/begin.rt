@@ -1,10 +1,11 @@
 //! A transaction is opened, and one is given up.
-ghost use Rattle.std.specs.Prelude.{◌≡◌, ◌≤◌, true, OnOk};
+ghost use Rattle.std.specs.Prelude.{◌≡◌, ◌≤◌, true, false, OnOk};
 ghost use Rattle.ex_base.specs.Sizes.{volume_bytes};
 
 use super::Session;
 use super::catalog::view_of;
 use super::objects::stopped;
+use super::phase::Phase;
 use super::settle::take_back;
 use disk_model::Host;
 use session_views::Stop;
@@ -26,10 +27,11 @@ impl Session {
     /// left.
     pub fn begin<H: Host>(&mut self, alloc: Global, host: &mut H) -> Result<Reply, Stop>
         requires room { volume_bytes self.old.geometry ≤ (H.outside host.old).size }
+        requires up { self.old.down ≡ false }
         ensures { StepsQuietly (H.outside host.old)
             (H.outside host.new) self.old self.new request.Begin result }
     {
-        if self.opened {
+        if self.phase.is_open() {
             return Ok(Reply::No(Refusal::TxnOpen));
         }
         let page = self.catalog(alloc, host)?;
@@ -41,7 +43,7 @@ impl Session {
             return Err(Stop::Memory);
         }
         self.notes.clear();
-        self.opened = true;
+        self.phase = Phase::Open;
         Ok(Reply::Begin { number: last + 1 })
     }
 
@@ -66,7 +68,7 @@ impl Session {
         ensures idle { OnOk result (free_in self.new Page ≡ free_in self.old Page
             → host.new ≡ host.old) }
     {
-        if !self.opened {
+        if !self.phase.is_open() {
             return Ok(Reply::No(Refusal::NoTxn));
         }
         if let Err(fault) = release_roots(
@@ -93,7 +95,7 @@ impl Session {
         self.notes.clear();
         self.gained.clear();
         self.lost.clear();
-        self.opened = false;
+        self.phase = Phase::Idle;
         Ok(Reply::Abort)
     }
 }

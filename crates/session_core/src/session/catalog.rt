@@ -35,7 +35,7 @@ fn copy_of<D: Disk>(
     requires sizes { All (λ (f : Frames). f.page_size ≡ meta.now.geometry.page_size) groups.old }
     requires room { (page.0 + 1) * meta.now.geometry.page_size ≤ (D.outside disk.old).size }
     ensures keeps { GroupsKeep (D.outside disk.old).disk groups.old groups.new }
-    ensures behind { 257 ≤ page.0 → AreBehindLog groups.old → AreBehindLog groups.new }
+    ensures behind { catalog_no ≤ page.0 → AreBehindLog groups.old → AreBehindLog groups.new }
     ensures image { IfOk result (λ bytes. (b : List ℕ) → image_at meta.now page.0 ≡ Some b
         → bytes.items ≡ b) }
     ensures home { IfOk result (λ bytes. image_at meta.now page.0 ≡ None

@@ -1,5 +1,5 @@
 //! A transaction is committed, and a checkpoint is made.
-ghost use Rattle.std.specs.Prelude.{◌≡◌, ◌≤◌, ◌<◌, ◌+◌, ◌-◌, ◌^◌, length, Ok, Err, IfErr, OnOk, true, false};
+ghost use Rattle.std.specs.Prelude.{◌≡◌, ◌≤◌, ◌+◌, ◌-◌, ◌^◌, length, None, IfSome, Ok, Err, IfErr, OnOk, true};
 ghost use Rattle.ex_base.specs.Sizes.{volume_bytes};
 ghost use Rattle.object_files.specs.Catalog.{CatalogOf};
 ghost use Rattle.object_files.specs.Edits.{IsCatalogPage};
@@ -9,6 +9,7 @@ ghost use Rattle.session_core.specs.Commits.{stop_of};
 use super::Session;
 use super::catalog::{DAMAGED_CATALOG, view_of};
 use super::objects::stopped;
+use super::phase::Phase;
 use super::settle::settle;
 use commits::{CommitFault, checkpoint, commit};
 use disk_model::Host;
@@ -19,29 +20,21 @@ use std::alloc::Global;
 use table_model::{Refusal, Reply};
 use volume_port::release_roots;
 
-/// Whether a number is left for a commit that follows the last one of this catalog.
-fn has_next(page: &[u8]) -> bool
-    requires page { IsCatalogPage page.now }
-    ensures yes { result ≡ true → (catalog_on page.now).last < 2 ^ 64 - 1 }
-    ensures no { result ≡ false → (catalog_on page.now).last ≡ 2 ^ 64 - 1 }
-{
-    view_of(page).last_txn() != u64::MAX
-}
-
-/// Puts the number of the next commit into a copy of the catalog, and answers it.
-fn number_next(page: &mut Vec<u8>) -> u64
+/// Puts the number of the next commit into a copy of the catalog, and answers it, none where no number is left.
+fn number_next(page: &mut Vec<u8>) -> Option<u64>
     requires page { IsCatalogPage page.old.items }
-    requires room { (catalog_on page.old.items).last < 2 ^ 64 - 1 }
-    ensures number { result ≡ (catalog_on page.old.items).last + 1 }
-    ensures numbered { CatalogOf page.new.items (with_numbers (catalog_on page.old.items)
-        (catalog_on page.old.items).next_unique ((catalog_on page.old.items).last + 1)) }
+    ensures number { IfSome result (λ number. number ≡ (catalog_on page.old.items).last + 1) }
+    ensures numbered { IfSome result (λ _. CatalogOf page.new.items
+        (with_numbers (catalog_on page.old.items) (catalog_on page.old.items).next_unique
+        ((catalog_on page.old.items).last + 1))) }
     ensures len { length page.new.items ≡ length page.old.items }
+    ensures none { result ≡ None → (catalog_on page.old.items).last ≡ 2 ^ 64 - 1 }
 {
     let catalog = view_of(page);
     let next_unique = catalog.next_unique();
-    let number = catalog.last_txn() + 1;
+    let number = catalog.last_txn().checked_add(1)?;
     set_numbers(page, next_unique, number);
-    number
+    Some(number)
 }
 
 /// What the session is to stop at where a transaction could not be committed.
@@ -90,16 +83,16 @@ impl Session {
         ensures unwritten { result ≡ Err Stop.Memory
             → ReadsOnly (H.outside host.old) (H.outside host.new) × (self.new.log ≡ self.old.log) }
     {
-        if !self.opened {
+        if !self.phase.is_open() {
             return Ok(Reply::No(Refusal::NoTxn));
         }
         let mut page = match self.catalog(alloc, host) {
             Ok(page) => page,
             Err(stop) => return Err(stop),
         };
-        if !has_next(&page) {
+        let Some(number) = number_next(&mut page) else {
             return Err(DAMAGED_CATALOG);
-        }
+        };
         if let Err(fault) = release_roots(
             alloc,
             host,
@@ -112,7 +105,6 @@ impl Session {
         ) {
             return Err(stopped(fault));
         }
-        let number = number_next(&mut page);
         if self
             .volume
             .meta
@@ -122,7 +114,7 @@ impl Session {
             return Err(Stop::Memory);
         }
         // From here on the transaction is committed, or the session is down.
-        self.opened = false;
+        self.phase = Phase::Idle;
         self.gained.clear();
         self.lost.clear();
         settle(
@@ -157,7 +149,7 @@ impl Session {
         ensures disk_alone { IfErr result (λ why. why ≡ Stop.Disk) }
         ensures takes_none { result ≡ Err Stop.Memory → ⊥ }
     {
-        if self.opened {
+        if self.phase.is_open() {
             return Ok(Reply::No(Refusal::TxnOpen));
         }
         if checkpoint(

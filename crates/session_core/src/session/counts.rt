@@ -6,6 +6,7 @@ ghost use Rattle.session_core.specs.Counts.{free_in, used_of};
 ghost use Rattle.session_core.specs.Sessions.{IsSession};
 
 use super::Session;
+use super::phase::Phase;
 use ex_base::{Area, Geometry, Oid};
 use std::alloc::{AllocError, Global};
 
@@ -23,7 +24,7 @@ impl Session {
         ensures value { result ≡ self.now.opened }
         ensures session { IsSession self.now }
     {
-        self.opened
+        self.phase.is_open()
     }
 
     /// Whether a step met a fault.
@@ -31,14 +32,14 @@ impl Session {
         ensures value { result ≡ self.now.down }
         ensures session { IsSession self.now }
     {
-        self.down
+        self.phase.is_down()
     }
 
-    /// Puts the session down: a step met a fault.
+    /// Puts the session down: a step met a fault. No transaction is open then.
     pub fn put_down(&mut self)
-        ensures { self.new ≡ record self.old { down = true } }
+        ensures { self.new ≡ record self.old { opened = false; down = true } }
     {
-        self.down = true;
+        self.phase = Phase::Down;
     }
 
     /// How many records of the log count.

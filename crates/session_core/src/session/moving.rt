@@ -13,7 +13,7 @@ ghost use Rattle.op_log.specs.Records.{IsNote};
 ghost use Rattle.page_alloc.specs.UnitSet.{free_count, used_at};
 ghost use Rattle.table_model.specs.Machines.{touched_most, updates_most};
 ghost use Rattle.session_core.specs.Performed.{CanPerform, IsCopying, NamesOid, charge_of};
-ghost use Rattle.session_core.specs.TableUpdates.{updated};
+ghost use Rattle.volume_edits.specs.TableUpdates.{updated};
 ghost use Rattle.session_core.specs.Finding.{IsOutside, LineStops};
 ghost use Rattle.session_core.specs.Counts.{free_in};
 ghost use Rattle.session_core.specs.Sessions.{SessionState, TakesLogged};
@@ -24,6 +24,7 @@ ghost use Rattle.tree_store.specs.Stored.{NoUnit};
 
 use super::Session;
 use super::objects::stopped;
+use super::phase::Phase;
 use super::settle::{sweep, take_back};
 use super::turning::turn_roots;
 use crate::updates::{Done, ObjectUpdate, perform};
@@ -170,7 +171,7 @@ fn update_volume<D: Disk>(
 }
 
 impl Session {
-    ghost use Rattle.session_core.specs.Updates.{IfUpdated, Noted, WritesUnused, note_with};
+    ghost use Rattle.session_core.specs.Updates.{GivenUp, IfUpdated, Noted, WritesUnused, note_with};
     ghost use Rattle.session_core.specs.Sessions.{volume_held};
 
     /// Performs an update of objects, and notes it: the note has the OID of the version that was made, changed or removed, which is answered. It takes no more
@@ -208,8 +209,7 @@ impl Session {
         ensures geometry { self.new.geometry ≡ self.old.geometry }
         ensures log { self.new.log ≡ self.old.log }
         ensures down { self.new.down ≡ self.old.down }
-        ensures given_up { OnErr result ((self.new.opened ≡ false)
-            × (self.new.meta.working ≡ [])) }
+        ensures given_up { OnErr result (GivenUp self.new) }
         ensures stops { IfErr result (LineStops (H.outside host.old) (H.outside host.new)) }
         ensures sound { IfErr result (λ why. IfUpdated (H.outside host.old) self.old update.now
             (λ before u. HasRoomFor before u → IsOutside why)) }
@@ -239,7 +239,7 @@ impl Session {
         self.gained.clear();
         self.lost.clear();
         self.rooms.forget();
-        self.opened = false;
+        self.phase = Phase::Idle;
         match done {
             Ok(_) => Err(Stop::Memory),
             Err(fault) => Err(stopped(fault)),

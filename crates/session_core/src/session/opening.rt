@@ -20,7 +20,7 @@ use table_model::Name;
 impl Session {
     ghost use Rattle.session_core.specs.Counts.{free_in};
     ghost use Rattle.session_core.specs.Finding.{IfShown, IsOutside, LineStops};
-    ghost use Rattle.session_core.specs.Opening.{IfTold, OpensScan, ScanClosed, ShowsThen, first_row, with_scan, without_scan};
+    ghost use Rattle.session_core.specs.Opening.{GivesUnits, IfTold, OpensScan, ShowsThen, closed_at, first_row, with_scan, without_scan};
     ghost use Rattle.session_core.specs.Sessions.{IsSession};
     ghost use Rattle.session_core.specs.Steps.{OnlyFrames};
 
@@ -143,8 +143,8 @@ impl Session {
         requires there { index < length self.old.scans }
         ensures session { IsSession self.old }
         ensures only { ReadsOnly (H.outside host.old) (H.outside host.new) }
-        ensures closed { OnOk result
-            (ScanClosed (H.outside host.old) (H.outside host.new) self.old self.new index) }
+        ensures gives { GivesUnits (H.outside host.old) (H.outside host.new) self.old self.new }
+        ensures closed { OnOk result (self.new ≡ closed_at index self.old self.new) }
         ensures shown { OnOk result (IfShown (H.outside host.old) self.old
             (λ before. ShowsThen before (H.outside host.new) self.new
             (without_scan index self.new before.machine))) }

@@ -3,6 +3,7 @@ ghost use Rattle.std.specs.Prelude.{◌≡◌};
 
 use super::Session;
 use super::catalog::view_of;
+use super::phase::Phase;
 use disk_model::Host;
 use ex_base::Area;
 use session_views::Stop;
@@ -94,8 +95,9 @@ impl Session {
             objects: 0,
             versions: 0,
         };
-        for index in 0..view_of(page).len() {
-            let file_no = view_of(page).entry(index).file_no;
+        let catalog = view_of(page);
+        for index in 0..catalog.len() {
+            let file_no = catalog.entry(index).file_no;
             let tally = match self.tally_of(alloc, host, file_no) {
                 Ok(tally) => tally,
                 Err(stop) => return Err(stop),
@@ -132,23 +134,23 @@ impl Session {
             → result ≡ Err stop → (stop ≡ Stop.Disk) ⊎ (stop ≡ Stop.Memory) }
 
         // The session stays what it was but for its frames, and but that a fault puts it down.
-        ensures frames { OnOk result (OnlyFrames (H.outside host.old)
-            (H.outside host.new) self.old self.new) }
-        ensures kept { self.new ≡ record self.old { groups = self.new.groups; down = self.new.down } }
+        ensures frames { OnlyFrames (H.outside host.old) (H.outside host.new) self.old
+            (record self.new { opened = self.old.opened; down = self.old.down }) }
 
         // After a fault it answers that the session is down, and calls nothing, as every step does; before one it doesn't.
         ensures is_down { self.old.down ≡ true → (result ≡ Err Stop.Down) × (host.new ≡ host.old)
             × (self.new ≡ self.old) }
         ensures was_down { result ≡ Err Stop.Down → self.old.down ≡ true }
         ensures goes_down { OnErr result (self.new.down ≡ true) }
-        ensures stays_up { OnOk result (self.new.down ≡ false) }
+        ensures stays_up { OnOk result ((self.new.opened ≡ self.old.opened)
+            × (self.new.down ≡ false)) }
     {
-        if self.down {
+        if self.phase.is_down() {
             return Err(Stop::Down);
         }
         let summary = self.sum_up(alloc, host);
         if summary.is_err() {
-            self.down = true;
+            self.phase = Phase::Down;
         }
         summary
     }

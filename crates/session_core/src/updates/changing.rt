@@ -4,7 +4,8 @@ ghost use Rattle.ex_base.specs.Ports.{HasCause};
 ghost use Rattle.file_index.specs.Touches.{TouchesAtMost};
 ghost use Rattle.versions.specs.Edited.{change_of};
 ghost use Rattle.file_rooms.specs.Rooms.{ChangesOne};
-ghost use Rattle.session_core.specs.TableUpdates.{Changes, TakesNeed, Updates};
+ghost use Rattle.volume_edits.specs.TableUpdates.{Changes, TakesNeed};
+ghost use Rattle.session_core.specs.Performed.{Updates};
 
 use super::Done;
 use ex_base::{Oid, PortFault, Volume};

@@ -6,7 +6,8 @@ ghost use Rattle.file_index.specs.Taking.{OnlyTakes};
 ghost use Rattle.file_index.specs.Touches.{TouchesAtMost};
 ghost use Rattle.file_rooms.specs.Rooms.{ChangesOne};
 ghost use Rattle.session_core.specs.Performed.{copies};
-ghost use Rattle.session_core.specs.TableUpdates.{TakesNeed, Updates};
+ghost use Rattle.volume_edits.specs.TableUpdates.{TakesNeed};
+ghost use Rattle.session_core.specs.Performed.{Updates};
 
 use super::Done;
 use super::creating::count_number;

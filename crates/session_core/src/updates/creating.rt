@@ -12,7 +12,8 @@ ghost use Rattle.object_files.specs.Edits.{IsCatalogPage};
 ghost use Rattle.object_files.specs.Reads.{catalog_on};
 ghost use Rattle.volume_edits.specs.Edits.{WritesCatalog, catalog_numbered};
 ghost use Rattle.file_rooms.specs.Rooms.{ChangesOne};
-ghost use Rattle.session_core.specs.TableUpdates.{Makes, TakesNeed, Updates};
+ghost use Rattle.volume_edits.specs.TableUpdates.{Makes, TakesNeed};
+ghost use Rattle.session_core.specs.Performed.{Updates};
 
 use super::Done;
 use ex_base::{PageNo, PortFault, Seen, Volume};

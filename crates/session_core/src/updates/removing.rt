@@ -3,7 +3,8 @@ ghost use Rattle.std.specs.Prelude.{◌≡◌, IfOk, OnOk};
 ghost use Rattle.ex_base.specs.Ports.{HasCause};
 ghost use Rattle.file_index.specs.Touches.{TouchesAtMost};
 ghost use Rattle.file_rooms.specs.Rooms.{ChangesOne};
-ghost use Rattle.session_core.specs.TableUpdates.{Drops, Removes, TakesNeed, Updates};
+ghost use Rattle.volume_edits.specs.TableUpdates.{Drops, Removes, TakesNeed};
+ghost use Rattle.session_core.specs.Performed.{Updates};
 
 use super::Done;
 use ex_base::{Oid, PortFault, Volume};

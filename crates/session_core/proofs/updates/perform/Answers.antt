@@ -2,7 +2,7 @@ use Rattle.std.proofs.Common.{sym, subst}
 use Rattle.std.specs.Prelude.{OnOk}
 use Rattle.session_core.specs.declared.updates.ObjectUpdate.{ObjectUpdate}
 use Rattle.session_core.specs.Performed.{IsUpdate}
-use Rattle.session_core.specs.TableUpdates.{TableUpdate, TakesNeed}
+use Rattle.volume_edits.specs.TableUpdates.{TableUpdate, TakesNeed}
 use Rattle.session_core.proofs.updates.perform.Goals as goal
 
 pub returns-in-Create-clause-takes : goal.returns-in-Create-clause-takes

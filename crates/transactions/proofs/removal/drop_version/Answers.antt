@@ -3,7 +3,7 @@ use Rattle.table_model.specs.Machines.{shown}
 use Rattle.table_model.specs.Requests.{reference_of}
 use Rattle.table_model.specs.Requests as request
 use Rattle.session_core.specs.Finding.{IfShown}
-use Rattle.session_core.specs.TableUpdates.{AsksDrop}
+use Rattle.volume_edits.specs.TableUpdates.{AsksDrop}
 use Rattle.session_core.proofs.Refusing.{closed_refused}
 use Rattle.transactions.specs.Editing.{room_refusal}
 use Rattle.transactions.specs.Lines.{Answered}

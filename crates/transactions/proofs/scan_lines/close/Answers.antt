@@ -11,4 +11,4 @@ returns-in_default-clause-line g c = close_refused c.args.name.now c.scan_index.
 pub returns-in-Ok-close_scan-clause-line : goal.returns-in-Ok-close_scan-clause-line
 returns-in-Ok-close_scan-clause-line g c =
     subst (λ (name : List ℕ). ScansLine (g.H.World.outside c.args.host.now) (g.H.World.outside c.close_scan.new.host) c.args.session.now c.close_scan.new.self (request.Close c.args.name.now) (Ok (reply.Close name))) (sym c.in-Ok.ensures)
-    (close_done c.args.name.now c.in-Some.index c.requires.form c.scan_index.ensures.session (sym c.scan_index.ensures.value ∙ c.in-Some.is) c.close_scan.ensures.only c.in-Ok-close_scan.ensures.closed c.in-Ok-close_scan.ensures.shown)
+    (close_done c.args.name.now c.in-Some.index c.requires.form c.scan_index.ensures.session (sym c.scan_index.ensures.value ∙ c.in-Some.is) c.close_scan.ensures.only c.close_scan.ensures.gives c.in-Ok-close_scan.ensures.closed c.in-Ok-close_scan.ensures.shown)

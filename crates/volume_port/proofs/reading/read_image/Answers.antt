@@ -30,11 +30,11 @@ pub returns-clause-home : goal.returns-clause-home
 returns-clause-home g c = λ none lends held holds.
     let disk = (g.D.World.outside c.args.disk.now).disk in
     let size = at_index (λ (f : Frames). f.page_size ≡ c.args.meta.now.geometry.page_size) c.args.groups.now c.args.index c.at.result.now c.at.ensures.value c.requires.index c.requires.sizes in
-    c.in_ok-fill.ensures
+    c.in_ok-fill.ensures.filled
     ∙ c.in_ok-image.ensures.home none (at_index (Lends disk) c.args.groups.now c.args.index c.at.result.now c.at.ensures.value c.requires.index lends) held holds
     ∙ ap (λ (n : ℕ). page_of held n c.args.page.0) size
 
 pub returns-clause-len : goal.returns-clause-len
 returns-clause-len g c =
-    ap (λ (bytes : List ℕ). length bytes) c.in_ok-fill.ensures ∙ c.in_ok-image.ensures.len
+    ap (λ (bytes : List ℕ). length bytes) c.in_ok-fill.ensures.filled ∙ c.in_ok-image.ensures.len
     ∙ at_index (λ (f : Frames). f.page_size ≡ c.args.meta.now.geometry.page_size) c.args.groups.now c.args.index c.at.result.now c.at.ensures.value c.requires.index c.requires.sizes

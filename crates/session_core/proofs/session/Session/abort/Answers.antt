@@ -17,11 +17,11 @@ use Rattle.session_core.proofs.Sessions.{after_abort, seen}
 use Rattle.session_core.proofs.Stopping.{quietly}
 use Rattle.session_core.proofs.session.Session.abort.Goals as goal
 
-pub returns-then-not-self-clause-steps : goal.returns-then-not-self-clause-steps
-returns-then-not-self-clause-steps g c =
+pub returns-then-not-is_open-clause-steps : goal.returns-then-not-is_open-clause-steps
+returns-then-not-is_open-clause-steps g c =
     let is = seen c.self.view_is c.self.invariant in
     quietly request.Abort _ (g.H.World.is_world c.args.host.now) is
-    (no_open_txn c.args.self.now request.Abort is (ap (λ (s : SessionState). s.opened) (sym c.self.view_is) ∙ c.if-not-self.true) (λ m q closed. closed_refused m _ closed))
+    (no_open_txn c.args.self.now request.Abort is (ap (λ (s : SessionState). s.opened) (sym c.self.view_is) ∙ sym c.is_open.ensures ∙ c.if-not-is_open.true) (λ m q closed. closed_refused m _ closed))
 
 pub returns-in-Err-clause-steps : goal.returns-in-Err-clause-steps
 returns-in-Err-clause-steps g c =
@@ -57,9 +57,9 @@ returns-clause-steps g c =
     let groups = c.release_roots.new.groups in
     let gave : GaveUp a b s s.groups s.gained given groups = gave_up s c.deref.result.now s.gained given groups c.deref.ensures.value c.release_roots.ensures.gives c.release_roots.ensures.refs c.in_default.ensures.released in
     let room = subst (λ (t : SessionState). volume_bytes t.geometry ≤ a.size) (sym c.self.view_is) c.requires.room in
-    let new : SessionState = record s { meta = c.undo.new.self; pages = c.take_back.new.pages; units = c.take_back.new.units; groups = groups; notes = c.clear.new.self.items; gained = c.clear-2.new.self.items; lost = c.clear-3.new.self.items; names = c.unbind_marked.new.self; opened = false } in
+    let new : SessionState = record s { meta = c.undo.new.self; pages = c.take_back.new.pages; units = c.take_back.new.units; groups = groups; notes = c.clear.new.self.items; gained = c.clear-2.new.self.items; lost = c.clear-3.new.self.items; names = c.unbind_marked.new.self; opened = false; down = false } in
     subst (λ (t : SessionState). Steps a b t new request.Abort (Ok reply.Abort)) c.self.view_is
-    (abort_done s (g.H.World.is_world c.args.host.now) c.self.invariant room new given groups c.take_back.new.pages c.take_back.new.units c.if-not-self.false gave c.take_back.ensures
+    (abort_done s (g.H.World.is_world c.args.host.now) c.self.invariant room new given groups c.take_back.new.pages c.take_back.new.units (sym c.is_open.ensures ∙ c.if-not-is_open.false) gave c.take_back.ensures
     (aborted_as s c.undo.new.self c.take_back.new.pages c.take_back.new.units groups c.clear.new.self.items c.clear-2.new.self.items c.clear-3.new.self.items c.unbind_marked.new.self c.undo.ensures c.clear.ensures.items c.clear-2.ensures.items c.clear-3.ensures.items c.unbind_marked.ensures))
 
 pub returns-clause-exact : goal.returns-clause-exact
@@ -71,7 +71,7 @@ returns-clause-exact g c before from now opened =
     let groups = c.release_roots.new.groups in
     let gave : GaveUp a b s s.groups s.gained given groups = gave_up s c.deref.result.now s.gained given groups c.deref.ensures.value c.release_roots.ensures.gives c.release_roots.ensures.refs c.in_default.ensures.released in
     let room = subst (λ (t : SessionState). volume_bytes t.geometry ≤ a.size) (sym c.self.view_is) c.requires.room in
-    abort_left s (g.H.World.is_world c.args.host.now) c.self.invariant room given groups c.take_back.new.pages c.take_back.new.units c.if-not-self.false gave c.take_back.ensures before (from ∙ sym c.self.view_is) now
+    abort_left s (g.H.World.is_world c.args.host.now) c.self.invariant room given groups c.take_back.new.pages c.take_back.new.units (sym c.is_open.ensures ∙ c.if-not-is_open.false) gave c.take_back.ensures before (from ∙ sym c.self.view_is) now
 
 pub returns-clause-idle : goal.returns-clause-idle
 returns-clause-idle g c same =

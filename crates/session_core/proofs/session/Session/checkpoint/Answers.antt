@@ -11,22 +11,22 @@ use Rattle.session_core.proofs.Writing.{checkpoint_failed, checkpoint_done}
 use Rattle.session_core.proofs.session.Session.checkpoint.Goals as goal
 use Rattle.ex_base.proofs.Results.{if_no_error}
 
-pub returns-then-self-clause-steps : goal.returns-then-self-clause-steps
-returns-then-self-clause-steps g c =
+pub returns-then-is_open-clause-steps : goal.returns-then-is_open-clause-steps
+returns-then-is_open-clause-steps g c =
     quietly request.Checkpoint _ (g.H.World.is_world c.args.host.now) (seen c.self.view_is c.self.invariant)
     (refused_at_once c.args.self.now request.Checkpoint refusal.TxnOpen (seen c.self.view_is c.self.invariant)
-    (λ before from now q. checkpoint_refused before q now.shows.shared.open_txn (ap (λ (s : SessionState). s.opened) (from ∙ sym c.self.view_is) ∙ c.if-self.true)))
+    (λ before from now q. checkpoint_refused before q now.shows.shared.open_txn (ap (λ (s : SessionState). s.opened) (from ∙ sym c.self.view_is) ∙ sym c.is_open.ensures ∙ c.if-is_open.true)))
 
 pub returns-then-is_err-clause-steps : goal.returns-then-is_err-clause-steps
 returns-then-is_err-clause-steps g c =
     let done = c.checkpoint.ensures in
     checkpoint_failed (session.the_view c.self.inside) c.args.self.now _ c.checkpoint.new.log c.checkpoint.new.meta c.checkpoint.new.groups c.self.view_is
-    (record { only = done.only; session = c.self.invariant; closed = c.if-self.false; moments = done.any_moment; working = done.working; lends = done.lends; sizes = done.sizes })
+    (record { only = done.only; session = c.self.invariant; closed = (sym c.is_open.ensures ∙ c.if-is_open.false); moments = done.any_moment; working = done.working; lends = done.lends; sizes = done.sizes })
     (if_error c.checkpoint.result (sym c.if-is_err.ensures.value) done.cause) refl
 
 pub returns-clause-steps : goal.returns-clause-steps
 returns-clause-steps g c =
     let done = c.checkpoint.ensures in
     checkpoint_done (session.the_view c.self.inside) c.args.self.now _ c.checkpoint.new.log c.checkpoint.new.meta c.checkpoint.new.groups c.self.view_is
-    (record { only = done.only; session = c.self.invariant; closed = c.if-self.false; moments = done.any_moment; working = done.working; lends = done.lends; sizes = done.sizes })
+    (record { only = done.only; session = c.self.invariant; closed = (sym c.is_open.ensures ∙ c.if-is_open.false); moments = done.any_moment; working = done.working; lends = done.lends; sizes = done.sizes })
     (if_no_error c.checkpoint.result (sym c.if-is_err.ensures.value) done.done) refl

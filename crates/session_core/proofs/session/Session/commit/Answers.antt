@@ -34,10 +34,10 @@ use Rattle.session_core.proofs.Tracking.{gone_put}
 use Rattle.session_core.proofs.Writing.{WasKept, WasMade, closed_as, commit_done, commit_left, commit_logged, commit_stopped, commits_at, frames_at, gave_at, lost_stopped, memory_fault, moments_at, own_at, settled_at}
 use Rattle.session_core.proofs.session.Session.commit.Goals as goal
 
-pub returns-then-not-self-clause-steps : goal.returns-then-not-self-clause-steps
-returns-then-not-self-clause-steps g c =
+pub returns-then-not-is_open-clause-steps : goal.returns-then-not-is_open-clause-steps
+returns-then-not-is_open-clause-steps g c =
     quietly request.Commit _ (g.H.World.is_world c.args.host.now) (seen c.self.view_is c.self.invariant)
-    (no_open_txn c.args.self.now request.Commit (seen c.self.view_is c.self.invariant) (ap (λ (s : SessionState). s.opened) (sym c.self.view_is) ∙ c.if-not-self.true) (λ m q closed. closed_refused m _ closed))
+    (no_open_txn c.args.self.now request.Commit (seen c.self.view_is c.self.invariant) (ap (λ (s : SessionState). s.opened) (sym c.self.view_is) ∙ sym c.is_open.ensures ∙ c.if-not-is_open.true) (λ m q closed. closed_refused m _ closed))
 
 pub returns-in-Err-clause-steps : goal.returns-in-Err-clause-steps
 returns-in-Err-clause-steps g c =
@@ -45,18 +45,15 @@ returns-in-Err-clause-steps g c =
     quietly request.Commit _ (g.H.World.is_world c.args.host.now) (seen c.self.view_is c.self.invariant)
     (quiet_stop request.Commit c.in-Err.stop only.reads (ap (λ (s : SessionState). s.geometry) only.same) (ap (λ (s : SessionState). s.log) only.same) (ap (λ (s : SessionState). s.down) only.same) c.in-Err.ensures.stops)
 
-pub returns-then-not-has_next-clause-steps : goal.returns-then-not-has_next-clause-steps
-returns-then-not-has_next-clause-steps g c =
+pub returns-in_default-clause-steps : goal.returns-in_default-clause-steps
+returns-in_default-clause-steps g c =
     commit_spent c.args.self.now c.catalog.new.self c.in-Ok.page.items _ _ _ (g.H.World.is_world c.args.host.now) (seen c.self.view_is c.self.invariant) c.catalog.ensures.frames
-    (ap (λ (t : SessionState). t.opened) (sym c.self.view_is) ∙ c.if-not-self.false) (record { catalog = c.in-Ok.ensures.catalog; read = c.in-Ok.ensures.read })
-    (ap (λ (l : List ℕ). (catalog_on l).last) (sym c.deref.ensures.value) ∙ c.has_next.ensures.no c.if-not-has_next.true) (λ same. absurd (kinds_differ _ _ refl refl (ap (λ (s : Seen). s.kind) same)))
+    (ap (λ (t : SessionState). t.opened) (sym c.self.view_is) ∙ (sym c.is_open.ensures ∙ c.if-not-is_open.false)) (record { catalog = c.in-Ok.ensures.catalog; read = c.in-Ok.ensures.read })
+    (c.number_next.ensures.none c.in_default.is) (λ same. absurd (kinds_differ _ _ refl refl (ap (λ (s : Seen). s.kind) same)))
 
 pub invariant_of-self : goal.invariant_of-self
 invariant_of-self g c =
     let s = c.args.self.now in
-    let a = g.H.World.outside c.args.host.now in
-    let i = g.H.World.outside c.catalog.new.disk in
-    let m = g.H.World.outside c.release_roots.new.disk in
     let mid = c.catalog.new.self in
     let two = session.the_view c.self-2.inside in
     let only = c.catalog.ensures.frames in
@@ -68,18 +65,14 @@ invariant_of-self g c =
 pub returns-in-Err-release_roots-clause-steps : goal.returns-in-Err-release_roots-clause-steps
 returns-in-Err-release_roots-clause-steps g c =
     let s = c.args.self.now in
-    let a = g.H.World.outside c.args.host.now in
     let i = g.H.World.outside c.catalog.new.disk in
-    let m = g.H.World.outside c.release_roots.new.disk in
     let mid = c.catalog.new.self in
     let two = session.the_view c.self-2.inside in
     let only = c.catalog.ensures.frames in
-    let given = c.release_roots.new.units in
-    let groups = c.release_roots.new.groups in
     lost_stopped s _ mid.groups c.in-Err-release_roots.fault c.stopped.result c.stopped.ensures (g.H.World.is_world c.args.host.now) (seen c.self.view_is c.self.invariant) only.reads only.lends c.release_roots.ensures.gives.only
     c.in-Err-release_roots.ensures.cause
     (λ damage own. c.in-Err-release_roots.ensures.sound damage
-    (subst (λ (roots : List Root). OwnRoots two.pages two.kept two.geometry i two.groups two.units roots) (sym c.deref-2.ensures.value) (own_at s mid two only.same c.self-2.view_is own)))
+    (subst (λ (roots : List Root). OwnRoots two.pages two.kept two.geometry i two.groups two.units roots) (sym c.deref.ensures.value) (own_at s mid two only.same c.self-2.view_is own)))
     (ap (λ (t : SessionState). t.geometry) (c.self-2.view_is ∙ only.same)) (ap (λ (t : SessionState). t.down) (c.self-2.view_is ∙ only.same))
 
 pub returns-in-Err-release_roots-clause-unwritten : goal.returns-in-Err-release_roots-clause-unwritten
@@ -90,9 +83,6 @@ returns-in-Err-release_roots-clause-unwritten g c _ =
 pub invariant_of-self-then-is_err : goal.invariant_of-self-then-is_err
 invariant_of-self-then-is_err g c =
     let s = c.args.self.now in
-    let a = g.H.World.outside c.args.host.now in
-    let i = g.H.World.outside c.catalog.new.disk in
-    let m = g.H.World.outside c.release_roots.new.disk in
     let mid = c.catalog.new.self in
     let two = session.the_view c.self-2.inside in
     let only = c.catalog.ensures.frames in
@@ -103,44 +93,23 @@ invariant_of-self-then-is_err g c =
 
 pub returns-then-is_err-clause-steps : goal.returns-then-is_err-clause-steps
 returns-then-is_err-clause-steps g c =
-    let s = c.args.self.now in
-    let a = g.H.World.outside c.args.host.now in
-    let i = g.H.World.outside c.catalog.new.disk in
-    let m = g.H.World.outside c.release_roots.new.disk in
-    let mid = c.catalog.new.self in
-    let two = session.the_view c.self-2.inside in
     let only = c.catalog.ensures.frames in
-    let given = c.release_roots.new.units in
-    let groups = c.release_roots.new.groups in
     quietly request.Commit _ (g.H.World.is_world c.args.host.now) (seen c.self.view_is c.self.invariant)
     (quiet_stop request.Commit stop.Memory (reads_trans only.reads c.release_roots.ensures.gives.only) (ap (λ (t : SessionState). t.geometry) (c.self-2.view_is ∙ only.same)) (ap (λ (t : SessionState). t.log) (c.self-2.view_is ∙ only.same)) (ap (λ (t : SessionState). t.down) (c.self-2.view_is ∙ only.same)) tt)
 
 pub returns-then-is_err-clause-unwritten : goal.returns-then-is_err-clause-unwritten
 returns-then-is_err-clause-unwritten g c _ =
-    let s = c.args.self.now in
-    let a = g.H.World.outside c.args.host.now in
-    let i = g.H.World.outside c.catalog.new.disk in
-    let m = g.H.World.outside c.release_roots.new.disk in
-    let mid = c.catalog.new.self in
-    let two = session.the_view c.self-2.inside in
     let only = c.catalog.ensures.frames in
-    let given = c.release_roots.new.units in
-    let groups = c.release_roots.new.groups in
     (reads_trans only.reads c.release_roots.ensures.gives.only, ap (λ (t : SessionState). t.log) (c.self-2.view_is ∙ only.same))
 
 pub commit-requires-clause-room : goal.commit-requires-clause-room
 commit-requires-clause-room g c =
     let s = c.args.self.now in
-    let a = g.H.World.outside c.args.host.now in
     let i = g.H.World.outside c.catalog.new.disk in
-    let m = g.H.World.outside c.release_roots.new.disk in
     let mid = c.catalog.new.self in
     let two = session.the_view c.self-2.inside in
     let only = c.catalog.ensures.frames in
-    let given = c.release_roots.new.units in
-    let groups = c.release_roots.new.groups in
-    let image = c.number_next-number.new.page.items in
-    let edited = (if_no_error c.edit.result (sym c.if-is_err.ensures.value) c.edit.ensures.ok ∙ ap (λ (l : List ℕ). numbered_pages two.meta l) c.deref-3.ensures.value) in
+    let edited = (if_no_error c.edit.result (sym c.if-is_err.ensures.value) c.edit.ensures.ok ∙ ap (λ (l : List ℕ). numbered_pages two.meta l) c.deref-2.ensures.value) in
     let room = room_read s mid two only.same c.self-2.view_is only.reads c.requires.room in
     subst (λ (n : ℕ). volume_bytes c.edit.new.self.geometry ≤ n) (sym c.release_roots.ensures.gives.only.nothing.only.goes.size)
     (subst (λ (h : Geometry). volume_bytes h ≤ i.size) (sym (ap (λ (o : Overlays). o.geometry) edited ∙ c.self-2.invariant.meta)) room)
@@ -148,87 +117,71 @@ commit-requires-clause-room g c =
 pub commit-requires-clause-sizes : goal.commit-requires-clause-sizes
 commit-requires-clause-sizes g c =
     let s = c.args.self.now in
-    let a = g.H.World.outside c.args.host.now in
-    let i = g.H.World.outside c.catalog.new.disk in
-    let m = g.H.World.outside c.release_roots.new.disk in
     let mid = c.catalog.new.self in
     let two = session.the_view c.self-2.inside in
     let only = c.catalog.ensures.frames in
     let given = c.release_roots.new.units in
     let groups = c.release_roots.new.groups in
     let is_given = given_session two given groups c.self-2.invariant (room_read s mid two only.same c.self-2.view_is only.reads c.requires.room) c.release_roots.ensures.gives in
-    let image = c.number_next-number.new.page.items in
-    let edited = (if_no_error c.edit.result (sym c.if-is_err.ensures.value) c.edit.ensures.ok ∙ ap (λ (l : List ℕ). numbered_pages two.meta l) c.deref-3.ensures.value) in
+    let edited = (if_no_error c.edit.result (sym c.if-is_err.ensures.value) c.edit.ensures.ok ∙ ap (λ (l : List ℕ). numbered_pages two.meta l) c.deref-2.ensures.value) in
     subst (λ (h : Geometry). All (λ (f : Frames). f.page_size ≡ h.page_size) groups) (sym (ap (λ (o : Overlays). o.geometry) edited ∙ c.self-2.invariant.meta)) is_given.sizes
 
 pub commit-requires-clause-logged : goal.commit-requires-clause-logged
 commit-requires-clause-logged g c =
     let s = c.args.self.now in
-    let a = g.H.World.outside c.args.host.now in
-    let i = g.H.World.outside c.catalog.new.disk in
-    let m = g.H.World.outside c.release_roots.new.disk in
     let mid = c.catalog.new.self in
     let two = session.the_view c.self-2.inside in
     let only = c.catalog.ensures.frames in
     let given = c.release_roots.new.units in
     let groups = c.release_roots.new.groups in
     let is_given = given_session two given groups c.self-2.invariant (room_read s mid two only.same c.self-2.view_is only.reads c.requires.room) c.release_roots.ensures.gives in
-    let image = c.number_next-number.new.page.items in
-    let edited = (if_no_error c.edit.result (sym c.if-is_err.ensures.value) c.edit.ensures.ok ∙ ap (λ (l : List ℕ). numbered_pages two.meta l) c.deref-3.ensures.value) in
-    let opened = ap (λ (t : SessionState). t.opened) (sym c.self.view_is) ∙ c.if-not-self.false in
+    let image = c.number_next.new.page.items in
+    let edited = (if_no_error c.edit.result (sym c.if-is_err.ensures.value) c.edit.ensures.ok ∙ ap (λ (l : List ℕ). numbered_pages two.meta l) c.deref-2.ensures.value) in
+    let opened = ap (λ (t : SessionState). t.opened) (sym c.self.view_is) ∙ (sym c.is_open.ensures ∙ c.if-not-is_open.false) in
     let is_ready = ready (record two { units = given; groups = groups }) c.edit.new.self image is_given (ap (λ (t : SessionState). t.opened) (c.self-2.view_is ∙ only.same) ∙ opened) edited in
     is_ready.logged
 
 pub commit-requires-clause-few_pages : goal.commit-requires-clause-few_pages
 commit-requires-clause-few_pages g c =
     let s = c.args.self.now in
-    let a = g.H.World.outside c.args.host.now in
-    let i = g.H.World.outside c.catalog.new.disk in
-    let m = g.H.World.outside c.release_roots.new.disk in
     let mid = c.catalog.new.self in
     let two = session.the_view c.self-2.inside in
     let only = c.catalog.ensures.frames in
     let given = c.release_roots.new.units in
     let groups = c.release_roots.new.groups in
     let is_given = given_session two given groups c.self-2.invariant (room_read s mid two only.same c.self-2.view_is only.reads c.requires.room) c.release_roots.ensures.gives in
-    let image = c.number_next-number.new.page.items in
-    let edited = (if_no_error c.edit.result (sym c.if-is_err.ensures.value) c.edit.ensures.ok ∙ ap (λ (l : List ℕ). numbered_pages two.meta l) c.deref-3.ensures.value) in
-    let opened = ap (λ (t : SessionState). t.opened) (sym c.self.view_is) ∙ c.if-not-self.false in
+    let image = c.number_next.new.page.items in
+    let edited = (if_no_error c.edit.result (sym c.if-is_err.ensures.value) c.edit.ensures.ok ∙ ap (λ (l : List ℕ). numbered_pages two.meta l) c.deref-2.ensures.value) in
+    let opened = ap (λ (t : SessionState). t.opened) (sym c.self.view_is) ∙ (sym c.is_open.ensures ∙ c.if-not-is_open.false) in
     let is_ready = ready (record two { units = given; groups = groups }) c.edit.new.self image is_given (ap (λ (t : SessionState). t.opened) (c.self-2.view_is ∙ only.same) ∙ opened) edited in
     is_ready.few_pages
 
 pub commit-requires-clause-catalog : goal.commit-requires-clause-catalog
 commit-requires-clause-catalog g c =
     let s = c.args.self.now in
-    let a = g.H.World.outside c.args.host.now in
-    let i = g.H.World.outside c.catalog.new.disk in
-    let m = g.H.World.outside c.release_roots.new.disk in
     let mid = c.catalog.new.self in
     let two = session.the_view c.self-2.inside in
     let only = c.catalog.ensures.frames in
     let given = c.release_roots.new.units in
     let groups = c.release_roots.new.groups in
     let is_given = given_session two given groups c.self-2.invariant (room_read s mid two only.same c.self-2.view_is only.reads c.requires.room) c.release_roots.ensures.gives in
-    let image = c.number_next-number.new.page.items in
-    let edited = (if_no_error c.edit.result (sym c.if-is_err.ensures.value) c.edit.ensures.ok ∙ ap (λ (l : List ℕ). numbered_pages two.meta l) c.deref-3.ensures.value) in
-    let opened = ap (λ (t : SessionState). t.opened) (sym c.self.view_is) ∙ c.if-not-self.false in
+    let image = c.number_next.new.page.items in
+    let edited = (if_no_error c.edit.result (sym c.if-is_err.ensures.value) c.edit.ensures.ok ∙ ap (λ (l : List ℕ). numbered_pages two.meta l) c.deref-2.ensures.value) in
+    let opened = ap (λ (t : SessionState). t.opened) (sym c.self.view_is) ∙ (sym c.is_open.ensures ∙ c.if-not-is_open.false) in
     let is_ready = ready (record two { units = given; groups = groups }) c.edit.new.self image is_given (ap (λ (t : SessionState). t.opened) (c.self-2.view_is ∙ only.same) ∙ opened) edited in
     is_ready.catalog
 
 pub invariant_of-self-in-Err-commit : goal.invariant_of-self-in-Err-commit
 invariant_of-self-in-Err-commit g c =
     let s = c.args.self.now in
-    let a = g.H.World.outside c.args.host.now in
-    let i = g.H.World.outside c.catalog.new.disk in
-    let m = g.H.World.outside c.release_roots.new.disk in
     let mid = c.catalog.new.self in
     let two = session.the_view c.self-2.inside in
     let only = c.catalog.ensures.frames in
     let given = c.release_roots.new.units in
     let groups = c.release_roots.new.groups in
     let is_given = given_session two given groups c.self-2.invariant (room_read s mid two only.same c.self-2.view_is only.reads c.requires.room) c.release_roots.ensures.gives in
-    let image = c.number_next-number.new.page.items in
-    let edited = (if_no_error c.edit.result (sym c.if-is_err.ensures.value) c.edit.ensures.ok ∙ ap (λ (l : List ℕ). numbered_pages two.meta l) c.deref-3.ensures.value) in
+    let image = c.number_next.new.page.items in
+    let edited = (if_no_error c.edit.result (sym c.if-is_err.ensures.value) c.edit.ensures.ok ∙ ap (λ (l : List ℕ). numbered_pages two.meta l) c.deref-2.ensures.value) in
     after_commit (record two { units = given; groups = groups }) c.edit.new.self image c.commit.new.log c.undo.new.self c.commit.new.groups c.settle.new.kept c.settle.new.units c.self-2.inside.notes.items c.clear.new.self.items c.clear-2.new.self.items _ is_given edited
     (record {
       edit = ap (λ (o : Overlays). o.geometry) edited;
@@ -247,41 +200,31 @@ pub returns-in-Err-commit-clause-steps : goal.returns-in-Err-commit-clause-steps
 returns-in-Err-commit-clause-steps g c =
     let s = c.args.self.now in
     let a = g.H.World.outside c.args.host.now in
-    let i = g.H.World.outside c.catalog.new.disk in
     let m = g.H.World.outside c.release_roots.new.disk in
     let mid = c.catalog.new.self in
     let two = session.the_view c.self-2.inside in
     let only = c.catalog.ensures.frames in
-    let given = c.release_roots.new.units in
-    let groups = c.release_roots.new.groups in
-    let image = c.number_next-number.new.page.items in
-    let edited = (if_no_error c.edit.result (sym c.if-is_err.ensures.value) c.edit.ensures.ok ∙ ap (λ (l : List ℕ). numbered_pages two.meta l) c.deref-3.ensures.value) in
-    let opened = ap (λ (t : SessionState). t.opened) (sym c.self.view_is) ∙ c.if-not-self.false in
+    let image = c.number_next.new.page.items in
+    let edited = (if_no_error c.edit.result (sym c.if-is_err.ensures.value) c.edit.ensures.ok ∙ ap (λ (l : List ℕ). numbered_pages two.meta l) c.deref-2.ensures.value) in
+    let opened = ap (λ (t : SessionState). t.opened) (sym c.self.view_is) ∙ (sym c.is_open.ensures ∙ c.if-not-is_open.false) in
     let b = g.H.World.outside c.commit.new.disk in
-    let kept : WasKept a m b s c.in-Ok.page.items image c.number_next-number.result = record {
+    let kept : WasKept a m b s c.in-Ok.page.items image c.in-Some.number = record {
       reads = reads_trans only.reads c.release_roots.ensures.gives.only;
       only = c.commit.ensures.only;
       session = seen c.self.view_is c.self.invariant;
       opened = opened;
       read = record { catalog = c.in-Ok.ensures.catalog; read = c.in-Ok.ensures.read };
-      image_is = c.number_next-number.ensures.numbered;
-      number_is = c.number_next-number.ensures.number;
-      moments = moments_at m b s mid two c.edit.new.self image c.number_next-number.result only.same c.self-2.view_is edited c.commit.ensures.any_moment;
+      image_is = c.in-Some.ensures.numbered;
+      number_is = c.in-Some.ensures.number;
+      moments = moments_at m b s mid two c.edit.new.self image c.in-Some.number only.same c.self-2.view_is edited c.commit.ensures.any_moment;
     } in
-    commit_stopped s _ c.in-Ok.page.items image c.number_next-number.result c.in-Err-commit.fault c.uncommitted.result c.uncommitted.ensures (g.H.World.is_world c.args.host.now) kept
-    (λ is. c.commit.ensures.disk (c.in-Err-commit.is ∙ ap (λ (f : CommitFault). Err f) is)) (ap (λ (t : SessionState). t.geometry) (c.self-2.view_is ∙ only.same)) (ap (λ (t : SessionState). t.down) (c.self-2.view_is ∙ only.same))
+    commit_stopped s _ c.in-Ok.page.items image c.in-Some.number c.in-Err-commit.fault c.uncommitted.result c.uncommitted.ensures (g.H.World.is_world c.args.host.now) kept
+    (λ is. c.commit.ensures.disk (c.in-Err-commit.is ∙ ap (λ (f : CommitFault). Err f) is)) (ap (λ (t : SessionState). t.geometry) (c.self-2.view_is ∙ only.same)) (sym ((seen c.self.view_is c.self.invariant).up opened))
 
 pub returns-in-Err-commit-clause-unwritten : goal.returns-in-Err-commit-clause-unwritten
 returns-in-Err-commit-clause-unwritten g c is =
-    let s = c.args.self.now in
     let a = g.H.World.outside c.args.host.now in
-    let i = g.H.World.outside c.catalog.new.disk in
-    let m = g.H.World.outside c.release_roots.new.disk in
-    let mid = c.catalog.new.self in
-    let two = session.the_view c.self-2.inside in
     let only = c.catalog.ensures.frames in
-    let given = c.release_roots.new.units in
-    let groups = c.release_roots.new.groups in
     let told : c.uncommitted.result ≡ stop.Memory = cc (is) in
     let none = c.in-Err-commit.is ∙ ap (λ (f : CommitFault). Err f) (memory_fault c.in-Err-commit.fault (sym c.uncommitted.ensures ∙ told)) in (
       subst (λ (w : Outside). ReadsOnly a w) (sym (ap (λ h. g.H.World.outside h) (c.commit.ensures.memory none))) (reads_trans only.reads c.release_roots.ensures.gives.only),
@@ -291,17 +234,14 @@ returns-in-Err-commit-clause-unwritten g c is =
 pub invariant_of-self-2 : goal.invariant_of-self-2
 invariant_of-self-2 g c =
     let s = c.args.self.now in
-    let a = g.H.World.outside c.args.host.now in
-    let i = g.H.World.outside c.catalog.new.disk in
-    let m = g.H.World.outside c.release_roots.new.disk in
     let mid = c.catalog.new.self in
     let two = session.the_view c.self-2.inside in
     let only = c.catalog.ensures.frames in
     let given = c.release_roots.new.units in
     let groups = c.release_roots.new.groups in
     let is_given = given_session two given groups c.self-2.invariant (room_read s mid two only.same c.self-2.view_is only.reads c.requires.room) c.release_roots.ensures.gives in
-    let image = c.number_next-number.new.page.items in
-    let edited = (if_no_error c.edit.result (sym c.if-is_err.ensures.value) c.edit.ensures.ok ∙ ap (λ (l : List ℕ). numbered_pages two.meta l) c.deref-3.ensures.value) in
+    let image = c.number_next.new.page.items in
+    let edited = (if_no_error c.edit.result (sym c.if-is_err.ensures.value) c.edit.ensures.ok ∙ ap (λ (l : List ℕ). numbered_pages two.meta l) c.deref-2.ensures.value) in
     after_commit (record two { units = given; groups = groups }) c.edit.new.self image c.commit.new.log c.commit.new.meta c.commit.new.groups c.settle.new.kept c.settle.new.units c.clear-3.new.self.items c.clear.new.self.items c.clear-2.new.self.items _ is_given edited
     (record {
       edit = ap (λ (o : Overlays). o.geometry) edited;
@@ -333,57 +273,53 @@ returns-clause-steps g c =
     let given = c.release_roots.new.units in
     let groups = c.release_roots.new.groups in
     let is_given = given_session two given groups c.self-2.invariant (room_read s mid two only.same c.self-2.view_is only.reads c.requires.room) c.release_roots.ensures.gives in
-    let image = c.number_next-number.new.page.items in
-    let edited = (if_no_error c.edit.result (sym c.if-is_err.ensures.value) c.edit.ensures.ok ∙ ap (λ (l : List ℕ). numbered_pages two.meta l) c.deref-3.ensures.value) in
-    let opened = ap (λ (t : SessionState). t.opened) (sym c.self.view_is) ∙ c.if-not-self.false in
+    let image = c.number_next.new.page.items in
+    let edited = (if_no_error c.edit.result (sym c.if-is_err.ensures.value) c.edit.ensures.ok ∙ ap (λ (l : List ℕ). numbered_pages two.meta l) c.deref-2.ensures.value) in
+    let opened = ap (λ (t : SessionState). t.opened) (sym c.self.view_is) ∙ (sym c.is_open.ensures ∙ c.if-not-is_open.false) in
     let b = g.H.World.outside c.commit.new.disk in
-    let kept : WasKept a m b s c.in-Ok.page.items image c.number_next-number.result = record {
+    let kept : WasKept a m b s c.in-Ok.page.items image c.in-Some.number = record {
       reads = reads_trans only.reads c.release_roots.ensures.gives.only;
       only = c.commit.ensures.only;
       session = seen c.self.view_is c.self.invariant;
       opened = opened;
       read = record { catalog = c.in-Ok.ensures.catalog; read = c.in-Ok.ensures.read };
-      image_is = c.number_next-number.ensures.numbered;
-      number_is = c.number_next-number.ensures.number;
-      moments = moments_at m b s mid two c.edit.new.self image c.number_next-number.result only.same c.self-2.view_is edited c.commit.ensures.any_moment;
+      image_is = c.in-Some.ensures.numbered;
+      number_is = c.in-Some.ensures.number;
+      moments = moments_at m b s mid two c.edit.new.self image c.in-Some.number only.same c.self-2.view_is edited c.commit.ensures.any_moment;
     } in
     let lost : GaveLost a i m s mid.groups given groups = record {
       reads = only.reads;
       lends = only.lends;
-      gave = gave_at s mid two given groups only.same c.self-2.view_is (gave_up two c.deref-2.result.now two.lost given groups c.deref-2.ensures.value c.release_roots.ensures.gives c.release_roots.ensures.refs c.in_default.ensures.released);
+      gave = gave_at s mid two given groups only.same c.self-2.view_is (gave_up two c.deref.result.now two.lost given groups c.deref.ensures.value c.release_roots.ensures.gives c.release_roots.ensures.refs c.in_default-release_roots.ensures.released);
     } in
-    let made : WasMade a i m b s image c.number_next-number.result mid.groups groups c.commit.new.groups given c.settle.new.units c.commit.new.log c.commit.new.meta c.settle.new.kept = record {
+    let made : WasMade a i m b s image c.in-Some.number mid.groups groups c.commit.new.groups given c.settle.new.units c.commit.new.log c.commit.new.meta c.settle.new.kept = record {
       lost = lost;
       behind = is_given.behind;
-      commits = commits_at m b s mid two c.edit.new.self image c.number_next-number.result c.commit.new.log c.commit.new.meta only.same c.self-2.view_is edited
-          (subst (λ (l : List OpNote). Commits m b two.log c.edit.new.self c.number_next-number.result l c.commit.new.log c.commit.new.meta) c.deref-4.ensures.value c.in_default-commit.ensures.done);
+      commits = commits_at m b s mid two c.edit.new.self image c.in-Some.number c.commit.new.log c.commit.new.meta only.same c.self-2.view_is edited
+          (subst (λ (l : List OpNote). Commits m b two.log c.edit.new.self c.in-Some.number l c.commit.new.log c.commit.new.meta) c.deref-3.ensures.value c.in_default-commit.ensures.done);
       none = c.in_default-commit.ensures.working;
       frames = frames_at m b s mid two c.edit.new.self groups c.commit.new.groups only.same c.self-2.view_is (ap (λ (o : Overlays). o.geometry) edited) c.self-2.invariant.meta c.commit.ensures.lends c.commit.ensures.sizes;
       settled = settled_at s mid two c.edit.new.self image c.settle.new.kept given c.settle.new.units only.same c.self-2.view_is edited c.settle.ensures;
     } in
-    commit_done s c.in-Ok.page.items image c.number_next-number.result mid.groups groups c.commit.new.groups given c.settle.new.units c.commit.new.log c.commit.new.meta c.settle.new.kept (g.H.World.is_world c.args.host.now) kept made _
+    commit_done s c.in-Ok.page.items image c.in-Some.number mid.groups groups c.commit.new.groups given c.settle.new.units c.commit.new.log c.commit.new.meta c.settle.new.kept (g.H.World.is_world c.args.host.now) kept made _
     (closed_as s mid two c.commit.new.log c.commit.new.meta c.commit.new.groups c.settle.new.kept c.settle.new.units c.clear-3.new.self.items c.clear.new.self.items c.clear-2.new.self.items c.unmark.new.self only.same c.self-2.view_is c.clear-3.ensures.items c.clear.ensures.items c.clear-2.ensures.items c.unmark.ensures)
 
 pub returns-clause-freed : goal.returns-clause-freed
 returns-clause-freed g c _ page gone left unnamed =
     let s = c.args.self.now in
-    let a = g.H.World.outside c.args.host.now in
-    let i = g.H.World.outside c.catalog.new.disk in
-    let m = g.H.World.outside c.release_roots.new.disk in
     let mid = c.catalog.new.self in
     let two = session.the_view c.self-2.inside in
     let only = c.catalog.ensures.frames in
     let given = c.release_roots.new.units in
-    let groups = c.release_roots.new.groups in
-    let image = c.number_next-number.new.page.items in
-    let edited = (if_no_error c.edit.result (sym c.if-is_err.ensures.value) c.edit.ensures.ok ∙ ap (λ (l : List ℕ). numbered_pages two.meta l) c.deref-3.ensures.value) in
+    let image = c.number_next.new.page.items in
+    let edited = (if_no_error c.edit.result (sym c.if-is_err.ensures.value) c.edit.ensures.ok ∙ ap (λ (l : List ℕ). numbered_pages two.meta l) c.deref-2.ensures.value) in
     let is = seen c.self.view_is c.self.invariant in
     let settled = settled_at s mid two c.edit.new.self image c.settle.new.kept given c.settle.new.units only.same c.self-2.view_is edited c.settle.ensures in
     let fewer : refs_at given page ≤ refs_at s.units page = subst (λ (t : SessionState). refs_at given page ≤ refs_at t.units page) (c.self-2.view_is ∙ only.same) (c.release_roots.ensures.refs page) in
     settled.freed page (gone_put _ _ _ _ is.pages image page gone) left (omega (arith, fewer, unnamed))
 
-pub returns-then-not-self-clause-logs : goal.returns-then-not-self-clause-logs
-returns-then-not-self-clause-logs g c before from now opened = (let closed = ap (λ (t : SessionState). t.opened) (sym c.self.view_is) ∙ c.if-not-self.true in absurd (both_ways _ closed opened))
+pub returns-then-not-is_open-clause-logs : goal.returns-then-not-is_open-clause-logs
+returns-then-not-is_open-clause-logs g c before from now opened = (let closed = ap (λ (t : SessionState). t.opened) (sym c.self.view_is) ∙ sym c.is_open.ensures ∙ c.if-not-is_open.true in absurd (both_ways _ closed opened))
 
 pub returns-clause-logs : goal.returns-clause-logs
 returns-clause-logs g c before from now opened_there =
@@ -397,35 +333,35 @@ returns-clause-logs g c before from now opened_there =
     let given = c.release_roots.new.units in
     let groups = c.release_roots.new.groups in
     let is_given = given_session two given groups c.self-2.invariant (room_read s mid two only.same c.self-2.view_is only.reads c.requires.room) c.release_roots.ensures.gives in
-    let image = c.number_next-number.new.page.items in
-    let edited = (if_no_error c.edit.result (sym c.if-is_err.ensures.value) c.edit.ensures.ok ∙ ap (λ (l : List ℕ). numbered_pages two.meta l) c.deref-3.ensures.value) in
-    let opened = ap (λ (t : SessionState). t.opened) (sym c.self.view_is) ∙ c.if-not-self.false in
+    let image = c.number_next.new.page.items in
+    let edited = (if_no_error c.edit.result (sym c.if-is_err.ensures.value) c.edit.ensures.ok ∙ ap (λ (l : List ℕ). numbered_pages two.meta l) c.deref-2.ensures.value) in
+    let opened = ap (λ (t : SessionState). t.opened) (sym c.self.view_is) ∙ (sym c.is_open.ensures ∙ c.if-not-is_open.false) in
     let b = g.H.World.outside c.commit.new.disk in
-    let kept : WasKept a m b s c.in-Ok.page.items image c.number_next-number.result = record {
+    let kept : WasKept a m b s c.in-Ok.page.items image c.in-Some.number = record {
       reads = reads_trans only.reads c.release_roots.ensures.gives.only;
       only = c.commit.ensures.only;
       session = seen c.self.view_is c.self.invariant;
       opened = opened;
       read = record { catalog = c.in-Ok.ensures.catalog; read = c.in-Ok.ensures.read };
-      image_is = c.number_next-number.ensures.numbered;
-      number_is = c.number_next-number.ensures.number;
-      moments = moments_at m b s mid two c.edit.new.self image c.number_next-number.result only.same c.self-2.view_is edited c.commit.ensures.any_moment;
+      image_is = c.in-Some.ensures.numbered;
+      number_is = c.in-Some.ensures.number;
+      moments = moments_at m b s mid two c.edit.new.self image c.in-Some.number only.same c.self-2.view_is edited c.commit.ensures.any_moment;
     } in
     let lost : GaveLost a i m s mid.groups given groups = record {
       reads = only.reads;
       lends = only.lends;
-      gave = gave_at s mid two given groups only.same c.self-2.view_is (gave_up two c.deref-2.result.now two.lost given groups c.deref-2.ensures.value c.release_roots.ensures.gives c.release_roots.ensures.refs c.in_default.ensures.released);
+      gave = gave_at s mid two given groups only.same c.self-2.view_is (gave_up two c.deref.result.now two.lost given groups c.deref.ensures.value c.release_roots.ensures.gives c.release_roots.ensures.refs c.in_default-release_roots.ensures.released);
     } in
-    let made : WasMade a i m b s image c.number_next-number.result mid.groups groups c.commit.new.groups given c.settle.new.units c.commit.new.log c.commit.new.meta c.settle.new.kept = record {
+    let made : WasMade a i m b s image c.in-Some.number mid.groups groups c.commit.new.groups given c.settle.new.units c.commit.new.log c.commit.new.meta c.settle.new.kept = record {
       lost = lost;
       behind = is_given.behind;
-      commits = commits_at m b s mid two c.edit.new.self image c.number_next-number.result c.commit.new.log c.commit.new.meta only.same c.self-2.view_is edited
-          (subst (λ (l : List OpNote). Commits m b two.log c.edit.new.self c.number_next-number.result l c.commit.new.log c.commit.new.meta) c.deref-4.ensures.value c.in_default-commit.ensures.done);
+      commits = commits_at m b s mid two c.edit.new.self image c.in-Some.number c.commit.new.log c.commit.new.meta only.same c.self-2.view_is edited
+          (subst (λ (l : List OpNote). Commits m b two.log c.edit.new.self c.in-Some.number l c.commit.new.log c.commit.new.meta) c.deref-3.ensures.value c.in_default-commit.ensures.done);
       none = c.in_default-commit.ensures.working;
       frames = frames_at m b s mid two c.edit.new.self groups c.commit.new.groups only.same c.self-2.view_is (ap (λ (o : Overlays). o.geometry) edited) c.self-2.invariant.meta c.commit.ensures.lends c.commit.ensures.sizes;
       settled = settled_at s mid two c.edit.new.self image c.settle.new.kept given c.settle.new.units only.same c.self-2.view_is edited c.settle.ensures;
     } in
-    commit_logged s c.in-Ok.page.items image c.number_next-number.result mid.groups groups c.commit.new.groups given c.settle.new.units c.commit.new.log c.commit.new.meta c.settle.new.kept (g.H.World.is_world c.args.host.now) kept made before from now
+    commit_logged s c.in-Ok.page.items image c.in-Some.number mid.groups groups c.commit.new.groups given c.settle.new.units c.commit.new.log c.commit.new.meta c.settle.new.kept (g.H.World.is_world c.args.host.now) kept made before from now
 
 pub returns-clause-exact : goal.returns-clause-exact
 returns-clause-exact g c before from now opened_there =
@@ -439,32 +375,32 @@ returns-clause-exact g c before from now opened_there =
     let given = c.release_roots.new.units in
     let groups = c.release_roots.new.groups in
     let is_given = given_session two given groups c.self-2.invariant (room_read s mid two only.same c.self-2.view_is only.reads c.requires.room) c.release_roots.ensures.gives in
-    let image = c.number_next-number.new.page.items in
-    let edited = (if_no_error c.edit.result (sym c.if-is_err.ensures.value) c.edit.ensures.ok ∙ ap (λ (l : List ℕ). numbered_pages two.meta l) c.deref-3.ensures.value) in
-    let opened = ap (λ (t : SessionState). t.opened) (sym c.self.view_is) ∙ c.if-not-self.false in
+    let image = c.number_next.new.page.items in
+    let edited = (if_no_error c.edit.result (sym c.if-is_err.ensures.value) c.edit.ensures.ok ∙ ap (λ (l : List ℕ). numbered_pages two.meta l) c.deref-2.ensures.value) in
+    let opened = ap (λ (t : SessionState). t.opened) (sym c.self.view_is) ∙ (sym c.is_open.ensures ∙ c.if-not-is_open.false) in
     let b = g.H.World.outside c.commit.new.disk in
-    let kept : WasKept a m b s c.in-Ok.page.items image c.number_next-number.result = record {
+    let kept : WasKept a m b s c.in-Ok.page.items image c.in-Some.number = record {
       reads = reads_trans only.reads c.release_roots.ensures.gives.only;
       only = c.commit.ensures.only;
       session = seen c.self.view_is c.self.invariant;
       opened = opened;
       read = record { catalog = c.in-Ok.ensures.catalog; read = c.in-Ok.ensures.read };
-      image_is = c.number_next-number.ensures.numbered;
-      number_is = c.number_next-number.ensures.number;
-      moments = moments_at m b s mid two c.edit.new.self image c.number_next-number.result only.same c.self-2.view_is edited c.commit.ensures.any_moment;
+      image_is = c.in-Some.ensures.numbered;
+      number_is = c.in-Some.ensures.number;
+      moments = moments_at m b s mid two c.edit.new.self image c.in-Some.number only.same c.self-2.view_is edited c.commit.ensures.any_moment;
     } in
     let lost : GaveLost a i m s mid.groups given groups = record {
       reads = only.reads;
       lends = only.lends;
-      gave = gave_at s mid two given groups only.same c.self-2.view_is (gave_up two c.deref-2.result.now two.lost given groups c.deref-2.ensures.value c.release_roots.ensures.gives c.release_roots.ensures.refs c.in_default.ensures.released);
+      gave = gave_at s mid two given groups only.same c.self-2.view_is (gave_up two c.deref.result.now two.lost given groups c.deref.ensures.value c.release_roots.ensures.gives c.release_roots.ensures.refs c.in_default-release_roots.ensures.released);
     } in
-    let made : WasMade a i m b s image c.number_next-number.result mid.groups groups c.commit.new.groups given c.settle.new.units c.commit.new.log c.commit.new.meta c.settle.new.kept = record {
+    let made : WasMade a i m b s image c.in-Some.number mid.groups groups c.commit.new.groups given c.settle.new.units c.commit.new.log c.commit.new.meta c.settle.new.kept = record {
       lost = lost;
       behind = is_given.behind;
-      commits = commits_at m b s mid two c.edit.new.self image c.number_next-number.result c.commit.new.log c.commit.new.meta only.same c.self-2.view_is edited
-          (subst (λ (l : List OpNote). Commits m b two.log c.edit.new.self c.number_next-number.result l c.commit.new.log c.commit.new.meta) c.deref-4.ensures.value c.in_default-commit.ensures.done);
+      commits = commits_at m b s mid two c.edit.new.self image c.in-Some.number c.commit.new.log c.commit.new.meta only.same c.self-2.view_is edited
+          (subst (λ (l : List OpNote). Commits m b two.log c.edit.new.self c.in-Some.number l c.commit.new.log c.commit.new.meta) c.deref-3.ensures.value c.in_default-commit.ensures.done);
       none = c.in_default-commit.ensures.working;
       frames = frames_at m b s mid two c.edit.new.self groups c.commit.new.groups only.same c.self-2.view_is (ap (λ (o : Overlays). o.geometry) edited) c.self-2.invariant.meta c.commit.ensures.lends c.commit.ensures.sizes;
       settled = settled_at s mid two c.edit.new.self image c.settle.new.kept given c.settle.new.units only.same c.self-2.view_is edited c.settle.ensures;
     } in
-    commit_left s c.in-Ok.page.items image c.number_next-number.result mid.groups groups c.commit.new.groups given c.settle.new.units c.commit.new.log c.commit.new.meta c.settle.new.kept (g.H.World.is_world c.args.host.now) kept made before from now
+    commit_left s c.in-Ok.page.items image c.in-Some.number mid.groups groups c.commit.new.groups given c.settle.new.units c.commit.new.log c.commit.new.meta c.settle.new.kept (g.H.World.is_world c.args.host.now) kept made before from now

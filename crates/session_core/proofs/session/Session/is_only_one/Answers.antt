@@ -1,12 +1,13 @@
 use Rattle.std.proofs.Common.{◌∙◌, Some, List, refl, ap, subst}
 use Rattle.std.specs.Prelude.{Option, not, slice_get}
+use Rattle.std.proofs.lemmas.Option.{same_Some}
 use Rattle.ex_base.specs.declared.names.Oid.{Oid}
 use Rattle.ex_base.proofs.Results.{if_err_handed}
 use Rattle.versions.specs.declared.finding.Found.{Found}
 use Rattle.session_core.specs.Finding.{IsFound}
 use Rattle.session_core.proofs.Naming.{frames_twice}
 use Rattle.session_core.proofs.Quiet.{same_view, with_groups}
-use Rattle.session_core.proofs.Relatives.{first_listed, is_derived, never_missing, none_listed, only_told, same_first}
+use Rattle.session_core.proofs.Relatives.{first_listed, is_derived, never_missing, none_listed, only_told}
 use Rattle.session_core.proofs.session.Session.is_only_one.Goals as goal
 
 pub returns-in_err-oids-clause-sound : goal.returns-in_err-oids-clause-sound
@@ -36,7 +37,7 @@ returns-in-Some-2-clause-alone g c = λ before same now told.
     let later = with_groups before c.relatives.new.self in
     let found = c.in_ok-found.ensures.found later refl (same_view before same now c.relatives.ensures.only c.relatives.ensures.session.sizes) in
     c.is_some.ensures
-    ∙ only_told now c.args.version.now told derived later refl c.in-Some.older.now (same_first c.in-Some.older.now _ its) c.in-Some-2.found (subst (λ (o : Option Found). IsFound later c.in-Some.older.now o) c.in-Some-2.is found)
+    ∙ only_told now c.args.version.now told derived later refl c.in-Some.older.now (same_Some c.in-Some.older.now _ its) c.in-Some-2.found (subst (λ (o : Option Found). IsFound later c.in-Some.older.now o) c.in-Some-2.is found)
 
 pub returns-clause-only : goal.returns-clause-only
 returns-clause-only g c = frames_twice c.relatives.ensures.only c.find_version.ensures.only
@@ -48,4 +49,4 @@ returns-clause-alone g c = λ before same now told.
     let its = first_listed now c.args.version.now told derived c.in_ok-oids.oids.items (Some c.in-Some.older.now) (c.in_ok-oids.ensures.oids before same now told.version told.is) first in
     let later = with_groups before c.relatives.new.self in
     let found = c.in_ok-found.ensures.found later refl (same_view before same now c.relatives.ensures.only c.relatives.ensures.session.sizes) in
-    absurd (never_missing now c.args.version.now told derived later refl c.in-Some.older.now (same_first c.in-Some.older.now _ its) (subst (λ (o : Option Found). IsFound later c.in-Some.older.now o) c.in-None.is found))
+    absurd (never_missing now c.args.version.now told derived later refl c.in-Some.older.now (same_Some c.in-Some.older.now _ its) (subst (λ (o : Option Found). IsFound later c.in-Some.older.now o) c.in-None.is found))

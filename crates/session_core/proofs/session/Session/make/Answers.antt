@@ -25,5 +25,6 @@ invariant_of-result c = record {
   few_pages = search rules;
   in_order = search rules;
   work = search rules;
+  up = search rules;
   idle = search rules;
 }

@@ -1,8 +1,9 @@
-use Rattle.session_core.proofs.Summing.{on_ok, sums_soundly}
+use Rattle.versions.proofs.Results.{ok_of}
+use Rattle.session_core.proofs.Summing.{sums_soundly}
 use Rattle.session_core.proofs.session.Session.summary.Goals as goal
 
 pub returns-then-is_err-clause-sound : goal.returns-then-is_err-clause-sound
 returns-then-is_err-clause-sound g c = λ before why from now is. sums_soundly c.sum_up-summary.result c.sum_up-summary.ensures before why from now is
 
 pub returns-else-is_err-clause-shows : goal.returns-else-is_err-clause-shows
-returns-else-is_err-clause-shows g c = λ before same now. on_ok c.sum_up-summary.result (c.sum_up-summary.ensures.shows before same now)
+returns-else-is_err-clause-shows g c = λ before same now. ok_of c.sum_up-summary.result _ (c.sum_up-summary.ensures.shows before same now)

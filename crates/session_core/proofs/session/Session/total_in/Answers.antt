@@ -18,14 +18,14 @@ returns-in-Err-clause-shows g c = shows_on c.args.page.now c.loop-index.index c.
 pub returns-in-Err-clause-sound : goal.returns-in-Err-clause-sound
 returns-in-Err-clause-sound g c =
     next_file c.args.page.now c.loop-index.index c.loop-index.totals c.loop-index.invariant c.tally_of.ensures.session c.tally_of.ensures.only (entry_of c.entry-file_no.result) c.entry-file_no.result.file_no (λ before name. IsOutside c.in-Err.stop)
-    (ap (λ (k : Catalog). slice_get k.entries c.loop-index.index) (sym c.view_of-in-loop-index.ensures) ∙ c.entry-file_no.ensures) refl c.in-Err.ensures.sound
+    (ap (λ (k : Catalog). slice_get k.entries c.loop-index.index) (sym c.view_of-catalog.ensures) ∙ c.entry-file_no.ensures) refl c.in-Err.ensures.sound
 
 pub loop-index-preserved : goal.loop-index-preserved
 loop-index-preserved g c =
     one_more c.args.page.now c.loop-index.index c.loop-index.totals c.loop-index.invariant c.tally_of.ensures.session c.tally_of.ensures.only (entry_of c.entry-file_no.result) c.entry-file_no.result.file_no _ c.in-Ok.tally
-    (ap (λ (k : Catalog). slice_get k.entries c.loop-index.index) (sym c.view_of-in-loop-index.ensures) ∙ c.entry-file_no.ensures) refl (record { objects = refl; versions = refl }) (search rules) (search rules) c.in-Ok.ensures.tally
+    (ap (λ (k : Catalog). slice_get k.entries c.loop-index.index) (sym c.view_of-catalog.ensures) ∙ c.entry-file_no.ensures) refl (record { objects = refl; versions = refl }) (search rules) (search rules) c.in-Ok.ensures.tally
 
 pub returns-clause-totals : goal.returns-clause-totals
 returns-clause-totals g c = λ before same now on.
-    let all : length (catalog_on c.args.page.now).entries ≤ c.loop-index.index = omega (arith, c.loop-index-test.false, c.len-index-end.ensures, ap (λ (k : Catalog). length k.entries) c.view_of.ensures) in
+    let all : length (catalog_on c.args.page.now).entries ≤ c.loop-index.index = omega (arith, c.loop-index-test.false, c.len-index-end.ensures, ap (λ (k : Catalog). length k.entries) c.view_of-catalog.ensures) in
     subst (λ (es : List FileEntry). AreTotals before.machine es c.loop-index.totals) (take_all c.loop-index.index (catalog_on c.args.page.now).entries all) (c.loop-index.invariant.counts before same now on)

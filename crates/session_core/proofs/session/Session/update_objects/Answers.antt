@@ -14,7 +14,7 @@ use Rattle.session_core.specs.Counts.{free_in}
 use Rattle.session_core.specs.Finding.{IsOutside}
 use Rattle.session_core.specs.Performed.{CanPerform, NamesOid, charge_of}
 use Rattle.session_core.specs.Sessions.{SessionState, IsSession}
-use Rattle.session_core.specs.TableUpdates.{updated}
+use Rattle.volume_edits.specs.TableUpdates.{updated}
 use Rattle.session_core.specs.Updates.{HasRoomFor, HasRoots, HoldsTable, IfAsked, IfUpdated, WritesUnused, note_with}
 use Rattle.session_core.specs.contracts.session.Session as session
 use Rattle.session_core.specs.declared.updates.Done.{Done}
@@ -60,7 +60,6 @@ returns-then-is_ok-2-clause-holds g c = λ before same now u is asked.
     let s = session.the_view c.self.inside in
     let done = c.update_volume-done.new in
     let p = done.volume in
-    let moved = c.update_volume-done.ensures.moved in
     let outside = g.H.World.outside in
     at_oid (λ (oid : Oid). IfAsked (outside c.args.host.now) c.self.inside.volume c.args.update.now (λ before u. HasRoots before.session s.gained s.lost → HoldsTable before (outside done.disk) p done.gained.items done.lost.items (updated u oid (shown before.machine))))
     c.args.note.now c.noted-noted.result c.update_volume-done.result (sym c.is_ok.ensures.value ∙ c.if-is_ok.true) c.noted-noted.ensures c.update_volume-done.ensures.updated
@@ -121,8 +120,11 @@ returns-then-is_ok-2-clause-any_moment g c = moments_of (session.the_view c.self
 pub returns-clause-any_moment : goal.returns-clause-any_moment
 returns-clause-any_moment g c = moments_of (session.the_view c.self.inside) c.args.self.now c.self.view_is c.self.invariant (g.H.World.is_world c.args.host.now) c.update_volume-done.ensures.moved.changes
 
+pub returns-clause-down : goal.returns-clause-down
+returns-clause-down g c = sym ((subst IsSession c.self.view_is c.self.invariant).up c.requires.opened)
+
 pub returns-clause-given_up : goal.returns-clause-given_up
-returns-clause-given_up g c = on_err c.match-done.result (refl, ap (λ (o : Overlays). o.working) c.undo.ensures)
+returns-clause-given_up g c = on_err c.match-done.result (record { closed = refl; untouched = ap (λ (o : Overlays). o.working) c.undo.ensures })
 
 pub returns-clause-sound : goal.returns-clause-sound
 returns-clause-sound g c =

@@ -5,7 +5,7 @@ use Rattle.page_alloc.specs.UnitSet.{free_count, used_at}
 use Rattle.table_model.specs.Machines.{shown}
 use Rattle.volume_port.specs.declared.state.VolumeState.{VolumeState}
 use Rattle.session_core.specs.Sessions.{Swept, TakesLogged}
-use Rattle.session_core.specs.TableUpdates.{updated}
+use Rattle.volume_edits.specs.TableUpdates.{updated}
 use Rattle.session_core.specs.Updates.{HasParts, HoldsTable, with_parts}
 use Rattle.session_core.specs.Performed.{charge_of}
 use Rattle.session_core.proofs.Roomed.{takes_still}
@@ -55,7 +55,6 @@ returns-clause-shares g c = λ copies.
     let u = c.update_parts.new in
     let mid = with_parts v u.units u.groups u.meta u.pages in
     let t = c.turn_roots.new.volume in
-    let has : HasParts v v.geometry v.units v.groups v.meta v.pages = record { geometry = refl; parts = refl } in
     subst (λ (q : VolumeState). TakesLogged v.units c.sweep.new.units q.pages) (sym c.turn_roots.ensures.rest)
     (still_logged v.units t.units c.sweep.new.units mid.pages (λ unit now. c.sweep.ensures.swept.units.used unit now)
     (still_logged v.units mid.units t.units mid.pages c.turn_roots.ensures.gives.fewer (c.in_ok-done.ensures.shares copies)))

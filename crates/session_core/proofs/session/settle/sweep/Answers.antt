@@ -16,7 +16,6 @@ loop-index-preserved c =
     elim c.match-touched_at.branch [
       | in-Some w ↦
           let row : WorkingRow = (w.in-Some.page.0, option_copied w.in-Some.image) in
-          let inside = at_row (IsWorkingRow meta.geometry) meta.working c.loop-index.index row rows.working_pages w.in-Some.ensures in
           swept_next meta.working c.loop-index.index row c.args.kept.now c.args.units.now c.loop-index.units c.match-touched_at.units
           w.is_some.result w.get-flag.result rows.working_rising w.in-Some.ensures (w.is_some.ensures ∙ copied_some w.in-Some.image) (w.get-flag.ensures false)
           c.loop-index.invariant

@@ -1,9 +1,10 @@
 use Rattle.versions.specs.Edited.{change_of}
-use Rattle.session_core.specs.TableUpdates.{Changes}
+use Rattle.volume_edits.specs.TableUpdates.{Changes}
 use Rattle.session_core.proofs.Changed.{change_failed, version_changed}
-use Rattle.session_core.proofs.MovedVolumes.{still_updated}
+use Rattle.session_core.proofs.Followed.{still_updated}
 use Rattle.file_rooms.proofs.Remembered.{one_lowered}
-use Rattle.session_core.proofs.UnitsTaken.{change_taken, on_ok}
+use Rattle.versions.proofs.Results.{ok_of}
+use Rattle.volume_edits.proofs.UnitsTaken.{change_taken}
 use Rattle.session_core.proofs.updates.changing.change.Goals as goal
 
 pub returns-in-Ok-clause-updates : goal.returns-in-Ok-clause-updates
@@ -20,5 +21,5 @@ pub returns-in-Ok-clause-rooms : goal.returns-in-Ok-clause-rooms
 returns-in-Ok-clause-rooms g c = one_lowered c.args.rooms.now c.look_at.new.self c.args.oid.now.page.0 c.look_at.ensures.rooms
 
 pub returns-in-Ok-clause-takes : goal.returns-in-Ok-clause-takes
-returns-in-Ok-clause-takes g c = on_ok c.look_at.result
+returns-in-Ok-clause-takes g c = ok_of c.look_at.result _
     (change_taken g.V.Ground c.args.volume.now c.apply.new.volume c.look_at.new.volume c.args.oid.now (change_of c.args.edit.now) c.in-Ok.ensures.small c.in-Ok.ensures.free c.look_at.ensures.kept.free)

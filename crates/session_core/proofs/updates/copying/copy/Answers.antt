@@ -4,15 +4,16 @@ use Rattle.ex_base.specs.declared.names.Place.{Place}
 use Rattle.ex_base.specs.Ports.{IsDamage}
 use Rattle.ex_base.specs.declared.names.Index.{Index}
 use Rattle.file_bodies.specs.Files.{HasBody}
-use Rattle.std.proofs.lemmas.Result.{err_from_is_err_and}
-use Rattle.session_core.proofs.Copied.{done_of, fault_of, told_of}
+use Rattle.std.proofs.lemmas.Result.{IfErr-at_err, IfOk-at_ok, err_from_is_err_and}
+use Rattle.ex_base.proofs.Results.{from_ok}
 use Rattle.session_core.specs.declared.updates.copying.Copying.{Copying}
 use Rattle.session_core.specs.declared.updates.copying.Copying.TheVariants as copying
 use Rattle.session_core.specs.Performed.{copies}
-use Rattle.session_core.specs.TableUpdates.{TakesNeed, Updates}
-use Rattle.session_core.proofs.Copied.{derive_failed, derived_made, freeze_failed, frozen_made, uncounted, unfiled}
+use Rattle.volume_edits.specs.TableUpdates.{TakesNeed}
+use Rattle.session_core.specs.Performed.{Updates}
+use Rattle.session_core.proofs.Copied.{copy_taken, derive_failed, derived_made, freeze_failed, frozen_made, uncounted, unfiled}
 use Rattle.file_rooms.proofs.Remembered.{number_kept}
-use Rattle.session_core.proofs.UnitsTaken.{copy_taken, pages_taken}
+use Rattle.volume_edits.proofs.UnitsTaken.{pages_taken}
 use Rattle.session_core.proofs.updates.copying.copy.Goals as goal
 use Rattle.session_core.proofs.updates.copying.copy.Goals.{in-Freeze, in-Derive}
 
@@ -39,14 +40,14 @@ returns-in-Ok-clause-updates g c =
           subst (λ (k : Copying). Updates g.V.Ground c.args.volume.now c.match-copying.volume (copies k c.args.oid.now c.args.unique) (Ok (record { oid = c.in-Ok.made.oid; gone = None; come = c.in-Ok.made.come }))) (sym w.in-Freeze.is)
           (subst (λ volume. Updates g.V.Ground c.args.volume.now volume (copies copying.Freeze c.args.oid.now c.args.unique) (Ok (record { oid = c.in-Ok.made.oid; gone = None; come = c.in-Ok.made.come }))) (sym w.volume-is)
           (frozen_made g.V.Ground c.args.volume.now w.freeze-copied.new.volume c.args.oid.now c.args.unique mid c.file_of.new.volume c.count_number.ensures.leads c.in_ok-count_number.ensures.counts c.file_of.ensures.kept c.in_ok-file_of.field-0 c.of_file-room.result.file_no room filed
-          c.in-Ok.made (told_of _ w.freeze-copied.result c.in-Ok.made did told.number) told.leads (done_of _ w.freeze-copied.result c.in-Ok.made did told.takes) (told_of _ w.freeze-copied.result c.in-Ok.made did told.come) (told_of _ w.freeze-copied.result c.in-Ok.made did told.frozen)))
+          c.in-Ok.made (IfOk-at_ok _ did told.number) told.leads (from_ok w.freeze-copied.result c.in-Ok.made _ did told.takes) (IfOk-at_ok _ did told.come) (IfOk-at_ok _ did told.frozen)))
       | in-Derive w ↦
           let did : w.derive-copied.result ≡ Ok c.in-Ok.made = sym w.copied-is ∙ c.in-Ok.is in
           let told = w.derive-copied.ensures in
           subst (λ (k : Copying). Updates g.V.Ground c.args.volume.now c.match-copying.volume (copies k c.args.oid.now c.args.unique) (Ok (record { oid = c.in-Ok.made.oid; gone = None; come = c.in-Ok.made.come }))) (sym w.in-Derive.is)
           (subst (λ volume. Updates g.V.Ground c.args.volume.now volume (copies copying.Derive c.args.oid.now c.args.unique) (Ok (record { oid = c.in-Ok.made.oid; gone = None; come = c.in-Ok.made.come }))) (sym w.volume-is)
           (derived_made g.V.Ground c.args.volume.now w.derive-copied.new.volume c.args.oid.now c.args.unique mid c.file_of.new.volume c.count_number.ensures.leads c.in_ok-count_number.ensures.counts c.file_of.ensures.kept c.in_ok-file_of.field-0 c.of_file-room.result.file_no room filed
-          c.in-Ok.made (told_of _ w.derive-copied.result c.in-Ok.made did told.number) told.leads (done_of _ w.derive-copied.result c.in-Ok.made did told.takes) (told_of _ w.derive-copied.result c.in-Ok.made did told.come) (told_of _ w.derive-copied.result c.in-Ok.made did told.derived)))
+          c.in-Ok.made (IfOk-at_ok _ did told.number) told.leads (from_ok w.derive-copied.result c.in-Ok.made _ did told.takes) (IfOk-at_ok _ did told.come) (IfOk-at_ok _ did told.derived)))
     ]
 
 pub returns-in-Err-clause-updates : goal.returns-in-Err-clause-updates
@@ -60,13 +61,13 @@ returns-in-Err-clause-updates g c =
           subst (λ (k : Copying). Updates g.V.Ground c.args.volume.now c.match-copying.volume (copies k c.args.oid.now c.args.unique) (Err c.in-Err.fault)) (sym w.in-Freeze.is)
           (subst (λ volume. Updates g.V.Ground c.args.volume.now volume (copies copying.Freeze c.args.oid.now c.args.unique) (Err c.in-Err.fault)) (sym w.volume-is)
           (freeze_failed g.V.Ground c.args.volume.now w.freeze-copied.new.volume c.args.oid.now c.args.unique mid c.file_of.new.volume c.count_number.ensures.leads c.in_ok-count_number.ensures.counts c.file_of.ensures.kept c.in_ok-file_of.field-0 c.of_file-room.result.file_no room filed
-          c.in-Err.fault (fault_of _ w.freeze-copied.result c.in-Err.fault failed w.freeze-copied.ensures.sound)))
+          c.in-Err.fault (IfErr-at_err _ failed w.freeze-copied.ensures.sound)))
       | in-Derive w ↦
           let failed : w.derive-copied.result ≡ Err c.in-Err.fault = sym w.copied-is ∙ c.in-Err.is in
           subst (λ (k : Copying). Updates g.V.Ground c.args.volume.now c.match-copying.volume (copies k c.args.oid.now c.args.unique) (Err c.in-Err.fault)) (sym w.in-Derive.is)
           (subst (λ volume. Updates g.V.Ground c.args.volume.now volume (copies copying.Derive c.args.oid.now c.args.unique) (Err c.in-Err.fault)) (sym w.volume-is)
           (derive_failed g.V.Ground c.args.volume.now w.derive-copied.new.volume c.args.oid.now c.args.unique mid c.file_of.new.volume c.count_number.ensures.leads c.in_ok-count_number.ensures.counts c.file_of.ensures.kept c.in_ok-file_of.field-0 c.of_file-room.result.file_no room filed
-          c.in-Err.fault (fault_of _ w.derive-copied.result c.in-Err.fault failed w.derive-copied.ensures.sound)))
+          c.in-Err.fault (IfErr-at_err _ failed w.derive-copied.ensures.sound)))
     ]
 
 pub returns-in-Ok-clause-takes : goal.returns-in-Ok-clause-takes
@@ -80,11 +81,11 @@ returns-in-Ok-clause-takes g c =
           let told = w.freeze-copied.ensures in
           subst (λ volume. TakesNeed G old volume (copies c.args.copying c.args.oid.now c.args.unique)) (sym w.volume-is)
           (copy_taken G old w.freeze-copied.new.volume c.args.copying c.args.oid.now c.args.unique
-          (pages_taken G old c.file_of.new.volume w.freeze-copied.new.volume none (done_of _ w.freeze-copied.result c.in-Ok.made did told.pages) (done_of _ w.freeze-copied.result c.in-Ok.made did told.leaves)))
+          (pages_taken G old c.file_of.new.volume w.freeze-copied.new.volume none (from_ok w.freeze-copied.result c.in-Ok.made _ did told.pages) (from_ok w.freeze-copied.result c.in-Ok.made _ did told.leaves)))
       | in-Derive w ↦
           let did : w.derive-copied.result ≡ Ok c.in-Ok.made = sym w.copied-is ∙ c.in-Ok.is in
           let told = w.derive-copied.ensures in
           subst (λ volume. TakesNeed G old volume (copies c.args.copying c.args.oid.now c.args.unique)) (sym w.volume-is)
           (copy_taken G old w.derive-copied.new.volume c.args.copying c.args.oid.now c.args.unique
-          (pages_taken G old c.file_of.new.volume w.derive-copied.new.volume none (done_of _ w.derive-copied.result c.in-Ok.made did told.pages) (done_of _ w.derive-copied.result c.in-Ok.made did told.leaves)))
+          (pages_taken G old c.file_of.new.volume w.derive-copied.new.volume none (from_ok w.derive-copied.result c.in-Ok.made _ did told.pages) (from_ok w.derive-copied.result c.in-Ok.made _ did told.leaves)))
     ]

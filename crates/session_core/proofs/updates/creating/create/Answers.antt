@@ -2,9 +2,9 @@ use Rattle.std.proofs.Common.{sym, ◌∙◌}
 use Rattle.std.proofs.lemmas.Result.{err_from_is_err_and}
 use Rattle.volume_edits.specs.Ported.{index_named}
 use Rattle.volume_edits.proofs.Contents.{has_catalog}
-use Rattle.session_core.proofs.Making.{becomes, its_file}
+use Rattle.volume_edits.proofs.Making.{becomes, its_file}
 use Rattle.file_rooms.proofs.Remembered.{number_kept, one_kept}
-use Rattle.session_core.proofs.UnitsTaken.{pages_taken}
+use Rattle.volume_edits.proofs.UnitsTaken.{pages_taken}
 use Rattle.session_core.proofs.updates.creating.create.Goals as goal
 
 pub returns-in_err-count_number-clause-updates : goal.returns-in_err-count_number-clause-updates

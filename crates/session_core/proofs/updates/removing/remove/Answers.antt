@@ -1,9 +1,10 @@
 use Rattle.std.proofs.Common.{None}
-use Rattle.session_core.specs.TableUpdates.{Removes}
+use Rattle.volume_edits.specs.TableUpdates.{Removes}
 use Rattle.session_core.proofs.Removed.{removal_failed, version_removed}
-use Rattle.session_core.proofs.MovedVolumes.{still_updated}
+use Rattle.session_core.proofs.Followed.{still_updated}
 use Rattle.file_rooms.proofs.Remembered.{one_lowered}
-use Rattle.session_core.proofs.UnitsTaken.{nothing_taken, on_ok}
+use Rattle.versions.proofs.Results.{ok_of}
+use Rattle.volume_edits.proofs.UnitsTaken.{nothing_taken}
 use Rattle.session_core.proofs.updates.removing.remove.Goals as goal
 
 pub returns-in-Ok-clause-updates : goal.returns-in-Ok-clause-updates
@@ -19,5 +20,5 @@ pub returns-in-Ok-clause-rooms : goal.returns-in-Ok-clause-rooms
 returns-in-Ok-clause-rooms g c = one_lowered c.args.rooms.now c.look_at.new.self c.args.oid.now.page.0 c.look_at.ensures.rooms
 
 pub returns-in-Ok-clause-takes : goal.returns-in-Ok-clause-takes
-returns-in-Ok-clause-takes g c = on_ok c.look_at.result
+returns-in-Ok-clause-takes g c = ok_of c.look_at.result _
     (nothing_taken g.V.Ground c.args.volume.now c.take_out.new.volume c.look_at.new.volume c.in-Ok.ensures.pages c.in-Ok.ensures.leaves c.look_at.ensures.kept.free)

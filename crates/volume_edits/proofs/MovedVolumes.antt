@@ -1,13 +1,12 @@
 -- A volume that a call on versions keeps, edits or moves is one that the port's working state becomes.
 use Rattle.std.proofs.Common.{◌≡◌, ℕ, Bool, true, List, ◌∷◌, Option, Some, None, sym, ap, subst, ◌∙◌, inl}
-use Rattle.std.specs.Prelude.{Contains, if◌then◌else◌, nat_lt, Result, Ok, Err, IfOk, IfErr}
+use Rattle.std.specs.Prelude.{Contains, if◌then◌else◌, nat_lt}
 use Rattle.ex_base.specs.declared.ground.Ground as ground
 use Rattle.ex_base.specs.declared.geometry.Geometry.{Geometry}
-use Rattle.ex_base.specs.declared.faults.PortFault.{PortFault}
 use Rattle.ex_base.specs.declared.names.Oid.{Oid}
 use Rattle.ex_base.specs.declared.names.Root.{Root}
 use Rattle.ex_base.specs.Area.{InPageArea, area_end, catalog_no}
-use Rattle.ex_base.specs.Ports.{IsDamage, Keeps}
+use Rattle.ex_base.specs.Ports.{Keeps}
 use Rattle.ex_base.proofs.Members.{In, contains_in, in_contains, in_left}
 use Rattle.op_log.specs.declared.record.LogRecord.{LogRecord}
 use Rattle.trees.specs.Trees.{Units}
@@ -26,8 +25,7 @@ use Rattle.volume_edits.proofs.Staying.{kept_reach, stays_whole}
 use Rattle.volume_edits.proofs.Turned.{turned_kept, turned_later}
 use Rattle.volume_model.specs.Volume.{Volume, file_pages, reach_of, table_of}
 use Rattle.volume_model.proofs.Places.{sep_one}
-use Rattle.session_core.specs.declared.updates.Done.{Done}
-use Rattle.session_core.specs.TableUpdates.{BecomesVolume, TableUpdate, Updates, updated}
+use Rattle.volume_edits.specs.TableUpdates.{BecomesVolume}
 use Rattle.volume_edits.proofs.Tables.{bytes_agree}
 
 module _ {S : Type 0} (g : ground.Ghosts S) (old : S) (records : List LogRecord) (v : Volume) (vol : IsVolume g old records v) where
@@ -96,7 +94,7 @@ module _ {S : Type 0} (g : ground.Ghosts S) (old : S) (records : List LogRecord)
 -- ---- what is read after an update
 
 module _ {S : Type 0} (g : ground.Ghosts S) (old mid new : S) (keeps : Keeps g mid new) where
-  still_becomes : (records : List LogRecord) (v : Volume) (table : Table) (gone come : Option Root) → BecomesVolume g old mid records v table gone come → BecomesVolume g old new records v table gone come
+  pub still_becomes : (records : List LogRecord) (v : Volume) (table : Table) (gone come : Option Root) → BecomesVolume g old mid records v table gone come → BecomesVolume g old new records v table gone come
   still_becomes records v table gone come becomes =
       let units = kept_units g mid records becomes.now becomes.volume new keeps in
       record {
@@ -108,21 +106,10 @@ module _ {S : Type 0} (g : ground.Ghosts S) (old mid new : S) (keeps : Keeps g m
         turned = turned_later g old mid new v becomes.now gone come keeps becomes.turned;
       }
 
-  apart_before : IsApart g new → IsApart g mid
+  pub apart_before : IsApart g new → IsApart g mid
   apart_before apart = λ page area held.
       let later = subst (λ (geometry : Geometry). InPageArea geometry page) (sym (g.leads_geometry mid new keeps.leads)) area in
       ap (λ (f : ℕ → List ℕ). f page) (sym keeps.images) ∙ apart page later (ap (λ (f : ℕ → Bool). f page) keeps.held ∙ held) ∙ ap (λ (f : ℕ → List ℕ). f page) keeps.units
 
-  used_before : AreInUse g new → AreInUse g mid
+  pub used_before : AreInUse g new → AreInUse g mid
   used_before used = λ page held. ap (λ (f : ℕ → Bool). f page) (sym keeps.used) ∙ used page (ap (λ (f : ℕ → Bool). f page) keeps.held ∙ held)
-
-  -- a call that only reads, and answers what the update before it did, leaves that
-  pub still_updated : (u : TableUpdate) (done : Done) (result : Result Done PortFault) → Updates g old mid u (Ok done) → IfOk result (λ read. read ≡ done) → IfErr result (λ fault. IsDamage fault → ⊥)
-      → Updates g old new u result
-  still_updated u done (Ok read) does same never = record {
-    done = λ records v tells vol asks apart used.
-        subst (λ (d : Done). BecomesVolume g old new records v (updated u d.oid (table_of (units_in g old) v)) d.gone d.come) (sym same)
-        (still_becomes records v _ done.gone done.come (does.done records v tells vol asks (apart_before apart) (used_before used)));
-    sound = tt;
-  }
-  still_updated u done (Err fault) does same never = record { done = tt; sound = λ damage records v tells vol asks room. never damage }

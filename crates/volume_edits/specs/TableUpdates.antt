@@ -1,11 +1,9 @@
 -- What an update of objects asks of a volume's table, and the table that it leaves.
-use Rattle.std.specs.Prelude.{◌≡◌, ◌≤◌, ◌+◌, ◌⊎◌, ℕ, Bool, true, false, List, length, Option, Some, Contains, Result, IfOk, IfErr, ⊤}
+use Rattle.std.specs.Prelude.{◌≡◌, ◌≤◌, ◌+◌, ◌⊎◌, ℕ, Bool, true, false, List, length, Option, Some, Contains, ⊤}
 use Rattle.ex_base.specs.declared.ground.Ground as ground
-use Rattle.ex_base.specs.declared.faults.PortFault.{PortFault}
 use Rattle.ex_base.specs.declared.names.Area.{Area}
 use Rattle.ex_base.specs.declared.names.Oid.{Oid}
 use Rattle.ex_base.specs.declared.names.Root.{Root}
-use Rattle.ex_base.specs.Ports.{IsDamage}
 use Rattle.op_log.specs.declared.record.LogRecord.{LogRecord}
 use Rattle.ex_base.specs.declared.names.Index.{Index}
 use Rattle.object_files.specs.Catalog.{FileEntry}
@@ -16,7 +14,6 @@ use Rattle.version_lists.specs.declared.version.Version.{Version}
 use Rattle.table_model.specs.Needs.{pages_need}
 use Rattle.table_model.specs.Refusals.{branches_if, is_only_one}
 use Rattle.table_model.specs.Tables.{version_at, versions_of, numbered, with_object, with_bytes, with_derived, with_frozen, without_version}
-use Rattle.session_core.specs.declared.updates.Done.{Done}
 use Rattle.versions.specs.Edited.{HasNeed}
 use Rattle.versions.specs.Needs.{edit_need}
 use Rattle.versions.specs.Versions.{AreInUse, Change, HasVersion, InRange, StaysSmall, changed, place_of}
@@ -121,10 +118,3 @@ pub record BecomesVolume {S : Type 0} (g : ground.Ghosts S) (old new : S) (recor
   pub pages : (page : ℕ) → Contains (file_pages now) page → Contains (file_pages v) page ⊎ (g.used old page ≡ false)
   pub units : (u : ℕ) → Contains (trees_of (units_in g new) now) u → Contains (trees_of (units_in g old) v) u ⊎ (g.used old u ≡ false)
   pub turned : TurnsRoots g old new v now gone come
-
--- What an update does with a volume that has what it asks: the volume becomes one with the updated table, and its roots turn as is told; and where the
--- update has its room, no page of the volume is told to be damaged.
-pub record Updates {S : Type 0} (g : ground.Ghosts S) (old new : S) (u : TableUpdate) (result : Result Done PortFault) : Type 0 where
-  pub done : IfOk result (λ done. (records : List LogRecord) (v : Volume) → g.tells old → IsVolume g old records v → Asks u v (table_of (units_in g old) v) → IsApart g new → AreInUse g new
-      → BecomesVolume g old new records v (updated u done.oid (table_of (units_in g old) v)) done.gone done.come)
-  pub sound : IfErr result (λ fault. IsDamage fault → (records : List LogRecord) (v : Volume) → g.tells old → IsVolume g old records v → Asks u v (table_of (units_in g old) v) → HasRoom g old u → ⊥)

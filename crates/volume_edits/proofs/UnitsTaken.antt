@@ -1,6 +1,5 @@
 -- What an update took of the units that were free.
-use Rattle.std.proofs.Common.{◌≡◌, ◌+◌, ◌≤◌, ℕ, List, length, ap, subst, arith}
-use Rattle.std.specs.Prelude.{Result, Ok, Err, OnOk}
+use Rattle.std.proofs.Common.{◌≡◌, ◌+◌, ◌≤◌, ℕ, List, length, ap, arith}
 use Rattle.ex_base.specs.declared.ground.Ground as ground
 use Rattle.ex_base.specs.declared.names.Area.{Area}
 use Rattle.ex_base.specs.declared.names.Area.TheVariants.{Page, Segment}
@@ -8,17 +7,10 @@ use Rattle.ex_base.specs.declared.names.Oid.{Oid}
 use Rattle.ex_base.specs.declared.names.Index.{Index}
 use Rattle.object_records.specs.Record.{Content}
 use Rattle.object_records.specs.declared.Head.{Head}
-use Rattle.session_core.specs.Performed.{copies}
-use Rattle.session_core.specs.TableUpdates.{Changes, TakesNeed, TakesWithin}
-use Rattle.session_core.specs.declared.updates.copying.Copying.{Copying}
-use Rattle.session_core.specs.declared.updates.copying.Copying.TheVariants as copying
+use Rattle.volume_edits.specs.TableUpdates.{Changes, TakesNeed, TakesWithin}
 use Rattle.table_model.specs.Needs.{pages_need}
 use Rattle.versions.specs.Needs.{edit_need}
 use Rattle.versions.specs.Versions.{Change, HasVersion, StaysSmall, changed, place_of}
-
-pub on_ok : {T E P : Type 0} (result : Result T E) → P → OnOk result P
-on_ok (Ok x) p = p
-on_ok (Err fault) p = tt
 
 module _ {S : Type 0} (g : ground.Ghosts S) (old mid new : S) where
   -- pages alone, and at most seven, after nothing was taken
@@ -41,8 +33,3 @@ module _ {S : Type 0} (g : ground.Ghosts S) (old mid new : S) where
         most = λ area. let same = ap (λ (f : Area → ℕ). f area) none in let need = most told index head content bytes has area in omega (arith, need, same);
         small = λ stays area. let same = ap (λ (f : Area → ℕ). f area) none in let kept = ap (λ (f : Area → ℕ). f area) (small told index head content bytes has stays) in omega (arith, kept, same);
       }
-
--- a copy may take sixteen pages
-pub copy_taken : {S : Type 0} (g : ground.Ghosts S) (old new : S) (how : Copying) (oid : Oid) (unique : ℕ) → TakesWithin g old new (pages_need 16) → TakesNeed g old new (copies how oid unique)
-copy_taken g old new copying.Freeze oid unique takes = takes
-copy_taken g old new copying.Derive oid unique takes = takes

@@ -26,7 +26,7 @@ use Rattle.volume_edits.proofs.Creating.{creates_object}
 use Rattle.volume_edits.proofs.Listing.{numbers_volume}
 use Rattle.volume_edits.proofs.Lists.{cut_at}
 use Rattle.volume_edits.proofs.Turned.{turned_before}
-use Rattle.session_core.specs.TableUpdates.{AsksFile, BecomesVolume}
+use Rattle.volume_edits.specs.TableUpdates.{AsksFile, BecomesVolume}
 
 module _ {S : Type 0} (g : ground.Ghosts S) (s : S) (records : List LogRecord) (v : Volume) (vol : ShowsVolume g s records v) where
   -- what is read on the catalog's page is the volume's catalog
