@@ -8,7 +8,7 @@ ghost use Rattle.ex_base.specs.declared.names.Root.{Root};
 ghost use Rattle.open_scans.specs.OpenScans.{is_named};
 ghost use Rattle.scans.specs.Scans.{Opened, next_len, moved_by};
 ghost use Rattle.table_model.specs.Machines.{scans_most};
-ghost use Rattle.trees.specs.Damage.{IsWhole};
+ghost use Rattle.trees.specs.Damage.{IsRootFault, IsWhole};
 ghost use Rattle.trees.specs.Roots.{IsRootFor};
 
 use ex_base::{PortFault, ReadBlocks, Root};
@@ -80,6 +80,9 @@ impl OpenScan {
             → Opened (B.geometry blocks.old) (B.unit blocks.old) (position_of self.old.scan) opened
             → given.items ≡ bytes_at opened self.old.scan.pos (given_len n self.old)) }
         ensures len { IfOk result (λ given. length given.items ≡ given_len n self.old) }
+        ensures fault { IfErr result (λ fault. B.tells blocks.old
+            → IfSome self.old.scan.root (λ root.
+            IsRootFault (B.geometry blocks.old) (B.unit blocks.old) root fault)) }
         ensures sound { IfErr result (λ fault. IsDamage fault → B.tells blocks.old
             → (root : Root) → self.old.scan.root ≡ Some root
             → IsWhole (B.geometry blocks.old) (B.unit blocks.old) root → ⊥) }
@@ -113,6 +116,8 @@ fn copy_next<B: ReadBlocks>(
     ensures bytes { OnOk result (B.tells blocks.old → (opened : List ℕ)
         → Opened (B.geometry blocks.old) (B.unit blocks.old) scan.old opened
         → out.new ≡ bytes_at opened scan.old.pos (next_len n scan.old)) }
+    ensures fault { IfErr result (λ fault. B.tells blocks.old → IfSome scan.old.root (λ root.
+        IsRootFault (B.geometry blocks.old) (B.unit blocks.old) root fault)) }
     ensures sound { IfErr result (λ fault. IsDamage fault → B.tells blocks.old → (root : Root)
         → scan.old.root ≡ Some root
         → IsWhole (B.geometry blocks.old) (B.unit blocks.old) root → ⊥) }
@@ -251,6 +256,9 @@ impl OpenScans {
             → given.items ≡ bytes_at opened row.scan.pos (given_len n row))) }
         ensures len { IfOk result
             (λ given. AtRow self.old index (λ row. length given.items ≡ given_len n row)) }
+        ensures fault { IfErr result (λ fault. B.tells blocks.old
+            → AtRow self.old index (λ row. IfSome row.scan.root (λ root.
+            IsRootFault (B.geometry blocks.old) (B.unit blocks.old) root fault))) }
         ensures sound { IfErr result (λ fault. IsDamage fault → B.tells blocks.old
             → AtRow self.old index (λ row. (root : Root) → row.scan.root ≡ Some root
             → IsWhole (B.geometry blocks.old) (B.unit blocks.old) root → ⊥)) }

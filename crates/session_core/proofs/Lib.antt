@@ -6,6 +6,8 @@ mod Digests
 pub mod Stopping
 pub mod Ending
 pub mod Finding
+pub mod Damage
+mod UpdateDamage
 mod Holding
 mod Homes
 mod PortParts

@@ -3,6 +3,7 @@ pub mod Sessions
 pub mod Catalogs
 pub mod Steps
 pub mod Finding
+pub mod Damage
 pub mod Counts
 pub mod Needs
 pub mod Performed

@@ -15,6 +15,7 @@ use Rattle.session_core.specs.declared.updates.copying.Copying.TheVariants as co
 use Rattle.volume_edits.specs.Ported.{IsApart, IsVolume, units_in}
 use Rattle.volume_edits.specs.TableUpdates.{Asks, BecomesVolume, HasRoom, TableUpdate, Makes, Changes, Removes, Freezes, Derives, Drops, updated}
 use Rattle.volume_model.specs.Volume.{Volume, table_of}
+use Rattle.session_core.specs.Damage.{no_version, the_version}
 
 -- a copy of a version, as an update of the table
 abbrev pub copies : Copying → Oid → ℕ → TableUpdate
@@ -36,6 +37,14 @@ NamesOid (update.Change x edit) oid = oid ≡ x
 NamesOid (update.Remove x) oid = oid ≡ x
 NamesOid (update.Copy copying x unique) oid = oid.unique ≡ unique
 NamesOid (update.Drop x) oid = oid ≡ x
+
+-- the version that it is asked of, where it is asked of one
+abbrev pub asked_of : ObjectUpdate → Oid → Type 0
+asked_of (update.Create file_no unique) = no_version
+asked_of (update.Change x edit) = the_version x
+asked_of (update.Remove x) = the_version x
+asked_of (update.Copy copying x unique) = the_version x
+asked_of (update.Drop x) = the_version x
 
 -- the most logged pages that it touches: for a change of bytes the one of its version's record
 abbrev pub charge_of : ObjectUpdate → ℕ

@@ -1,20 +1,20 @@
 //! Objects are made, changed and removed in a volume, over any port: what is done to the volume's pages is the same as what is done to its table.
-ghost use Rattle.std.specs.Prelude.{◌≡◌, ℕ, List, IfOk, OnOk};
+ghost use Rattle.std.specs.Prelude.{◌≡◌, ℕ, List, IfErr, IfOk, OnOk};
 ghost use Rattle.ex_base.specs.Ports.{HasCause};
 ghost use Rattle.ex_base.specs.declared.names.Area.TheVariants.{Page};
-ghost use Rattle.volume_edits.specs.TableUpdates.{TableUpdate, TakesNeed};
-ghost use Rattle.session_core.specs.Performed.{Updates};
+ghost use Rattle.volume_edits.specs.TableUpdates.{TableUpdate, TakesNeed, Changes};
+ghost use Rattle.session_core.specs.Performed.{Updates, asked_of};
 ghost use Rattle.session_core.specs.Performed.{CanPerform, IsCopying, IsUpdate, NamesOid, charge_of};
+ghost use Rattle.session_core.specs.Damage.{IsFaultIn, the_version};
 ghost use Rattle.file_index.specs.Taking.{OnlyTakes};
 ghost use Rattle.file_index.specs.Touches.{TouchesAtMost};
 ghost use Rattle.file_rooms.specs.Rooms.{ChangesOne};
+ghost use Rattle.versions.specs.Edited.{change_of};
 
-mod changing;
 mod copying;
 mod creating;
 mod removing;
 
-use changing::change;
 pub use copying::Copying;
 use copying::copy;
 use creating::create;
@@ -22,7 +22,7 @@ use ex_base::{Oid, PortFault, Root, Volume};
 use file_rooms::Rooms;
 use removing::{drop_frozen, remove};
 use std::alloc::Global;
-use versions::Edit;
+use versions::{Edit, apply};
 
 /// An update of objects.
 #[derive(Clone, Copy, Debug)]
@@ -64,6 +64,39 @@ pub struct Done {
     pub come: Option<Root>,
 }
 
+/// Changes the bytes of a version. Where its page has room again, the room of its file is lowered to it.
+fn change<V: Volume>(
+    volume: &mut V,
+    alloc: Global,
+    rooms: &mut Rooms,
+    oid: &Oid,
+    edit: &Edit<'_>,
+) -> Result<Done, PortFault>
+    requires { V.ready volume.old }
+    ensures named { IfOk result (λ done. done.oid ≡ oid.now) }
+    ensures updates { Updates V.Ground volume.old volume.new
+        (Changes oid.now (change_of edit.now)) result }
+    ensures takes { OnOk result (TakesNeed V.Ground volume.old volume.new
+        (Changes oid.now (change_of edit.now))) }
+    ensures touches { OnOk result (TouchesAtMost V.Ground volume.old volume.new 1) }
+    ensures rooms { ChangesOne rooms.old rooms.new }
+    ensures fault { IfErr result (IsFaultIn V.Ground volume.old (the_version oid.now)) }
+    ensures leads { V.leads volume.old volume.new }
+    ensures cause { HasCause (V.faults volume.old) (V.faults volume.new) result }
+{
+    match apply(volume, alloc, oid, edit) {
+        Ok(edited) => {
+            let done = Done {
+                oid: *oid,
+                gone: edited.gone,
+                come: edited.come,
+            };
+            rooms.look_at(volume, alloc, oid.page, done)
+        }
+        Err(fault) => Err(fault),
+    }
+}
+
 /// Performs an update, and answers the version that it made, changed or removed, with the root that went and the one that came. After a fault the working state is not to be used again.
 ///
 /// `rooms` is what the caller remembers of the working state's files, and afterwards what it may remember of the state after the update. A new object is
@@ -89,6 +122,7 @@ pub fn perform<V: Volume>(
     ensures touches { OnOk result (TouchesAtMost V.Ground volume.old volume.new
         (charge_of update.now)) }
     ensures rooms { ChangesOne rooms.old rooms.new }
+    ensures fault { IfErr result (IsFaultIn V.Ground volume.old (asked_of update.now)) }
     ensures leads { V.leads volume.old volume.new }
     ensures cause { HasCause (V.faults volume.old) (V.faults volume.new) result }
 {

@@ -24,3 +24,4 @@ mod Unfiled
 mod UpdateLines
 mod Updated
 mod Vacancy
+mod Damage

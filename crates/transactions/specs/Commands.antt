@@ -11,6 +11,9 @@ use Rattle.session_core.specs.Meant.{meant}
 use Rattle.session_core.specs.Sessions.{SessionState}
 use Rattle.session_core.specs.Steps.{IsQuiet, IsRefused, OnlyFrames, Stops}
 use Rattle.session_core.specs.Updates.{WritesUnused}
+use Rattle.ex_base.specs.declared.names.Oid.{Oid}
+use Rattle.session_core.specs.Damage.{no_version}
+use Rattle.transactions.specs.Lines.{named_as}
 
 -- The command makes, changes or removes a version. What it writes of a tree goes to units that are not in use, at once.
 abbrev pub changes_objects : Request → Bool
@@ -42,6 +45,24 @@ asks_objects (request.Read x pos len) = true
 asks_objects (request.Scan x name group) = true
 asks_objects (request.Next name len) = true
 asks_objects r = changes_objects r
+
+-- the version that a command names, where it names one
+abbrev pub names_version : SessionState → Request → Oid → Type 0
+names_version s (request.Destroy x) = named_as s x
+names_version s (request.Size x) = named_as s x
+names_version s (request.Stat x) = named_as s x
+names_version s (request.Digest x) = named_as s x
+names_version s (request.Versions x) = named_as s x
+names_version s (request.Read x pos len) = named_as s x
+names_version s (request.Scan x name group) = named_as s x
+names_version s (request.Insert x pos given) = named_as s x
+names_version s (request.Append x given) = named_as s x
+names_version s (request.Replace x pos given) = named_as s x
+names_version s (request.Delete x pos len) = named_as s x
+names_version s (request.Freeze x bind) = named_as s x
+names_version s (request.Derive x bind) = named_as s x
+names_version s (request.DropVersion x) = named_as s x
+names_version s r = no_version
 
 -- The command gives trees up: it reads the nodes that become free.
 abbrev pub gives_trees : Request → Bool

@@ -1,23 +1,28 @@
 -- What lines that read or change objects promise.
-use Rattle.std.specs.Prelude.{◌≡◌, Option, Result, IfOk, IfErr}
+use Rattle.std.specs.Prelude.{◌≡◌, Option, Result, IfOk, IfErr, Some}
 use Rattle.disk_model.specs.Outside.{Outside, DiskOnly, Leaves, ReadsOnly}
 use Rattle.table_model.specs.declared.machine.Machine.{Machine}
 use Rattle.table_model.specs.declared.machine.Pick.{Pick}
 use Rattle.table_model.specs.declared.reply.Refusal.{Refusal}
 use Rattle.table_model.specs.declared.reply.Reply.{Reply}
 use Rattle.table_model.specs.Refusals.{refusal_of}
-use Rattle.table_model.specs.Requests.{Request}
+use Rattle.table_model.specs.Requests.{Request, Reference}
 use Rattle.session_views.specs.declared.engine.Stop.{Stop}
 use Rattle.session_views.specs.View.{View, ShowsNow, StandsDuring, Stepped}
 use Rattle.session_core.specs.Meant.{meant}
 use Rattle.session_core.specs.Sessions.{SessionState}
 use Rattle.session_core.specs.Steps.{IsRefused, OnlyFrames}
 use Rattle.session_core.specs.Updates.{WritesUnused}
-use Rattle.session_core.specs.Finding.{IfShown, LineStops, IsOutside}
+use Rattle.session_core.specs.Finding.{IfShown, LineStops, IsOutside, oid_among}
+use Rattle.ex_base.specs.declared.names.Oid.{Oid}
 
 -- The machine refuses the line so, or accepts it, whatever the volume decides.
 abbrev pub Answered : Machine → Request → Option Refusal → Type 0
 Answered m r why = (q : Pick) → refusal_of m r q ≡ why
+
+-- it is the OID that a line gives, as the session's names have it
+abbrev pub named_as : SessionState → Reference → Oid → Type 0
+named_as s x oid = oid_among s.names x ≡ Some oid
 
 -- A line that reads objects: it writes nothing and leaves the session but for its frames. From a view that shows it steps as the machine does, or the
 -- stop is no fault of the volume.

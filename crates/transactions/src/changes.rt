@@ -1,11 +1,12 @@
 //! The bytes of a version are changed.
-ghost use Rattle.std.specs.Prelude.{◌≡◌, ◌≤◌, IsTrue, true};
+ghost use Rattle.std.specs.Prelude.{◌≡◌, ◌≤◌, IsTrue, true, IfErr};
 ghost use Rattle.ex_base.specs.Sizes.{volume_bytes};
 ghost use Rattle.table_model.specs.Requests.{Request, is_given, reference_of};
 ghost use Rattle.transactions.specs.Asking.{CountsItsBytes, asked_change};
 ghost use Rattle.table_model.specs.Requests as request;
 ghost use Rattle.transactions.specs.Editing.{AsksFor};
-ghost use Rattle.transactions.specs.Lines.{UpdatesLine};
+ghost use Rattle.transactions.specs.Lines.{UpdatesLine, named_as};
+ghost use Rattle.session_core.specs.Damage.{TellsDamage};
 
 use crate::asked::{Asked, data_count};
 use crate::edits::admit;
@@ -28,8 +29,10 @@ fn change<H: Host>(
     requires room { volume_bytes session.old.geometry ≤ (H.outside host.old).size }
     requires is_open { session.old.opened ≡ true }
     requires asked { CountsItsBytes asked.now }
-    ensures { (r : Request) → AsksFor r (reference_of x.now) (asked_change asked.now)
+    ensures line { (r : Request) → AsksFor r (reference_of x.now) (asked_change asked.now)
         → UpdatesLine (H.outside host.old) (H.outside host.new) session.old session.new r result }
+    ensures damage { IfErr result (TellsDamage (H.outside host.old) (H.outside host.new)
+        session.old (named_as session.old (reference_of x.now))) }
 {
     let given = match admit(session, alloc, host, x, asked) {
         Ok(Ok(given)) => given,
@@ -61,8 +64,10 @@ pub(crate) fn insert<H: Host>(
 ) -> Result<Reply, Stop>
     requires room { volume_bytes session.old.geometry ≤ (H.outside host.old).size }
     requires given { IsTrue (is_given given.now) }
-    ensures { UpdatesLine (H.outside host.old) (H.outside host.new) session.old session.new
+    ensures line { UpdatesLine (H.outside host.old) (H.outside host.new) session.old session.new
         (request.Insert (reference_of x.now) pos given.now) result }
+    ensures damage { IfErr result (TellsDamage (H.outside host.old) (H.outside host.new)
+        session.old (named_as session.old (reference_of x.now))) }
 {
     if !session.is_open() {
         return Ok(Reply::No(Refusal::NoTxn));
@@ -82,8 +87,10 @@ pub(crate) fn append<H: Host>(
 ) -> Result<Reply, Stop>
     requires room { volume_bytes session.old.geometry ≤ (H.outside host.old).size }
     requires given { IsTrue (is_given given.now) }
-    ensures { UpdatesLine (H.outside host.old) (H.outside host.new) session.old session.new
+    ensures line { UpdatesLine (H.outside host.old) (H.outside host.new) session.old session.new
         (request.Append (reference_of x.now) given.now) result }
+    ensures damage { IfErr result (TellsDamage (H.outside host.old) (H.outside host.new)
+        session.old (named_as session.old (reference_of x.now))) }
 {
     if !session.is_open() {
         return Ok(Reply::No(Refusal::NoTxn));
@@ -103,8 +110,10 @@ pub(crate) fn replace<H: Host>(
 ) -> Result<Reply, Stop>
     requires room { volume_bytes session.old.geometry ≤ (H.outside host.old).size }
     requires given { IsTrue (is_given given.now) }
-    ensures { UpdatesLine (H.outside host.old) (H.outside host.new) session.old session.new
+    ensures line { UpdatesLine (H.outside host.old) (H.outside host.new) session.old session.new
         (request.Replace (reference_of x.now) pos given.now) result }
+    ensures damage { IfErr result (TellsDamage (H.outside host.old) (H.outside host.new)
+        session.old (named_as session.old (reference_of x.now))) }
 {
     if !session.is_open() {
         return Ok(Reply::No(Refusal::NoTxn));
@@ -124,8 +133,10 @@ pub(crate) fn delete<H: Host>(
     len: u64,
 ) -> Result<Reply, Stop>
     requires room { volume_bytes session.old.geometry ≤ (H.outside host.old).size }
-    ensures { UpdatesLine (H.outside host.old) (H.outside host.new) session.old session.new
+    ensures line { UpdatesLine (H.outside host.old) (H.outside host.new) session.old session.new
         (request.Delete (reference_of x.now) pos len) result }
+    ensures damage { IfErr result (TellsDamage (H.outside host.old) (H.outside host.new)
+        session.old (named_as session.old (reference_of x.now))) }
 {
     if !session.is_open() {
         return Ok(Reply::No(Refusal::NoTxn));

@@ -1,5 +1,5 @@
 //! The step of a session on a command.
-ghost use Rattle.std.specs.Prelude.{◌≡◌, ◌≢◌, ◌≤◌, ◌⊎◌, ℕ, List, Some, Ok, Err, IsTrue, IfOk, OnOk, OnErr, true, false};
+ghost use Rattle.std.specs.Prelude.{◌≡◌, ◌≢◌, ◌≤◌, ◌⊎◌, ℕ, List, Some, Ok, Err, IsTrue, IfErr, IfOk, OnOk, OnErr, true, false};
 ghost use Rattle.ex_base.specs.declared.faults.Seen.{Seen};
 ghost use Rattle.ex_base.specs.declared.names.Area.TheVariants.{Page};
 ghost use Rattle.ex_base.specs.declared.names.PageNo.{PageNo};
@@ -8,6 +8,7 @@ ghost use Rattle.disk_model.specs.Changes.{ChangesWithin};
 ghost use Rattle.disk_model.specs.Outside.{DiskOnly, Leaves, ReadsOnly, Rose};
 ghost use Rattle.op_log.specs.Log.{SaysLog};
 ghost use Rattle.op_log.specs.declared.record.LogRecord.{LogRecord};
+ghost use Rattle.tree_store.specs.Stored.{Tells};
 ghost use Rattle.volume_model.specs.Durable.{IsDurable};
 ghost use Rattle.table_model.specs.Requests.{request_of, is_request};
 ghost use Rattle.table_model.specs.Requests as request;
@@ -17,9 +18,10 @@ ghost use Rattle.session_core.specs.Sessions.{FreesGivenBack, FreesTaken, IsSess
 ghost use Rattle.session_core.specs.Catalogs.{IsDamaged, catalog_bytes};
 ghost use Rattle.session_core.specs.Commits.{JustReached, LogsCommit, committed_reach, working_reach};
 ghost use Rattle.session_core.specs.Counts.{free_in};
+ghost use Rattle.session_core.specs.Damage.{IsSessionDamage, TellsDamage};
 ghost use Rattle.session_core.specs.Meant.{meant};
 ghost use Rattle.session_core.specs.Steps.{IsRefused, OnlyFrames, IsQuiet};
-ghost use Rattle.transactions.specs.Commands.{Answers, IsCopy, IsOfCatalog, ReadsAlone, asks_objects};
+ghost use Rattle.transactions.specs.Commands.{Answers, IsCopy, IsOfCatalog, ReadsAlone, asks_objects, names_version};
 
 use crate::changes::{append, delete, insert, replace};
 use crate::copying::copy;
@@ -50,6 +52,8 @@ fn answer<H: Host>(
     requires form { IsTrue (is_request (request_of command.now)) }
     ensures answers { Answers (H.outside host.old) (H.outside host.new) session.old session.new
         (request_of command.now) result }
+    ensures damage { IfErr result (TellsDamage (H.outside host.old) (H.outside host.new)
+        session.old (names_version session.old (request_of command.now))) }
     ensures none_counts { request_of command.now ≡ request.Checkpoint
         → result ≡ Ok Reply.Checkpoint → session.new.log.count ≡ 0 }
     ensures logs { request_of command.now ≡ request.Commit → (before : View SessionState)
@@ -111,6 +115,8 @@ fn answer_objects<H: Host>(
     requires objects { asks_objects (request_of command.now) ≡ true }
     ensures answers { Answers (H.outside host.old) (H.outside host.new) session.old session.new
         (request_of command.now) result }
+    ensures damage { IfErr result (TellsDamage (H.outside host.old) (H.outside host.new)
+        session.old (names_version session.old (request_of command.now))) }
     ensures shares { IsCopy (request_of command.now) → OnOk result
         (TakesLogged session.old.units session.new.units session.new.pages) }
 {
@@ -151,6 +157,14 @@ pub fn step<H: Host>(
         → Rose (H.outside host.old).disk_faults (H.outside host.new).disk_faults }
     ensures damaged { (page : PageNo) (want got : Seen)
         → result ≡ Err (Stop.Damaged page want got) → want ≢ got }
+
+    // What is told of a damaged page stands there: on an honest disk, whose bytes the frames lend, what is wanted of the page and what is got of it are told by a
+    // look at the session's volume, for the version that the command names, or on the way down from a root that the session holds.
+    ensures stands { (page : PageNo) (want got : Seen)
+        → result ≡ Err (Stop.Damaged page want got)
+        → Tells (H.outside host.old) session.old.groups
+        → IsSessionDamage (H.outside host.old) (H.outside host.new) session.old
+        (names_version session.old (request_of command.now)) page want got }
 
     // From a view that shows to a view that shows, by the machine's step.
     ensures stepped { (before : View SessionState) → before.session ≡ session.old

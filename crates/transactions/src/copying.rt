@@ -1,14 +1,15 @@
 //! A version is copied: a current one is frozen, or one is derived from a frozen one.
 ghost use Rattle.std.specs.Prelude.{◌≡◌, ◌≤◌, None, Some, IsTrue, true, IfOk, IfErr, OnOk, MatchResult};
 ghost use Rattle.ex_base.specs.Sizes.{volume_bytes};
-ghost use Rattle.session_core.specs.Finding.{IfShown, IsOutside, LineStops};
+ghost use Rattle.session_core.specs.Finding.{IfShown, IsOutside, LineStops, oid_among};
 ghost use Rattle.session_core.specs.Sessions.{IsSession, TakesLogged};
 ghost use Rattle.session_core.specs.Steps.{OnlyFrames};
 ghost use Rattle.table_model.specs.Requests.{reference_of};
 ghost use Rattle.table_model.specs.Words.{is_name};
 ghost use Rattle.transactions.specs.Copies.{CanCopy, IsOriginal, MayCopy, copy_kind, copy_refusal, copy_reply, copy_request, kind_refusal};
 ghost use Rattle.volume_model.specs.Volume.{is_frozen};
-ghost use Rattle.transactions.specs.Lines.{Answered, UpdatesLine};
+ghost use Rattle.transactions.specs.Lines.{Answered, UpdatesLine, named_as};
+ghost use Rattle.session_core.specs.Damage.{TellsDamage};
 
 use crate::edits::refuses_room;
 use crate::making::{MAKING_NEED, make, next_number};
@@ -86,6 +87,10 @@ fn admit<H: Host>(
     ensures limits { IfOk result
         (λ told. IfOk told (λ given. CanCopy session.old name.now given)) }
     ensures stops { IfErr result (LineStops (H.outside host.old) (H.outside host.new)) }
+    ensures damage { IfErr result (TellsDamage (H.outside host.old) (H.outside host.new)
+        session.old (named_as session.old (reference_of x.now))) }
+    ensures asked { IfOk result (λ told. IfOk told (λ given.
+        oid_among session.old.names (reference_of x.now) ≡ Some given.oid)) }
     ensures sound { IfErr result (λ why. IfShown (H.outside host.old) session.old
         (λ before. IsOutside why)) }
 {
@@ -147,6 +152,8 @@ pub(crate) fn copy<H: Host>(
     requires name { IsTrue (is_name name.now) }
     ensures line { UpdatesLine (H.outside host.old) (H.outside host.new) session.old session.new
         (copy_request copying (reference_of x.now) name.now) result }
+    ensures damage { IfErr result (TellsDamage (H.outside host.old) (H.outside host.new)
+        session.old (named_as session.old (reference_of x.now))) }
     ensures shares { OnOk result
         (TakesLogged session.old.units session.new.units session.new.pages) }
 {

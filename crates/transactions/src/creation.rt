@@ -1,10 +1,11 @@
 //! An object is made.
-ghost use Rattle.std.specs.Prelude.{◌≡◌, ◌≤◌, IsTrue};
+ghost use Rattle.std.specs.Prelude.{◌≡◌, ◌≤◌, IsTrue, IfErr};
 ghost use Rattle.ex_base.specs.Sizes.{volume_bytes};
 ghost use Rattle.table_model.specs.Words.{is_name};
 ghost use Rattle.transactions.specs.Editing.{new_object_in};
 ghost use Rattle.table_model.specs.Requests as request;
 ghost use Rattle.transactions.specs.Lines.{UpdatesLine};
+ghost use Rattle.session_core.specs.Damage.{TellsDamage, no_version};
 
 use crate::edits::refuses_room;
 use crate::making::{MAKING_NEED, make, next_number};
@@ -48,8 +49,10 @@ pub(crate) fn create<H: Host>(
     requires room { volume_bytes session.old.geometry ≤ (H.outside host.old).size }
     requires file { IsTrue (is_name file.now) }
     requires name { IsTrue (is_name name.now) }
-    ensures { UpdatesLine (H.outside host.old) (H.outside host.new) session.old session.new
+    ensures line { UpdatesLine (H.outside host.old) (H.outside host.new) session.old session.new
         (request.Create file.now name.now) result }
+    ensures damage { IfErr result (TellsDamage (H.outside host.old) (H.outside host.new)
+        session.old no_version) }
 {
     if !session.is_open() {
         return Ok(Reply::No(Refusal::NoTxn));

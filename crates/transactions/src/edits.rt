@@ -1,7 +1,7 @@
 //! Objects are changed.
 ghost use Rattle.std.specs.Prelude.{◌≡◌, ◌≤◌, ◌+◌, true, false, Some, None, IfOk, IfErr, nat_le};
 ghost use Rattle.ex_base.specs.Sizes.{object_most, volume_bytes};
-ghost use Rattle.session_core.specs.Finding.{IfLive, IfShown, IsOutside, LineStops};
+ghost use Rattle.session_core.specs.Finding.{IfLive, IfShown, IsOutside, LineStops, oid_among};
 ghost use Rattle.transactions.specs.Asking.{CountsItsBytes, asked_change, asked_count};
 ghost use Rattle.versions.specs.Versions.{count_of, record_len};
 ghost use Rattle.transactions.specs.Editing.{bytes_refusal, is_outside};
@@ -11,6 +11,8 @@ ghost use Rattle.session_core.specs.Sessions.{IsSession};
 ghost use Rattle.session_core.specs.Steps.{OnlyFrames};
 ghost use Rattle.table_model.specs.Requests.{reference_of};
 ghost use Rattle.transactions.specs.Editing.{IsAnswered, IsAdmitted, IsWithin, IsNeed, full_in, room_refusal, edit_need};
+ghost use Rattle.session_core.specs.Damage.{TellsDamage, the_version};
+ghost use Rattle.transactions.specs.Lines.{named_as};
 
 use crate::asked::Asked;
 use crate::needs::{is_inside, size_after, units_need};
@@ -128,6 +130,8 @@ fn stays_small<D: Disk>(
         ≡ fits_beside before version.now
         (size_after (asked_change asked.now) version.now.found.size))) }
     ensures stops { IfErr result (LineStops (D.outside disk.old) (D.outside disk.new)) }
+    ensures damage { IfErr result (TellsDamage (D.outside disk.old) (D.outside disk.new)
+        session.old (the_version version.now.oid)) }
     ensures sound { IfErr result (λ why. IfShown (D.outside disk.old) session.old
         (λ before. IfLive before version.now.oid (λ bytes. IsOutside why))) }
 {
@@ -182,6 +186,10 @@ pub(crate) fn admit<H: Host>(
     ensures limits { IfOk result
         (λ told. IfOk told (λ given. IsWithin session.old (asked_change asked.now) given)) }
     ensures stops { IfErr result (LineStops (H.outside host.old) (H.outside host.new)) }
+    ensures damage { IfErr result (TellsDamage (H.outside host.old) (H.outside host.new)
+        session.old (named_as session.old (reference_of x.now))) }
+    ensures asked { IfOk result (λ told. IfOk told (λ given.
+        oid_among session.old.names (reference_of x.now) ≡ Some given.version.oid)) }
     ensures sound { IfErr result (λ why. IfShown (H.outside host.old) session.old
         (λ before. IsOutside why)) }
 {

@@ -5,12 +5,13 @@ ghost use Rattle.ex_base.specs.declared.names.Area.TheVariants.{Page};
 ghost use Rattle.bound_names.specs.Bindings.{is_bound};
 ghost use Rattle.session_core.specs.Counts.{free_in};
 ghost use Rattle.session_core.specs.Finding.{IsOutside, LineStops};
-ghost use Rattle.session_core.specs.Performed.{CanPerform, IsCopying};
+ghost use Rattle.session_core.specs.Performed.{CanPerform, IsCopying, asked_of};
 ghost use Rattle.session_core.specs.Sessions.{TakesLogged};
 ghost use Rattle.session_core.specs.Updates.{HasRoomFor, IfUpdated};
 ghost use Rattle.transactions.specs.Editing.{room_refusal};
 ghost use Rattle.transactions.specs.Lines.{WentOn};
 ghost use Rattle.transactions.specs.Making.{MakesVersion, making_need, number_in};
+ghost use Rattle.session_core.specs.Damage.{TellsDamage};
 
 use crate::edits::Need;
 use crate::removal::object_note;
@@ -60,6 +61,8 @@ pub(crate) fn make<H: Host>(
     ensures shares { IsCopying update.now → OnOk result
         (TakesLogged session.old.units session.new.units session.new.pages) }
     ensures stops { IfErr result (LineStops (H.outside host.old) (H.outside host.new)) }
+    ensures damage { IfErr result (TellsDamage (H.outside host.old) (H.outside host.new)
+        session.old (asked_of update.now)) }
     ensures sound { IfErr result (λ why. IfUpdated (H.outside host.old) session.old update.now
         (λ before u. HasRoomFor before u → IsOutside why)) }
 {

@@ -1,9 +1,10 @@
 //! An open scan gives its next bytes.
-ghost use Rattle.std.specs.Prelude.{◌≤◌, IsTrue};
+ghost use Rattle.std.specs.Prelude.{◌≤◌, IsTrue, IfErr};
 ghost use Rattle.ex_base.specs.Sizes.{volume_bytes};
 ghost use Rattle.table_model.specs.Requests.{is_request};
 ghost use Rattle.table_model.specs.Requests as request;
 ghost use Rattle.transactions.specs.Lines.{ScansLine};
+ghost use Rattle.session_core.specs.Damage.{TellsDamage, no_version};
 
 use disk_model::Host;
 use ex_base::Items;
@@ -22,8 +23,10 @@ pub(crate) fn next<H: Host>(
 ) -> Result<Reply, Stop>
     requires room { volume_bytes session.old.geometry ≤ (H.outside host.old).size }
     requires form { IsTrue (is_request (request.Next name.now len)) }
-    ensures { ScansLine (H.outside host.old) (H.outside host.new) session.old session.new
+    ensures line { ScansLine (H.outside host.old) (H.outside host.new) session.old session.new
         (request.Next name.now len) result }
+    ensures damage { IfErr result (TellsDamage (H.outside host.old) (H.outside host.new)
+        session.old no_version) }
 {
     let index = match session.scan_index(name) {
         Some(index) => index,

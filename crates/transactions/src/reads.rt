@@ -1,11 +1,12 @@
 //! What lines read of objects.
-ghost use Rattle.std.specs.Prelude.{◌≡◌, ◌≤◌, find, option_map};
+ghost use Rattle.std.specs.Prelude.{◌≡◌, ◌≤◌, find, option_map, IfErr};
 ghost use Rattle.ex_base.specs.Sizes.{volume_bytes};
 ghost use Rattle.object_files.specs.Edits.{IsCatalogPage, has_name};
 ghost use Rattle.object_files.specs.Reads.{catalog_on};
 ghost use Rattle.table_model.specs.Requests.{reference_of};
 ghost use Rattle.table_model.specs.Requests as request;
-ghost use Rattle.transactions.specs.Lines.{ReadsLine};
+ghost use Rattle.transactions.specs.Lines.{ReadsLine, named_as};
+ghost use Rattle.session_core.specs.Damage.{TellsDamage, no_version};
 
 use crate::refuse::entry_named;
 use disk_model::Host;
@@ -39,8 +40,10 @@ pub(crate) fn size<H: Host>(
     x: &Subject<'_>,
 ) -> Result<Reply, Stop>
     requires room { volume_bytes session.old.geometry ≤ (H.outside host.old).size }
-    ensures { ReadsLine (H.outside host.old) (H.outside host.new) session.old session.new
+    ensures line { ReadsLine (H.outside host.old) (H.outside host.new) session.old session.new
         (request.Size (reference_of x.now)) result }
+    ensures damage { IfErr result (TellsDamage (H.outside host.old) (H.outside host.new)
+        session.old (named_as session.old (reference_of x.now))) }
 {
     match session.named(alloc, host, x) {
         Ok(Ok(version)) => Ok(Reply::Size {
@@ -61,8 +64,10 @@ pub(crate) fn read<H: Host>(
     len: u32,
 ) -> Result<Reply, Stop>
     requires room { volume_bytes session.old.geometry ≤ (H.outside host.old).size }
-    ensures { ReadsLine (H.outside host.old) (H.outside host.new) session.old session.new
+    ensures line { ReadsLine (H.outside host.old) (H.outside host.new) session.old session.new
         (request.Read (reference_of x.now) pos len) result }
+    ensures damage { IfErr result (TellsDamage (H.outside host.old) (H.outside host.new)
+        session.old (named_as session.old (reference_of x.now))) }
 {
     let version = match session.named(alloc, host, x) {
         Ok(Ok(version)) => version,
@@ -92,8 +97,10 @@ pub(crate) fn list<H: Host>(
     name: &[u8],
 ) -> Result<Reply, Stop>
     requires room { volume_bytes session.old.geometry ≤ (H.outside host.old).size }
-    ensures { ReadsLine (H.outside host.old) (H.outside host.new) session.old session.new
+    ensures line { ReadsLine (H.outside host.old) (H.outside host.new) session.old session.new
         (request.ListFile name.now) result }
+    ensures damage { IfErr result (TellsDamage (H.outside host.old) (H.outside host.new)
+        session.old no_version) }
 {
     let page = match session.catalog(alloc, host) {
         Ok(page) => page,
@@ -119,8 +126,10 @@ pub(crate) fn versions<H: Host>(
     x: &Subject<'_>,
 ) -> Result<Reply, Stop>
     requires room { volume_bytes session.old.geometry ≤ (H.outside host.old).size }
-    ensures { ReadsLine (H.outside host.old) (H.outside host.new) session.old session.new
+    ensures line { ReadsLine (H.outside host.old) (H.outside host.new) session.old session.new
         (request.Versions (reference_of x.now)) result }
+    ensures damage { IfErr result (TellsDamage (H.outside host.old) (H.outside host.new)
+        session.old (named_as session.old (reference_of x.now))) }
 {
     let version = match session.named(alloc, host, x) {
         Ok(Ok(version)) => version,
@@ -143,8 +152,10 @@ pub(crate) fn stat<H: Host>(
     x: &Subject<'_>,
 ) -> Result<Reply, Stop>
     requires room { volume_bytes session.old.geometry ≤ (H.outside host.old).size }
-    ensures { ReadsLine (H.outside host.old) (H.outside host.new) session.old session.new
+    ensures line { ReadsLine (H.outside host.old) (H.outside host.new) session.old session.new
         (request.Stat (reference_of x.now)) result }
+    ensures damage { IfErr result (TellsDamage (H.outside host.old) (H.outside host.new)
+        session.old (named_as session.old (reference_of x.now))) }
 {
     let version = match session.named(alloc, host, x) {
         Ok(Ok(version)) => version,
@@ -181,8 +192,10 @@ pub(crate) fn digest<H: Host>(
     x: &Subject<'_>,
 ) -> Result<Reply, Stop>
     requires room { volume_bytes session.old.geometry ≤ (H.outside host.old).size }
-    ensures { ReadsLine (H.outside host.old) (H.outside host.new) session.old session.new
+    ensures line { ReadsLine (H.outside host.old) (H.outside host.new) session.old session.new
         (request.Digest (reference_of x.now)) result }
+    ensures damage { IfErr result (TellsDamage (H.outside host.old) (H.outside host.new)
+        session.old (named_as session.old (reference_of x.now))) }
 {
     let version = match session.named(alloc, host, x) {
         Ok(Ok(version)) => version,

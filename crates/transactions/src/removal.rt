@@ -1,7 +1,7 @@
 //! A version is removed: a current one is destroyed, or a frozen one dropped.
 ghost use Rattle.std.specs.Prelude.{◌≡◌, ◌≤◌, None, Some, true, IfOk, IfErr};
 ghost use Rattle.ex_base.specs.Sizes.{volume_bytes};
-ghost use Rattle.session_core.specs.Finding.{IfShown, IsOutside, LineStops};
+ghost use Rattle.session_core.specs.Finding.{IfShown, IsOutside, LineStops, oid_among};
 ghost use Rattle.session_core.specs.Sessions.{IsSession};
 ghost use Rattle.session_core.specs.Steps.{OnlyFrames};
 ghost use Rattle.volume_edits.specs.TableUpdates.{AsksDrop, AsksRemoval};
@@ -10,8 +10,9 @@ ghost use Rattle.table_model.specs.Requests.{reference_of};
 ghost use Rattle.table_model.specs.Steps.{note};
 ghost use Rattle.table_model.specs.Requests as request;
 ghost use Rattle.transactions.specs.Editing.{room_refusal};
-ghost use Rattle.transactions.specs.Lines.{Answered, UpdatesLine};
+ghost use Rattle.transactions.specs.Lines.{Answered, UpdatesLine, named_as};
 ghost use Rattle.transactions.specs.Removing.{AcceptsOf, removal_need};
+ghost use Rattle.session_core.specs.Damage.{TellsDamage};
 
 use crate::edits::{Need, refuses_room};
 use crate::refuse::is_frozen;
@@ -62,6 +63,10 @@ fn admit_destroy<H: Host>(
     ensures limits { IfOk result
         (λ told. IfOk told (λ oid. room_refusal session.old removal_need ≡ None)) }
     ensures stops { IfErr result (LineStops (H.outside host.old) (H.outside host.new)) }
+    ensures damage { IfErr result (TellsDamage (H.outside host.old) (H.outside host.new)
+        session.old (named_as session.old (reference_of x.now))) }
+    ensures asked { IfOk result (λ told. IfOk told (λ oid.
+        oid_among session.old.names (reference_of x.now) ≡ Some oid)) }
     ensures sound { IfErr result (λ why. IfShown (H.outside host.old) session.old
         (λ before. IsOutside why)) }
 {
@@ -105,6 +110,10 @@ fn admit_drop<H: Host>(
     ensures limits { IfOk result
         (λ told. IfOk told (λ oid. room_refusal session.old removal_need ≡ None)) }
     ensures stops { IfErr result (LineStops (H.outside host.old) (H.outside host.new)) }
+    ensures damage { IfErr result (TellsDamage (H.outside host.old) (H.outside host.new)
+        session.old (named_as session.old (reference_of x.now))) }
+    ensures asked { IfOk result (λ told. IfOk told (λ oid.
+        oid_among session.old.names (reference_of x.now) ≡ Some oid)) }
     ensures sound { IfErr result (λ why. IfShown (H.outside host.old) session.old
         (λ before. IsOutside why)) }
 {
@@ -137,8 +146,10 @@ pub(crate) fn destroy<H: Host>(
     x: &Subject<'_>,
 ) -> Result<Reply, Stop>
     requires room { volume_bytes session.old.geometry ≤ (H.outside host.old).size }
-    ensures { UpdatesLine (H.outside host.old) (H.outside host.new) session.old session.new
+    ensures line { UpdatesLine (H.outside host.old) (H.outside host.new) session.old session.new
         (request.Destroy (reference_of x.now)) result }
+    ensures damage { IfErr result (TellsDamage (H.outside host.old) (H.outside host.new)
+        session.old (named_as session.old (reference_of x.now))) }
 {
     if !session.is_open() {
         return Ok(Reply::No(Refusal::NoTxn));
@@ -164,8 +175,10 @@ pub(crate) fn drop_version<H: Host>(
     x: &Subject<'_>,
 ) -> Result<Reply, Stop>
     requires room { volume_bytes session.old.geometry ≤ (H.outside host.old).size }
-    ensures { UpdatesLine (H.outside host.old) (H.outside host.new) session.old session.new
+    ensures line { UpdatesLine (H.outside host.old) (H.outside host.new) session.old session.new
         (request.DropVersion (reference_of x.now)) result }
+    ensures damage { IfErr result (TellsDamage (H.outside host.old) (H.outside host.new)
+        session.old (named_as session.old (reference_of x.now))) }
 {
     if !session.is_open() {
         return Ok(Reply::No(Refusal::NoTxn));

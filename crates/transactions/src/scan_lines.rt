@@ -1,12 +1,13 @@
 //! Scans are opened, and closed.
-ghost use Rattle.std.specs.Prelude.{◌≡◌, ◌≤◌, Some, option_map, IsTrue, MatchResult, OnOk};
+ghost use Rattle.std.specs.Prelude.{◌≡◌, ◌≤◌, Some, option_map, IsTrue, MatchResult, OnOk, IfErr};
 ghost use Rattle.ex_base.specs.Sizes.{volume_bytes};
 ghost use Rattle.ex_base.specs.declared.names.Area.TheVariants.{Page};
 ghost use Rattle.session_core.specs.Counts.{free_in};
 ghost use Rattle.table_model.specs.Requests.{is_request, reference_of};
 ghost use Rattle.table_model.specs.Requests as request;
-ghost use Rattle.transactions.specs.Lines.{ScansLine};
+ghost use Rattle.transactions.specs.Lines.{ScansLine, named_as};
 ghost use Rattle.transactions.specs.Scanning.{MayOpen, group_asked, scan_refusal};
+ghost use Rattle.session_core.specs.Damage.{TellsDamage, no_version};
 
 use disk_model::Host;
 use ex_base::Items;
@@ -73,8 +74,10 @@ pub(crate) fn scan<H: Host>(
     requires room { volume_bytes session.old.geometry ≤ (H.outside host.old).size }
     requires form { IsTrue (is_request (request.Scan (reference_of x.now) name.now
         (option_map (λ g. g.now) group))) }
-    ensures { ScansLine (H.outside host.old) (H.outside host.new) session.old session.new
+    ensures line { ScansLine (H.outside host.old) (H.outside host.new) session.old session.new
         (request.Scan (reference_of x.now) name.now (option_map (λ g. g.now) group.entry)) result }
+    ensures damage { IfErr result (TellsDamage (H.outside host.old) (H.outside host.new)
+        session.old (named_as session.old (reference_of x.now))) }
 {
     let told = match session.named(alloc, host, x) {
         Ok(told) => told,
@@ -107,6 +110,8 @@ pub(crate) fn close<H: Host>(
     requires form { IsTrue (is_request (request.Close name.now)) }
     ensures line { ScansLine (H.outside host.old) (H.outside host.new) session.old session.new
         (request.Close name.now) result }
+    ensures damage { IfErr result (TellsDamage (H.outside host.old) (H.outside host.new)
+        session.old no_version) }
     ensures idle { OnOk result (free_in session.new Page ≡ free_in session.old Page
         → host.new ≡ host.old) }
 {

@@ -21,7 +21,7 @@ use Rattle.trees.specs.Rows.{parts_of, IsFilled, IsRowOn}
 use Rattle.trees.specs.Damage.{AnyPart, IsLeafFault, IsNodeAt, IsNodeFault, IsWalkFault}
 use Rattle.trees.proofs.Blame.{walk_part}
 use Rattle.trees.proofs.Reading.{no_part}
-use Rattle.version_delete.specs.Released.{Owned, AreAt, IsFreed, Gives, Released, Blames}
+use Rattle.version_delete.specs.Released.{Owned, AreAt, IsFreed, Gives, KeepsBytes, Released, Blames, BlamesAlways}
 use Rattle.trees.specs.Made.{pages_of}
 use Rattle.version_delete.proofs.Releasing.{still_at, gives_geometry}
 
@@ -112,3 +112,14 @@ module _ {S : Type 0} (g : ground.Ghosts S) where
     where
       P_at : ℕ → Type 0
       P_at p = StandsAt (g.geometry d) (g.unit d) level p
+
+  -- the same where units keep their bytes, whoever owns them
+  pub kept_row : KeepsBytes g → (a now : S) (level least i : ℕ) (row : List Part) (fault : PortFault) → i < length row → Gives g a now → g.tells a
+      → BlamesAlways g now level least (get_or row i no_part ∷ []) fault → IsWalkFault (g.geometry a) (g.unit a) level least row fault
+  kept_row keeps a now level least i row fault lt gives told blames =
+      let child = get_or row i no_part in
+      let walk = blames keeps (g.frees_told (IsFreed g a now) a now gives.frees told) in
+      walk_part (g.geometry a) (g.unit a) level least i 1 row fault
+      (subst (λ r. IsWalkFault (g.geometry a) (g.unit a) level least r fault) (sym (one_at row i lt))
+      (subst (λ (h : Geometry). IsWalkFault h (g.unit a) level least (child ∷ []) fault) (gives_geometry g a now gives)
+      (subst (λ (us : Units). IsWalkFault (g.geometry now) us level least (child ∷ []) fault) (keeps a now gives) walk)))

@@ -46,3 +46,11 @@ Released g old new level pages = g.tells old → (logged roots : List ℕ) → A
 abbrev pub Blames : {S : Type 0} → ground.Ghosts S → S → ℕ → ℕ → List Part → PortFault → Type 0
 Blames g s level least row fault = g.tells s → (logged roots : List ℕ) → AreAt g s level (pages_of row)
     → Owned g s logged (pages_of row ++ roots) → IsWalkFault (g.geometry s) (g.unit s) level least row fault
+
+-- Whatever is given up, each unit keeps its bytes.
+abbrev pub KeepsBytes : {S : Type 0} → ground.Ghosts S → Type 0
+KeepsBytes {S} g = (a b : S) → Gives g a b → g.unit b ≡ g.unit a
+
+-- Where units keep their bytes, the fault is the port's own, or tells of a page on the way down from these trees that isn't what names it, whoever owns them.
+abbrev pub BlamesAlways : {S : Type 0} → ground.Ghosts S → S → ℕ → ℕ → List Part → PortFault → Type 0
+BlamesAlways g s level least row fault = KeepsBytes g → g.tells s → IsWalkFault (g.geometry s) (g.unit s) level least row fault

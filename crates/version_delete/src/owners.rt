@@ -4,7 +4,7 @@ ghost use Rattle.ex_base.specs.Ports.{HasCause};
 ghost use Rattle.ex_base.specs.declared.names.Area.TheVariants.{Page};
 ghost use Rattle.trees.specs.Owners.{root_pages};
 ghost use Rattle.trees.specs.Counted.{HasCounts};
-ghost use Rattle.version_delete.specs.Released.{AreApart, Gives, Released, Blames};
+ghost use Rattle.version_delete.specs.Released.{AreApart, Gives, Released, Blames, BlamesAlways};
 ghost use Rattle.trees.specs.Damage.{AnyPart, IsLeafFault, root_row};
 ghost use Rattle.trees.specs.Made.{pages_of};
 
@@ -78,6 +78,8 @@ fn release<B: CountBlocks, L: Ledger>(
     ensures idle { steps.new ≡ steps.old → B.idle blocks.old blocks.new }
     ensures fault { IfErr result (λ fault. Blames B.Ground blocks.old level least (tree
         ∷ []) fault) }
+    ensures way { IfErr result (λ fault. BlamesAlways B.Ground blocks.old level least (tree
+        ∷ []) fault) }
     ensures cause { HasCause (B.faults blocks.old) (B.faults blocks.new) result }
 {
     if level == 0 {
@@ -129,6 +131,8 @@ pub fn release_tree<B: CountBlocks, L: Ledger>(
     ensures rises { steps.old ≤ steps.new }
     ensures idle { steps.new ≡ steps.old → B.idle blocks.old blocks.new }
     ensures fault { IfErr result (λ fault. Blames B.Ground blocks.old root.now.height 2
+        (root_row root.now) fault) }
+    ensures way { IfErr result (λ fault. BlamesAlways B.Ground blocks.old root.now.height 2
         (root_row root.now) fault) }
     ensures cause { HasCause (B.faults blocks.old) (B.faults blocks.new) result }
 {

@@ -62,3 +62,4 @@ pub mod BytesChanged
 pub mod Making
 pub mod MovedVolumes
 pub mod UnitsTaken
+pub mod Damage

@@ -2,3 +2,4 @@ pub mod Ported
 pub mod Shown
 pub mod Edits
 pub mod TableUpdates
+pub mod Damage

@@ -1,10 +1,11 @@
 -- Trees that are given up over the parts of a session: what became free, what is owned, and that no whole tree is told to be damaged.
-use Rattle.std.proofs.Common.{◌≡◌, ◌∙◌, ◌+◌, ◌≤◌, ℕ, zero, suc, Bool, true, false, cond, ltb, inl, inr, List, [], ◌∷◌, ◌++◌, Option, Some, None, refl, sym, ap, subst, arith, append_assoc, true≢false}
+use Rattle.std.proofs.Common.{◌≡◌, ◌∙◌, ◌+◌, ◌<◌, ◌≤◌, ℕ, zero, suc, Bool, true, false, cond, ltb, inl, inr, List, [], ◌∷◌, ◌++◌, Option, Some, None, length, get_or, Contains, refl, sym, ap, subst, arith, append_assoc, true≢false}
 use mathlib.Core.Path.{fun_ext}
 use Rattle.std.specs.Borrow.{MutBor}
 use Rattle.std.specs.List.{AllByRecursion}
 use Rattle.std.proofs.lemmas.Bool.{cases_Bool}
 use Rattle.std.proofs.lemmas.List.{append-nil}
+use Rattle.std.proofs.lemmas.List.Elements.{Contains-get_or, Contains-push_cases}
 use Rattle.ex_base.specs.declared.faults.PortFault.{PortFault}
 use Rattle.ex_base.specs.declared.geometry.Geometry.{Geometry}
 use Rattle.ex_base.specs.declared.names.Area.{Area}
@@ -26,7 +27,7 @@ use Rattle.trees.proofs.Sound.{sound_root}
 use Rattle.volume_model.specs.Homes.{home}
 use Rattle.volume_model.proofs.OwnersTurned.{root_stands}
 use Rattle.volume_port.specs.Giving.{GivesUp, is_logged, tree_refs}
-use Rattle.volume_port.specs.GivingUp.{GivesTrees, OwnRoots, ReleasesRoots}
+use Rattle.volume_port.specs.GivingUp.{GivesTrees, IsGivingFault, OwnRoots, ReleasesRoots}
 use Rattle.volume_port.specs.Logged.{LoggedSet}
 use Rattle.volume_port.proofs.Giving.{no_refs_of_logged, refs_of_other}
 
@@ -195,3 +196,29 @@ module _ (pages : LoggedSet) (kept : List Bool) (g : Geometry) (a b : Outside) (
   pub rest_left : (new : UnitSet) → ReleasesRoots pages kept g b later now new (root ∷ []) → LeavesRoots pages kept g a groups old new roots rest
   unfolding next_owns
   rest_left new released own = ((left own).0.1, released (next_owns own))
+
+-- ---- what is told of a tree that is given up
+
+-- A port that gives trees up only reads the disk.
+pub giving_keeps : {D : Type 0} (outside : D → Outside) {d e : MutBor D} {u v : MutBor UnitSet} {f h : MutBor (List Frames)} {i j : ℕ} {a b : Geometry} {k l : LoggedSet} {m n : List Bool} {freed : ℕ → Type 0}
+    → GivesUp outside freed d e u v f h i j a b k l m n → unit_bytes b (outside e.now).disk ≡ unit_bytes a (outside d.now).disk
+giving_keeps outside {d} {e} {a} {b} x = ap (λ (g : Geometry). unit_bytes g (outside e.now).disk) x.store.geometry ∙ ap (unit_bytes a) x.only.nothing.disk
+
+pub only_one : (one other : Root) → Contains (one ∷ []) other → other ≡ one
+only_one one other has = elim (Contains-push_cases [] one other has) [
+  | inl none ↦ absurd (omega (arith, none.1))
+  | inr same ↦ sym same
+]
+
+-- A fault at one of some roots, after those before it were given up, over what the disk tells at first.
+pub later_fault : (g : Geometry) (a b : Outside) (groups later : List Frames) (roots : List Root) (i : ℕ) → i < length roots → b.disk ≡ a.disk → (Tells a groups → Tells b later) → (fault : PortFault)
+    → IsGivingFault g b later (get_or roots i no_root ∷ []) fault → IsGivingFault g a groups roots fault
+later_fault g a b groups later roots i lt same told fault is = λ tells.
+    let blamed = is (told tells) in
+    let only : blamed.root ≡ get_or roots i no_root = only_one (get_or roots i no_root) blamed.root blamed.one in
+    record {
+      root = get_or roots i no_root;
+      one = Contains-get_or roots i no_root lt;
+      way = subst (λ (held : Option (List ℕ)). IsRootFault g (unit_bytes g held) (get_or roots i no_root) fault) same
+          (subst (λ (root : Root). IsRootFault g (unit_bytes g b.disk) root fault) only blamed.way);
+    }

@@ -1,6 +1,7 @@
 -- What giving trees up over the parts of a session does.
-use Rattle.std.specs.Prelude.{◌≡◌, ◌≤◌, ◌<◌, ◌+◌, ℕ, Bool, true, List, ◌++◌, Option, Some}
+use Rattle.std.specs.Prelude.{◌≡◌, ◌≤◌, ◌<◌, ◌+◌, ℕ, Bool, true, List, ◌++◌, Contains, Option, Some}
 use Rattle.std.specs.List.{AllByRecursion}
+use Rattle.ex_base.specs.declared.faults.PortFault.{PortFault}
 use Rattle.ex_base.specs.declared.geometry.Geometry.{Geometry}
 use Rattle.ex_base.specs.declared.names.Area.{Area}
 use Rattle.ex_base.specs.declared.names.Root.{Root}
@@ -10,9 +11,10 @@ use Rattle.disk_model.specs.Outside.{Outside, ReadsOnly}
 use Rattle.buffer_groups.specs.Frames.{Frames}
 use Rattle.buffer_groups.specs.Groups.{SameKinds}
 use Rattle.page_alloc.specs.UnitSet.{UnitSet, used_at, refs_at, free_count}
-use Rattle.tree_store.specs.Stored.{Fits, Tells}
-use Rattle.trees.specs.Damage.{IsWhole}
+use Rattle.tree_store.specs.Stored.{Fits, Tells, unit_bytes}
+use Rattle.trees.specs.Damage.{IsRootFault, IsWhole}
 use Rattle.trees.specs.Owners.{IsOwned, root_pages}
+use Rattle.trees.specs.Trees.{Units}
 use Rattle.volume_model.specs.Held.{root_here}
 use Rattle.volume_model.specs.Homes.{home}
 pub use Rattle.volume_port.specs.Giving.{is_logged}
@@ -53,3 +55,13 @@ pub record CountsRoot (root : Option Root) (old new : UnitSet) : Type 0 where
   pub used : used_at new ≡ used_at old
   pub refs : ((u : ℕ) → 1 ≤ times u (root_pages (root_here root)) → IsUnit old.geometry u × (used_at old u ≡ true) × (refs_at old u < refs_most))
       → (u : ℕ) → refs_at new u ≡ refs_at old u + times u (root_pages (root_here root))
+
+-- The fault is the port's own, or tells of a page on the way down from one of these roots.
+pub record BlamesRoot (g : Geometry) (units : Units) (roots : List Root) (fault : PortFault) : Type 0 where
+  pub root : Root
+  pub one : Contains roots root
+  pub way : IsRootFault g units root fault
+
+-- so over the bytes that the disk tells and the frames lend
+abbrev pub IsGivingFault : Geometry → Outside → List Frames → List Root → PortFault → Type 0
+IsGivingFault g a groups roots fault = Tells a groups → BlamesRoot g (unit_bytes g a.disk) roots fault

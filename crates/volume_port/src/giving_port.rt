@@ -7,7 +7,7 @@ ghost use Rattle.buffer_groups.specs.Groups.{HasFrame};
 ghost use Rattle.page_alloc.specs.UnitSet.{free_count, used_at};
 ghost use Rattle.trees.specs.Damage.{root_row};
 ghost use Rattle.trees.specs.Owners.{root_pages};
-ghost use Rattle.version_delete.specs.Released.{Blames, Gives, Released};
+ghost use Rattle.version_delete.specs.Released.{Blames, BlamesAlways, Gives, Released};
 ghost use Rattle.volume_port.specs.Giving.{is_logged};
 
 use crate::logged::LoggedPages;
@@ -156,6 +156,8 @@ impl<'a, D: Disk> GivingPort<'a, D> {
             ≡ ⟦<GivingPort<'a, D> as Ground>⟧.free self.old Page
             → self.new.disk.now ≡ self.old.disk.now) }
         ensures fault { IfErr result (λ fault. Blames ⟦<GivingPort<'a, D> as Ground>⟧ self.old
+            root.now.height 2 (root_row root.now) fault) }
+        ensures way { IfErr result (λ fault. BlamesAlways ⟦<GivingPort<'a, D> as Ground>⟧ self.old
             root.now.height 2 (root_row root.now) fault) }
         ensures cause { HasCause (⟦<GivingPort<'a, D> as Ground>⟧.faults self.old)
             (⟦<GivingPort<'a, D> as Ground>⟧.faults self.new) result }

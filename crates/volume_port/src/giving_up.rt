@@ -8,8 +8,8 @@ ghost use Rattle.page_alloc.specs.UnitSet.{free_count, refs_at, used_at};
 ghost use Rattle.tree_store.specs.Stored.{Fits, IsCounted};
 ghost use Rattle.trees.specs.Damage.{root_row};
 ghost use Rattle.trees.specs.Owners.{root_pages};
-ghost use Rattle.version_delete.specs.Released.{Blames, Gives, Released};
-ghost use Rattle.volume_port.specs.GivingUp.{CountsRoot, GivesTrees, OwnRoots, ReleasesRoots, is_logged};
+ghost use Rattle.version_delete.specs.Released.{Blames, BlamesAlways, Gives, Released};
+ghost use Rattle.volume_port.specs.GivingUp.{CountsRoot, GivesTrees, IsGivingFault, OwnRoots, ReleasesRoots, is_logged};
 
 use crate::giving_port::GivingPort;
 use crate::logged::LoggedPages;
@@ -59,6 +59,8 @@ fn give_up_once<'a, D: Disk, L: Ledger>(
         → port.new.disk.now ≡ port.old.disk.now) }
     ensures fault { IfErr result (λ fault. Blames ⟦<GivingPort<'a, D> as Ground>⟧ port.old
         root.now.height 2 (root_row root.now) fault) }
+    ensures way { IfErr result (λ fault. BlamesAlways ⟦<GivingPort<'a, D> as Ground>⟧ port.old
+        root.now.height 2 (root_row root.now) fault) }
     ensures cause { HasCause (⟦<GivingPort<'a, D> as Ground>⟧.faults port.old)
         (⟦<GivingPort<'a, D> as Ground>⟧.faults port.new) result }
 {
@@ -89,6 +91,8 @@ pub fn release_root<D: Disk>(
     ensures sound { IfErr result (λ fault. IsDamage fault
         → OwnRoots pages.now kept.now geometry.now (D.outside disk.old) groups.old units.old
         (root.now ∷ []) → ⊥) }
+    ensures fault { IfErr result (IsGivingFault geometry.now (D.outside disk.old) groups.old
+        (root.now ∷ [])) }
     ensures refs { (unit : ℕ) → refs_at units.new unit ≤ refs_at units.old unit }
     ensures quiet { OnOk result (free_count units.new.geometry (used_at units.new) Page
         ≡ free_count units.old.geometry (used_at units.old) Page
@@ -129,6 +133,8 @@ pub fn release_roots<D: Disk>(
     ensures sound { IfErr result (λ fault. IsDamage fault
         → OwnRoots pages.now kept.now geometry.now (D.outside disk.old) groups.old units.old
         roots.now → ⊥) }
+    ensures fault { IfErr result (IsGivingFault geometry.now (D.outside disk.old) groups.old
+        roots.now) }
     ensures refs { (unit : ℕ) → refs_at units.new unit ≤ refs_at units.old unit }
     ensures quiet { OnOk result (free_count units.new.geometry (used_at units.new) Page
         ≡ free_count units.old.geometry (used_at units.old) Page

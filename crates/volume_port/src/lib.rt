@@ -10,7 +10,6 @@ mod law;
 mod logged;
 mod pages;
 mod port;
-mod reading;
 mod reading_port;
 mod room;
 mod state;

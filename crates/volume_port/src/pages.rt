@@ -7,7 +7,7 @@ ghost use Rattle.ex_base.specs.declared.names.Area.TheVariants.{Page, Segment};
 ghost use Rattle.page_alloc.specs.UnitSet.{used_at};
 
 use crate::port::VolumePort;
-use crate::reading::read_page;
+use crate::reading_port::read_page;
 use disk_model::Disk;
 use ex_base::{Area, Ground, PageNo, Pages, PortFault, ReadPages, ReadVolume, Volume};
 use std::alloc::Global;

@@ -1,5 +1,5 @@
 //! A transaction is opened, and one is given up.
-ghost use Rattle.std.specs.Prelude.{◌≡◌, ◌≤◌, true, false, OnOk};
+ghost use Rattle.std.specs.Prelude.{◌≡◌, ◌≤◌, true, false, OnOk, IfErr};
 ghost use Rattle.ex_base.specs.Sizes.{volume_bytes};
 
 use super::Session;
@@ -19,6 +19,7 @@ impl Session {
     ghost use Rattle.session_core.specs.Counts.{free_in};
     ghost use Rattle.session_views.specs.View.{View, ShowsNow};
     ghost use Rattle.session_core.specs.Commits.{JustReached, committed_reach};
+    ghost use Rattle.session_core.specs.Damage.{TellsDamage, no_version};
     ghost use Rattle.session_core.specs.Meant.{meant};
     ghost use Rattle.session_core.specs.Sessions.{FreesTaken, SessionState};
     ghost use Rattle.session_core.specs.Steps.{Steps, StepsQuietly};
@@ -54,6 +55,8 @@ impl Session {
         requires room { volume_bytes self.old.geometry ≤ (H.outside host.old).size }
         ensures steps { Steps (H.outside host.old)
             (H.outside host.new) self.old self.new request.Abort result }
+        ensures damage { IfErr result (TellsDamage (H.outside host.old) (H.outside host.new)
+            self.old no_version) }
 
         // The pages that the transaction took are free.
         ensures freed { self.old.opened ≡ true → OnOk result (FreesTaken self.old self.new) }

@@ -2,7 +2,9 @@
 ghost use Rattle.std.specs.Prelude.{◌≡◌, ◌≤◌, ℕ, IfOk, IfErr, OnOk};
 ghost use Rattle.ex_base.specs.Area.{InPageArea};
 ghost use Rattle.ex_base.specs.Ports.{Keeps, HasCause, Cause, IsDamage};
+ghost use Rattle.ex_base.specs.Seen.{file_page_seen, nothing_seen};
 ghost use Rattle.ex_base.specs.Sizes.{volume_bytes};
+ghost use Rattle.ex_base.specs.declared.faults.PortFault.TheVariants.{Damaged};
 ghost use Rattle.slotted_pages.specs.FilePage.{room_of};
 ghost use Rattle.slotted_pages.specs.Edits.{slots_of};
 ghost use Rattle.slotted_pages.specs.Reads.{IsPage};
@@ -21,6 +23,7 @@ use volume_port::{MAIN, ReadingPort};
 /// The fault of a page that is not one of a file.
 fn no_file_page(page: PageNo) -> PortFault
     ensures damage { IsDamage result }
+    ensures is { result ≡ Damaged page (file_page_seen 0) nothing_seen }
     ensures cause { (before now : ℕ) → Cause before now result }
 {
     PortFault::Damaged {
@@ -36,6 +39,8 @@ fn room_at<P: ReadPages>(pages: &mut P, alloc: Global, page: PageNo) -> Result<u
     ensures room { IfOk result (λ room. P.tells pages.old
         → room ≡ room_of (P.geometry pages.old).page_size (slots_of (P.image pages.old page.0))) }
     ensures area { OnOk result (InPageArea (P.geometry pages.old) page.0) }
+    ensures fault { IfErr result (λ fault. IsDamage fault
+        → fault ≡ Damaged page (file_page_seen 0) nothing_seen) }
     ensures sound { IfErr result (λ fault. IsDamage fault → P.tells pages.old
         → InPageArea (P.geometry pages.old) page.0 → IsPage (P.image pages.old page.0) → ⊥) }
     ensures kept { Keeps P.Ground pages.old pages.new }
@@ -51,6 +56,7 @@ fn room_at<P: ReadPages>(pages: &mut P, alloc: Global, page: PageNo) -> Result<u
 }
 
 impl Session {
+    ghost use Rattle.session_core.specs.Damage.{TellsDamage, the_version};
     ghost use Rattle.session_core.specs.Finding.{IsOutside, LineStops};
     ghost use Rattle.session_core.specs.Sessions.{IsSession};
     ghost use Rattle.session_core.specs.Steps.{OnlyFrames};
@@ -69,6 +75,8 @@ impl Session {
         ensures room { IfOk result (λ room. IfShown (D.outside disk.old) self.old (λ before. room
             ≡ room_beside before oid.now)) }
         ensures stops { IfErr result (LineStops (D.outside disk.old) (D.outside disk.new)) }
+        ensures damage { IfErr result (TellsDamage (D.outside disk.old) (D.outside disk.new)
+            self.old (the_version oid.now)) }
         ensures sound { IfErr result (λ why. IfShown (D.outside disk.old) self.old
             (λ before. IfLive before oid.now (λ bytes. IsOutside why))) }
     {

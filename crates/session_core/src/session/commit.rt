@@ -54,6 +54,7 @@ impl Session {
     ghost use Rattle.session_views.specs.View.{View, ShowsNow};
     ghost use Rattle.session_core.specs.Commits.{JustReached, LogsCommit, working_reach};
     ghost use Rattle.session_core.specs.Sessions.{FreesGivenBack, SessionState};
+    ghost use Rattle.session_core.specs.Damage.{TellsDamage, no_version};
     ghost use Rattle.session_core.specs.Meant.{meant};
     ghost use Rattle.session_core.specs.Steps.{Steps};
 
@@ -64,6 +65,8 @@ impl Session {
         requires room { volume_bytes self.old.geometry ≤ (H.outside host.old).size }
         ensures steps { Steps (H.outside host.old)
             (H.outside host.new) self.old self.new request.Commit result }
+        ensures damage { IfErr result (TellsDamage (H.outside host.old) (H.outside host.new)
+            self.old no_version) }
         ensures logs { (before : View SessionState) → before.session ≡ self.old
             → (shown : ShowsNow meant (H.outside host.old) before) → self.old.opened ≡ true
             → OnOk result (LogsCommit shown.shows.decoded shown.shows.working self.old

@@ -16,6 +16,7 @@ use volume_port::{MAIN, ReadingPort};
 impl Session {
     ghost use Rattle.session_core.specs.Sessions.{IsSession};
     ghost use Rattle.session_core.specs.Steps.{OnlyFrames};
+    ghost use Rattle.session_core.specs.Damage.{TellsDamage, the_version};
     ghost use Rattle.session_core.specs.Finding.{LineStops, IsOutside};
 
     /// The SHA-256 digest of a version of `size` bytes, which are read as many at a time as `buffer` has room for. It stops where the disk fails, where
@@ -36,6 +37,8 @@ impl Session {
             (λ before. IfLive before oid.now
             (λ bytes. length bytes ≡ size → hash ≡ sha256 bytes))) }
         ensures stops { IfErr result (LineStops (D.outside disk.old) (D.outside disk.new)) }
+        ensures damage { IfErr result (TellsDamage (D.outside disk.old) (D.outside disk.new)
+            self.old (the_version oid.now)) }
         ensures sound { IfErr result (λ why. IfShown (D.outside disk.old) self.old
             (λ before. IfLive before oid.now (λ bytes. size ≤ length bytes → IsOutside why))) }
     {

@@ -12,8 +12,9 @@ ghost use Rattle.meta_pages.specs.Overlays.{AreRows};
 ghost use Rattle.op_log.specs.Records.{IsNote};
 ghost use Rattle.page_alloc.specs.UnitSet.{free_count, used_at};
 ghost use Rattle.table_model.specs.Machines.{touched_most, updates_most};
-ghost use Rattle.session_core.specs.Performed.{CanPerform, IsCopying, NamesOid, charge_of};
+ghost use Rattle.session_core.specs.Performed.{CanPerform, IsCopying, NamesOid, charge_of, asked_of};
 ghost use Rattle.volume_edits.specs.TableUpdates.{updated};
+ghost use Rattle.session_core.specs.Damage.{IsFaultAt, IsUpdateFault, TellsDamage};
 ghost use Rattle.session_core.specs.Finding.{IsOutside, LineStops};
 ghost use Rattle.session_core.specs.Counts.{free_in};
 ghost use Rattle.session_core.specs.Sessions.{SessionState, TakesLogged};
@@ -104,6 +105,10 @@ fn update_parts<'a, D: Disk>(
         → AreReady (D.outside disk.old).size v
         → IfErr result (λ fault. IfAsked (D.outside disk.old) v update.now (λ before u.
         HasRoomFor before u → IsDamage fault → ⊥)) }
+    ensures fault { (v : VolumeState)
+        → HasParts v geometry.now units.old groups.old meta.old pages.old
+        → AreReady (D.outside disk.old).size v
+        → IfErr result (IsFaultAt (D.outside disk.old) v (asked_of update.now)) }
     ensures cause { HasCause (D.outside disk.old).disk_faults
         (D.outside disk.new).disk_faults result }
 {
@@ -150,6 +155,8 @@ fn update_volume<D: Disk>(
     ensures sound { IfErr result (λ fault. IfAsked (D.outside disk.old) volume.old update.now
         (λ before u. HasRoots before.session gained.old.items lost.old.items
         → HasRoomFor before u → IsDamage fault → ⊥)) }
+    ensures fault { IfErr result (IsUpdateFault (D.outside disk.old) (D.outside disk.new)
+        volume.old gained.old.items (asked_of update.now)) }
     ensures cause { HasCause (D.outside disk.old).disk_faults
         (D.outside disk.new).disk_faults result }
 {
@@ -211,6 +218,8 @@ impl Session {
         ensures down { self.new.down ≡ self.old.down }
         ensures given_up { OnErr result (GivenUp self.new) }
         ensures stops { IfErr result (LineStops (H.outside host.old) (H.outside host.new)) }
+        ensures damage { IfErr result (TellsDamage (H.outside host.old) (H.outside host.new)
+            self.old (asked_of update.now)) }
         ensures sound { IfErr result (λ why. IfUpdated (H.outside host.old) self.old update.now
             (λ before u. HasRoomFor before u → IsOutside why)) }
     {

@@ -82,6 +82,9 @@ pub struct Named {
 impl Session {
     ghost use Rattle.session_core.specs.Sessions.{IsSession};
     ghost use Rattle.session_core.specs.Steps.{OnlyFrames};
+    ghost use Rattle.tree_store.specs.Stored.{Tells};
+    ghost use Rattle.versions.specs.Damage.{IsRootAt};
+    ghost use Rattle.session_core.specs.Damage.{TellsDamage, image_on, no_version, the_version};
     ghost use Rattle.session_core.specs.Finding.{IsNamed, LineStops, IsOutside};
 
     /// What is told of the version that an OID names, none where there is none.
@@ -99,7 +102,12 @@ impl Session {
         ensures limit { IfOk result (λ found. IfSome found (λ found. found.size ≤ object_most)) }
         ensures root { IfOk result (λ found. IfSome found (λ found. IfSome found.root
             (λ root. IsRootFor self.old.geometry root))) }
+        ensures rooted { IfOk result (λ found. IfSome found (λ found.
+            Tells (D.outside disk.old) self.old.groups → IfSome found.root
+            (IsRootAt (image_on (D.outside disk.old) self.old) oid.now))) }
         ensures stops { IfErr result (LineStops (D.outside disk.old) (D.outside disk.new)) }
+        ensures damage { IfErr result (TellsDamage (D.outside disk.old) (D.outside disk.new)
+            self.old no_version) }
         ensures sound { IfErr result (λ why. IfShown (D.outside disk.old) self.old
             (λ before. IsOutside why)) }
     {
@@ -133,7 +141,14 @@ impl Session {
             ≤ object_most)) }
         ensures root { IfOk result (λ told. IfOk told (λ version. IfSome version.found.root
             (λ root. IsRootFor self.old.geometry root))) }
+        ensures asked { IfOk result (λ told. IfOk told (λ version.
+            oid_among self.old.names (reference_of x.now) ≡ Some version.oid)) }
+        ensures rooted { IfOk result (λ told. IfOk told (λ version.
+            Tells (H.outside host.old) self.old.groups → IfSome version.found.root
+            (IsRootAt (image_on (H.outside host.old) self.old) version.oid))) }
         ensures stops { IfErr result (LineStops (H.outside host.old) (H.outside host.new)) }
+        ensures damage { IfErr result (TellsDamage (H.outside host.old) (H.outside host.new)
+            self.old no_version) }
         ensures sound { IfErr result (λ why. IfShown (H.outside host.old) self.old
             (λ before. IsOutside why)) }
     {
@@ -164,6 +179,8 @@ impl Session {
             (λ before. IfLive before oid.now (λ bytes. out.new
             ≡ bytes_at bytes pos (length out.old)))) }
         ensures stops { IfErr result (LineStops (D.outside disk.old) (D.outside disk.new)) }
+        ensures damage { IfErr result (TellsDamage (D.outside disk.old) (D.outside disk.new)
+            self.old (the_version oid.now)) }
         ensures sound { IfErr result (λ why. IfShown (D.outside disk.old) self.old
             (λ before. IfLive before oid.now (λ bytes. pos + length out.old ≤ length bytes
             → IsOutside why))) }
@@ -195,6 +212,8 @@ impl Session {
         ensures oids { IfOk result (λ oids. IfFile (D.outside disk.old) self.old file_no
             (λ before name. oids.items ≡ oids_listed before.machine name)) }
         ensures stops { IfErr result (LineStops (D.outside disk.old) (D.outside disk.new)) }
+        ensures damage { IfErr result (TellsDamage (D.outside disk.old) (D.outside disk.new)
+            self.old no_version) }
         ensures sound { IfErr result (λ why. IfFile (D.outside disk.old) self.old file_no
             (λ before name. IsOutside why)) }
     {

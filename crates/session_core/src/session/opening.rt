@@ -19,6 +19,7 @@ use table_model::Name;
 
 impl Session {
     ghost use Rattle.session_core.specs.Counts.{free_in};
+    ghost use Rattle.session_core.specs.Damage.{TellsDamage, no_version, the_version};
     ghost use Rattle.session_core.specs.Finding.{IfShown, IsOutside, LineStops};
     ghost use Rattle.session_core.specs.Opening.{GivesUnits, IfTold, OpensScan, ShowsThen, closed_at, first_row, with_scan, without_scan};
     ghost use Rattle.session_core.specs.Sessions.{IsSession};
@@ -41,6 +42,8 @@ impl Session {
             (λ before. IfTold before version.now (λ bytes. scan.scan.small ≡ bytes))) }
         ensures rows { AreRows self.old.meta }
         ensures stops { IfErr result (LineStops (D.outside disk.old) (D.outside disk.new)) }
+        ensures damage { IfErr result (TellsDamage (D.outside disk.old) (D.outside disk.new)
+            self.old (the_version version.now.oid)) }
         ensures sound { IfErr result (λ why. IfShown (D.outside disk.old) self.old
             (λ before. IfTold before version.now (λ bytes. IsOutside why))) }
     {
@@ -78,6 +81,8 @@ impl Session {
             (λ before. IfTold before version.now (λ bytes. scan.scan.small ≡ bytes))) }
         ensures rows { OnOk result (version.now.found.root ≡ None → AreRows self.old.meta) }
         ensures stops { IfErr result (LineStops (D.outside disk.old) (D.outside disk.new)) }
+        ensures damage { IfErr result (TellsDamage (D.outside disk.old) (D.outside disk.new)
+            self.old (the_version version.now.oid)) }
         ensures sound { IfErr result (λ why. IfShown (D.outside disk.old) self.old
             (λ before. IfTold before version.now (λ bytes. IsOutside why))) }
     {
@@ -115,6 +120,8 @@ impl Session {
         ensures stays { OnErr result
             (OnlyFrames (H.outside host.old) (H.outside host.new) self.old self.new) }
         ensures stops { IfErr result (LineStops (H.outside host.old) (H.outside host.new)) }
+        ensures damage { IfErr result (TellsDamage (H.outside host.old) (H.outside host.new)
+            self.old (the_version version.now.oid)) }
         ensures sound { IfErr result (λ why. IfShown (H.outside host.old) self.old
             (λ before. IfTold before version.now (λ bytes. IsOutside why))) }
     {
@@ -155,6 +162,8 @@ impl Session {
         ensures stays { OnErr result (self.new
             ≡ record self.old { groups = self.new.groups; units = self.new.units }) }
         ensures stops { IfErr result (LineStops (H.outside host.old) (H.outside host.new)) }
+        ensures damage { IfErr result (TellsDamage (H.outside host.old) (H.outside host.new)
+            self.old no_version) }
         ensures sound { IfErr result (λ why. IfShown (H.outside host.old) self.old
             (λ before. IsOutside why)) }
     {

@@ -14,6 +14,7 @@ use volume_port::ReadingPort;
 
 impl Session {
     ghost use Rattle.open_scans.specs.OpenScans.{scan_index};
+    ghost use Rattle.session_core.specs.Damage.{TellsDamage, no_version};
     ghost use Rattle.session_core.specs.Finding.{IsOutside, LineStops};
     ghost use Rattle.session_core.specs.Sessions.{IsSession};
     ghost use Rattle.session_core.specs.Steps.{OnlyFrames};
@@ -56,6 +57,8 @@ impl Session {
         ensures bytes { IfOk result (λ given. IfShown (D.outside disk.old) self.old
             (λ before. AtScan before.machine index (λ row. given.items ≡ bytes_next len row))) }
         ensures stops { IfErr result (LineStops (D.outside disk.old) (D.outside disk.new)) }
+        ensures damage { IfErr result (TellsDamage (D.outside disk.old) (D.outside disk.new)
+            self.old no_version) }
         ensures sound { IfErr result (λ why. IfShown (D.outside disk.old) self.old
             (λ before. AtScan before.machine index (λ row. IsOutside why))) }
     {

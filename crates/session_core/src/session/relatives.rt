@@ -7,6 +7,7 @@ ghost use Rattle.table_model.specs.Machines.{shown};
 ghost use Rattle.table_model.specs.Refusals.{branches_if, is_only_one};
 ghost use Rattle.table_model.specs.Tables.{versions_of};
 ghost use Rattle.session_core.specs.Finding.{AreRelatives, oids_if, IfShown, IfVersion, PortShows, TellsVersion};
+ghost use Rattle.session_core.specs.Damage.{IsFaultIn, the_version};
 ghost use Rattle.session_core.specs.Sessions.{SessionState};
 
 use super::Session;
@@ -53,6 +54,7 @@ fn relatives_in<V: ReadVolume>(
         AreRelatives before.machine version relation oids.items)) }
     ensures sound { (before : View SessionState) → PortShows V.Ground volume.old before
         → IfVersion before oid.now (λ version. IfErr result (λ fault. IsDamage fault → ⊥)) }
+    ensures fault { IfErr result (IsFaultIn V.Ground volume.old (the_version oid.now)) }
     ensures kept { Keeps V.Ground volume.old volume.new }
     ensures cause { HasCause (V.faults volume.old) (V.faults volume.new) result }
 {
@@ -66,6 +68,7 @@ fn relatives_in<V: ReadVolume>(
 impl Session {
     ghost use Rattle.session_core.specs.Sessions.{IsSession};
     ghost use Rattle.session_core.specs.Steps.{OnlyFrames};
+    ghost use Rattle.session_core.specs.Damage.{TellsDamage};
     ghost use Rattle.session_core.specs.Finding.{LineStops, IsOutside};
 
     /// Relatives of a version. It stops where the disk fails, where memory is wanted, and at a page that isn't what names it.
@@ -83,6 +86,8 @@ impl Session {
             (λ before. IfVersion before oid.now (λ version.
             AreRelatives before.machine version relation oids.items))) }
         ensures stops { IfErr result (LineStops (D.outside disk.old) (D.outside disk.new)) }
+        ensures damage { IfErr result (TellsDamage (D.outside disk.old) (D.outside disk.new)
+            self.old (the_version oid.now)) }
         ensures sound { IfErr result (λ why. IfShown (D.outside disk.old) self.old
             (λ before. IfVersion before oid.now (λ version. IsOutside why))) }
     {
@@ -113,6 +118,8 @@ impl Session {
             (λ before. (told : TellsVersion before version.now.oid version.now.found) → alone
             ≡ is_only_one (versions_of (shown before.machine)) (Some told.version))) }
         ensures stops { IfErr result (LineStops (H.outside host.old) (H.outside host.new)) }
+        ensures damage { IfErr result (TellsDamage (H.outside host.old) (H.outside host.new)
+            self.old (the_version version.now.oid)) }
         ensures sound { IfErr result (λ why. IfShown (H.outside host.old) self.old
             (λ before. TellsVersion before version.now.oid version.now.found → IsOutside why)) }
     {
@@ -145,6 +152,8 @@ impl Session {
             → told.version.frozen ≡ true → count
             ≡ branches_if (versions_of (shown before.machine)) (Some told.version))) }
         ensures stops { IfErr result (LineStops (H.outside host.old) (H.outside host.new)) }
+        ensures damage { IfErr result (TellsDamage (H.outside host.old) (H.outside host.new)
+            self.old (the_version version.now.oid)) }
         ensures sound { IfErr result (λ why. IfShown (H.outside host.old) self.old
             (λ before. TellsVersion before version.now.oid version.now.found → IsOutside why)) }
     {

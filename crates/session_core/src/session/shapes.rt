@@ -16,6 +16,7 @@ use volume_port::{MAIN, ReadingPort};
 impl Session {
     ghost use Rattle.session_core.specs.Sessions.{IsSession};
     ghost use Rattle.session_core.specs.Steps.{OnlyFrames};
+    ghost use Rattle.session_core.specs.Damage.{TellsOfTree};
     ghost use Rattle.session_core.specs.Finding.{LineStops, IsOutside};
 
     /// The number of leaves of a version's tree, and in `first` the bytes of the first ones, as many as it has room for. It stops where the disk fails,
@@ -35,6 +36,7 @@ impl Session {
             (λ before. IfRoot before root.now
             (λ oid. TellsShape before oid leaves first.old first.new))) }
         ensures stops { IfErr result (LineStops (D.outside disk.old) (D.outside disk.new)) }
+        ensures damage { IfErr result (TellsOfTree (D.outside disk.old) self.old root.now) }
         ensures sound { IfErr result (λ why. IfShown (D.outside disk.old) self.old
             (λ before. IfRoot before root.now (λ oid. IsOutside why))) }
     {

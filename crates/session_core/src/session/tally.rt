@@ -3,6 +3,7 @@ ghost use Rattle.std.specs.Prelude.{◌≡◌, ◌≤◌, IfOk, IfErr};
 ghost use Rattle.std.specs.List.{count_by};
 ghost use Rattle.ex_base.specs.Ports.{Keeps, HasCause, IsDamage};
 ghost use Rattle.ex_base.specs.Sizes.{volume_bytes};
+ghost use Rattle.session_core.specs.Damage.{IsFaultIn, no_version};
 ghost use Rattle.session_core.specs.Finding.{IfFile, IfPortFile};
 ghost use Rattle.session_core.specs.Summaries.{IsTally, is_first};
 
@@ -42,6 +43,7 @@ fn tally_in<V: ReadVolume>(volume: &mut V, alloc: Global, file_no: u32) -> Resul
         (λ before name. IsTally before.machine name tally)) }
     ensures sound { IfErr result (λ fault. IfPortFile V.Ground volume.old file_no
         (λ before name. IsDamage fault → ⊥)) }
+    ensures fault { IfErr result (IsFaultIn V.Ground volume.old no_version) }
     ensures kept { Keeps V.Ground volume.old volume.new }
     ensures cause { HasCause (V.faults volume.old) (V.faults volume.new) result }
 {
@@ -57,6 +59,7 @@ fn tally_in<V: ReadVolume>(volume: &mut V, alloc: Global, file_no: u32) -> Resul
 impl Session {
     ghost use Rattle.session_core.specs.Sessions.{IsSession};
     ghost use Rattle.session_core.specs.Steps.{OnlyFrames};
+    ghost use Rattle.session_core.specs.Damage.{TellsDamage};
     ghost use Rattle.session_core.specs.Finding.{LineStops, IsOutside};
 
     /// How many objects and versions the file with a number has. It stops where the disk fails, where memory is wanted, and at a page that isn't what
@@ -73,6 +76,8 @@ impl Session {
         ensures tally { IfOk result (λ tally. IfFile (D.outside disk.old) self.old file_no
             (λ before name. IsTally before.machine name tally)) }
         ensures stops { IfErr result (LineStops (D.outside disk.old) (D.outside disk.new)) }
+        ensures damage { IfErr result (TellsDamage (D.outside disk.old) (D.outside disk.new)
+            self.old no_version) }
         ensures sound { IfErr result (λ why. IfFile (D.outside disk.old) self.old file_no
             (λ before name. IsOutside why)) }
     {

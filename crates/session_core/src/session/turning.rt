@@ -8,9 +8,10 @@ ghost use Rattle.ex_base.specs.declared.names.Root.{Root};
 ghost use Rattle.ex_base.specs.declared.names.Area.TheVariants.{Page};
 ghost use Rattle.page_alloc.specs.UnitSet.{UnitSet, free_count, refs_at, used_at};
 ghost use Rattle.trees.specs.Owners.{page_here};
-ghost use Rattle.volume_port.specs.GivingUp.{CountsRoot, GivesTrees, OwnRoots, ReleasesRoots};
+ghost use Rattle.volume_port.specs.GivingUp.{CountsRoot, GivesTrees, IsGivingFault, OwnRoots, ReleasesRoots};
 ghost use Rattle.volume_port.specs.Giving.{is_logged};
-ghost use Rattle.tree_store.specs.Stored.{Fits, IsCounted};
+ghost use Rattle.tree_store.specs.Stored.{Fits, IsCounted, Tells, unit_bytes};
+ghost use Rattle.session_core.specs.Damage.{IsTurningFault};
 ghost use Rattle.session_core.specs.Turning.{NonePaged, TakenOut, VolumeGives, VolumeOwns, VolumeTurned, VolumeWent};
 
 use crate::updates::Done;
@@ -104,6 +105,8 @@ pub(super) fn release_here<D: Disk>(
     ensures sound { IfErr result (λ fault. IsDamage fault
         → OwnRoots pages.now kept.now geometry.now (D.outside disk.old) groups.old units.old
         (root_here root.now) → ⊥) }
+    ensures fault { IfErr result (IsGivingFault geometry.now (D.outside disk.old) groups.old
+        (root_here root.now)) }
     ensures refs { (unit : ℕ) → refs_at units.new unit ≤ refs_at units.old unit }
     ensures quiet { OnOk result (free_count units.new.geometry (used_at units.new) Page
         ≡ free_count units.old.geometry (used_at units.old) Page
@@ -142,6 +145,9 @@ fn turn_gone<D: Disk>(
     ensures sound { IfErr result (λ fault. IsDamage fault
         → ((rest : List Root) → TakenOut gained.old.items rest gone.now
         → VolumeOwns (D.outside disk.old) volume.old volume.old.units (root_here gone.now)) → ⊥) }
+    ensures fault { IfErr result (λ fault. IsDamage fault
+        → Tells (D.outside disk.old) volume.old.groups → IsTurningFault volume.old.geometry
+        (unit_bytes volume.old.geometry (D.outside disk.old).disk) gained.old.items fault) }
     ensures cause { HasCause (D.outside disk.old).disk_faults
         (D.outside disk.new).disk_faults result }
 {
@@ -191,6 +197,9 @@ pub(super) fn turn_roots<D: Disk>(
         → ((counted : UnitSet) (rest : List Root) → CountsRoot done.now.come volume.old.units counted
         → TakenOut gained.old.items rest done.now.gone
         → VolumeOwns (D.outside disk.old) volume.old counted (root_here done.now.gone)) → ⊥) }
+    ensures fault { IfErr result (λ fault. IsDamage fault
+        → Tells (D.outside disk.old) volume.old.groups → IsTurningFault volume.old.geometry
+        (unit_bytes volume.old.geometry (D.outside disk.old).disk) gained.old.items fault) }
     ensures cause { HasCause (D.outside disk.old).disk_faults
         (D.outside disk.new).disk_faults result }
 {

@@ -1,10 +1,11 @@
 //! A version is copied.
-ghost use Rattle.std.specs.Prelude.{◌≡◌, ◌≤◌, ◌<◌, ◌+◌, ◌^◌, IfOk, OnOk};
+ghost use Rattle.std.specs.Prelude.{◌≡◌, ◌≤◌, ◌<◌, ◌+◌, ◌^◌, IfErr, IfOk, OnOk};
 ghost use Rattle.ex_base.specs.Ports.{HasCause};
 ghost use Rattle.ex_base.specs.declared.names.Area.TheVariants.{Page};
 ghost use Rattle.file_index.specs.Taking.{OnlyTakes};
 ghost use Rattle.file_index.specs.Touches.{TouchesAtMost};
 ghost use Rattle.file_rooms.specs.Rooms.{ChangesOne};
+ghost use Rattle.session_core.specs.Damage.{IsFaultIn, the_version};
 ghost use Rattle.session_core.specs.Performed.{copies};
 ghost use Rattle.volume_edits.specs.TableUpdates.{TakesNeed};
 ghost use Rattle.session_core.specs.Performed.{Updates};
@@ -46,6 +47,7 @@ pub fn copy<V: Volume>(
         (copies copying oid.now unique)) }
     ensures touches { OnOk result (TouchesAtMost V.Ground volume.old volume.new 16) }
     ensures rooms { ChangesOne rooms.old rooms.new }
+    ensures fault { IfErr result (IsFaultIn V.Ground volume.old (the_version oid.now)) }
     ensures leads { V.leads volume.old volume.new }
     ensures cause { HasCause (V.faults volume.old) (V.faults volume.new) result }
 {

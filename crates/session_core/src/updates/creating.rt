@@ -14,6 +14,7 @@ ghost use Rattle.volume_edits.specs.Edits.{WritesCatalog, catalog_numbered};
 ghost use Rattle.file_rooms.specs.Rooms.{ChangesOne};
 ghost use Rattle.volume_edits.specs.TableUpdates.{Makes, TakesNeed};
 ghost use Rattle.session_core.specs.Performed.{Updates};
+ghost use Rattle.session_core.specs.Damage.{IsFaultIn, no_version};
 
 use super::Done;
 use ex_base::{PageNo, PortFault, Seen, Volume};
@@ -94,6 +95,7 @@ pub fn create<V: Volume>(
         (Makes name file_no unique)) }
     ensures touches { OnOk result (TouchesAtMost V.Ground volume.old volume.new 16) }
     ensures rooms { ChangesOne rooms.old rooms.new }
+    ensures fault { IfErr result (IsFaultIn V.Ground volume.old no_version) }
     ensures leads { V.leads volume.old volume.new }
     ensures cause { HasCause (V.faults volume.old) (V.faults volume.new) result }
 {

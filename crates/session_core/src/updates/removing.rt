@@ -1,10 +1,11 @@
 //! A version is removed.
-ghost use Rattle.std.specs.Prelude.{◌≡◌, IfOk, OnOk};
+ghost use Rattle.std.specs.Prelude.{◌≡◌, IfErr, IfOk, OnOk};
 ghost use Rattle.ex_base.specs.Ports.{HasCause};
 ghost use Rattle.file_index.specs.Touches.{TouchesAtMost};
 ghost use Rattle.file_rooms.specs.Rooms.{ChangesOne};
 ghost use Rattle.volume_edits.specs.TableUpdates.{Drops, Removes, TakesNeed};
 ghost use Rattle.session_core.specs.Performed.{Updates};
+ghost use Rattle.session_core.specs.Damage.{IsFaultIn, the_version};
 
 use super::Done;
 use ex_base::{Oid, PortFault, Volume};
@@ -25,6 +26,7 @@ pub fn remove<V: Volume>(
     ensures takes { OnOk result (TakesNeed V.Ground volume.old volume.new (Removes oid.now)) }
     ensures touches { OnOk result (TouchesAtMost V.Ground volume.old volume.new 16) }
     ensures rooms { ChangesOne rooms.old rooms.new }
+    ensures fault { IfErr result (IsFaultIn V.Ground volume.old (the_version oid.now)) }
     ensures leads { V.leads volume.old volume.new }
     ensures cause { HasCause (V.faults volume.old) (V.faults volume.new) result }
 {
@@ -54,6 +56,7 @@ pub fn drop_frozen<V: Volume>(
     ensures takes { OnOk result (TakesNeed V.Ground volume.old volume.new (Drops oid.now)) }
     ensures touches { OnOk result (TouchesAtMost V.Ground volume.old volume.new 16) }
     ensures rooms { ChangesOne rooms.old rooms.new }
+    ensures fault { IfErr result (IsFaultIn V.Ground volume.old (the_version oid.now)) }
     ensures leads { V.leads volume.old volume.new }
     ensures cause { HasCause (V.faults volume.old) (V.faults volume.new) result }
 {

@@ -5,10 +5,10 @@ use Rattle.session_core.proofs.Refusing.{closed_refused}
 use Rattle.transactions.proofs.UpdateLines.{line_closed}
 use Rattle.transactions.proofs.changes.delete.Goals as goal
 
-pub returns-then-not-is_open : goal.returns-then-not-is_open
-returns-then-not-is_open g c =
+pub returns-then-not-is_open-clause-line : goal.returns-then-not-is_open-clause-line
+returns-then-not-is_open-clause-line g c =
     line_closed c.args.session.now (request.Delete (reference_of c.args.x.now) c.args.pos c.args.len) (g.H.World.is_world c.args.host.now) c.is_open.ensures.session (sym c.is_open.ensures.value ∙ c.if-not-is_open.true)
     (λ m q closed. closed_refused m _ closed)
 
-pub returns : goal.returns
-returns g c = c.change.ensures (request.Delete (reference_of c.args.x.now) c.args.pos c.args.len) (refl, refl)
+pub returns-clause-line : goal.returns-clause-line
+returns-clause-line g c = c.change.ensures.line (request.Delete (reference_of c.args.x.now) c.args.pos c.args.len) (refl, refl)

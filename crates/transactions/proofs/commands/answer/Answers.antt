@@ -6,6 +6,11 @@ use Rattle.session_core.specs.Steps.{StepsQuietly}
 use Rattle.transactions.proofs.Aborts.{is_abort}
 use Rattle.transactions.proofs.Accepted.{log_quietly, space_quietly}
 use Rattle.transactions.proofs.Commanding.{disk_alone, memory_alone, of_quiet, of_scans, of_step}
+use Rattle.std.proofs.lemmas.Result.{IfErr-weaker}
+use Rattle.session_core.specs.Damage.{no_version}
+use Rattle.session_core.proofs.Damage.{catalog_told}
+use Rattle.transactions.specs.Commands.{names_version}
+use Rattle.transactions.proofs.Damage.{damage_as, disk_damage, memory_damage}
 use Rattle.transactions.proofs.commands.answer.Goals as goal
 
 pub returns-in-Begin-clause-answers : goal.returns-in-Begin-clause-answers
@@ -55,3 +60,30 @@ returns-in-Close-clause-answers g c =
 
 pub returns-in_default-clause-reached_back : goal.returns-in_default-clause-reached_back
 returns-in_default-clause-reached_back g c aborts before same now opened = absurd (c.in_default.not-Abort (is_abort c.args.command.now aborts))
+
+pub returns-in-Begin-clause-damage : goal.returns-in-Begin-clause-damage
+returns-in-Begin-clause-damage g c = damage_as (g.H.World.outside c.args.host.now) (g.H.World.outside c.begin.new.host) c.args.session.now (request_of c.args.command.now) request.Begin c.begin.result (ap request_of c.in-Begin.is) (IfErr-weaker c.begin.result _ _ (catalog_told (g.H.World.outside c.args.host.now) (g.H.World.outside c.begin.new.host) c.args.session.now no_version) c.begin.ensures.stops)
+
+pub returns-in-Files-clause-damage : goal.returns-in-Files-clause-damage
+returns-in-Files-clause-damage g c = damage_as (g.H.World.outside c.args.host.now) (g.H.World.outside c.files.new.host) c.args.session.now (request_of c.args.command.now) request.Files c.files.result (ap request_of c.in-Files.is) (IfErr-weaker c.files.result _ _ (catalog_told (g.H.World.outside c.args.host.now) (g.H.World.outside c.files.new.host) c.args.session.now no_version) c.files.ensures.stops)
+
+pub returns-in-File-clause-damage : goal.returns-in-File-clause-damage
+returns-in-File-clause-damage g c = damage_as (g.H.World.outside c.args.host.now) (g.H.World.outside c.file.new.host) c.args.session.now (request_of c.args.command.now) (request.File c.in-File.name.now) c.file.result (ap request_of c.in-File.is) (IfErr-weaker c.file.result _ _ (catalog_told (g.H.World.outside c.args.host.now) (g.H.World.outside c.file.new.host) c.args.session.now no_version) c.file.ensures.stops)
+
+pub returns-in-Unfile-clause-damage : goal.returns-in-Unfile-clause-damage
+returns-in-Unfile-clause-damage g c = damage_as (g.H.World.outside c.args.host.now) (g.H.World.outside c.unfile.new.host) c.args.session.now (request_of c.args.command.now) (request.Unfile c.in-Unfile.name.now) c.unfile.result (ap request_of c.in-Unfile.is) (IfErr-weaker c.unfile.result _ _ (catalog_told (g.H.World.outside c.args.host.now) (g.H.World.outside c.unfile.new.host) c.args.session.now no_version) c.unfile.ensures.stops)
+
+pub returns-in-Commit-clause-damage : goal.returns-in-Commit-clause-damage
+returns-in-Commit-clause-damage g c = damage_as (g.H.World.outside c.args.host.now) (g.H.World.outside c.commit.new.host) c.args.session.now (request_of c.args.command.now) request.Commit c.commit.result (ap request_of c.in-Commit.is) c.commit.ensures.damage
+
+pub returns-in-Abort-clause-damage : goal.returns-in-Abort-clause-damage
+returns-in-Abort-clause-damage g c = damage_as (g.H.World.outside c.args.host.now) (g.H.World.outside c.abort.new.host) c.args.session.now (request_of c.args.command.now) request.Abort c.abort.result (ap request_of c.in-Abort.is) c.abort.ensures.damage
+
+pub returns-in-Close-clause-damage : goal.returns-in-Close-clause-damage
+returns-in-Close-clause-damage g c = damage_as (g.H.World.outside c.args.host.now) (g.H.World.outside c.close.new.host) c.args.session.now (request_of c.args.command.now) (request.Close c.in-Close.name.now) c.close.result (ap request_of c.in-Close.is) c.close.ensures.damage
+
+pub returns-in-Checkpoint-clause-damage : goal.returns-in-Checkpoint-clause-damage
+returns-in-Checkpoint-clause-damage g c = IfErr-weaker c.checkpoint.result _ _ (disk_damage (g.H.World.outside c.args.host.now) (g.H.World.outside c.checkpoint.new.host) c.args.session.now (names_version c.args.session.now (request_of c.args.command.now))) c.checkpoint.ensures.disk_alone
+
+pub returns-in-Group-clause-damage : goal.returns-in-Group-clause-damage
+returns-in-Group-clause-damage g c = IfErr-weaker c.group.result _ _ (memory_damage (g.H.World.outside c.args.host.now) (g.H.World.outside c.args.host.now) c.args.session.now (names_version c.args.session.now (request_of c.args.command.now))) c.group.ensures.memory

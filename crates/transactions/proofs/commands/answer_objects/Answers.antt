@@ -3,60 +3,112 @@ use Rattle.std.specs.Prelude.{option_map}
 use Rattle.table_model.specs.Requests.{Request, request_of, reference_of}
 use Rattle.table_model.specs.Requests as request
 use Rattle.transactions.proofs.Commanding.{asks_more, of_read, of_scans, of_update}
+use Rattle.transactions.proofs.Damage.{damage_as}
 use Rattle.transactions.proofs.commands.answer_objects.Goals as goal
 
 pub returns-in-List-clause-answers : goal.returns-in-List-clause-answers
-returns-in-List-clause-answers g c = of_read (request_of c.args.command.now) (request.ListFile c.in-List.name.now) c.list.result (ap request_of c.in-List.is) refl (g.H.World.is_world c.args.host.now) c.list.ensures
+returns-in-List-clause-answers g c = of_read (request_of c.args.command.now) (request.ListFile c.in-List.name.now) c.list.result (ap request_of c.in-List.is) refl (g.H.World.is_world c.args.host.now) c.list.ensures.line
 
 pub returns-in-Size-clause-answers : goal.returns-in-Size-clause-answers
-returns-in-Size-clause-answers g c = of_read (request_of c.args.command.now) (request.Size (reference_of c.in-Size.x)) c.size.result (ap request_of c.in-Size.is) refl (g.H.World.is_world c.args.host.now) c.size.ensures
+returns-in-Size-clause-answers g c = of_read (request_of c.args.command.now) (request.Size (reference_of c.in-Size.x)) c.size.result (ap request_of c.in-Size.is) refl (g.H.World.is_world c.args.host.now) c.size.ensures.line
 
 pub returns-in-Stat-clause-answers : goal.returns-in-Stat-clause-answers
-returns-in-Stat-clause-answers g c = of_read (request_of c.args.command.now) (request.Stat (reference_of c.in-Stat.x)) c.stat.result (ap request_of c.in-Stat.is) refl (g.H.World.is_world c.args.host.now) c.stat.ensures
+returns-in-Stat-clause-answers g c = of_read (request_of c.args.command.now) (request.Stat (reference_of c.in-Stat.x)) c.stat.result (ap request_of c.in-Stat.is) refl (g.H.World.is_world c.args.host.now) c.stat.ensures.line
 
 pub returns-in-Digest-clause-answers : goal.returns-in-Digest-clause-answers
-returns-in-Digest-clause-answers g c = of_read (request_of c.args.command.now) (request.Digest (reference_of c.in-Digest.x)) c.digest.result (ap request_of c.in-Digest.is) refl (g.H.World.is_world c.args.host.now) c.digest.ensures
+returns-in-Digest-clause-answers g c = of_read (request_of c.args.command.now) (request.Digest (reference_of c.in-Digest.x)) c.digest.result (ap request_of c.in-Digest.is) refl (g.H.World.is_world c.args.host.now) c.digest.ensures.line
 
 pub returns-in-Read-clause-answers : goal.returns-in-Read-clause-answers
-returns-in-Read-clause-answers g c = of_read (request_of c.args.command.now) (request.Read (reference_of c.in-Read.x) c.in-Read.pos c.in-Read.len) c.read.result (ap request_of c.in-Read.is) refl (g.H.World.is_world c.args.host.now) c.read.ensures
+returns-in-Read-clause-answers g c = of_read (request_of c.args.command.now) (request.Read (reference_of c.in-Read.x) c.in-Read.pos c.in-Read.len) c.read.result (ap request_of c.in-Read.is) refl (g.H.World.is_world c.args.host.now) c.read.ensures.line
 
 pub returns-in-Create-clause-answers : goal.returns-in-Create-clause-answers
-returns-in-Create-clause-answers g c = of_update (request_of c.args.command.now) (request.Create c.in-Create.file.now c.in-Create.bind.now) c.create.result (ap request_of c.in-Create.is) refl refl c.create.ensures
+returns-in-Create-clause-answers g c = of_update (request_of c.args.command.now) (request.Create c.in-Create.file.now c.in-Create.bind.now) c.create.result (ap request_of c.in-Create.is) refl refl c.create.ensures.line
 
 pub returns-in-Destroy-clause-answers : goal.returns-in-Destroy-clause-answers
-returns-in-Destroy-clause-answers g c = of_update (request_of c.args.command.now) (request.Destroy (reference_of c.in-Destroy.x)) c.destroy.result (ap request_of c.in-Destroy.is) refl refl c.destroy.ensures
+returns-in-Destroy-clause-answers g c = of_update (request_of c.args.command.now) (request.Destroy (reference_of c.in-Destroy.x)) c.destroy.result (ap request_of c.in-Destroy.is) refl refl c.destroy.ensures.line
 
 pub returns-in-Insert-clause-answers : goal.returns-in-Insert-clause-answers
-returns-in-Insert-clause-answers g c = of_update (request_of c.args.command.now) (request.Insert (reference_of c.in-Insert.x) c.in-Insert.pos c.in-Insert.given.now) c.insert.result (ap request_of c.in-Insert.is) refl refl c.insert.ensures
+returns-in-Insert-clause-answers g c = of_update (request_of c.args.command.now) (request.Insert (reference_of c.in-Insert.x) c.in-Insert.pos c.in-Insert.given.now) c.insert.result (ap request_of c.in-Insert.is) refl refl c.insert.ensures.line
 
 pub returns-in-Append-clause-answers : goal.returns-in-Append-clause-answers
-returns-in-Append-clause-answers g c = of_update (request_of c.args.command.now) (request.Append (reference_of c.in-Append.x) c.in-Append.given.now) c.append.result (ap request_of c.in-Append.is) refl refl c.append.ensures
+returns-in-Append-clause-answers g c = of_update (request_of c.args.command.now) (request.Append (reference_of c.in-Append.x) c.in-Append.given.now) c.append.result (ap request_of c.in-Append.is) refl refl c.append.ensures.line
 
 pub returns-in-Replace-clause-answers : goal.returns-in-Replace-clause-answers
-returns-in-Replace-clause-answers g c = of_update (request_of c.args.command.now) (request.Replace (reference_of c.in-Replace.x) c.in-Replace.pos c.in-Replace.given.now) c.replace.result (ap request_of c.in-Replace.is) refl refl c.replace.ensures
+returns-in-Replace-clause-answers g c = of_update (request_of c.args.command.now) (request.Replace (reference_of c.in-Replace.x) c.in-Replace.pos c.in-Replace.given.now) c.replace.result (ap request_of c.in-Replace.is) refl refl c.replace.ensures.line
 
 pub returns-in-Delete-clause-answers : goal.returns-in-Delete-clause-answers
-returns-in-Delete-clause-answers g c = of_update (request_of c.args.command.now) (request.Delete (reference_of c.in-Delete.x) c.in-Delete.pos c.in-Delete.len) c.delete.result (ap request_of c.in-Delete.is) refl refl c.delete.ensures
+returns-in-Delete-clause-answers g c = of_update (request_of c.args.command.now) (request.Delete (reference_of c.in-Delete.x) c.in-Delete.pos c.in-Delete.len) c.delete.result (ap request_of c.in-Delete.is) refl refl c.delete.ensures.line
 
 pub returns-in-Next-clause-answers : goal.returns-in-Next-clause-answers
 returns-in-Next-clause-answers g c =
     of_scans (request_of c.args.command.now) (request.Next c.in-Next.name.now c.in-Next.len) c.next.result (ap request_of c.in-Next.is) (g.H.World.is_world c.args.host.now)
-    (asks_more (g.H.World.outside c.args.host.now) (g.H.World.outside c.next.new.host) c.args.session.now (request.Next c.in-Next.name.now c.in-Next.len) c.next.result refl) c.next.ensures
+    (asks_more (g.H.World.outside c.args.host.now) (g.H.World.outside c.next.new.host) c.args.session.now (request.Next c.in-Next.name.now c.in-Next.len) c.next.result refl) c.next.ensures.line
 
 pub returns-in-Scan-clause-answers : goal.returns-in-Scan-clause-answers
 returns-in-Scan-clause-answers g c =
     let r : Request = request.Scan (reference_of c.in-Scan.x) c.in-Scan.name.now (option_map (λ name. name.now) c.in-Scan.group) in
     of_scans (request_of c.args.command.now) r c.scan.result (ap request_of c.in-Scan.is) (g.H.World.is_world c.args.host.now)
-    (asks_more (g.H.World.outside c.args.host.now) (g.H.World.outside c.scan.new.host) c.args.session.now r c.scan.result refl) c.scan.ensures
+    (asks_more (g.H.World.outside c.args.host.now) (g.H.World.outside c.scan.new.host) c.args.session.now r c.scan.result refl) c.scan.ensures.line
 
 pub returns-in-Versions-clause-answers : goal.returns-in-Versions-clause-answers
-returns-in-Versions-clause-answers g c = of_read (request_of c.args.command.now) (request.Versions (reference_of c.in-Versions.x)) c.versions.result (ap request_of c.in-Versions.is) refl (g.H.World.is_world c.args.host.now) c.versions.ensures
+returns-in-Versions-clause-answers g c = of_read (request_of c.args.command.now) (request.Versions (reference_of c.in-Versions.x)) c.versions.result (ap request_of c.in-Versions.is) refl (g.H.World.is_world c.args.host.now) c.versions.ensures.line
 
 pub returns-in-DropVersion-clause-answers : goal.returns-in-DropVersion-clause-answers
-returns-in-DropVersion-clause-answers g c = of_update (request_of c.args.command.now) (request.DropVersion (reference_of c.in-DropVersion.x)) c.drop_version.result (ap request_of c.in-DropVersion.is) refl refl c.drop_version.ensures
+returns-in-DropVersion-clause-answers g c = of_update (request_of c.args.command.now) (request.DropVersion (reference_of c.in-DropVersion.x)) c.drop_version.result (ap request_of c.in-DropVersion.is) refl refl c.drop_version.ensures.line
 
 pub returns-in-Freeze-clause-answers : goal.returns-in-Freeze-clause-answers
 returns-in-Freeze-clause-answers g c = of_update (request_of c.args.command.now) (request.Freeze (reference_of c.in-Freeze.x) c.in-Freeze.bind.now) c.copy.result (ap request_of c.in-Freeze.is) refl refl c.copy.ensures.line
 
 pub returns-in-Derive-clause-answers : goal.returns-in-Derive-clause-answers
 returns-in-Derive-clause-answers g c = of_update (request_of c.args.command.now) (request.Derive (reference_of c.in-Derive.x) c.in-Derive.bind.now) c.copy-in-Derive.result (ap request_of c.in-Derive.is) refl refl c.copy-in-Derive.ensures.line
+
+pub returns-in-List-clause-damage : goal.returns-in-List-clause-damage
+returns-in-List-clause-damage g c = damage_as (g.H.World.outside c.args.host.now) (g.H.World.outside c.list.new.host) c.args.session.now (request_of c.args.command.now) (request.ListFile c.in-List.name.now) c.list.result (ap request_of c.in-List.is) c.list.ensures.damage
+
+pub returns-in-Size-clause-damage : goal.returns-in-Size-clause-damage
+returns-in-Size-clause-damage g c = damage_as (g.H.World.outside c.args.host.now) (g.H.World.outside c.size.new.host) c.args.session.now (request_of c.args.command.now) (request.Size (reference_of c.in-Size.x)) c.size.result (ap request_of c.in-Size.is) c.size.ensures.damage
+
+pub returns-in-Stat-clause-damage : goal.returns-in-Stat-clause-damage
+returns-in-Stat-clause-damage g c = damage_as (g.H.World.outside c.args.host.now) (g.H.World.outside c.stat.new.host) c.args.session.now (request_of c.args.command.now) (request.Stat (reference_of c.in-Stat.x)) c.stat.result (ap request_of c.in-Stat.is) c.stat.ensures.damage
+
+pub returns-in-Digest-clause-damage : goal.returns-in-Digest-clause-damage
+returns-in-Digest-clause-damage g c = damage_as (g.H.World.outside c.args.host.now) (g.H.World.outside c.digest.new.host) c.args.session.now (request_of c.args.command.now) (request.Digest (reference_of c.in-Digest.x)) c.digest.result (ap request_of c.in-Digest.is) c.digest.ensures.damage
+
+pub returns-in-Read-clause-damage : goal.returns-in-Read-clause-damage
+returns-in-Read-clause-damage g c = damage_as (g.H.World.outside c.args.host.now) (g.H.World.outside c.read.new.host) c.args.session.now (request_of c.args.command.now) (request.Read (reference_of c.in-Read.x) c.in-Read.pos c.in-Read.len) c.read.result (ap request_of c.in-Read.is) c.read.ensures.damage
+
+pub returns-in-Create-clause-damage : goal.returns-in-Create-clause-damage
+returns-in-Create-clause-damage g c = damage_as (g.H.World.outside c.args.host.now) (g.H.World.outside c.create.new.host) c.args.session.now (request_of c.args.command.now) (request.Create c.in-Create.file.now c.in-Create.bind.now) c.create.result (ap request_of c.in-Create.is) c.create.ensures.damage
+
+pub returns-in-Destroy-clause-damage : goal.returns-in-Destroy-clause-damage
+returns-in-Destroy-clause-damage g c = damage_as (g.H.World.outside c.args.host.now) (g.H.World.outside c.destroy.new.host) c.args.session.now (request_of c.args.command.now) (request.Destroy (reference_of c.in-Destroy.x)) c.destroy.result (ap request_of c.in-Destroy.is) c.destroy.ensures.damage
+
+pub returns-in-Insert-clause-damage : goal.returns-in-Insert-clause-damage
+returns-in-Insert-clause-damage g c = damage_as (g.H.World.outside c.args.host.now) (g.H.World.outside c.insert.new.host) c.args.session.now (request_of c.args.command.now) (request.Insert (reference_of c.in-Insert.x) c.in-Insert.pos c.in-Insert.given.now) c.insert.result (ap request_of c.in-Insert.is) c.insert.ensures.damage
+
+pub returns-in-Append-clause-damage : goal.returns-in-Append-clause-damage
+returns-in-Append-clause-damage g c = damage_as (g.H.World.outside c.args.host.now) (g.H.World.outside c.append.new.host) c.args.session.now (request_of c.args.command.now) (request.Append (reference_of c.in-Append.x) c.in-Append.given.now) c.append.result (ap request_of c.in-Append.is) c.append.ensures.damage
+
+pub returns-in-Replace-clause-damage : goal.returns-in-Replace-clause-damage
+returns-in-Replace-clause-damage g c = damage_as (g.H.World.outside c.args.host.now) (g.H.World.outside c.replace.new.host) c.args.session.now (request_of c.args.command.now) (request.Replace (reference_of c.in-Replace.x) c.in-Replace.pos c.in-Replace.given.now) c.replace.result (ap request_of c.in-Replace.is) c.replace.ensures.damage
+
+pub returns-in-Delete-clause-damage : goal.returns-in-Delete-clause-damage
+returns-in-Delete-clause-damage g c = damage_as (g.H.World.outside c.args.host.now) (g.H.World.outside c.delete.new.host) c.args.session.now (request_of c.args.command.now) (request.Delete (reference_of c.in-Delete.x) c.in-Delete.pos c.in-Delete.len) c.delete.result (ap request_of c.in-Delete.is) c.delete.ensures.damage
+
+pub returns-in-Next-clause-damage : goal.returns-in-Next-clause-damage
+returns-in-Next-clause-damage g c = damage_as (g.H.World.outside c.args.host.now) (g.H.World.outside c.next.new.host) c.args.session.now (request_of c.args.command.now) (request.Next c.in-Next.name.now c.in-Next.len) c.next.result (ap request_of c.in-Next.is) c.next.ensures.damage
+
+pub returns-in-Scan-clause-damage : goal.returns-in-Scan-clause-damage
+returns-in-Scan-clause-damage g c = damage_as (g.H.World.outside c.args.host.now) (g.H.World.outside c.scan.new.host) c.args.session.now (request_of c.args.command.now) (request.Scan (reference_of c.in-Scan.x) c.in-Scan.name.now (option_map (λ name. name.now) c.in-Scan.group)) c.scan.result (ap request_of c.in-Scan.is) c.scan.ensures.damage
+
+pub returns-in-Versions-clause-damage : goal.returns-in-Versions-clause-damage
+returns-in-Versions-clause-damage g c = damage_as (g.H.World.outside c.args.host.now) (g.H.World.outside c.versions.new.host) c.args.session.now (request_of c.args.command.now) (request.Versions (reference_of c.in-Versions.x)) c.versions.result (ap request_of c.in-Versions.is) c.versions.ensures.damage
+
+pub returns-in-DropVersion-clause-damage : goal.returns-in-DropVersion-clause-damage
+returns-in-DropVersion-clause-damage g c = damage_as (g.H.World.outside c.args.host.now) (g.H.World.outside c.drop_version.new.host) c.args.session.now (request_of c.args.command.now) (request.DropVersion (reference_of c.in-DropVersion.x)) c.drop_version.result (ap request_of c.in-DropVersion.is) c.drop_version.ensures.damage
+
+pub returns-in-Freeze-clause-damage : goal.returns-in-Freeze-clause-damage
+returns-in-Freeze-clause-damage g c = damage_as (g.H.World.outside c.args.host.now) (g.H.World.outside c.copy.new.host) c.args.session.now (request_of c.args.command.now) (request.Freeze (reference_of c.in-Freeze.x) c.in-Freeze.bind.now) c.copy.result (ap request_of c.in-Freeze.is) c.copy.ensures.damage
+
+pub returns-in-Derive-clause-damage : goal.returns-in-Derive-clause-damage
+returns-in-Derive-clause-damage g c = damage_as (g.H.World.outside c.args.host.now) (g.H.World.outside c.copy-in-Derive.new.host) c.args.session.now (request_of c.args.command.now) (request.Derive (reference_of c.in-Derive.x) c.in-Derive.bind.now) c.copy-in-Derive.result (ap request_of c.in-Derive.is) c.copy-in-Derive.ensures.damage

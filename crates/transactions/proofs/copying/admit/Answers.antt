@@ -6,6 +6,9 @@ use Rattle.session_core.proofs.Sessions.{viewed}
 use Rattle.session_core.proofs.Stopping.{unread_outside}
 use Rattle.transactions.specs.Making.{number_in}
 use Rattle.transactions.proofs.Copied.{copy_admitted, copy_full, copy_spent, copy_unfound}
+use Rattle.session_core.proofs.Damage.{none_wider, catalog_told, later_damage}
+use Rattle.transactions.specs.Lines.{named_as}
+use Rattle.transactions.proofs.Damage.{oid_named}
 use Rattle.transactions.proofs.copying.admit.Goals as goal
 
 pub returns-in-Err-version_of-clause-refused : goal.returns-in-Err-version_of-clause-refused
@@ -58,3 +61,15 @@ returns-clause-admitted g c =
     copy_admitted how x name c.in-Ok.told c.named.ensures.only c.named.ensures.session c.requires.is_open c.in-Ok.ensures.named
     c.in-Ok-version_of.version c.in-Ok-version_of.ensures c.catalog.ensures.session c.catalog.ensures.frames c.in-Ok-catalog.page.items (record { catalog = c.in-Ok-catalog.ensures.catalog; read = c.in-Ok-catalog.ensures.read })
     c.in-Ok-next_number.unique (c.in-Ok-next_number.ensures ∙ ap number_in (viewed c.view_of.result c.deref.result.now c.in-Ok-catalog.page.items c.view_of.ensures c.deref.ensures.value)) (sym c.in-None.is ∙ c.refuses_room.ensures)
+
+pub returns-in-Err-clause-damage : goal.returns-in-Err-clause-damage
+returns-in-Err-clause-damage g c = none_wider (g.H.World.outside c.args.host.now) (g.H.World.outside c.named.new.host) c.args.session.now (named_as c.args.session.now (reference_of c.args.x.now)) c.in-Err.stop c.in-Err.ensures.damage
+
+pub returns-in-Err-catalog-clause-damage : goal.returns-in-Err-catalog-clause-damage
+returns-in-Err-catalog-clause-damage g c =
+    let own = named_as c.args.session.now (reference_of c.args.x.now) in
+    later_damage c.args.session.now c.named.new.self c.named.ensures.only (g.H.World.outside c.catalog.new.disk) own c.in-Err-catalog.stop
+    (catalog_told (g.H.World.outside c.named.new.host) (g.H.World.outside c.catalog.new.disk) c.named.new.self own c.in-Err-catalog.stop c.in-Err-catalog.ensures.stops)
+
+pub returns-in-None-clause-asked : goal.returns-in-None-clause-asked
+returns-in-None-clause-asked g c = oid_named c.args.session.now (reference_of c.args.x.now) c.in-Ok-version_of.version c.in-Ok.told c.in-Ok-version_of.ensures.found c.in-Ok.ensures.asked

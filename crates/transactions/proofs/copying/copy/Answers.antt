@@ -1,14 +1,16 @@
-use Rattle.std.proofs.Common.{◌∙◌, Ok, Some, sym, subst}
+use Rattle.std.proofs.Common.{◌∙◌, Ok, Some, sym, subst, ◌≡◌}
 use Rattle.ex_base.specs.declared.notes.NoteKind.{NoteKind}
 use Rattle.table_model.specs.declared.reply.Reply.{Reply}
 use Rattle.table_model.specs.Requests.{reference_of}
 use Rattle.session_core.specs.declared.updates.ObjectUpdate.TheVariants as made
-use Rattle.session_core.specs.Finding.{IfShown}
+use Rattle.session_core.specs.Finding.{IfShown, oid_among}
 use Rattle.transactions.specs.Copies.{CanCopy, IsOriginal, copy_request}
 use Rattle.transactions.specs.Lines.{Answered, UpdatesLine}
 use Rattle.transactions.specs.Making.{MakesVersion}
 use Rattle.transactions.proofs.Copied.{can_make, copy_closed, copy_done, copy_refused, copy_stopped}
 use Rattle.transactions.proofs.UpdateLines.{admitted_with, line_closed, line_stopped, refused_with}
+use Rattle.transactions.proofs.Damage.{then_damage}
+use Rattle.transactions.specs.declared.copying.Original.{Original}
 use Rattle.transactions.proofs.copying.copy.Goals as goal
 
 pub returns-then-not-is_open-clause-line : goal.returns-then-not-is_open-clause-line
@@ -54,3 +56,8 @@ returns-in-Err-make-clause-line g c =
     copy_stopped how x name (g.H.World.is_world c.args.host.now) c.admit.ensures.session (sym c.is_open.ensures.value ∙ c.if-not-is_open.false) c.admit.ensures.only original
     (admitted_with (λ given. IfShown (g.H.World.outside c.args.host.now) c.args.session.now (λ before. IsOriginal before.machine how x name given)) original c.in-Ok-Ok.field-0 c.in-Ok-Ok.field-0-is c.in-Ok-Ok.ensures.admitted)
     c.make.ensures.went c.in-Err-make.stop c.in-Err-make.ensures.stops c.in-Err-make.ensures.sound
+
+pub returns-in-Err-make-clause-damage : goal.returns-in-Err-make-clause-damage
+returns-in-Err-make-clause-damage g c = then_damage (reference_of c.args.x.now) c.admit.ensures.only (g.H.World.outside c.make.new.host) c.in-Err-make.stop
+    (admitted_with (λ (given : Original). oid_among c.args.session.now.names (reference_of c.args.x.now) ≡ Some given.oid) c.in-Ok-Ok.original c.in-Ok-Ok.field-0 c.in-Ok-Ok.field-0-is c.in-Ok-Ok.ensures.asked)
+    c.in-Err-make.ensures.damage

@@ -6,6 +6,10 @@ use Rattle.session_core.specs.Needs.{size_after}
 use Rattle.transactions.proofs.EditRefusals.{admits, answers_room, later_fits, limit_at, need_then, refuses_missed, refuses_range, room_back, room_then, still_outside}
 use Rattle.session_core.proofs.Naming.{frames_twice}
 use Rattle.transactions.proofs.Naming.{misses_so, names_so}
+use Rattle.session_core.proofs.Damage.{none_wider}
+use Rattle.transactions.specs.Lines.{named_as}
+use Rattle.transactions.proofs.Damage.{oid_named, then_damage}
+use Rattle.ex_base.proofs.Results.{if_err_handed}
 use Rattle.transactions.proofs.edits.admit.Goals as goal
 
 pub returns-in-Err-clause-refused : goal.returns-in-Err-clause-refused
@@ -54,3 +58,15 @@ returns-in-None-clause-admitted g c =
     admits c.named.ensures.session c.requires.is_open x change version (names_so x version _ c.in-Ok.is c.in_ok-version.ensures.named) (limit_at c.in-Ok.version _ c.in-Ok.is c.in_ok-version.ensures.limit) c.in-Ok-stays_small.small
     (later_fits version (size_after change version.found.size) c.in-Ok-stays_small.small c.named.ensures.only c.named.ensures.session c.in-Ok-stays_small.ensures.small) passes
     c.need_of-need.result (need_then version.found change c.in-Ok-stays_small.small c.need_of-need.result only c.need_of-need.ensures.is) (room ∙ room_back c.need_of-need.result c.refuses_room.result only c.refuses_room.ensures)
+
+pub returns-in_err-version-clause-damage : goal.returns-in_err-version-clause-damage
+returns-in_err-version-clause-damage g c = if_err_handed c.from_residual.result _ _ c.from_residual.ensures.1
+    (none_wider (g.H.World.outside c.args.host.now) (g.H.World.outside c.named.new.host) c.args.session.now (named_as c.args.session.now (reference_of c.args.x.now)) _ c.in_err-version.ensures.damage)
+
+pub returns-in-Err-stays_small-clause-damage : goal.returns-in-Err-stays_small-clause-damage
+returns-in-Err-stays_small-clause-damage g c = then_damage (reference_of c.args.x.now) c.named.ensures.only (g.H.World.outside c.stays_small.new.disk) c.in-Err-stays_small.stop
+    (oid_named c.args.session.now (reference_of c.args.x.now) c.in-Ok.version _ c.in-Ok.is c.in_ok-version.ensures.asked)
+    c.in-Err-stays_small.ensures.damage
+
+pub returns-in-None-clause-asked : goal.returns-in-None-clause-asked
+returns-in-None-clause-asked g c = oid_named c.args.session.now (reference_of c.args.x.now) c.in-Ok.version _ c.in-Ok.is c.in_ok-version.ensures.asked

@@ -2,15 +2,15 @@ use Rattle.std.proofs.Common.{◌∙◌, sym}
 use Rattle.transactions.proofs.ScanLines.{next_line, next_refused, next_stopped}
 use Rattle.transactions.proofs.pieces.next.Goals as goal
 
-pub returns-in-None : goal.returns-in-None
-returns-in-None g c = next_refused c.args.name.now c.args.len c.scan_index.ensures.session (sym c.in-None.ensures.value)
+pub returns-in-None-clause-line : goal.returns-in-None-clause-line
+returns-in-None-clause-line g c = next_refused c.args.name.now c.args.len c.scan_index.ensures.session (sym c.in-None.ensures.value)
 
-pub returns-in-Ok : goal.returns-in-Ok
-returns-in-Ok g c = next_line c.args.name.now c.args.len c.in-Some.index c.scan_index.ensures.session (sym c.in-Some.ensures.value) c.requires.form c.of.result (record {
+pub returns-in-Ok-clause-line : goal.returns-in-Ok-clause-line
+returns-in-Ok-clause-line g c = next_line c.args.name.now c.args.len c.in-Some.index c.scan_index.ensures.session (sym c.in-Some.ensures.value) c.requires.form c.of.result (record {
   only = c.next_piece.ensures.only;
   moved = c.in-Ok.ensures.moved;
   bytes = λ before same now row at. c.of.ensures ∙ c.in-Ok.ensures.bytes before same now row at;
 })
 
-pub returns-in-Err : goal.returns-in-Err
-returns-in-Err g c = next_stopped c.args.name.now c.args.len c.in-Some.index c.scan_index.ensures.session (sym c.in-Some.ensures.value) c.requires.form c.in-Err.stop c.next_piece.ensures.only c.in-Err.ensures.stops c.in-Err.ensures.sound
+pub returns-in-Err-clause-line : goal.returns-in-Err-clause-line
+returns-in-Err-clause-line g c = next_stopped c.args.name.now c.args.len c.in-Some.index c.scan_index.ensures.session (sym c.in-Some.ensures.value) c.requires.form c.in-Err.stop c.next_piece.ensures.only c.in-Err.ensures.stops c.in-Err.ensures.sound

@@ -1,23 +1,34 @@
 use Rattle.table_model.specs.Requests.{reference_of}
 use Rattle.transactions.proofs.Digests.{digest_line, digest_refused, digest_stopped}
 use Rattle.transactions.proofs.Naming.{misses_so, names_so}
+use Rattle.session_core.proofs.Damage.{none_wider}
+use Rattle.transactions.specs.Lines.{named_as}
+use Rattle.transactions.proofs.Damage.{oid_named, then_damage}
 use Rattle.transactions.proofs.reads.digest.Goals as goal
 
-pub returns-in-Ok-Err : goal.returns-in-Ok-Err
-returns-in-Ok-Err g c =
+pub returns-in-Ok-Err-clause-line : goal.returns-in-Ok-Err-clause-line
+returns-in-Ok-Err-clause-line g c =
     let x = reference_of c.args.x.now in
     digest_refused x c.in-Ok-Err.why c.named.ensures.only c.named.ensures.session (misses_so x c.in-Ok-Err.why c.in-Ok-Err.field-0 c.in-Ok-Err.field-0-is c.in-Ok-Err.ensures.named)
 
-pub returns-in-Ok-digest_bytes : goal.returns-in-Ok-digest_bytes
-returns-in-Ok-digest_bytes g c =
+pub returns-in-Ok-digest_bytes-clause-line : goal.returns-in-Ok-digest_bytes-clause-line
+returns-in-Ok-digest_bytes-clause-line g c =
     let x = reference_of c.args.x.now in
     let version = c.in-Ok-Ok.version in
     digest_line x version c.named.ensures.only c.digest_bytes.ensures.only c.named.ensures.session (names_so x version c.in-Ok-Ok.field-0 c.in-Ok-Ok.field-0-is c.in-Ok-Ok.ensures.named)
     c.in-Ok-digest_bytes.hash c.in-Ok-digest_bytes.ensures.hash
 
-pub returns : goal.returns
-returns g c =
+pub returns-clause-line : goal.returns-clause-line
+returns-clause-line g c =
     let x = reference_of c.args.x.now in
     let version = c.in-Ok-Ok.version in
     digest_stopped x version c.named.ensures.only c.digest_bytes.ensures.only c.named.ensures.session (names_so x version c.in-Ok-Ok.field-0 c.in-Ok-Ok.field-0-is c.in-Ok-Ok.ensures.named)
     c.in-Err-digest_bytes.stop c.in-Err-digest_bytes.ensures.stops c.in-Err-digest_bytes.ensures.sound
+
+pub returns-in-Err-clause-damage : goal.returns-in-Err-clause-damage
+returns-in-Err-clause-damage g c = none_wider (g.H.World.outside c.args.host.now) (g.H.World.outside c.named.new.host) c.args.session.now (named_as c.args.session.now (reference_of c.args.x.now)) c.in-Err.stop c.in-Err.ensures.damage
+
+pub returns-clause-damage : goal.returns-clause-damage
+returns-clause-damage g c = then_damage (reference_of c.args.x.now) c.named.ensures.only (g.H.World.outside c.digest_bytes.new.disk) c.in-Err-digest_bytes.stop
+    (oid_named c.args.session.now (reference_of c.args.x.now) c.in-Ok-Ok.version c.in-Ok-Ok.field-0 c.in-Ok-Ok.field-0-is c.in-Ok-Ok.ensures.asked)
+    c.in-Err-digest_bytes.ensures.damage

@@ -4,24 +4,32 @@ use Rattle.object_files.specs.Catalog.{FileEntry}
 use Rattle.object_files.specs.Edits.{has_name}
 use Rattle.object_files.specs.Reads.{catalog_on}
 use Rattle.transactions.proofs.Listing.{list_line, list_refused, list_stopped, list_unread}
+use Rattle.session_core.proofs.Damage.{catalog_told, later_damage}
+use Rattle.session_core.specs.Damage.{no_version}
 use Rattle.transactions.proofs.reads.list.Goals as goal
 
-pub returns-in-Err : goal.returns-in-Err
-returns-in-Err g c = list_unread c.args.name.now c.in-Err.stop c.catalog.ensures.frames c.catalog.ensures.session c.in-Err.ensures.stops
+pub returns-in-Err-clause-line : goal.returns-in-Err-clause-line
+returns-in-Err-clause-line g c = list_unread c.args.name.now c.in-Err.stop c.catalog.ensures.frames c.catalog.ensures.session c.in-Err.ensures.stops
 
-pub returns-in-None : goal.returns-in-None
-returns-in-None g c =
+pub returns-in-None-clause-line : goal.returns-in-None-clause-line
+returns-in-None-clause-line g c =
     list_refused c.args.name.now c.in-Ok.page.items c.catalog.ensures.frames c.catalog.ensures.session (record { catalog = c.in-Ok.ensures.catalog; read = c.in-Ok.ensures.read })
     (c.in-None.ensures ∙ ap (λ (page : List ℕ). option_map (λ (e : FileEntry). e.file_no) (find (has_name c.args.name.now) (catalog_on page).entries)) c.deref.ensures.value)
 
-pub returns-in-Ok-objects_of : goal.returns-in-Ok-objects_of
-returns-in-Ok-objects_of g c =
+pub returns-in-Ok-objects_of-clause-line : goal.returns-in-Ok-objects_of-clause-line
+returns-in-Ok-objects_of-clause-line g c =
     list_line c.args.name.now c.in-Ok.page.items c.in-Some.file_no c.catalog.ensures.frames c.objects_of.ensures.only c.catalog.ensures.session (record { catalog = c.in-Ok.ensures.catalog; read = c.in-Ok.ensures.read })
     (c.in-Some.ensures ∙ ap (λ (page : List ℕ). option_map (λ (e : FileEntry). e.file_no) (find (has_name c.args.name.now) (catalog_on page).entries)) c.deref.ensures.value)
     c.of.result (λ before same now e there number. c.of.ensures ∙ c.in-Ok-objects_of.ensures.oids before same now e there number)
 
-pub returns : goal.returns
-returns g c =
+pub returns-clause-line : goal.returns-clause-line
+returns-clause-line g c =
     list_stopped c.args.name.now c.in-Ok.page.items c.in-Some.file_no c.catalog.ensures.frames c.objects_of.ensures.only c.catalog.ensures.session (record { catalog = c.in-Ok.ensures.catalog; read = c.in-Ok.ensures.read })
     (c.in-Some.ensures ∙ ap (λ (page : List ℕ). option_map (λ (e : FileEntry). e.file_no) (find (has_name c.args.name.now) (catalog_on page).entries)) c.deref.ensures.value)
     c.in-Err-objects_of.stop c.in-Err-objects_of.ensures.stops c.in-Err-objects_of.ensures.sound
+
+pub returns-in-Err-clause-damage : goal.returns-in-Err-clause-damage
+returns-in-Err-clause-damage g c = catalog_told (g.H.World.outside c.args.host.now) (g.H.World.outside c.catalog.new.disk) c.args.session.now no_version c.in-Err.stop c.in-Err.ensures.stops
+
+pub returns-clause-damage : goal.returns-clause-damage
+returns-clause-damage g c = later_damage c.args.session.now c.catalog.new.self c.catalog.ensures.frames (g.H.World.outside c.objects_of.new.disk) no_version c.in-Err-objects_of.stop c.in-Err-objects_of.ensures.damage

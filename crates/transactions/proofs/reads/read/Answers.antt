@@ -5,14 +5,17 @@ use Rattle.table_model.specs.Requests.{reference_of}
 use Rattle.transactions.proofs.Naming.{misses_so, names_so, read_line, read_outside, read_refused, read_stopped, taken_back}
 use Rattle.transactions.proofs.reads.read.Goals as goal
 use Rattle.transactions.proofs.reads.read.Goals.{then-pos-size-via-then-pos-size, then-pos-size-via-else-pos-size+then-from-size}
+use Rattle.session_core.proofs.Damage.{none_wider}
+use Rattle.transactions.specs.Lines.{named_as}
+use Rattle.transactions.proofs.Damage.{oid_named, then_damage}
 
-pub returns-in-Ok-Err : goal.returns-in-Ok-Err
-returns-in-Ok-Err g c =
+pub returns-in-Ok-Err-clause-line : goal.returns-in-Ok-Err-clause-line
+returns-in-Ok-Err-clause-line g c =
     let x = reference_of c.args.x.now in
     read_refused x c.args.pos c.args.len c.in-Ok-Err.why c.named.ensures.only c.named.ensures.session (misses_so x c.in-Ok-Err.why c.in-Ok-Err.field-0 c.in-Ok-Err.field-0-is c.in-Ok-Err.ensures.named)
 
-pub returns-then-pos-size : goal.returns-then-pos-size
-returns-then-pos-size g c =
+pub returns-then-pos-size-clause-line : goal.returns-then-pos-size-clause-line
+returns-then-pos-size-clause-line g c =
     let x = reference_of c.args.x.now in
     let version = c.in-Ok-Ok.version in
     let outside : version.found.size < c.args.pos + c.args.len = elim c.then-pos-size.branch [
@@ -21,8 +24,8 @@ returns-then-pos-size g c =
     ] in
     read_outside x c.args.pos c.args.len version c.named.ensures.only c.named.ensures.session (names_so x version c.in-Ok-Ok.field-0 c.in-Ok-Ok.field-0-is c.in-Ok-Ok.ensures.named) outside
 
-pub returns-in-Ok-read_bytes : goal.returns-in-Ok-read_bytes
-returns-in-Ok-read_bytes g c =
+pub returns-in-Ok-read_bytes-clause-line : goal.returns-in-Ok-read_bytes-clause-line
+returns-in-Ok-read_bytes-clause-line g c =
     let x = reference_of c.args.x.now in
     let version = c.in-Ok-Ok.version in
     let inside : c.args.pos + c.args.len ≤ version.found.size = omega (arith, c.if-pos-size.false, c.from.ensures, c.if-from-size.false) in
@@ -32,11 +35,19 @@ returns-in-Ok-read_bytes g c =
     read_line x c.args.pos c.args.len version c.named.ensures.only c.read_bytes.ensures.only c.named.ensures.session (names_so x version c.in-Ok-Ok.field-0 c.in-Ok-Ok.field-0-is c.in-Ok-Ok.ensures.named) inside c.of.result
     (λ before same now live is. told ∙ c.in-Ok-read_bytes.ensures.bytes before same now live is ∙ ap (λ (n : ℕ). bytes_at live.bytes c.args.pos n) long)
 
-pub returns-in-Err-read_bytes : goal.returns-in-Err-read_bytes
-returns-in-Err-read_bytes g c =
+pub returns-in-Err-read_bytes-clause-line : goal.returns-in-Err-read_bytes-clause-line
+returns-in-Err-read_bytes-clause-line g c =
     let x = reference_of c.args.x.now in
     let version = c.in-Ok-Ok.version in
     let inside : c.args.pos + c.args.len ≤ version.found.size = omega (arith, c.if-pos-size.false, c.from.ensures, c.if-from-size.false) in
     let long : length c.deref_mut.result.now ≡ c.args.len = omega (arith, c.deref_mut.ensures.len, c.in-Ok.ensures.len, ap length c.deref_mut.ensures.value) in
     read_stopped x c.args.pos c.args.len version c.named.ensures.only c.read_bytes.ensures.only c.named.ensures.session (names_so x version c.in-Ok-Ok.field-0 c.in-Ok-Ok.field-0-is c.in-Ok-Ok.ensures.named) inside c.in-Err-read_bytes.stop
     c.in-Err-read_bytes.ensures.stops (λ before same now live is room. c.in-Err-read_bytes.ensures.sound before same now live is (omega (arith, room, long)))
+
+pub returns-in-Err-clause-damage : goal.returns-in-Err-clause-damage
+returns-in-Err-clause-damage g c = none_wider (g.H.World.outside c.args.host.now) (g.H.World.outside c.named.new.host) c.args.session.now (named_as c.args.session.now (reference_of c.args.x.now)) c.in-Err.stop c.in-Err.ensures.damage
+
+pub returns-in-Err-read_bytes-clause-damage : goal.returns-in-Err-read_bytes-clause-damage
+returns-in-Err-read_bytes-clause-damage g c = then_damage (reference_of c.args.x.now) c.named.ensures.only (g.H.World.outside c.read_bytes.new.disk) c.in-Err-read_bytes.stop
+    (oid_named c.args.session.now (reference_of c.args.x.now) c.in-Ok-Ok.version c.in-Ok-Ok.field-0 c.in-Ok-Ok.field-0-is c.in-Ok-Ok.ensures.asked)
+    c.in-Err-read_bytes.ensures.damage

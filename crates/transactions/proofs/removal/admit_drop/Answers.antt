@@ -4,6 +4,9 @@ use Rattle.table_model.specs.Requests.{reference_of}
 use Rattle.session_core.proofs.Naming.{frames_twice}
 use Rattle.transactions.proofs.Naming.{names_so}
 use Rattle.transactions.proofs.Removed.{drop_admitted, drop_branched, still_asked}
+use Rattle.session_core.proofs.Damage.{none_wider}
+use Rattle.transactions.specs.Lines.{named_as}
+use Rattle.transactions.proofs.Damage.{oid_named, then_damage}
 use Rattle.transactions.proofs.removal.admit_drop.Goals as goal
 
 pub returns-in-Err-branches-clause-only : goal.returns-in-Err-branches-clause-only
@@ -35,3 +38,14 @@ returns-clause-admitted g c =
     let version = c.in-Ok-Ok.version in
     let names = names_so x version c.in-Ok-Ok.field-0 c.in-Ok-Ok.field-0-is c.in-Ok-Ok.ensures.named in
     drop_admitted x c.named.ensures.only c.named.ensures.session c.requires.is_open version names c.branches.ensures.only (sym c.is_frozen.ensures ∙ c.if-not-is_frozen.false) c.in_default.ensures c.in-Ok.derived c.in-Ok.ensures.count (lt-leb 2 c.in-Ok.derived c.if-derived-ge2.false)
+
+pub returns-in-Err-clause-damage : goal.returns-in-Err-clause-damage
+returns-in-Err-clause-damage g c = none_wider (g.H.World.outside c.args.host.now) (g.H.World.outside c.named.new.host) c.args.session.now (named_as c.args.session.now (reference_of c.args.x.now)) c.in-Err.stop c.in-Err.ensures.damage
+
+pub returns-in-Err-branches-clause-damage : goal.returns-in-Err-branches-clause-damage
+returns-in-Err-branches-clause-damage g c = then_damage (reference_of c.args.x.now) c.named.ensures.only (g.H.World.outside c.branches.new.host) c.in-Err-branches.stop
+    (oid_named c.args.session.now (reference_of c.args.x.now) c.in-Ok-Ok.version c.in-Ok-Ok.field-0 c.in-Ok-Ok.field-0-is c.in-Ok-Ok.ensures.asked)
+    c.in-Err-branches.ensures.damage
+
+pub returns-clause-asked : goal.returns-clause-asked
+returns-clause-asked g c = oid_named c.args.session.now (reference_of c.args.x.now) c.in-Ok-Ok.version c.in-Ok-Ok.field-0 c.in-Ok-Ok.field-0-is c.in-Ok-Ok.ensures.asked

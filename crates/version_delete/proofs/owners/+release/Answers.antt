@@ -8,7 +8,7 @@ use Rattle.trees.specs.Node.{pairs_on}
 use Rattle.trees.specs.Counted.{HasCounts}
 use Rattle.version_delete.specs.Released.{AreApart, IsFreed, Released}
 use Rattle.version_delete.proofs.Releasing.{drops_of, drops_kept, not_last, node_released, so_far_more, gives_last, gives_less, gives_on, counts_given, all_of, some_level, suc_less, node_left, gives_geometry}
-use Rattle.version_delete.proofs.Blaming.{row_fault, walk_leaves}
+use Rattle.version_delete.proofs.Blaming.{kept_row, row_fault, walk_leaves}
 use Rattle.trees.specs.Owners.{StandsAt}
 use Rattle.trees.specs.Damage.{AnyPart, NamesNode, IsLeafFault, IsNodeFault, IsWalkFault}
 use Rattle.trees.proofs.Blame.{walk_below, walk_node}
@@ -198,3 +198,67 @@ returns-in-Err-release_leaves-clause-fault g t c = λ told logged roots at is.
     subst (λ (x : Geometry). AnyPart (λ leaf. IsLeafFault x leaf.page fault) row) (gives_geometry b c.args.blocks.now c.give_unit.new.self given) c.in-Err-release_leaves.ensures.fault in
     walk_below (b.geometry c.args.blocks.now) (b.unit c.args.blocks.now) c.args.level c.args.least 0 (c.args.tree ∷ []) row fault c.if-level-eq0.false (omega arith) area found filled
     (walk_leaves (b.geometry c.args.blocks.now) (b.unit c.args.blocks.now) (c.args.level - 1) (b.geometry c.args.blocks.now).fan row fault (omega (arith, c.if-level-eq1.true)) any)
+
+-- ---- where units keep their bytes
+
+pub returns-in-Err-clause-way : goal.returns-in-Err-clause-way
+returns-in-Err-clause-way g t c = λ keeps told.
+    let page = c.args.tree.page.0 in
+    let b = g.B.Ground in
+    let first = drops_of b c.args.blocks.now c.drop_ref.new.self page (without_ref (b.refs c.args.blocks.now page)) c.drop_ref.ensures.counts in
+    let geo : b.geometry c.drop_ref.new.self ≡ b.geometry c.args.blocks.now = b.leads_geometry c.args.blocks.now c.drop_ref.new.self c.drop_ref.ensures.counts.leads in
+    let fault : IsNodeFault (b.geometry c.args.blocks.now) (b.unit c.args.blocks.now page) c.args.level c.args.tree.size c.args.least page c.in-Err.fault =
+    subst (λ (x : Geometry). IsNodeFault x (b.unit c.args.blocks.now page) c.args.level c.args.tree.size c.args.least page c.in-Err.fault) geo
+    (subst (λ (us : Units). IsNodeFault (b.geometry c.drop_ref.new.self) (us page) c.args.level c.args.tree.size c.args.least page c.in-Err.fault) first.units
+    (c.in-Err.ensures.fault (b.leads_told c.args.blocks.now c.drop_ref.new.self c.drop_ref.ensures.counts.leads told))) in
+    walk_node (b.geometry c.args.blocks.now) (b.unit c.args.blocks.now) c.args.level c.args.least 0 (c.args.tree ∷ []) c.in-Err.fault c.if-level-eq0.false (omega arith) fault
+
+pub returns-in-Err-release_leaves-clause-way : goal.returns-in-Err-release_leaves-clause-way
+returns-in-Err-release_leaves-clause-way g t c = λ keeps told.
+    let page = c.args.tree.page.0 in
+    let b = g.B.Ground in
+    let row = c.deref.result.now in
+    let fault = c.in-Err-release_leaves.fault in
+    let last = c.drop_ref.ensures.last.0 c.if-not-drop_ref.false in
+    let first = drops_of b c.args.blocks.now c.drop_ref.new.self page (without_ref (b.refs c.args.blocks.now page)) c.drop_ref.ensures.counts in
+    let drops = drops_kept b c.args.blocks.now c.drop_ref.new.self c.row_of.new.blocks page (without_ref (b.refs c.args.blocks.now page)) first c.in-Ok.ensures.kept in
+    let given = gives_last b c.args.blocks.now c.row_of.new.blocks c.give_unit.new.self page drops c.give_unit.ensures.given last (c.requires.counts.used page (omega (arith, last))) in
+    let geo : b.geometry c.drop_ref.new.self ≡ b.geometry c.args.blocks.now = b.leads_geometry c.args.blocks.now c.drop_ref.new.self c.drop_ref.ensures.counts.leads in
+    let area : NamesNode (b.geometry c.args.blocks.now) page = subst (λ (x : Geometry). NamesNode x page) c.geometry-geometry.ensures (c.names_node.ensures.0 c.if-not-names_node.false) in
+    let found : IsRowOn (b.geometry c.args.blocks.now) (b.unit c.args.blocks.now page) c.args.level c.args.tree.size row =
+    subst (IsRowOn (b.geometry c.args.blocks.now) (b.unit c.args.blocks.now page) c.args.level c.args.tree.size) (sym c.deref.ensures.value)
+    (subst (λ (x : Geometry). IsRowOn x (b.unit c.args.blocks.now page) c.args.level c.args.tree.size c.in-Ok.below.items) geo
+    (subst (λ (us : Units). IsRowOn (b.geometry c.drop_ref.new.self) (us page) c.args.level c.args.tree.size c.in-Ok.below.items) first.units
+    (c.in-Ok.ensures.found (b.leads_told c.args.blocks.now c.drop_ref.new.self c.drop_ref.ensures.counts.leads told)))) in
+    let filled : IsFilled (b.geometry c.args.blocks.now) c.args.level c.args.least row =
+    subst (IsFilled (b.geometry c.args.blocks.now) c.args.level c.args.least) (sym c.deref.ensures.value)
+    (subst (λ (x : Geometry). IsFilled x c.args.level c.args.least c.in-Ok.below.items) geo c.in-Ok.ensures.counted.filled) in
+    let any : AnyPart (λ leaf. IsLeafFault (b.geometry c.args.blocks.now) leaf.page fault) row =
+    subst (λ (x : Geometry). AnyPart (λ leaf. IsLeafFault x leaf.page fault) row) (gives_geometry b c.args.blocks.now c.give_unit.new.self given) c.in-Err-release_leaves.ensures.fault in
+    walk_below (b.geometry c.args.blocks.now) (b.unit c.args.blocks.now) c.args.level c.args.least 0 (c.args.tree ∷ []) row fault c.if-level-eq0.false (omega arith) area found filled
+    (walk_leaves (b.geometry c.args.blocks.now) (b.unit c.args.blocks.now) (c.args.level - 1) (b.geometry c.args.blocks.now).fan row fault (omega (arith, c.if-level-eq1.true)) any)
+
+pub returns-in-Err-release-clause-way : goal.returns-in-Err-release-clause-way
+returns-in-Err-release-clause-way g t c = λ keeps told.
+    let page = c.args.tree.page.0 in
+    let b = g.B.Ground in
+    let row = c.deref-child-items.result.now in
+    let last = c.drop_ref.ensures.last.0 c.if-not-drop_ref.false in
+    let was : b.used c.args.blocks.now page ≡ true = c.requires.counts.used page (omega (arith, last)) in
+    let first = drops_of b c.args.blocks.now c.drop_ref.new.self page (without_ref (b.refs c.args.blocks.now page)) c.drop_ref.ensures.counts in
+    let drops = drops_kept b c.args.blocks.now c.drop_ref.new.self c.row_of.new.blocks page (without_ref (b.refs c.args.blocks.now page)) first c.in-Ok.ensures.kept in
+    let given = gives_last b c.args.blocks.now c.row_of.new.blocks c.give_unit.new.self page drops c.give_unit.ensures.given last was in
+    let geo : b.geometry c.drop_ref.new.self ≡ b.geometry c.args.blocks.now = b.leads_geometry c.args.blocks.now c.drop_ref.new.self c.drop_ref.ensures.counts.leads in
+    let area : NamesNode (b.geometry c.args.blocks.now) page = subst (λ (x : Geometry). NamesNode x page) c.geometry-geometry.ensures (c.names_node.ensures.0 c.if-not-names_node.false) in
+    let found : IsRowOn (b.geometry c.args.blocks.now) (b.unit c.args.blocks.now page) c.args.level c.args.tree.size row =
+    subst (IsRowOn (b.geometry c.args.blocks.now) (b.unit c.args.blocks.now page) c.args.level c.args.tree.size) (sym c.deref-child-items.ensures.value)
+    (subst (λ (x : Geometry). IsRowOn x (b.unit c.args.blocks.now page) c.args.level c.args.tree.size c.in-Ok.below.items) geo
+    (subst (λ (us : Units). IsRowOn (b.geometry c.drop_ref.new.self) (us page) c.args.level c.args.tree.size c.in-Ok.below.items) first.units
+    (c.in-Ok.ensures.found (b.leads_told c.args.blocks.now c.drop_ref.new.self c.drop_ref.ensures.counts.leads told)))) in
+    let filled : IsFilled (b.geometry c.args.blocks.now) c.args.level c.args.least row =
+    subst (IsFilled (b.geometry c.args.blocks.now) c.args.level c.args.least) (sym c.deref-child-items.ensures.value)
+    (subst (λ (x : Geometry). IsFilled x c.args.level c.args.least c.in-Ok.below.items) geo c.in-Ok.ensures.counted.filled) in
+    let walk = kept_row b keeps c.args.blocks.now c.loop-child.blocks (c.args.level - 1) c.geometry-geometry.result.fan c.loop-child.child-index row c.in-Err-release.fault c.loop-child-test.true
+    (gives_on b c.args.blocks.now c.give_unit.new.self c.loop-child.blocks given c.loop-child.invariant.gives) told c.in-Err-release.ensures.way in
+    walk_below (b.geometry c.args.blocks.now) (b.unit c.args.blocks.now) c.args.level c.args.least 0 (c.args.tree ∷ []) row c.in-Err-release.fault c.if-level-eq0.false (omega arith) area found filled
+    (subst (λ k. IsWalkFault (b.geometry c.args.blocks.now) (b.unit c.args.blocks.now) (c.args.level - 1) k row c.in-Err-release.fault) (ap (λ (x : Geometry). x.fan) c.geometry-geometry.ensures) walk)

@@ -1,12 +1,13 @@
-use Rattle.std.proofs.Common.{◌≡◌, ◌≤◌, ℕ, Bool, rules, OnOk, ◌∷◌, []}
+use Rattle.std.proofs.Common.{◌≡◌, ◌≤◌, ℕ, Bool, arith, rules, OnOk, ◌∷◌, []}
+use Rattle.std.proofs.lemmas.List.Elements.{Contains-get_or}
 use Rattle.std.proofs.lemmas.Result.{IfErr-weaker, on_ok_weaker}
 use Rattle.ex_base.specs.Ports.{IsDamage}
 use Rattle.page_alloc.specs.UnitSet.{used_at, refs_at}
 use Rattle.trees.specs.Owners.{IsOwned}
 use Rattle.volume_model.specs.Homes.{home}
 use Rattle.volume_port.specs.Giving.{is_logged}
-use Rattle.volume_port.specs.GivingUp.{GivesTrees, OwnRoots}
-use Rattle.volume_port.proofs.GivingUp.{gives_trees, left_under, not_damaged}
+use Rattle.volume_port.specs.GivingUp.{GivesTrees, IsGivingFault, OwnRoots}
+use Rattle.volume_port.proofs.GivingUp.{giving_keeps, gives_trees, left_under, not_damaged}
 use Rattle.volume_port.proofs.giving_up.release_root.Goals as goal
 
 pub returns-clause-gives : goal.returns-clause-gives
@@ -40,3 +41,10 @@ returns-clause-sound g c =
     IfErr-weaker c.give_up_once.result _ (λ fault. IsDamage fault → OwnRoots c.args.pages.now c.args.kept.now c.args.geometry.now (outside c.args.disk.now) c.args.groups.now c.args.units.now (c.args.root.now ∷ []) → ⊥)
     (λ fault blames damage own. not_damaged c.args.geometry.now (outside c.args.disk.now) c.args.groups.now c.args.units.now c.args.pages.now c.args.kept.now c.args.root.now own fault blames damage)
     c.give_up_once.ensures.fault
+
+pub returns-clause-fault : goal.returns-clause-fault
+returns-clause-fault g c =
+    let root = c.args.root.now in
+    IfErr-weaker c.give_up_once.result _ (IsGivingFault c.args.geometry.now (g.D.World.outside c.args.disk.now) c.args.groups.now (root ∷ []))
+    (λ fault blames told. record { root = root; one = Contains-get_or (root ∷ []) 0 root (omega arith); way = blames (λ a b gives. giving_keeps g.D.World.outside gives.frees) told })
+    c.give_up_once.ensures.way

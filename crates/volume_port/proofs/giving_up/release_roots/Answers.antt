@@ -4,7 +4,7 @@ use Rattle.ex_base.specs.declared.names.Area.TheVariants.{Page}
 use Rattle.ex_base.specs.declared.names.Root.{Root}
 use Rattle.ex_base.proofs.Results.{if_err_handed}
 use Rattle.volume_port.specs.Giving.{is_logged}
-use Rattle.volume_port.proofs.GivingUp.{LeavesRoots, given_on, next_owns, no_root, rest_left}
+use Rattle.volume_port.proofs.GivingUp.{LeavesRoots, given_on, later_fault, next_owns, no_root, rest_left}
 use Rattle.volume_port.proofs.giving_up.release_roots.Goals as goal
 
 pub returns-clause-released : goal.returns-clause-released
@@ -41,3 +41,11 @@ returns-in_err-release_root-clause-sound g c =
     c.in_err-release_root.ensures.sound damage
     (next_owns c.args.pages.now c.args.kept.now c.args.geometry.now (outside c.args.disk.now) (outside c.loop-root.disk) c.args.groups.now c.loop-root.groups c.args.units.now c.loop-root.units roots c.loop-root.invariant.gives
     (get_or roots place no_root) (drop (place + 1) roots) left own))
+
+pub returns-in_err-release_root-clause-fault : goal.returns-in_err-release_root-clause-fault
+returns-in_err-release_root-clause-fault g c =
+    let outside = g.D.World.outside in
+    let gives = c.loop-root.invariant.gives in
+    if_err_handed c.from_residual.result _ c.in_err-release_root.field-0.0 c.from_residual.ensures.1
+    (later_fault c.args.geometry.now (outside c.args.disk.now) (outside c.loop-root.disk) c.args.groups.now c.loop-root.groups c.args.roots.now c.loop-root.root-index c.loop-root-test.true
+    gives.only.nothing.disk gives.told c.in_err-release_root.field-0.0 c.in_err-release_root.ensures.fault)

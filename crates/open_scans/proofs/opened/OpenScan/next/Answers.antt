@@ -1,4 +1,7 @@
-use Rattle.std.proofs.Common.{◌∙◌, ap}
+use Rattle.std.proofs.Common.{◌∙◌, Option, ap, subst}
+use Rattle.std.specs.Prelude.{IfSome}
+use Rattle.ex_base.specs.declared.names.Root.{Root}
+use Rattle.trees.specs.Damage.{IsRootFault}
 use Rattle.open_scans.specs.OpenScans.{OpenRow}
 use Rattle.open_scans.proofs.opened.OpenScan.next.Goals as goal
 use Rattle.open_scans.proofs.opened.OpenScan.next.Goals.{in-Ok, in-Err}
@@ -7,4 +10,11 @@ pub returns-clause-sound : goal.returns-clause-sound
 returns-clause-sound g c = elim c.match-copy_next.branch [
   | in-Ok w ↦ rw w.result-is tt
   | in-Err w ↦ rw w.result-is (λ damage told root is whole. w.in-Err.ensures.sound damage told root (ap (λ (r : OpenRow). r.scan.root) c.self.view_is ∙ is) whole)
+]
+
+pub returns-clause-fault : goal.returns-clause-fault
+returns-clause-fault g c = elim c.match-copy_next.branch [
+  | in-Ok w ↦ rw w.result-is tt
+  | in-Err w ↦ rw w.result-is (λ told.
+      subst (λ (o : Option Root). IfSome o (λ root. IsRootFault (g.B.Ground.geometry c.args.blocks.now) (g.B.Ground.unit c.args.blocks.now) root w.in-Err.fault)) (ap (λ (r : OpenRow). r.scan.root) c.self.view_is) (w.in-Err.ensures.fault told))
 ]

@@ -1,10 +1,10 @@
-use Rattle.std.proofs.Common.{◌≡◌, ◌∙◌, ℕ, List, Some, None, ap, subst}
-use Rattle.std.specs.Prelude.{slice_get, slice_set}
+use Rattle.std.proofs.Common.{◌≡◌, ◌∙◌, ℕ, List, Option, Some, None, ap, subst}
+use Rattle.std.specs.Prelude.{IfSome, slice_get, slice_set}
 use Rattle.std.proofs.lemmas.Result.{IfErr-weaker, IfOk-weaker, on_ok_weaker}
 use Rattle.ex_base.specs.Bytes.{bytes_at}
 use Rattle.ex_base.specs.declared.names.Root.{Root}
 use Rattle.scans.specs.Scans.{Opened}
-use Rattle.trees.specs.Damage.{IsWhole}
+use Rattle.trees.specs.Damage.{IsRootFault, IsWhole}
 use Rattle.open_scans.specs.OpenScans.{OpenRow, given_len, position_of, row_after}
 use Rattle.open_scans.proofs.Rows.{lent_there}
 use Rattle.open_scans.proofs.opened.OpenScans.next.Goals as goal
@@ -31,3 +31,8 @@ returns-clause-sound g c = IfErr-weaker c.next.result _ _ (λ fault sound damage
 pub returns-clause-held : goal.returns-clause-held
 returns-clause-held g c = λ row at none.
     c.next.ensures.held (ap (λ (r : OpenRow). r.scan.root) (lent_there c.self.inside.items.items c.args.self.now c.args.index c.index_mut-open.result.now row c.self.view_is c.requires.there c.index_mut-open.ensures.value at) ∙ none)
+
+pub returns-clause-fault : goal.returns-clause-fault
+returns-clause-fault g c = IfErr-weaker c.next.result _ _ (λ fault told tells row at.
+    subst (λ (o : Option Root). IfSome o (λ root. IsRootFault (g.B.Ground.geometry c.args.blocks.now) (g.B.Ground.unit c.args.blocks.now) root fault))
+    (ap (λ (r : OpenRow). r.scan.root) (lent_there c.self.inside.items.items c.args.self.now c.args.index c.index_mut-open.result.now row c.self.view_is c.requires.there c.index_mut-open.ensures.value at)) (told tells)) c.next.ensures.fault

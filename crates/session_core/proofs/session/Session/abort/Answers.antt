@@ -2,7 +2,7 @@ use Rattle.std.proofs.Common.{◌∙◌, ◌≤◌, false, List, Ok, Err, refl, 
 use Rattle.ex_base.specs.declared.names.Area.TheVariants.{Page}
 use Rattle.ex_base.specs.declared.names.Root.{Root}
 use Rattle.table_model.specs.declared.reply.Reply.TheVariants as reply
-use Rattle.volume_port.specs.GivingUp.{OwnRoots}
+use Rattle.volume_port.specs.GivingUp.{OwnRoots, IsGivingFault}
 use Rattle.session_core.specs.Counts.{free_in}
 use Rattle.ex_base.specs.Sizes.{volume_bytes}
 use Rattle.table_model.specs.Requests as request
@@ -15,6 +15,8 @@ use Rattle.session_core.proofs.Refusing.{closed_refused}
 use Rattle.session_core.proofs.Releasing.{GaveUp, gave_up, given_session}
 use Rattle.session_core.proofs.Sessions.{after_abort, seen}
 use Rattle.session_core.proofs.Stopping.{quietly}
+use Rattle.session_core.specs.Damage.{TellsDamage, no_version, of_gained}
+use Rattle.session_core.proofs.Damage.{giving_told}
 use Rattle.session_core.proofs.session.Session.abort.Goals as goal
 
 pub returns-then-not-is_open-clause-steps : goal.returns-then-not-is_open-clause-steps
@@ -82,3 +84,12 @@ returns-clause-idle g c same =
     let groups = c.release_roots.new.groups in
     let gave : GaveUp a b s s.groups s.gained given groups = gave_up s c.deref.result.now s.gained given groups c.deref.ensures.value c.release_roots.ensures.gives c.release_roots.ensures.refs c.in_default.ensures.released in
     c.in_default.ensures.quiet (none_freed c.take_back.new.units gave c.take_back.ensures.units (same ∙ ap (λ (t : SessionState). free_in t Page) (sym c.self.view_is)))
+
+pub returns-in-Err-clause-damage : goal.returns-in-Err-clause-damage
+returns-in-Err-clause-damage g c =
+    let s = session.the_view c.self.inside in
+    let a = g.H.World.outside c.args.host.now in
+    let b = g.H.World.outside c.release_roots.new.disk in
+    subst (λ (t : SessionState). TellsDamage a b t no_version c.stopped.result) c.self.view_is
+    (giving_told a b s s.gained c.in-Err.fault c.stopped.result c.stopped.ensures c.release_roots.ensures.gives.only.nothing.disk (λ root has. of_gained has)
+    (subst (λ (roots : List Root). IsGivingFault s.geometry a s.groups roots c.in-Err.fault) c.deref.ensures.value c.in-Err.ensures.fault))

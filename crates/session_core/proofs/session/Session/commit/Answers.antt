@@ -18,7 +18,7 @@ use Rattle.commits.specs.Room.{IsLogged}
 use Rattle.commits.specs.declared.keep.CommitFault.{CommitFault}
 use Rattle.table_model.specs.Machines.{updates_most}
 use Rattle.table_model.specs.Requests as request
-use Rattle.volume_port.specs.GivingUp.{OwnRoots}
+use Rattle.volume_port.specs.GivingUp.{OwnRoots, IsGivingFault}
 use Rattle.session_views.specs.declared.engine.Stop.TheVariants as stop
 use Rattle.session_core.specs.contracts.session.Session as session
 use Rattle.session_core.specs.Sessions.{IsSession, SessionState}
@@ -32,6 +32,8 @@ use Rattle.session_core.proofs.Sessions.{after_commit, if_error, ready, seen}
 use Rattle.session_core.proofs.Stopping.{kinds_differ, quietly}
 use Rattle.session_core.proofs.Tracking.{gone_put}
 use Rattle.session_core.proofs.Writing.{WasKept, WasMade, closed_as, commit_done, commit_left, commit_logged, commit_stopped, commits_at, frames_at, gave_at, lost_stopped, memory_fault, moments_at, own_at, settled_at}
+use Rattle.session_core.specs.Damage.{TellsDamage, no_version, of_lost}
+use Rattle.session_core.proofs.Damage.{catalog_told, giving_told, later_damage, spent_told, uncommitted_told}
 use Rattle.session_core.proofs.session.Session.commit.Goals as goal
 
 pub returns-then-not-is_open-clause-steps : goal.returns-then-not-is_open-clause-steps
@@ -404,3 +406,25 @@ returns-clause-exact g c before from now opened_there =
       settled = settled_at s mid two c.edit.new.self image c.settle.new.kept given c.settle.new.units only.same c.self-2.view_is edited c.settle.ensures;
     } in
     commit_left s c.in-Ok.page.items image c.in-Some.number mid.groups groups c.commit.new.groups given c.settle.new.units c.commit.new.log c.commit.new.meta c.settle.new.kept (g.H.World.is_world c.args.host.now) kept made before from now
+
+-- ---- what it tells of a damaged page
+
+pub returns-in-Err-clause-damage : goal.returns-in-Err-clause-damage
+returns-in-Err-clause-damage g c = catalog_told (g.H.World.outside c.args.host.now) (g.H.World.outside c.catalog.new.disk) c.args.self.now no_version c.in-Err.stop c.in-Err.ensures.stops
+
+pub returns-then-not-has_next-clause-damage : goal.returns-then-not-has_next-clause-damage
+returns-then-not-has_next-clause-damage g c =
+    spent_told (g.H.World.outside c.args.host.now) (g.H.World.outside c.catalog.new.disk) c.args.self.now c.in-Ok.page.items c.in-Ok.ensures.read (ap (λ (l : List ℕ). (catalog_on l).last) (sym c.deref.ensures.value) ∙ c.has_next.ensures.no c.if-not-has_next.true)
+
+pub returns-in-Err-release_roots-clause-damage : goal.returns-in-Err-release_roots-clause-damage
+returns-in-Err-release_roots-clause-damage g c =
+    let i = g.H.World.outside c.catalog.new.disk in
+    let m = g.H.World.outside c.release_roots.new.disk in
+    let two = session.the_view c.self-2.inside in
+    later_damage c.args.self.now c.catalog.new.self c.catalog.ensures.frames m no_version c.stopped.result
+    (subst (λ (t : SessionState). TellsDamage i m t no_version c.stopped.result) c.self-2.view_is
+    (giving_told i m two two.lost c.in-Err-release_roots.fault c.stopped.result c.stopped.ensures c.release_roots.ensures.gives.only.nothing.disk (λ root has. of_lost has)
+    (subst (λ (roots : List Root). IsGivingFault two.geometry i two.groups roots c.in-Err-release_roots.fault) c.deref-2.ensures.value c.in-Err-release_roots.ensures.fault)))
+
+pub returns-in-Err-commit-clause-damage : goal.returns-in-Err-commit-clause-damage
+returns-in-Err-commit-clause-damage g c = uncommitted_told (g.H.World.outside c.args.host.now) _ c.args.self.now no_version c.in-Err-commit.fault c.uncommitted.result c.uncommitted.ensures

@@ -3,6 +3,10 @@ use Rattle.std.proofs.lemmas.Result.{IfErr-weaker, IfOk-weaker}
 use Rattle.session_core.proofs.Digests.{of_all}
 use Rattle.session_core.specs.contracts.session.Session as session
 use Rattle.session_core.proofs.Finding.{frames_left, frames_to, held_version, no_damage, only_reads, over_session, port_shows, read_session, reads_live, told_err, told_ok}
+use Rattle.session_core.proofs.Damage.{damage_told}
+use Rattle.session_core.specs.Damage.{the_version}
+use Rattle.volume_edits.proofs.Damage.{told_version}
+use Rattle.volume_edits.specs.Damage.{as_it_is}
 use Rattle.session_core.proofs.session.Session.digest_bytes.Goals as goal
 
 pub invariant_of-self : goal.invariant_of-self
@@ -29,3 +33,10 @@ returns-clause-sound g c =
     let shows = port_shows _ _ over before same now in
     let reads = reads_live _ _ shows c.args.oid.now version live in
     sound damage shows.tells reads.index reads.head reads.content version.bytes (held_version _ _ c.args.oid.now version reads) enough)) c.digest_at.ensures.sound)
+
+pub returns-clause-damage : goal.returns-clause-damage
+returns-clause-damage g c =
+    let w = g.D.World.outside c.args.disk.now in
+    let over = over_session c.digest_at.ensures.kept w c.self.view_is c.self.invariant refl refl refl refl (λ h. h) in
+    damage_told _ _ _ (the_version c.args.oid.now) c.digest_at.result c.or_stop.result c.or_stop.ensures over
+    (IfErr-weaker c.digest_at.result _ _ (λ fault is told. as_it_is (told_version _ _ _ _ (the_version c.args.oid.now) c.args.oid.now fault refl (is told))) c.digest_at.ensures.fault)

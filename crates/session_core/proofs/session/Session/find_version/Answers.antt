@@ -1,9 +1,13 @@
 use Rattle.std.proofs.Common.{refl, rules}
 use Rattle.std.proofs.lemmas.Result.{IfErr-weaker}
 use Rattle.versions.specs.Versions.{place_of}
+use Rattle.volume_edits.proofs.Damage.{told_finding}
+use Rattle.session_core.specs.Damage.{no_version}
+use Rattle.session_core.proofs.Damage.{damage_told, roots_found}
 use Rattle.session_core.specs.Finding.{IsFound, IsOutside, stop_at}
 use Rattle.session_core.specs.contracts.session.Session as session
 use Rattle.session_core.proofs.Finding.{error_shown, frames_left, frames_to, looked, looks_sound, no_damage, ok_shown, only_reads, over_session, port_shows, read_session, told_err, told_ok}
+use Rattle.volume_edits.specs.Damage.{as_it_is}
 use Rattle.session_core.proofs.session.Session.find_version.Goals as goal
 
 pub invariant_of-self : goal.invariant_of-self
@@ -27,3 +31,16 @@ returns-clause-sound g c =
     let over = over_session c.find.ensures.kept w c.self.view_is c.self.invariant refl refl refl refl (λ h. h) in
     told_err c.find.result c.or_stop.result c.or_stop.ensures _ (error_shown w c.args.self.now c.find.result (λ before fault. IsOutside (stop_at fault))
     (λ before same now. IfErr-weaker c.find.result _ _ no_damage (looks_sound _ _ (port_shows _ _ over before same now) (place_of c.args.oid.now) c.find.result c.find.ensures.sound)))
+
+pub returns-clause-damage : goal.returns-clause-damage
+returns-clause-damage g c =
+    let w = g.D.World.outside c.args.disk.now in
+    let over = over_session c.find.ensures.kept w c.self.view_is c.self.invariant refl refl refl refl (λ h. h) in
+    damage_told _ _ _ no_version c.find.result c.or_stop.result c.or_stop.ensures over
+    (IfErr-weaker c.find.result _ _ (λ fault is told. as_it_is (told_finding _ _ _ _ no_version c.args.oid.now fault (is told))) c.find.ensures.fault)
+
+pub returns-clause-rooted : goal.returns-clause-rooted
+returns-clause-rooted g c =
+    let w = g.D.World.outside c.args.disk.now in
+    let over = over_session c.find.ensures.kept w c.self.view_is c.self.invariant refl refl refl refl (λ h. h) in
+    told_ok c.find.result c.or_stop.result c.or_stop.ensures _ (roots_found _ _ c.args.oid.now c.find.result over c.find.ensures.reads)

@@ -8,6 +8,8 @@ use Rattle.session_core.specs.Finding.{IsFound}
 use Rattle.session_core.proofs.Naming.{frames_twice}
 use Rattle.session_core.proofs.Quiet.{same_view, with_groups}
 use Rattle.session_core.proofs.Relatives.{first_listed, is_derived, never_missing, none_listed, only_told}
+use Rattle.session_core.specs.Damage.{the_version}
+use Rattle.session_core.proofs.Damage.{later_damage, none_wider}
 use Rattle.session_core.proofs.session.Session.is_only_one.Goals as goal
 
 pub returns-in_err-oids-clause-sound : goal.returns-in_err-oids-clause-sound
@@ -50,3 +52,11 @@ returns-clause-alone g c = λ before same now told.
     let later = with_groups before c.relatives.new.self in
     let found = c.in_ok-found.ensures.found later refl (same_view before same now c.relatives.ensures.only c.relatives.ensures.session.sizes) in
     absurd (never_missing now c.args.version.now told derived later refl c.in-Some.older.now (same_Some c.in-Some.older.now _ its) (subst (λ (o : Option Found). IsFound later c.in-Some.older.now o) c.in-None.is found))
+
+pub returns-in_err-found-clause-damage : goal.returns-in_err-found-clause-damage
+returns-in_err-found-clause-damage g c =
+    let own = the_version c.args.version.now.oid in
+    let mid = g.H.World.outside c.relatives.new.disk in
+    let b = g.H.World.outside c.find_version.new.disk in
+    if_err_handed c.from_residual-in_err-found.result _ _ c.from_residual-in_err-found.ensures.1
+    (later_damage c.args.self.now c.relatives.new.self c.relatives.ensures.only b own _ (none_wider mid b c.relatives.new.self own _ c.in_err-found.ensures.damage))

@@ -1,4 +1,4 @@
-use Rattle.std.proofs.Common.{◌≡◌, ◌<◌, ap, length, refl, rules, subst, sym}
+use Rattle.std.proofs.Common.{◌≡◌, ◌<◌, ap, length, refl, rules, subst, sym, Some, ◌∙◌}
 use Rattle.std.proofs.lemmas.Result.{IfErr-weaker}
 use Rattle.ex_base.specs.Ports.{IsDamage}
 use Rattle.session_core.specs.Finding.{IsOutside, stop_at}
@@ -8,6 +8,9 @@ use Rattle.session_core.proofs.HeldRows.{can_read_on, read_on_session, read_open
 use Rattle.session_core.proofs.ScanBytes.{given_shown, port_scans, sound_shown}
 use Rattle.session_core.specs.contracts.session.Session as session
 use Rattle.session_core.proofs.Finding.{error_shown, frames_left, frames_to, no_damage, ok_shown, only_reads, over_session, read_session, told_err, told_ok}
+use Rattle.std.specs.Prelude.{slice_get}
+use Rattle.open_scans.proofs.Rows.{row_there}
+use Rattle.session_core.proofs.Damage.{scan_told}
 use Rattle.session_core.proofs.session.Session.next_piece.Goals as goal
 
 pub next-requires-clause-ready : goal.next-requires-clause-ready
@@ -42,3 +45,13 @@ returns-clause-sound g c =
     told_err c.next.result c.or_stop.result c.or_stop.ensures _ (error_shown w c.args.self.now c.next.result (λ before fault. AtScan before.machine c.args.index (λ row. IsOutside (stop_at fault)))
     (λ before same now. IfErr-weaker c.next.result _ _ (λ fault each row at. no_damage fault (each row at))
     (sound_shown _ _ c.self.inside.scans (port_scans _ _ over c.self.inside.scans (ap (λ (t : SessionState). t.scans) (sym c.self.view_is)) before same now) c.next.result c.args.index c.next.ensures.sound (λ row at none. (c.next.ensures.held row at none).1))))
+
+pub returns-clause-damage : goal.returns-clause-damage
+returns-clause-damage g c =
+    let w = g.D.World.outside c.args.disk.now in
+    let over = over_session c.next.ensures.kept w c.self.view_is c.self.invariant refl refl refl refl (λ h. h) in
+    let row = row_there c.args.self.now.scans c.args.index c.requires.there in
+    let here : slice_get c.self.inside.scans c.args.index ≡ Some row.row = ap (λ (t : SessionState). slice_get t.scans c.args.index) c.self.view_is ∙ row.at in
+    let left = frames_to g.D.World.outside c.next.new.blocks.disk.now _ (search rules) (frames_left c.next.ensures.kept.leads) in
+    scan_told _ _ _ c.args.index c.next.result c.or_stop.result c.or_stop.ensures over left.only.nothing.disk row.row row.at
+    (IfErr-weaker c.next.result _ _ (λ fault is told. is told row.row here) c.next.ensures.fault) (λ none. (c.next.ensures.held row.row here none).1)

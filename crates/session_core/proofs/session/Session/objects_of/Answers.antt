@@ -3,6 +3,9 @@ use Rattle.std.proofs.lemmas.Result.{IfErr-weaker, IfOk-weaker}
 use Rattle.session_core.proofs.Listing.{file_on, lists_here, lists_sound}
 use Rattle.session_core.specs.contracts.session.Session as session
 use Rattle.session_core.proofs.Finding.{frames_left, frames_to, no_damage, only_reads, over_session, read_session, told_err, told_ok}
+use Rattle.session_core.proofs.Damage.{damage_told}
+use Rattle.session_core.specs.Damage.{no_version}
+use Rattle.volume_edits.specs.Damage.{as_it_is, of_walk}
 use Rattle.session_core.proofs.session.Session.objects_of.Goals as goal
 
 pub invariant_of-self : goal.invariant_of-self
@@ -24,3 +27,10 @@ returns-clause-sound g c =
     let over = over_session c.objects.ensures.kept w c.self.view_is c.self.invariant refl refl refl refl (λ h. h) in
     told_err c.objects.result c.or_stop.result c.or_stop.ensures _ (IfErr-weaker c.objects.result _ _ (λ fault each before same now e there number. no_damage fault (file_on _ _ over c.args.file_no _ each before same now e there number))
     (lists_sound _ _ c.args.file_no c.objects.result c.objects.ensures.sound))
+
+pub returns-clause-damage : goal.returns-clause-damage
+returns-clause-damage g c =
+    let w = g.D.World.outside c.args.disk.now in
+    let over = over_session c.objects.ensures.kept w c.self.view_is c.self.invariant refl refl refl refl (λ h. h) in
+    damage_told _ _ _ no_version c.objects.result c.or_stop.result c.or_stop.ensures over
+    (IfErr-weaker c.objects.result _ _ (λ fault is told. as_it_is (of_walk c.args.file_no (is told))) c.objects.ensures.fault)

@@ -5,6 +5,8 @@ use Rattle.session_core.specs.Finding.{AreRelatives}
 use Rattle.session_core.proofs.Relatives.{error_version, ok_version}
 use Rattle.session_core.specs.contracts.session.Session as session
 use Rattle.session_core.proofs.Finding.{frames_left, frames_to, no_damage, only_reads, over_session, port_shows, read_session, told_err, told_ok}
+use Rattle.session_core.proofs.Damage.{damage_told}
+use Rattle.session_core.specs.Damage.{the_version}
 use Rattle.session_core.proofs.session.Session.relatives.Goals as goal
 
 pub invariant_of-self : goal.invariant_of-self
@@ -27,3 +29,10 @@ returns-clause-sound g c =
     let over = over_session c.relatives_in.ensures.kept w c.self.view_is c.self.invariant refl refl refl refl (λ h. h) in
     told_err c.relatives_in.result c.or_stop.result c.or_stop.ensures _ (IfErr-weaker c.relatives_in.result _ _ (λ fault each before same now version live. no_damage fault (each before same now version live))
     (error_version w c.args.self.now c.args.oid.now c.relatives_in.result (λ before version fault. IsDamage fault → ⊥) (λ before same now. c.relatives_in.ensures.sound before (port_shows _ _ over before same now))))
+
+pub returns-clause-damage : goal.returns-clause-damage
+returns-clause-damage g c =
+    let w = g.D.World.outside c.args.disk.now in
+    let over = over_session c.relatives_in.ensures.kept w c.self.view_is c.self.invariant refl refl refl refl (λ h. h) in
+    damage_told _ _ _ (the_version c.args.oid.now) c.relatives_in.result c.or_stop.result c.or_stop.ensures over
+    c.relatives_in.ensures.fault

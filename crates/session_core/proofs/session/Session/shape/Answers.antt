@@ -5,6 +5,7 @@ use Rattle.session_core.specs.Finding.{TellsShape}
 use Rattle.session_core.proofs.Shaping.{holds, ok_root, reads, shape_told}
 use Rattle.session_core.specs.contracts.session.Session as session
 use Rattle.session_core.proofs.Finding.{frames_left, frames_to, no_damage, only_reads, over_session, port_shows, read_session, told_err, told_ok}
+use Rattle.session_core.proofs.Damage.{tree_told}
 use Rattle.session_core.proofs.session.Session.shape.Goals as goal
 
 pub invariant_of-self : goal.invariant_of-self
@@ -30,3 +31,9 @@ returns-clause-sound g c =
     let shows = port_shows _ _ over before same now in
     let read = reads _ _ shows oid c.args.root.now version live rooted in
     sound shows.tells (version_whole _ _ read.index oid read.head c.args.root.now version.bytes (holds _ _ shows oid c.args.root.now version live rooted)))) c.leaf_lengths.ensures.sound)
+
+pub returns-clause-damage : goal.returns-clause-damage
+returns-clause-damage g c =
+    let w = g.D.World.outside c.args.disk.now in
+    let over = over_session c.leaf_lengths.ensures.kept w c.self.view_is c.self.invariant refl refl refl refl (λ h. h) in
+    tree_told _ _ c.args.root.now c.leaf_lengths.result c.or_stop.result c.or_stop.ensures over c.leaf_lengths.ensures.fault

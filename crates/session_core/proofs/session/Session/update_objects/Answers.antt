@@ -12,7 +12,7 @@ use Rattle.table_model.specs.Machines.{shown, touched_most, updates_most}
 use Rattle.volume_port.specs.declared.state.VolumeState.{VolumeState}
 use Rattle.session_core.specs.Counts.{free_in}
 use Rattle.session_core.specs.Finding.{IsOutside}
-use Rattle.session_core.specs.Performed.{CanPerform, NamesOid, charge_of}
+use Rattle.session_core.specs.Performed.{CanPerform, NamesOid, charge_of, asked_of}
 use Rattle.session_core.specs.Sessions.{SessionState, IsSession}
 use Rattle.volume_edits.specs.TableUpdates.{updated}
 use Rattle.session_core.specs.Updates.{HasRoomFor, HasRoots, HoldsTable, IfAsked, IfUpdated, WritesUnused, note_with}
@@ -21,6 +21,8 @@ use Rattle.session_core.specs.declared.updates.Done.{Done}
 use Rattle.session_core.proofs.Finding.{no_damage}
 use Rattle.session_core.proofs.Moved.{at_oid, given_up_at, has_roots, has_seen, moments_of, moved_session, moved_to, note_with_oid, noted_so, on_err, session_ready, when_done}
 use Rattle.session_core.proofs.session.Session.update_objects.Goals.{else-is_ok-via-then-is_ok+else-is_ok-2, else-is_ok-via-else-is_ok, in-Err, in-Ok}
+use Rattle.session_core.specs.Damage.{IsUpdateFault, TellsDamage}
+use Rattle.session_core.proofs.UpdateDamage.{update_told}
 use Rattle.session_core.proofs.session.Session.update_objects.Goals as goal
 
 pub update_volume-done-requires-clause-ready : goal.update_volume-done-requires-clause-ready
@@ -138,4 +140,18 @@ returns-clause-sound g c =
           let sound = subst (λ (r : Result Done PortFault). IfErr r (λ fault. IfAsked (outside c.args.host.now) c.self.inside.volume c.args.update.now (λ before u. HasRoots before.session s.gained s.lost → HasRoomFor before u → IsDamage fault → ⊥)))
           w.in-Err.is c.update_volume-done.ensures.sound in
           subst IsOutside (sym w.stopped.ensures) (no_damage w.in-Err.fault (λ damage. sound before has now u is asked (has_roots s before (same ∙ sym c.self.view_is)) room damage)))
+    ]
+
+pub returns-clause-damage : goal.returns-clause-damage
+returns-clause-damage g c =
+    let outside = g.H.World.outside in
+    let s = session.the_view c.self.inside in
+    let b = outside c.update_volume-done.new.disk in
+    let asked = asked_of c.args.update.now in
+    let stops = λ (r : Result Oid Stop). IfErr r (TellsDamage (outside c.args.host.now) b c.args.self.now asked) in
+    elim c.match-done.branch [
+      | in-Ok w ↦ subst stops (sym w.result-is) tt
+      | in-Err w ↦ subst stops (sym w.result-is)
+          (let told = subst (λ (r : Result Done PortFault). IfErr r (IsUpdateFault (outside c.args.host.now) b c.self.inside.volume s.gained asked)) w.in-Err.is c.update_volume-done.ensures.fault in
+          subst (λ (t : SessionState). TellsDamage (outside c.args.host.now) b t asked w.stopped.result) c.self.view_is (update_told (outside c.args.host.now) b s asked w.in-Err.fault w.stopped.result w.stopped.ensures told))
     ]

@@ -1,12 +1,13 @@
 use Rattle.std.proofs.Common.{◌≡◌, ◌∙◌, refl, rules, subst, sym}
-use Rattle.std.proofs.lemmas.Result.{on_ok_weaker}
+use Rattle.std.proofs.lemmas.Result.{on_ok_weaker, IfErr-weaker}
 use Rattle.ex_base.specs.declared.names.Area.TheVariants.{Page}
-use Rattle.session_core.specs.Performed.{CanPerform}
+use Rattle.session_core.specs.Performed.{CanPerform, asked_of}
 use Rattle.page_alloc.specs.UnitSet.{UnitSet, free_count, used_at}
 use Rattle.session_core.proofs.Moving.{IsMade, begins_over, fits_there, later_at, made_of, moved_at, parts_same, ready_of, ready_there, volume_moved}
 use Rattle.session_core.proofs.Performing.{performed_kept, performed_owns, performed_shown, performed_sound}
 use Rattle.session_core.proofs.PortParts.{pairs_named}
 use Rattle.session_core.proofs.TakingPages.{logged_at}
+use Rattle.session_core.proofs.UpdateDamage.{performed_fault}
 use Rattle.session_core.proofs.session.moving.update_parts.Goals as goal
 
 pub perform-requires-clause-ready : goal.perform-requires-clause-ready
@@ -85,3 +86,12 @@ returns-clause-kept g c = λ v has ready.
     let b = c.perform.new.volume in
     let later = later_at _ b outside b.store.disk.now _ _ v.geometry _ _ (search rules) (c.perform.ensures.leads.store.geometry ∙ made.geometry) (parts_same v b.store.units.now _ b.store.groups.now _ b.meta.now _ b.pages.now _ (search rules) (search rules) (search rules) (search rules)) (record { geometry_is = refl; unit = refl; image = refl; held = refl; used = refl; refs = refl; free = refl }) in
     performed_kept _ a c.perform.new.volume c.args.update.now c.perform.result c.perform.ensures.updates (outside c.args.disk.now) v begins pairs_named c.perform.ensures.leads _ (returns-clause-moved g c v has ready) later c.perform.ensures.takes
+
+pub returns-clause-fault : goal.returns-clause-fault
+returns-clause-fault g c = λ v has ready.
+    let outside = g.D.World.outside in
+    let a = c.make-port.result in
+    let made : IsMade v c.args.disk.now a.store.disk.now a.store.geometry a.store.index a.store.units.now a.store.groups.now a.meta.now a.pages.now =
+    made_of v has (search rules) (search rules) (search rules) (search rules) (search rules) (search rules) (search rules) in
+    let begins = begins_over outside v c.args.disk.now a.store.disk.now _ _ _ _ _ _ made ready _ a (λ fits are. ready_of _ a.store _ _ made.geometry refl fits are) (record { geometry_is = refl; unit = refl; image = refl; held = refl; used = refl; refs = refl; free = refl }) (λ told. told) in
+    performed_fault _ a c.perform.new.volume c.args.update.now c.perform.result c.perform.ensures.updates (outside c.args.disk.now) v begins c.perform.ensures.fault

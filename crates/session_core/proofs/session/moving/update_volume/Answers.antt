@@ -1,4 +1,4 @@
-use Rattle.std.proofs.Common.{◌+◌, ◌≤◌, ap, length, refl, subst, sym, arith}
+use Rattle.std.proofs.Common.{◌+◌, ◌≤◌, ap, length, refl, subst, sym, arith, inl, Bool, List}
 use Rattle.meta_pages.specs.Overlays.{AreRows}
 use Rattle.ex_base.specs.declared.names.Area.{Area}
 use Rattle.page_alloc.specs.UnitSet.{free_count, used_at}
@@ -7,10 +7,17 @@ use Rattle.volume_port.specs.declared.state.VolumeState.{VolumeState}
 use Rattle.session_core.specs.Sessions.{Swept, TakesLogged}
 use Rattle.volume_edits.specs.TableUpdates.{updated}
 use Rattle.session_core.specs.Updates.{HasParts, HoldsTable, with_parts}
-use Rattle.session_core.specs.Performed.{charge_of}
+use Rattle.session_core.specs.Performed.{charge_of, asked_of}
 use Rattle.session_core.proofs.Roomed.{takes_still}
 use Rattle.session_core.proofs.TakingPages.{still_logged}
 use Rattle.session_core.proofs.TurnedParts.{gives_moved, moved_as, swept_moved, turned_holds, with_units}
+use Rattle.ex_base.proofs.Results.{if_err_handed}
+use Rattle.session_core.proofs.UpdateDamage.{turned_fault}
+use Rattle.ex_base.specs.declared.geometry.Geometry.{Geometry}
+use Rattle.ex_base.specs.declared.names.Root.{Root}
+use Rattle.volume_model.specs.Held.{root_here}
+use Rattle.volume_port.specs.GivingUp.{OwnRoots}
+use Rattle.session_core.specs.Turning.{TakenOut}
 use Rattle.session_core.proofs.session.moving.update_volume.Goals as goal
 
 pub update_parts-requires-clause-ready : goal.update_parts-requires-clause-ready
@@ -72,3 +79,29 @@ returns-clause-kept g c = λ before seen now u is asked.
     takes_still before (free_count mid.geometry (used_at mid)) (free_count swept.geometry (used_at swept))
     (λ area. let turned = c.turn_roots.ensures.gives.free area in let given = c.sweep.ensures.swept.units.free area in omega (arith, turned, given))
     u (c.in_ok-done.ensures.kept v has c.requires.ready before seen now u is asked)
+
+pub returns-in_err-done-clause-fault : goal.returns-in_err-done-clause-fault
+returns-in_err-done-clause-fault g c = if_err_handed c.from_residual.result _ _ c.from_residual.ensures.1
+    (inl (c.in_err-done.ensures.fault c.args.volume.now (record { geometry = refl; parts = refl }) c.requires.ready))
+
+pub returns-in_err-turn_roots-clause-fault : goal.returns-in_err-turn_roots-clause-fault
+returns-in_err-turn_roots-clause-fault g c =
+    let v = c.args.volume.now in
+    let u = c.update_parts.new in
+    let outside = g.D.World.outside in
+    let has : HasParts v v.geometry v.units v.groups v.meta v.pages = record { geometry = refl; parts = refl } in
+    if_err_handed c.from_residual-in_err-turn_roots.result _ _ c.from_residual-in_err-turn_roots.ensures.1
+    (turned_fault (outside c.args.disk.now) (outside u.disk) (outside c.turn_roots.new.disk) v u.groups c.args.gained.now.items (asked_of c.args.update.now) _ c.turn_roots.ensures.gives.only.nothing.disk (c.update_parts.ensures.moved v has c.requires.ready).told c.in_err-turn_roots.ensures.fault)
+
+pub returns-in_err-turn_roots-clause-sound : goal.returns-in_err-turn_roots-clause-sound
+returns-in_err-turn_roots-clause-sound g c =
+    let v = c.args.volume.now in
+    let u = c.update_parts.new in
+    let b = g.D.World.outside u.disk in
+    let gone = c.in_ok-done.done.gone in
+    let has : HasParts v v.geometry v.units v.groups v.meta v.pages = record { geometry = refl; parts = refl } in
+    if_err_handed c.from_residual-in_err-turn_roots.result _ _ c.from_residual-in_err-turn_roots.ensures.1 (λ before seen now w is asked roots room damage.
+    c.in_err-turn_roots.ensures.sound damage (λ counted rest counts out.
+    subst (λ (kept : List Bool). OwnRoots u.pages kept v.geometry b u.groups counted (root_here gone)) (ap (λ (q : VolumeState). q.kept) seen.volume)
+    (subst (λ (h : Geometry). OwnRoots u.pages before.session.kept h b u.groups counted (root_here gone)) (ap (λ (q : VolumeState). q.geometry) seen.volume)
+    (c.in_ok-done.ensures.owns v has c.requires.ready before seen now w is asked counted rest counts (subst (λ (gains : List Root). TakenOut gains rest gone) (sym roots.gained) out)))))

@@ -1,7 +1,10 @@
-use Rattle.std.proofs.Common.{◌≡◌, subst}
+use Rattle.std.proofs.Common.{◌≡◌, refl, subst}
 use Rattle.std.specs.Prelude.{IfOk}
-use Rattle.std.proofs.lemmas.Result.{IfOk-weaker}
+use Rattle.std.proofs.lemmas.Result.{IfErr-weaker, IfOk-weaker}
 use Rattle.ex_base.proofs.Results.{if_err_handed, if_ok_both}
+use Rattle.volume_edits.specs.Damage.{as_it_is}
+use Rattle.volume_edits.proofs.Damage.{told_derived, told_older, told_versions}
+use Rattle.session_core.specs.Damage.{the_version}
 use Rattle.session_core.specs.Finding.{AreRelatives}
 use Rattle.session_core.specs.declared.session.relatives.Relation.{Relation}
 use Rattle.session_core.specs.declared.session.relatives.Relation.TheVariants as relation
@@ -40,3 +43,13 @@ returns-in_ok-listed-in-Older-clause-oids g c = λ before shows version is.
     let same : relation.Older ≡ c.args.relation = cc in
     subst (λ (r : Relation). AreRelatives before.machine version r c.in_ok-listed-in-Older.field-0.items) same
     (older_listed g.V.Ground c.args.volume.now shows c.args.oid.now version is c.in_ok-older-in-Older.field-0 c.in_ok-listed-in-Older.field-0.items c.in_ok-listed-in-Older.ensures c.in_ok-older-in-Older.ensures.told)
+
+pub returns-in-Object-clause-fault : goal.returns-in-Object-clause-fault
+returns-in-Object-clause-fault g c = IfErr-weaker c.versions.result _ _ (λ fault is told. as_it_is (told_versions _ _ (the_version c.args.oid.now) c.args.oid.now fault refl (is told))) c.versions.ensures.fault
+
+pub returns-in-Derived-clause-fault : goal.returns-in-Derived-clause-fault
+returns-in-Derived-clause-fault g c = IfErr-weaker c.derived.result _ _ (λ fault is told. as_it_is (told_derived _ _ (the_version c.args.oid.now) c.args.oid.now fault refl (is told))) c.derived.ensures.fault
+
+pub returns-in_err-older-in-Older-clause-fault : goal.returns-in_err-older-in-Older-clause-fault
+returns-in_err-older-in-Older-clause-fault g c = if_err_handed c.from_residual.result _ _ c.from_residual.ensures.1
+    (λ told. as_it_is (told_older _ _ (the_version c.args.oid.now) c.args.oid.now _ refl (c.in_err-older-in-Older.ensures.fault told)))

@@ -1,5 +1,6 @@
 use Rattle.std.proofs.Common.{◌∙◌, ℕ, Err, ap, arith}
 use Rattle.std.specs.List.{count_by}
+use Rattle.volume_edits.specs.Damage.{as_it_is, of_walk}
 use Rattle.session_core.specs.Summaries.{is_first}
 use Rattle.session_core.proofs.Listing.{lists_sound}
 use Rattle.session_core.proofs.Tallies.{tallies}
@@ -12,3 +13,6 @@ returns-in-Ok-clause-tally g c =
 
 pub returns-in-Err-clause-sound : goal.returns-in-Err-clause-sound
 returns-in-Err-clause-sound g c = lists_sound g.V.Ground c.args.volume.now {T = ℕ} c.args.file_no (Err c.in-Err.fault) c.in-Err.ensures.sound
+
+pub returns-in-Err-clause-fault : goal.returns-in-Err-clause-fault
+returns-in-Err-clause-fault g c = λ told. as_it_is (of_walk c.args.file_no (c.in-Err.ensures.fault told))

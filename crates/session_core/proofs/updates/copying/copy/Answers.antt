@@ -1,4 +1,4 @@
-use Rattle.std.proofs.Common.{◌≡◌, ◌∙◌, ℕ, List, None, sym, subst}
+use Rattle.std.proofs.Common.{◌≡◌, ◌∙◌, ℕ, List, None, sym, subst, refl}
 use Rattle.std.specs.Prelude.{Ok, Err}
 use Rattle.ex_base.specs.declared.names.Place.{Place}
 use Rattle.ex_base.specs.Ports.{IsDamage}
@@ -15,6 +15,11 @@ use Rattle.session_core.proofs.Copied.{copy_taken, derive_failed, derived_made, 
 use Rattle.file_rooms.proofs.Remembered.{number_kept}
 use Rattle.volume_edits.proofs.UnitsTaken.{pages_taken}
 use Rattle.session_core.proofs.updates.copying.copy.Goals as goal
+use Rattle.ex_base.proofs.Results.{if_err_handed}
+use Rattle.version_tree.specs.Links.{IsStartFault}
+use Rattle.volume_edits.specs.Damage.{as_it_is}
+use Rattle.volume_edits.proofs.Damage.{after_count, after_reading, told_catalog, told_derive, told_freeze, told_start}
+use Rattle.session_core.specs.Damage.{the_version}
 use Rattle.session_core.proofs.updates.copying.copy.Goals.{in-Freeze, in-Derive}
 
 pub returns-in_err-count_number-clause-updates : goal.returns-in_err-count_number-clause-updates
@@ -89,3 +94,31 @@ returns-in-Ok-clause-takes g c =
           (copy_taken G old w.derive-copied.new.volume c.args.copying c.args.oid.now c.args.unique
           (pages_taken G old c.file_of.new.volume w.derive-copied.new.volume none (from_ok w.derive-copied.result c.in-Ok.made _ did told.pages) (from_ok w.derive-copied.result c.in-Ok.made _ did told.leaves)))
     ]
+
+pub returns-in_err-count_number-clause-fault : goal.returns-in_err-count_number-clause-fault
+returns-in_err-count_number-clause-fault g c = if_err_handed c.from_residual.result _ _ c.from_residual.ensures.1
+    (λ told. as_it_is (told_catalog _ _ _ _ (the_version c.args.oid.now) _ (c.in_err-count_number.ensures.fault told)))
+
+pub returns-in_err-file_of-clause-fault : goal.returns-in_err-file_of-clause-fault
+returns-in_err-file_of-clause-fault g c = if_err_handed c.from_residual-in_err-file_of.result _ _ c.from_residual-in_err-file_of.ensures.1 (λ told.
+    let mid = c.count_number.new.volume in
+    let G = g.V.Ground in
+    let fault = c.in_err-file_of.field-0.0 in
+    after_count G (the_version c.args.oid.now) fault c.args.volume.now mid _ (c.in_ok-count_number.ensures.counts told)
+    (told_start _ _ _ _ (the_version c.args.oid.now) c.args.oid.now fault refl
+    (subst (λ (place : Place). IsStartFault (G.geometry mid) (G.image mid) place fault) c.place_of.ensures (c.in_err-file_of.ensures.fault (G.leads_told c.args.volume.now mid c.count_number.ensures.leads told)))))
+
+pub returns-in-Err-clause-fault : goal.returns-in-Err-clause-fault
+returns-in-Err-clause-fault g c = λ told.
+    let mid = c.count_number.new.volume in
+    let later = c.file_of.new.volume in
+    let G = g.V.Ground in
+    let fault = c.in-Err.fault in
+    let own = the_version c.args.oid.now in
+    let there = G.leads_told mid later c.file_of.ensures.kept.leads (G.leads_told c.args.volume.now mid c.count_number.ensures.leads told) in
+    after_count G own fault c.args.volume.now mid _ (c.in_ok-count_number.ensures.counts told)
+    (after_reading G own fault mid later c.file_of.ensures.kept
+    (elim c.match-copying.branch [
+      | in-Freeze w ↦ told_freeze _ _ own _ c.args.oid.now fault refl (fault_of _ w.freeze-copied.result fault (sym w.copied-is ∙ c.in-Err.is) w.freeze-copied.ensures.fault there)
+      | in-Derive w ↦ told_derive _ _ own _ c.args.oid.now fault refl (fault_of _ w.derive-copied.result fault (sym w.copied-is ∙ c.in-Err.is) w.derive-copied.ensures.fault there)
+    ]))

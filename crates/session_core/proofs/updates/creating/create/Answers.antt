@@ -5,6 +5,10 @@ use Rattle.volume_edits.proofs.Contents.{has_catalog}
 use Rattle.volume_edits.proofs.Making.{becomes, its_file}
 use Rattle.file_rooms.proofs.Remembered.{number_kept, one_kept}
 use Rattle.volume_edits.proofs.UnitsTaken.{pages_taken}
+use Rattle.ex_base.proofs.Results.{if_err_handed}
+use Rattle.volume_edits.specs.Damage.{as_it_is, of_placing}
+use Rattle.volume_edits.proofs.Damage.{after_count, told_catalog}
+use Rattle.session_core.specs.Damage.{no_version}
 use Rattle.session_core.proofs.updates.creating.create.Goals as goal
 
 pub returns-in_err-count_number-clause-updates : goal.returns-in_err-count_number-clause-updates
@@ -47,3 +51,13 @@ returns-in-Ok-clause-rooms g c = one_kept c.args.rooms.now c.keep.new.self c.cre
 pub returns-in-Ok-clause-takes : goal.returns-in-Ok-clause-takes
 returns-in-Ok-clause-takes g c = λ name.
     pages_taken g.V.Ground c.args.volume.now c.count_number.new.volume c.create.new.volume c.in_ok-count_number.ensures.free c.in-Ok.ensures.pages c.in-Ok.ensures.leaves
+
+pub returns-in_err-count_number-clause-fault : goal.returns-in_err-count_number-clause-fault
+returns-in_err-count_number-clause-fault g c = if_err_handed c.from_residual.result _ _ c.from_residual.ensures.1
+    (λ told. as_it_is (told_catalog _ _ _ _ no_version _ (c.in_err-count_number.ensures.fault told)))
+
+pub returns-in-Err-clause-fault : goal.returns-in-Err-clause-fault
+returns-in-Err-clause-fault g c = λ told.
+    let mid = c.count_number.new.volume in
+    after_count g.V.Ground no_version c.in-Err.fault c.args.volume.now mid _ (c.in_ok-count_number.ensures.counts told)
+    (of_placing c.of_file-room.result.file_no _ (c.in-Err.ensures.fault (g.V.Ground.leads_told c.args.volume.now mid c.count_number.ensures.leads told)))

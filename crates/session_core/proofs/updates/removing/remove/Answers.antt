@@ -1,10 +1,14 @@
-use Rattle.std.proofs.Common.{None}
+use Rattle.std.proofs.Common.{None, refl}
 use Rattle.volume_edits.specs.TableUpdates.{Removes}
 use Rattle.session_core.proofs.Removed.{removal_failed, version_removed}
 use Rattle.session_core.proofs.Followed.{still_updated}
 use Rattle.file_rooms.proofs.Remembered.{one_lowered}
 use Rattle.versions.proofs.Results.{ok_of}
 use Rattle.volume_edits.proofs.UnitsTaken.{nothing_taken}
+use Rattle.session_core.specs.Damage.{IsFaultIn, the_version}
+use Rattle.std.proofs.lemmas.Result.{IfErr-weaker}
+use Rattle.volume_edits.specs.Damage.{as_it_is, ports_own}
+use Rattle.volume_edits.proofs.Damage.{told_removal}
 use Rattle.session_core.proofs.updates.removing.remove.Goals as goal
 
 pub returns-in-Ok-clause-updates : goal.returns-in-Ok-clause-updates
@@ -22,3 +26,9 @@ returns-in-Ok-clause-rooms g c = one_lowered c.args.rooms.now c.look_at.new.self
 pub returns-in-Ok-clause-takes : goal.returns-in-Ok-clause-takes
 returns-in-Ok-clause-takes g c = ok_of c.look_at.result _
     (nothing_taken g.V.Ground c.args.volume.now c.take_out.new.volume c.look_at.new.volume c.in-Ok.ensures.pages c.in-Ok.ensures.leaves c.look_at.ensures.kept.free)
+
+pub returns-in-Ok-clause-fault : goal.returns-in-Ok-clause-fault
+returns-in-Ok-clause-fault g c = IfErr-weaker c.look_at.result _ (IsFaultIn g.V.Ground c.args.volume.now (the_version c.args.oid.now)) (λ fault never told. as_it_is (ports_own never)) c.look_at.ensures.no_damage
+
+pub returns-in-Err-clause-fault : goal.returns-in-Err-clause-fault
+returns-in-Err-clause-fault g c = λ told. as_it_is (told_removal _ _ (the_version c.args.oid.now) c.take_out.new.volume c.args.oid.now c.in-Err.fault refl (c.in-Err.ensures.fault told))

@@ -1,7 +1,7 @@
 use Rattle.std.proofs.Common.{refl, ap}
 use Rattle.tree_store.specs.Stored.{unit_bytes}
 use Rattle.tree_store.proofs.Reading.{read_leads}
-use Rattle.volume_port.proofs.reading.read_page.Goals as goal
+use Rattle.volume_port.proofs.reading_port.read_page.Goals as goal
 
 pub returns-in_err-read_image-clause-kept : goal.returns-in_err-read_image-clause-kept
 returns-in_err-read_image-clause-kept g c =

@@ -2,7 +2,7 @@ use Rattle.std.proofs.Common.{◌≡◌, ◌∙◌, ℕ, List, length, ap}
 use Rattle.buffer_groups.specs.Frames.{Frames, Lends, page_of}
 use Rattle.buffer_groups.proofs.GroupLists.{at_index, groups_keep}
 use Rattle.volume_port.proofs.Homes.{behind_set, frame_after}
-use Rattle.volume_port.proofs.reading.read_image.Goals as goal
+use Rattle.volume_port.proofs.reading_port.read_image.Goals as goal
 
 pub returns-clause-behind : goal.returns-clause-behind
 returns-clause-behind g c = λ all.

@@ -1,0 +1,54 @@
+-- A damage that a line tells, of the version that it names.
+use Rattle.std.proofs.Common.{◌≡◌, ◌∙◌, Option, Some, Result, Ok, Err, sym, ap, subst}
+use Rattle.std.specs.Prelude.{IfErr, IfOk, IfSome}
+use Rattle.ex_base.specs.declared.faults.Seen.{Seen}
+use Rattle.ex_base.specs.declared.names.Oid.{Oid}
+use Rattle.ex_base.specs.declared.names.PageNo.{PageNo}
+use Rattle.ex_base.specs.declared.names.Root.{Root}
+use Rattle.disk_model.specs.Outside.{Outside}
+use Rattle.table_model.specs.declared.reply.Refusal.{Refusal}
+use Rattle.table_model.specs.declared.reply.Reply.{Reply}
+use Rattle.table_model.specs.Requests.{Reference, Request}
+use Rattle.session_views.specs.declared.engine.Stop.{Stop}
+use Rattle.session_views.specs.declared.engine.Stop.TheVariants as stop
+use Rattle.tree_store.specs.Stored.{Tells}
+use Rattle.versions.specs.Damage.{IsRootAt}
+use Rattle.session_core.specs.declared.session.objects.Named.{Named}
+use Rattle.session_core.specs.Damage.{IsSessionDamage, TellsDamage, image_on, the_version}
+use Rattle.session_core.specs.Finding.{oid_among}
+use Rattle.session_core.specs.Sessions.{SessionState}
+use Rattle.session_core.specs.Steps.{OnlyFrames}
+use Rattle.session_core.proofs.Damage.{later_damage, wider_damage}
+use Rattle.transactions.specs.Commands.{names_version}
+use Rattle.transactions.specs.Lines.{named_as}
+use Rattle.transactions.proofs.UpdateLines.{admitted_with}
+
+-- the line gives the OID of the version that was found
+pub oid_named : (s : SessionState) (x : Reference) (version : Named) (told : Result Named Refusal) → told ≡ Ok version → IfOk told (λ (v : Named). oid_among s.names x ≡ Some v.oid) → oid_among s.names x ≡ Some version.oid
+oid_named s x version told is asked = admitted_with (λ (v : Named). oid_among s.names x ≡ Some v.oid) version told is asked
+
+-- what a later call tells that is asked of that version
+pub then_damage : {a b : Outside} {old mid : SessionState} (x : Reference) → OnlyFrames a b old mid → (c : Outside) {oid : Oid} (why : Stop) → oid_among old.names x ≡ Some oid → TellsDamage b c mid (the_version oid) why → TellsDamage a c old (named_as old x) why
+then_damage {a} {b} {old} {mid} x one c {oid} why own is =
+    later_damage old mid one c (named_as old x) why (wider_damage b c mid (the_version oid) (named_as old x) why (λ other same. own ∙ ap (λ (o : Oid). Some o) (sym same)) is)
+
+-- the root that was found stands in the record of the version
+pub rooted_at : (s : SessionState) (w : Outside) (version : Named) (root : Root) (told : Result Named Refusal) → told ≡ Ok version → IfOk told (λ (v : Named). Tells w s.groups → IfSome v.found.root (IsRootAt (image_on w s) v.oid)) → version.found.root ≡ Some root
+    → Tells w s.groups → IsRootAt (image_on w s) version.oid root
+rooted_at s w version root told is rooted has tells =
+    subst (λ (o : Option Root). IfSome o (IsRootAt (image_on w s) version.oid)) has (admitted_with (λ (v : Named). Tells w s.groups → IfSome v.found.root (IsRootAt (image_on w s) v.oid)) version told is rooted tells)
+
+-- as a command tells it
+pub damage_as : (a b : Outside) (s : SessionState) (r t : Request) (result : Result Reply Stop) → r ≡ t → IfErr result (TellsDamage a b s (names_version s t)) → IfErr result (TellsDamage a b s (names_version s r))
+damage_as a b s r t result same is = subst (λ (q : Request). IfErr result (TellsDamage a b s (names_version s q))) (sym same) is
+
+-- a fault of the disk, and want of memory, tell none
+pub disk_damage : (a b : Outside) (s : SessionState) (asked : Oid → Type 0) (why : Stop) → why ≡ stop.Disk → TellsDamage a b s asked why
+disk_damage a b s asked why is = subst (TellsDamage a b s asked) (sym is) tt
+
+pub memory_damage : (a b : Outside) (s : SessionState) (asked : Oid → Type 0) (why : Stop) → why ≡ stop.Memory → TellsDamage a b s asked why
+memory_damage a b s asked why is = subst (TellsDamage a b s asked) (sym is) tt
+
+pub damage_at : (a b : Outside) (s : SessionState) (r : Request) (result : Result Reply Stop) (page : PageNo) (want got : Seen) → IfErr result (TellsDamage a b s (names_version s r)) → result ≡ Err (stop.Damaged page want got)
+    → Tells a s.groups → IsSessionDamage a b s (names_version s r) page want got
+damage_at a b s r result page want got is same = subst (λ (o : Result Reply Stop). IfErr o (TellsDamage a b s (names_version s r))) same is
