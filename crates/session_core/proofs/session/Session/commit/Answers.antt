@@ -412,9 +412,9 @@ returns-clause-exact g c before from now opened_there =
 pub returns-in-Err-clause-damage : goal.returns-in-Err-clause-damage
 returns-in-Err-clause-damage g c = catalog_told (g.H.World.outside c.args.host.now) (g.H.World.outside c.catalog.new.disk) c.args.self.now no_version c.in-Err.stop c.in-Err.ensures.stops
 
-pub returns-then-not-has_next-clause-damage : goal.returns-then-not-has_next-clause-damage
-returns-then-not-has_next-clause-damage g c =
-    spent_told (g.H.World.outside c.args.host.now) (g.H.World.outside c.catalog.new.disk) c.args.self.now c.in-Ok.page.items c.in-Ok.ensures.read (ap (λ (l : List ℕ). (catalog_on l).last) (sym c.deref.ensures.value) ∙ c.has_next.ensures.no c.if-not-has_next.true)
+pub returns-in_default-clause-damage : goal.returns-in_default-clause-damage
+returns-in_default-clause-damage g c =
+    spent_told (g.H.World.outside c.args.host.now) (g.H.World.outside c.catalog.new.disk) c.args.self.now c.in-Ok.page.items c.in-Ok.ensures.read (c.number_next.ensures.none c.in_default.is)
 
 pub returns-in-Err-release_roots-clause-damage : goal.returns-in-Err-release_roots-clause-damage
 returns-in-Err-release_roots-clause-damage g c =
