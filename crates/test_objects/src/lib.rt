@@ -5,6 +5,8 @@
 #[cfg(test)]
 mod branches;
 #[cfg(test)]
+mod commands;
+#[cfg(test)]
 mod crafted;
 #[cfg(test)]
 mod digests;
