@@ -71,5 +71,5 @@ returns-in-Err-catalog-clause-damage g c =
     later_damage c.args.session.now c.named.new.self c.named.ensures.only (g.H.World.outside c.catalog.new.disk) own c.in-Err-catalog.stop
     (catalog_told (g.H.World.outside c.named.new.host) (g.H.World.outside c.catalog.new.disk) c.named.new.self own c.in-Err-catalog.stop c.in-Err-catalog.ensures.stops)
 
-pub returns-in-None-clause-asked : goal.returns-in-None-clause-asked
-returns-in-None-clause-asked g c = oid_named c.args.session.now (reference_of c.args.x.now) c.in-Ok-version_of.version c.in-Ok.told c.in-Ok-version_of.ensures.found c.in-Ok.ensures.asked
+pub returns-clause-asked : goal.returns-clause-asked
+returns-clause-asked g c = oid_named c.args.session.now (reference_of c.args.x.now) c.in-Ok-version_of.version c.in-Ok.told c.in-Ok-version_of.ensures.found c.in-Ok.ensures.asked

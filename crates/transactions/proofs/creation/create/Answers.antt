@@ -64,5 +64,5 @@ returns-clause-line g c =
 pub returns-in-Err-clause-damage : goal.returns-in-Err-clause-damage
 returns-in-Err-clause-damage g c = catalog_told (g.H.World.outside c.args.host.now) (g.H.World.outside c.catalog.new.disk) c.args.session.now no_version c.in-Err.stop c.in-Err.ensures.stops
 
-pub returns-in-Err-make-clause-damage : goal.returns-in-Err-make-clause-damage
-returns-in-Err-make-clause-damage g c = later_damage c.args.session.now c.catalog.new.self c.catalog.ensures.frames (g.H.World.outside c.make.new.host) no_version c.in-Err-make.stop c.in-Err-make.ensures.damage
+pub returns-clause-damage : goal.returns-clause-damage
+returns-clause-damage g c = later_damage c.args.session.now c.catalog.new.self c.catalog.ensures.frames (g.H.World.outside c.make.new.host) no_version c.in-Err-make.stop c.in-Err-make.ensures.damage
