@@ -8,7 +8,7 @@ use Rattle.session_views.specs.declared.part.Part.{Part}
 use Rattle.session_views.specs.Opening.{StandsOpening}
 use Rattle.talks.proofs.Whole.{leaves_table}
 use Rattle.session_core.specs.Meant.{meant}
-use Rattle.session_core.specs.declared.session.summary.Summary.{Summary}
+use Rattle.transactions.specs.declared.summary.Summary.{Summary}
 use Rattle.volume_model.specs.Parts.{StandsFor}
 use Rattle.command_line.specs.declared.status.Status.{Status}
 use Rattle.command_line.specs.declared.status.Status.TheVariants as status

@@ -17,8 +17,8 @@ use Rattle.session_views.specs.declared.opener.OpenFault.TheVariants as open_fau
 use Rattle.talks.specs.Opening.{Opened}
 use Rattle.session_core.specs.Meant.{meant}
 use Rattle.session_core.specs.Sessions.{SessionState, held}
-use Rattle.session_core.specs.Summaries.{IsSummary}
-use Rattle.session_core.specs.declared.session.summary.Summary.{Summary}
+use Rattle.transactions.specs.Summaries.{IsSummary}
+use Rattle.transactions.specs.declared.summary.Summary.{Summary}
 use Rattle.volume_model.specs.Parts.{FirstBad, StandsFor}
 use Rattle.volume_model.specs.Shown.{used_in}
 use Rattle.volume_model.proofs.OneVolume.{one_geometry}

@@ -9,7 +9,7 @@ use Rattle.session_views.specs.declared.engine.Stop.TheVariants as stop
 use Rattle.session_views.specs.declared.opener.OpenFault.{OpenFault}
 use Rattle.session_views.specs.declared.opener.OpenFault.TheVariants as open_fault
 use Rattle.session_views.specs.Opening.{StandsOpening}
-use Rattle.session_core.specs.declared.session.summary.Summary.{Summary}
+use Rattle.transactions.specs.declared.summary.Summary.{Summary}
 use Rattle.session_core.specs.Meant.{meant}
 use Rattle.volume_model.specs.Parts.{Decodes, StandsFor}
 use Rattle.volume_model.specs.Shown.{used_in}

@@ -15,10 +15,10 @@ ghost use Rattle.exsm_run.specs.Status.{IsRefusal};
 use crate::session::VolumeSession;
 use crate::status::Status;
 use disk_model::{Host, send_all};
-use session_core::Summary;
 use session_views::{OpenFault, Stop};
 use std::alloc::{AllocError, Global};
 use talks::Opener;
+use transactions::Summary;
 
 // The status where a volume wasn't opened.
 fn status_unopened(fault: OpenFault) -> Status

@@ -3,13 +3,13 @@ ghost use Rattle.std.specs.Prelude.{◌≡◌, ◌≤◌, false};
 
 use disk_model::Host;
 use restart::open_volume;
-use session_core::{Session, Summary};
+use session_core::Session;
 use session_views::{Engine, OpenFault, Stop};
 use std::alloc::Global;
 use std::marker::Model;
 use table_model::{Command, Reply};
 use talks::Opener;
-use transactions::step;
+use transactions::{Summary, step, summarize};
 
 /// A session that was opened on the volume of a disk.
 #[derive(Drop)]
@@ -35,7 +35,7 @@ impl VolumeSession {
     ghost use Rattle.session_views.specs.View.{View, ShowsNow};
     ghost use Rattle.session_core.specs.Meant.{meant};
     ghost use Rattle.session_core.specs.Sessions.{SessionState};
-    ghost use Rattle.session_core.specs.Summaries.{IsSummary};
+    ghost use Rattle.transactions.specs.Summaries.{IsSummary};
 
     /// Sums up what the session shows. The disk is read at most.
     pub fn summary<H: Host>(&mut self, alloc: Global, host: &mut H) -> Result<Summary, Stop>
@@ -63,7 +63,7 @@ impl VolumeSession {
         // Only a session that was down says so.
         ensures was_down { result ≡ Err Stop.Down → self.old.down ≡ true }
     {
-        self.session.summary(alloc, host)
+        summarize(&mut self.session, alloc, host)
     }
 }
 

@@ -30,7 +30,6 @@ pub mod Sessions
 mod Settling
 mod Sweeping
 mod Shaping
-mod Summing
 mod Tracking
 pub mod Undisturbed
 mod Updating

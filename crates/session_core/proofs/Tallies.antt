@@ -43,7 +43,7 @@ use Rattle.volume_model.specs.Volume.{FileContent, Stored, file_of, version_of, 
 use Rattle.session_core.specs.declared.session.tally.Tally.{Tally}
 use Rattle.session_core.specs.Finding.{IfPortFile, PortShows}
 use Rattle.session_core.specs.Sessions.{SessionState}
-use Rattle.session_core.specs.Summaries.{IsTally, is_first, objects_if, versions_if}
+use Rattle.session_core.specs.Tallies.{IsTally, is_first, objects_if, versions_if}
 
 -- ---- how many items of a list pass, in an order of them
 

@@ -10,7 +10,7 @@ pub mod Performed
 pub mod Turning
 pub mod Updates
 pub mod Commits
-pub mod Summaries
+pub mod Tallies
 pub mod ScanRows
 pub mod Opening
 pub mod Phases

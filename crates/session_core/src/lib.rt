@@ -4,5 +4,5 @@
 mod session;
 mod updates;
 
-pub use session::{Named, Relation, Session, Summary, view_of};
+pub use session::{Named, Relation, Session, Tally, view_of};
 pub use updates::{Copying, ObjectUpdate};

@@ -14,7 +14,6 @@ mod pieces;
 mod relatives;
 mod settle;
 mod shapes;
-mod summary;
 mod tally;
 mod turning;
 
@@ -28,8 +27,8 @@ use phase::Phase;
 pub use relatives::Relation;
 use std::alloc::Global;
 use std::marker::Model;
-pub use summary::Summary;
 use table_model::GroupRows;
+pub use tally::Tally;
 use volume_port::{PageRoom, VolumeState};
 
 /// A session on a volume. Contracts see all that it holds; the machine that it shows is held nowhere.

@@ -25,3 +25,5 @@ mod UpdateLines
 mod Updated
 mod Vacancy
 mod Damage
+mod Summing
+mod OnlyOne

@@ -7,3 +7,4 @@ pub mod Scanning
 pub mod Making
 pub mod Copies
 pub mod Removing
+pub mod Summaries

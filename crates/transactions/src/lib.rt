@@ -8,6 +8,7 @@ mod copying;
 mod creation;
 mod edits;
 mod groups;
+mod lineage;
 mod making;
 mod needs;
 mod pieces;
@@ -15,7 +16,9 @@ mod reads;
 mod refuse;
 mod removal;
 mod scan_lines;
+mod summary;
 mod tell;
 mod updates;
 
 pub use commands::step;
+pub use summary::{Summary, summarize};

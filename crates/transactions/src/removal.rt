@@ -15,6 +15,7 @@ ghost use Rattle.transactions.specs.Removing.{AcceptsOf, removal_need};
 ghost use Rattle.session_core.specs.Damage.{TellsDamage};
 
 use crate::edits::{Need, refuses_room};
+use crate::lineage::{branches, is_only_one};
 use crate::refuse::is_frozen;
 use disk_model::Host;
 use ex_base::{NoteKind, Oid, OpNote};
@@ -78,7 +79,7 @@ fn admit_destroy<H: Host>(
     if is_frozen(&version.found) {
         return Ok(Err(Refusal::Frozen));
     }
-    match session.is_only_one(alloc, host, &version) {
+    match is_only_one(session, alloc, host, &version) {
         Ok(true) => return Ok(Err(Refusal::HasVersions)),
         Ok(false) => {}
         Err(stop) => return Err(stop),
@@ -128,7 +129,7 @@ fn admit_drop<H: Host>(
     if let Some(why) = refuses_room(session, &REMOVAL_NEED) {
         return Ok(Err(why));
     }
-    let derived = match session.branches(alloc, host, &version) {
+    let derived = match branches(session, alloc, host, &version) {
         Ok(derived) => derived,
         Err(stop) => return Err(stop),
     };

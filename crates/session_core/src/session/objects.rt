@@ -88,7 +88,7 @@ impl Session {
     ghost use Rattle.session_core.specs.Finding.{IsNamed, LineStops, IsOutside};
 
     /// What is told of the version that an OID names, none where there is none.
-    pub(super) fn find_version<D: Disk>(
+    pub fn find_version<D: Disk>(
         &mut self,
         alloc: Global,
         disk: &mut D,

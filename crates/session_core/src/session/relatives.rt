@@ -1,18 +1,15 @@
 //! The versions that a version is related to.
-ghost use Rattle.std.specs.Prelude.{◌≡◌, ◌≤◌, true, Some, IfOk, IfErr};
+ghost use Rattle.std.specs.Prelude.{◌≡◌, ◌≤◌, IfOk, IfErr};
 ghost use Rattle.ex_base.specs.Ports.{Keeps, HasCause, IsDamage};
 ghost use Rattle.ex_base.specs.Sizes.{volume_bytes};
 ghost use Rattle.session_views.specs.View.{View};
-ghost use Rattle.table_model.specs.Machines.{shown};
-ghost use Rattle.table_model.specs.Refusals.{branches_if, is_only_one};
-ghost use Rattle.table_model.specs.Tables.{versions_of};
-ghost use Rattle.session_core.specs.Finding.{AreRelatives, oids_if, IfShown, IfVersion, PortShows, TellsVersion};
+ghost use Rattle.session_core.specs.Finding.{AreRelatives, oids_if, IfShown, IfVersion, PortShows};
 ghost use Rattle.session_core.specs.Damage.{IsFaultIn, the_version};
 ghost use Rattle.session_core.specs.Sessions.{SessionState};
 
 use super::Session;
-use super::objects::{Named, or_stop};
-use disk_model::{Disk, Host};
+use super::objects::or_stop;
+use disk_model::Disk;
 use ex_base::{Oid, PortFault, ReadVolume};
 use session_views::Stop;
 use std::alloc::{AllocError, Global};
@@ -102,66 +99,5 @@ impl Session {
             pages: &self.volume.pages,
         };
         or_stop(relatives_in(&mut port, alloc, oid, relation))
-    }
-
-    /// Whether the version is derived from another one and no other version is. It stops as `relatives` does.
-    pub fn is_only_one<H: Host>(
-        &mut self,
-        alloc: Global,
-        host: &mut H,
-        version: &Named,
-    ) -> Result<bool, Stop>
-        requires room { volume_bytes self.old.geometry ≤ (H.outside host.old).size }
-        ensures session { IsSession self.old }
-        ensures only { OnlyFrames (H.outside host.old) (H.outside host.new) self.old self.new }
-        ensures alone { IfOk result (λ alone. IfShown (H.outside host.old) self.old
-            (λ before. (told : TellsVersion before version.now.oid version.now.found) → alone
-            ≡ is_only_one (versions_of (shown before.machine)) (Some told.version))) }
-        ensures stops { IfErr result (LineStops (H.outside host.old) (H.outside host.new)) }
-        ensures damage { IfErr result (TellsDamage (H.outside host.old) (H.outside host.new)
-            self.old (the_version version.now.oid)) }
-        ensures sound { IfErr result (λ why. IfShown (H.outside host.old) self.old
-            (λ before. TellsVersion before version.now.oid version.now.found → IsOutside why)) }
-    {
-        let _ = &self.volume;
-        if version.found.head.older.is_none() {
-            return Ok(false);
-        }
-        let oids = self.relatives(alloc, host, &version.oid, Relation::Older)?;
-        let Some(older) = oids.first() else {
-            return Ok(false);
-        };
-        match self.find_version(alloc, host, older)? {
-            Some(found) => Ok(found.head.newer.is_some()),
-            None => Ok(false),
-        }
-    }
-
-    /// How many versions are derived from a frozen one. It stops as `relatives` does.
-    pub fn branches<H: Host>(
-        &mut self,
-        alloc: Global,
-        host: &mut H,
-        version: &Named,
-    ) -> Result<u64, Stop>
-        requires room { volume_bytes self.old.geometry ≤ (H.outside host.old).size }
-        ensures session { IsSession self.old }
-        ensures only { OnlyFrames (H.outside host.old) (H.outside host.new) self.old self.new }
-        ensures count { IfOk result (λ count. IfShown (H.outside host.old) self.old
-            (λ before. (told : TellsVersion before version.now.oid version.now.found)
-            → told.version.frozen ≡ true → count
-            ≡ branches_if (versions_of (shown before.machine)) (Some told.version))) }
-        ensures stops { IfErr result (LineStops (H.outside host.old) (H.outside host.new)) }
-        ensures damage { IfErr result (TellsDamage (H.outside host.old) (H.outside host.new)
-            self.old (the_version version.now.oid)) }
-        ensures sound { IfErr result (λ why. IfShown (H.outside host.old) self.old
-            (λ before. TellsVersion before version.now.oid version.now.found → IsOutside why)) }
-    {
-        let _ = &self.volume;
-        if version.found.head.newer.is_some() {
-            return Ok(1);
-        }
-        let oids = self.relatives(alloc, host, &version.oid, Relation::Derived)?;
-        Ok(oids.len() as u64)
     }
 }

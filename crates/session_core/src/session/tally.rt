@@ -5,7 +5,7 @@ ghost use Rattle.ex_base.specs.Ports.{Keeps, HasCause, IsDamage};
 ghost use Rattle.ex_base.specs.Sizes.{volume_bytes};
 ghost use Rattle.session_core.specs.Damage.{IsFaultIn, no_version};
 ghost use Rattle.session_core.specs.Finding.{IfFile, IfPortFile};
-ghost use Rattle.session_core.specs.Summaries.{IsTally, is_first};
+ghost use Rattle.session_core.specs.Tallies.{IsTally, is_first};
 
 use super::Session;
 use super::objects::or_stop;
@@ -18,9 +18,9 @@ use volume_port::{MAIN, ReadingPort};
 
 /// How many objects and versions a file has.
 #[derive(Clone, Copy)]
-pub(super) struct Tally {
-    pub(super) objects: usize,
-    pub(super) versions: usize,
+pub struct Tally {
+    pub objects: usize,
+    pub versions: usize,
 }
 
 /// How many of the versions are derived from none.
@@ -64,7 +64,7 @@ impl Session {
 
     /// How many objects and versions the file with a number has. It stops where the disk fails, where memory is wanted, and at a page that isn't what
     /// names it.
-    pub(super) fn tally_of<D: Disk>(
+    pub fn tally_of<D: Disk>(
         &mut self,
         alloc: Global,
         disk: &mut D,

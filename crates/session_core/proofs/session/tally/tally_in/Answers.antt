@@ -1,7 +1,7 @@
 use Rattle.std.proofs.Common.{◌∙◌, ℕ, Err, ap, arith}
 use Rattle.std.specs.List.{count_by}
 use Rattle.volume_edits.specs.Damage.{as_it_is, of_walk}
-use Rattle.session_core.specs.Summaries.{is_first}
+use Rattle.session_core.specs.Tallies.{is_first}
 use Rattle.session_core.proofs.Listing.{lists_sound}
 use Rattle.session_core.proofs.Tallies.{tallies}
 use Rattle.session_core.proofs.session.tally.tally_in.Goals as goal

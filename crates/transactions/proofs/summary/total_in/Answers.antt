@@ -4,10 +4,10 @@ use Rattle.std.proofs.lemmas.List.{take_all}
 use Rattle.object_files.specs.Catalog.{Catalog, FileEntry}
 use Rattle.object_files.specs.Reads.{catalog_on, entry_of}
 use Rattle.session_core.specs.Finding.{IsOutside}
-use Rattle.session_core.specs.Summaries.{AreTotals}
+use Rattle.transactions.specs.Summaries.{AreTotals}
 use Rattle.session_core.proofs.Naming.{frames_twice}
-use Rattle.session_core.proofs.Summing.{next_file, one_more, shows_on}
-use Rattle.session_core.proofs.session.Session.total_in.Goals as goal
+use Rattle.transactions.proofs.Summing.{next_file, one_more, shows_on}
+use Rattle.transactions.proofs.summary.total_in.Goals as goal
 
 pub returns-in-Err-clause-only : goal.returns-in-Err-clause-only
 returns-in-Err-clause-only g c = frames_twice c.loop-index.invariant.only c.tally_of.ensures.only

@@ -7,10 +7,10 @@ use Rattle.versions.specs.declared.finding.Found.{Found}
 use Rattle.session_core.specs.Finding.{IsFound}
 use Rattle.session_core.proofs.Naming.{frames_twice}
 use Rattle.session_core.proofs.Quiet.{same_view, with_groups}
-use Rattle.session_core.proofs.Relatives.{first_listed, is_derived, never_missing, none_listed, only_told}
+use Rattle.transactions.proofs.OnlyOne.{first_listed, is_derived, never_missing, none_listed, only_told}
 use Rattle.session_core.specs.Damage.{the_version}
 use Rattle.session_core.proofs.Damage.{later_damage, none_wider}
-use Rattle.session_core.proofs.session.Session.is_only_one.Goals as goal
+use Rattle.transactions.proofs.lineage.is_only_one.Goals as goal
 
 pub returns-in_err-oids-clause-sound : goal.returns-in_err-oids-clause-sound
 returns-in_err-oids-clause-sound g c = if_err_handed c.from_residual.result _ _ c.from_residual.ensures.1 (λ before same now told. c.in_err-oids.ensures.sound before same now told.version told.is)
@@ -59,4 +59,4 @@ returns-in_err-found-clause-damage g c =
     let mid = g.H.World.outside c.relatives.new.disk in
     let b = g.H.World.outside c.find_version.new.disk in
     if_err_handed c.from_residual-in_err-found.result _ _ c.from_residual-in_err-found.ensures.1
-    (later_damage c.args.self.now c.relatives.new.self c.relatives.ensures.only b own _ (none_wider mid b c.relatives.new.self own _ c.in_err-found.ensures.damage))
+    (later_damage c.args.session.now c.relatives.new.self c.relatives.ensures.only b own _ (none_wider mid b c.relatives.new.self own _ c.in_err-found.ensures.damage))

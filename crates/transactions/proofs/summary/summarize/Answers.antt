@@ -1,6 +1,6 @@
 use Rattle.versions.proofs.Results.{ok_of}
-use Rattle.session_core.proofs.Summing.{sums_soundly}
-use Rattle.session_core.proofs.session.Session.summary.Goals as goal
+use Rattle.transactions.proofs.Summing.{sums_soundly}
+use Rattle.transactions.proofs.summary.summarize.Goals as goal
 
 pub returns-then-is_err-clause-sound : goal.returns-then-is_err-clause-sound
 returns-then-is_err-clause-sound g c = λ before why from now is. sums_soundly c.sum_up-summary.result c.sum_up-summary.ensures before why from now is

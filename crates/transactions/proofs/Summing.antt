@@ -28,15 +28,16 @@ use Rattle.volume_model.specs.Volume.{FileContent, Volume, file_of, table_of}
 use Rattle.volume_edits.proofs.Contents.{Beside, zip_by}
 use Rattle.volume_edits.proofs.Lists.{zip_append}
 use Rattle.volume_edits.proofs.Naming.{texts_differ}
-use Rattle.session_core.specs.declared.session.summary.Summary.{Summary}
-use Rattle.session_core.specs.declared.session.summary.Totals.{Totals}
+use Rattle.transactions.specs.declared.summary.Summary.{Summary}
+use Rattle.transactions.specs.declared.summary.Totals.{Totals}
 use Rattle.session_core.specs.declared.session.tally.Tally.{Tally}
 use Rattle.session_core.specs.Finding.{IfFile, IfShown, IsOutside, LineStops}
 use Rattle.session_core.specs.Meant.{meant}
 use Rattle.session_core.specs.Counts.{used_of}
 use Rattle.session_core.specs.Sessions.{IsSession, SessionState, held}
 use Rattle.session_core.specs.Steps.{OnlyFrames, Stops}
-use Rattle.session_core.specs.Summaries.{AreTotals, IfCatalog, IsTally, SumsUp, objects_if, objects_named, versions_if, versions_named}
+use Rattle.session_core.specs.Tallies.{IsTally, objects_if, objects_named, versions_if, versions_named}
+use Rattle.transactions.specs.Summaries.{AreTotals, IfCatalog, SumsUp}
 use Rattle.session_core.proofs.Accepted.{ReadsCatalog, shown_on, used_is}
 use Rattle.session_core.proofs.Listing.{on_after}
 use Rattle.volume_edits.proofs.Records.{paired}

@@ -1,7 +1,7 @@
 use Rattle.std.proofs.Common.{◌≡◌, ◌∙◌, length, rules}
 use Rattle.ex_base.proofs.Results.{if_err_handed}
-use Rattle.session_core.proofs.Relatives.{derived_counted}
-use Rattle.session_core.proofs.session.Session.branches.Goals as goal
+use Rattle.transactions.proofs.OnlyOne.{derived_counted}
+use Rattle.transactions.proofs.lineage.branches.Goals as goal
 
 pub returns-in_err-oids-clause-sound : goal.returns-in_err-oids-clause-sound
 returns-in_err-oids-clause-sound g c = if_err_handed c.from_residual.result _ _ c.from_residual.ensures.1 (λ before same now told. c.in_err-oids.ensures.sound before same now told.version told.is)

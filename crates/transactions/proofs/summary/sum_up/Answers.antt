@@ -2,10 +2,10 @@ use Rattle.std.proofs.Common.{◌∙◌, ℕ, List, length, ap, subst}
 use Rattle.object_files.specs.Catalog.{Catalog}
 use Rattle.object_files.specs.Reads.{catalog_on}
 use Rattle.session_core.specs.Finding.{IsOutside}
-use Rattle.session_core.specs.Summaries.{AreTotals, IfCatalog}
+use Rattle.transactions.specs.Summaries.{AreTotals, IfCatalog}
 use Rattle.session_core.proofs.Sessions.{viewed}
-use Rattle.session_core.proofs.Summing.{sums_stopped, sums_unread, sums_up}
-use Rattle.session_core.proofs.session.Session.sum_up.Goals as goal
+use Rattle.transactions.proofs.Summing.{sums_stopped, sums_unread, sums_up}
+use Rattle.transactions.proofs.summary.sum_up.Goals as goal
 
 pub returns-in-Err : goal.returns-in-Err
 returns-in-Err g c = sums_unread c.in-Err.stop c.catalog.ensures.frames c.catalog.ensures.session c.in-Err.ensures.stops
