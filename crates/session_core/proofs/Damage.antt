@@ -50,7 +50,7 @@ use Rattle.commits.specs.declared.keep.CommitFault.{CommitFault}
 use Rattle.commits.specs.declared.keep.CommitFault.TheVariants as commit
 use Rattle.session_core.specs.Catalogs.{FramesLend, catalog_bytes}
 use Rattle.session_core.specs.Commits.{stop_of}
-use Rattle.session_core.proofs.Bridge.{image_is, page_bytes}
+use Rattle.volume_port.proofs.WorkingUnits.{image_is, page_bytes}
 use Rattle.trees.specs.Trees.{Units}
 
 -- what a call reads of the session's volume, and how it stops

@@ -424,7 +424,7 @@ returns-in-Err-release_roots-clause-damage g c =
     later_damage c.args.self.now c.catalog.new.self c.catalog.ensures.frames m no_version c.stopped.result
     (subst (λ (t : SessionState). TellsDamage i m t no_version c.stopped.result) c.self-2.view_is
     (giving_told i m two two.lost c.in-Err-release_roots.fault c.stopped.result c.stopped.ensures c.release_roots.ensures.gives.only.nothing.disk (λ root has. of_lost has)
-    (subst (λ (roots : List Root). IsGivingFault two.geometry i two.groups roots c.in-Err-release_roots.fault) c.deref-2.ensures.value c.in-Err-release_roots.ensures.fault)))
+    (subst (λ (roots : List Root). IsGivingFault two.geometry i two.groups roots c.in-Err-release_roots.fault) c.deref.ensures.value c.in-Err-release_roots.ensures.fault)))
 
 pub returns-in-Err-commit-clause-damage : goal.returns-in-Err-commit-clause-damage
 returns-in-Err-commit-clause-damage g c = uncommitted_told (g.H.World.outside c.args.host.now) _ c.args.self.now no_version c.in-Err-commit.fault c.uncommitted.result c.uncommitted.ensures

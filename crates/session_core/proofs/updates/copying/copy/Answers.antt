@@ -119,6 +119,6 @@ returns-in-Err-clause-fault g c = λ told.
     after_count G own fault c.args.volume.now mid _ (c.in_ok-count_number.ensures.counts told)
     (after_reading G own fault mid later c.file_of.ensures.kept
     (elim c.match-copying.branch [
-      | in-Freeze w ↦ told_freeze _ _ own _ c.args.oid.now fault refl (fault_of _ w.freeze-copied.result fault (sym w.copied-is ∙ c.in-Err.is) w.freeze-copied.ensures.fault there)
-      | in-Derive w ↦ told_derive _ _ own _ c.args.oid.now fault refl (fault_of _ w.derive-copied.result fault (sym w.copied-is ∙ c.in-Err.is) w.derive-copied.ensures.fault there)
+      | in-Freeze w ↦ told_freeze _ _ own _ c.args.oid.now fault refl (IfErr-at_err _ (sym w.copied-is ∙ c.in-Err.is) w.freeze-copied.ensures.fault there)
+      | in-Derive w ↦ told_derive _ _ own _ c.args.oid.now fault refl (IfErr-at_err _ (sym w.copied-is ∙ c.in-Err.is) w.derive-copied.ensures.fault there)
     ]))
