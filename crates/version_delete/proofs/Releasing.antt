@@ -160,6 +160,38 @@ module _ {S : Type 0} (g : ground.Ghosts S) where
     frees = g.frees_leads (IsFreed g a b) a b c.leads;
   }
 
+  -- a unit without an owner is given back
+  pub gives_unowned : (a b d : S) (page : ℕ) → Keeps g a b → GivesUnit g b d page → g.used a page ≡ true → g.refs a page ≡ 0 → Gives g a d
+  gives_unowned a b d page k gives was_used unowned = record {
+    fewer = λ p h. sym (used_same p (still p h)) ∙ h;
+    units = λ p h. gives.units p (still p h) ∙ ap (λ (us : Units). us p) k.units;
+    images = gives.images ∙ k.images;
+    held = gives.held ∙ k.held;
+    touched = gives.touched ∙ k.touched;
+    counts = λ h. record {
+      used = λ p some. used_same p (owned p some) ∙ h.used p (omega (arith, some, refs_same p));
+      named = λ p some. subst (λ (x : Geometry). IsUnit x p) (sym geometry_same) (h.named p (omega (arith, some, refs_same p)));
+    };
+    apart = λ h p some. ap (λ (f : ℕ → Bool). f p) (gives.held ∙ k.held) ∙ h p (omega (arith, some, refs_same p));
+    frees = g.frees_trans (IsFreed g a d) a b d (g.frees_leads (IsFreed g a d) a b k.leads)
+        (g.frees_more (λ p. p ≡ page) (IsFreed g a d) (λ p same. (ap (g.used a) same ∙ was_used, ap (g.used d) same ∙ gives.gone)) b d gives.frees);
+  }
+    where
+      refs_same : (p : ℕ) → g.refs d p ≡ g.refs a p
+      refs_same p = ap (λ (f : ℕ → ℕ). f p) (gives.refs ∙ k.refs)
+
+      used_same : (p : ℕ) → p ≢ page → g.used d p ≡ g.used a p
+      used_same p differ = gives.used p differ ∙ ap (λ (f : ℕ → Bool). f p) k.used
+
+      still : (p : ℕ) → g.used d p ≡ true → p ≢ page
+      still p h same = true≢false (sym h ∙ ap (g.used d) same ∙ gives.gone)
+
+      owned : (p : ℕ) → 1 ≤ g.refs d p → p ≢ page
+      owned p some same = absurd (omega (arith, some, ap (g.refs d) same, refs_same page, unowned))
+
+      geometry_same : g.geometry d ≡ g.geometry a
+      geometry_same = g.frees_geometry (λ p. p ≡ page) b d gives.frees ∙ g.leads_geometry a b k.leads
+
   -- an owner less, where another one is left
   pub not_last : (a b : S) (level page : ℕ) → Drops a b page (without_ref (g.refs a page)) → (g.refs a page ≡ 1 → ⊥) → Released g a b level (page ∷ [])
   not_last a b level page c more = λ told logged roots at is.

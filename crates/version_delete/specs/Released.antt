@@ -3,6 +3,7 @@ use Rattle.std.specs.Prelude.{◌≡◌, ◌≤◌, ℕ, true, false, List, ◌+
 use Rattle.std.specs.List.{AllByRecursion}
 use Rattle.ex_base.specs.declared.faults.PortFault.{PortFault}
 use Rattle.ex_base.specs.declared.ground.Ground as ground
+use Rattle.ex_base.specs.Ports.{CountsRefs, without_ref}
 use Rattle.trees.specs.Counted.{HasCounts}
 use Rattle.trees.specs.Damage.{IsWalkFault}
 use Rattle.trees.specs.Made.{pages_of}
@@ -40,6 +41,11 @@ pub record Gives {S : Type 0} (g : ground.Ghosts S) (old new : S) : Type 0 where
 abbrev pub Released : {S : Type 0} → ground.Ghosts S → S → S → ℕ → List ℕ → Type 0
 Released g old new level pages = g.tells old → (logged roots : List ℕ) → AreAt g old level pages
     → Owned g old logged (pages ++ roots) → Owned g new logged roots
+
+-- A unit's only owner is taken away, and nothing else changes.
+pub record LosesLast {S : Type 0} (g : ground.Ghosts S) (before now : S) (page : ℕ) : Type 0 where
+  pub last : g.refs before page ≡ 1
+  pub counts : CountsRefs g before now page (without_ref (g.refs before page))
 
 -- The fault is the port's own, or tells of a page on the way down from these trees that isn't what names it,
 -- where they were owners.

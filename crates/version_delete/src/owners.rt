@@ -1,10 +1,10 @@
 //! An owner is taken away from a tree.
-ghost use Rattle.std.specs.Prelude.{◌≡◌, ◌+◌, ◌≤◌, ℕ, List, [], ◌∷◌, OnOk, IfErr};
+ghost use Rattle.std.specs.Prelude.{◌≡◌, ◌+◌, ◌≤◌, ℕ, List, [], ◌∷◌, true, false, OnOk, IfErr};
 ghost use Rattle.ex_base.specs.Ports.{HasCause};
 ghost use Rattle.ex_base.specs.declared.names.Area.TheVariants.{Page};
 ghost use Rattle.trees.specs.Owners.{root_pages};
 ghost use Rattle.trees.specs.Counted.{HasCounts};
-ghost use Rattle.version_delete.specs.Released.{AreApart, Gives, Released, Blames, BlamesAlways};
+ghost use Rattle.version_delete.specs.Released.{AreApart, Gives, Released, Blames, BlamesAlways, LosesLast};
 ghost use Rattle.trees.specs.Damage.{AnyPart, IsLeafFault, root_row};
 ghost use Rattle.trees.specs.Made.{pages_of};
 
@@ -57,7 +57,66 @@ fn release_leaves<B: CountBlocks>(blocks: &mut B, row: &[Part]) -> Result<(), Po
     Ok(())
 }
 
-/// Takes an owner away from the tree of a level. Where none is left the unit is given back, and each unit that it names has an owner less.
+/// Gives up a node whose last owner was taken away: its unit is given back, and each unit that it names has an owner less. `before` is any state in which it
+/// still had that owner.
+#[cycle(giving)]
+fn give_up<B: CountBlocks, L: Ledger>(
+    blocks: &mut B,
+    alloc: Global,
+    level: u8,
+    least: u32,
+    tree: Part,
+    steps: &mut Steps<L>,
+) -> Result<(), PortFault>
+    requires ready { B.ready blocks.old }
+    requires counts { HasCounts B.Ground blocks.old }
+    requires apart { AreApart B.Ground blocks.old }
+    requires node { 1 ≤ level }
+    requires used { B.used blocks.old tree.page.0 ≡ true }
+    requires unnamed { B.refs blocks.old tree.page.0 ≡ 0 }
+    requires unlogged { B.held blocks.old tree.page.0 ≡ false }
+    ensures released { OnOk result ((before : B)
+        → LosesLast B.Ground before blocks.old tree.page.0
+        → Released B.Ground before blocks.new level (tree.page.0 ∷ [])) }
+    ensures gives { (before : B) → LosesLast B.Ground before blocks.old tree.page.0
+        → Gives B.Ground before blocks.new }
+    ensures cost { OnOk result (steps.new + B.free blocks.old Page ≡ steps.old
+        + B.free blocks.new Page) }
+    ensures rises { steps.old + 1 ≤ steps.new }
+    ensures fault { IfErr result (λ fault. (before : B)
+        → LosesLast B.Ground before blocks.old tree.page.0
+        → Blames B.Ground before level least (tree ∷ []) fault) }
+    ensures way { IfErr result (λ fault. (before : B)
+        → LosesLast B.Ground before blocks.old tree.page.0
+        → BlamesAlways B.Ground before level least (tree ∷ []) fault) }
+    ensures cause { HasCause (B.faults blocks.old) (B.faults blocks.new) result }
+{
+    steps.tick();
+    let below = match row_of(blocks, alloc, level, tree, least) {
+        Ok(below) => below,
+        Err(fault) => return Err(fault),
+    };
+    blocks.give_unit(tree.page);
+    if level == 1 {
+        match release_leaves(blocks, &below) {
+            Ok(()) => return Ok(()),
+            Err(fault) => return Err(fault),
+        }
+    }
+    let fan = blocks.geometry().fan;
+    for child in &below {
+        match release(blocks, alloc, level - 1, fan, *child, steps) {
+            Ok(()) => {}
+            Err(fault) => return Err(fault),
+        }
+    }
+    Ok(())
+}
+
+/// Takes an owner away from the tree of a level. Where none is left it is given up. Most nodes have another owner, so that an owner less of each child of
+/// a node costs no call.
+#[cycle(giving)]
+#[inline(always)]
 fn release<B: CountBlocks, L: Ledger>(
     blocks: &mut B,
     alloc: Global,
@@ -85,32 +144,13 @@ fn release<B: CountBlocks, L: Ledger>(
     if level == 0 {
         return release_leaf(blocks, tree.page);
     }
-    let geometry = blocks.geometry();
-    if !names_node(&geometry, tree.page) {
+    if !names_node(&blocks.geometry(), tree.page) {
         return Err(no_node(tree.page, level, tree.size));
     }
     if !blocks.drop_ref(tree.page) {
         return Ok(());
     }
-    steps.tick();
-    let below = match row_of(blocks, alloc, level, tree, least) {
-        Ok(below) => below,
-        Err(fault) => return Err(fault),
-    };
-    blocks.give_unit(tree.page);
-    if level == 1 {
-        match release_leaves(blocks, &below) {
-            Ok(()) => return Ok(()),
-            Err(fault) => return Err(fault),
-        }
-    }
-    for child in &below {
-        match release(blocks, alloc, level - 1, geometry.fan, *child, steps) {
-            Ok(()) => {}
-            Err(fault) => return Err(fault),
-        }
-    }
-    Ok(())
+    give_up(blocks, alloc, level, least, tree, steps)
 }
 
 /// Takes an owner away from the tree of a root. Each node that is read is given back, and where none was read the disk wasn't called.
