@@ -7,7 +7,8 @@
 Both end with status 1 where a name of PROMISES.md, or of the tables of clauses in README.md, is no clause of the call that it names,
 where one of README's tables of fields is no field of the records in the words above it, where a row of docs/TOUR.md names a function that
 isn't in its file, or one of its ways has another number of files, where one of docs/GLOSSARY.md names a word that isn't in its file, a
-document a file that isn't there, or where a must-fail edit can't be applied.
+document a file that isn't there, or, in its sentences, a clause or field that isn't there (`x` of `y`, the clause `x`, the field `x`), or
+where a must-fail edit can't be applied.
 
 How a row is read. A section's head names its crates. The columns Call and Clauses fall into parts by `;`, which belong together where
 there are as many in both, else all clauses belong to all calls. Each clause is to be one of some call of its part, and each call is to
@@ -254,12 +255,37 @@ def faults_of_glossary():
                 yield f"{GLOSSARY}: there is no `{name}` in crates/{path[1]}"
 
 
+def documents():
+    """Returns the documents that are written by hand."""
+    return ["README.md", *[f"docs/{it}" for it in sorted(os.listdir(f"{TOP}/docs")) if it.endswith(".md") and f"docs/{it}" != MAP]]
+
+
 def faults_of_paths():
     """Yields the files of crates that a document names and that aren't there."""
-    for path in ["README.md", *[f"docs/{it}" for it in sorted(os.listdir(f"{TOP}/docs")) if it.endswith(".md")]]:
+    for path in documents():
         for name in re.findall(r"`(?:crates/)?(\w+/(?:src|specs|proofs|must-fail)/[\w/.+-]+\.\w+)`", text_of(path)):
-            if path != MAP and not os.path.isfile(f"{TOP}/crates/{name}"):
+            if not os.path.isfile(f"{TOP}/crates/{name}"):
                 yield f"{path}: there is no crates/{name}"
+
+
+def faults_of_sentences(sources):
+    """Yields the clauses and fields that a document's sentences name and that aren't there: `x` of `y`, the clause `x`, the field `x`."""
+    by_name = defaultdict(list)
+    for it in (it for those in sources.functions.values() for it in those):
+        by_name[it.name].append(it)
+        by_name[it.full()].append(it)
+    clauses = {clause for those in by_name.values() for it in those for clause in (*it.clauses, *it.ghosts)}
+    fields = set().union(*sources.fields.values())
+    for path in documents():
+        text = text_of(path)
+        for name, owner in re.findall(r"`(\w+)` of (?:the (?:call|clause|record|trait) )?`([\w:]+)`", text):
+            is_known = owner in by_name or owner in sources.fields or owner in sources.members or owner in clauses
+            has_it = any(it.promises(name) for it in by_name[owner]) or name in sources.fields[owner] | sources.members[owner]
+            if is_known and not has_it and owner not in sources.crates:
+                yield f"{path}: `{name}` of `{owner}` is neither a clause nor a field"
+        for kind, name in re.findall(r"\bthe (clause|field) `(\w+)`", text):
+            if name not in (clauses if kind == "clause" else fields):
+                yield f"{path}: there is no {kind} `{name}`"
 
 
 def promise_row(row, shown):
@@ -314,11 +340,13 @@ def the_map(page, sources):
 
 
 def main(words):
+    if words not in ([], ["--check"]):
+        sys.exit(f"promises.py: {' '.join(words)}: no words, or --check alone\n\n{__doc__}")
     sources = Sources()
     page = Page(sources)
     page.read()
     page.read_readme()
-    page.faults += [*faults_of_tour(sources), *faults_of_ways(), *faults_of_glossary(), *faults_of_paths()]
+    page.faults += [*faults_of_tour(sources), *faults_of_ways(), *faults_of_glossary(), *faults_of_paths(), *faults_of_sentences(sources)]
     text, lone = the_map(page, sources)
     is_old = not os.path.isfile(f"{TOP}/{MAP}") or text_of(MAP) != text
     print("".join(f"{it}\n" for it in page.faults), end="")
