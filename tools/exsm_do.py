@@ -17,7 +17,7 @@ import sys
 from typing import Iterable, Optional
 
 from exsm_client import Broken, Ended, ProgramMissing, Store, leave_output, shortened
-from exsm_lines import FORMS, WORDS, meaning
+from exsm_lines import FORMS, WORDS, meaning, reason_of
 
 try:
     import readline
@@ -192,7 +192,7 @@ def main(words: list[str]) -> int:
     except KeyboardInterrupt:
         tell("interrupted; an open transaction is aborted")
     except (Broken, ProgramMissing, OSError) as fault:
-        tell(str(fault))
+        tell(reason_of(fault))
     return 1
 
 

@@ -20,6 +20,7 @@ from typing import Callable, Iterable
 
 from exsm_client import (
     PIECE, UPDATES_MOST, Broken, Ended, ProgramMissing, Refused, Store, leave_output)
+from exsm_lines import reason_of
 
 NAMES_FILE, BLOBS_FILE = "names", "blobs"
 NAME_LINE = re.compile(rb"(\d+) ([^\n]+)\n")
@@ -200,7 +201,7 @@ def main(words: list[str]) -> int:
         leave_output()
         return 1
     except (Refused, Broken, Wrong, ProgramMissing, OSError) as fault:
-        print(f"exsm_files: {fault}", file=sys.stderr)
+        print(f"exsm_files: {reason_of(fault)}", file=sys.stderr)
         return 1
     return 0
 

@@ -1,7 +1,8 @@
-"""What the lines of a script look like, and what a refusal means, in words."""
+"""What the lines of a script look like, what a refusal means and what a fault says, in words."""
 from __future__ import annotations
 
 import difflib
+import os
 
 FORMS = {
     "begin": "begin",
@@ -100,3 +101,11 @@ def syntax_meaning(line: str) -> str:
     near = difflib.get_close_matches(word.lower(), list(FORMS), 1)
     hint = f"did you mean `{FORMS[near[0]]}`? " if near else ""
     return f"{hint}Lines begin with: {' '.join(FORMS)}"
+
+
+def reason_of(fault: Exception, path: str = "") -> str:
+    """What a fault says: of a call of the system the file that it names, else the path that is told, and the reason."""
+    if isinstance(fault, OSError) and fault.strerror:
+        path = os.fsdecode(fault.filename) if fault.filename else path
+        return f"{path}: {fault.strerror}" if path else fault.strerror
+    return f"{path}: {fault}" if path else str(fault)

@@ -16,6 +16,7 @@ from html import escape
 from typing import Iterator, NamedTuple
 
 from exsm_geometry import CATALOG, LOG_PAGES
+from exsm_lines import reason_of
 from exsm_records import BadVolume, Record
 from exsm_volume import Use, Volume
 
@@ -360,7 +361,7 @@ def main(words: list[str]) -> int:
                     out.write(picture(volume))
             print("\n".join(usage(volume)))
     except (BadVolume, OSError) as fault:
-        sys.exit(f"exsm_map: {words[0]}: {fault}")
+        sys.exit(f"exsm_map: {reason_of(fault, words[0])}")
     return 0
 
 

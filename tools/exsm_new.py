@@ -14,6 +14,7 @@ from typing import Optional
 
 from exsm_client import ProgramMissing, find_program
 from exsm_geometry import CATALOG, Geometry
+from exsm_lines import reason_of
 
 PAGE_SIZE = 4096
 FAN = (PAGE_SIZE - 20) // 24
@@ -46,10 +47,12 @@ def geometry_of(size: int) -> Geometry:
 
 def main(words: list[str]) -> int:
     """Makes the volume, and gives the exit status: that of exsm, or 1."""
-    size = size_of(words[1]) if len(words) == 2 else None
-    if size is None:
+    if len(words) != 2:
         sys.exit(__doc__)
-    volume = words[0]
+    volume, word = words
+    size = size_of(word)
+    if size is None:
+        sys.exit(f"exsm_new: {word!r} is no size: a number and K, M or G, as in 80M")
     if not size_of(SMALLEST) <= size <= size_of(LARGEST):
         sys.exit(f"exsm_new: a size of {SMALLEST} to {LARGEST}; for others use `exsm format`")
     if os.path.lexists(volume):
@@ -60,7 +63,7 @@ def main(words: list[str]) -> int:
     try:
         return subprocess.call([find_program(), *line])
     except (ProgramMissing, OSError) as fault:
-        sys.exit(f"exsm_new: {fault}")
+        sys.exit(f"exsm_new: {reason_of(fault)}")
 
 
 if __name__ == "__main__":

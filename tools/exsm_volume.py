@@ -20,6 +20,7 @@ import sys
 from typing import Callable, Iterator, NamedTuple
 
 from exsm_geometry import CATALOG, LOG_PAGES, Geometry
+from exsm_lines import reason_of
 from exsm_log import (CATALOG_ENTRY, CATALOG_HEAD, FILE_PAGE_HEAD, KIND_CATALOG, KIND_FILE_PAGE,
                       SLOT, BadLog, LogRecord, leave, records_of)
 from exsm_records import BadVolume, Links, Record, record_of
@@ -399,7 +400,7 @@ def main(words: list[str]) -> int:
         with Volume(words[0]) as volume:
             return COMMANDS[words[1]][0](volume, words[2:])
     except (BadVolume, NoVersion, OSError) as fault:
-        sys.exit(f"exsm_volume: {words[0]}: {fault}")
+        sys.exit(f"exsm_volume: {reason_of(fault, words[0])}")
 
 
 if __name__ == "__main__":

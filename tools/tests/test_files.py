@@ -85,7 +85,7 @@ class FilesTest(InFolder):
         too_long = (f"in/f0-\u00e4 has {PUT_MOST + 1:,} bytes, and one transaction holds "
                     f"{PUT_MOST:,}")
         table = [("put", "in/f0-\u00e4", too_long),
-                 ("put", "nothing", "[Errno 2] No such file or directory: 'nothing'"),
+                 ("put", "nothing", "nothing: No such file or directory"),
                  ("get", "nothing", "no such name: nothing")]
         for command, word, error in table:
             ran = self.tool("exsm_files", "v", command, word)

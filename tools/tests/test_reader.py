@@ -65,7 +65,7 @@ class ReaderTest(InFolder):
         with open("other", "wb") as out:
             out.write(b"x" * 100)
         for name, part in (("cut", "super: the file has 400000 bytes"),
-                           ("other", "super: the file doesn't"), ("missing", "[Errno 2]")):
+                           ("other", "super: the file doesn't"), ("missing", "missing: No such file or directory")):
             for tool, words in (("exsm_volume", ["check"]), ("exsm_map", [])):
                 ran = self.tool(tool, name, *words)
                 self.assertEqual((ran.status, ran.lines, len(ran.errors)), (1, [], 1))
