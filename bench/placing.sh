@@ -16,7 +16,7 @@ done
 echo 'placing_bench: ex_base slotted_pages file_index object_files file_bodies memory_ports' >> "$work/crates.txt"
 cd "$work/crates/memory_ports"
 sed -i -e 's/^    pub held: Vec<bool>,/    pub held: Vec<bool>,\n    pub reads: u64,/' \
-    -e 's/^            held,$/            held,\n            reads: 0,/' \
+    -e 's/^            held: fresh_flags(alloc, geometry)?,$/&\n            reads: 0,/' \
     -e 's/^        Ok(part_of(&self.images, page.0/        self.reads = self.reads.wrapping_add(1);\n        Ok(part_of(\&self.images, page.0/' src/volume.rt
 cd "$work/crates/placing_bench"
 mkdir -p proofs/rounds/with_file proofs/rounds/place_all
@@ -71,9 +71,6 @@ pub const LEN: usize = 136;
 /// The number of the file, the first that a catalog gives.
 const FILE: u32 = 1;
 
-/// The catalog's page.
-const CATALOG: PageNo = PageNo(257);
-
 /// Makes a page a catalog with one file.
 fn with_file(page: &mut [u8])
     requires least { 80 ≤ length page.old }
@@ -91,11 +88,11 @@ pub fn write_catalog<V: Volume>(volume: &mut V, alloc: Global)
     let Ok(mut page) = vec![in alloc; 0u8; volume.page_size() as usize] else {
         return;
     };
-    if page.len() < 80 || page.len() > 8192 || !volume.in_area(CATALOG) {
+    if page.len() < 80 || page.len() > 8192 || !volume.in_area(PageNo::CATALOG) {
         return;
     }
     with_file(&mut page);
-    let _written = volume.put(alloc, CATALOG, &page);
+    let _written = volume.put(alloc, PageNo::CATALOG, &page);
 }
 
 /// Places bodies, and answers how many were placed.

@@ -19,7 +19,7 @@ trees: ex_base
 tree_store: ex_base disk_model buffer_groups page_alloc trees
 tree_insert: ex_base trees
 memory_ports: ex_base buffer_groups page_alloc trees tree_store
-tree_bench: ex_base memory_ports tree_insert
+tree_bench: ex_base memory_ports tree_insert trees
 EOF
 cd "$work/crates/tree_bench"
 cat > src/main.rt <<'EOF'
@@ -81,12 +81,10 @@ fn main(rt: HostRuntime) -> io::Result<()> {
 }
 EOF
 cat > src/rounds.rt <<'EOF'
-use ex_base::{Area, Blocks, Root};
+use ex_base::{Area, Blocks, OBJECT_MOST, Root, growth_need};
 use std::alloc::Global;
-use tree_insert::{append, insert, is_root_for};
-
-/// The most bytes of an object.
-const SIZE_MOST: u64 = u32::MAX as u64;
+use tree_insert::{append, insert};
+use trees::is_root_for;
 
 /// The root of an object without bytes.
 const NO_TREE: Root = Root {
@@ -108,11 +106,11 @@ fn grown<B: Blocks>(
 {
     let geometry = blocks.geometry();
     let len = given.len() as u64;
-    if !is_root_for(&geometry, root) || len > SIZE_MOST - root.size {
+    if !is_root_for(&geometry, root) || len > OBJECT_MOST - root.size {
         return None;
     }
-    let leaves = len / geometry.leaf_bytes() as u64 + 5;
-    let pages = leaves / geometry.fan as u64 + 4 * (root.height as u64 + 3);
+    let leaves = growth_need(&geometry, len, root.height, Area::Segment);
+    let pages = growth_need(&geometry, len, root.height, Area::Page);
     if leaves > blocks.free(Area::Segment) as u64 || pages > blocks.free(Area::Page) as u64 {
         return None;
     }
