@@ -3,13 +3,14 @@
 
     python3 bench/all.py PROGRAM [PROGRAM ..] [--folder FOLDER] [--plot FILE.svg] [--runs N] [--quick] [--large]
 
-Each PROGRAM is a built exsm, so that two builds can be compared; the first one stands first in the ratios. Volumes and databases lie in a new folder
-below FOLDER (/dev/shm where there is none given): in memory, where syncs cost nothing, a time is the program's own. A time of exsm is that of a whole
-process, which reads its script from a pipe and writes its replies into a file, the median of N runs, without its opening of the volume. A time of SQLite
-is that of the calls in this process, the median of N runs: a write-ahead log, synchronous=FULL, an object as rows of 4,096 bytes, whose lengths the
-caller keeps; an older version of an object is there the rows that were replaced since. All times are the processor's, of user and system, which other work on the machine changes less than the clock's. Where a part has a goal, it is told whether the first program keeps it. A
-program that lacks a workload's lines has no time there, and one whose run took more than PATIENCE seconds none of larger ones. `--large` goes up to an
-object of 4 GiB less 1 MiB, for which the folder needs room.
+Each PROGRAM is a built exsm, so that two builds can be compared; the first one stands first in the ratios. Volumes and databases lie in a new
+folder below FOLDER (/dev/shm where there is none given): in memory, where syncs cost nothing, a time is the program's own. A time of exsm is that
+of a whole process, which reads its script from a pipe and writes its replies into a file, the median of N runs, without its opening of the volume.
+A time of SQLite is that of the calls in this process, the median of N runs: a write-ahead log, synchronous=FULL, an object as rows of 4,096 bytes,
+whose lengths the caller keeps; an older version of an object is there the rows that were replaced since. All times are the processor's, of user and
+system, which other work on the machine changes less than the clock's. Where a part has a goal, it is told whether the first program keeps it. A
+program that lacks a workload's lines has no time there, and one whose run took more than PATIENCE seconds none of larger ones. `--large` goes up to
+an object of 4 GiB less 1 MiB, for which the folder needs room.
 """
 import argparse
 import math
