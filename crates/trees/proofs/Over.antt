@@ -8,7 +8,6 @@ use Rattle.std.specs.List.{AllByRecursion, flat_map, concat}
 use Rattle.ex_base.specs.Area.{InPageArea}
 use Rattle.ex_base.specs.Sizes.{IsGeometry, geometry_is, object_most}
 use Rattle.trees.proofs.Parts.{narrow}
-use Rattle.trees.proofs.Reading.{no_part}
 use Rattle.ex_base.specs.Even.{sum_of, evenly, cut_by, least_parts}
 use Rattle.ex_base.specs.declared.geometry.Geometry.{Geometry}
 use Rattle.ex_base.proofs.Rows.{each-append, each-take, each-drop, IsRow}
@@ -37,30 +36,16 @@ use Rattle.trees.proofs.Laid.{spent_none, spent_on, extends_refl, extends_on, ex
 
 -- ---- pairs, one after the other
 
-pub record PairsSoFar (row : List Part) (i : ℕ) (pairs : List Pair) (count : ℕ) : Type 0 where
-  pub pairs_are : pairs ≡ pairs_of 0 (take i row)
-  pub count_is : count ≡ row_size (take i row)
-
-row_size-snoc : (row : List Part) (part : Part) → row_size (row ++ (part ∷ [])) ≡ row_size row + part.size
+pub row_size-snoc : (row : List Part) (part : Part) → row_size (row ++ (part ∷ [])) ≡ row_size row + part.size
 row_size-snoc [] part = omega arith
 row_size-snoc (first ∷ row) part = omega (arith, row_size-snoc row part)
 
-pairs-snoc : (before : ℕ) (row : List Part) (part : Part) (count : ℕ) → count ≡ before + row_size row + part.size → pairs_of before (row ++ (part ∷ [])) ≡ pairs_of before row ++ (record { count = count; page = part.page } ∷ [])
+pub pairs-snoc : (before : ℕ) (row : List Part) (part : Part) (count : ℕ) → count ≡ before + row_size row + part.size → pairs_of before (row ++ (part ∷ [])) ≡ pairs_of before row ++ (record { count = count; page = part.page } ∷ [])
 pairs-snoc before [] part count is =
     let same : before + part.size ≡ count = omega arith in
     ap (λ (n : ℕ). let pair : Pair = record { count = n; page = part.page } in pair ∷ []) same
 pairs-snoc before (first ∷ row) part count is =
     ap (λ ps. record { count = before + first.size; page = first.page } ∷ ps) (pairs-snoc (before + first.size) row part count (omega arith))
-
-pub pairs_more : (row : List Part) (i : ℕ) (pairs after : List Pair) (count : ℕ) → i < length row → PairsSoFar row i pairs count
-    → after ≡ pairs ++ (record { count = count + (get_or row i no_part).size; page = (get_or row i no_part).page } ∷ []) → PairsSoFar row (i + 1) after (count + (get_or row i no_part).size)
-pairs_more row i pairs after count lt h is =
-    let more : take (i + 1) row ≡ take i row ++ (get_or row i no_part ∷ []) = take_more row i no_part lt in
-    record {
-      pairs_are = is ∙ ap (λ ps. ps ++ (record { count = count + (get_or row i no_part).size; page = (get_or row i no_part).page } ∷ [])) h.pairs_are
-          ∙ sym (pairs-snoc 0 (take i row) (get_or row i no_part) (count + (get_or row i no_part).size) (omega (arith, h.count_is))) ∙ sym (ap (pairs_of 0) more);
-      count_is = omega (arith, h.count_is, row_size-snoc (take i row) (get_or row i no_part), ap row_size more);
-    }
 
 pub size_of_take : (row : List Part) (n : ℕ) → row_size (take n row) ≤ row_size row
 size_of_take row zero = omega arith
@@ -71,11 +56,6 @@ pub size_of_drop : (row : List Part) (n : ℕ) → row_size (drop n row) ≤ row
 size_of_drop row zero = omega arith
 size_of_drop [] (suc n) = omega arith
 size_of_drop (part ∷ row) (suc n) = omega (arith, size_of_drop row n)
-
--- the count so far fits
-pub count_fits : (row : List Part) (i : ℕ) (pairs : List Pair) (count : ℕ) → i < length row → PairsSoFar row i pairs count → count + (get_or row i no_part).size ≤ row_size row
-count_fits row i pairs count lt h =
-    omega (arith, h.count_is, row_size-snoc (take i row) (get_or row i no_part), ap row_size (take_more row i no_part lt), size_of_take row (i + 1))
 
 pub length-pairs_of : (before : ℕ) (row : List Part) → length (pairs_of before row) ≡ length row
 length-pairs_of before [] = refl

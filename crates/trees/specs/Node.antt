@@ -24,9 +24,13 @@ pair_len width = count_len width + 4
 abbrev pub pair_bytes : Width → Pair → List ℕ
 pair_bytes width pair = field_bytes (count_len width) pair.count ++ four_bytes pair.page.0
 
--- the kind, the level, the number of pairs, the pairs
+-- the kind, the level, the number of pairs, and four bytes of zero
+abbrev pub head_of : Width → ℕ → ℕ → List ℕ
+head_of width level count = (kind_of width ∷ level ∷ []) ++ two_bytes count ++ zeros 4
+
+-- the head, and the pairs
 unfoldable pub node_of : Width → ℕ → ℕ → List Pair → List ℕ
-node_of width size level pairs = padded size ((kind_of width ∷ level ∷ []) ++ two_bytes (length pairs) ++ zeros 4 ++ flat_map (pair_bytes width) pairs)
+node_of width size level pairs = padded size (head_of width level (length pairs) ++ flat_map (pair_bytes width) pairs)
 
 -- nodes are written wide
 abbrev pub node_page : ℕ → ℕ → List Pair → List ℕ

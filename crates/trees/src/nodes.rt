@@ -10,36 +10,15 @@ ghost use Rattle.trees.specs.Made.{Extends, Spent, Holds, Took, pages_of};
 ghost use Rattle.trees.specs.Counted.{Counted, NamesPairs};
 ghost use Rattle.trees.specs.Built.{Built, IsCut, AreSome, even_lens};
 
-use crate::Pair;
 use crate::rows::{Part, piece, put};
 use crate::split::{even_part, split_parts};
 use crate::write::write_node;
 use ex_base::{Blocks, PortFault};
 use std::alloc::{AllocError, Global};
 
-/// The pairs of a node over these trees, and the bytes of all of them.
-fn pairs_over(alloc: Global, row: &[Part]) -> Result<(Vec<Pair>, u64), AllocError>
-    requires { row_size row.now < 2 ^ 64 }
-    ensures pairs { IfOk result (λ r. r.0.items ≡ pairs_of 0 row.now) }
-    ensures size { IfOk result (λ r. r.1 ≡ row_size row.now) }
-{
-    let mut pairs = Vec::with_capacity(alloc, row.len())?;
-    let mut count = 0;
-    for part in row {
-        count += part.size;
-        let pair = Pair {
-            count,
-            page: part.page,
-        };
-        pairs.push_reserved(pair);
-    }
-    Ok((pairs, count))
-}
-
 /// A new node over these trees.
 fn node_over<B: Blocks>(
     blocks: &mut B,
-    alloc: Global,
     buffer: &mut [u8],
     level: u8,
     row: &[Part],
@@ -66,8 +45,7 @@ fn node_over<B: Blocks>(
     ensures leads { B.leads blocks.old blocks.new }
     ensures cause { HasCause (B.faults blocks.old) (B.faults blocks.new) result }
 {
-    let (pairs, size) = pairs_over(alloc, row)?;
-    write_node(level, &pairs, buffer);
+    let size = write_node(level, row, buffer);
     let page = blocks.new_node(buffer)?;
     Ok(Part { size, page })
 }
@@ -109,7 +87,7 @@ pub fn nodes_by<B: Blocks>(
     let mut at = 0;
     for len in lens {
         let len = *len as usize;
-        let part = node_over(blocks, alloc, buffer, level, piece(row, at, len))?;
+        let part = node_over(blocks, buffer, level, piece(row, at, len))?;
         put(&mut above, part)?;
         at += len;
     }
