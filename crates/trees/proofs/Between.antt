@@ -1,22 +1,13 @@
 -- Given bytes that come between old ones, which were read together.
-use Rattle.std.proofs.Common.{◌≡◌, ℕ, zero, suc, ◌+◌, ◌-◌, ◌<◌, ◌≤◌, min, List, [], ◌∷◌, ◌++◌, length, take, drop, refl, sym, ap, ◌∙◌, arith, append_assoc, add-zero, inl, inr}
-use Rattle.std.proofs.lemmas.List.{length-append, length-take, length-take-le, length-drop, take_at, take-take, take-append-le, drop-append-le, drop-drop, drop-take}
+use Rattle.std.proofs.Common.{◌≡◌, ℕ, ◌+◌, ◌-◌, ◌<◌, ◌≤◌, min, List, ◌++◌, length, take, drop, sym, ap, ◌∙◌, arith, append_assoc, add-zero, inl, inr}
+use Rattle.std.proofs.lemmas.List.{length-append, length-take, length-take-le, length-drop, take_at, take_min, take-take, take-append-le, drop-append-le, drop-drop, drop-take}
 use Rattle.std.proofs.lemmas.Bool.{cases_lt}
 use Rattle.trees.specs.Made.{Stays, changed}
 use Rattle.trees.proofs.Laid.{any_two_parts, part_min}
 
 -- ---- a leaf that is filled
 
--- old bytes that were read together are those before the given ones
-early : (old : List ℕ) (place at before from : ℕ) → before ≤ place - at → (1 ≤ before → from ≡ at) → take before (drop from old) ≡ take before (drop at (take place old))
-early old place at before from fits same = elim (cases_lt 0 before) [
-  | inl some ↦ ap (λ k. take before (drop k old)) (same (omega arith)) ∙ sym (part_min old at before place fits)
-  | inr none ↦
-      let zero_is : before ≡ 0 = omega arith in
-      ap (λ k. take k (drop from old)) zero_is ∙ sym (ap (λ k. take k (drop at (take place old))) zero_is)
-]
-
--- and those behind them
+-- parts that begin elsewhere only where nothing is read
 late : (old : List ℕ) (n from to : ℕ) → (1 ≤ n → from ≡ to) → take n (drop from old) ≡ take n (drop to old)
 late old n from to same = elim (cases_lt 0 n) [
   | inl some ↦ ap (λ k. take n (drop k old)) (same (omega arith))
@@ -25,10 +16,12 @@ late old n from to same = elim (cases_lt 0 n) [
       ap (λ k. take k (drop from old)) zero_is ∙ sym (ap (λ k. take k (drop to old)) zero_is)
 ]
 
+-- old bytes that were read together are those before the given ones
+early : (old : List ℕ) (place at before from : ℕ) → before ≤ place - at → (1 ≤ before → from ≡ at) → take before (drop from old) ≡ take before (drop at (take place old))
+early old place at before from fits same = late old before from at same ∙ sym (part_min old at before place fits)
+
 take_again : (ys : List ℕ) (n : ℕ) → take (length (take n ys)) ys ≡ take n ys
-take_again ys zero = refl
-take_again [] (suc n) = refl
-take_again (y ∷ ys) (suc n) = ap (λ (t : List ℕ). y ∷ t) (take_again ys n)
+take_again ys n = ap (λ k. take k ys) (length-take n ys) ∙ take_min n ys
 
 whole_part : (xs new : List ℕ) (k n : ℕ) → new ≡ take n (drop k xs) → new ≡ take (length new) (drop k xs)
 whole_part xs new k n is = is ∙ sym (take_again (drop k xs) n) ∙ ap (λ (ys : List ℕ). take (length ys) (drop k xs)) (sym is)

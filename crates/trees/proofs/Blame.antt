@@ -1,5 +1,5 @@
 -- Which fault tells what is read of a page.
-use Rattle.std.proofs.Common.{◌≡◌, ◌≢◌, ℕ, zero, suc, ◌-◌, ◌<◌, List, [], ◌∷◌, length, take, drop, get_or, refl, sym, subst, arith, inl, inr}
+use Rattle.std.proofs.Common.{◌≡◌, ◌≢◌, ◌⊎◌, ℕ, zero, suc, ◌-◌, ◌<◌, List, [], ◌∷◌, ◌++◌, length, take, drop, get_or, refl, sym, subst, arith, inl, inr}
 use Rattle.ex_base.specs.declared.faults.PortFault.{PortFault}
 use Rattle.ex_base.specs.declared.faults.PortFault.TheVariants.{Disk, Memory, Damaged}
 use Rattle.ex_base.specs.declared.ground.Ground as ground
@@ -10,7 +10,7 @@ use Rattle.trees.specs.Trees.{Units}
 use Rattle.trees.specs.declared.rows.Part.{Part}
 use Rattle.trees.specs.Rows.{parts_of, IsFilled, IsRowOn}
 use Rattle.ex_base.specs.Seen.{node_seen, nothing_seen}
-use Rattle.trees.specs.Damage.{unfilled, NamesNode, IsNodeFault, IsLeafFault, IsWalkFault, AnyPart}
+use Rattle.trees.specs.Damage.{unfilled, NamesNode, IsNodeFault, IsWalkFault, AnyPart}
 use Rattle.trees.proofs.Parts.{length-parts}
 use Rattle.trees.proofs.Reading.{no_part}
 
@@ -50,18 +50,22 @@ any_drop P zero row h = h
 any_drop P (suc n) [] h = absurd h
 any_drop P (suc n) (part ∷ row) h = inr (any_drop P n row h)
 
+pub any_split : (P : Part → Type 0) (xs ys : List Part) → AnyPart P (xs ++ ys) → AnyPart P xs ⊎ AnyPart P ys
+any_split P [] ys h = inr h
+any_split P (x ∷ xs) ys h = elim h [
+  | inl here ↦ inl (inl here)
+  | inr rest ↦ elim (any_split P xs ys rest) [
+    | inl a ↦ inl (inr a)
+    | inr b ↦ inr b
+  ]
+]
+
 -- from a part of a row to the row
 pub walk_part : (geo : Geometry) (u : Units) (level least from n : ℕ) (row : List Part) (fault : PortFault) → IsWalkFault geo u level least (take n (drop from row)) fault → IsWalkFault geo u level least row fault
 walk_part geo u level least from n row Disk h = tt
 walk_part geo u level least from n row Memory h = tt
 walk_part geo u zero least from n row (Damaged at want got) h = any_drop _ from row (any_take _ n (drop from row) h)
 walk_part geo u (suc l) least from n row (Damaged at want got) h = any_drop _ from row (any_take _ n (drop from row) h)
-
-pub walk_leaf : (geo : Geometry) (u : Units) (level least i : ℕ) (row : List Part) (fault : PortFault) → level ≡ 0 → i < length row → IsLeafFault geo (get_or row i no_part).page fault → IsWalkFault geo u level least row fault
-walk_leaf geo u level least i row Disk same lt h = tt
-walk_leaf geo u level least i row Memory same lt h = tt
-walk_leaf geo u zero least i row (Damaged at want got) same lt h = any_at _ row i lt h
-walk_leaf geo u (suc l) least i row (Damaged at want got) same lt h = absurd (omega arith)
 
 pub walk_node : (geo : Geometry) (u : Units) (level least i : ℕ) (row : List Part) (fault : PortFault) → level ≢ 0 → i < length row
     → IsNodeFault geo (u (get_or row i no_part).page.0) level (get_or row i no_part).size least (get_or row i no_part).page.0 fault → IsWalkFault geo u level least row fault

@@ -1,5 +1,5 @@
 -- How a part of a row that grew makes the row grow, and the row its node.
-use Rattle.std.proofs.Common.{◌≡◌, ◌⊎◌, ℕ, ◌≤◌, List, [], ◌∷◌, ◌++◌, Bool, true, sym, ap, subst, ◌∙◌, inl, inr}
+use Rattle.std.proofs.Common.{◌≡◌, ◌⊎◌, ℕ, suc, ◌≤◌, List, [], ◌∷◌, ◌++◌, length, Bool, true, sym, ap, subst, ◌∙◌, inl, inr}
 use Rattle.std.proofs.lemmas.List.{map-append}
 use Rattle.std.specs.List.{AllByRecursion}
 use Rattle.ex_base.specs.Area.{NamesLeaf}
@@ -18,7 +18,10 @@ use Rattle.trees.specs.Made.{Extends, AreUsed, Holds, Has, IsTaken, Took, pages_
 use Rattle.trees.proofs.Laid.{has_left, has_right, leaf_units}
 use Rattle.trees.proofs.Over.{units_app, bytes_app, all_has}
 use Rattle.trees.proofs.Kept.{row_extends}
-use Rattle.trees.specs.Counted.{Counted}
+use Rattle.trees.proofs.RootSteps.{turned_on, turned_built, used_after, over_row}
+use Rattle.trees.specs.Built.{Built, even_lens}
+use Rattle.trees.specs.Split.{nodes_over}
+use Rattle.trees.specs.Counted.{Counted, NamesPairs}
 use Rattle.trees.specs.Grown.{Grew}
 
 pub shape_app : (u : Units) (l : ℕ) (xs ys : List Part) → row_shape u l (xs ++ ys) ≡ row_shape u l xs ++ row_shape u l ys
@@ -127,5 +130,28 @@ module _ {S : Type 0} (g : ground.Ghosts S) where
           own = subst (AllByRecursion (λ p. IsTaken g a b p ⊎ Has (row_units (g.unit a) 0 run) p)) (sym units) (each_as (IsTaken g a b) _ (pages_of made) (λ p t. inl t) took.each);
           all = λ p t. subst (λ us. Has us p) (sym units) (took.all p t);
           counts = λ names. counts;
+        };
+      }
+
+  -- new nodes over a row that grew come in the place of nodes that hold its units
+  pub grew_over : (a b c : S) (l : ℕ) (mid row grown above : List Part) (bytes : List ℕ) (shape : List (Subtree l)) → Extends g a b → Extends g b c → Holds g a l row
+      → ((p : ℕ) → Has (row_units (g.unit a) l row) p → Has (row_units (g.unit a) (suc l) mid) p) → Grew g a b l row grown bytes shape → Took g b c (pages_of above) → (Holds g b l grown → Built g c l (even_lens (g.geometry b).fan (length grown)) grown above)
+      → (Holds g b l grown → NamesPairs g → Counted g b c) → Grew g a c (suc l) mid above bytes (nodes_over (g.geometry a).fan shape)
+  grew_over a b c l mid row grown above bytes shape x y holds units grew took build counts =
+      let held : Holds g b l grown = record { trees = grew.trees; used = used_after g a b (row_units (g.unit a) l row) (row_units (g.unit b) l grown) x holds.used grew.units } in
+      let built = build held in
+      let same = row_extends g b c l grown y held in
+      let turned = turned_on g a b c (row_units (g.unit a) l row) (row_units (g.unit b) l grown) (row_units (g.unit c) (suc l) above) x y grew.units
+      (turned_built g b c l (even_lens (g.geometry b).fan (length grown)) grown above took built (counts held) (row_units (g.unit b) l grown) same.units)
+      (λ p h. built.all p (inr (subst (λ us. Has us p) (sym same.units) h))) in
+      record {
+        trees = built.trees;
+        bytes_are = built.bytes ∙ same.bytes ∙ grew.bytes_are;
+        shape_is = built.shape ∙ sym (over_row (g.geometry b).fan (g.unit c) l grown) ∙ ap (λ (k : Geometry). nodes_over k.fan (row_shape (g.unit c) l grown)) (g.leads_geometry a b x.leads)
+            ∙ ap (nodes_over (g.geometry a).fan) (same.shape ∙ grew.shape_is);
+        units = record {
+          own = widen a c (row_units (g.unit a) l row) (row_units (g.unit a) (suc l) mid) (row_units (g.unit c) (suc l) above) units turned.own;
+          all = turned.all;
+          counts = turned.counts;
         };
       }

@@ -1,7 +1,7 @@
 -- New leaves, one after the other.
 use Rattle.std.proofs.Common.{◌≡◌, ◌≢◌, ◌⊎◌, ℕ, zero, suc, ◌+◌, ◌-◌, ◌<◌, ◌≤◌, min, List, [], ◌∷◌, ◌++◌, length, take, drop, get_or, Bool, true, false, refl, sym, ap, subst, ◌∙◌, arith, take_all, inl, inr, add-one, true≢false, drop-cons}
 use Rattle.std.proofs.Math.Seq.{take-add}
-use Rattle.std.proofs.lemmas.List.{length-append, length-drop, length-take-le, take_at, drop_all, drop-drop, map-append, take_more}
+use Rattle.std.proofs.lemmas.List.{append-nil, length-append, length-drop, length-take-le, take_at, drop_all, drop-drop, map-append, take_more}
 use Rattle.std.proofs.lemmas.Grind.{flat_map-append}
 use Rattle.std.proofs.lemmas.Bool.{cases_lt, cases_Bool}
 use Rattle.std.specs.List.{AllByRecursion}
@@ -11,6 +11,7 @@ use Rattle.ex_base.specs.declared.geometry.Geometry.{Geometry}
 use borrow.Rule.Slice.PartMut.{post_of}
 use Rattle.ex_base.proofs.Rows.{each-append}
 use Rattle.ex_base.proofs.Each.{each_as}
+use Rattle.ex_base.proofs.Spread.{plain}
 use Rattle.ex_base.proofs.Counts.{same_or_not}
 use Rattle.ex_base.specs.Ports.{Keeps, TakesUnit, CountsNames, refs_most, times, with_refs}
 use Rattle.ex_base.specs.declared.names.Area.{Area}
@@ -23,7 +24,7 @@ use Rattle.trees.specs.Damage.{IsSoundWay}
 use Rattle.trees.specs.Rows.{row_bytes, row_size, row_units, AreTrees}
 use Rattle.trees.proofs.Reading.{two_parts, part_behind, written_twice, left_over, later, part_of_front}
 use Rattle.trees.specs.Counted.{Counted}
-use Rattle.trees.proofs.Counts.{counted_kept, counted_leaf, counted_on, counted_same}
+use Rattle.trees.proofs.Counts.{counted_kept, counted_leaf, counted_on}
 use Rattle.trees.specs.Made.{Extends, Spent, AreUsed, Holds, Has, IsTaken, Took, Stays, pages_of, sizes_of, changed}
 
 -- ---- states that keep the used units
@@ -93,12 +94,6 @@ module _ {S : Type 0} (g : ground.Ghosts S) where
   pub spent_on : (a b c : S) (leaves pages more others : ℕ) → Spent g a b leaves pages → Spent g b c more others → Spent g a c (leaves + more) (pages + others)
   spent_on a b c leaves pages more others x y = record { of_leaves = omega (arith, x.of_leaves, y.of_leaves); of_pages = omega (arith, x.of_pages, y.of_pages) }
 
-  pub spent_kept : (a b : S) → Keeps g a b → Spent g a b 0 0
-  spent_kept a b k = record {
-    of_leaves = omega (arith, ap (λ (f : Area → ℕ). f Segment) k.free);
-    of_pages = omega (arith, ap (λ (f : Area → ℕ). f Page) k.free);
-  }
-
 -- ---- leaves over units that are kept
 
 pub leaves_kept : (u v : Units) (used : ℕ → Bool) (row : List Part) → ((p : ℕ) → used p ≡ true → v p ≡ u p) → AreUsed used (pages_of row) → row_bytes v 0 row ≡ row_bytes u 0 row
@@ -146,9 +141,6 @@ filled_twice front back out p q n pos is len first second =
     ∙ any_two_parts front back p q (length out) n pos is (first ∙ ap (λ k. take k (drop pos front)) n_len) (second ∙ ap (λ k. take k (drop (pos - length front) back)) (left_over out p n (omega arith) (len ∙ n_len)))
 
 -- ---- the loop over the lengths
-
-abbrev pub plain : ℕ → ℕ
-plain n = n
 
 pub record LaidSoFar {S : Type 0} (g : ground.Ghosts S) (old now : S) (run : List Part) (at cut : ℕ) (given lengths : List ℕ) (i : ℕ) (row : List Part) (done : ℕ) : Type 0 where
   pub extends : Extends g old now
@@ -202,22 +194,12 @@ fill_front given old out p q n m inside at cut done n_is m_is inside_is fits len
 pub same_bytes : {S : Type 0} (g : ground.Ghosts S) (a b : S) (l : ℕ) (row : List Part) → Keeps g a b → row_bytes (g.unit b) l row ≡ row_bytes (g.unit a) l row
 same_bytes g a b l row k = ap (λ (u : Units). row_bytes u l row) k.units
 
-pub same_trees : {S : Type 0} (g : ground.Ghosts S) (a b : S) (l : ℕ) (row : List Part) → Keeps g a b → AreTrees (g.geometry a) (g.unit a) l row → AreTrees (g.geometry b) (g.unit b) l row
-same_trees g a b l row k trees = rw (g.leads_geometry a b k.leads, k.units) trees
-
 -- A way over leaves speaks of no unit's content, so it is one of any earlier state.
 pub leaves_way : {S : Type 0} (g : ground.Ghosts S) (a b : S) (run : List Part) (f t : ℕ) → g.leads a b → (g.tells b → IsSoundWay (g.geometry b) (g.unit b) (NamesLeaf (g.geometry b)) 0 0 run f t)
     → g.tells a → IsSoundWay (g.geometry a) (g.unit a) (NamesLeaf (g.geometry a)) 0 0 run f t
 leaves_way g a b run f t leads later told = subst (λ geo. IsSoundWay geo (g.unit b) (NamesLeaf geo) 0 0 run f t) (g.leads_geometry a b leads) (later (g.leads_told a b leads told))
 
 -- ---- one leaf more
-
-append_nil : (xs : List ℕ) → xs ++ [] ≡ xs
-append_nil [] = refl
-append_nil (x ∷ xs) = ap (λ ys. x ∷ ys) (append_nil xs)
-
-used_append : (used : ℕ → Bool) (xs : List ℕ) (p : ℕ) → AreUsed used xs → used p ≡ true → AreUsed used (xs ++ (p ∷ []))
-used_append used xs p all h = each-append (λ q. used q ≡ true) xs (p ∷ []) all (h, tt)
 
 pub has_left : (xs ys : List ℕ) (p : ℕ) → Has xs p → Has (xs ++ ys) p
 has_left [] ys p h = absurd h
@@ -249,19 +231,6 @@ took_more g old now mid new units area page content ext k t took =
         ]
       ];
     }
-
-pub laid_start : {S : Type 0} (g : ground.Ghosts S) (a : S) (run : List Part) (at cut : ℕ) (given lengths : List ℕ) → LaidSoFar g a a run at cut given lengths 0 [] 0
-laid_start g a run at cut given lengths = record {
-  extends = extends_refl g a;
-  sizes = refl;
-  sum = omega arith;
-  named = tt;
-  took = record { each = tt; all = λ p h. absurd (true≢false (sym h.1 ∙ h.0)) };
-  spent = spent_none g a;
-  counts = counted_same g a;
-  way = λ told byte new stays before. absurd (omega (arith, before));
-  bytes = λ told holds. refl;
-}
 
 pub laid_step : {S : Type 0} (g : ground.Ghosts S) (old now mid new : S) (run : List Part) (at cut : ℕ) (given lengths : List ℕ) (i : ℕ) (row after : List Part) (done page : ℕ) (buffer out : List ℕ)
     → i < length lengths → get_or lengths i 0 ≤ length buffer → LaidSoFar g old now run at cut given lengths i row done → Keeps g now mid → g.leads mid new
@@ -307,7 +276,7 @@ laid_step {S} g old now mid new run at cut given lengths i row after done page b
           let own : take (get_or lengths i 0) (g.unit new page) ≡ out = ap (λ n. take n (g.unit new page)) (sym out_len ∙ sym (ap length content)) ∙ t.bytes told_mid ∙ content in
           ap (row_bytes (g.unit new) 0) after_is ∙ flat_map-append (λ (q : Part). take q.size (g.unit new q.page.0)) row (part ∷ [])
           ∙ ap (λ xs. xs ++ (take (get_or lengths i 0) (g.unit new page) ++ [])) (row_same ∙ h.bytes told holds)
-          ∙ ap (λ xs. take done (changed (row_bytes (g.unit old) 0 run) at cut given) ++ xs) (append_nil (take (get_or lengths i 0) (g.unit new page)) ∙ own ∙ filled)
+          ∙ ap (λ xs. take done (changed (row_bytes (g.unit old) 0 run) at cut given) ++ xs) (append-nil (take (get_or lengths i 0) (g.unit new page)) ∙ own ∙ filled)
           ∙ sym (take-add done (get_or lengths i 0) (changed (row_bytes (g.unit old) 0 run) at cut given));
     }
 

@@ -13,7 +13,7 @@ use Rattle.trees.specs.declared.width.Width.{Width}
 use Rattle.trees.specs.declared.width.Width.TheVariants.{Narrow, Wide}
 use Rattle.trees.specs.Node.{kind_of, count_len, pair_len, width_on, pair_bytes, pair_at, read_pairs, RiseFrom, HasPairFields, IsNode, PairsOf, Node, node_on, node_of, level_on, pairs_on}
 use Rattle.trees.specs.Reads.{NodeReads}
-use Rattle.trees.proofs.PairLaws.{pair_inside, pairs_again, pairs_back, fields_read, length-pairs, length-read_pairs}
+use Rattle.trees.proofs.PairLaws.{pairs_again, pairs_back, fields_read, length-pairs, length-read_pairs}
 
 -- ---- the fields of a node
 
@@ -165,10 +165,6 @@ viewed fan page h =
 pub level_is : (page : List ℕ) → slice_index page 1 ≡ level_on page
 unfolding level_on
 level_is page = refl
-
--- a pair of a node lies on its page
-pub pair_fits : (page : List ℕ) (index : ℕ) → index < length (pairs_on page) → 8 + pair_len (width_on page) * length (pairs_on page) ≤ length page → 8 + pair_len (width_on page) * index + pair_len (width_on page) ≤ length page
-pair_fits page index lt room = omega (arith, pair_inside (width_on page) (length (pairs_on page)) index lt, room)
 
 pair_here : (w : Width) (n index : ℕ) (bytes : List ℕ) → index < n → slice_get (read_pairs w n bytes) index ≡ Some (pair_at w (drop (pair_len w * index) bytes))
 pair_here w zero index bytes lt = absurd (omega arith)

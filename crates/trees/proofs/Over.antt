@@ -1,5 +1,5 @@
 -- New nodes, one after the other, and what they hold.
-use Rattle.std.proofs.Common.{◌≡◌, ◌⊎◌, ℕ, zero, suc, ◌+◌, ◌-◌, ◌*◌, ◌<◌, ◌≤◌, ◌^◌, List, [], ◌∷◌, ◌++◌, length, take, drop, get_or, map, Bool, true, refl, sym, ap, subst, ◌∙◌, arith, take_all, inl, inr, add-one, true≢false}
+use Rattle.std.proofs.Common.{◌≡◌, ◌⊎◌, ℕ, zero, suc, ◌+◌, ◌-◌, ◌*◌, ◌<◌, ◌≤◌, ◌^◌, List, [], ◌∷◌, ◌++◌, length, take, drop, get_or, map, Bool, true, refl, sym, ap, subst, ◌∙◌, arith, take_all, inl, inr, add-one}
 use Rattle.std.proofs.lemmas.List.{length-drop, length-take-le, map-append, take_more, drop-drop, take-append-drop, length-map, drop-map, take-map}
 use Rattle.std.proofs.Math.Nat.{mul-le-mul_right}
 use Rattle.std.proofs.lemmas.Grind.{flat_map-append}
@@ -11,7 +11,7 @@ use Rattle.trees.proofs.Parts.{narrow}
 use Rattle.ex_base.specs.Even.{sum_of, evenly, cut_by, least_parts}
 use Rattle.ex_base.specs.declared.geometry.Geometry.{Geometry}
 use Rattle.ex_base.proofs.Rows.{each-append, each-take, each-drop, IsRow}
-use Rattle.ex_base.proofs.Spread.{Between, evenly_row, least_parts_is, IsLeast, just_one, less_than_children, some_part, length-evenly, IsPiece, row_of_pieces, cut_count}
+use Rattle.ex_base.proofs.Spread.{plain, Between, evenly_row, least_parts_is, IsLeast, just_one, less_than_children, some_part, length-evenly, IsPiece, row_of_pieces, cut_count}
 use Rattle.trees.specs.declared.Pair.{Pair}
 use Rattle.trees.specs.declared.width.Width.TheVariants.{Wide}
 use Rattle.trees.specs.Node.{IsNode, PairsOf, HasPairFields, RiseFrom, pairs_on, node_page, total_of}
@@ -28,11 +28,12 @@ use Rattle.trees.specs.Rows.{row_bytes, row_size, row_units, row_shape, AreTrees
 use Rattle.trees.specs.Made.{Extends, Spent, AreUsed, Holds, Has, IsTaken, Took, pages_of, sizes_of}
 use Rattle.trees.specs.Built.{Built, IsCut, AreSome, even_lens}
 use Rattle.trees.proofs.Kept.{row_extends, holds_on}
-use Rattle.trees.proofs.Counts.{counted_node, counted_on, counted_same}
+use Rattle.trees.proofs.Counts.{counted_node, counted_on}
 use Rattle.trees.specs.Counted.{Counted, NamesPairs}
 use Rattle.trees.specs.Owners.{named_on}
 use Rattle.trees.specs.Names.{page_of_pair}
-use Rattle.trees.proofs.Laid.{spent_none, spent_on, extends_refl, extends_on, extends_node, took_more, has_left, has_right, plain}
+use Rattle.trees.proofs.Laid.{spent_on, extends_on, extends_node, took_more, has_left, has_right}
+pub use Rattle.trees.proofs.Sizes.{front_most as size_of_take, rest_most as size_of_drop}
 
 -- ---- pairs, one after the other
 
@@ -46,16 +47,6 @@ pairs-snoc before [] part count is =
     ap (λ (n : ℕ). let pair : Pair = record { count = n; page = part.page } in pair ∷ []) same
 pairs-snoc before (first ∷ row) part count is =
     ap (λ ps. record { count = before + first.size; page = first.page } ∷ ps) (pairs-snoc (before + first.size) row part count (omega arith))
-
-pub size_of_take : (row : List Part) (n : ℕ) → row_size (take n row) ≤ row_size row
-size_of_take row zero = omega arith
-size_of_take [] (suc n) = omega arith
-size_of_take (part ∷ row) (suc n) = omega (arith, size_of_take row n)
-
-pub size_of_drop : (row : List Part) (n : ℕ) → row_size (drop n row) ≤ row_size row
-size_of_drop row zero = omega arith
-size_of_drop [] (suc n) = omega arith
-size_of_drop (part ∷ row) (suc n) = omega (arith, size_of_drop row n)
 
 pub length-pairs_of : (before : ℕ) (row : List Part) → length (pairs_of before row) ≡ length row
 length-pairs_of before [] = refl
@@ -225,18 +216,6 @@ over_snoc u level [] [] part piece h page = (page, tt)
 over_snoc u level [] (p ∷ pieces) part piece h page = absurd h
 over_snoc u level (a ∷ above) [] part piece h page = absurd h
 over_snoc u level (a ∷ above) (p ∷ pieces) part piece h page = (h.0, over_snoc u level above pieces part piece h.1 page)
-
-pub over_start : {S : Type 0} (g : ground.Ghosts S) (a : S) (level : ℕ) (row : List Part) (lens : List ℕ) → OverSoFar g a a level row lens 0 [] 0
-over_start g a level row lens = record {
-  extends = extends_refl g a;
-  at_is = refl;
-  sizes = refl;
-  area = tt;
-  took = record { each = tt; all = λ p h. absurd (true≢false (sym h.1 ∙ h.0)) };
-  spent = spent_none g a;
-  over = λ told. tt;
-  counts = λ told l same holds names. counted_same g a;
-}
 
 -- ---- what a new node names
 

@@ -14,6 +14,8 @@ use Rattle.trees.specs.Node.{PairsOf, pairs_on, level_on}
 use Rattle.trees.proofs.NodeLaws.{spelled_reads}
 use Rattle.trees.specs.Trees.{Units, IsNamed, RootNamed, units_on, root_units, root_units_at}
 use Rattle.trees.specs.Owners.{named_on, all_named, StandsAt, IsInner, IsOwned}
+use Rattle.trees.proofs.Released.{named_owned}
+pub use Rattle.trees.proofs.Released.{some_of}
 
 -- ---- counts
 
@@ -92,10 +94,6 @@ closed_below g units p u l (pair ∷ pairs) each named has = elim (some_of (time
       let rest = closed_below g units p u l pairs each named.1 (omega (arith, has, none, times-append p (units_on units l pair.page.0) (flat_map (λ (q : Pair). units_on units l q.page.0) pairs))) in
       omega (arith, times-append u (units_on units l pair.page.0) (flat_map (λ (q : Pair). units_on units l q.page.0) pairs), rest)
 ]
-  where
-    some_of : (n : ℕ) → (1 ≤ n) ⊎ (n ≡ 0)
-    some_of zero = inr refl
-    some_of (suc n) = inl (omega arith)
 
 -- what a node of a tree names is a unit of the tree
 closed : (g : Geometry) (units : Units) (p u : ℕ) → InPageArea g p → 1 ≤ times u (named_on units p) → (l page : ℕ) → IsNamed g units l page → 1 ≤ times p (units_on units l page) → 1 ≤ times u (units_on units l page)
@@ -123,10 +121,6 @@ root_pages roots = flat_map (λ (root : Root). page_list root.page) roots
 
 abbrev pub AreNamed : Geometry → Units → List Root → Type 0
 AreNamed g units roots = AllByRecursion (λ (root : Root). RootNamed g units root.height root.page) roots
-
-pub some_of : (n : ℕ) → (1 ≤ n) ⊎ (n ≡ 0)
-some_of zero = inr refl
-some_of (suc n) = inl (omega arith)
 
 root_reaches : (units : Units) (u : ℕ) (root : Root) → 1 ≤ times u (page_list root.page) → 1 ≤ times u (root_units units root)
 root_reaches units u root some = by root.page some
@@ -201,18 +195,6 @@ module _ (g : Geometry) (units : Units) (used : ℕ → Bool) (refs : ℕ → �
 
   -- ---- what is reached is owned
 
-  node_owns : (p u : ℕ) → InPageArea g p → 1 ≤ refs p → 1 ≤ times u (named_on units p) → 1 ≤ refs u
-  node_owns p u area owned names = omega (arith, is.owners u, in_joined is.nodes (is.listed p area owned))
-    where
-      in_joined : (nodes : List ℕ) → 1 ≤ times p nodes → 1 ≤ times u (all_named units nodes)
-      in_joined [] has = absurd (omega (arith, has))
-      in_joined (q ∷ nodes) has = elim (cases_eq p q) [
-        | inl same ↦
-            let here : 1 ≤ times u (named_on units q) = subst (λ r. 1 ≤ times u (named_on units r)) same names in
-            omega (arith, times-append u (named_on units q) (all_named units nodes), here)
-        | inr differ ↦ omega (arith, times-append u (named_on units q) (all_named units nodes), in_joined nodes (omega (arith, has, times_apart p q nodes differ)))
-      ]
-
   pair_named : (u : ℕ) (pair : Pair) (pairs : List Pair) → 1 ≤ times pair.page.0 (map (λ (p : Pair). p.page.0) (pair ∷ pairs))
   pair_named u pair pairs = omega (arith, times_here pair.page.0 pair.page.0 (map (λ (p : Pair). p.page.0) pairs) refl)
 
@@ -231,7 +213,7 @@ module _ (g : Geometry) (units : Units) (used : ℕ → Bool) (refs : ℕ → �
   ]
   tree_owned (suc l) page u named owned has = elim (cases_eq u page) [
     | inl same ↦ subst (λ v. 1 ≤ refs v) (sym same) owned
-    | inr differ ↦ below_owned l u (λ q k o h. tree_owned l q u k o h) (pairs_on (units page)) named.2 (λ v k. node_owns page v named.0 owned k) (omega (arith, has, times_apart u page (flat_map (λ (pair : Pair). units_on units l pair.page.0) (pairs_on (units page))) differ))
+    | inr differ ↦ below_owned l u (λ q k o h. tree_owned l q u k o h) (pairs_on (units page)) named.2 (λ v k. named_owned g units used refs logged (root_pages roots) is page v (is.listed page named.0 owned) k) (omega (arith, has, times_apart u page (flat_map (λ (pair : Pair). units_on units l pair.page.0) (pairs_on (units page))) differ))
   ]
 
   roots_owned : (rs : List Root) → AreNamed g units rs → ((v : ℕ) → 1 ≤ times v (root_pages rs) → 1 ≤ refs v) → (u : ℕ) → 1 ≤ times u (flat_map (root_units units) rs) → 1 ≤ refs u

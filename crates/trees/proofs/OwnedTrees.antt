@@ -5,18 +5,18 @@ use Rattle.std.specs.List.{AllByRecursion}
 use Rattle.ex_base.specs.declared.geometry.Geometry.{Geometry}
 use Rattle.ex_base.specs.declared.names.PageNo.{PageNo}
 use Rattle.ex_base.specs.declared.names.Root.{Root}
-use Rattle.ex_base.specs.Area.{InPageArea, catalog_no}
+use Rattle.ex_base.specs.Area.{catalog_no}
 use Rattle.ex_base.specs.Ports.{times}
 use Rattle.ex_base.proofs.Counts.{times-append, times_here}
 use Rattle.ex_base.proofs.Each.{each_joined}
 use Rattle.trees.specs.declared.Pair.{Pair}
 use Rattle.trees.specs.Names.{page_of_pair}
 use Rattle.trees.specs.Node.{pairs_on}
-use Rattle.trees.specs.Owners.{IsOwned, named_on, page_here, root_pages}
+use Rattle.trees.specs.Owners.{IsOwned, page_here, root_pages}
 use Rattle.trees.specs.Shown.{BytesShown}
 use Rattle.trees.specs.Trees.{Units, IsNamed, RootNamed, root_units_at, units_on}
 use Rattle.trees.proofs.Owned.{AreNamed, some_of}
-use Rattle.trees.proofs.Released.{named_left}
+use Rattle.trees.proofs.Released.{named_owned}
 use Rattle.trees.proofs.KeptRoots.{RootKept, spelled_root}
 use Rattle.trees.proofs.SameUnits.{Kept}
 
@@ -26,10 +26,6 @@ root_list None = []
 root_list (Some root) = root ∷ []
 
 module _ (g : Geometry) (units : Units) (used : ℕ → Bool) (refs : ℕ → ℕ) (logged roots : List ℕ) (is : IsOwned g units used refs logged roots) where
-  -- what a node names that has an owner has one
-  pub child_owned : (p u : ℕ) → InPageArea g p → 1 ≤ refs p → 1 ≤ times u (named_on units p) → 1 ≤ refs u
-  child_owned p u area owned names = omega (arith, is.owners u, named_left units p u is.nodes (is.listed p area owned), names)
-
   -- and it is no logged page
   pub owned_apart : (u : ℕ) → 1 ≤ refs u → times u logged ≡ 0
   owned_apart u owned = elim (some_of (times u logged)) [
@@ -55,7 +51,7 @@ module _ (g : Geometry) (units : Units) (used : ℕ → Bool) (refs : ℕ → �
     tree_kept (suc l) page named owned =
         let bytes : old page ≡ units page = here page named.0.0 owned in
         let own : (u : ℕ) → 1 ≤ times u (map page_of_pair (pairs_on (old page))) → 1 ≤ refs u =
-        λ u has. child_owned page u named.0 owned (subst (λ (content : List ℕ). 1 ≤ times u (map page_of_pair (pairs_on content))) bytes has) in (
+        λ u has. named_owned g units used refs logged roots is page u (is.listed page named.0 owned) (subst (λ (content : List ℕ). 1 ≤ times u (map page_of_pair (pairs_on content))) bytes has) in (
           same page named.0.0 owned,
           each_joined (λ u. new u ≡ old u) (λ (pair : Pair). units_on old l pair.page.0) (pairs_on (old page))
               (below_kept l (λ q k o. tree_kept l q k o) (pairs_on (old page)) named.2 own),

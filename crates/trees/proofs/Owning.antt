@@ -1,14 +1,13 @@
--- A page joins the logged pages, or leaves them: the owners of trees stay as they are.
+-- A page leaves the logged pages: the owners of trees stay as they are.
 use Rattle.std.proofs.Common.{◌≡◌, ◌≢◌, inl, inr, ℕ, suc, ◌≤◌, Bool, true, false, List, [], ◌∷◌, refl, sym, ap, subst, ◌∙◌, arith, true≢false}
 use Rattle.std.specs.List.{AllByRecursion}
 use Rattle.std.proofs.lemmas.Bool.{cases_eq}
 use Rattle.ex_base.specs.declared.geometry.Geometry.{Geometry}
 use Rattle.ex_base.specs.Ports.{times}
-use Rattle.ex_base.proofs.Counts.{times-append, times_apart, times_here}
+use Rattle.ex_base.proofs.Counts.{times-append, times_here}
 use Rattle.trees.specs.Trees.{Units}
 use Rattle.trees.specs.Owners.{named_on, all_named, StandsAt, IsInner, IsOwned}
-use Rattle.trees.proofs.Owned.{some_of}
-use Rattle.trees.proofs.Released.{each_kept, named_left, stands_kept}
+use Rattle.trees.proofs.Released.{each_kept, named_owned, stands_kept}
 
 each_counted : (P Q : ℕ → Type 0) (xs : List ℕ) → ((p : ℕ) → 1 ≤ times p xs → P p → Q p) → AllByRecursion P xs → AllByRecursion Q xs
 each_counted P Q [] f all = tt
@@ -20,10 +19,6 @@ each_listed Q [] f = tt
 each_listed Q (x ∷ xs) f = (f x (omega (arith, times_here x x xs refl)), each_listed Q xs (λ p some. f p (omega (arith, some, times-append p (x ∷ []) xs))))
 
 module _ (g : Geometry) (units : Units) (used : ℕ → Bool) (refs : ℕ → ℕ) (logged roots : List ℕ) (is : IsOwned g units used refs logged roots) where
-  -- what a node names has an owner
-  child_owned : (n q : ℕ) → 1 ≤ times n is.nodes → 1 ≤ times q (named_on units n) → 1 ≤ refs q
-  child_owned n q has some = omega (arith, is.owners q, named_left units n q is.nodes has, some)
-
   module _ (later : Units) (kept : (q : ℕ) → 1 ≤ refs q → later q ≡ units q) where
     node_kept : (n : ℕ) → 1 ≤ times n is.nodes → IsInner g units n → IsInner g later n
     node_kept n has inner =
@@ -34,7 +29,7 @@ module _ (g : Geometry) (units : Units) (used : ℕ → Bool) (refs : ℕ → �
           stands = stands_kept g units later (suc inner.level) n (λ area. same) inner.stands;
           below = subst (AllByRecursion (StandsAt g later inner.level)) (sym named)
               (each_counted (StandsAt g units inner.level) (StandsAt g later inner.level) (named_on units n)
-              (λ q some at. stands_kept g units later inner.level q (λ area. kept q (child_owned n q has some)) at) inner.below);
+              (λ q some at. stands_kept g units later inner.level q (λ area. kept q (named_owned g units used refs logged roots is n q has some)) at) inner.below);
         }
 
     nodes_kept : AllByRecursion (IsInner g later) is.nodes
@@ -42,30 +37,6 @@ module _ (g : Geometry) (units : Units) (used : ℕ → Bool) (refs : ℕ → �
 
     names_kept : all_named later is.nodes ≡ all_named units is.nodes
     names_kept = each_kept units later is.nodes (each_listed (λ n. later n ≡ units n) is.nodes (λ n has. kept n (is.owned n has)))
-
-  -- a free page is taken, and is a logged page from now on
-  pub page_taken : (p : ℕ) (later : Units) (left : ℕ → Bool) → used p ≡ false → left p ≡ true → ((q : ℕ) → q ≢ p → left q ≡ used q) → ((q : ℕ) → used q ≡ true → later q ≡ units q) → IsOwned g later left refs (p ∷ logged) roots
-  page_taken p later left free taken same kept =
-      let owned_kept : (q : ℕ) → 1 ≤ refs q → later q ≡ units q = λ q some. kept q ((is.in_use q).1 (omega (arith, some))) in
-      record {
-        nodes = is.nodes;
-        inner = nodes_kept later owned_kept;
-        once = is.once;
-        owners = λ u. omega (arith, is.owners u, ap (times u) (names_kept later owned_kept));
-        listed = is.listed;
-        owned = is.owned;
-        in_use = λ u. elim (cases_eq u p) [
-          | inl e ↦ (λ yes. omega (arith, times_here u p logged e), λ some. ap left e ∙ taken)
-          | inr d ↦ (λ yes. omega (arith, times_apart u p logged d, (is.in_use u).0 (sym (same u d) ∙ yes)), λ some. same u d ∙ (is.in_use u).1 (omega (arith, some, times_apart u p logged d)))
-        ];
-        apart = λ page has. elim (cases_eq page p) [
-          | inl e ↦ elim (some_of (refs page)) [
-            | inl some ↦ absurd (true≢false (sym ((is.in_use page).1 (omega (arith, some))) ∙ ap used e ∙ free))
-            | inr none ↦ none
-          ]
-          | inr d ↦ is.apart page (omega (arith, has, times_apart page p logged d))
-        ];
-      }
 
   -- a logged page is given back, and is free from now on
   pub page_given : (p : ℕ) (later : Units) (left : ℕ → Bool) (rest : List ℕ) → 1 ≤ times p logged → times p rest ≡ 0 → ((q : ℕ) → q ≢ p → times q rest ≡ times q logged) → left p ≡ false → ((q : ℕ) → q ≢ p → left q ≡ used q)

@@ -13,10 +13,6 @@ use Rattle.trees.specs.Node.{count_len, pair_len, pair_bytes, pair_at, read_pair
 
 -- ---- widths
 
-pub short_pair : (w : Width) → pair_len w ≤ 12
-short_pair Narrow = omega arith
-short_pair Wide = omega arith
-
 pub some_pair : (w : Width) → 8 ≤ pair_len w
 some_pair Narrow = omega arith
 some_pair Wide = omega arith

@@ -1,5 +1,5 @@
 -- An owner is taken away.
-use Rattle.std.proofs.Common.{◌≡◌, ◌≢◌, ◌↔◌, inl, inr, ℕ, zero, suc, ◌+◌, ◌≤◌, Bool, true, false, List, [], ◌∷◌, ◌++◌, refl, sym, ap, subst, ◌∙◌, arith, true≢false}
+use Rattle.std.proofs.Common.{◌≡◌, ◌≢◌, ◌↔◌, ◌⊎◌, inl, inr, ℕ, zero, suc, ◌+◌, ◌≤◌, Bool, true, false, List, [], ◌∷◌, ◌++◌, refl, sym, ap, subst, ◌∙◌, arith, true≢false}
 use Rattle.std.specs.List.{AllByRecursion}
 use Rattle.std.proofs.lemmas.Bool.{cases_eq}
 use Rattle.ex_base.specs.declared.geometry.Geometry.{Geometry}
@@ -9,7 +9,11 @@ use Rattle.ex_base.proofs.Counts.{times-append, times_apart, times_here}
 use Rattle.trees.specs.Node.{PairsOf, pairs_on}
 use Rattle.trees.specs.Trees.{Units}
 use Rattle.trees.specs.Owners.{named_on, all_named, StandsAt, IsInner, IsOwned}
-use Rattle.trees.proofs.Owned.{some_of}
+
+-- a count is one or more, or none
+pub some_of : (n : ℕ) → (1 ≤ n) ⊎ (n ≡ 0)
+some_of zero = inr refl
+some_of (suc n) = inl (omega arith)
 
 -- the first of a number in a list taken out
 abbrev pub without_one : ℕ → List ℕ → List ℕ
@@ -43,6 +47,10 @@ named_left units p u (n ∷ nodes) some = elim (cases_eq p n) as (λ c. times u 
   | inl same ↦ omega (arith, times-append u (named_on units n) (all_named units nodes), ap (λ q. times u (named_on units q)) same)
   | inr other ↦ omega (arith, times-append u (named_on units n) (all_named units nodes), times-append u (named_on units n) (all_named units (without_one p nodes)), named_left units p u nodes (omega (arith, some, times_apart p n nodes other)))
 ]
+
+-- what a node that stands there names has an owner
+pub named_owned : (g : Geometry) (units : Units) (used : ℕ → Bool) (refs : ℕ → ℕ) (logged roots : List ℕ) (is : IsOwned g units used refs logged roots) (n u : ℕ) → 1 ≤ times n is.nodes → 1 ≤ times u (named_on units n) → 1 ≤ refs u
+named_owned g units used refs logged roots is n u stands names = omega (arith, is.owners u, named_left units n u is.nodes stands, names)
 
 -- ---- units that are kept where nodes are
 

@@ -1,6 +1,6 @@
 -- One level more of roots.
-use Rattle.std.proofs.Common.{◌≡◌, ◌⊎◌, ℕ, zero, suc, ◌-◌, ◌<◌, ◌≤◌, List, [], ◌∷◌, ◌++◌, length, true, Some, refl, sym, ap, subst, ◌∙◌, arith, inl, inr, true≢false}
-use Rattle.std.proofs.lemmas.List.{length-map}
+use Rattle.std.proofs.Common.{◌≡◌, ◌⊎◌, ℕ, zero, suc, ◌-◌, ◌<◌, ◌≤◌, List, [], ◌∷◌, length, true, Some, refl, sym, ap, subst, ◌∙◌, arith, inl, inr, true≢false}
+use Rattle.std.proofs.lemmas.List.{append-nil, length-map}
 use Rattle.std.proofs.lemmas.Bool.{cases_Bool}
 use Rattle.std.specs.List.{AllByRecursion}
 use Rattle.ex_base.specs.declared.names.Root.{Root}
@@ -125,20 +125,16 @@ root_here g a level l row tree same is h =
     (subst (λ r. Holds g a l r → IsRooted g a a l r (record { height = l; page = Some tree.page; size = tree.size })) (sym is) (λ held. record {
       named = held.trees.0.0;
       sized = held.trees.0.1;
-      bytes = sym (append_nil (bytes_on (g.unit a) l tree.page.0 tree.size));
+      bytes = sym (append-nil (bytes_on (g.unit a) l tree.page.0 tree.size));
       shape = λ levels le. sym (rooted_one (g.geometry a).fan levels l (shape_on (g.unit a) l tree.page.0 tree.size));
       units = record {
-        own = subst (λ us. AllByRecursion (λ p. IsTaken g a a p ⊎ Has us p) (units_on (g.unit a) l tree.page.0)) (sym (append_nil (units_on (g.unit a) l tree.page.0)))
+        own = subst (λ us. AllByRecursion (λ p. IsTaken g a a p ⊎ Has us p) (units_on (g.unit a) l tree.page.0)) (sym (append-nil (units_on (g.unit a) l tree.page.0)))
             (each_as (λ p. Has (units_on (g.unit a) l tree.page.0) p) _ (units_on (g.unit a) l tree.page.0) (λ p x. inr x) (all_has (units_on (g.unit a) l tree.page.0)));
         all = λ p t. absurd (true≢false (sym t.1 ∙ t.0));
         counts = λ names. counted_same g a;
       };
-      stay = λ p x. subst (λ us. Has us p) (append_nil (units_on (g.unit a) l tree.page.0)) x;
+      stay = λ p x. subst (λ us. Has us p) (append-nil (units_on (g.unit a) l tree.page.0)) x;
     }) h)
-  where
-    append_nil : (xs : List ℕ) → xs ++ [] ≡ xs
-    append_nil [] = refl
-    append_nil (x ∷ xs) = ap (λ ys. x ∷ ys) (append_nil xs)
 
 pub root_above : {S : Type 0} (g : ground.Ghosts S) (a b c : S) (l : ℕ) (row above : List Part) (root : Root) → 2 ≤ length row → Extends g a b → Extends g b c → Took g a b (pages_of above)
     → length above < length row → Holds g a l row → Built g b l (even_lens (g.geometry a).fan (length row)) row above → (NamesPairs g → Counted g a b) → IsRooted g b c (suc l) above root → IsRooted g a c l row root

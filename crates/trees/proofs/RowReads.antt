@@ -21,18 +21,13 @@ use Rattle.trees.proofs.SpanLaws.{span_trees, span_bytes}
 use Rattle.trees.proofs.Blame.{any_at}
 use Rattle.trees.specs.Rows.{row_bytes, row_size, parts_of, AreTrees}
 use Rattle.trees.proofs.TreeLaws.{AreWhole}
-use Rattle.trees.proofs.Reading.{no_part, row_trees, row_spells, part_of_front, trees_back, bytes_back}
+use Rattle.trees.proofs.Reading.{no_part, row_trees, row_spells, trees_back, bytes_back}
 use Rattle.trees.proofs.Sizes.{around_row, size-front}
 use Rattle.trees.proofs.Laid.{row_length}
 use Rattle.trees.proofs.Over.{bytes_app}
 use Rattle.trees.proofs.Ways.{way_index, way_kept}
 
 -- ---- one tree
-
-pub leaf_read : (u : Units) (level : ℕ) (tree : Part) (pos len : ℕ) (out : List ℕ) → level ≡ 0 → pos + len ≤ tree.size → out ≡ take len (drop pos (u tree.page.0)) → out ≡ take len (drop pos (row_bytes u level (tree ∷ [])))
-leaf_read u zero tree pos len out low fits is =
-    is ∙ sym (part_of_front (u tree.page.0) pos len tree.size fits) ∙ ap (λ xs. take len (drop pos xs)) (sym (append-nil (take tree.size (u tree.page.0))))
-leaf_read u (suc l) tree pos len out low fits is = absurd (omega arith)
 
 pub node_read : {S : Type 0} (g : ground.Ghosts S) (a b : S) (l least : ℕ) (tree : Part) (trees lent : List Part) (pos len inside : ℕ) (out : List ℕ) → g.ready a → l ≢ 0 → lent ≡ trees → Keeps g a b
     → (g.tells a → IsNodeAt (g.geometry a) (g.unit a) l tree.size least tree.page.0)

@@ -5,7 +5,7 @@ use Rattle.ex_base.specs.declared.geometry.Geometry.{Geometry}
 use Rattle.ex_base.proofs.Each.{split_each}
 use Rattle.trees.specs.declared.Pair.{Pair}
 use Rattle.trees.specs.Node.{PairsOf, pairs_on, total_of}
-use Rattle.trees.specs.Trees.{Units, for_each_child, EachChild, IsNamed, HasSize, bytes_on, shape_on, units_on, Spells}
+use Rattle.trees.specs.Trees.{Units, for_each_child, EachChild, IsNamed, HasSize, bytes_on, shape_on, units_on}
 
 -- these units are as they were
 abbrev pub Kept : Units → Units → List ℕ → Type 0
@@ -79,11 +79,3 @@ sized_same g old new zero page n kept sized = sized
 sized_same g old new (suc l) page n kept sized =
     let below = each_child_same old new l 0 (HasSize g old l) (HasSize g new l) (pairs_on (old page)) (λ p m k h. sized_same g old new l p m k h) (each_kept old new l (pairs_on (old page)) kept.1) sized.1 in
     subst (λ (bytes : List ℕ). (total_of (pairs_on bytes) ≡ n) × EachChild (HasSize g new l) 0 (pairs_on bytes)) (sym kept.0) (sized.0, below)
-
--- a tree whose units are kept spells its bytes as before
-pub spells_same : (g : Geometry) (old new : Units) (l page n : ℕ) (bytes : List ℕ) → Kept old new (units_on old l page) → Spells g old l page n bytes → Spells g new l page n bytes
-spells_same g old new l page n bytes kept h = record {
-  named = named_same g old new l page kept h.named;
-  sized = sized_same g old new l page n kept h.sized;
-  spelled = h.spelled ∙ sym (bytes_same old new l page n kept);
-}

@@ -1,5 +1,5 @@
 -- Where trees are well formed, balanced, and none of their nodes is the catalog's page, a walk finds each page as what names it.
-use Rattle.std.proofs.Common.{◌≡◌, ◌≢◌, ◌⊎◌, inl, inr, ℕ, zero, suc, ◌-◌, ◌≤◌, List, [], ◌∷◌, ◌++◌, Option, Some, None, length, refl, sym, ap, subst, ◌∙◌, arith}
+use Rattle.std.proofs.Common.{◌≡◌, ◌≢◌, ◌⊎◌, inl, inr, ℕ, zero, suc, ◌-◌, ◌≤◌, List, [], ◌∷◌, Option, Some, None, length, refl, sym, ap, subst, ◌∙◌, arith}
 use Rattle.std.specs.List.{AllByRecursion, flat_map}
 use Rattle.std.proofs.lemmas.List.{append-nil}
 use Rattle.ex_base.specs.declared.faults.PortFault.{PortFault}
@@ -21,7 +21,7 @@ use Rattle.trees.specs.Damage.{elsewhere, outside, other, unfilled, IsNodeFault,
 use Rattle.ex_base.specs.Seen.{node_seen}
 use Rattle.ex_base.proofs.Each.{split_each}
 use Rattle.trees.proofs.Parts.{narrow}
-use Rattle.trees.proofs.Reading.{children_trees}
+use Rattle.trees.proofs.Reading.{children_trees, children_units}
 
 -- a node of at least so many trees, each at least half full
 abbrev pub HasEnough : ℕ → ℕ → ℕ → (h : ℕ) → Subtree h → Type 0
@@ -89,12 +89,7 @@ children_enough geo u l before [] all = tt
 children_enough geo u l before (pair ∷ pairs) all = (half_full_enough geo.fan (leaf_bytes geo) l (shape_on u l pair.page.0 (pair.count - before)) all.0, children_enough geo u l pair.count pairs all.1)
 
 children_avoid : (f : ℕ → List ℕ) (before : ℕ) (pairs : List Pair) → AvoidsCatalog (flat_map (λ (pair : Pair). f pair.page.0) pairs) → AvoidsCatalog (flat_map (λ (part : Part). f part.page.0) (parts_of before pairs))
-children_avoid f before [] all = all
-children_avoid f before (pair ∷ pairs) all = subst AvoidsCatalog (ap (λ us. f pair.page.0 ++ us) (same f pair.count pairs)) all
-  where
-    same : (f : ℕ → List ℕ) (before : ℕ) (pairs : List Pair) → flat_map (λ (pair : Pair). f pair.page.0) pairs ≡ flat_map (λ (part : Part). f part.page.0) (parts_of before pairs)
-    same f before [] = refl
-    same f before (pair ∷ pairs) = ap (λ us. f pair.page.0 ++ us) (same f pair.count pairs)
+children_avoid f before pairs all = subst AvoidsCatalog (children_units f before pairs) all
 
 each_node_good : (geo : Geometry) (u : Units) (l least : ℕ) (row : List Part) (fault : PortFault) → AreTrees geo u (suc l) row → HaveEnough geo u (suc l) least row → AvoidsCatalog (row_units u (suc l) row) → IsDamage fault
     → ((below : List Part) → AreTrees geo u l below → HaveEnough geo u l geo.fan below → AvoidsCatalog (row_units u l below) → IsWalkFault geo u l geo.fan below fault → ⊥)

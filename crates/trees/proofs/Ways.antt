@@ -1,5 +1,5 @@
 -- Sound ways down from a row: to parts of it, and from the children of its trees.
-use Rattle.std.proofs.Common.{◌≡◌, ◌≢◌, ℕ, zero, suc, ◌+◌, ◌-◌, ◌<◌, ◌≤◌, min, inl, inr, List, [], ◌∷◌, ◌++◌, length, take, get_or, refl, sym, subst, ◌∙◌, arith}
+use Rattle.std.proofs.Common.{◌≡◌, ◌≢◌, ℕ, zero, suc, ◌+◌, ◌-◌, ◌<◌, ◌≤◌, inl, inr, List, [], ◌∷◌, ◌++◌, length, take, get_or, refl, subst, arith}
 use Rattle.ex_base.specs.Ports.{Keeps}
 use Rattle.ex_base.specs.declared.ground.Ground as ground
 use Rattle.ex_base.specs.declared.geometry.Geometry.{Geometry}
@@ -9,8 +9,7 @@ use Rattle.trees.specs.declared.rows.Part.{Part}
 use Rattle.trees.specs.Rows.{parts_of, row_size, IsFilled, IsRowOn}
 use Rattle.trees.specs.Damage.{NamesNode, AtTree, IsSoundWay}
 use Rattle.std.proofs.lemmas.Bool.{cases_lt}
-use Rattle.std.proofs.lemmas.List.{length-take-le}
-use Rattle.trees.proofs.Reading.{no_part, first_of, rest_of, split_row, left_over, later}
+use Rattle.trees.proofs.Reading.{no_part}
 
 -- ---- parts of a row
 
@@ -75,9 +74,6 @@ module _ (geo : Geometry) (u : Units) (leaf : ℕ → Type 0) where
   way_back zero least xs ys f t far h = at_back _ xs ys f t far h
   way_back (suc l) least xs ys f t far h = at_back _ xs ys f t far h
 
-  pub way_none : (l least f t : ℕ) → IsSoundWay geo u leaf l least [] f t
-  way_none l least f t = way_past l least [] f t (omega arith)
-
   -- the rows before, at and behind a part of a row
   pub way_inside : (l least : ℕ) (xs ys zs : List Part) (f t : ℕ) → row_size xs ≤ f → row_size xs ≤ t → f < row_size xs + row_size ys → IsSoundWay geo u leaf l least ys (f - row_size xs) (t - row_size xs) → IsSoundWay geo u leaf l least (xs ++ (ys ++ zs)) f t
   way_inside l least xs ys zs f t from to inside h =
@@ -103,11 +99,6 @@ module _ (geo : Geometry) (u : Units) (leaf : ℕ → Type 0) where
     | inl inside ↦ way_one level least part below f t above area on filled (h inside)
     | inr past ↦ way_past level least (part ∷ []) f t (omega arith)
   ]
-
-  -- a leaf
-  pub way_leaf : (level least : ℕ) (part : Part) (f t : ℕ) → level ≡ 0 → leaf part.page.0 → IsSoundWay geo u leaf level least (part ∷ []) f t
-  way_leaf zero least part f t low h = (λ inside. h, λ behind. tt)
-  way_leaf (suc l) least part f t low h = absurd (omega arith)
 
   -- where each page will do
   pub way_any : (level least : ℕ) (row : List Part) (f t : ℕ) → level ≡ 0 → ((p : ℕ) → leaf p) → IsSoundWay geo u leaf level least row f t
@@ -141,18 +132,6 @@ module _ (geo : Geometry) (u : Units) (leaf : ℕ → Type 0) where
       (λ far. way_index level least row i (f - (x.size + 0)) (t - (x.size + 0)) (omega arith) (omega arith) (omega arith) (omega arith)
       (way_move level least (get_or row i no_part ∷ []) (f - (x.size + row_size (take i row))) (t - (x.size + row_size (take i row))) (f - (x.size + 0) - row_size (take i row)) (t - (x.size + 0) - row_size (take i row)) (omega arith) (omega arith) h))
 
--- ---- ranges that are read in two parts
-
--- a byte of the first part
-pub front_near : (out : List ℕ) (n pos at size : ℕ) → n ≡ min (length out) (size - pos) → at < pos + length out → at < size → at < pos + length (take n out)
-front_near out n pos at size is high inside = omega (arith, length-take-le n out (omega arith))
-
--- a byte of the second part
-pub left_far : (out p : List ℕ) (n pos at size : ℕ) → n ≡ min (length out) (size - pos) → length p ≡ length (take n out) → pos < size → size ≤ at → at < pos + length out → at - size < 0 + later n p out
-left_far out p n pos at size is len inside far high =
-    let front : length (take n out) ≡ n = length-take-le n out (omega arith) in
-    omega (arith, left_over out p n (omega arith) (len ∙ front))
-
 -- ---- over a port
 
 -- a way in a later state that keeps the units
@@ -161,11 +140,3 @@ pub way_kept : {S : Type 0} (g : ground.Ghosts S) (leaf : Geometry → ℕ → T
 way_kept g leaf a b level least row f t k later told =
     subst (λ units. IsSoundWay (g.geometry a) units (leaf (g.geometry a)) level least row f t) k.units
     (subst (λ geo. IsSoundWay geo (g.unit b) (leaf geo) level least row f t) (g.leads_geometry a b k.leads) (later (g.leads_told a b k.leads told)))
-
--- the first tree of a row, and the others
-pub way_split : (geo : Geometry) (u : Units) (leaf : ℕ → Type 0) (level least : ℕ) (row : List Part) (f t : ℕ) → 1 ≤ length row → IsSoundWay geo u leaf level least (first_of row ∷ []) f t
-    → ((first_of row).size ≤ f → IsSoundWay geo u leaf level least (rest_of row) (f - (first_of row).size) (t - (first_of row).size)) → IsSoundWay geo u leaf level least row f t
-way_split geo u leaf level least row f t some here rest =
-    subst (λ r. IsSoundWay geo u leaf level least r f t) (sym (split_row row some))
-    (way_append geo u leaf level least (first_of row ∷ []) (rest_of row) f t here
-    (λ far. way_move geo u leaf level least (rest_of row) (f - (first_of row).size) (t - (first_of row).size) (f - ((first_of row).size + 0)) (t - ((first_of row).size + 0)) (omega arith) (omega arith) (rest (omega arith))))

@@ -16,7 +16,7 @@ pub fn names_len(page: &[u8]) -> usize
     (get_u16(page, LEN_AT) as usize).min(room)
 }
 
-/// The unit that a page names at an index. How wide its counts are is looked at once for all of them.
+/// The unit that a page names at an index, where its counts are so wide.
 pub fn name_at(page: &[u8], width: Width, index: usize) -> PageNo
     requires index { index < length (names_on page.now) }
     requires width { width ≡ width_on page.now }

@@ -1,9 +1,9 @@
 //! How an insert or an append lays its bytes out over leaves. Leaves hold bytes alone; how many each holds is fixed by these plans. No call takes
 //! memory.
-ghost use Rattle.std.specs.Prelude.{◌≡◌, ◌+◌, ◌*◌, ◌^◌, ◌<◌, ◌≤◌, slice_index, unwrap_or, false, [], ◌∷◌};
+ghost use Rattle.std.specs.Prelude.{◌≡◌, ◌+◌, ◌*◌, ◌<◌, ◌≤◌, slice_index, unwrap_or, false, [], ◌∷◌};
 ghost use Rattle.ex_base.specs.Even.{least_parts};
 ghost use Rattle.ex_base.specs.Sizes.{object_most};
-ghost use Rattle.trees.specs.Layout.{layout_of, spread, left_or_spread, right_or_spread, overflowing, insert_layout, overflowing_last, append_layout, in_place, filled};
+ghost use Rattle.trees.specs.Layout.{layout_of, spread, left_or_spread, right_or_spread, insert_layout, append_layout, in_place, filled};
 ghost use Rattle.trees.specs.Plans.{IsPlan};
 
 use crate::split::even_part;

@@ -1,6 +1,5 @@
 //! Rows: trees of one level side by side.
-ghost use Rattle.std.specs.Prelude.{◌≡◌, ◌≤◌, ◌<◌, ◌+◌, ◌*◌, ◌++◌, ◌∷◌, ◌↔◌, [], length, take, drop, IfOk, IfErr, OnOk, IsTrue, ℕ};
-ghost use Rattle.ex_base.specs.Area.{NamesLeaf};
+ghost use Rattle.std.specs.Prelude.{◌≡◌, ◌≤◌, ◌<◌, ◌+◌, ◌++◌, ◌∷◌, ◌↔◌, [], length, take, drop, IfOk, IfErr, OnOk, IsTrue, ℕ};
 ghost use Rattle.ex_base.specs.Ports.{Keeps, HasCause};
 ghost use Rattle.trees.specs.Damage.{NamesNode, IsNodeFault};
 ghost use Rattle.trees.specs.Rows.{IsCounted, IsRowOn};

@@ -1,3 +1,4 @@
+//! How many pairs stand in each node.
 ghost use Rattle.std.specs.Prelude.{◌≡◌, ◌<◌, ◌≤◌, ◌*◌, slice_index};
 ghost use Rattle.ex_base.specs.Even.{evenly};
 ghost use Rattle.trees.specs.Split.{nodes_for};

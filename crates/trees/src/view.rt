@@ -1,4 +1,5 @@
-ghost use Rattle.std.specs.Prelude.{◌≡◌, ℕ, ◌+◌, ◌-◌, ◌*◌, ◌<◌, ◌≤◌, List, length, slice_get, IfSome, IfNone, IsTrue};
+//! A node as it is read, without a copy.
+ghost use Rattle.std.specs.Prelude.{◌≡◌, ℕ, ◌+◌, ◌-◌, ◌*◌, ◌<◌, ◌≤◌, List, length, slice_get, IfSome, IfNone};
 ghost use Rattle.trees.specs.declared.Pair.{Pair};
 ghost use Rattle.trees.specs.Node.{Node, node_on, pair_len, width_on, pairs_on, PairsOf, total_of, counts_of, start_of, IsFirst, RiseFrom};
 

@@ -4,9 +4,9 @@ use Rattle.std.proofs.Common.{length, ◌∙◌, ◌+◌, ◌++◌, ℕ, List, t
 use Rattle.trees.specs.Made.{Stays}
 use Rattle.std.proofs.lemmas.Result.{IfErr-weaker, on_ok_weaker}
 use Rattle.trees.specs.Rows.{row_bytes}
-use Rattle.trees.proofs.Reading.{later}
+use Rattle.trees.proofs.Reading.{later, trees_back}
 use Rattle.trees.proofs.Kept.{leaves_back}
-use Rattle.trees.proofs.Laid.{fill_front, fill_way, leaves_way, same_bytes, same_trees, row_length}
+use Rattle.trees.proofs.Laid.{fill_front, fill_way, leaves_way, same_bytes, row_length}
 use Rattle.trees.proofs.leaves.fill.Goals as goal
 
 pub returns-clause-bytes : goal.returns-clause-bytes
@@ -18,7 +18,7 @@ returns-clause-bytes g c =
     fill_front c.args.given.now (row_bytes (g.B.Ground.unit c.args.blocks.now) 0 c.args.run.now) c.args.out.now c.read_row.new.out c.fill_behind.new.out c.min-n.result c.saturating_sub.result c.saturating_sub-inside.result c.args.change.at c.args.change.cut c.args.at
     c.min-n.ensures c.saturating_sub.ensures c.saturating_sub-inside.ensures (omega (arith, row_length (b.geometry c.args.blocks.now) (b.unit c.args.blocks.now) 0 c.args.run.now (b.whole c.args.blocks.now c.requires.ready told) trees, c.requires.change))
     (search rules) (c.in_ok-read_row.ensures.bytes told trees)
-    (read (b.leads_told c.args.blocks.now c.read_row.new.blocks c.in_ok-read_row.ensures.kept.leads told) (same_trees b c.args.blocks.now c.read_row.new.blocks 0 c.args.run.now c.in_ok-read_row.ensures.kept trees)
+    (read (b.leads_told c.args.blocks.now c.read_row.new.blocks c.in_ok-read_row.ensures.kept.leads told) (trees_back b c.args.blocks.now c.read_row.new.blocks 0 c.args.run.now c.in_ok-read_row.ensures.kept trees)
     ∙ ap (λ (xs : List ℕ). take (later c.min-n.result c.read_row.new.out c.args.out.now) (drop c.saturating_sub-inside.result (c.args.given.now ++ drop (c.args.change.at + c.args.change.cut) xs))) (same_bytes b c.args.blocks.now c.read_row.new.blocks 0 c.args.run.now c.in_ok-read_row.ensures.kept))) c.fill_behind.ensures.bytes
 
 pub returns-clause-fault : goal.returns-clause-fault
