@@ -1,7 +1,6 @@
 -- Which fault tells what is read of an index page, and what such a fault is on the way to a key.
 use Rattle.std.proofs.Common.{◌≡◌, ◌≢◌, ◌-◌, ◌≤◌, ◌⊎◌, inl, inr, ℕ, zero, suc, Bool, false, List, [], ◌∷◌, length, Option, Some, refl, sym, ap, subst, ◌∙◌, sub-one}
 use Rattle.std.specs.Prelude.{slice_get}
-use Rattle.ex_base.specs.Ports.{IsDamage}
 use Rattle.ex_base.specs.declared.faults.Seen.{Seen}
 use Rattle.ex_base.specs.declared.faults.PortFault.{PortFault}
 use Rattle.ex_base.specs.declared.faults.PortFault.TheVariants.{Disk, Memory, Damaged}
@@ -57,12 +56,6 @@ shown bytes least v level key entry got on level_is entry_is key_is is =
     is ∙ ap (λ (l : ℕ). seen l key) level_on_is ∙ ap (seen (level_on bytes)) (key_is ∙ ap (key_seen least) first)
 
 -- ---- the way
-
--- a fault that is no damage
-pub no_way : (g : Geometry) (held : ℕ → Bool) (image : ℕ → List ℕ) (file_no key level : ℕ) (least : Option ℕ) (page : ℕ) (fault : PortFault) → (IsDamage fault → ⊥) → IsWayFault g held image file_no key level least page fault
-no_way g held image file_no key level least page Disk h = tt
-no_way g held image file_no key level least page Memory h = tt
-no_way g held image file_no key level least page (Damaged at want got) h = absurd (h tt)
 
 -- the fault of a page itself
 pub way_here : (g : Geometry) (held : ℕ → Bool) (image : ℕ → List ℕ) (file_no key level : ℕ) (least : Option ℕ) (page : ℕ) (fault : PortFault) → level ≢ 0 → IsPageFault g held (image page) level file_no least page fault

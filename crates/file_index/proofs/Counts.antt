@@ -143,7 +143,3 @@ module _ {S : Type 0} (g : ground.Ghosts S) where
     leaves = change.leaves;
     leads = change.leads;
   }
-
--- what the working state has, it still has where as many pages are left
-pub stays_held : {S : Type 0} (g : ground.Ghosts S) (a b : S) (before after : List ℕ) (page : ℕ) → Changes g a b before after → times page before ≤ times page after → g.held a page ≡ true → g.held b page ≡ true
-stays_held g a b before after page changes le held = is_counted (g.held b page) (omega (arith, changes.counted page, le, count_is (g.held a page) held))

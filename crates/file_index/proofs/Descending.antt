@@ -1,6 +1,6 @@
 -- From the entries of an index page to the entry that a key leads to, its page, and back.
 use Rattle.std.proofs.Common.{◌≡◌, ◌≤◌, ◌+◌, ◌/◌, ℕ, suc, true, List, [], ◌∷◌, ◌++◌, length, take, drop, Option, Some, refl, sym, ap, subst, arith}
-use Rattle.std.specs.Prelude.{slice_index_or}
+use Rattle.std.specs.Prelude.{slice_index_or, option_to_list}
 use Rattle.ex_base.specs.declared.ground.Ground as ground
 use Rattle.ex_base.specs.declared.geometry.Geometry.{Geometry}
 use Rattle.ex_base.specs.Ports.{Keeps}
@@ -9,7 +9,7 @@ use Rattle.file_index.specs.declared.Entry.{Entry}
 use Rattle.file_index.specs.IndexPage.{entries_on, most_entries}
 use Rattle.file_index.specs.Changes.{Changes}
 use Rattle.file_index.specs.Index.{IsFilesPage, IsNamed}
-use Rattle.file_index.specs.Nodes.{heads, entries_of, first_key, Stored, IsPlace}
+use Rattle.file_index.specs.Nodes.{heads, first_key, Stored, IsPlace}
 use Rattle.file_index.specs.Edits.{IsRow, Becomes}
 use Rattle.file_index.proofs.Closing.{row_rises}
 use Rattle.file_index.proofs.Lists.{IsLocal}
@@ -49,11 +49,11 @@ module _ {S : Type 0} (g : ground.Ghosts S) (a : S) (file_no l m key : ℕ) (ent
 
     -- they were written over the child's page, or that and a second one
     pub written_below : (c d : S) (edit : List ℕ → List ℕ) (N now : List Entry) (first : Entry) (second : Option Entry) → IsLocal key edit → IsRow g a file_no l entries → Becomes g b c file_no m edit es N
-        → Changes g c d (child.page.0 ∷ []) (child.page.0 ∷ heads (entries_of second)) → Stored g d child.page.0 l file_no N second → most_entries (g.geometry a).page_size / 2 ≤ length N
-        → first.page.0 ≡ child.page.0 → first.key ≡ first_key N → now ≡ take at entries ++ ((first ∷ entries_of second) ++ drop (at + 1) entries) → Becomes g a d file_no l edit entries now
+        → Changes g c d (child.page.0 ∷ []) (child.page.0 ∷ heads (option_to_list second)) → Stored g d child.page.0 l file_no N second → most_entries (g.geometry a).page_size / 2 ≤ length N
+        → first.page.0 ≡ child.page.0 → first.key ≡ first_key N → now ≡ take at entries ++ ((first ∷ option_to_list second) ++ drop (at + 1) entries) → Becomes g a d file_no l edit entries now
     written_below c d edit N now first second local row below changes stored half same_page same_key is =
         let leads = g.leads_trans a b d kept.leads (g.leads_trans b c d below.changes.leads changes.leads) in
         let enough : most_entries (g.geometry d).page_size / 2 ≤ length N = subst (λ (y : Geometry). most_entries y.page_size / 2 ≤ length N) (sym (g.leads_geometry a d leads)) half in
         let n = news g d child.page.0 l file_no first second N stored (row_rises g c file_no m N below.row) enough same_page same_key in
         let becomes = child_written g a b c d file_no l m edit child first second es N (child_is row) below changes same_page n in
-        replaced_at g a file_no l d key edit entries (first ∷ entries_of second) now at child local row (here row) becomes is
+        replaced_at g a file_no l d key edit entries (first ∷ option_to_list second) now at child local row (here row) becomes is

@@ -1,6 +1,6 @@
 -- Two entries side by side whose pages were written together, since one of them had too few entries.
 use Rattle.std.proofs.Common.{◌≡◌, ◌≢◌, ◌≤◌, ◌<◌, ◌+◌, ◌-◌, ◌/◌, ℕ, zero, suc, Bool, true, false, List, [], ◌∷◌, ◌++◌, length, take, drop, Option, Some, refl, sym, ap, subst, ◌∙◌, arith}
-use Rattle.std.specs.Prelude.{slice_index_or, ◌==◌, if◌then◌else◌}
+use Rattle.std.specs.Prelude.{slice_index_or, ◌==◌, if◌then◌else◌, option_to_list}
 use Rattle.std.proofs.lemmas.List.{append-nil}
 use Rattle.std.proofs.lemmas.List.Concat.{flat_map-append}
 use Rattle.ex_base.specs.declared.ground.Ground as ground
@@ -12,7 +12,7 @@ use Rattle.file_index.specs.IndexPage.{entries_on, most_entries}
 use Rattle.file_index.specs.declared.spreading.Pair.{Pair}
 use Rattle.file_index.specs.Changes.{Changes}
 use Rattle.file_index.specs.Index.{IsFilesPage, IsNamed, Rises, keys_under}
-use Rattle.file_index.specs.Nodes.{heads, entries_of, first_key, joined, thin_of, beside_of, Stored, IsPlace}
+use Rattle.file_index.specs.Nodes.{heads, first_key, joined, thin_of, beside_of, Stored, IsPlace}
 use Rattle.file_index.specs.Edits.{keys_among, pages_among, IsRow, Becomes, take_out}
 use Rattle.file_index.proofs.Closing.{row_rises}
 use Rattle.file_index.proofs.Context.{replaced, keys_split, pages_split}
@@ -231,19 +231,19 @@ module _ {S : Type 0} (g : ground.Ghosts S) (a : S) (file_no m key : ℕ) (pair 
       pub pages_differ : pair.left.page.0 ≢ pair.right.page.0
       pages_differ = known.differ
 
-      pub mended : (c : S) (first : Entry) (second : Option Entry) (now : List Entry) → Changes g b c (pair.left.page.0 ∷ pair.right.page.0 ∷ []) (pair.left.page.0 ∷ heads (entries_of second))
+      pub mended : (c : S) (first : Entry) (second : Option Entry) (now : List Entry) → Changes g b c (pair.left.page.0 ∷ pair.right.page.0 ∷ []) (pair.left.page.0 ∷ heads (option_to_list second))
           → Stored g c pair.left.page.0 l file_no (joined pair.thin_is_left N (entries_on (g.image b (beside_of pair).page.0))) second
           → most_entries (g.geometry b).page_size / 2 ≤ length (joined pair.thin_is_left N (entries_on (g.image b (beside_of pair).page.0)))
           → first.page.0 ≡ pair.left.page.0 → first.key ≡ first_key (joined pair.thin_is_left N (entries_on (g.image b (beside_of pair).page.0)))
-          → now ≡ A ++ ((first ∷ entries_of second) ++ B) → Becomes g a c file_no l (take_out key) entries now
+          → now ≡ A ++ ((first ∷ option_to_list second) ++ B) → Becomes g a c file_no l (take_out key) entries now
       mended c first second now changes stored half same_page same_key now_is =
           let enough : most_entries (g.geometry c).page_size / 2 ≤ length (joined pair.thin_is_left N (entries_on (g.image b (beside_of pair).page.0))) =
           subst (λ (y : Geometry). most_entries y.page_size / 2 ≤ length (joined pair.thin_is_left N (entries_on (g.image b (beside_of pair).page.0)))) (sym (g.leads_geometry b c changes.leads)) half in
           let n = news g c pair.left.page.0 l file_no first second (joined pair.thin_is_left N (entries_on (g.image b (beside_of pair).page.0))) stored
           (row_rises g b file_no m (joined pair.thin_is_left N (entries_on (g.image b (beside_of pair).page.0))) both.row) enough same_page same_key in
-          let write : Changes g b c (heads (pair.left ∷ pair.right ∷ [])) (heads (first ∷ entries_of second)) =
-          subst (λ (p : ℕ). Changes g b c (pair.left.page.0 ∷ pair.right.page.0 ∷ []) (p ∷ heads (entries_of second))) (sym same_page) changes in
-          let becomes = rewritten g a b c file_no m l (take_out key) (pair.left ∷ pair.right ∷ []) (first ∷ entries_of second) (joined pair.thin_is_left N (entries_on (g.image b (beside_of pair).page.0))) step row_pair both write n.named n.parts in
-          let all = replaced g a c file_no l (take_out key) A (pair.left ∷ pair.right ∷ []) (first ∷ entries_of second) B (rises_of_out key) whole becomes
+          let write : Changes g b c (heads (pair.left ∷ pair.right ∷ [])) (heads (first ∷ option_to_list second)) =
+          subst (λ (p : ℕ). Changes g b c (pair.left.page.0 ∷ pair.right.page.0 ∷ []) (p ∷ heads (option_to_list second))) (sym same_page) changes in
+          let becomes = rewritten g a b c file_no m l (take_out key) (pair.left ∷ pair.right ∷ []) (first ∷ option_to_list second) (joined pair.thin_is_left N (entries_on (g.image b (beside_of pair).page.0))) step row_pair both write n.named n.parts in
+          let all = replaced g a c file_no l (take_out key) A (pair.left ∷ pair.right ∷ []) (first ∷ option_to_list second) B (rises_of_out key) whole becomes
           (λ rises. out_middle key (keys_among (g.image a) l A) (keys_among (g.image a) l (pair.left ∷ pair.right ∷ [])) (keys_among (g.image a) l B) lacks.front lacks.back) in
           subst (λ (t : List Entry). Becomes g a c file_no l (take_out key) t now) (sym is) (subst (λ (t : List Entry). Becomes g a c file_no l (take_out key) (A ++ ((pair.left ∷ pair.right ∷ []) ++ B)) t) (sym now_is) all)

@@ -1,7 +1,7 @@
 -- A list with other items at a place.
 use Rattle.std.proofs.Common.{◌≡◌, ◌<◌, ◌+◌, ℕ, zero, suc, Bool, true, false, List, [], ◌∷◌, ◌++◌, length, take, drop, refl, sym, ap, ◌∙◌, arith}
 use Rattle.std.specs.Prelude.{slice_set}
-use Rattle.std.specs.List.{insert, remove}
+use Rattle.std.specs.List.{insert}
 use Rattle.std.proofs.lemmas.List.{length-append}
 use Rattle.file_index.specs.declared.Entry.{Entry}
 use Rattle.file_index.specs.Nodes.{joined}
@@ -20,16 +20,6 @@ insert_parts (x ∷ xs) (suc at) y z lt =
     let count : suc (at + 1) ≡ suc at + 1 = omega arith in
     ap (λ (k : ℕ). insert (slice_set (x ∷ xs) (suc at) y) k z) (sym count)
     ∙ ap (λ (t : List Entry). x ∷ t) (insert_parts xs at y z (omega arith)) ∙ ap (λ (k : ℕ). x ∷ (take at xs ++ ((y ∷ z ∷ []) ++ drop k (x ∷ xs)))) count
-
-pub remove_parts : (xs : List Entry) (at : ℕ) (y : Entry) → at + 1 < length xs → remove (slice_set xs at y) (at + 1) ≡ take at xs ++ ((y ∷ []) ++ drop (at + 2) xs)
-remove_parts [] at y lt = absurd (omega arith)
-remove_parts (x ∷ []) at y lt = absurd (omega arith)
-remove_parts (x ∷ x' ∷ xs) zero y lt = refl
-remove_parts (x ∷ x' ∷ xs) (suc at) y lt =
-    let count : suc (at + 1) ≡ suc at + 1 = omega arith in
-    let more : suc (at + 2) ≡ suc at + 2 = omega arith in
-    ap (λ (k : ℕ). remove (slice_set (x ∷ x' ∷ xs) (suc at) y) k) (sym count)
-    ∙ ap (λ (t : List Entry). x ∷ t) (remove_parts (x' ∷ xs) at y (omega arith)) ∙ ap (λ (k : ℕ). x ∷ (take at (x' ∷ xs) ++ ((y ∷ []) ++ drop k (x ∷ x' ∷ xs)))) more
 
 pub two_parts : (xs : List Entry) (at : ℕ) (y z : Entry) → at + 1 < length xs → slice_set (slice_set xs at y) (at + 1) z ≡ take at xs ++ ((y ∷ z ∷ []) ++ drop (at + 2) xs)
 two_parts [] at y z lt = absurd (omega arith)

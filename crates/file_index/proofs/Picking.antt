@@ -1,15 +1,17 @@
 -- The least key that is not below a key, through the entry that leads to it.
-use Rattle.std.proofs.Common.{◌≡◌, ◌≤◌, ◌<◌, ◌+◌, ℕ, zero, suc, true, false, List, [], ◌∷◌, ◌++◌, drop, Option, Some, None, nat_lt, refl, ap, subst, ◌∙◌, arith, ltb-true, ltb-false, lt-ltb, le-ltb, inl, inr}
+use Rattle.std.proofs.Common.{◌≡◌, ◌≤◌, ◌<◌, ◌+◌, ℕ, zero, true, false, List, [], ◌∷◌, ◌++◌, drop, Option, Some, None, nat_lt, refl, ap, subst, ◌∙◌, arith, ltb-true, ltb-false, lt-ltb, le-ltb, inl, inr, sym}
 use Rattle.std.specs.Prelude.{slice_get, Contains, if◌then◌else◌}
 use Rattle.std.specs.List.{flat_map, AllByRecursion}
 use Rattle.std.proofs.lemmas.List.{append-nil}
+use Rattle.std.proofs.lemmas.Option.{slice_get_within, get_or_from_slice_get}
 use Rattle.ex_base.specs.declared.names.PageNo.{PageNo}
 use Rattle.file_index.specs.declared.Entry.{Entry}
 use Rattle.file_index.specs.declared.step.Step.{Step}
 use Rattle.ex_base.specs.Order.{Rising}
+use Rattle.ex_base.proofs.Lists.{drop_item}
 use Rattle.ex_base.proofs.Members.{contains_cases, contains_later}
 use Rattle.file_index.specs.Index.{Rises}
-use Rattle.file_index.specs.Least.{IsLeastFrom, first_from, pick_from, pick, page_no}
+use Rattle.file_index.specs.Least.{IsLeastFrom, first_from, pick_from, page_no}
 use Rattle.file_index.proofs.Under.{Begins}
 
 -- ---- numbers that rise
@@ -108,15 +110,7 @@ picked_rises K entry (after ∷ entries) key a next rises =
 -- ---- a loop over the entries
 
 next_of : (entries : List Entry) (at : ℕ) (after : Entry) → slice_get entries at ≡ Some after → drop at entries ≡ after ∷ drop (at + 1) entries
-next_of [] at after e = absurd cc
-next_of (x ∷ entries) zero after e = let same : x ≡ after = cc in ap (λ (y : Entry). y ∷ entries) same
-next_of (x ∷ entries) (suc at) after e =
-    let count : suc (at + 1) ≡ suc at + 1 = omega arith in
-    next_of entries at after e ∙ ap (λ (k : ℕ). after ∷ drop k (x ∷ entries)) count
-
-pub pick_starts : (entries : List Entry) (entry : Entry) (key : ℕ) (next : Option PageNo) → slice_get entries 0 ≡ Some entry → pick entries key next ≡ pick_from entry (drop 1 entries) key next
-pick_starts [] entry key next e = absurd cc
-pick_starts (x ∷ entries) entry key next e = let same : x ≡ entry = cc in ap (λ (y : Entry). pick_from y entries key next) same
+next_of entries at after e = drop_item entries at after (slice_get_within entries at after e) (sym (get_or_from_slice_get entries at after after e))
 
 pub pick_stops : (entries : List Entry) (child after : Entry) (at key : ℕ) (next : Option PageNo) (all : Step) → slice_get entries at ≡ Some after → key < after.key → all ≡ pick_from child (drop at entries) key next
     → all ≡ record { child = child; next = Some (page_no after.key) }

@@ -1,5 +1,6 @@
 -- One level of a call: the page of a child is read, its entries become others, and they are written.
 use Rattle.std.proofs.Common.{◌≡◌, ◌≤◌, ◌/◌, ℕ, zero, suc, true, List, [], ◌∷◌, ◌++◌, length, take, drop, Option, Some, None, refl, sym, ap, subst, ◌∙◌, arith}
+use Rattle.std.specs.Prelude.{option_to_list}
 use Rattle.std.proofs.lemmas.List.{append-nil, take-append-drop, length-take, length-drop}
 use Rattle.ex_base.specs.declared.ground.Ground as ground
 use Rattle.ex_base.specs.Ports.{times, Keeps}
@@ -9,7 +10,7 @@ use Rattle.file_index.specs.declared.Entry.{Entry}
 use Rattle.file_index.specs.IndexPage.{entries_on, most_entries, RiseFrom}
 use Rattle.file_index.specs.Changes.{Changes}
 use Rattle.file_index.specs.Index.{IsFilesPage, IsNamed}
-use Rattle.file_index.specs.Nodes.{heads, entries_of, first_key, left_part, Stored}
+use Rattle.file_index.specs.Nodes.{heads, first_key, left_part, Stored}
 use Rattle.file_index.specs.Edits.{pages_among, IsRow, Becomes}
 use Rattle.file_index.proofs.Counts.{changes_same, is_counted, count_is}
 use Rattle.file_index.proofs.Closing.{new_node, rise_take, rise_drop}
@@ -19,8 +20,8 @@ use Rattle.file_index.proofs.Placing.{row_kept, turns_kept}
 module _ {S : Type 0} (g : ground.Ghosts S) where
   -- the pages that were written are what the new entries say, and have all the entries
   pub record News (c : S) (level file_no : ℕ) (first : Entry) (second : Option Entry) (N : List Entry) : Type 0 where
-    pub named : AreNamed (g.geometry c) file_no (g.image c) level (first ∷ entries_of second)
-    pub parts : below_all (g.image c) (first ∷ entries_of second) ≡ N
+    pub named : AreNamed (g.geometry c) file_no (g.image c) level (first ∷ option_to_list second)
+    pub parts : below_all (g.image c) (first ∷ option_to_list second) ≡ N
 
   pub news : (c : S) (page level file_no : ℕ) (first : Entry) (second : Option Entry) (N : List Entry) → Stored g c page level file_no N second → RiseFrom 0 N → most_entries (g.geometry c).page_size / 2 ≤ length N
       → first.page.0 ≡ page → first.key ≡ first_key N → News c level file_no first second N
@@ -100,13 +101,13 @@ module _ {S : Type 0} (g : ground.Ghosts S) where
 
   -- the child becomes the entries that name the pages that were written
   pub child_written : (a b c d : S) (file_no l m : ℕ) (edit : List ℕ → List ℕ) (child first : Entry) (second : Option Entry) (es N : List Entry) → Child a b file_no l m child es → Becomes g b c file_no m edit es N
-      → Changes g c d (child.page.0 ∷ []) (child.page.0 ∷ heads (entries_of second)) → first.page.0 ≡ child.page.0 → News d l file_no first second N → Becomes g a d file_no l edit (child ∷ []) (first ∷ entries_of second)
+      → Changes g c d (child.page.0 ∷ []) (child.page.0 ∷ heads (option_to_list second)) → first.page.0 ≡ child.page.0 → News d l file_no first second N → Becomes g a d file_no l edit (child ∷ []) (first ∷ option_to_list second)
   child_written a b c d file_no l m edit child first second es N ch becomes changes at n =
       let was : Becomes g a c file_no m edit (below_all (g.image a) (child ∷ [])) N =
       subst (λ (t : List Entry). Becomes g a c file_no m edit t N) (sym (entries_are a b file_no l m child es ch)) (turns_kept g a file_no m b c edit es N ch.kept becomes) in
-      let write : Changes g c d (heads (child ∷ [])) (heads (first ∷ entries_of second)) =
-      subst (λ (p : ℕ). Changes g c d (child.page.0 ∷ []) (p ∷ heads (entries_of second))) (sym at) changes in
-      rewritten g a c d file_no m l edit (child ∷ []) (first ∷ entries_of second) N ch.step ch.row was write n.named n.parts
+      let write : Changes g c d (heads (child ∷ [])) (heads (first ∷ option_to_list second)) =
+      subst (λ (p : ℕ). Changes g c d (child.page.0 ∷ []) (p ∷ heads (option_to_list second))) (sym at) changes in
+      rewritten g a c d file_no m l edit (child ∷ []) (first ∷ option_to_list second) N ch.step ch.row was write n.named n.parts
 
   -- a child whose entries stay is not written
   pub child_same : (a b c : S) (file_no l m : ℕ) (edit : List ℕ → List ℕ) (child : Entry) (es : List Entry) → Child a b file_no l m child es → Becomes g b c file_no m edit es es → Becomes g a c file_no l edit (child ∷ []) (child ∷ [])

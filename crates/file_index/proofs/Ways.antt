@@ -16,10 +16,6 @@ use Rattle.file_index.proofs.Blame.{way_below, way_on}
 
 -- ---- the end of a way
 
-pub way_end : (g : Geometry) (image : ℕ → List ℕ) (file_no key level : ℕ) (least : Option ℕ) (page : ℕ) → level ≡ 0 → IsWay g image file_no key level least page
-way_end g image file_no key zero least page none = tt
-way_end g image file_no key (suc level) least page none = absurd (omega arith)
-
 pub found_next : (image : ℕ → List ℕ) (key level page : ℕ) (next : Option PageNo) → level ≡ 0 → page < key → next ≡ found_under image key level page next
 found_next image key zero page next none lt = let test : nat_lt page key ≡ true = lt-ltb page key lt in rw test refl
 found_next image key (suc level) page next none lt = absurd (omega arith)

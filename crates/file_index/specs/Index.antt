@@ -67,6 +67,10 @@ IsUnder g file_no image (suc level) least page =
     IsFilesPage g page × IsNamed g.page_size (image page) (suc level) file_no least
     × AllByRecursion (λ (entry : Entry). IsUnder g file_no image level (Some entry.key) entry.page.0) (entries_on (image page))
 
+-- the most levels of an index
+abbrev pub index_level_most : ℕ
+index_level_most = 5
+
 -- numbers rise strictly, from a least one on
 abbrev pub Rises : ℕ → List ℕ → Type 0
 Rises least [] = Unit {0}

@@ -51,11 +51,6 @@ abbrev pub heads : List Entry → List ℕ
 heads [] = []
 heads (entry ∷ entries) = entry.page.0 ∷ heads entries
 
--- the entry, where there is one
-abbrev pub entries_of : Option Entry → List Entry
-entries_of None = []
-entries_of (Some entry) = entry ∷ []
-
 -- The entry that a key leads to: the last one whose key is not above it, else the first one.
 pub record IsPlace (key : ℕ) (entries : List Entry) (at : ℕ) : Type 0 where
   pub inside : at < length entries

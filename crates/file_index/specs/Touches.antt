@@ -1,6 +1,7 @@
 -- How many logged pages a call on the pages of files touches.
 use Rattle.std.specs.Prelude.{◌≤◌, ◌+◌, ◌-◌, ◌*◌, ℕ}
 use Rattle.ex_base.specs.declared.ground.Ground as ground
+use Rattle.file_index.specs.Index.{index_level_most}
 
 -- The open transaction has touched at most so many logged pages more.
 abbrev pub TouchesAtMost : {S : Type 0} → ground.Ghosts S → S → S → ℕ → Type 0
@@ -12,4 +13,4 @@ touches_below level = 2 * (level - 1)
 
 -- the most index pages that are touched where a page comes into an index or leaves it: on each of its five levels two, and a new root
 abbrev pub index_touches : ℕ
-index_touches = 11
+index_touches = touches_below index_level_most + 3

@@ -1,11 +1,11 @@
 //! A page put into the index of a file.
-ghost use Rattle.std.specs.Prelude.{◌≡◌, ◌≤◌, ◌<◌, ◌+◌, ◌-◌, ◌∷◌, [], ℕ, true, false, length, IfOk, IfErr, OnOk};
+ghost use Rattle.std.specs.Prelude.{◌≡◌, ◌≤◌, ◌<◌, ◌+◌, ◌-◌, ℕ, true, false, length, IfOk, IfErr, OnOk};
 ghost use Rattle.ex_base.specs.declared.names.Area.TheVariants.{Page, Segment};
 ghost use Rattle.ex_base.specs.Area.{catalog_no};
 ghost use Rattle.ex_base.specs.Ports.{HasCause, IsDamage};
 ghost use Rattle.file_index.specs.IndexPage.{most_entries};
 ghost use Rattle.ex_base.specs.declared.names.Index.{Index};
-ghost use Rattle.file_index.specs.Index.{IsFilesPage, HasRoot, HasPlacedRoot};
+ghost use Rattle.file_index.specs.Index.{IsFilesPage, HasRoot, HasPlacedRoot, index_level_most};
 ghost use Rattle.file_index.specs.Nodes.{PutsLeaf, leaves_of, IsRootOver};
 ghost use Rattle.file_index.specs.Edits.{IsRow, Becomes, HasIndex, EditsIndex, GrowsTo, put_in};
 ghost use Rattle.file_index.specs.Damage.{IsWayUnder, IsFaultUnder, HasWay, IsIndexFault, IsAddingFault};
@@ -82,7 +82,8 @@ fn add_among<P: Pages>(
         (level - 1) entries.old.items) }
     ensures catalog { OnOk result (P.image pages.new catalog_no ≡ P.image pages.old catalog_no) }
     ensures leaves { OnOk result (P.free pages.new Segment ≡ P.free pages.old Segment) }
-    ensures touches { OnOk result (TouchesAtMost P.Ground pages.old pages.new (touches_below level)) }
+    ensures touches { OnOk result
+        (TouchesAtMost P.Ground pages.old pages.new (touches_below level)) }
     ensures leads { P.leads pages.old pages.new }
     ensures cause { HasCause (P.faults pages.old) (P.faults pages.new) result }
 {
@@ -220,7 +221,7 @@ fn add_below<P: Pages>(
     key: PageNo,
 ) -> Result<Index, PortFault>
     requires ready { P.ready pages.old }
-    requires level { (1 ≤ index.now.level) × (index.now.level ≤ 5) }
+    requires level { (1 ≤ index.now.level) × (index.now.level ≤ index_level_most) }
     requires root { index.now.root ≡ Some root }
     requires free { index.now.level + 1 ≤ P.free pages.old Page }
     ensures adds { IfOk result (λ added. P.tells pages.old
@@ -285,7 +286,7 @@ fn add_below<P: Pages>(
 
 /// A whole index has at most five levels, so that putting a page into one is never refused for its height.
 pub fn a_whole_index_has_at_most_five_levels<P: Pages>()
-    ensures { (s : P) (index : Index) → HasIndex P.Ground s index → index.level ≤ 5 }
+    ensures { (s : P) (index : Index) → HasIndex P.Ground s index → index.level ≤ index_level_most }
 {}
 
 /// Puts a page into the index of its file. A page that the index has stays there. An index page that would get too many entries becomes two, of which
@@ -298,7 +299,7 @@ pub fn add<P: Pages>(
     key: PageNo,
 ) -> Result<Index, PortFault>
     requires ready { P.ready pages.old }
-    requires level { index.now.level ≤ 5 }
+    requires level { index.now.level ≤ index_level_most }
     requires root { HasRoot index.now.level index.now.root }
     requires free { index.now.level + 1 ≤ P.free pages.old Page }
     ensures adds { IfOk result (λ added. P.tells pages.old
@@ -307,7 +308,7 @@ pub fn add<P: Pages>(
     ensures grows { IfOk result (λ added. GrowsTo index.now added) }
     ensures placed { IfOk result (λ added. IsFilesPage (P.geometry pages.old) key.0
         → HasPlacedRoot (P.geometry pages.old) added.root) }
-    ensures level { IfOk result (λ added. added.level ≤ 5) }
+    ensures level { IfOk result (λ added. added.level ≤ index_level_most) }
     ensures free { OnOk result (P.free pages.old Page ≤ P.free pages.new Page
         + (index.now.level + 1)) }
     ensures takes { OnOk result (OnlyTakes P.Ground pages.old pages.new) }

@@ -1,8 +1,8 @@
 //! The least page of a file that is not below a key.
-ghost use Rattle.std.specs.Prelude.{◌≡◌, ◌≤◌, ℕ, length, IfOk, IfErr, OnOk};
+ghost use Rattle.std.specs.Prelude.{◌≡◌, ◌≤◌, IfOk, IfErr, OnOk};
 ghost use Rattle.ex_base.specs.Ports.{Keeps, HasCause, IsDamage};
 ghost use Rattle.file_index.specs.IndexPage.{entries_on};
-ghost use Rattle.file_index.specs.Index.{IsFilesPage, IsNamed, IsUnder, Rises, keys_under, keys_of, IsIndex, HasRoot};
+ghost use Rattle.file_index.specs.Index.{IsFilesPage, IsNamed, IsUnder, Rises, keys_under, keys_of, IsIndex, HasRoot, index_level_most};
 ghost use Rattle.file_index.specs.Least.{pick, first_from, IsLeastFrom, IsAtLeast};
 ghost use Rattle.file_index.specs.Damage.{every_page, IsPageFault, IsNamedAt, IsWay, IsWayFault, HasWay, IsIndexFault, found_under, found_in};
 
@@ -30,7 +30,8 @@ fn step_at<P: ReadPages>(
         → ⊥) }
     ensures fault { IfErr result (λ fault. P.tells pages.old
         → IsPageFault (P.geometry pages.old) every_page
-        (P.image pages.old named.now.page.0) named.now.level named.now.file_no named.now.least named.now.page.0 fault) }
+        (P.image pages.old named.now.page.0)
+        named.now.level named.now.file_no named.now.least named.now.page.0 fault) }
     ensures way { OnOk result (P.tells pages.old
         → IsNamedAt (P.geometry pages.old)
         (P.image pages.old) named.now.level named.now.file_no named.now.least named.now.page.0) }
@@ -105,7 +106,7 @@ pub fn at_least<P: ReadPages>(
     key: PageNo,
 ) -> Result<Option<PageNo>, PortFault>
     requires ready { P.ready pages.old }
-    requires level { index.now.level ≤ 5 }
+    requires level { index.now.level ≤ index_level_most }
     requires root { HasRoot index.now.level index.now.root }
     ensures least { IfOk result (λ least. P.tells pages.old
         → IsIndex (P.geometry pages.old)
@@ -116,7 +117,8 @@ pub fn at_least<P: ReadPages>(
         → IsIndex (P.geometry pages.old)
         (P.image pages.old) index.now.file_no index.now.level index.now.root → ⊥) }
     ensures fault { IfErr result (λ fault. P.tells pages.old
-        → IsIndexFault (P.geometry pages.old) every_page (P.image pages.old) index.now key.0 fault) }
+        → IsIndexFault (P.geometry pages.old) every_page
+        (P.image pages.old) index.now key.0 fault) }
     ensures way { OnOk result (P.tells pages.old
         → HasWay (P.geometry pages.old) (P.image pages.old) index.now key.0) }
     ensures found { IfOk result (λ least. P.tells pages.old

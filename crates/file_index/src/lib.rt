@@ -19,7 +19,8 @@ pub mod write;
 pub use adding::{a_whole_index_has_at_most_five_levels, add};
 use ex_base::PageNo;
 pub use least::at_least;
-pub use nodes::may_be_written;
+pub use named::{Named, checked};
+pub use nodes::{may_be_written, page_buffer};
 pub use removing::remove;
 
 /// The first byte of an index page.
@@ -41,10 +42,10 @@ const FILE_AT: usize = 8;
 const SECOND_GAP_AT: usize = 12;
 
 /// Where the entries begin.
-pub const ENTRIES_AT: usize = 16;
+const ENTRIES_AT: usize = 16;
 
 /// The bytes of an entry: a key and a page number of four bytes each.
-pub const ENTRY_BYTES: usize = 8;
+const ENTRY_BYTES: usize = 8;
 
 /// Where the page number stands in an entry.
 const PAGE_AT: usize = 4;

@@ -1,5 +1,5 @@
 //! One index page and what names it.
-ghost use Rattle.std.specs.Prelude.{◌≡◌, ◌≢◌, ◌≤◌, ℕ, Bool, length, IfOk, IfErr};
+ghost use Rattle.std.specs.Prelude.{◌≡◌, ◌≤◌, ℕ, Bool, length, IfOk, IfErr};
 ghost use Rattle.ex_base.specs.Ports.{IsDamage, Cause, HasCause};
 ghost use Rattle.file_index.specs.IndexPage.{indexed_on, most_entries};
 ghost use Rattle.ex_base.specs.declared.geometry.Geometry.{Geometry};
@@ -81,13 +81,14 @@ pub fn no_index_page(named: &Named) -> PortFault
 pub fn checked<'a>(page: &'a [u8], named: &Named) -> Result<IndexView<'a>, PortFault>
     requires { 48 ≤ length page.now }
     ensures view { IfOk result (λ view. view ≡ indexed_on page.now) }
-    ensures ok { IfOk result
-        (λ view. IsNamed (length page.now) page.now named.now.level named.now.file_no named.now.least) }
-    ensures err { IfErr result
-        (λ fault. IsNamed (length page.now) page.now named.now.level named.now.file_no named.now.least → ⊥) }
+    ensures ok { IfOk result (λ view. IsNamed (length page.now) page.now
+        named.now.level named.now.file_no named.now.least) }
+    ensures err { IfErr result (λ fault. IsNamed (length page.now) page.now
+        named.now.level named.now.file_no named.now.least → ⊥) }
     ensures fault { IfErr result (λ fault. (g : Geometry) → (held : ℕ → Bool)
         → g.page_size ≡ length page.now → IsFilesPage g named.now.page.0
-        → IsPageFault g held page.now named.now.level named.now.file_no named.now.least named.now.page.0 fault) }
+        → IsPageFault g held page.now
+        named.now.level named.now.file_no named.now.least named.now.page.0 fault) }
     ensures damage { (before now : ℕ) → HasCause before now result }
 {
     let Some(view) = IndexView::of(page) else {

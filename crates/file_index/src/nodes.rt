@@ -68,7 +68,8 @@ pub fn entries_at<P: Pages>(
         → ⊥) }
     ensures fault { IfErr result (λ fault. P.tells pages.old
         → IsPageFault (P.geometry pages.old) (P.held pages.old)
-        (P.image pages.old named.now.page.0) named.now.level named.now.file_no named.now.least named.now.page.0 fault) }
+        (P.image pages.old named.now.page.0)
+        named.now.level named.now.file_no named.now.least named.now.page.0 fault) }
     ensures kept { Keeps P.Ground pages.old pages.new }
     ensures cause { HasCause (P.faults pages.old) (P.faults pages.new) result }
 {
@@ -101,7 +102,8 @@ pub fn put_index<P: Pages>(
     requires room { length entries.now ≤ most_entries (P.geometry pages.old).page_size }
     requires buffer { length buffer.old ≡ (P.geometry pages.old).page_size }
     ensures written { OnOk result (P.tells pages.old
-        → IsWritten P.Ground pages.new named.now.page.0 named.now.level named.now.file_no entries.now) }
+        → IsWritten P.Ground pages.new named.now.page.0
+        named.now.level named.now.file_no entries.now) }
     ensures changes { OnOk result (Changes P.Ground pages.old pages.new (named.now.page.0
         ∷ []) (named.now.page.0 ∷ [])) }
     ensures held { OnOk result (P.held pages.new ≡ P.held pages.old) }

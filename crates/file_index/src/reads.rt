@@ -1,5 +1,5 @@
 //! Whether a page is an index page, field by field.
-ghost use Rattle.std.specs.Prelude.{◌≡◌, ◌↔◌, ◌+◌, ◌*◌, ◌<◌, ◌≤◌, length, IsTrue};
+ghost use Rattle.std.specs.Prelude.{◌↔◌, ◌+◌, ◌*◌, ◌<◌, ◌≤◌, length, IsTrue};
 ghost use Rattle.file_index.specs.IndexPage.{RiseFrom, read_entries};
 ghost use Rattle.file_index.specs.Reads.{PageReads};
 

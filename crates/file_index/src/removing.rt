@@ -1,11 +1,11 @@
 //! A page taken out of the index of a file.
-ghost use Rattle.std.specs.Prelude.{◌≡◌, ◌⊎◌, ◌≢◌, ◌≤◌, ◌<◌, ◌+◌, ◌-◌, ◌*◌, ◌/◌, ◌∷◌, ◌++◌, [], ℕ, true, false, length, take, drop, slice_index_or, IfOk, IfErr, OnOk};
+ghost use Rattle.std.specs.Prelude.{◌≡◌, ◌⊎◌, ◌≤◌, ◌<◌, ◌+◌, ◌-◌, ◌*◌, ◌/◌, ◌∷◌, ◌++◌, [], ℕ, true, false, length, take, drop, IfOk, IfErr, OnOk};
 ghost use Rattle.ex_base.specs.declared.names.Area.TheVariants.{Page, Segment};
 ghost use Rattle.ex_base.specs.Area.{catalog_no};
 ghost use Rattle.ex_base.specs.Ports.{HasCause, IsDamage};
 ghost use Rattle.file_index.specs.IndexPage.{most_entries};
 ghost use Rattle.file_index.specs.Changes.{Changes};
-ghost use Rattle.file_index.specs.Index.{IsFilesPage, HasRoot};
+ghost use Rattle.file_index.specs.Index.{IsFilesPage, HasRoot, index_level_most};
 ghost use Rattle.file_index.specs.Nodes.{IsWritten, RemovesLeaf, first_key};
 ghost use Rattle.file_index.specs.Edits.{IsRow, Becomes, HasIndex, EditsIndex, ShrinksTo, take_out};
 ghost use Rattle.file_index.specs.Damage.{IsWayUnder, IsFaultUnder, IsBesideUnder, IsGoneFault, HasWay, IsRemovalFault};
@@ -51,7 +51,8 @@ fn write_child<P: Pages>(
     requires room { length below.now ≤ most_entries (P.geometry pages.old).page_size }
     requires buffer { length buffer.old ≡ (P.geometry pages.old).page_size }
     ensures written { OnOk result (P.tells pages.old
-        → IsWritten P.Ground pages.new named.now.page.0 named.now.level named.now.file_no below.now) }
+        → IsWritten P.Ground pages.new named.now.page.0
+        named.now.level named.now.file_no below.now) }
     ensures changes { OnOk result (Changes P.Ground pages.old pages.new (named.now.page.0
         ∷ []) (named.now.page.0 ∷ [])) }
     ensures items { OnOk result (entries.new.items ≡ take at entries.old.items
@@ -133,7 +134,8 @@ fn remove_among<P: Pages>(
         (level - 1) entries.old.items) }
     ensures catalog { OnOk result (P.image pages.new catalog_no ≡ P.image pages.old catalog_no) }
     ensures leaves { OnOk result (P.free pages.new Segment ≡ P.free pages.old Segment) }
-    ensures touches { OnOk result (TouchesAtMost P.Ground pages.old pages.new (touches_below level)) }
+    ensures touches { OnOk result
+        (TouchesAtMost P.Ground pages.old pages.new (touches_below level)) }
     ensures leads { P.leads pages.old pages.new }
     ensures cause { HasCause (P.faults pages.old) (P.faults pages.new) result }
 {
@@ -202,7 +204,8 @@ fn remove_below<P: Pages>(
         → HasWay (P.geometry pages.old) (P.image pages.old) index.now key.0) }
     ensures catalog { OnOk result (P.image pages.new catalog_no ≡ P.image pages.old catalog_no) }
     ensures leaves { OnOk result (P.free pages.new Segment ≡ P.free pages.old Segment) }
-    ensures touches { OnOk result (TouchesAtMost P.Ground pages.old pages.new (2 * index.now.level)) }
+    ensures touches { OnOk result
+        (TouchesAtMost P.Ground pages.old pages.new (2 * index.now.level)) }
     ensures leads { P.leads pages.old pages.new }
     ensures cause { HasCause (P.faults pages.old) (P.faults pages.new) result }
 {
@@ -255,7 +258,7 @@ pub fn remove<P: Pages>(
     key: PageNo,
 ) -> Result<Index, PortFault>
     requires ready { P.ready pages.old }
-    requires level { index.now.level ≤ 5 }
+    requires level { index.now.level ≤ index_level_most }
     requires root { HasRoot index.now.level index.now.root }
     ensures removes { IfOk result (λ left. P.tells pages.old → HasIndex P.Ground pages.old index.now
         → EditsIndex P.Ground pages.old pages.new (take_out key.0) index.now left) }

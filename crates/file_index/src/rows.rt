@@ -1,7 +1,7 @@
 //! Entries side by side, edited at a place.
-ghost use Rattle.std.specs.Prelude.{◌≡◌, ◌≤◌, ◌<◌, ◌+◌, ◌∷◌, ◌++◌, ℕ, length, take, drop, IfErr, OnOk};
+ghost use Rattle.std.specs.Prelude.{◌≡◌, ◌≤◌, ◌<◌, ◌+◌, ◌∷◌, ◌++◌, ℕ, length, take, drop, IfErr, OnOk, option_to_list};
 ghost use Rattle.ex_base.specs.Ports.{IsDamage, HasCause};
-ghost use Rattle.file_index.specs.Nodes.{IsPlace, entries_of, first_key};
+ghost use Rattle.file_index.specs.Nodes.{IsPlace, first_key};
 ghost use Rattle.file_index.specs.Damage.{place_in};
 
 use crate::Entry;
@@ -44,7 +44,7 @@ pub fn replace_one(
 ) -> Result<(), PortFault>
     requires { at < length entries.old.items }
     ensures items { OnOk result (entries.new.items ≡ take at entries.old.items
-        ++ ((first ∷ entries_of second) ++ drop (at + 1) entries.old.items)) }
+        ++ ((first ∷ option_to_list second) ++ drop (at + 1) entries.old.items)) }
     ensures no_damage { IfErr result (λ fault. IsDamage fault → ⊥) }
     ensures cause { (before now : ℕ) → HasCause before now result }
 {
@@ -61,7 +61,7 @@ pub fn replace_one(
 /// Puts an entry, and where there is one a second behind it, in place of two entries.
 pub fn replace_two(entries: &mut Vec<Entry>, at: usize, first: Entry, second: Option<Entry>)
     requires { at + 1 < length entries.old.items }
-    ensures { entries.new.items ≡ take at entries.old.items ++ ((first ∷ entries_of second)
+    ensures { entries.new.items ≡ take at entries.old.items ++ ((first ∷ option_to_list second)
         ++ drop (at + 2) entries.old.items) }
 {
     entries[at] = first;

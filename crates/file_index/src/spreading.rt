@@ -1,5 +1,5 @@
 //! The entries of two pages side by side, spread evenly over both or put onto one.
-ghost use Rattle.std.specs.Prelude.{◌≡◌, ◌≢◌, ◌≤◌, ◌<◌, ◌+◌, ◌*◌, ◌/◌, ◌∷◌, [], ℕ, true, length, IfOk, IfErr, OnOk};
+ghost use Rattle.std.specs.Prelude.{◌≡◌, ◌≢◌, ◌≤◌, ◌<◌, ◌*◌, ◌/◌, ◌∷◌, [], ℕ, true, length, IfOk, IfErr, OnOk, option_to_list};
 ghost use Rattle.ex_base.specs.declared.names.Area.TheVariants.{Page};
 ghost use Rattle.ex_base.specs.Area.{catalog_no};
 ghost use Rattle.ex_base.specs.Ports.{HasCause, IsDamage};
@@ -7,7 +7,7 @@ ghost use Rattle.file_index.specs.IndexPage.{entries_on, most_entries};
 ghost use Rattle.file_index.specs.Changes.{Changes};
 ghost use Rattle.file_index.specs.Index.{IsFilesPage, IsNamed};
 ghost use Rattle.file_index.specs.Damage.{IsPageFault};
-ghost use Rattle.file_index.specs.Nodes.{Stored, heads, entries_of, first_key, joined, beside_of, thin_of};
+ghost use Rattle.file_index.specs.Nodes.{Stored, heads, first_key, joined, beside_of, thin_of};
 ghost use Rattle.file_index.specs.Touches.{TouchesAtMost};
 ghost use Rattle.file_index.specs.Taking.{OnlyGives};
 
@@ -68,9 +68,11 @@ fn even_out<P: Pages>(
     requires many { length all.now ≤ 2 * most_entries (P.geometry pages.old).page_size }
     requires buffer { length buffer.old ≡ (P.geometry pages.old).page_size }
     ensures stored { IfOk result (λ second. P.tells pages.old → left.now.page.0 ≢ right.now.page.0
-        → Stored P.Ground pages.new left.now.page.0 left.now.level left.now.file_no all.now second) }
-    ensures changes { IfOk result (λ second. Changes P.Ground pages.old pages.new (left.now.page.0 ∷ right.now.page.0
-        ∷ []) (left.now.page.0 ∷ heads (entries_of second))) }
+        → Stored P.Ground pages.new left.now.page.0
+        left.now.level left.now.file_no all.now second) }
+    ensures changes { IfOk result (λ second. Changes P.Ground pages.old pages.new
+        (left.now.page.0 ∷ right.now.page.0 ∷ [])
+        (left.now.page.0 ∷ heads (option_to_list second))) }
     ensures free { OnOk result (P.free pages.old Page ≤ P.free pages.new Page) }
     ensures gives { OnOk result (OnlyGives P.Ground pages.old pages.new) }
     ensures catalog { OnOk result (P.image pages.new catalog_no ≡ P.image pages.old catalog_no) }
@@ -121,8 +123,9 @@ pub fn spread<P: Pages>(
         → most_entries (P.geometry pages.old).page_size / 2
         ≤ length (joined pair.now.thin_is_left thin.items
         (entries_on (P.image pages.old (beside_of pair.now).page.0)))) }
-    ensures changes { IfOk result (λ made. Changes P.Ground pages.old pages.new (pair.now.left.page.0 ∷ pair.now.right.page.0
-        ∷ []) (pair.now.left.page.0 ∷ heads (entries_of made.1))) }
+    ensures changes { IfOk result (λ made. Changes P.Ground pages.old pages.new
+        (pair.now.left.page.0 ∷ pair.now.right.page.0 ∷ [])
+        (pair.now.left.page.0 ∷ heads (option_to_list made.1))) }
     ensures free { OnOk result (P.free pages.old Page ≤ P.free pages.new Page) }
     ensures gives { OnOk result (OnlyGives P.Ground pages.old pages.new) }
     ensures sound { IfErr result (λ fault. IsDamage fault → P.tells pages.old
@@ -176,7 +179,12 @@ impl Pair {
 
     /// What names a page of the pair.
     fn named(&self, entry: Entry) -> Named
-        ensures { result ≡ record { page = entry.page; level = self.now.level; least = Some entry.key; file_no = self.now.file_no } }
+        ensures { result ≡ record {
+          page = entry.page;
+          level = self.now.level;
+          least = Some entry.key;
+          file_no = self.now.file_no;
+        } }
     {
         Named {
             page: entry.page,

@@ -1,6 +1,5 @@
 //! The entry that a key leads to.
-ghost use Rattle.std.specs.Prelude.{◌≡◌, ◌≤◌, ◌<◌, length, Some, drop};
-ghost use Rattle.file_index.specs.IndexPage.{Indexed};
+ghost use Rattle.std.specs.Prelude.{◌≡◌, ◌≤◌, ◌<◌, length, Some};
 ghost use Rattle.file_index.specs.Least.{pick, IsAtLeast};
 
 use crate::Entry;

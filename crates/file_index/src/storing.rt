@@ -1,12 +1,12 @@
 //! Entries written over one page or two.
-ghost use Rattle.std.specs.Prelude.{◌≡◌, ◌≢◌, ◌≤◌, ◌<◌, ◌+◌, ◌*◌, ◌∷◌, [], true, length, IfOk, IfErr, OnOk};
+ghost use Rattle.std.specs.Prelude.{◌≡◌, ◌≤◌, ◌<◌, ◌+◌, ◌∷◌, [], true, length, IfOk, IfErr, OnOk, option_to_list};
 ghost use Rattle.ex_base.specs.declared.names.Area.TheVariants.{Page};
 ghost use Rattle.ex_base.specs.Area.{catalog_no};
 ghost use Rattle.ex_base.specs.Ports.{HasCause, IsDamage};
 ghost use Rattle.file_index.specs.IndexPage.{most_entries};
 ghost use Rattle.file_index.specs.Index.{IsFilesPage};
 ghost use Rattle.file_index.specs.Changes.{Changes};
-ghost use Rattle.file_index.specs.Nodes.{Stored, left_part, heads, entries_of};
+ghost use Rattle.file_index.specs.Nodes.{Stored, left_part, heads};
 ghost use Rattle.file_index.specs.Touches.{TouchesAtMost};
 ghost use Rattle.file_index.specs.Taking.{OnlyTakes};
 
@@ -40,9 +40,10 @@ pub fn store<P: Pages>(
     requires buffer { length buffer.old ≡ (P.geometry pages.old).page_size }
     requires free { 1 ≤ P.free pages.old Page }
     ensures stored { IfOk result (λ second. P.tells pages.old
-        → Stored P.Ground pages.new named.now.page.0 named.now.level named.now.file_no entries.now second) }
+        → Stored P.Ground pages.new named.now.page.0
+        named.now.level named.now.file_no entries.now second) }
     ensures changes { IfOk result (λ second. Changes P.Ground pages.old pages.new (named.now.page.0
-        ∷ []) (named.now.page.0 ∷ heads (entries_of second))) }
+        ∷ []) (named.now.page.0 ∷ heads (option_to_list second))) }
     ensures free { OnOk result (P.free pages.old Page ≤ P.free pages.new Page + 1) }
     ensures takes { OnOk result (OnlyTakes P.Ground pages.old pages.new) }
     ensures catalog { OnOk result (P.image pages.new catalog_no ≡ P.image pages.old catalog_no) }

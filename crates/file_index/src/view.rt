@@ -20,7 +20,9 @@ impl<'a> Model for IndexView<'a> {
 
     ghost view = { λ v. indexed_on v.page.now };
 
-    ghost invariant = { λ v. (1 ≤ length (entries_on v.page.now)) × (16 + 8 * length (entries_on v.page.now) ≤ length v.page.now) × RiseFrom 0 (entries_on v.page.now) };
+    ghost invariant = { λ v. (1 ≤ length (entries_on v.page.now))
+        × (16 + 8 * length (entries_on v.page.now) ≤ length v.page.now)
+        × RiseFrom 0 (entries_on v.page.now) };
 }
 
 impl<'a> IndexView<'a> {
@@ -76,9 +78,10 @@ impl<'a> IndexView<'a> {
     pub fn to_entries(&self, alloc: Global) -> Result<Vec<Entry>, AllocError>
         ensures { IfOk result (λ entries. entries.items ≡ self.now.entries) }
     {
-        let mut entries = Vec::new(alloc);
-        for index in 0..self.len() {
-            entries.push(self.entry(index))?;
+        let len = self.len();
+        let mut entries = Vec::with_capacity(alloc, len as usize)?;
+        for index in 0..len {
+            entries.push_reserved(self.entry(index));
         }
         Ok(entries)
     }

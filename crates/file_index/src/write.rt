@@ -1,6 +1,6 @@
 //! An index page as it is written.
-ghost use Rattle.std.specs.Prelude.{◌≡◌, ◌+◌, ◌-◌, ◌*◌, ◌≤◌, [], ◌∷◌, ◌++◌, length};
-ghost use Rattle.ex_base.specs.Fields.{two_bytes, zeros};
+ghost use Rattle.std.specs.Prelude.{◌≡◌, ◌+◌, ◌-◌, ◌*◌, ◌≤◌, ◌++◌, length};
+ghost use Rattle.ex_base.specs.Fields.{zeros};
 ghost use Rattle.ex_base.specs.Bytes.{written};
 ghost use Rattle.file_index.specs.IndexPage.{entry_bytes, head_bytes, index_page, HasEntryFields};
 ghost use Rattle.std.specs.List.{AllByRecursion};

@@ -1,4 +1,5 @@
 use Rattle.std.proofs.Common.{◌≡◌, ◌≢◌, None, ◌-◌, suc, List, [], ◌∷◌, Option, subst, sym, ap, ◌∙◌, arith}
+use Rattle.std.specs.Prelude.{option_to_list}
 use Rattle.std.proofs.lemmas.Result.{IfOk-weaker}
 use Rattle.ex_base.specs.declared.geometry.Geometry.{Geometry}
 use Rattle.ex_base.specs.declared.names.PageNo.{PageNo}
@@ -9,7 +10,7 @@ use Rattle.ex_base.specs.declared.names.Index.{Index}
 use Rattle.file_index.specs.Edits.{EditsIndex, put_in}
 use Rattle.file_index.proofs.Blame.{way_here}
 use Rattle.file_index.proofs.Ways.{page_way, page_fault, root_way, root_fault}
-use Rattle.file_index.specs.Nodes.{Stored, heads, entries_of, first_key}
+use Rattle.file_index.specs.Nodes.{Stored, heads, first_key}
 use Rattle.file_index.specs.Changes.{Changes}
 use Rattle.file_index.proofs.Tops.{root_read, row_top, same_top, written_top, raised_top}
 use Rattle.file_index.proofs.adding.add_below.Goals as goal
@@ -50,7 +51,7 @@ returns-in-Ok-None-clause-adds g c = λ told files has.
     let told_c = g.P.Ground.leads_told c.entries_at.new.pages c.add_among.new.pages c.add_among.ensures.leads told_b in
     let becomes = c.in-Ok-true.ensures.adds told_b files_b row in
     written_top g.P.Ground c.args.pages.now c.args.index.now c.args.root (c.args.index.now.level - 1) c.requires.root step has c.entries_at.new.pages c.in-Ok-entries_at.entries.items c.entries_at.ensures.kept read c.add_among.new.pages (put_in c.args.key.0) c.add_among.new.entries.items becomes c.store.new.pages
-    (subst (λ (s : Option Entry). Changes g.P.Ground c.add_among.new.pages c.store.new.pages (c.args.root.0 ∷ []) (c.args.root.0 ∷ heads (entries_of s))) c.in-Ok-None.field-0-is c.in-Ok-None.ensures.changes)
+    (subst (λ (s : Option Entry). Changes g.P.Ground c.add_among.new.pages c.store.new.pages (c.args.root.0 ∷ []) (c.args.root.0 ∷ heads (option_to_list s))) c.in-Ok-None.field-0-is c.in-Ok-None.ensures.changes)
     (subst (λ (s : Option Entry). Stored g.P.Ground c.store.new.pages c.args.root.0 c.args.index.now.level c.args.index.now.file_no c.add_among.new.entries.items s) c.in-Ok-None.field-0-is
     (subst (λ (l : List Entry). Stored g.P.Ground c.store.new.pages c.args.root.0 c.args.index.now.level c.args.index.now.file_no l c.in-Ok-None.field-0) c.deref.ensures.value (c.in-Ok-None.ensures.stored told_c)))
     (omega (arith, c.in-Ok-entries_at.ensures.few, c.in-Ok-true.ensures.more))
@@ -71,7 +72,7 @@ returns-clause-adds g c = IfOk-weaker c.take_root.result _ _ (λ added made told
     subst (λ (i : Index). EditsIndex g.P.Ground c.args.pages.now c.take_root.new.pages (put_in c.args.key.0) c.args.index.now i) (sym made.is)
     (raised_top g.P.Ground c.args.pages.now c.args.index.now c.args.root (c.args.index.now.level - 1) c.requires.root step has c.entries_at.new.pages c.in-Ok-entries_at.entries.items c.entries_at.ensures.kept read c.add_among.new.pages (put_in c.args.key.0) c.add_among.new.entries.items becomes c.store.new.pages c.take_root.new.pages
     c.entry_over.result c.in-Ok-Some.second made.page
-    (subst (λ (s : Option Entry). Changes g.P.Ground c.add_among.new.pages c.store.new.pages (c.args.root.0 ∷ []) (c.args.root.0 ∷ heads (entries_of s))) c.in-Ok-Some.field-0-is c.in-Ok-Some.ensures.changes)
+    (subst (λ (s : Option Entry). Changes g.P.Ground c.add_among.new.pages c.store.new.pages (c.args.root.0 ∷ []) (c.args.root.0 ∷ heads (option_to_list s))) c.in-Ok-Some.field-0-is c.in-Ok-Some.ensures.changes)
     some (ap (λ (p : PageNo). p.0) c.entry_over.ensures.page) (c.entry_over.ensures.key ∙ ap first_key c.deref-2.ensures.value)
     made.changes (made.written told_d))) c.take_root.ensures.made
 
