@@ -1,5 +1,5 @@
 -- What the table of a volume tells of a version's place in its tree: its older one and what is derived from it, as its file's records tell it.
-use Rattle.std.proofs.Common.{◌≡◌, ◌≤◌, ℕ, true, List, [], ◌∷◌, length, Option, Some, None, refl, sym, ap, subst, ◌∙◌, arith, inl, inr}
+use Rattle.std.proofs.Common.{◌≡◌, ◌≤◌, ℕ, true, List, [], ◌∷◌, length, Option, Some, None, refl, sym, ap, subst, ◌∙◌, arith}
 use Rattle.std.specs.Prelude.{map, ◌↔◌, IsSome, nat_le, option_map}
 use Rattle.std.specs.List.{AllByRecursion, AllZip, flat_map}
 use Rattle.std.specs.List.Sorted.{IsPermutation}
@@ -9,11 +9,10 @@ use Rattle.std.proofs.lemmas.List.Sorted.{length_permutation}
 use Rattle.std.proofs.lemmas.Option.{none-some, same_Some}
 use Rattle.ex_base.specs.declared.names.Oid.{Oid}
 use Rattle.ex_base.specs.declared.names.Place.{Place}
-use Rattle.ex_base.proofs.Members.{In, in_contains}
+use Rattle.ex_base.proofs.Members.{in_contains}
 use Rattle.object_files.specs.Catalog.{FileEntry}
 use Rattle.object_records.specs.declared.Head.{Head}
-use Rattle.object_records.specs.declared.State.{State}
-use Rattle.object_records.specs.declared.State.TheVariants.{Current, Frozen}
+use Rattle.object_records.specs.declared.State.TheVariants.{Frozen}
 use Rattle.file_bodies.specs.Bodies.{Row, InPlaceOrder}
 use Rattle.trees.specs.Trees.{Units}
 use Rattle.version_lists.specs.declared.version.Version.{Version}
@@ -22,11 +21,11 @@ use Rattle.version_lists.proofs.Lists.{Has, contains_has, has_contains, has_filt
 use Rattle.version_lists.proofs.Links.{derived_has, older_of}
 use Rattle.table_model.specs.Refusals.{has_one, is_only_one}
 use Rattle.versions.specs.Listed.{oid_at}
-use Rattle.versions.proofs.FileRows.{InRows}
 use Rattle.version_tree.specs.Bodies.{body_at}
 use Rattle.version_tree.specs.Linked.{OidAt, head_in, oid_of_row, oids_from}
 use Rattle.version_tree.specs.Linked as linked_rows
 use Rattle.version_tree.specs.Removals.{IsBranch}
+use Rattle.version_tree.proofs.Linking.{in_rows}
 use Rattle.version_tree.proofs.Places.{at_row}
 use Rattle.volume_model.specs.Links.{HaveOlders, IsLinked, IsOlder, names_older, only_place, stored_from}
 use Rattle.volume_model.specs.Parts.{IsStored}
@@ -34,6 +33,7 @@ use Rattle.volume_model.specs.Volume.{Stored, FileContent, is_frozen, number_at,
 use Rattle.volume_model.proofs.Links.{linked_olders, named, names, newer_of_frozen, older_at}
 use Rattle.volume_model.proofs.Numbers.{derived_by_place, number_there, place_by_derived}
 use Rattle.volume_model.proofs.Places.{Sep, each_has, has_stands, sep_filter, sep_map}
+use Rattle.volume_model.proofs.States.{is_frozen_state}
 use Rattle.volume_model.proofs.Versions.{has_stored, stored_has}
 use Rattle.volume_edits.proofs.FileVersions.{IsFile, all_of, found_by_number, from_table, into_table, linked_file, one_record, table_apart}
 use Rattle.volume_edits.proofs.Finding.{row_stored}
@@ -132,13 +132,9 @@ module _ (units : Units) (entries : List FileEntry) (files : List FileContent) (
   named_one (x ∷ []) some = refl
   named_one (x ∷ y ∷ xs) some = absurd (false≢true some)
 
-  frozen_state : (state : State) → is_frozen state ≡ true → state ≡ Frozen
-  frozen_state Current e = absurd (false≢true e)
-  frozen_state Frozen e = refl
-
   pub newer_told : (x : Stored) → Has f.stored x → is_frozen x.body.head.state ≡ true → (length (derived_from (unique_of x) vs) ≡ 1) ↔ IsSome x.body.head.newer
   newer_told x inside frozen =
-      let is = newer_is x inside (frozen_state x.body.head.state frozen) in (
+      let is = newer_is x inside (is_frozen_state x.body.head.state frozen) in (
         (λ one. subst IsSome (sym is.1) (one_named (stored_from x.place f.stored) (sym (derived_many x inside) ∙ one))),
         (λ some. derived_many x inside ∙ named_one (stored_from x.place f.stored) (subst IsSome is.1 some)),
       )
@@ -171,11 +167,6 @@ module _ (units : Units) (entries : List FileEntry) (files : List FileContent) (
 
     pub oids_are : (place : Place) → map oid_of (stored_from place f.stored) ≡ oids_from place rows
     oids_are place = ap (λ (xs : List Stored). map oid_of (stored_from place xs)) stored_is ∙ ap (map oid_of) (from_rows place rows) ∙ row_oids (linked_rows.derived_from place rows)
-
-    in_rows : (row : Row) (xs : List Row) → In row xs → InRows xs row
-    in_rows row [] h = absurd h
-    in_rows row (x ∷ xs) (inl e) = inl (sym e)
-    in_rows row (x ∷ xs) (inr h) = inr (in_rows row xs h)
 
     -- the body of a record
     body_there : (x : Stored) → Has f.stored x → (body : List ℕ) × (body_at x.place rows ≡ Some body)

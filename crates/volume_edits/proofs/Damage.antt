@@ -1,5 +1,5 @@
 -- What the calls on versions tell is told of the volume.
-use Rattle.std.proofs.Common.{◌≡◌, ◌⊎◌, ◌≤◌, ℕ, Bool, List, Some, None, refl, sym, ap, subst, inl, inr}
+use Rattle.std.proofs.Common.{◌≡◌, ◌⊎◌, ℕ, Bool, List, Some, refl, sym, subst, inl, inr}
 use Rattle.ex_base.specs.declared.faults.PortFault.{PortFault}
 use Rattle.ex_base.specs.declared.faults.PortFault.TheVariants as port
 use Rattle.ex_base.specs.declared.geometry.Geometry.{Geometry}
@@ -8,7 +8,7 @@ use Rattle.ex_base.specs.declared.names.Oid.{Oid}
 use Rattle.ex_base.specs.declared.names.Place.{Place}
 use Rattle.ex_base.specs.declared.names.Root.{Root}
 use Rattle.ex_base.specs.Area.{catalog_no}
-use Rattle.ex_base.specs.Ports.{IsDamage, Keeps}
+use Rattle.ex_base.specs.Ports.{Keeps}
 use Rattle.file_bodies.specs.Damage as files
 use Rattle.file_bodies.specs.Damage.{IsCatalogFault}
 use Rattle.file_bodies.specs.declared.placing.Room.{Room}
@@ -16,7 +16,7 @@ use Rattle.trees.specs.Trees.{Units}
 use Rattle.trees.specs.Damage as trees
 use Rattle.versions.specs.Versions.{place_of}
 use Rattle.versions.specs.Damage as versions
-use Rattle.versions.specs.Damage.{StandsOn, IsBodyFault, IsBytesFault, IsFindingFault, IsListingFault, IsRootAt, IsVersionFault, no_tree, record_fault}
+use Rattle.versions.specs.Damage.{StandsOn, IsBodyFault, IsBytesFault, IsFindingFault, IsVersionFault, no_tree, record_fault}
 use Rattle.version_tree.specs.Linked.{head_in}
 use Rattle.version_tree.specs.Links as links
 use Rattle.version_tree.specs.Links.{IsDerivedFault, IsLinkedFault, IsNewerFault, IsOlderFault, IsReadingFault, IsRecordFault, IsStartFault, IsStoredFault, IsWalkFault}

@@ -1,6 +1,6 @@
 -- Where a record of a volume stands.
 use Rattle.std.proofs.Common.{◌≡◌, ℕ, zero, suc, ◌+◌, Bool, true, cond, ◌&&◌, List, [], ◌∷◌, ◌++◌, Option, Some, None, refl, sym, ap, subst, ◌∙◌, arith, inl, inr, ◌⊎◌, eq-eqb}
-use Rattle.std.specs.Prelude.{Contains, map, find, slice_index_or, ◌==◌}
+use Rattle.std.specs.Prelude.{Contains, find, slice_index_or, ◌==◌}
 use Rattle.std.specs.List.{flat_map, AllZip}
 use Rattle.std.proofs.lemmas.Bool.{cases_Bool, eqb-true, and_parts}
 use Rattle.ex_base.specs.declared.names.Oid.{Oid}
@@ -54,18 +54,6 @@ same_as_oid a b e =
     let slot = eq-eqb a.slot b.slot (ap (λ (o : Oid). o.slot) e) in
     let unique = eq-eqb a.unique b.unique (ap (λ (o : Oid). o.unique) e) in
     rw page (rw slot (rw unique refl))
-
--- ---- members
-
-pub from_map : {A B : Type 0} (f : A → B) (y : B) (xs : List A) → In y (map f xs) → (x : A) × In x xs × (y ≡ f x)
-from_map f y [] h = absurd h
-from_map f y (x ∷ xs) (inl e) = (x, inl refl, e)
-from_map f y (x ∷ xs) (inr h) = let rest = from_map f y xs h in (rest.0, inr rest.1, rest.2)
-
-pub into_map : {A B : Type 0} (f : A → B) (x : A) (xs : List A) → In x xs → In (f x) (map f xs)
-into_map f x [] h = absurd h
-into_map f x (y ∷ xs) (inl e) = inl (ap f e)
-into_map f x (y ∷ xs) (inr h) = inr (into_map f x xs h)
 
 -- ---- the file of a record
 

@@ -1,6 +1,7 @@
 -- The versions of an object are listed alike as records of a file and as versions of the table.
 use Rattle.std.proofs.Common.{◌≡◌, ◌<◌, ◌+◌, ◌-◌, ℕ, zero, suc, Bool, true, false, cond, List, [], ◌∷◌, ◌++◌, length, Option, Some, None, refl, sym, ap, subst, ◌∙◌, arith, inl, inr}
 use Rattle.std.specs.Prelude.{map, filter, flat_map, nat_lt, ◌==◌}
+use Rattle.std.specs.Cmp.{both_ways}
 use Rattle.std.specs.List.Sorted.{IsPermutation, IsSortedByKey}
 use Rattle.std.specs.Ordering.{nat_cmp}
 use Rattle.std.proofs.lemmas.Bool.{eqb-true, eq-eqb, false≢true, le-ltb, lt-ltb, ltb-true}
@@ -63,11 +64,6 @@ flat_alike k f p l h q [] same = refl
 flat_alike {E = E} k f p l h q (x ∷ xs) same =
     map-append p (f (k x)) (flat_map f (map k xs)) ∙ ap (λ (t : List E). t ++ map p (flat_map f (map k xs))) (same x (inl refl))
     ∙ ap (λ (t : List E). map q (h (l x)) ++ t) (flat_alike k f p l h q xs (λ y m. same y (inr m))) ∙ sym (map-append q (h (l x)) (flat_map h (map l xs)))
-
-same_test : (a b : Bool) → (a ≡ true → b ≡ true) → (b ≡ true → a ≡ true) → a ≡ b
-same_test true b to from = sym (to refl)
-same_test false true to from = from refl
-same_test false false to from = refl
 
 -- ---- what is listed of a tree, in some more levels
 
@@ -253,7 +249,7 @@ module _ (units : Units) (f : FileContent) (file : IsFile f) where
   versions_derived s m =
       ap (derived_from (unique_of s)) vs_are ∙ filter_of_map (is_derived_from (unique_of s)) read_as sorted
       ∙ ap (map read_as) (filter_same (λ t. is_derived_from (unique_of s) (read_as t)) (names_older s.place) sorted (λ t k.
-      same_test (is_derived_from (unique_of s) (read_as t)) (names_older s.place t)
+      both_ways (is_derived_from (unique_of s) (read_as t)) (names_older s.place t)
       (λ e. names_it t (place_by_derived units f.stored file.places file.numbers olders t s (in_file t k) (in_file s m) e))
       (λ e. derived_by_place units f.stored file.places file.numbers olders t s (in_file t k) (in_file s m) (named_place s.place t.body.head.older e))))
     where

@@ -129,17 +129,21 @@ beside_entry (d ∷ entries) (c ∷ files) e p (inr h) =
       },
     )
 
+-- the table has the file of an entry under the entry's name
+pub file_named : (U : Units) (v : Volume) → RisingTexts (map name_of v.catalog.entries) → (e : FileEntry) (f : FileContent) → Beside v.catalog.entries v.files e f → file_at (table_of U v) e.name ≡ Some (file_of U (e, f))
+file_named U v sorted e f b =
+    let names = texts_differ (map name_of b.entries_before) e.name (map name_of b.entries_behind) (subst RisingTexts (map-append name_of b.entries_before (e ∷ b.entries_behind)) (subst (λ (es : List FileEntry). RisingTexts (map name_of es)) b.entries_are sorted)) in
+    let files : map (file_of U) (zip v.catalog.entries v.files) ≡ map (file_of U) (zip b.entries_before b.files_before) ++ (file_of U (e, f) ∷ map (file_of U) (zip b.entries_behind b.files_behind)) =
+    ap (λ (es : List FileEntry). map (file_of U) (zip es v.files)) b.entries_are ∙ ap (λ (fs : List FileContent). map (file_of U) (zip (b.entries_before ++ (e ∷ b.entries_behind)) fs)) b.files_are
+    ∙ ap (map (file_of U)) (zip_append b.entries_before (e ∷ b.entries_behind) b.files_before (f ∷ b.files_behind) b.paired) ∙ map-append (file_of U) (zip b.entries_before b.files_before) ((e, f) ∷ zip b.entries_behind b.files_behind) in
+    ap (find (has_name e.name)) files ∙ find_past (has_name e.name) (map (file_of U) (zip b.entries_before b.files_before)) (file_of U (e, f)) (map (file_of U) (zip b.entries_behind b.files_behind)) (named_files U e.name b.entries_before b.files_before names.0) ((bytes_eq-Decides e.name e.name).1 refl)
+
 module _ {S : Type 0} (g : ground.Ghosts S) (s : S) (records : List LogRecord) (v : Volume) (vol : ShowsVolume g s records v) where
   abbrev U : Units
   U = units_in g s
 
   pub file_there : (e : FileEntry) (f : FileContent) → Beside v.catalog.entries v.files e f → file_at (table_of U v) e.name ≡ Some (file_of U (e, f))
-  file_there e f b =
-      let names = texts_differ (map name_of b.entries_before) e.name (map name_of b.entries_behind) (subst RisingTexts (map-append name_of b.entries_before (e ∷ b.entries_behind)) (subst (λ (es : List FileEntry). RisingTexts (map name_of es)) b.entries_are vol.parts.0.0.fits.sorted)) in
-      let files : map (file_of U) (zip v.catalog.entries v.files) ≡ map (file_of U) (zip b.entries_before b.files_before) ++ (file_of U (e, f) ∷ map (file_of U) (zip b.entries_behind b.files_behind)) =
-      ap (λ (es : List FileEntry). map (file_of U) (zip es v.files)) b.entries_are ∙ ap (λ (fs : List FileContent). map (file_of U) (zip (b.entries_before ++ (e ∷ b.entries_behind)) fs)) b.files_are
-      ∙ ap (map (file_of U)) (zip_append b.entries_before (e ∷ b.entries_behind) b.files_before (f ∷ b.files_behind) b.paired) ∙ map-append (file_of U) (zip b.entries_before b.files_before) ((e, f) ∷ zip b.entries_behind b.files_behind) in
-      ap (find (has_name e.name)) files ∙ find_past (has_name e.name) (map (file_of U) (zip b.entries_before b.files_before)) (file_of U (e, f)) (map (file_of U) (zip b.entries_behind b.files_behind)) (named_files U e.name b.entries_before b.files_before names.0) ((bytes_eq-Decides e.name e.name).1 refl)
+  file_there e f b = file_named U v vol.parts.0.0.fits.sorted e f b
 
   pub file_listed : (e : FileEntry) (index : Index) (oids : List Oid) → Contains v.catalog.entries e → HasFile g s index → index.file_no ≡ e.file_no → IsPermutation (oids_of (bodies_of (g.image s) index)) oids → AreByNumber oids
       → oids ≡ map (λ (w : Version). w.oid) (current_if (file_at (table_of U v) e.name))

@@ -10,13 +10,12 @@ use Rattle.op_log.specs.declared.record.LogRecord.{LogRecord}
 use Rattle.ex_base.specs.declared.names.Index.{Index}
 use Rattle.file_bodies.specs.Bodies.{bodies_of, pages_in}
 use Rattle.object_records.specs.declared.Head.{Head}
-use Rattle.object_records.specs.Record.{Content, Small, Large, Record, BodyOf}
+use Rattle.object_records.specs.Record.{Content, Small, Large, Record}
 use Rattle.trees.specs.Trees.{Units, root_units, RootNamed}
 use Rattle.object_files.specs.Catalog.{FileEntry}
 use Rattle.ex_base.specs.declared.names.PageNo.{PageNo}
 use Rattle.ex_base.proofs.Members.{In, contains_in, in_contains, of_each}
 use Rattle.ex_base.proofs.Each.{each_as, each_parted, each_with}
-use Rattle.object_records.proofs.RecordLaws.{record_read}
 use Rattle.version_lists.specs.declared.version.Version.{Version}
 use Rattle.version_lists.specs.Versions.{unique_of as number_of, has_oid}
 use Rattle.version_lists.proofs.Lists.{contains_has, find_has, has_contains}
@@ -25,6 +24,7 @@ use Rattle.versions.specs.Versions.{HasRecord, Spells, IsTreeUnit, place_of, con
 use Rattle.volume_model.specs.Parts.{HasBalance}
 use Rattle.volume_model.specs.Volume.{Stored, FileContent, Volume, stored_in, unique_of, oid_of, version_of, content_in, table_of, root_in, roots_in}
 use Rattle.volume_model.proofs.Places.{Sep}
+use Rattle.versions.proofs.Records.{one_record}
 use Rattle.volume_edits.specs.Ported.{ShowsVolume, IsVolume, units_in, index_named}
 use Rattle.volume_edits.specs.Shown.{HasShown, ReadsVersion, SameShape}
 use Rattle.volume_model.proofs.Kept.{RootKept, units_of_root, spelled_root, shape_of_root}
@@ -39,9 +39,6 @@ made_record head content = record { head = head; content = content }
 
 abbrev made_oid : PageNo → ℕ → ℕ → Oid
 made_oid page slot unique = record { page = page; slot = slot; unique = unique }
-
-pub one_record : (bytes : List ℕ) (r q : Record) → BodyOf bytes r → BodyOf bytes q → r ≡ q
-one_record bytes r q a b = sym (record_read bytes r a) ∙ record_read bytes q b
 
 module _ {S : Type 0} (g : ground.Ghosts S) (s : S) (records : List LogRecord) (v : Volume) (vol : ShowsVolume g s records v) where
   abbrev U : Units

@@ -16,9 +16,9 @@ use Rattle.table_model.specs.Refusals.{branches_if, is_only_one}
 use Rattle.table_model.specs.Tables.{version_at, versions_of, numbered, with_object, with_bytes, with_derived, with_frozen, without_version}
 use Rattle.versions.specs.Edited.{HasNeed}
 use Rattle.versions.specs.Needs.{edit_need}
-use Rattle.versions.specs.Versions.{AreInUse, Change, HasVersion, InRange, StaysSmall, changed, place_of}
+use Rattle.versions.specs.Versions.{Change, HasVersion, InRange, StaysSmall, changed, place_of}
 use Rattle.volume_edits.specs.Edits.{TurnsRoots, trees_of}
-use Rattle.volume_edits.specs.Ported.{IsApart, IsVolume, units_in}
+use Rattle.volume_edits.specs.Ported.{IsVolume, units_in}
 use Rattle.volume_model.specs.Volume.{Volume, file_pages, table_of}
 
 -- An object without bytes is made in the file of this name and number, under this unique number; a current version is changed, or removed; a frozen copy of

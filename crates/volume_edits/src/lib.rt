@@ -1,7 +1,7 @@
 //! What the calls on files and versions make of the whole volume and of its table. It has definitions and their laws alone.
 #![tactic(auto)]
 
-ghost use Rattle.std.specs.Prelude.{◌≡◌, ◌<◌, ◌≤◌, ◌↔◌, ◌⊎◌, ◌+◌, ◌++◌, ℕ, true, false, List, Option, Some, None, Contains, IsPermutation, IsSome, option_map, flat_map, length, map, [], ◌∷◌};
+ghost use Rattle.std.specs.Prelude.{◌≡◌, ◌<◌, ◌≤◌, ◌↔◌, ◌⊎◌, ◌+◌, ◌++◌, ℕ, true, false, List, Option, Some, None, Contains, IsPermutation, IsSome, option_map, length, map, ◌∷◌};
 ghost use Rattle.std.specs.Option.{is_some};
 ghost use Rattle.std.specs.List.{AllByRecursion, AllZip};
 ghost use Rattle.ex_base.specs.declared.names.Oid.{Oid};
