@@ -1,12 +1,11 @@
 -- A volume over units that are the same but for the catalog's page: its files, its records and its trees stay.
-use Rattle.std.proofs.Common.{◌≡◌, ◌∙◌, ◌≢◌, ℕ, List, [], ◌∷◌, sym, subst, arith}
+use Rattle.std.proofs.Common.{◌≡◌, ◌≢◌, ℕ, List, [], ◌∷◌, sym, subst, arith}
 use Rattle.std.specs.Prelude.{Contains}
 use Rattle.std.specs.List.{flat_map, AllByRecursion, AllZip}
 use Rattle.ex_base.specs.declared.geometry.Geometry.{Geometry}
 use Rattle.ex_base.specs.declared.names.Root.{Root}
 use Rattle.ex_base.specs.Area.{catalog_no}
 use Rattle.op_log.specs.declared.record.LogRecord.{LogRecord}
-use Rattle.slotted_pages.specs.FilePage.{FilePage, SlotsOf}
 use Rattle.file_index.specs.Index.{IsFilesPage, keys_of, pages_of}
 use Rattle.file_index.proofs.Heights.{keys_of_pages, index_of_pages}
 use Rattle.object_files.specs.Catalog.{FileEntry}
@@ -16,9 +15,9 @@ use Rattle.ex_base.proofs.Each.{each_as, each_parted, each_with, flat_same, zip_
 use Rattle.session_views.specs.declared.Part.{Part}
 use Rattle.session_views.specs.declared.Part.TheVariants.{File, Page, Body, Node, Balance, Unique}
 use Rattle.volume_model.proofs.Kept.{RootKept, RootsKept, StoredKept, balance_kept, files_same, named_root, objects_kept, roots_of_stored, units_of_root}
-use Rattle.volume_model.specs.Parts.{HasIndex, HasPage, HasPages, HasNodes, HasBalance, HoldsOf}
+use Rattle.volume_model.specs.Parts.{HasIndex, HasPages, HasNodes, HasBalance, HoldsOf}
 use Rattle.volume_model.specs.Links.{Apart}
-use Rattle.volume_model.specs.SameVolume.{index_same}
+use Rattle.volume_model.specs.SameVolume.{index_kept, pages_kept}
 use Rattle.volume_model.specs.Volume.{FileContent, Volume, stored_in, file_pages, roots_in, table_of}
 
 -- the parts behind the catalog's
@@ -61,18 +60,6 @@ tree_off : (us rest : List ℕ) → Apart us (catalog_no ∷ rest) → AllByRecu
 tree_off us rest apart = each_as (λ u. ¬ Contains (catalog_no ∷ rest) u) IsOff us (λ u isnt same. isnt (0, omega arith, sym same)) apart
 
 -- ---- the parts
-
-pages_kept : (old new : Units) (entry : FileEntry) (numbers : List ℕ) (pages : List FilePage) → Kept old new numbers → AllZip (HasPage old entry) numbers pages → AllZip (HasPage new entry) numbers pages
-pages_kept old new entry [] [] kept h = tt
-pages_kept old new entry [] (p ∷ pages) kept h = h
-pages_kept old new entry (page ∷ numbers) [] kept h = h
-pages_kept old new entry (page ∷ numbers) (p ∷ pages) kept h =
-    ((subst (λ (bytes : List ℕ). SlotsOf bytes p) (sym kept.0) h.0.0, h.0.1, h.0.2), pages_kept old new entry numbers pages kept.1 h.1)
-
-index_kept : (g : Geometry) (old new : Units) (entry : FileEntry) (f : FileContent) → Kept old new f.index_pages → HasIndex g old entry f → HasIndex g new entry f
-index_kept g old new entry f kept h =
-    let same = index_same g old new entry.file_no entry.level entry.root (subst (Kept old new) h.index_pages kept) in
-    record { whole = same.whole h.whole; numbers = h.numbers ∙ sym same.keys; index_pages = h.index_pages ∙ sym same.pages }
 
 roots_off : (g : Geometry) (old new : Units) (v : Volume) → SameOff old new → HasNodes g old v → RootsKept old new (roots_in (stored_in v))
 roots_off g old new v same h =

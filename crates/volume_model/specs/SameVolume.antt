@@ -33,7 +33,7 @@ use Rattle.volume_model.specs.Volume.{Stored, FileContent, Volume, stored_in, pa
 
 -- ---- roots
 
-balance_kept : (g : Geometry) (old new : Units) (root : Root) → RootKept old new root → HasBalance g old root → HasBalance g new root
+pub balance_kept : (g : Geometry) (old new : Units) (root : Root) → RootKept old new root → HasBalance g old root → HasBalance g new root
 balance_kept g old new root kept h = record {
   sized = sized_root g old new root.height root.size root.page kept h.sized;
   balanced = subst (IsBalanced g.fan (leaf_bytes g)) (sym (shape_of_root old new root.height root.size root.page kept)) h.balanced;
@@ -42,39 +42,39 @@ balance_kept g old new root kept h = record {
 
 -- ---- records and versions
 
-abbrev RootsKept : Units → Units → List Root → Type 0
+abbrev pub RootsKept : Units → Units → List Root → Type 0
 RootsKept old new roots = AllByRecursion (RootKept old new) roots
 
-abbrev StoredKept : Units → Units → Stored → Type 0
+abbrev pub StoredKept : Units → Units → Stored → Type 0
 StoredKept old new s = RootsKept old new (root_in s.body.content)
 
 -- the records of trees that are kept
 records_kept : (old new : Units) (stored : List Stored) → RootsKept old new (roots_in stored) → AllByRecursion (StoredKept old new) stored
 records_kept old new stored kept = each_parted (RootKept old new) (λ (s : Stored). root_in s.body.content) stored kept
 
-stored_units_same : (old new : Units) (s : Stored) → StoredKept old new s → stored_units new s ≡ stored_units old s
-stored_units_same old new s kept = flat_same (root_units old) (root_units new) (RootKept old new) (root_in s.body.content) (λ root k. units_of_root old new root.height root.page k) kept
+pub stored_same : (old new : Units) (s : Stored) → StoredKept old new s → stored_units new s ≡ stored_units old s
+stored_same old new s kept = flat_same (root_units old) (root_units new) (RootKept old new) (root_in s.body.content) (λ root k. units_of_root old new root.height root.page k) kept
 
-content_same : (old new : Units) (content : Content) → RootsKept old new (root_in content) → content_in new content ≡ content_in old content
+pub content_same : (old new : Units) (content : Content) → RootsKept old new (root_in content) → content_in new content ≡ content_in old content
 content_same old new (Small bytes) kept = refl
 content_same old new (Large root) kept = bytes_of_root old new root.height root.size root.page kept.0
 
-version_same : (old new : Units) (stored : List Stored) (s : Stored) → StoredKept old new s → version_of new stored s ≡ version_of old stored s
+pub version_same : (old new : Units) (stored : List Stored) (s : Stored) → StoredKept old new s → version_of new stored s ≡ version_of old stored s
 version_same old new stored s kept = let content = content_same old new s.body.content kept in cc content
 
 pub versions_same : (old new : Units) (stored : List Stored) → AllByRecursion (StoredKept old new) stored → versions_stored new stored ≡ versions_stored old stored
 versions_same old new stored kept = ap (in_order number_of) (map_same (version_of old stored) (version_of new stored) (StoredKept old new) stored (version_same old new stored) kept)
 
-abbrev FileKept : Units → Units → FileContent → Type 0
+abbrev pub FileKept : Units → Units → FileContent → Type 0
 FileKept old new file = AllByRecursion (StoredKept old new) file.stored
 
 abbrev file_with : FileEntry → List Version → TableFile
 file_with entry versions = record { name = entry.name; objects = objects_formed versions }
 
-file_same : (old new : Units) (entry : FileEntry) (file : FileContent) → FileKept old new file → file_of new (entry, file) ≡ file_of old (entry, file)
+pub file_same : (old new : Units) (entry : FileEntry) (file : FileContent) → FileKept old new file → file_of new (entry, file) ≡ file_of old (entry, file)
 file_same old new entry file kept = ap (file_with entry) (versions_same old new file.stored kept)
 
-files_same : (old new : Units) (entries : List FileEntry) (files : List FileContent) → AllByRecursion (FileKept old new) files → map (file_of new) (zip entries files) ≡ map (file_of old) (zip entries files)
+pub files_same : (old new : Units) (entries : List FileEntry) (files : List FileContent) → AllByRecursion (FileKept old new) files → map (file_of new) (zip entries files) ≡ map (file_of old) (zip entries files)
 files_same old new [] files kept = refl
 files_same old new (entry ∷ entries) [] kept = refl
 files_same old new (entry ∷ entries) (file ∷ files) kept =
@@ -115,12 +115,12 @@ index_same g old new file_no level (Some page) kept =
     let same = same_under g file_no old new level page.0 (kept_each old new (pages_of old level (Some page)) kept) in
     index_from g old new file_no level (Some page) same.keys same.pages (same.under None)
 
-index_kept : (g : Geometry) (old new : Units) (entry : FileEntry) (file : FileContent) → Kept old new file.index_pages → HasIndex g old entry file → HasIndex g new entry file
+pub index_kept : (g : Geometry) (old new : Units) (entry : FileEntry) (file : FileContent) → Kept old new file.index_pages → HasIndex g old entry file → HasIndex g new entry file
 index_kept g old new entry file kept h =
     let same = index_same g old new entry.file_no entry.level entry.root (subst (Kept old new) h.index_pages kept) in
     record { whole = same.whole h.whole; numbers = h.numbers ∙ sym same.keys; index_pages = h.index_pages ∙ sym same.pages }
 
-pages_kept : (old new : Units) (entry : FileEntry) (numbers : List ℕ) (pages : List FilePage) → Kept old new numbers → AllZip (HasPage old entry) numbers pages → AllZip (HasPage new entry) numbers pages
+pub pages_kept : (old new : Units) (entry : FileEntry) (numbers : List ℕ) (pages : List FilePage) → Kept old new numbers → AllZip (HasPage old entry) numbers pages → AllZip (HasPage new entry) numbers pages
 pages_kept old new entry [] [] kept h = tt
 pages_kept old new entry [] (p ∷ pages) kept h = h
 pages_kept old new entry (page ∷ numbers) [] kept h = h
@@ -147,14 +147,14 @@ kept_from_reach old new v h =
     }
 
 -- objects keep their labels
-objects_kept : (old new : Units) (stored : List Stored) → AllByRecursion (StoredKept old new) stored → HasObjects old stored → HasObjects new stored
+pub objects_kept : (old new : Units) (stored : List Stored) → AllByRecursion (StoredKept old new) stored → HasObjects old stored → HasObjects new stored
 objects_kept old new stored kept h = record {
   object = h.object;
   joined = h.joined;
   one_first = h.one_first;
   apart = λ s t here there other.
-      let first = stored_units_same old new s (each_of (StoredKept old new) stored s kept here) in
-      let second = stored_units_same old new t (each_of (StoredKept old new) stored t kept there) in
+      let first = stored_same old new s (each_of (StoredKept old new) stored s kept here) in
+      let second = stored_same old new t (each_of (StoredKept old new) stored t kept there) in
       subst (λ (us : List ℕ). Apart us (stored_units new t)) (sym first) (subst (λ (us : List ℕ). Apart (stored_units old s) us) (sym second) (h.apart s t here there other));
 }
 
