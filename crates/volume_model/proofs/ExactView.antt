@@ -233,7 +233,8 @@ module _ (d : Decoded) (v : View Held) (working : Volume) (owners : OwnersOf d v
 
 -- ---- of a view that shows
 
-scans_named : (g : Geometry) (units : Units) (rows : List ScanRow) (scans : List HeldScan) → AllZip (ScanShown g units) rows scans → AreNamed g units (roots_here scans)
+-- the roots of scans that show their bytes are named
+pub scans_named : (g : Geometry) (units : Units) (rows : List ScanRow) (scans : List HeldScan) → AllZip (ScanShown g units) rows scans → AreNamed g units (roots_here scans)
 scans_named g units [] [] shown = tt
 scans_named g units [] (scan ∷ scans) shown = absurd shown
 scans_named g units (row ∷ rows) [] shown = tt

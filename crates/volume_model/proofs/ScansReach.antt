@@ -1,38 +1,21 @@
 -- What open scans reach, over a later disk on which units that have an owner stand at home as they did.
-use Rattle.std.proofs.Common.{◌≡◌, ℕ, ◌≤◌, List, [], ◌∷◌, Option, Some, None, refl, arith}
+use Rattle.std.proofs.Common.{◌≡◌, ℕ, ◌≤◌, List, refl, arith}
 use Rattle.std.specs.List.{AllZip, flat_map}
-use Rattle.ex_base.specs.declared.geometry.Geometry.{Geometry}
 use Rattle.ex_base.specs.declared.names.Root.{Root}
 use Rattle.ex_base.specs.Ports.{times}
 use Rattle.ex_base.proofs.Each.{flat_same}
-use Rattle.ex_base.proofs.Rows.{each-append}
 use Rattle.session_views.specs.View.{View}
-use Rattle.table_model.specs.declared.machine.ScanRow.{ScanRow}
 use Rattle.trees.specs.Owners.{page_here, root_pages}
-use Rattle.trees.specs.Shown.{BytesShown}
-use Rattle.trees.specs.Trees.{RootNamed, Units, root_units}
+use Rattle.trees.specs.Trees.{root_units}
 use Rattle.trees.proofs.KeptRoots.{RootKept, units_of_root}
-use Rattle.trees.proofs.Owned.{AreNamed}
 use Rattle.trees.proofs.OwnedTrees.{roots_kept}
 use Rattle.volume_model.specs.Homes.{home}
 use Rattle.volume_model.specs.OwnersShown.{OwnedStay, OwnersOf, committed_roots, logged_pages, roots_held}
-use Rattle.volume_model.specs.Shown.{Held, HeldScan, ScanShown, root_here, roots_here}
+use Rattle.volume_model.specs.Shown.{Held, ScanShown, roots_here}
 use Rattle.volume_model.specs.Volume.{Decoded, Volume}
-use Rattle.volume_model.proofs.ExactView.{times_joined}
+use Rattle.volume_model.proofs.ExactView.{scans_named, times_joined}
 
--- the roots of scans that show their bytes are named
-scans_named : (g : Geometry) (units : Units) (rows : List ScanRow) (scans : List HeldScan) → AllZip (ScanShown g units) rows scans → AreNamed g units (roots_here scans)
-scans_named g units [] [] shown = tt
-scans_named g units [] (scan ∷ scans) shown = absurd shown
-scans_named g units (row ∷ rows) [] shown = tt
-scans_named g units (row ∷ rows) (scan ∷ scans) shown =
-    each-append (λ (root : Root). RootNamed g units root.height root.page) (root_here scan.root) (roots_here scans) (one row.bytes scan.small scan.root shown.0.bytes) (scans_named g units rows scans shown.1)
-  where
-    one : (bytes small : List ℕ) (root : Option Root) → BytesShown g units bytes small root → AreNamed g units (root_here root)
-    one bytes small None shown = tt
-    one bytes small (Some root) shown = (shown.0.named, tt)
-
--- Their trees have the same units.
+-- The trees of scans that show their bytes have the same units.
 pub scans_reach_same : (d : Decoded) (v : View Held) (working : Volume) → OwnersOf d v working → (later : List ℕ) → OwnedStay d v.session.refs v.disk later
     → AllZip (ScanShown d.geometry (home d.geometry v.disk)) v.machine.scans v.session.scans
     → flat_map (root_units (home d.geometry later)) (roots_here v.session.scans) ≡ flat_map (root_units (home d.geometry v.disk)) (roots_here v.session.scans)
