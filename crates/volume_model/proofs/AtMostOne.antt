@@ -14,7 +14,8 @@ use Rattle.volume_model.specs.Parts.{HasIndex, HasPages, HasBodies, HoldsOf, con
 use Rattle.volume_model.specs.Volume.{FileContent, Volume, Decoded, units_after, units_of, table_of}
 use Rattle.volume_model.proofs.OneVolume.{one_geometry, one_file}
 
-one_list_of_files : (g : Geometry) (units : Units) (entries : List FileEntry) (fs gs : List FileContent) → AllZip (HasIndex g units) entries fs → AllZip (HasIndex g units) entries gs → AllZip (HasPages units) entries fs → AllZip (HasPages units) entries gs → AllByRecursion HasBodies fs → AllByRecursion HasBodies gs → fs ≡ gs
+-- an index, pages and bodies belong to at most one list of files
+pub one_list_of_files : (g : Geometry) (units : Units) (entries : List FileEntry) (fs gs : List FileContent) → AllZip (HasIndex g units) entries fs → AllZip (HasIndex g units) entries gs → AllZip (HasPages units) entries fs → AllZip (HasPages units) entries gs → AllByRecursion HasBodies fs → AllByRecursion HasBodies gs → fs ≡ gs
 one_list_of_files g units [] [] [] c d p q l m = refl
 one_list_of_files g units [] [] (y ∷ gs) c d p q l m = absurd d
 one_list_of_files g units [] (x ∷ fs) gs c d p q l m = absurd c
