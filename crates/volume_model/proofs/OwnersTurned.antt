@@ -15,13 +15,11 @@ use Rattle.trees.proofs.KeptRoots.{RootKept, spelled_root, units_of_root}
 use Rattle.trees.proofs.Owned.{some_of}
 use Rattle.trees.proofs.OwnedTrees.{root_kept}
 use Rattle.volume_model.specs.Shown.{root_here}
-use Rattle.volume_model.specs.Homes.{home}
-use Rattle.volume_model.specs.OwnersMoved.{IsNamedRoot, units_under}
-use Rattle.volume_model.specs.OwnersShown.{OwnersShown, committed_roots, logged_pages, roots_held}
+use Rattle.volume_model.specs.OwnersShown.{OwnersShown, committed_roots, roots_held}
 use Rattle.volume_model.specs.Volume.{Decoded, Volume, roots_in, stored_in}
 use Rattle.volume_model.proofs.ExactView.{times_joined}
 use Rattle.volume_model.proofs.OwnersAlike.{first_pages, roots_same}
-use Rattle.volume_model.proofs.OwnersMade.{named_stands, tree_owned}
+use Rattle.volume_model.proofs.OwnersMade.{named_stands}
 
 -- ---- whole trees
 
@@ -83,12 +81,6 @@ module _ (d : Decoded) (used : ℕ → Bool) (refs : ℕ → ℕ) (gained lost s
   module _ (now : Volume) (gone come : Option Root)
       (turns : (u : ℕ) → times u (root_pages (roots_in (stored_in now))) + times u (root_pages (root_here gone)) ≡ times u (root_pages (roots_in (stored_in working))) + times u (root_pages (root_here come)))
       (there : (u : ℕ) → times u (root_pages (root_here gone)) ≤ times u (root_pages (roots_in (stored_in working)))) where
-    -- Each unit of the tree that goes has an owner.
-    pub gone_owned : IsNamedRoot d.geometry (home d.geometry disk) gone → (u : ℕ) → 1 ≤ times u (units_under (home d.geometry disk) gone) → 1 ≤ refs u
-    gone_owned named =
-        tree_owned d.geometry (home d.geometry disk) used refs (logged_pages d working) (root_pages (roots_held d gained scans)) owners.owned gone named
-        (λ u has. working_own u (omega (arith, has, there u)))
-
     -- ---- it was gained: it is given up at once
 
     module _ (others : List Root) (taken_out : (u : ℕ) → times u (root_pages others) + times u (root_pages (root_here gone)) ≡ times u (root_pages gained) + times u (root_pages (root_here come))) where

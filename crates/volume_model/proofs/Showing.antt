@@ -1,5 +1,5 @@
 -- When the view of a session goes on showing its volume.
-use Rattle.std.proofs.Common.{◌≡◌, ◌∙◌, ◌⊎◌, ◌↔◌, ℕ, ◌+◌, Bool, true, cond, ltb, List, ◌∷◌, ◌++◌, length, map, Option, Some, None, nat_eq, refl, sym, ap, subst, arith}
+use Rattle.std.proofs.Common.{◌≡◌, ◌∙◌, ◌⊎◌, ◌↔◌, ℕ, ◌+◌, Bool, true, cond, ltb, List, ◌∷◌, ◌++◌, length, map, Some, None, nat_eq, sym, ap, subst, arith}
 use Rattle.std.specs.Prelude.{Contains, IsSome}
 use Rattle.std.specs.List.{AllByRecursion, AllZip, flat_map}
 use Rattle.std.specs.Map.{lookup}
@@ -9,9 +9,8 @@ use Rattle.ex_base.specs.declared.geometry.Geometry.{Geometry}
 use Rattle.ex_base.specs.declared.names.Area.TheVariants.{Page, Segment}
 use Rattle.table_model.specs.declared.machine.ScanRow.{ScanRow}
 use Rattle.volume_model.specs.Shown.{HeldScan}
-use Rattle.ex_base.specs.Area.{catalog_no, area_end, page_at, leaf_at}
+use Rattle.ex_base.specs.Area.{catalog_no, area_end}
 use Rattle.ex_base.specs.Order.{Rising}
-use Rattle.op_log.specs.AfterLog.{logged, after_log}
 use Rattle.object_files.specs.Catalog.{CatalogOf}
 use Rattle.table_model.specs.declared.machine.Machine.{Machine}
 use Rattle.table_model.specs.Machines.{IsMachine, shown}
@@ -22,7 +21,7 @@ use Rattle.ex_base.specs.Ports.{times}
 use Rattle.volume_model.proofs.ExactView.{exact_shown, no_page_shown}
 use Rattle.volume_model.specs.Homes.{home}
 use Rattle.volume_model.specs.OwnersShown.{OwnersOf, OwnersShown, roots_held}
-use Rattle.volume_model.specs.Shown.{Held, Shows, Shared, WorkingRow, WorkingShown, OverlayShown, PageRow, ScanShown, used_in, IsWorkingPage, Lends, laid_over, laid_over_page, roots_here, working_units}
+use Rattle.volume_model.specs.Shown.{Held, Shows, Shared, WorkingRow, WorkingShown, OverlayShown, PageRow, ScanShown, used_in, IsWorkingPage, Lends, roots_here, working_units}
 use Rattle.volume_model.specs.TreesShown.{TreesShown}
 use Rattle.volume_model.specs.Volume.{Volume, Decoded, table_of, file_pages, roots_in, stored_in}
 use Rattle.trees.specs.Owners.{IsOwned, root_pages}

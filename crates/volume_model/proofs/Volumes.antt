@@ -1,13 +1,12 @@
 -- What a working volume is, of a session that shows: its parts over its working pages, and its table.
 use Rattle.std.proofs.Common.{◌≡◌, ◌∙◌, ℕ, suc, false, List, [], ◌∷◌, length, map, Option, Some, None, is_some, refl, sym, ap, subst}
 use Rattle.std.specs.Prelude.{unwrap_or}
-use Rattle.std.specs.List.{AllByRecursion, AllZip, flat_map, zip}
+use Rattle.std.specs.List.{AllByRecursion, AllZip, zip}
 use Rattle.ex_base.specs.declared.geometry.Geometry.{Geometry}
 use Rattle.ex_base.proofs.Each.{each_from}
 use Rattle.op_log.specs.declared.record.LogRecord.{LogRecord}
 use Rattle.object_files.specs.Catalog.{FileEntry, name_of}
-use Rattle.trees.specs.Trees.{Units, root_units}
-use Rattle.volume_model.proofs.KeptOff.{trees_kept}
+use Rattle.trees.specs.Trees.{Units}
 use Rattle.table_model.specs.declared.table.Table.{Table}
 use Rattle.table_model.specs.declared.table.TableFile.{TableFile}
 use Rattle.table_model.specs.Machines.{shown}
@@ -16,7 +15,7 @@ use Rattle.volume_model.specs.Parts.{HoldsOf, content_parts}
 use Rattle.volume_model.specs.SameVolume.{kept_from_reach, parts_kept, table_kept}
 use Rattle.trees.proofs.SameUnits.{Kept}
 use Rattle.volume_model.specs.Shown.{Held, Shows, WorkingShown, working_units}
-use Rattle.volume_model.specs.Volume.{FileContent, Volume, Decoded, file_of, table_of, units_of, reach_of, roots_in, stored_in}
+use Rattle.volume_model.specs.Volume.{FileContent, Volume, Decoded, file_of, table_of, units_of, reach_of}
 
 -- ---- parts
 
@@ -72,10 +71,6 @@ module _ (R : FileEntry → FileContent → Type 0) where
   as_many_files units [] (file ∷ files) h = refl
   as_many_files units (entry ∷ entries) [] h = absurd h
   as_many_files units (entry ∷ entries) (file ∷ files) h = ap suc (as_many_files units entries files h.1)
-
--- the trees of a volume over the same units
-pub trees_same_units : (old new : Units) (v : Volume) → ((u : ℕ) → new u ≡ old u) → flat_map (root_units new) (roots_in (stored_in v)) ≡ flat_map (root_units old) (roots_in (stored_in v))
-trees_same_units old new v same = trees_kept old new (roots_in (stored_in v)) (kept_from_reach old new v (all_same old new v same)).roots
 
 -- without a transaction nothing is touched, and the working volume is the committed one
 pub idle_of : (d : Decoded) (v : View Held) (working : Volume) (o : Option Table) → is_some o ≡ false → WorkingShown d v working o → (v.session.working_pages ≡ []) × (working ≡ d.volume)

@@ -1,7 +1,7 @@
 -- What a session on a volume means, with its laws.
-use Rattle.std.specs.Prelude.{ℕ, zero, suc, ◌+◌, List, [], ◌∷◌, take}
-use Rattle.std.specs.List.{AllByRecursion}
-use Rattle.std.proofs.Common.{sym, subst}
+use Rattle.std.specs.Prelude.{◌+◌, List}
+use Rattle.std.proofs.Common.{ℕ, sym, subst}
+use Rattle.ex_base.proofs.Rows.{each-take}
 use Rattle.session_views.specs.declared.Part.{Part}
 use Rattle.table_model.specs.declared.machine.Pick.{Pick}
 use Rattle.table_model.specs.declared.table.Table.{Table}
@@ -11,14 +11,9 @@ use Rattle.volume_model.specs.CrashImage.{agrees_stands}
 use Rattle.volume_model.specs.Parts.{Holds, StandsFor, FirstBad, all_parts, rank}
 use Rattle.volume_model.specs.Shown.{Held, Shows}
 
-front_of_all : {A : Type 0} (P : A → Type 0) (n : ℕ) (xs : List A) → AllByRecursion P xs → AllByRecursion P (take n xs)
-front_of_all P zero xs h = tt
-front_of_all P (suc n) [] h = tt
-front_of_all P (suc n) (x ∷ xs) h = (h.0, front_of_all P n xs h.1)
-
 -- An image that stands for a table has no part that fails.
 pub no_part : (disk : List ℕ) (table : Table) (part : Part) → StandsFor disk table → FirstBad disk part → ⊥
-no_part disk table part stands bad = bad.fails (stands.decoded, front_of_all (Holds disk stands.decoded) (rank part + 1) all_parts stands.parts)
+no_part disk table part stands bad = bad.fails (stands.decoded, each-take (Holds disk stands.decoded) (rank part + 1) all_parts stands.parts)
 
 -- It shows where fewer images may be left.
 pub shows_narrower : (may_leave fewer : List ℕ → Type 0) (v : View Held) → ((d : List ℕ) → fewer d → may_leave d) → Shows may_leave v → Shows fewer v
