@@ -1,7 +1,8 @@
 #!/usr/bin/env bash
 # Measures sessions on a real file: whole runs of exsm, less the run of an empty script on the same volume. Beside each, a plain write and fdatasync of as
-# many bytes; and where a script commits more than once, one in as many pieces, each with its fdatasync, since that is as durable. Words: the folder to work
-# in (it must lie on the disk that is to be measured; none: a new one under /tmp). EXSM names another program.
+# many bytes; and where a script commits more than once, one in as many pieces, each with its fdatasync, since that is as durable, and what the syncs of the
+# commits take by themselves: a commit has two, one behind its record and one behind its gate. Words: the folder to work in (it must lie on the disk that is
+# to be measured; none: a new one under /tmp). EXSM names another program.
 set -eu
 top="$(cd "$(dirname "${BASH_SOURCE[0]}")/.." && pwd)"
 work="${1:-$(mktemp -d)}"
@@ -28,6 +29,25 @@ print((time.perf_counter_ns() - begun) // 1000000)
 EOF
 }
 
+# syncs_alone COUNT: the milliseconds of so many writes of one byte into a file that stands, with a sync behind each.
+syncs_alone() {
+    python3 - "$work/plain" "$1" <<'EOF'
+import os
+import sys
+import time
+
+path, count = sys.argv[1], int(sys.argv[2])
+file = os.open(path, os.O_WRONLY | os.O_CREAT | os.O_TRUNC)
+os.write(file, bytes(count))
+os.fsync(file)
+begun = time.perf_counter_ns()
+for at in range(count):
+    os.pwrite(file, b"+", at)
+    os.fdatasync(file)
+print((time.perf_counter_ns() - begun) // 1000000)
+EOF
+}
+
 # measure NAME SCRIPT BYTES: the time of the script on the volume, and of plain writes of BYTES.
 measure() {
     local name="$1" script="$2" bytes="$3" start end empty whole plain commits synced=""
@@ -40,7 +60,9 @@ measure() {
     head -c "$bytes" /dev/zero >"$work/bytes"
     start=$(now); dd if="$work/bytes" of="$work/plain" bs=1M conv=fdatasync status=none; end=$(now); plain=$((end - start))
     commits=$(grep -c '^commit$' "$script" || true)
-    [ "$commits" -le 1 ] || synced=", in $commits synced pieces $(in_pieces "$bytes" "$commits") ms"
+    if [ "$commits" -gt 1 ]; then
+        synced=", in $commits synced pieces $(in_pieces "$bytes" "$commits") ms, $((2 * commits)) syncs alone $(syncs_alone $((2 * commits))) ms"
+    fi
     echo "$name: $(((whole - empty) / 1000000)) ms, a plain write of $bytes bytes $((plain / 1000000)) ms$synced"
 }
 
