@@ -14,7 +14,6 @@ use std::alloc::Global;
 use std::process::Abort;
 use std::test::Fail;
 use trees::Pair;
-use trees::write::write_node;
 
 /// A node that is written: its page, its level, and the counts and pages of its pairs. At page 0 there is no pair, and no node.
 type NodeRow = (u32, u8, [(u32, u32); 2]);
@@ -293,6 +292,22 @@ const FAR_CASES: [Case; 2] = [
     },
 ];
 
+/// The page of a node of a level over these pairs, and zeros up to a size.
+fn node_image(alloc: Global, level: u8, pairs: &[Pair], size: usize) -> Result<Vec<u8>, Fail> {
+    let Ok(len) = u16::try_from(pairs.len()) else {
+        return Err("too many pairs")?;
+    };
+    let mut image = vec![in alloc; 5, level]?;
+    image.extend_from_slice(&len.to_be_bytes())?;
+    image.extend_from_slice(&[0; 4])?;
+    for pair in pairs {
+        image.extend_from_slice(&pair.count.to_be_bytes())?;
+        image.extend_from_slice(&pair.page.0.to_be_bytes())?;
+    }
+    image.resize(size, 0)?;
+    Ok(image)
+}
+
 /// Writes a node over a page.
 fn put_node<V: Volume>(
     volume: &mut V,
@@ -306,11 +321,7 @@ fn put_node<V: Volume>(
 {
     let page = PageNo(page);
     let size = volume.page_size() as usize;
-    if !volume.in_area(page) || size < 8 || size > 8192 || pairs.len() > (size - 8) / 12 {
-        return Err("no page for the node")?;
-    }
-    let mut image = vec![in alloc; 0u8; size]?;
-    write_node(level, pairs, &mut image);
+    let image = node_image(alloc, level, pairs, size)?;
     if !put_at(volume, alloc, page, &image)? {
         return Err("no page for the node")?;
     }
