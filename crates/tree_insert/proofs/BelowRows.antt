@@ -16,18 +16,18 @@ use Rattle.ex_base.proofs.Spread.{plain, Between}
 use Rattle.trees.specs.Split.{most_pairs}
 use Rattle.trees.specs.Trees.{Units, bytes_on, shape_on, units_on}
 use Rattle.trees.specs.declared.rows.Part.{Part}
-use Rattle.trees.specs.Damage.{NamesNode, IsWalkFault, AnyPart}
+use Rattle.trees.specs.Damage.{NamesNode, IsWalkFault}
 use Rattle.trees.specs.Rows.{row_size, row_bytes, row_shape, row_units, AreTrees, AreHalfFull, IsFilled, IsCounted, IsRowOn}
-use Rattle.trees.proofs.Blame.{any_at}
-use Rattle.trees.proofs.Reading.{row_trees, row_spells, no_part}
+use Rattle.trees.proofs.Blame.{any_split}
+use Rattle.trees.proofs.Reading.{row_trees, row_spells, shape_below, units_below, no_part}
 use Rattle.ex_base.proofs.Keeping.{keeps_on}
 use Rattle.trees.specs.Built.{AreSome}
 use Rattle.trees.specs.Made.{Has}
 use Rattle.trees.proofs.Laid.{has_left, has_right}
 use Rattle.trees.proofs.Over.{bytes_app, units_app, has_split}
 use Rattle.tree_insert.specs.Replaced.{EachRow, IsTouched, IsSpan}
-use Rattle.tree_insert.proofs.NodeStep.{shape_below, units_below}
-use Rattle.tree_insert.proofs.Spans.{front_and_piece, comes_first}
+use Rattle.trees.proofs.Sizes.{piece_size}
+use Rattle.tree_insert.proofs.Spans.{comes_first}
 
 abbrev size_of : Part → ℕ
 size_of part = part.size
@@ -44,12 +44,6 @@ each_row_more P (first ∷ run) (n ∷ lens) row part more h p = (
   subst (P first) (sym (take-append-le n row more h.0)) h.1,
   subst (EachRow P (run ++ (part ∷ [])) (lens ++ (length more ∷ []))) (sym (drop-append-le n row more h.0)) (each_row_more P run lens (drop n row) part more h.2 p),
 )
-
-pub each_row_as : (P Q : Part → List Part → Type 0) (run : List Part) (lens : List ℕ) (row : List Part) → ((part : Part) (r : List Part) → P part r → Q part r) → EachRow P run lens row → EachRow Q run lens row
-each_row_as P Q [] [] row f h = h
-each_row_as P Q [] (n ∷ lens) row f h = h
-each_row_as P Q (part ∷ run) [] row f h = h
-each_row_as P Q (part ∷ run) (n ∷ lens) row f h = (h.0, f part (take n row) h.1, each_row_as P Q run lens (drop n row) f h.2)
 
 -- ---- numbers
 
@@ -110,7 +104,7 @@ module _ (geo : Geometry) (level least : ℕ) where
       let rest : ℕ = sum_of plain (take j lens) in
       let inner : take n (take (n + sum_of plain (take j lens)) row) ≡ take n row = take-take n (n + sum_of plain (take j lens)) row (omega arith) in
       let later : row_size (take (sum_of plain (take j lens)) (drop n row)) ≡ row_size (take j run) = front_below run lens (drop n row) j h.2 in
-      let split : row_size (take n row) + row_size (take (n + sum_of plain (take j lens) - n) (drop n row)) ≡ row_size (take (n + sum_of plain (take j lens)) row) = front_and_piece row n (n + sum_of plain (take j lens)) (omega arith) in
+      let split : row_size (take n row) + row_size (take (n + sum_of plain (take j lens) - n) (drop n row)) ≡ row_size (take (n + sum_of plain (take j lens)) row) = piece_size row n (n + sum_of plain (take j lens)) (omega arith) in
       omega (arith, ap (λ k. row_size (take k (drop n row))) {x = n + sum_of plain (take j lens) - n} {y = sum_of plain (take j lens)} (omega arith), h.1.sum)
 
 least_sum : (fan : ℕ) (xs : List ℕ) (j : ℕ) (least most : ℕ) → fan ≤ least → j ≤ length xs → AllByRecursion (Between least most) xs → fan * j ≤ sum_of plain (take j xs)
@@ -124,7 +118,7 @@ pub few_nodes : (geo : Geometry) (level least fan : ℕ) (run : List Part) (lens
 few_nodes geo level least fan [] lens row pos n first end at h touched span le two = absurd (omega arith)
 few_nodes geo level least fan (part ∷ run) [] row pos n first end at h touched span le two = absurd h
 few_nodes geo level least fan (part ∷ run) (len ∷ lens) row pos n first end at h touched span le two =
-    let span_end : row_size (take first row) + row_size (take (end - first) (drop first row)) ≡ row_size (take end row) = front_and_piece row first end (omega (arith, span.order)) in
+    let span_end : row_size (take first row) + row_size (take (end - first) (drop first row)) ≡ row_size (take end row) = piece_size row first end (omega (arith, span.order)) in
     let front : row_size (take (sum_of plain (take 1 (len ∷ lens))) row) ≡ row_size (take 1 (part ∷ run)) = front_below geo level least (part ∷ run) (len ∷ lens) row 1 h in
     let starts : first < sum_of plain (take 1 (len ∷ lens)) = comes_first row first (sum_of plain (take 1 (len ∷ lens))) (omega (arith, touched.first, span.start)) in
     let back : row_size (take (sum_of plain (take (length (part ∷ run) - 1) (len ∷ lens))) row) ≡ row_size (take (length (part ∷ run) - 1) (part ∷ run)) = front_below geo level least (part ∷ run) (len ∷ lens) row (length (part ∷ run) - 1) h in
@@ -179,16 +173,6 @@ module _ (geo : Geometry) (u : Units) (l : ℕ) where
 
 -- ---- faults
 
-any_split : (P : Part → Type 0) (xs ys : List Part) → AnyPart P (xs ++ ys) → AnyPart P xs ⊎ AnyPart P ys
-any_split P [] ys h = inr h
-any_split P (x ∷ xs) ys h = elim h [
-  | inl here ↦ inl (inl here)
-  | inr rest ↦ elim (any_split P xs ys rest) [
-    | inl a ↦ inl (inr a)
-    | inr b ↦ inr b
-  ]
-]
-
 walk_split : (geo : Geometry) (u : Units) (l least : ℕ) (xs ys : List Part) (at : PageNo) (want got : Seen) → IsWalkFault geo u l least (xs ++ ys) (Damaged at want got) → IsWalkFault geo u l least xs (Damaged at want got) ⊎ IsWalkFault geo u l least ys (Damaged at want got)
 walk_split geo u zero least xs ys at want got h = any_split _ xs ys h
 walk_split geo u (suc l) least xs ys at want got h = any_split _ xs ys h
@@ -230,14 +214,6 @@ module _ {S : Type 0} (g : ground.Ghosts S) where
     pub found : g.tells old → EachRow (λ part r. IsRowOn (g.geometry old) (g.unit old part.page.0) level part.size r) (take i run) lens row
     pub area : AllByRecursion (λ (part : Part). NamesNode (g.geometry old) part.page.0) (take i run)
 
-  pub below_start : (a : S) (level least : ℕ) (run : List Part) → BelowSoFar a a level least run 0 [] []
-  below_start a level least run = record {
-    kept = record { units = refl; images = refl; used = refl; refs = refl; held = refl; free = refl; touched = refl; leads = g.leads_refl a };
-    counted = refl;
-    found = λ told. refl;
-    area = tt;
-  }
-
   pub below_more : (old now new : S) (level least : ℕ) (run : List Part) (i : ℕ) (lens lens' : List ℕ) (row row' more : List Part) (n : ℕ) → i < length run → BelowSoFar old now level least run i lens row → Keeps g now new
       → IsCounted (g.geometry now) level (get_or run i no_part).size least more → (g.tells now → IsRowOn (g.geometry now) (g.unit now (get_or run i no_part).page.0) level (get_or run i no_part).size more) → NamesNode (g.geometry now) (get_or run i no_part).page.0
       → n ≡ length more → lens' ≡ lens ++ (n ∷ []) → row' ≡ row ++ more → BelowSoFar old new level least run (i + 1) lens' row'
@@ -257,22 +233,3 @@ module _ {S : Type 0} (g : ground.Ghosts S) where
             (subst (λ x. IsRowOn x (g.unit now (get_or run i no_part).page.0) level (get_or run i no_part).size more) geo (found (g.leads_told old now h.kept.leads told))));
         area = subst (AllByRecursion (λ (p : Part). NamesNode (g.geometry old) p.page.0)) (sym up) (each-append _ (take i run) (get_or run i no_part ∷ []) h.area (subst (λ x. NamesNode x (get_or run i no_part).page.0) geo area, tt));
       }
-
--- from one tree of a run to the run
-pub walk_one : (geo : Geometry) (u : Units) (level least i : ℕ) (run : List Part) (fault : PortFault) → i < length run → IsWalkFault geo u level least (get_or run i no_part ∷ []) fault → IsWalkFault geo u level least run fault
-walk_one geo u level least i run Disk lt h = tt
-walk_one geo u level least i run Memory lt h = tt
-walk_one geo u zero least i run (Damaged at want got) lt h = any_at _ run i lt (only h)
-  where
-    only : {A : Type 0} → A ⊎ ⊥ → A
-    only h = elim h [
-      | inl a ↦ a
-      | inr n ↦ absurd n
-    ]
-walk_one geo u (suc l) least i run (Damaged at want got) lt h = any_at _ run i lt (only h)
-  where
-    only : {A : Type 0} → A ⊎ ⊥ → A
-    only h = elim h [
-      | inl a ↦ a
-      | inr n ↦ absurd n
-    ]

@@ -16,12 +16,11 @@ use Rattle.trees.specs.Rows.{AreTrees, IsRowOn, row_shape, row_size}
 use Rattle.trees.proofs.Ways.{way_append, way_kept, way_past}
 use Rattle.ex_base.proofs.Keeping.{keeps_on}
 use Rattle.ex_base.proofs.Each.{split_each}
-use Rattle.trees.proofs.Reading.{row_trees, no_part}
+use Rattle.trees.proofs.Reading.{row_trees, shape_below, no_part}
 use Rattle.tree_insert.specs.declared.lengths.Counted.{Counted}
 use Rattle.tree_insert.specs.Counts.{AreBounded, AreCounted, AreSound}
 use Rattle.trees.proofs.Growing.{shape_app}
 use Rattle.trees.proofs.Sizes.{around_row}
-use Rattle.tree_insert.proofs.NodeStep.{shape_below}
 use Rattle.tree_insert.proofs.PlaceLaws.{read_size, size-front}
 
 -- ---- the leaves of trees side by side
@@ -128,10 +127,6 @@ pub front_more : (most : ℕ) (old now after a b all : List ℕ) → now ≡ tak
 front_more most old now after a b all now_is after_is all_is =
     after_is ∙ ap (λ xs. take most (xs ++ b)) now_is ∙ front_on most (old ++ a) b ∙ ap (take most) (append_assoc old a b ∙ ap (λ xs. old ++ xs) (sym all_is))
 
-pub front_full : (most : ℕ) (old now a all rest : List ℕ) → now ≡ take most (old ++ a) → most ≤ length now → all ≡ a ++ rest → now ≡ take most (old ++ all)
-front_full most old now a all rest now_is full all_is =
-    front_more most old now now a rest all now_is (sym (take-append-le most now rest full ∙ ap (take most) now_is ∙ take-take most most (old ++ a) (omega arith) ∙ sym now_is)) all_is
-
 module _ {S : Type 0} (g : ground.Ghosts S) where
   pub record FrontSoFar (old now : S) (most level : ℕ) (row : List Part) (i : ℕ) (before after : List ℕ) : Type 0 where
     pub kept : Keeps g old now
@@ -158,10 +153,6 @@ module _ {S : Type 0} (g : ground.Ghosts S) where
         subst (λ u. after ≡ take most (mid ++ joined l (shape_on u l (get_or row i no_part).page.0 (get_or row i no_part).size))) h.kept.units (more (g.leads_told old now h.kept.leads told) l same here) in
         front_more most before mid after (leaves_in (g.unit old) l (take i row)) (joined l (shape_on (g.unit old) l (get_or row i no_part).page.0 (get_or row i no_part).size)) (leaves_in (g.unit old) l (take (i + 1) row)) (h.lengths told l same trees) own (leaves_more (g.unit old) l row i lt);
   }
-
--- a list that is full takes no more
-pub full_stays : (most : ℕ) (old more : List ℕ) → most ≤ length old → length old ≤ most → old ≡ take most (old ++ more)
-full_stays most old more full few = sym (take-append-le most old more full ∙ take_all most old few)
 
 -- one length more, where there is room
 pub room_for_one : (most : ℕ) (old now : List ℕ) (n : ℕ) → length old < most → now ≡ old ++ (n ∷ []) → now ≡ take most (old ++ (n ∷ []))

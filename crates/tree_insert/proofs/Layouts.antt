@@ -167,9 +167,6 @@ laid_out growth fan full n xs pos index at first end layout h each spot layout_i
 
 -- ---- which neighbours take part
 
-in_place_left : (full total : ℕ) → (spread full total).takes_left ≡ false
-in_place_left full total = refl
-
 pub no_left : (growth : Growth) (full leaf : ℕ) (right : Option ℕ) (n : ℕ) → (layout_by growth full None leaf right n).takes_left ≡ false
 unfolding insert_layout append_layout
 no_left Insert full leaf None n = cond_both (leb (leaf + n) full) _ _ (λ (l : Layout). l.takes_left ≡ false) (λ e. refl) (λ e. refl)

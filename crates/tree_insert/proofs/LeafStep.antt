@@ -10,7 +10,7 @@ use Rattle.ex_base.specs.Area.{NamesLeaf}
 use Rattle.ex_base.specs.Sizes.{leaf_bytes}
 use Rattle.ex_base.proofs.Rows.{each-append, each-take, each-drop, sum_of-append, sum_of-take_drop}
 use Rattle.ex_base.proofs.Spread.{plain, Between}
-use Rattle.ex_base.proofs.Each.{split_each}
+use Rattle.ex_base.proofs.Each.{each_mapped, each_unmapped, split_each}
 use Rattle.trees.specs.Layout.{Layout}
 use Rattle.trees.proofs.Placed.{AreLeaves}
 use Rattle.trees.specs.Shape.{Subtree}
@@ -20,6 +20,7 @@ use Rattle.trees.specs.Made.{Extends, Holds, Took, pages_of, sizes_of, changed}
 use Rattle.trees.specs.Built.{AreSome}
 use Rattle.trees.proofs.Laid.{row_length}
 use Rattle.trees.proofs.Over.{bytes_app}
+use Rattle.trees.proofs.Sizes.{front_le, sizes_sum}
 use Rattle.tree_insert.specs.declared.layout.Growth.{Growth}
 use Rattle.trees.specs.Counted.{Counted}
 use Rattle.trees.specs.Grown.{Grew}
@@ -34,18 +35,6 @@ use Rattle.trees.proofs.Growing.{holds_split, grew_leaves, grew_between}
 
 abbrev size_of : Part → ℕ
 size_of part = part.size
-
-pub sizes_sum : (row : List Part) → sum_of plain (sizes_of row) ≡ row_size row
-sizes_sum [] = refl
-sizes_sum (part ∷ row) = ap (λ n. part.size + n) (sizes_sum row)
-
-pub sizes_each : (P : ℕ → Type 0) (row : List Part) → AllByRecursion (λ (part : Part). P part.size) row → AllByRecursion P (sizes_of row)
-sizes_each P [] all = tt
-sizes_each P (part ∷ row) all = (all.0, sizes_each P row all.1)
-
-pub each_size : (P : ℕ → Type 0) (row : List Part) → AllByRecursion P (sizes_of row) → AllByRecursion (λ (part : Part). P part.size) row
-each_size P [] all = tt
-each_size P (part ∷ row) all = (all.0, each_size P row all.1)
 
 both : (full : ℕ) (row : List Part) → AreSome row → AllByRecursion (λ (part : Part). part.size ≤ full) row → AreLeaves 1 full (sizes_of row)
 both full [] some fit = tt
@@ -79,13 +68,6 @@ size_fits full [] i fit lt = absurd (omega arith)
 size_fits full (part ∷ row) zero fit lt = fit.0
 size_fits full (part ∷ row) (suc i) fit lt = size_fits full row i fit.1 (omega arith)
 
-pub front_le : (row : List Part) (i j : ℕ) → i ≤ j → row_size (take i row) ≤ row_size (take j row)
-front_le row zero j le = omega arith
-front_le [] (suc i) zero le = absurd (omega arith)
-front_le [] (suc i) (suc j) le = omega arith
-front_le (part ∷ row) (suc i) zero le = absurd (omega arith)
-front_le (part ∷ row) (suc i) (suc j) le = omega (arith, front_le row i j (omega arith))
-
 pub leaf_step : (growth : Growth) (fan full n : ℕ) (row : List Part) (pos index at0 first end at : ℕ) (layout : Layout) → 2 ≤ full → 1 ≤ n → AreSome row → AllByRecursion (λ (part : Part). part.size ≤ full) row → IsSpot growth pos (row_size row)
     → IsAt row pos index at0 → layout ≡ layout_by growth full (last_of (sizes_of (take index row))) (size_at row index) (first_of (sizes_of (drop (index + 1) row))) n → first + flag layout.takes_left ≡ index → end ≡ index + 1 + flag layout.takes_right
     → row_size (take first row) + at ≡ row_size (take index row) + at0 → end ≤ length row → IsLeafStep growth fan full n row pos first end at layout.lengths
@@ -100,7 +82,7 @@ leaf_step growth fan full n row pos index at0 first end at layout two more some 
     } in
     let le : first ≤ end = omega arith in
     let laid : row_by growth fan full n 0 (sizes_of row) pos ≡ take first (sizes_of row) ++ (layout.lengths ++ drop end (sizes_of row)) =
-    laid_out growth fan full n (sizes_of row) pos index at0 first end layout placed (sizes_each (λ k. 1 ≤ k) row some) (subst (IsSpot growth pos) (sym (sizes_sum row)) spot)
+    laid_out growth fan full n (sizes_of row) pos index at0 first end layout placed (each_mapped (λ k. 1 ≤ k) size_of row some) (subst (IsSpot growth pos) (sym (sizes_sum row)) spot)
     (layout_is ∙ ap (λ xs. layout_by growth full (last_of xs) (size_at row index) (first_of (sizes_of (drop (index + 1) row))) n) front ∙ ap (λ xs. layout_by growth full (last_of (take index (sizes_of row))) (size_at row index) (first_of xs) n) back) first_is end_is in
     let shape : row_by growth fan full n 0 (sizes_of row) pos ≡ sizes_of (take first row) ++ (layout.lengths ++ sizes_of (drop end row)) =
     laid ∙ ap (λ xs. xs ++ (layout.lengths ++ drop end (sizes_of row))) (sym (sym (take-map size_of first row))) ∙ ap (λ xs. sizes_of (take first row) ++ (layout.lengths ++ xs)) (sym (sym (drop-map size_of end row))) in
@@ -144,7 +126,7 @@ step_grown growth fan full n row pos first end at lengths made items lt inside s
     record {
       sum = omega (arith, ap row_size is, sum_of-append size_of (take first row ++ made) (drop end row), sum_of-append size_of (take first row) made, sizes_sum made, ap (sum_of plain) sizes, h.sum, three);
       sizes = subst AreSome (sym is) (each-append _ (take first row ++ made) (drop end row) (each-append _ (take first row) made (each-take _ first row somes)
-          (each_size (λ k. 1 ≤ k) made (subst (AllByRecursion (λ k. 1 ≤ k)) (sym sizes) (weaker full lengths h.each)))) (each-drop _ end row somes));
+          (each_unmapped (λ k. 1 ≤ k) size_of made (subst (AllByRecursion (λ k. 1 ≤ k)) (sym sizes) (weaker full lengths h.each)))) (each-drop _ end row somes));
       some = omega (arith, step_count first end row made items lengths lt inside is sizes, h.many, length-take-le first row (omega arith), length-drop end row);
     }
   where

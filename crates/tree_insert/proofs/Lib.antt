@@ -1,6 +1,5 @@
 mod PlaceLaws
 mod PlanLaws
-mod Growing
 mod Paid
 mod Layouts
 mod LeafStep

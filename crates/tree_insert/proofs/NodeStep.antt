@@ -1,6 +1,6 @@
 -- The step over a node at a place of a row.
-use Rattle.std.proofs.Common.{◌≡◌, ◌≢◌, ℕ, zero, suc, ◌+◌, ◌-◌, ◌<◌, ◌≤◌, leb, List, [], ◌∷◌, ◌++◌, length, map, take, drop, get_or, refl, sym, ap, subst, ◌∙◌, arith, append_assoc}
-use Rattle.std.specs.List.{AllByRecursion, flat_map}
+use Rattle.std.proofs.Common.{◌≡◌, ◌≢◌, ℕ, zero, suc, ◌+◌, ◌-◌, ◌<◌, ◌≤◌, leb, List, [], ◌∷◌, ◌++◌, length, take, drop, get_or, refl, sym, ap, subst, ◌∙◌, arith, append_assoc, inr}
+use Rattle.std.specs.List.{AllByRecursion}
 use Rattle.std.proofs.lemmas.Bool.{leb-true, leb-false, cond_both}
 use Rattle.std.proofs.lemmas.List.{append-nil, length-append, length-drop, length-take-le, length-map}
 use Rattle.ex_base.specs.Edits.{inserted}
@@ -9,15 +9,14 @@ use Rattle.ex_base.specs.Ports.{Keeps}
 use Rattle.ex_base.specs.declared.geometry.Geometry.{Geometry}
 use Rattle.ex_base.specs.declared.ground.Ground as ground
 use Rattle.ex_base.proofs.Rows.{sum_of-append, each-append, each-take, each-drop}
-use Rattle.trees.specs.declared.Pair.{Pair}
-use Rattle.trees.specs.Node.{RiseFrom, pairs_on, total_of}
+use Rattle.trees.specs.Node.{pairs_on}
 use Rattle.trees.specs.Split.{nodes_over}
 use Rattle.trees.specs.Shape.{Subtree, total, change_at, change_last, insert_parts, append_parts}
-use Rattle.trees.specs.Trees.{Units, EachChild, for_each_child, IsNamed, HasSize, bytes_on, shape_on, units_on}
+use Rattle.trees.specs.Trees.{Units, bytes_on, shape_on}
 use Rattle.trees.specs.declared.rows.Part.{Part}
 use Rattle.trees.specs.Rows.{row_size, row_bytes, row_shape, row_units, AreTrees, IsRowOn, parts_of}
-use Rattle.trees.proofs.Reading.{row_trees, row_spells, no_part}
-use Rattle.trees.specs.Made.{Extends, AreUsed, Holds, Took, pages_of}
+use Rattle.trees.proofs.Reading.{row_trees, row_spells, shape_below, units_below, no_part}
+use Rattle.trees.specs.Made.{Extends, AreUsed, Has, Holds, Took, pages_of}
 use Rattle.trees.specs.Built.{Built, AreSome, even_lens}
 use Rattle.trees.proofs.Laid.{extends_on, extends_kept, row_length}
 use Rattle.trees.proofs.Over.{bytes_app}
@@ -28,29 +27,13 @@ use Rattle.trees.specs.Grown.{Grew}
 use Rattle.tree_insert.specs.Grown.{HasGrown}
 use Rattle.tree_insert.specs.Growth.{IsSpot, row_by, parts_by}
 use Rattle.tree_insert.specs.Places.{IsAt, size_at}
+use Rattle.trees.proofs.TreeLaws.{total-shape}
 use Rattle.trees.proofs.Sizes.{around_row, front_most}
 use Rattle.tree_insert.proofs.PlaceLaws.{read_size, size-front}
-use Rattle.trees.proofs.Growing.{shape_app, holds_split, holds_kept, grew_back, grew_between}
-use Rattle.tree_insert.proofs.Growing.{grew_nodes}
+use Rattle.trees.proofs.Growing.{shape_app, holds_split, holds_kept, grew_back, grew_between, grew_over}
 use Rattle.tree_insert.proofs.LeafStep.{Grew-as, inserted_between}
 
 -- ---- the size of a shape
-
-children_total : (u : Units) (l before : ℕ) (pairs : List Pair) → RiseFrom before pairs → EachChild (λ page n. total l (shape_on u l page n) ≡ n) before pairs → 1 ≤ length pairs → before + sum_of (total l) (for_each_child (shape_on u l) before pairs) ≡ total_of pairs
-children_total u l before [] rise each some = absurd (omega arith)
-children_total u l before (pair ∷ []) rise each some = omega (arith, each.0, rise.0)
-children_total u l before (pair ∷ next ∷ pairs) rise each some = omega (arith, each.0, rise.0, children_total u l pair.count (next ∷ pairs) rise.1 each.1 (omega arith))
-
-each_total : (geo : Geometry) (u : Units) (l before : ℕ) (pairs : List Pair) → ((page n : ℕ) → IsNamed geo u l page → HasSize geo u l page n → total l (shape_on u l page n) ≡ n) → AllByRecursion (λ (pair : Pair). IsNamed geo u l pair.page.0) pairs
-    → EachChild (HasSize geo u l) before pairs → EachChild (λ page n. total l (shape_on u l page n) ≡ n) before pairs
-each_total geo u l before [] below named sized = tt
-each_total geo u l before (pair ∷ pairs) below named sized = (below pair.page.0 (pair.count - before) named.0 sized.0, each_total geo u l pair.count pairs below named.1 sized.1)
-
-pub total-shape : (geo : Geometry) (u : Units) (l page n : ℕ) → IsNamed geo u l page → HasSize geo u l page n → total l (shape_on u l page n) ≡ n
-total-shape geo u zero page n named sized = refl
-total-shape geo u (suc l) page n named sized =
-    let each = each_total geo u l 0 (pairs_on (u page)) (λ p m a b. total-shape geo u l p m a b) named.2 sized.1 in
-    omega (arith, children_total u l 0 (pairs_on (u page)) named.1.fits.rising each named.1.fits.some, sized.0)
 
 row_total : (geo : Geometry) (u : Units) (l : ℕ) (row : List Part) → AreTrees geo u l row → sum_of (total l) (row_shape u l row) ≡ row_size row
 row_total geo u l [] trees = refl
@@ -94,23 +77,6 @@ row_split Append fan full n l xs tree rest pos at sum fits first each spot =
     ap (λ r. change_last (append_parts fan full n (suc l)) (xs ++ (tree ∷ r))) none ∙ last_split (append_parts fan full n (suc l)) xs tree ∙ ap (λ r. xs ++ (append_parts fan full n (suc l) tree ++ r)) (sym none)
     ∙ ap (λ ts. xs ++ (ts ++ rest)) (parts-node Append fan full n l tree at)
 
--- ---- the row on a node's page
-
-children_shape : {A : Type 0} (make : ℕ → ℕ → A) (before : ℕ) (pairs : List Pair) → for_each_child make before pairs ≡ map (λ (part : Part). make part.page.0 part.size) (parts_of before pairs)
-children_shape make before [] = refl
-children_shape make before (pair ∷ pairs) = ap (λ xs. make pair.page.0 (pair.count - before) ∷ xs) (children_shape make pair.count pairs)
-
-pub shape_below : (u : Units) (l page n : ℕ) (below : List Part) → below ≡ parts_of 0 (pairs_on (u page)) → shape_on u (suc l) page n ≡ row_shape u l below
-shape_below u l page n below is = children_shape (shape_on u l) 0 (pairs_on (u page)) ∙ ap (row_shape u l) (sym is)
-
-children_units : (f : ℕ → List ℕ) (before : ℕ) (pairs : List Pair) → flat_map (λ (pair : Pair). f pair.page.0) pairs ≡ flat_map (λ (part : Part). f part.page.0) (parts_of before pairs)
-children_units f before [] = refl
-children_units f before (pair ∷ pairs) = ap (λ us. f pair.page.0 ++ us) (children_units f pair.count pairs)
-
-pub units_below : (u : Units) (l : ℕ) (part : Part) (below : List Part) → below ≡ parts_of 0 (pairs_on (u part.page.0)) → row_units u (suc l) (part ∷ []) ≡ part.page.0 ∷ row_units u l below
-units_below u l part below is =
-    append-nil (units_on u (suc l) part.page.0) ∙ ap (λ us. part.page.0 ∷ us) (children_units (units_on u l) 0 (pairs_on (u part.page.0)) ∙ ap (row_units u l) (sym is))
-
 -- ---- one node
 
 module _ {S : Type 0} (g : ground.Ghosts S) where
@@ -131,7 +97,8 @@ module _ {S : Type 0} (g : ground.Ghosts S) where
       let grew = grow held in
       let units : row_units (g.unit b) (suc l) (part ∷ []) ≡ part.page.0 ∷ row_units (g.unit b) l below =
       subst (λ u. row_units u (suc l) (part ∷ []) ≡ part.page.0 ∷ row_units u l below) (sym k.units) (units_below (g.unit a) l part below on.parts) in
-      let over = grew_nodes g b c d l part below grown made (inserted (row_bytes (g.unit b) l below) at given) (row_by growth fan full (length given) l (row_shape (g.unit b) l below) at) x y held units grew took build counts in
+      let over = grew_over g b c d l (part ∷ []) below grown made (inserted (row_bytes (g.unit b) l below) at given) (row_by growth fan full (length given) l (row_shape (g.unit b) l below) at) x y held
+      (λ p has. subst (λ us. Has us p) (sym units) (inr has)) grew took build counts in
       let bytes : row_bytes (g.unit b) l below ≡ row_bytes (g.unit a) (suc l) (part ∷ []) =
       ap (λ u. row_bytes u l below) k.units ∙ row_spells (g.unit a) l part.page.0 part.size below on.parts ∙ sym (append-nil (bytes_on (g.unit a) (suc l) part.page.0 part.size)) in
       let fans : (g.geometry b).fan ≡ fan = ap (λ (geo : Geometry). geo.fan) (g.leads_geometry a b k.leads) ∙ sym fan_is in

@@ -1,5 +1,5 @@
 -- Sizes and places in a row of trees.
-use Rattle.std.proofs.Common.{◌≡◌, ◌≢◌, ℕ, zero, suc, ◌+◌, ◌-◌, ◌<◌, ◌≤◌, List, [], ◌∷◌, length, take, drop, get_or, Some, None, refl, sym, ap, ◌∙◌, arith, add-one}
+use Rattle.std.proofs.Common.{◌≡◌, ◌≢◌, ℕ, zero, suc, ◌+◌, ◌-◌, ◌<◌, ◌≤◌, List, [], ◌∷◌, length, take, drop, get_or, Some, None, refl, sym, ap, ◌∙◌, arith, add-one, take_all}
 use Rattle.std.specs.Prelude.{unwrap_or}
 use Rattle.trees.specs.declared.rows.Part.{Part}
 use Rattle.trees.specs.Rows.{row_size}
@@ -19,28 +19,16 @@ size-front [] i lt = absurd (omega arith)
 size-front (part ∷ row) zero lt = omega arith
 size-front (part ∷ row) (suc i) lt = ap (λ k. row_size (take k (part ∷ row))) (add-one (suc i)) ∙ omega (arith, size-front row i (omega arith), ap (λ k. row_size (take k row)) (add-one i))
 
-pub size_most : (row : List Part) (i : ℕ) → i < length row → size_at row i ≤ row_size row
-size_most row i lt = omega (arith, size-front row i lt, front_most row (i + 1))
-
 pub read_most : (row : List Part) (i : ℕ) → (get_or row i no_part).size ≤ row_size row
 read_most [] i = omega arith
 read_most (part ∷ row) zero = omega arith
 read_most (part ∷ row) (suc i) = omega (arith, read_most row i)
-
-take_all : (row : List Part) (n : ℕ) → length row ≤ n → take n row ≡ row
-take_all [] zero le = refl
-take_all [] (suc n) le = refl
-take_all (part ∷ row) zero le = absurd (omega arith)
-take_all (part ∷ row) (suc n) le = ap (λ (r : List Part). part ∷ r) (take_all row n (omega arith))
 
 -- ---- the search for a place
 
 pub record Passed (row : List Part) (pos index at : ℕ) : Type 0 where
   pub start : row_size (take index row) + at ≡ pos
   pub first : index ≢ 0 → 1 ≤ at
-
-pub nothing_passed : (row : List Part) (pos : ℕ) → Passed row pos 0 pos
-nothing_passed row pos = record { start = omega arith; first = λ ne. absurd (ne refl) }
 
 pub passed_more : (row : List Part) (pos index at : ℕ) → index < length row → (get_or row index no_part).size < at → Passed row pos index at → Passed row pos (index + 1) (at - (get_or row index no_part).size)
 passed_more row pos index at lt above h = record {
@@ -57,7 +45,7 @@ found_last row pos index at some last le h =
     record {
       inside = lt;
       start = h.start;
-      fits = omega (arith, h.start, size-front row index lt, ap row_size (take_all row (index + 1) (omega arith)));
+      fits = omega (arith, h.start, size-front row index lt, ap row_size (take_all (index + 1) row (omega arith)));
       first = h.first;
     }
 
@@ -74,9 +62,6 @@ left_is row zero ne lt = absurd (ne refl)
 left_is row (suc i) ne lt =
     let back : suc i - 1 ≡ i = omega arith in
     ap (λ k. Some (get_or row k no_part).size) back ∙ ap Some (read_size row i (omega arith)) ∙ sym (last-front row i (omega arith))
-
-pub left_none : (row : List Part) (i : ℕ) → i ≡ 0 → None ≡ last_of (sizes_of (take i row))
-left_none row i none = ap (λ k. last_of (sizes_of (take k row))) (sym none)
 
 pub first-rest : (row : List Part) (i : ℕ) → i < length row → first_of (sizes_of (drop i row)) ≡ Some (size_at row i)
 first-rest [] i lt = absurd (omega arith)

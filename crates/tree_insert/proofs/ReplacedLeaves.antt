@@ -1,5 +1,5 @@
 -- New leaves with other bytes over a range of a run of leaves.
-use Rattle.std.proofs.Common.{◌≡◌, ◌⊎◌, ℕ, zero, suc, ◌+◌, ◌-◌, ◌*◌, ◌/◌, ◌<◌, ◌≤◌, min, List, [], ◌∷◌, ◌++◌, length, take, drop, get_or, refl, sym, ap, subst, ◌∙◌, arith, inl, inr, take_all, true, true≢false, append_assoc}
+use Rattle.std.proofs.Common.{◌≡◌, ◌⊎◌, ℕ, zero, suc, ◌+◌, ◌-◌, ◌*◌, ◌/◌, ◌<◌, ◌≤◌, min, List, [], ◌∷◌, ◌++◌, length, take, drop, get_or, refl, sym, ap, subst, ◌∙◌, arith, inl, inr, take_all, true, append_assoc}
 use Rattle.std.specs.Prelude.{IsTrue}
 use Rattle.std.specs.List.{AllByRecursion}
 use Rattle.std.proofs.lemmas.Bool.{cases_lt}
@@ -8,7 +8,7 @@ use Rattle.std.proofs.lemmas.Grind.{same_number_lists}
 use Rattle.std.proofs.lemmas.List.{length-append, length-drop, length-take-le, length-map, map-append, get_or-take, get_or-drop, get_or-append_right, get_or_append_left, take_more}
 use Rattle.std.proofs.lemmas.Nat.{le-div}
 use Rattle.ex_base.specs.Area.{NamesLeaf}
-use Rattle.ex_base.specs.Bytes.{written, repl, length-repl, repl-below, repl-above, repl-inside}
+use Rattle.ex_base.specs.Bytes.{written, repl, repl-below, repl-above, repl-inside}
 use Rattle.ex_base.specs.Even.{sum_of}
 use Rattle.ex_base.specs.Limits.{is_page_size}
 use Rattle.ex_base.specs.Needs.{replaced_leaves}
@@ -17,7 +17,8 @@ use Rattle.ex_base.specs.declared.geometry.Geometry.{Geometry}
 use Rattle.ex_base.specs.declared.ground.Ground as ground
 use Rattle.ex_base.proofs.Rows.{each-append}
 use Rattle.ex_base.proofs.Spread.{plain}
-use Rattle.ex_base.proofs.Each.{each_as}
+use Rattle.ex_base.proofs.Each.{each_as, each_mapped, each_unmapped}
+use Rattle.ex_base.proofs.Splices.{length-written}
 use Rattle.ex_base.proofs.Geometries.{leaf_some}
 use Rattle.trees.specs.declared.rows.Part.{Part}
 use Rattle.trees.specs.Damage.{IsSoundEnd, IsSoundWay}
@@ -27,24 +28,20 @@ use Rattle.trees.specs.Trees.{Units}
 use Rattle.trees.specs.Built.{AreSome}
 use Rattle.trees.specs.Made.{Extends, Spent, Holds, IsTaken, Took, pages_of, sizes_of, changed}
 use Rattle.trees.proofs.Kept.{row_extends, holds_on}
-use Rattle.trees.proofs.Laid.{extends_refl, extends_on, spent_none, spent_on, leaves_kept, leaves_way, row_length, has_left, has_right}
+use Rattle.trees.proofs.Laid.{extends_on, spent_on, leaves_kept, leaves_way, row_length, has_left, has_right}
 use Rattle.trees.proofs.Over.{bytes_app}
 use Rattle.trees.specs.Counted.{Counted}
-use Rattle.trees.proofs.Counts.{counted_on, counted_same}
+use Rattle.trees.proofs.Counts.{counted_on}
 use Rattle.trees.specs.Grown.{Grew}
 use Rattle.tree_insert.specs.Replaced.{IsTouched, AreLeaves}
 use Rattle.trees.proofs.Growing.{holds_split, grew_leaves}
-use Rattle.tree_insert.proofs.LeafStep.{front_le, sizes_sum, sizes_each, each_size}
+use Rattle.trees.proofs.Sizes.{front_le, sizes_sum}
 use Rattle.trees.proofs.Sizes.{around_row, front_most}
 use Rattle.trees.proofs.Reading.{no_part}
 use Rattle.tree_insert.proofs.PlaceLaws.{read_size, size-front}
 use Rattle.trees.proofs.RootSteps.{taken_first, taken_second, taken_in}
 
 -- ---- bytes that are written over others, one place at a time
-
-w-length : (b : List ℕ) (p : ℕ) (x : List ℕ) → p + length x ≤ length b → length (written b p x) ≡ length b
-unfolding repl
-w-length b p x h = length-repl b p x h
 
 w-below : (b : List ℕ) (p : ℕ) (x : List ℕ) (i : ℕ) → p + length x ≤ length b → i < p → get_or (written b p x) i 0 ≡ get_or b i 0
 unfolding repl
@@ -93,9 +90,9 @@ pub piece_more : (x y z given : List ℕ) (pos at done cut : ℕ) → IsPiece (l
     → take (length x + length y) (written (x ++ (y ++ z)) pos given) ≡ take (length x) (written (x ++ (y ++ z)) pos given) ++ written y at (take cut (drop done given))
 piece_more x y z given pos at done cut h fits =
     let room : length (x ++ (y ++ z)) ≡ length x + (length y + length z) = omega (arith, length-append x (y ++ z), length-append y z) in
-    let whole : length (written (x ++ (y ++ z)) pos given) ≡ length (x ++ (y ++ z)) = w-length (x ++ (y ++ z)) pos given fits in
+    let whole : length (written (x ++ (y ++ z)) pos given) ≡ length (x ++ (y ++ z)) = length-written (x ++ (y ++ z)) given pos fits in
     let len : length (take cut (drop done given)) ≡ cut = length-take-le cut (drop done given) (omega (arith, length-drop done given, h.cut_is, h.done_is, h.ends)) in
-    let part : length (written y at (take cut (drop done given))) ≡ length y = w-length y at (take cut (drop done given)) (omega (arith, h.cut_is, h.at_is, h.begins)) in
+    let part : length (written y at (take cut (drop done given))) ≡ length y = length-written y (take cut (drop done given)) at (omega (arith, h.cut_is, h.at_is, h.begins)) in
     let front : length (take (length x) (written (x ++ (y ++ z)) pos given)) ≡ length x = length-take-le (length x) (written (x ++ (y ++ z)) pos given) (omega arith) in
     let left : length (take (length x + length y) (written (x ++ (y ++ z)) pos given)) ≡ length x + length y = length-take-le (length x + length y) (written (x ++ (y ++ z)) pos given) (omega arith) in
     same_number_lists _ _ (omega (arith, left, front, part, length-append (take (length x) (written (x ++ (y ++ z)) pos given)) (written y at (take cut (drop done given)))))
@@ -175,19 +172,6 @@ module _ {S : Type 0} (g : ground.Ghosts S) where
     pub ends : g.tells old → (end : ℕ) → (end ≡ pos) ⊎ (end ≡ pos + length given) → IsSoundEnd (g.geometry old) (g.unit old) 0 0 (take i run) end
     pub bytes : g.tells old → Holds g old 0 run → row_bytes (g.unit now) 0 made ≡ take start (written (row_bytes (g.unit old) 0 run) pos given)
 
-  pub replaced_start : (a : S) (run : List Part) (pos : ℕ) (given : List ℕ) → ReplacedSoFar a a run pos given 0 0 []
-  replaced_start a run pos given = record {
-    extends = extends_refl g a;
-    start_is = refl;
-    sizes = refl;
-    named = tt;
-    took = record { each = tt; all = λ p h. absurd (true≢false (sym h.1 ∙ h.0)) };
-    spent = spent_none g a;
-    counts = counted_same g a;
-    ends = λ told end which some. tt;
-    bytes = λ told holds. refl;
-  }
-
   pub replaced_more : (old now new : S) (run : List Part) (pos : ℕ) (given : List ℕ) (i start at done cut : ℕ) (made after fresh : List Part) → g.ready old → i < length run → IsTouched run pos (length given)
       → ReplacedSoFar old now run pos given i start made → IsPiece start (get_or run i no_part).size pos (length given) at done cut
       → Extends g now new → Spent g now new 1 0 → sizes_of fresh ≡ (get_or run i no_part).size ∷ [] → AllByRecursion (λ (part : Part). NamesLeaf (g.geometry now) part.page.0) fresh → Took g now new (pages_of fresh) → Counted g now new
@@ -250,7 +234,7 @@ module _ {S : Type 0} (g : ground.Ghosts S) where
   replaced_all old now run pos given i start made ready end some leaves touched h told holds =
       let all : take i run ≡ run = take_all i run (omega arith) in
       let len = row_length (g.geometry old) (g.unit old) 0 run (g.whole old ready told) holds.trees in
-      let whole : length (written (row_bytes (g.unit old) 0 run) pos given) ≡ length (row_bytes (g.unit old) 0 run) = w-length (row_bytes (g.unit old) 0 run) pos given (omega (arith, touched.all)) in
+      let whole : length (written (row_bytes (g.unit old) 0 run) pos given) ≡ length (row_bytes (g.unit old) 0 run) = length-written (row_bytes (g.unit old) 0 run) given pos (omega (arith, touched.all)) in
       grew_leaves g old now run made (sizes_of run) (written (row_bytes (g.unit old) 0 run) pos given) h.extends (h.sizes ∙ ap sizes_of all) (fit_sizes (g.geometry old) run some (leaves.fit refl)) h.named h.took h.counts
       (h.bytes told holds ∙ take_all start (written (row_bytes (g.unit old) 0 run) pos given) (omega (arith, h.start_is, ap row_size all)))
 
@@ -278,7 +262,7 @@ pub same_sum : (run made : List Part) → sizes_of made ≡ sizes_of run → row
 same_sum run made is = omega (arith, sizes_sum made, sizes_sum run, ap (sum_of plain) is)
 
 pub same_some : (run made : List Part) → sizes_of made ≡ sizes_of run → AreSome run → AreSome made
-same_some run made is some = each_size (λ k. 1 ≤ k) made (subst (AllByRecursion (λ k. 1 ≤ k)) (sym is) (sizes_each (λ k. 1 ≤ k) run some))
+same_some run made is some = each_unmapped (λ k. 1 ≤ k) (λ (part : Part). part.size) made (subst (AllByRecursion (λ k. 1 ≤ k)) (sym is) (each_mapped (λ k. 1 ≤ k) (λ (part : Part). part.size) run some))
 
 pub same_count : (run made : List Part) → sizes_of made ≡ sizes_of run → length made ≡ length run
 same_count run made is = omega (arith, ap length is, length-map made (λ (q : Part). q.size), length-map run (λ (q : Part). q.size))

@@ -1,5 +1,5 @@
 -- New nodes over a run whose leaves were replaced, and the new root.
-use Rattle.std.proofs.Common.{◌≡◌, ◌≢◌, ℕ, zero, suc, ◌+◌, ◌-◌, ◌*◌, ◌/◌, ◌<◌, ◌≤◌, List, [], ◌∷◌, ◌++◌, length, take, drop, get_or, Some, true, refl, sym, ap, subst, ◌∙◌, arith, append_assoc, inl, inr}
+use Rattle.std.proofs.Common.{◌≡◌, ◌≢◌, ℕ, zero, suc, ◌+◌, ◌-◌, ◌*◌, ◌/◌, ◌<◌, ◌≤◌, List, [], ◌∷◌, ◌++◌, length, take, drop, true, refl, sym, ap, subst, ◌∙◌, arith, append_assoc, inl, inr}
 use Rattle.std.specs.List.{AllByRecursion}
 use Rattle.std.proofs.lemmas.Bool.{cases_lt}
 use Rattle.std.proofs.lemmas.List.{append-nil, length-append, length-drop, length-take-le, take-append-drop}
@@ -11,35 +11,33 @@ use Rattle.ex_base.specs.Needs.{replaced_leaves}
 use Rattle.ex_base.specs.Sizes.{leaf_bytes}
 use Rattle.ex_base.specs.declared.geometry.Geometry.{Geometry}
 use Rattle.ex_base.specs.declared.ground.Ground as ground
-use Rattle.ex_base.specs.declared.names.PageNo.{PageNo}
 use Rattle.ex_base.specs.declared.names.Root.{Root}
 use Rattle.ex_base.specs.declared.faults.PortFault.{PortFault}
 use Rattle.ex_base.specs.declared.names.Area.{Area}
 use Rattle.ex_base.specs.declared.names.Area.TheVariants.{Page}
 use Rattle.ex_base.proofs.Rows.{each-append, each-take, each-drop, sum_of-append, sum_of-take_drop}
 use Rattle.ex_base.proofs.Each.{each_as}
-use Rattle.trees.specs.Shape.{Subtree, IsBalanced}
-use Rattle.trees.specs.Trees.{RootSpells, root_shape, root_units, bytes_on, shape_on, units_on}
+use Rattle.trees.specs.Shape.{Subtree}
+use Rattle.trees.specs.Trees.{RootSpells}
 use Rattle.trees.specs.declared.rows.Part.{Part}
 use Rattle.trees.specs.Damage.{NamesNode, IsWalkFault}
 use Rattle.trees.specs.Rows.{row_bytes, row_shape, row_size, row_units, AreHalfFull, IsRowOn}
 use Rattle.trees.proofs.Blame.{walk_back, walk_part}
 use Rattle.trees.specs.Built.{Built, AreSome}
-use Rattle.trees.specs.Made.{Extends, AreUsed, Holds, Has, Took, pages_of}
+use Rattle.trees.specs.Made.{Extends, Holds, Has, Took, pages_of}
 use Rattle.trees.proofs.Kept.{row_extends}
 use Rattle.trees.proofs.Laid.{row_length}
 use Rattle.trees.proofs.Over.{all_has, bytes_app}
 use Rattle.trees.specs.Counted.{Counted, NamesPairs}
-use Rattle.trees.specs.Grown.{Turned, Grew}
-use Rattle.tree_insert.specs.Replaced.{EachRow, IsTouched, IsSpan, IsReplaced, IsSpent, AreLeaves}
+use Rattle.trees.specs.Grown.{Grew}
+use Rattle.tree_insert.specs.Replaced.{EachRow, IsTouched, IsSpan, IsSpent, AreLeaves}
 use Rattle.tree_insert.proofs.BelowRows.{CountedRow, On, halves_below, few_nodes, trees_below, bytes_below, shapes_below, has_below, walk_run}
 use Rattle.trees.proofs.Growing.{shape_app, holds_split, widen, grew_between, holds_kept, grew_back}
 use Rattle.tree_insert.proofs.LeafStep.{Grew-as, cut_three, take_over, drop_over, take_in, drop_in}
 use Rattle.tree_insert.proofs.Paid.{level_up}
-use Rattle.trees.proofs.Reading.{no_part}
 use Rattle.trees.proofs.Sizes.{front_most}
-use Rattle.tree_insert.proofs.Spans.{front_and_piece}
-use Rattle.tree_insert.proofs.RootEdit.{root_of, fan_height}
+use Rattle.trees.proofs.Sizes.{piece_size}
+use Rattle.tree_insert.proofs.RootEdit.{fan_height}
 use Rattle.trees.proofs.RootSteps.{has_each, turned_on, turned_built, used_after}
 
 -- bytes that are written over others in between
@@ -165,44 +163,8 @@ taken_touched k m h before after wide spent = elim (cases_lt (after + (m / k + 4
 
 -- ---- the root
 
-alone_as : (made : List Part) (size : ℕ) → length made ≡ 1 → row_size made ≡ size → made ≡ record { size = size; page = (get_or made 0 no_part).page } ∷ []
-alone_as [] size one sum = absurd (omega arith)
-alone_as (part ∷ []) size one sum = ap (λ (n : ℕ). let q : Part = record { size = n; page = part.page } in q ∷ []) {x = part.size} {y = size} (omega arith)
-alone_as (part ∷ next ∷ made) size one sum = absurd (omega arith)
-
 same_head : {A : Type 0} (x y : A) → (x ∷ []) ≡ (y ∷ []) → x ≡ y
 same_head x y e = cc
-
-root_as : {S : Type 0} (g : ground.Ghosts S) (a d : S) (height size : ℕ) (page new : PageNo) (bytes : List ℕ) (pos : ℕ) (given : List ℕ) → g.leads a d → RootSpells (g.geometry a) (g.unit a) (root_of height (Some page) size) bytes
-    → Grew g a d height (record { size = size; page = page } ∷ []) (record { size = size; page = new } ∷ []) (written (row_bytes (g.unit a) height (record { size = size; page = page } ∷ [])) pos given) (row_shape (g.unit a) height (record { size = size; page = page } ∷ []))
-    → IsReplaced g a d (root_of height (Some page) size) (root_of height (Some new) size) bytes pos given
-root_as g a d height size page new bytes pos given leads spells grew =
-    let shape : shape_on (g.unit d) height new.0 size ≡ shape_on (g.unit a) height page.0 size = same_head _ _ grew.shape_is in
-    let old_units : row_units (g.unit a) height (record { size = size; page = page } ∷ []) ≡ units_on (g.unit a) height page.0 = append-nil (units_on (g.unit a) height page.0) in
-    let new_units : row_units (g.unit d) height (record { size = size; page = new } ∷ []) ≡ units_on (g.unit d) height new.0 = append-nil (units_on (g.unit d) height new.0) in
-    let root_is : root_shape (g.unit d) (root_of height (Some new) size) ≡ root_shape (g.unit a) (root_of height (Some page) size) = ap (λ t. Some (height, t)) shape in
-    record {
-      spells = record {
-        named = grew.trees.0.0;
-        sized = grew.trees.0.1;
-        balanced = subst (λ (geo : Geometry). IsBalanced geo.fan (leaf_bytes geo) (root_shape (g.unit d) (root_of height (Some new) size))) (sym (g.leads_geometry a d leads)) (subst (IsBalanced (g.geometry a).fan (leaf_bytes (g.geometry a))) (sym root_is) spells.balanced);
-        spelled = ap (λ xs. written xs pos given) (spells.spelled ∙ sym (append-nil (bytes_on (g.unit a) height page.0 size))) ∙ sym grew.bytes_are ∙ append-nil (bytes_on (g.unit d) height new.0 size);
-      };
-      shape = root_is;
-      units = subst (λ us. Turned g a d us (units_on (g.unit d) height new.0)) old_units (subst (λ us. Turned g a d (row_units (g.unit a) height (record { size = size; page = page } ∷ [])) us) new_units grew.units);
-    }
-
-pub root_replaced : {S : Type 0} (g : ground.Ghosts S) (a d : S) (height size : ℕ) (page : PageNo) (made : List Part) (bytes : List ℕ) (pos : ℕ) (given : List ℕ) → length made ≡ 1 → row_size made ≡ size → g.leads a d
-    → RootSpells (g.geometry a) (g.unit a) (root_of height (Some page) size) bytes → AreUsed (g.used a) (root_units (g.unit a) (root_of height (Some page) size))
-    → (Holds g a height (record { size = size; page = page } ∷ []) → Grew g a d height (record { size = size; page = page } ∷ []) made (written (row_bytes (g.unit a) height (record { size = size; page = page } ∷ [])) pos given) (row_shape (g.unit a) height (record { size = size; page = page } ∷ [])))
-    → IsReplaced g a d (root_of height (Some page) size) (root_of height (Some (get_or made 0 no_part).page) size) bytes pos given
-root_replaced g a d height size page made bytes pos given one sum leads spells used grew =
-    let held : Holds g a height (record { size = size; page = page } ∷ []) = record {
-      trees = ((spells.named, spells.sized), tt);
-      used = each-append _ (units_on (g.unit a) height page.0) [] used tt;
-    } in
-    root_as g a d height size page (get_or made 0 no_part).page bytes pos given leads spells
-    (subst (λ r. Grew g a d height (record { size = size; page = page } ∷ []) r (written (row_bytes (g.unit a) height (record { size = size; page = page } ∷ [])) pos given) (row_shape (g.unit a) height (record { size = size; page = page } ∷ []))) (alone_as made size one sum) (grew held))
 
 -- ---- the row after its touched trees gave way
 
@@ -217,7 +179,7 @@ pub record IsSameRow (rows row : List Part) : Type 0 where
 pub same_row : (rows made row : List Part) (first end : ℕ) → first < end → end ≤ length rows → row ≡ (take first rows ++ made) ++ drop end rows → row_size made ≡ row_size (take (end - first) (drop first rows)) → length made ≡ length (take (end - first) (drop first rows))
     → AreSome rows → AreSome made → IsSameRow rows row
 same_row rows made row first end order within is sum count somes news = record {
-  sum = omega (arith, ap row_size is, sum_of-append size_of (take first rows ++ made) (drop end rows), sum_of-append size_of (take first rows) made, front_and_piece rows first end (omega arith), sum_of-take_drop size_of end rows);
+  sum = omega (arith, ap row_size is, sum_of-append size_of (take first rows ++ made) (drop end rows), sum_of-append size_of (take first rows) made, piece_size rows first end (omega arith), sum_of-take_drop size_of end rows);
   count = omega (arith, ap length is, length-append (take first rows ++ made) (drop end rows), length-append (take first rows) made, length-take-le first rows (omega arith), length-drop end rows, length-take-le (end - first) (drop first rows) (omega (arith, length-drop first rows)));
   some = subst AreSome (sym is) (each-append _ (take first rows ++ made) (drop end rows) (each-append _ (take first rows) made (each-take _ first rows somes) news) (each-drop _ end rows somes));
 }
@@ -226,7 +188,7 @@ pub touched_count : (rows : List Part) (first end : ℕ) → first < end → end
 touched_count rows first end order within = length-take-le (end - first) (drop first rows) (omega (arith, length-drop first rows))
 
 pub touched_sum : (rows : List Part) (first end : ℕ) → first < end → row_size (take (end - first) (drop first rows)) ≤ row_size rows
-touched_sum rows first end order = omega (arith, front_and_piece rows first end (omega arith), front_most rows end)
+touched_sum rows first end order = omega (arith, piece_size rows first end (omega arith), front_most rows end)
 
 pub touched_some : (rows : List Part) (first n : ℕ) → AreSome rows → AreSome (take n (drop first rows))
 touched_some rows first n somes = each-take _ n (drop first rows) (each-drop _ first rows somes)
@@ -272,9 +234,3 @@ pub spells_nothing : {S : Type 0} (g : ground.Ghosts S) (a : S) (root : Root) (b
 spells_nothing g a root bytes pos given none spells = subst (RootSpells (g.geometry a) (g.unit a) root) (sym (nothing_written bytes pos given none)) spells
 
 -- ---- the tree of a root as a run
-
-pub lone_touched : (tree : Part) (pos n : ℕ) → 1 ≤ n → pos + n ≤ tree.size → IsTouched (tree ∷ []) pos n
-lone_touched tree pos n some le = record { some = omega arith; first = omega arith; last = omega arith; all = omega arith }
-
-pub lone_leaves : (geo : Geometry) (height : ℕ) (tree : Part) → (height ≡ 0 → tree.size ≤ leaf_bytes geo) → AreLeaves geo height (tree ∷ [])
-lone_leaves geo height tree fit = record { fit = λ lowest. (fit lowest, tt); halves = λ lowest two. absurd (omega arith) }

@@ -15,7 +15,7 @@ use Rattle.trees.proofs.Placed.{LeafRow, filled_row}
 use Rattle.trees.specs.Shape.{insert_parts, append_parts}
 use Rattle.trees.specs.Trees.{shape_on}
 use Rattle.trees.specs.declared.rows.Part.{Part}
-use Rattle.trees.specs.Rows.{row_size, row_bytes, row_shape, IsRowOn}
+use Rattle.trees.specs.Rows.{row_bytes, row_shape, IsRowOn}
 use Rattle.trees.specs.Made.{Extends, Holds, Took, pages_of, sizes_of, changed}
 use Rattle.trees.specs.Built.{AreSome, Built, even_lens}
 use Rattle.trees.specs.Split.{nodes_over}
@@ -29,7 +29,9 @@ use Rattle.tree_insert.proofs.PlanLaws.{length-filled}
 use Rattle.tree_insert.proofs.Layouts.{few_parts}
 use Rattle.trees.proofs.Growing.{grew_leaves}
 use Rattle.tree_insert.proofs.LeafStep.{Grew-as}
-use Rattle.tree_insert.proofs.NodeStep.{parts-node, shape_below, node_grew}
+use Rattle.trees.proofs.Reading.{shape_below}
+use Rattle.trees.proofs.Sizes.{sizes_sum}
+use Rattle.tree_insert.proofs.NodeStep.{parts-node, node_grew}
 
 -- ---- the first leaves
 
@@ -61,10 +63,6 @@ first_are full n page two some le =
 pub first_plan : (full n page : ℕ) (lengths : List ℕ) (layout : Layout) → 2 ≤ full → 1 ≤ n → page ≤ full → layout ≡ append_layout full None 0 n → lengths ≡ layout.lengths → AreFirst full n page lengths
 first_plan full n page lengths layout two some le is lengths_is =
     subst (AreFirst full n page) (sym (lengths_is ∙ ap (λ (l : Layout). l.lengths) is ∙ first_layout full n)) (first_are full n page two some le)
-
-sizes_sum : (row : List Part) → sum_of plain (sizes_of row) ≡ row_size row
-sizes_sum [] = refl
-sizes_sum (part ∷ row) = ap (λ n. part.size + n) (sizes_sum row)
 
 some_sizes : (full : ℕ) (row : List Part) → AllByRecursion (Between 1 full) (sizes_of row) → AreSome row
 some_sizes full [] all = tt

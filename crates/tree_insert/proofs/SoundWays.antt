@@ -16,10 +16,10 @@ use Rattle.trees.specs.Built.{AreSome}
 use Rattle.tree_insert.specs.Places.{IsAt}
 use Rattle.tree_insert.specs.Replaced.{EachRow, IsSpan}
 use Rattle.tree_insert.proofs.BelowRows.{CountedRow}
-use Rattle.tree_insert.proofs.LeafStep.{cut_three, front_le}
+use Rattle.tree_insert.proofs.LeafStep.{cut_three}
 use Rattle.trees.proofs.Reading.{no_part}
 use Rattle.tree_insert.proofs.PlaceLaws.{read_size, size-front}
-use Rattle.tree_insert.proofs.Spans.{front_and_piece}
+use Rattle.trees.proofs.Sizes.{front_le, piece_size}
 
 -- ---- a root
 
@@ -52,7 +52,7 @@ module _ (geo : Geometry) (u : Units) (leaf : ℕ → Type 0) where
       let one : 1 ≤ (get_or row index no_part).size = each_at (λ (part : Part). 1 ≤ part.size) row index no_part h.inside some in
       let size = read_size row index h.inside in
       let start : row_size (take first row) ≤ pos - 1 = omega (arith, starts row pos index at h, front_le row first index low) in
-      let whole : row_size (take first row) + row_size old ≡ row_size (take end row) = ap (λ r. row_size (take first row) + row_size r) is ∙ front_and_piece row first end (omega arith) in
+      let whole : row_size (take first row) + row_size old ≡ row_size (take end row) = ap (λ r. row_size (take first row) + row_size r) is ∙ piece_size row first end (omega arith) in
       let stop : pos - 1 < row_size (take first row) + row_size old = omega (arith, whole, h.start, h.fits, size-front row index h.inside, front_le row (index + 1) end (omega arith)) in
       subst (λ r. IsSoundWay geo u leaf 0 0 r (pos - 1) (pos - 1)) (sym (cut_three row first end (omega arith)))
       (way_inside geo u leaf 0 0 (take first row) (take (end - first) (drop first row)) (drop end row) (pos - 1) (pos - 1) start start (omega (arith, stop, ap row_size is))

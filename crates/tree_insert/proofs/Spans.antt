@@ -1,23 +1,13 @@
 -- The trees of a row that hold a range of bytes.
-use Rattle.std.proofs.Common.{◌≡◌, ℕ, zero, suc, ◌+◌, ◌-◌, ◌<◌, ◌≤◌, List, length, take, drop, sym, ap, ◌∙◌, arith, inl, inr}
+use Rattle.std.proofs.Common.{◌≡◌, ℕ, zero, suc, ◌+◌, ◌-◌, ◌<◌, ◌≤◌, List, length, take, drop, ap, ◌∙◌, arith, inl, inr}
 use Rattle.std.proofs.lemmas.Bool.{cases_lt}
 use Rattle.std.proofs.lemmas.List.{length-take-le, length-drop, take-take}
-use Rattle.std.proofs.Math.Seq.{take-add}
-use Rattle.ex_base.proofs.Rows.{sum_of-append}
 use Rattle.trees.specs.declared.rows.Part.{Part}
 use Rattle.trees.specs.Rows.{row_size}
 use Rattle.tree_insert.specs.Places.{IsAt, size_at}
 use Rattle.tree_insert.specs.Replaced.{IsSpan}
 use Rattle.tree_insert.proofs.PlaceLaws.{size-front}
-use Rattle.tree_insert.proofs.LeafStep.{front_le}
-
-abbrev size_of : Part → ℕ
-size_of part = part.size
-
--- the trees up to an index, and those from there up to another
-pub front_and_piece : (row : List Part) (a b : ℕ) → a ≤ b → row_size (take a row) + row_size (take (b - a) (drop a row)) ≡ row_size (take b row)
-front_and_piece row a b le =
-    sym (ap (λ k. row_size (take k row)) {x = b} {y = a + (b - a)} (omega arith) ∙ ap row_size (take-add a (b - a) row) ∙ sum_of-append size_of (take a row) (take (b - a) (drop a row)))
+use Rattle.trees.proofs.Sizes.{front_le, piece_size}
 
 -- a tree that begins before another's end stands no later
 pub comes_first : (row : List Part) (a b : ℕ) → row_size (take a row) < row_size (take b row) → a < b
@@ -27,7 +17,7 @@ comes_first row a b lt = elim (cases_lt a b) [
 ]
 
 one_size : (row : List Part) (i : ℕ) → i < length row → row_size (take 1 (drop i row)) ≡ size_at row i
-one_size row i lt = omega (arith, front_and_piece row i (i + 1) (omega arith), size-front row i lt, ap (λ k. row_size (take k (drop i row))) {x = i + 1 - i} {y = 1} (omega arith))
+one_size row i lt = omega (arith, piece_size row i (i + 1) (omega arith), size-front row i lt, ap (λ k. row_size (take k (drop i row))) {x = i + 1 - i} {y = 1} (omega arith))
 
 behind_some : (row : List Part) (pos index at : ℕ) → IsAt row (pos + 1) index at → 1 ≤ at
 behind_some row pos zero at h = omega (arith, h.start)
@@ -55,7 +45,7 @@ span_is row pos n first behind last x some h k =
       touched = record {
         some = omega arith;
         first = omega (arith, ap row_size head, one_size row first h.inside, h.fits);
-        last = omega (arith, ap row_size inner, front_and_piece row first last (omega arith));
-        all = omega (arith, front_and_piece row first (last + 1) (omega arith));
+        last = omega (arith, ap row_size inner, piece_size row first last (omega arith));
+        all = omega (arith, piece_size row first (last + 1) (omega arith));
       };
     }

@@ -1,14 +1,10 @@
 -- What a replace makes of a run of trees.
 use Rattle.std.specs.Prelude.{◌≡◌, ℕ, ◌+◌, ◌-◌, ◌*◌, ◌<◌, ◌≤◌, List, [], ◌∷◌, length, take, drop}
-use Rattle.ex_base.specs.Bytes.{written}
 use Rattle.ex_base.specs.declared.geometry.Geometry.{Geometry}
 use Rattle.ex_base.specs.declared.ground.Ground as ground
-use Rattle.ex_base.specs.declared.names.Root.{Root}
 use Rattle.ex_base.specs.Sizes.{leaf_bytes}
-use Rattle.trees.specs.Trees.{RootSpells, root_shape, root_units}
 use Rattle.trees.specs.declared.rows.Part.{Part}
 use Rattle.trees.specs.Rows.{row_size, FitLeaves, AreHalfFull}
-use Rattle.trees.specs.Grown.{Turned}
 
 -- Each tree of a run holds one of the n bytes from a position on, and the run holds all of them.
 pub record IsTouched (run : List Part) (pos n : ℕ) : Type 0 where
@@ -41,9 +37,3 @@ EachRow P (part ∷ run) (n ∷ lens) row = (n ≤ length row) × P part (take n
 -- So many pages were taken that, counted one fewer than the fan each, they and the run's trees are bounded by the leaves and by two nodes a level.
 abbrev pub IsSpent : ℕ → ℕ → ℕ → ℕ → ℕ → ℕ → Type 0
 IsSpent fan leaves level before after count = (fan - 1) * before + count ≤ leaves + level * (2 * (fan - 1)) + (fan - 1) * after + 2
-
--- The new root spells the bytes with others over some of them, in a tree of the same shape, over units that were taken and units of the old tree.
-pub record IsReplaced {S : Type 0} (g : ground.Ghosts S) (old new : S) (root made : Root) (bytes : List ℕ) (pos : ℕ) (given : List ℕ) : Type 0 where
-  pub spells : RootSpells (g.geometry new) (g.unit new) made (written bytes pos given)
-  pub shape : root_shape (g.unit new) made ≡ root_shape (g.unit old) root
-  pub units : Turned g old new (root_units (g.unit old) root) (root_units (g.unit new) made)

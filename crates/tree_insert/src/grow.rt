@@ -1,19 +1,18 @@
 // Growing a row: down one path, and new leaves and nodes on the way back.
 ghost use Rattle.ex_base.specs.Area.{NamesLeaf};
-ghost use Rattle.std.specs.Prelude.{◌≡◌, ℕ, [], ◌∷◌, ◌≤◌, ◌<◌, ◌+◌, ◌*◌, ◌^◌, length, OnOk, IfOk, IfErr, ◌-◌};
+ghost use Rattle.std.specs.Prelude.{◌≡◌, ℕ, ◌≤◌, ◌<◌, ◌+◌, ◌*◌, length, OnOk, IfOk, IfErr, ◌-◌};
 ghost use Rattle.ex_base.specs.Edits.{inserted};
 ghost use Rattle.ex_base.specs.Ports.{HasCause};
 ghost use Rattle.ex_base.specs.Needs.{growth_leaves};
 ghost use Rattle.ex_base.specs.Sizes.{leaf_bytes, object_most};
 ghost use Rattle.ex_base.specs.declared.names.Area.TheVariants.{Page, Segment};
-ghost use Rattle.trees.specs.Trees.{shape_on};
 ghost use Rattle.trees.specs.Damage.{IsWalkFault, IsSoundWay};
 ghost use Rattle.trees.specs.Rows.{row_size, row_bytes, row_shape, FitLeaves};
 ghost use Rattle.trees.specs.Made.{Extends, Holds};
 ghost use Rattle.trees.specs.Built.{AreSome};
 ghost use Rattle.trees.specs.Grown.{Grew};
 ghost use Rattle.tree_insert.specs.Grown.{HasGrown, IsPaid};
-ghost use Rattle.tree_insert.specs.Growth.{IsSpot, row_by, parts_by};
+ghost use Rattle.tree_insert.specs.Growth.{IsSpot, row_by};
 
 use crate::layout::{Growth, lengths_of, plan_for, run_of, tree_at};
 use ex_base::{Blocks, PortFault};

@@ -1,5 +1,5 @@
 // Replacing bytes: new leaves of the same lengths, and new nodes over them with as many children as before.
-ghost use Rattle.std.specs.Prelude.{◌≡◌, ℕ, suc, ◌≤◌, ◌<◌, ◌+◌, ◌-◌, ◌*◌, ◌^◌, List, length, take, drop, OnOk, IfOk, IfErr, Ok, ◌⊎◌};
+ghost use Rattle.std.specs.Prelude.{◌≡◌, ℕ, ◌≤◌, ◌<◌, ◌+◌, ◌-◌, ◌*◌, List, length, OnOk, IfOk, IfErr, Ok, ◌⊎◌};
 ghost use Rattle.std.specs.List.{AllByRecursion};
 ghost use Rattle.ex_base.specs.Edits.{replaced};
 ghost use Rattle.ex_base.specs.Ports.{Keeps, HasCause, IsDamage};

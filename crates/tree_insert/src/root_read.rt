@@ -1,6 +1,6 @@
 // Reading what a root spells.
 ghost use Rattle.ex_base.specs.Area.{NamesLeaf};
-ghost use Rattle.std.specs.Prelude.{◌≡◌, ◌↔◌, ℕ, List, ◌≤◌, ◌+◌, length, IsTrue, OnOk, IfErr, ◌<◌};
+ghost use Rattle.std.specs.Prelude.{◌≡◌, ℕ, List, ◌≤◌, ◌+◌, length, OnOk, IfErr, ◌<◌};
 ghost use Rattle.ex_base.specs.Bytes.{bytes_at};
 ghost use Rattle.ex_base.specs.Ports.{Keeps, HasCause, IsDamage};
 ghost use Rattle.trees.specs.Trees.{RootSpells};

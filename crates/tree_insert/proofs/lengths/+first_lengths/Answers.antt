@@ -10,7 +10,7 @@ use Rattle.trees.specs.Rows.{FitLeaves, IsRowOn, IsFilled}
 use Rattle.trees.proofs.Parts.{below_fit}
 use Rattle.trees.proofs.Blame.{walk_back, walk_below}
 use Rattle.trees.specs.Built.{AreSome}
-use Rattle.tree_insert.proofs.BelowRows.{walk_one}
+use Rattle.trees.proofs.RowReads.{walk_tree}
 use Rattle.tree_insert.proofs.Counting.{leaves_in, leaf_front, front_step, front_node}
 use Rattle.trees.proofs.Reading.{no_part}
 use Rattle.tree_insert.proofs.lengths.+first_lengths.Goals as goal
@@ -34,7 +34,7 @@ returns-in_err-first_lengths-clause-fault g t c =
     if_err_handed c.from_residual-in_err-first_lengths.result _ c.in_err-first_lengths.field-0.0 c.from_residual-in_err-first_lengths.ensures.1
     (λ told. walk_below (g.B.Ground.geometry c.args.blocks.now) (g.B.Ground.unit c.args.blocks.now) c.args.level c.args.least 0 (c.args.tree ∷ []) c.deref-child-items.result.now c.in_err-first_lengths.field-0.0 c.if-level-eq0.false (omega arith) c.in_ok-below.ensures.area (subst (IsRowOn (g.B.Ground.geometry c.args.blocks.now) ((g.B.Ground.unit c.args.blocks.now) c.args.tree.page.0) c.args.level c.args.tree.size) (sym c.deref-child-items.ensures.value) (c.in_ok-below.ensures.found told)) (subst (IsFilled (g.B.Ground.geometry c.args.blocks.now) c.args.level c.args.least) (sym c.deref-child-items.ensures.value) c.in_ok-below.ensures.counted.filled)
     (walk_back g.B.Ground c.args.blocks.now c.loop-child.blocks (c.args.level - 1) (g.B.Ground.geometry c.args.blocks.now).fan c.deref-child-items.result.now c.in_err-first_lengths.field-0.0 c.loop-child.invariant.kept
-    (λ later. walk_one (g.B.Ground.geometry c.loop-child.blocks) (g.B.Ground.unit c.loop-child.blocks) (c.args.level - 1) (g.B.Ground.geometry c.args.blocks.now).fan c.loop-child.child-index c.deref-child-items.result.now c.in_err-first_lengths.field-0.0 c.loop-child-test.true
+    (λ later. walk_tree (g.B.Ground.geometry c.loop-child.blocks) (g.B.Ground.unit c.loop-child.blocks) (c.args.level - 1) (g.B.Ground.geometry c.args.blocks.now).fan c.loop-child.child-index c.deref-child-items.result.now c.in_err-first_lengths.field-0.0 c.loop-child-test.true
     (subst (λ k. IsWalkFault (g.B.Ground.geometry c.loop-child.blocks) (g.B.Ground.unit c.loop-child.blocks) (c.args.level - 1) k (get_or c.deref-child-items.result.now c.loop-child.child-index no_part ∷ []) c.in_err-first_lengths.field-0.0) (ap (λ (x : Geometry). x.fan) (c.geometry-fan.ensures ∙ g.B.Ground.leads_geometry c.args.blocks.now c.row_of.new.blocks c.in_ok-below.ensures.kept.leads)) (c.in_err-first_lengths.ensures.fault later))) told))
 
 pub returns-then-level-eq0-clause-lengths : goal.returns-then-level-eq0-clause-lengths

@@ -7,7 +7,7 @@ use Rattle.trees.specs.Damage.{IsSoundEnd}
 use Rattle.trees.specs.Rows.{row_bytes}
 use Rattle.trees.specs.Made.{Holds, changed}
 use Rattle.trees.proofs.Kept.{leaves_back}
-use Rattle.tree_insert.proofs.BelowRows.{walk_one}
+use Rattle.trees.proofs.RowReads.{walk_tree}
 use Rattle.trees.proofs.Reading.{no_part}
 use Rattle.tree_insert.proofs.ReplacedLeaves.{leaf_here, piece_here, few_leaves, replaced_more, replaced_all, same_sizes, same_sum, same_some, same_count}
 use Rattle.tree_insert.proofs.overwrite.replace_leaves.Goals as goal
@@ -34,7 +34,7 @@ write_leaves-requires-clause-free g c =
 pub returns-in_err-new-clause-fault : goal.returns-in_err-new-clause-fault
 returns-in_err-new-clause-fault g c =
     if_err_handed c.from_residual.result _ c.in_err-new.field-0.0 c.from_residual.ensures.1
-    (λ told. walk_one (g.B.Ground.geometry c.args.blocks.now) (g.B.Ground.unit c.args.blocks.now) 0 0 c.loop-leaf.leaf-index c.args.run.now c.in_err-new.field-0.0 c.loop-leaf-test.true
+    (λ told. walk_tree (g.B.Ground.geometry c.args.blocks.now) (g.B.Ground.unit c.args.blocks.now) 0 0 c.loop-leaf.leaf-index c.args.run.now c.in_err-new.field-0.0 c.loop-leaf-test.true
     (leaves_back g.B.Ground c.args.blocks.now c.loop-leaf.blocks (get_or c.args.run.now c.loop-leaf.leaf-index no_part ∷ []) c.in_err-new.field-0.0 c.loop-leaf.invariant.extends.leads c.in_err-new.ensures.fault told))
 
 pub returns-in_err-new-clause-leads : goal.returns-in_err-new-clause-leads
