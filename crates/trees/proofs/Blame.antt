@@ -1,5 +1,5 @@
 -- Which fault tells what is read of a page.
-use Rattle.std.proofs.Common.{◌≡◌, ◌≢◌, ◌⊎◌, ℕ, zero, suc, ◌-◌, ◌<◌, List, [], ◌∷◌, ◌++◌, length, take, drop, get_or, refl, sym, subst, arith, inl, inr}
+use Rattle.std.proofs.Common.{◌≡◌, ◌≢◌, ◌⊎◌, ℕ, zero, suc, ◌-◌, ◌<◌, ◌≤◌, List, [], ◌∷◌, ◌++◌, length, take, drop, get_or, refl, sym, subst, arith, inl, inr}
 use Rattle.ex_base.specs.declared.faults.PortFault.{PortFault}
 use Rattle.ex_base.specs.declared.faults.PortFault.TheVariants.{Disk, Memory, Damaged}
 use Rattle.ex_base.specs.declared.ground.Ground as ground
@@ -10,7 +10,9 @@ use Rattle.trees.specs.Trees.{Units}
 use Rattle.trees.specs.declared.rows.Part.{Part}
 use Rattle.trees.specs.Rows.{parts_of, IsFilled, IsRowOn}
 use Rattle.ex_base.specs.Seen.{node_seen, nothing_seen}
-use Rattle.trees.specs.Damage.{unfilled, NamesNode, IsNodeFault, IsWalkFault, AnyPart}
+use Rattle.trees.specs.Damage.{outside, unfilled, NamesNode, IsNodeFault, IsWalkFault, AnyPart}
+use Rattle.trees.specs.Reads.{NodeReads}
+use Rattle.trees.proofs.NodeLaws.{spelled_reads}
 use Rattle.trees.proofs.Parts.{length-parts}
 use Rattle.trees.proofs.Reading.{no_part}
 
@@ -19,6 +21,12 @@ pub breaks_rules : (geo : Geometry) (bytes : List ℕ) (level total least page :
     → fault ≡ Damaged (record { 0 = page }) (node_seen level total) nothing_seen → IsNodeFault geo bytes level total least page fault
 breaks_rules geo bytes level total least page fault broken is =
     subst (IsNodeFault geo bytes level total least page) (sym is) (refl, refl, unfilled broken refl)
+
+-- a page that reads as no node
+pub reads_as_none : (geo : Geometry) (bytes : List ℕ) (level total least page : ℕ) (fault : PortFault) → geo.fan ≤ 340 → (NodeReads geo.fan bytes → ⊥)
+    → fault ≡ Damaged (record { 0 = page }) (node_seen level total) nothing_seen → IsNodeFault geo bytes level total least page fault
+reads_as_none geo bytes level total least page fault small none is =
+    subst (IsNodeFault geo bytes level total least page) (sym is) (refl, refl, outside (λ l pairs h. none (spelled_reads geo.fan bytes l pairs small h).reads) refl)
 
 pub too_few : (geo : Geometry) (bytes : List ℕ) (level least : ℕ) → length (pairs_on bytes) < least → IsFilled geo level least (parts_of 0 (pairs_on bytes)) → ⊥
 too_few geo bytes level least few h = omega (arith, h.enough, length-parts 0 (pairs_on bytes))

@@ -28,6 +28,7 @@ pub mod PairLaws
 pub mod NodeLaws
 pub mod Children
 pub mod WriteLaws
+pub mod Rising
 pub mod NameLaws
 pub mod Placed
 pub mod Lengths

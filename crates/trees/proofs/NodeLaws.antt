@@ -1,8 +1,8 @@
 -- A page reads as a node exactly where it is the page of a level and a list of pairs.
-use Rattle.std.proofs.Common.{◌≡◌, ℕ, zero, suc, ◌+◌, ◌-◌, ◌*◌, ◌^◌, ◌<◌, ◌≤◌, List, [], ◌∷◌, ◌++◌, length, take, drop, Some, refl, sym, ap, subst, ◌∙◌, arith, append_assoc}
+use Rattle.std.proofs.Common.{◌≡◌, ◌↔◌, ℕ, zero, suc, ◌+◌, ◌-◌, ◌*◌, ◌^◌, ◌<◌, ◌≤◌, List, [], ◌∷◌, ◌++◌, length, take, drop, Some, refl, sym, ap, subst, ◌∙◌, arith, append_assoc}
 use Rattle.std.specs.Prelude.{slice_index, slice_get}
 use Rattle.std.specs.List.{flat_map, AllByRecursion}
-use Rattle.std.proofs.lemmas.List.{drop-drop, drop_at, length-append, length-drop, length-take, length-replicate, take-append-drop}
+use Rattle.std.proofs.lemmas.List.{drop-drop, drop_at, length-append, length-drop, length-take, length-replicate, take-append-drop, take_all}
 use Rattle.ex_base.specs.Bytes.{IsBytes}
 use Rattle.ex_base.specs.Fields.{AreZero, two_bytes, zeros, number_at}
 use Rattle.ex_base.proofs.FieldLaws.{IsBytes-drop, two_is, number_at-drop}
@@ -12,8 +12,8 @@ use Rattle.trees.specs.declared.Pair.{Pair}
 use Rattle.trees.specs.declared.width.Width.{Width}
 use Rattle.trees.specs.declared.width.Width.TheVariants.{Narrow, Wide}
 use Rattle.trees.specs.Node.{kind_of, count_len, pair_len, width_on, pair_bytes, pair_at, read_pairs, RiseFrom, HasPairFields, IsNode, PairsOf, Node, node_on, node_of, level_on, pairs_on}
-use Rattle.trees.specs.Reads.{NodeReads}
-use Rattle.trees.proofs.PairLaws.{pairs_again, pairs_back, fields_read, length-pairs, length-read_pairs}
+use Rattle.trees.specs.Reads.{FrameReads, NodeReads, IsViewed}
+use Rattle.trees.proofs.PairLaws.{pair_inside, pairs_again, pairs_back, fields_read, length-pairs, length-read_pairs}
 
 -- ---- the fields of a node
 
@@ -147,16 +147,41 @@ reads_spelled fan page fits h =
       spelled = spelled_at (width_on page) fan page refl fits h;
     }
 
--- ---- what a view knows
+-- ---- the counts decide
 
-abbrev pub Viewed : List ℕ → Type 0
-Viewed page = (1 ≤ length (pairs_on page)) × (8 + pair_len (width_on page) * length (pairs_on page) ≤ length page) × RiseFrom 0 (pairs_on page)
+same_pairs : (page : List ℕ) (w : Width) (n : ℕ) → w ≡ width_on page → n ≡ number_at 2 page 2 → read_pairs w n (take (length page - 8) (drop 8 page)) ≡ read_pairs (width_on page) (number_at 2 page 2) (drop 8 page)
+same_pairs page w n is count =
+    let whole : take (length page - 8) (drop 8 page) ≡ drop 8 page = take_all (length page - 8) (drop 8 page) (omega (arith, length-drop 8 page)) in
+    ap (read_pairs w n) whole ∙ ap (λ (v : Width). read_pairs v n (drop 8 page)) is ∙ ap (λ (k : ℕ). read_pairs (width_on page) k (drop 8 page)) count
+
+pub pairs_read : (page : List ℕ) (w : Width) (n : ℕ) → w ≡ width_on page → n ≡ number_at 2 page 2 → read_pairs w n (take (length page - 8) (drop 8 page)) ≡ pairs_on page
+unfolding pairs_on
+pairs_read page w n is count = same_pairs page w n is count
+
+pub rise_decides : (fan : ℕ) (page : List ℕ) (w : Width) (n : ℕ) (Yes : Type 0) → FrameReads fan page → w ≡ width_on page → n ≡ number_at 2 page 2 → (Yes ↔ RiseFrom 0 (read_pairs w n (take (length page - 8) (drop 8 page)))) → (Yes ↔ NodeReads fan page)
+rise_decides fan page w n Yes h is count both =
+    let same = same_pairs page w n is count in (
+      λ yes. record {
+        long = h.long;
+        kind = h.kind;
+        inner = h.inner;
+        gap = h.gap;
+        some = h.some;
+        few = h.few;
+        room = h.room;
+        rising = subst (RiseFrom 0) same (both.0 yes);
+        rest = h.rest;
+      },
+      λ node. both.1 (subst (RiseFrom 0) (sym same) node.rising),
+    )
+
+-- ---- what a view knows
 
 pub length-pairs_on : (page : List ℕ) → length (pairs_on page) ≡ number_at 2 page 2
 unfolding pairs_on
 length-pairs_on page = length-read_pairs (width_on page) (number_at 2 page 2) (drop 8 page)
 
-pub viewed : (fan : ℕ) (page : List ℕ) → NodeReads fan page → Viewed page
+pub viewed : (fan : ℕ) (page : List ℕ) → NodeReads fan page → IsViewed page
 unfolding pairs_on
 viewed fan page h =
     let count : length (pairs_on page) ≡ number_at 2 page 2 = length-pairs_on page in

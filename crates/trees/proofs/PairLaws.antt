@@ -2,6 +2,7 @@
 use Rattle.std.proofs.Common.{◌≡◌, ℕ, ◌+◌, ◌-◌, ◌*◌, ◌<◌, ◌≤◌, ◌↔◌, List, ◌∷◌, ◌++◌, length, take, drop, refl, sym, ap, ◌∙◌, arith}
 use Rattle.std.specs.List.{flat_map, AllByRecursion}
 use Rattle.std.proofs.Math.Nat.{mul-le-mul_left}
+use Rattle.std.proofs.lemmas.List.{drop-drop}
 use Rattle.ex_base.specs.Fields.{number_at}
 use Rattle.ex_base.specs.Bytes.{IsBytes}
 use Rattle.ex_base.proofs.FieldLaws.{number_at-drop}
@@ -22,7 +23,7 @@ pub pair_inside : (w : Width) (n i : ℕ) → i < n → pair_len w * i + pair_le
 pair_inside w n i lt = omega (arith, mul-le-mul_left {m = i + 1} {n = n} (pair_len w) (omega arith))
 
 -- a pair is its count and its page
-abbrev made_pair : ℕ → ℕ → Pair
+abbrev pub made_pair : ℕ → ℕ → Pair
 made_pair count page = record { count = count; page = record { 0 = page } }
 
 are_rows : (w : Width) → AreRows (count_len w) made_pair (λ pair. pair.count) (λ pair. pair.page.0) (read_pairs w)
@@ -43,6 +44,13 @@ read_step w n i bytes lt = row_step (are_rows w) n i bytes lt
 pub rise_step : (w : Width) (n i last : ℕ) (bytes : List ℕ) → i < n → RiseFrom last (read_pairs w (n - i) (drop (pair_len w * i) bytes)) ≡ ((last < number_at (count_len w) bytes (pair_len w * i)) × RiseFrom (number_at (count_len w) bytes (pair_len w * i)) (read_pairs w (n - (i + 1)) (drop (pair_len w * (i + 1)) bytes)))
 rise_step w n i last bytes lt =
     ap (RiseFrom last) (read_step w n i bytes lt) ∙ ap (λ (count : ℕ). (last < count) × RiseFrom count (read_pairs w (n - (i + 1)) (drop (pair_len w * (i + 1)) bytes))) (sym (number_at-drop (count_len w) bytes (pair_len w * i)))
+
+-- a pair from its two fields
+pub pair_read : (w : Width) (bytes : List ℕ) (at count page : ℕ) → count ≡ number_at (count_len w) bytes at → page ≡ number_at 4 bytes (at + count_len w) → pair_at w (drop at bytes) ≡ made_pair count page
+pair_read w bytes at count page a b =
+    let four : number_at 4 (drop at bytes) (count_len w) ≡ number_at 4 bytes (at + count_len w) =
+    number_at-drop 4 (drop at bytes) (count_len w) ∙ ap (λ (t : List ℕ). number_at 4 t 0) (drop-drop (count_len w) at bytes) ∙ sym (number_at-drop 4 bytes (at + count_len w)) in
+    ap (λ (c : ℕ). made_pair c (number_at 4 (drop at bytes) (count_len w))) (sym (number_at-drop (count_len w) bytes at) ∙ sym a) ∙ ap (λ (c : ℕ). made_pair count c) (four ∙ sym b)
 
 pub length-read_pairs : (w : Width) (n : ℕ) (bytes : List ℕ) → length (read_pairs w n bytes) ≡ n
 length-read_pairs w n bytes = length-read (are_rows w) n bytes

@@ -1,6 +1,7 @@
 // The node on a lent page: that it is the one that its parent asks, and its children.
-ghost use Rattle.std.specs.Prelude.{◌≡◌, ◌≤◌, ◌<◌, ◌-◌, ◌^◌, ◌↔◌, length, take, drop, IfOk, IfErr, IsTrue, ℕ};
+ghost use Rattle.std.specs.Prelude.{◌≡◌, ◌≤◌, ◌<◌, ◌-◌, ◌^◌, ◌↔◌, List, length, take, drop, IfOk, IfErr, OnOk, IsTrue, ℕ};
 ghost use Rattle.trees.specs.Node.{RiseFrom, node_on, total_of};
+ghost use Rattle.ex_base.specs.declared.geometry.Geometry.{Geometry as GeometryOf};
 ghost use Rattle.ex_base.specs.Ports.{HasCause};
 ghost use Rattle.trees.specs.Damage.{IsNodeFault};
 ghost use Rattle.trees.specs.Rows.{parts_of, AreHalfFull, IsFilled, IsRowOn};
@@ -29,6 +30,36 @@ fn are_half_full(node: &NodeView, full: u32) -> bool
     true
 }
 
+/// Finds fault with a node that has another level or total than its parent says, or too few children.
+pub(crate) fn check_asked(
+    node: &NodeView,
+    level: u8,
+    part: Part,
+    least: u32,
+) -> Result<(), PortFault>
+    ensures level { OnOk result (node.now.level ≡ level) }
+    ensures total { OnOk result (total_of node.now.pairs ≡ part.size) }
+    ensures enough { OnOk result (least ≤ length node.now.pairs) }
+    ensures fault { IfErr result (λ fault. (g : GeometryOf) (page : List ℕ)
+        → node.now ≡ node_on page
+        → IsNodeFault g page level part.size least part.page.0 fault) }
+    ensures cause { (before now : ℕ) → HasCause before now result }
+{
+    let want = Seen::node(level, part.size);
+    let got = Seen::node(node.level(), node.total());
+    if got != want {
+        return Err(PortFault::Damaged {
+            page: part.page,
+            want,
+            got,
+        });
+    }
+    if node.len() < least {
+        return Err(no_node(part.page, level, part.size));
+    }
+    Ok(())
+}
+
 /// The node that stands on a page, where it is the one that its parent asks.
 pub(crate) fn asked_node<'a>(
     bytes: &'a [u8],
@@ -51,18 +82,7 @@ pub(crate) fn asked_node<'a>(
     let Some(node) = NodeView::of(bytes, geometry.fan) else {
         return Err(no_node(part.page, level, part.size));
     };
-    let want = Seen::node(level, part.size);
-    let got = Seen::node(node.level(), node.total());
-    if got != want {
-        return Err(PortFault::Damaged {
-            page: part.page,
-            want,
-            got,
-        });
-    }
-    if node.len() < least {
-        return Err(no_node(part.page, level, part.size));
-    }
+    check_asked(&node, level, part, least)?;
     if level == 1 && !are_half_full(&node, geometry.leaf_bytes()) {
         return Err(no_node(part.page, level, part.size));
     }

@@ -2,10 +2,12 @@
 ghost use Rattle.std.specs.Prelude.{◌≡◌, ◌≤◌, ◌<◌, ◌+◌, ◌++◌, ◌∷◌, ◌↔◌, [], length, take, drop, IfOk, IfErr, OnOk, IsTrue, ℕ};
 ghost use Rattle.ex_base.specs.Ports.{Keeps, HasCause};
 ghost use Rattle.trees.specs.Damage.{NamesNode, IsNodeFault};
-ghost use Rattle.trees.specs.Rows.{IsCounted, IsRowOn};
+ghost use Rattle.trees.specs.Rows.{AreHalfFull, IsCounted, IsRowOn};
 
 use crate::faults::no_node;
-use crate::lent_nodes::{all_children, asked_node};
+use crate::lent_nodes::check_asked;
+use crate::reads::row_of_page;
+use crate::view::NodeView;
 use ex_base::{Geometry, PageNo, PortFault, ReadBlocks};
 use std::alloc::{AllocError, Global};
 
@@ -33,6 +35,18 @@ pub fn names_node(geometry: &Geometry, page: PageNo) -> bool
     page != PageNo::CATALOG && geometry.in_page_area(page)
 }
 
+/// Whether each leaf of a row is half full.
+fn are_filled(row: &[Part], full: u32) -> bool
+    ensures { IsTrue result ↔ AreHalfFull full row.now }
+{
+    for part in row {
+        if part.size < (full / 2) as u64 || part.size > full as u64 {
+            return false;
+        }
+    }
+    true
+}
+
 /// The children that stand on a page, where it is the node that its parent asks.
 fn row_on(
     alloc: Global,
@@ -48,10 +62,14 @@ fn row_on(
         (IsNodeFault geometry.now bytes.now level part.size least part.page.0) }
     ensures cause { (before now : ℕ) → HasCause before now result }
 {
-    match asked_node(bytes, geometry, level, part, least) {
-        Ok(node) => Ok(all_children(alloc, &node)?),
-        Err(fault) => Err(fault),
+    let Some(row) = row_of_page(alloc, bytes, geometry.fan)? else {
+        return Err(no_node(part.page, level, part.size));
+    };
+    check_asked(&NodeView::over(bytes), level, part, least)?;
+    if level == 1 && !are_filled(&row, geometry.leaf_bytes()) {
+        return Err(no_node(part.page, level, part.size));
     }
+    Ok(row)
 }
 
 /// The children of a node of a level, which has at least so many: the fan, or 2 where it is a root. A page that isn't this node, as its parent names

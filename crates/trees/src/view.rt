@@ -1,6 +1,7 @@
 //! A node as it is read, without a copy.
 ghost use Rattle.std.specs.Prelude.{◌≡◌, ℕ, ◌+◌, ◌-◌, ◌*◌, ◌<◌, ◌≤◌, List, length, slice_get, IfSome, IfNone};
 ghost use Rattle.trees.specs.declared.Pair.{Pair};
+ghost use Rattle.trees.specs.Reads.{IsViewed};
 ghost use Rattle.trees.specs.Node.{Node, node_on, pair_len, width_on, pairs_on, PairsOf, total_of, counts_of, start_of, IsFirst, RiseFrom};
 
 use crate::reads::is_node;
@@ -65,6 +66,14 @@ impl<'a> NodeView<'a> {
             return None;
         }
         Some(NodeView { page })
+    }
+
+    /// The view of a page that is known to be a node.
+    pub(crate) fn over(page: &'a [u8]) -> NodeView<'a>
+        requires { IsViewed page.now }
+        ensures { result ≡ node_on page.now }
+    {
+        NodeView { page }
     }
 
     /// The level: 1 over leaves.

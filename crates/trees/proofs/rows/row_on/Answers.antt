@@ -1,18 +1,46 @@
-use Rattle.std.proofs.Common.{◌≡◌, arith, ap, sym, subst, length}
+use Rattle.std.proofs.Common.{◌≡◌, arith, rules, ap, subst, length}
+use Rattle.std.specs.Prelude.{IfSome, IfNone}
 use Rattle.ex_base.specs.Sizes.{leaf_bytes}
-use Rattle.trees.specs.Rows.{parts_of, AreHalfFull, IsRowOn}
-use Rattle.trees.proofs.Parts.{counted, length-parts}
+use Rattle.trees.specs.Node.{Node, pairs_on}
+use Rattle.trees.specs.Reads.{NodeReads}
+use Rattle.trees.specs.Rows.{parts_of, AreHalfFull}
+use Rattle.trees.proofs.Parts.{counted, narrow}
+use Rattle.trees.proofs.Blame.{reads_as_none}
+use Rattle.trees.proofs.NodeLaws.{viewed}
+use Rattle.trees.proofs.Rising.{row_reads}
 use Rattle.trees.proofs.rows.row_on.Goals as goal
+use Rattle.trees.proofs.rows.row_on.Goals.{else-level-eq1-via-then-level-eq1+else-not-are_filled, else-level-eq1-via-else-level-eq1}
 
-pub returns-in_ok-all_children-in-Ok-clause-found : goal.returns-in_ok-all_children-in-Ok-clause-found
-returns-in_ok-all_children-in-Ok-clause-found c =
-    let items : c.in_ok-all_children-in-Ok.field-0.items ≡ parts_of 0 c.in-Ok.node.pairs = c.in_ok-all_children-in-Ok.ensures in
-    subst (IsRowOn c.args.geometry.now c.args.bytes.now c.args.level c.args.part.size) (sym items) c.in-Ok.ensures.row
+pub returns-in_default-clause-fault : goal.returns-in_default-clause-fault
+returns-in_default-clause-fault c =
+    reads_as_none c.args.geometry.now c.args.bytes.now c.args.level c.args.part.size c.args.least c.args.part.page.0 c.no_node.result (narrow c.args.geometry.now)
+    (subst (λ found. IfNone found (NodeReads c.args.geometry.now.fan c.args.bytes.now → ⊥)) c.in_default.is c.in_ok-row.ensures.none) c.no_node.ensures
 
-pub returns-in_ok-all_children-in-Ok-clause-counted : goal.returns-in_ok-all_children-in-Ok-clause-counted
-returns-in_ok-all_children-in-Ok-clause-counted c =
-    let items : c.in_ok-all_children-in-Ok.field-0.items ≡ parts_of 0 c.in-Ok.node.pairs = c.in_ok-all_children-in-Ok.ensures in
-    counted c.args.geometry.now c.args.bytes.now c.args.level c.args.part.size c.args.least c.in_ok-all_children-in-Ok.field-0.items
-    (subst (IsRowOn c.args.geometry.now c.args.bytes.now c.args.level c.args.part.size) (sym items) c.in-Ok.ensures.row)
-    (omega (arith, c.in-Ok.ensures.filled.enough, length-parts 0 c.in-Ok.node.pairs, ap (λ node. length node.pairs) c.in-Ok.ensures.view))
-    (λ one. subst (AreHalfFull (leaf_bytes c.args.geometry.now)) (sym items) (c.in-Ok.ensures.filled.halves one))
+pub over-requires : goal.over-requires
+over-requires c = viewed c.args.geometry.now.fan c.args.bytes.now (subst (λ found. IfSome found (λ _. NodeReads c.args.geometry.now.fan c.args.bytes.now)) c.in-Some.is c.in_ok-row.ensures.node)
+
+pub returns-in_err-check_asked-clause-fault : goal.returns-in_err-check_asked-clause-fault
+returns-in_err-check_asked-clause-fault c =
+    let told = c.in_err-check_asked.ensures.fault c.args.geometry.now c.args.bytes.now c.over.ensures in
+    search rules
+
+pub returns-in_err-check_asked-clause-cause : goal.returns-in_err-check_asked-clause-cause
+returns-in_err-check_asked-clause-cause c = λ before now.
+    let told = c.in_err-check_asked.ensures.cause before now in
+    search rules
+
+pub returns-clause-found : goal.returns-clause-found
+returns-clause-found c =
+    row_reads c.args.geometry.now c.args.bytes.now c.args.level c.args.part.size c.in-Some.row.items c.over.result (λ i. omega (arith, c.type_inv.bytes i))
+    (subst (λ found. IfSome found (λ _. NodeReads c.args.geometry.now.fan c.args.bytes.now)) c.in-Some.is c.in_ok-row.ensures.node)
+    c.over.ensures c.in_ok-check_asked.ensures.level c.in_ok-check_asked.ensures.total
+    (subst (λ found. IfSome found (λ row. row.items ≡ parts_of 0 (pairs_on c.args.bytes.now))) c.in-Some.is c.in_ok-row.ensures.row)
+
+pub returns-clause-counted : goal.returns-clause-counted
+returns-clause-counted c =
+    counted c.args.geometry.now c.args.bytes.now c.args.level c.args.part.size c.args.least c.in-Some.row.items (returns-clause-found c)
+    (omega (arith, c.in_ok-check_asked.ensures.enough, ap (λ (node : Node). length node.pairs) c.over.ensures))
+    (elim c.else-level-eq1.branch [
+      | else-level-eq1-via-then-level-eq1+else-not-are_filled w ↦ λ one. subst (AreHalfFull (leaf_bytes c.args.geometry.now)) w.deref.ensures.value (subst (λ full. AreHalfFull full w.deref.result.now) w.leaf_bytes.ensures (w.are_filled.ensures.0 w.if-not-are_filled.false))
+      | else-level-eq1-via-else-level-eq1 w ↦ λ one. absurd (omega arith)
+    ])
