@@ -3,11 +3,13 @@ use Rattle.std.proofs.Common.{◌≡◌, ◌≢◌, ◌<◌, ◌+◌, ℕ, zero,
 use Rattle.std.specs.Option.{is_some, option_eq}
 use Rattle.std.specs.Prelude.{Bool, ◌&&◌, slice_get, IsSome, IfSome, Contains, if◌then◌else◌}
 use Rattle.std.specs.List.{AllByRecursion}
+use Rattle.std.proofs.lemmas.Option.{slice_get_within, get_or_from_slice_get}
 use Rattle.ex_base.specs.declared.names.PageNo.{PageNo}
 use Rattle.ex_base.specs.declared.ground.Ground as ground
 use Rattle.ex_base.specs.Area.{catalog_no}
 use Rattle.ex_base.specs.Order.{AllDiffer}
 use Rattle.ex_base.proofs.Counts.{not_equal}
+use Rattle.ex_base.proofs.Lists.{drop_item}
 use Rattle.ex_base.proofs.Members.{contains_later}
 use Rattle.ex_base.specs.declared.names.Index.{Index}
 use Rattle.file_index.specs.Index.{HasRoot}
@@ -37,11 +39,7 @@ in_rest file_no e es differ = let test : eqb e.file_no file_no ≡ false = not_e
 -- ---- a loop over the entries
 
 entry_next : (es : List FileEntry) (at : ℕ) (e : FileEntry) → slice_get es at ≡ Some e → drop at es ≡ e ∷ drop (at + 1) es
-entry_next [] at e is = absurd cc
-entry_next (x ∷ es) zero e is = let same : x ≡ e = cc in ap (λ (y : FileEntry). y ∷ es) same
-entry_next (x ∷ es) (suc at) e is =
-    let count : suc (at + 1) ≡ suc at + 1 = omega arith in
-    entry_next es at e is ∙ ap (λ (k : ℕ). e ∷ drop k (x ∷ es)) count
+entry_next es at e is = drop_item es at e (slice_get_within es at e is) (sym (get_or_from_slice_get es at e e is))
 
 pub in_found : (file_no at : ℕ) (es : List FileEntry) (e : FileEntry) → slice_get es at ≡ Some e → e.file_no ≡ file_no → index_in file_no es ≡ index_in file_no (drop at es) → Some (index_from file_no e) ≡ index_in file_no es
 in_found file_no at es e is same so_far = sym (so_far ∙ ap (index_in file_no) (entry_next es at e is) ∙ in_here file_no e (drop (at + 1) es) same)

@@ -51,9 +51,6 @@ page_is_of page p file_no h number some = record {
   some = omega (arith, ap length (slots_are page p h), some);
 }
 
-pub live_some : (slots : List Slot) (k : ℕ) (body : List ℕ) → Some body ≡ slice_index_or slots k None → IsSome (slice_index_or slots k None)
-live_some slots k body is = subst IsSome is refl
-
 pub some_map : {A B : Type 0} (f : A → B) (o : Option A) → IsSome o → IsSome (option_map f o)
 some_map f None h = h
 some_map f (Some x) h = refl

@@ -4,7 +4,7 @@ use Rattle.ex_base.specs.declared.ground.Ground as ground
 use Rattle.ex_base.specs.Area.{catalog_no}
 use Rattle.ex_base.specs.declared.names.Index.{Index}
 use Rattle.file_index.specs.Changes.{Changes}
-use Rattle.file_index.specs.Index.{HasRoot}
+use Rattle.file_index.specs.Index.{HasRoot, index_level_most}
 use Rattle.object_files.specs.Catalog.{CatalogOf}
 use Rattle.object_files.specs.Reads.{catalog_on}
 use Rattle.file_bodies.specs.Files.{with_index}
@@ -12,7 +12,7 @@ use Rattle.file_bodies.specs.Files.{with_index}
 -- The index of the file with a number, of a level that an index may have, with a root above level 0.
 pub record IsUsable (file_no : ℕ) (index : Index) : Type 0 where
   pub same_file : index.file_no ≡ file_no
-  pub level : index.level ≤ 5
+  pub level : index.level ≤ index_level_most
   pub root : HasRoot index.level index.root
 
 -- The catalog gets an index in the entry of its file, and no other page changes.

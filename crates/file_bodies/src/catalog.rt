@@ -1,17 +1,15 @@
 //! The entry of a file in the catalog.
-ghost use Rattle.std.specs.Prelude.{◌≡◌, ◌≤◌, ◌<◌, ◌∷◌, [], ℕ, length, Contains, IfOk, IfErr, IfSome, OnOk, IsTrue, false, Some, None};
+ghost use Rattle.std.specs.Prelude.{◌≡◌, ◌<◌, ℕ, length, Contains, IfOk, IfErr, IfSome, OnOk, IsTrue, false, Some, None};
 ghost use Rattle.ex_base.specs.Area.{catalog_no};
 ghost use Rattle.ex_base.specs.Ports.{Keeps, Cause, HasCause, IsDamage};
-ghost use Rattle.file_index.specs.Changes.{Changes};
 ghost use Rattle.ex_base.specs.declared.geometry.Geometry.{Geometry};
 ghost use Rattle.ex_base.specs.declared.faults.PortFault.TheVariants.{Damaged};
-ghost use Rattle.file_index.specs.Index.{HasRoot, HasPlacedRoot, IsFilesPage};
+ghost use Rattle.file_index.specs.Index.{HasPlacedRoot};
 ghost use Rattle.ex_base.specs.Seen.{catalog_seen, nothing_seen};
-ghost use Rattle.object_files.specs.Catalog.{CatalogOf};
 ghost use Rattle.object_files.specs.Reads.{catalog_on};
 ghost use Rattle.object_files.specs.Edits.{IsCatalogPage, numbers_on};
 ghost use Rattle.file_index.specs.Touches.{TouchesAtMost};
-ghost use Rattle.file_bodies.specs.Files.{index_in, index_at, with_index};
+ghost use Rattle.file_bodies.specs.Files.{index_in, index_at};
 ghost use Rattle.file_bodies.specs.Indexes.{IsUsable, SetsIndex};
 ghost use Rattle.file_bodies.specs.Damage.{root_seen, ListsFile, IsCatalogFault, IsFileFault, IsRootFault};
 

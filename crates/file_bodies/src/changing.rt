@@ -8,8 +8,9 @@ ghost use Rattle.file_index.specs.Touches.{TouchesAtMost};
 ghost use Rattle.file_bodies.specs.Files.{HasBody, EditsFile};
 ghost use Rattle.file_bodies.specs.Damage.{HasRecordAt, IsPlaceFault};
 
-use crate::page::{load_body_page, page_buffer};
+use crate::page::load_body_page;
 use ex_base::{Pages, Place, PortFault};
+use file_index::page_buffer;
 use slotted_pages::resize_body;
 use std::alloc::Global;
 

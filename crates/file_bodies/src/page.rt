@@ -1,5 +1,5 @@
 //! One page of a file.
-ghost use Rattle.std.specs.Prelude.{◌≡◌, ◌≤◌, ◌<◌, ◌+◌, ℕ, Bool, [], length, slice_index_or, IfOk, IfErr, IfSome, IfNone, OnOk, IsTrue, IsNone, true, false, Some, None};
+ghost use Rattle.std.specs.Prelude.{◌≡◌, ◌≤◌, ◌<◌, ℕ, Bool, [], length, slice_index_or, IfOk, IfErr, IfSome, IfNone, OnOk, IsTrue, IsNone, true, false, Some, None};
 ghost use Rattle.std.specs.Option.{option_map};
 ghost use Rattle.ex_base.specs.Ports.{Keeps, Cause, HasCause, IsDamage};
 ghost use Rattle.file_index.specs.Index.{IsFilesPage};
@@ -17,19 +17,6 @@ use ex_base::{PageNo, Pages, Place, PortFault, ReadPages, Seen};
 use file_index::may_be_written;
 use slotted_pages::SlottedView;
 use std::alloc::Global;
-
-/// Zeros, as many as a page has bytes.
-pub fn page_buffer<P: ReadPages>(pages: &P, alloc: Global) -> Result<Vec<u8>, PortFault>
-    requires { P.ready pages.now }
-    ensures len { IfOk result (λ buffer. length buffer.items ≡ (P.geometry pages.now).page_size) }
-    ensures no_damage { IfErr result (λ fault. IsDamage fault → ⊥) }
-    ensures cause { (before now : ℕ) → HasCause before now result }
-{
-    match vec![in alloc; 0u8; pages.page_size() as usize] {
-        Ok(buffer) => Ok(buffer),
-        Err(_) => Err(PortFault::Memory),
-    }
-}
 
 /// The fault of a page that is no page of a file with bodies.
 fn no_page(page: PageNo, file_no: u32) -> PortFault

@@ -1,12 +1,12 @@
 //! A body that is put into a file.
-ghost use Rattle.std.specs.Prelude.{◌≡◌, ◌≤◌, ◌+◌, ℕ, true, length, None, IfOk, IfErr, IfSome, IfNone, OnOk};
+ghost use Rattle.std.specs.Prelude.{◌≡◌, ◌≤◌, ◌+◌, ℕ, true, length, None, IfOk, IfErr, IfSome, IfNone, OnOk, OnErr};
 ghost use Rattle.ex_base.specs.declared.names.Area.TheVariants.{Page, Segment};
 ghost use Rattle.ex_base.specs.Ports.{Keeps, HasCause, IsDamage};
 ghost use Rattle.ex_base.specs.declared.names.Index.{Index};
 ghost use Rattle.file_index.specs.Index.{IsFilesPage};
 ghost use Rattle.file_index.specs.Taking.{OnlyTakes};
 ghost use Rattle.file_index.specs.Touches.{TouchesAtMost};
-ghost use Rattle.file_bodies.specs.Touches.{body_touches};
+ghost use Rattle.file_bodies.specs.Touches.{body_touches, body_pages};
 ghost use Rattle.file_bodies.specs.Files.{HasFile, EditsFile};
 ghost use Rattle.file_bodies.specs.declared.placing.Room.{Room};
 ghost use Rattle.ex_base.specs.declared.names.Place.{Place};
@@ -17,9 +17,9 @@ ghost use Rattle.file_bodies.specs.Places.{IsRoom, NoRoom, PlacesBody, PutsBody}
 ghost use Rattle.file_bodies.specs.Placing.{IsPlaced, NoneFrom, start_of, lowered_to};
 
 use crate::catalog::{change_index, index_of};
-use crate::page::{load_page, page_buffer};
+use crate::page::load_page;
 use ex_base::{Index, PageNo, Pages, Place, PortFault, ReadPages};
-use file_index::{add, at_least};
+use file_index::{add, at_least, page_buffer};
 use slotted_pages::{empty_page, insert_body};
 use std::alloc::Global;
 
@@ -135,14 +135,14 @@ fn put_on_new_page<P: Pages>(
     requires usable { IsUsable index.now.file_no index.now }
     requires some { 1 ≤ length body.now }
     requires fits { length body.now + 20 ≤ (P.geometry pages.old).page_size }
-    requires free { 7 ≤ P.free pages.old Page }
+    requires free { body_pages ≤ P.free pages.old Page }
     requires image { length image.old ≡ (P.geometry pages.old).page_size }
     ensures placed { IfOk result (λ place. P.tells pages.old → HasFile P.Ground pages.old index.now
         → NoneFrom P.Ground pages.old index.now (length body.now) 0
         → PlacesBody P.Ground pages.old pages.new index.now place body.now) }
     ensures puts { IfOk result (λ place. P.tells pages.old → HasFile P.Ground pages.old index.now
         → PutsBody P.Ground pages.old pages.new index.now place body.now) }
-    ensures free { OnOk result (P.free pages.old Page ≤ P.free pages.new Page + 7) }
+    ensures free { OnOk result (P.free pages.old Page ≤ P.free pages.new Page + body_pages) }
     ensures takes { OnOk result (OnlyTakes P.Ground pages.old pages.new) }
     ensures sound { IfErr result (λ fault. IsDamage fault → P.tells pages.old
         → HasFile P.Ground pages.old index.now → ⊥) }
@@ -186,14 +186,14 @@ fn place_by<P: Pages>(
     requires usable { IsUsable index.now.file_no index.now }
     requires some { 1 ≤ length body.now }
     requires fits { length body.now + 20 ≤ (P.geometry pages.old).page_size }
-    requires free { 7 ≤ P.free pages.old Page }
+    requires free { body_pages ≤ P.free pages.old Page }
     requires image { length image.old ≡ (P.geometry pages.old).page_size }
     ensures placed { IfOk result (λ place. P.tells pages.old → HasFile P.Ground pages.old index.now
         → NoRoom P.Ground pages.old index.now (length body.now) 0 from
         → PlacesBody P.Ground pages.old pages.new index.now place body.now) }
     ensures puts { IfOk result (λ place. P.tells pages.old → HasFile P.Ground pages.old index.now
         → PutsBody P.Ground pages.old pages.new index.now place body.now) }
-    ensures free { OnOk result (P.free pages.old Page ≤ P.free pages.new Page + 7) }
+    ensures free { OnOk result (P.free pages.old Page ≤ P.free pages.new Page + body_pages) }
     ensures takes { OnOk result (OnlyTakes P.Ground pages.old pages.new) }
     ensures sound { IfErr result (λ fault. IsDamage fault → P.tells pages.old
         → HasFile P.Ground pages.old index.now → ⊥) }
@@ -230,13 +230,13 @@ fn place_from<P: Pages>(
     requires usable { IsUsable index.now.file_no index.now }
     requires some { 1 ≤ length body.now }
     requires fits { length body.now + 20 ≤ (P.geometry pages.old).page_size }
-    requires free { 7 ≤ P.free pages.old Page }
+    requires free { body_pages ≤ P.free pages.old Page }
     ensures placed { IfOk result (λ place. P.tells pages.old → HasFile P.Ground pages.old index.now
         → NoRoom P.Ground pages.old index.now (length body.now) 0 from
         → PlacesBody P.Ground pages.old pages.new index.now place body.now) }
     ensures puts { IfOk result (λ place. P.tells pages.old → HasFile P.Ground pages.old index.now
         → PutsBody P.Ground pages.old pages.new index.now place body.now) }
-    ensures free { OnOk result (P.free pages.old Page ≤ P.free pages.new Page + 7) }
+    ensures free { OnOk result (P.free pages.old Page ≤ P.free pages.new Page + body_pages) }
     ensures takes { OnOk result (OnlyTakes P.Ground pages.old pages.new) }
     ensures sound { IfErr result (λ fault. IsDamage fault → P.tells pages.old
         → HasFile P.Ground pages.old index.now → ⊥) }
@@ -268,7 +268,7 @@ pub fn place_body<P: Pages>(
     requires ready { P.ready pages.old }
     requires some { 1 ≤ length body.now }
     requires fits { length body.now + 20 ≤ (P.geometry pages.old).page_size }
-    requires free { 7 ≤ P.free pages.old Page }
+    requires free { body_pages ≤ P.free pages.old Page }
     ensures placed { IfOk result (λ place. P.tells pages.old → (index : Index)
         → HasFile P.Ground pages.old index → index.file_no ≡ room.old.file_no
         → IsRoom P.Ground pages.old index room.old
@@ -278,7 +278,8 @@ pub fn place_body<P: Pages>(
         → PutsBody P.Ground pages.old pages.new index place body.now) }
     ensures room { IfOk result (λ place. room.new
         ≡ record { file_no = room.old.file_no; from = place.page; len = length body.now }) }
-    ensures free { OnOk result (P.free pages.old Page ≤ P.free pages.new Page + 7) }
+    ensures unplaced { OnErr result (room.new ≡ room.old) }
+    ensures free { OnOk result (P.free pages.old Page ≤ P.free pages.new Page + body_pages) }
     ensures takes { OnOk result (OnlyTakes P.Ground pages.old pages.new) }
     ensures sound { IfErr result (λ fault. IsDamage fault → P.tells pages.old → (index : Index)
         → HasFile P.Ground pages.old index → index.file_no ≡ room.old.file_no → ⊥) }

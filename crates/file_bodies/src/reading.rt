@@ -1,5 +1,5 @@
 //! Bodies read, and the places of a file in order.
-ghost use Rattle.std.specs.Prelude.{◌≡◌, ◌≤◌, ◌<◌, ◌+◌, ℕ, List, length, Contains, IfOk, IfErr, OnOk, IfSome, IfNone, IsTrue, false, ◌≢◌, MatchOption, Some, None, slice_index_or};
+ghost use Rattle.std.specs.Prelude.{◌≡◌, ◌<◌, ◌+◌, ℕ, List, length, Contains, IfOk, IfErr, OnOk, IfSome, IfNone, IsTrue, false, ◌≢◌, MatchOption, Some, None, slice_index_or};
 ghost use Rattle.std.specs.Borrow.{sem};
 ghost use Rattle.ex_base.specs.Ports.{Rests, Keeps, HasCause, IsDamage};
 ghost use Rattle.slotted_pages.specs.Reads.{page_on, IsPage};

@@ -16,9 +16,9 @@ ghost use Rattle.file_index.specs.Damage.{HasWay};
 ghost use Rattle.file_bodies.specs.Damage.{HasRecordAt, IsLastOn, IsTakingFault, IsLeavingFault, IsListedFault, HasListed};
 
 use crate::catalog::{change_index, has_placed_root, index_of, no_root};
-use crate::page::{has_slots, load_body_page, page_buffer};
+use crate::page::{has_slots, load_body_page};
 use ex_base::{PageNo, Pages, Place, PortFault};
-use file_index::remove;
+use file_index::{page_buffer, remove};
 use slotted_pages::remove_body;
 use std::alloc::Global;
 
