@@ -10,15 +10,12 @@ use Rattle.file_index.specs.Index.{Rises}
 use Rattle.file_index.proofs.Picking.{rises_of, rising_of}
 use Rattle.slotted_pages.specs.FilePage.{Slot, body_of, IsSlot}
 use Rattle.slotted_pages.specs.Edits.{slot_with}
+use Rattle.slotted_pages.proofs.EditLaws.{body_with}
 use Rattle.page_entries.specs.declared.form.EntryForm.TheVariants.{Image, SlotChanges}
 use Rattle.page_entries.specs.Said.{SlotChange, Said, Slots, Whole, Files, change_bytes, said_bytes, form_of, FitsChange, slot_of_change, IsSaid, changes_read, Says}
 use Rattle.page_entries.specs.Fronts.{ChangeAt, change_end, ChangesAt, changes_end}
 
 -- ---- a slot by its bytes
-
-pub body_with : (b : List ℕ) → body_of (slot_with b) ≡ b
-body_with [] = refl
-body_with (x ∷ b) = refl
 
 pub slot_fits : (b : List ℕ) → IsSlot (slot_with b)
 slot_fits [] = tt

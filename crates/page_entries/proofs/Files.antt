@@ -1,6 +1,6 @@
 -- The fields of changes of files: what is read is spelled so, and what is spelled is read.
 use Rattle.std.proofs.Common.{◌≡◌, ℕ, ◌+◌, ◌-◌, ◌*◌, ◌/◌, ◌^◌, ◌<◌, ◌≤◌, List, [], ◌++◌, length, take, drop, map, Option, Some, None, refl, sym, ap, subst, ◌∙◌, arith, append_assoc}
-use Rattle.std.specs.Prelude.{IfSome, IfNone}
+use Rattle.std.specs.Prelude.{IfNone}
 use Rattle.std.specs.List.{flat_map, AllByRecursion}
 use Rattle.std.proofs.lemmas.List.{length-append, length-drop, take_at, take_rest, append-nil}
 use Rattle.ex_base.specs.Bytes.{bytes_at, IsBytes}
@@ -65,10 +65,6 @@ put_written page f size n a b at at_is n_is a_is b_is room is =
     ∙ ap (λ (k : ℕ). headed (put_count f) (number_at 8 f 0) k (take (48 * n) (take (length f - at) (drop at f)) ++ zeros (size - (32 + length (take (48 * n) (take (length f - at) (drop at f))))))) b_is
     ∙ ap (λ (k : ℕ). headed (put_count f) (number_at 8 f 0) (number_at 8 f 8) (take (48 * n) (take (length f - at) (drop at f)) ++ zeros (size - (32 + k)))) long
     ∙ ap (λ (t : List ℕ). headed (put_count f) (number_at 8 f 0) (number_at 8 f 8) (t ++ zeros (size - (32 + 48 * put_count f)))) part
-
-pub if_some_as : {A : Type 0} (o : Option A) (P Q : A → Type 0) → ((x : A) → P x → Q x) → IfSome o P → IfSome o Q
-if_some_as None P Q f h = tt
-if_some_as (Some x) P Q f h = f x h
 
 pub if_none_as : {A : Type 0} (o : Option A) (P Q : Type 0) → (P → Q) → IfNone o P → IfNone o Q
 if_none_as None P Q f h = f h

@@ -6,10 +6,11 @@ use Rattle.std.specs.Ordering.{nat_cmp}
 use Rattle.std.specs.Cmp.Lexicographic.{slice_cmp}
 use Rattle.std.specs.declared.cmp.Ordering.TheVariants.{Less}
 use Rattle.std.proofs.lemmas.Bool.{cases_lt}
-use Rattle.std.proofs.lemmas.Option.{slice_get_within, slice_get-get_or}
+use Rattle.std.proofs.lemmas.Option.{slice_get_within, slice_get-get_or, get_or_from_slice_get}
 use Rattle.std.proofs.lemmas.List.{take_more, append-nil}
 use Rattle.std.proofs.lemmas.List.Elements.{filter-append}
 use Rattle.ex_base.proofs.Booleans.{same_number}
+use Rattle.ex_base.proofs.Lists.{drop_item}
 use Rattle.ex_base.proofs.Members.{contains_later, contains_cases, contains_none}
 use Rattle.object_files.specs.Catalog.{FileEntry, entry_bytes}
 use Rattle.object_files.specs.Edits.{entry_inserted}
@@ -105,13 +106,10 @@ kept_less p x i e a is none h =
 -- ---- the files that are put
 
 pub put_step : (put : List FileEntry) (k : ℕ) (e : FileEntry) → k < length put → slice_get put (length put - 1 - k) ≡ Some e → drop (length put - (k + 1)) put ≡ e ∷ drop (length put - k) put
-put_step put k e lt is = dropped put (length put - (k + 1)) (length put - k) e (omega arith) (ap (slice_get put) (let n : length put - (k + 1) ≡ length put - 1 - k = omega arith in n) ∙ is)
-  where
-    dropped : (x : List FileEntry) (i j : ℕ) (e : FileEntry) → j ≡ suc i → slice_get x i ≡ Some e → drop i x ≡ e ∷ drop j x
-    dropped [] i j e n is = absurd cc
-    dropped (g ∷ x) zero j e n is = let same : g ≡ e = cc in ap (λ (y : FileEntry). y ∷ x) same ∙ ap (λ (m : ℕ). e ∷ drop m (g ∷ x)) (sym n)
-    dropped (g ∷ x) (suc i) zero e n is = absurd (omega arith)
-    dropped (g ∷ x) (suc i) (suc j) e n is = dropped x i j e (omega arith) is
+put_step put k e lt is =
+    let here : slice_get put (length put - (k + 1)) ≡ Some e = ap (slice_get put) (let n : length put - (k + 1) ≡ length put - 1 - k = omega arith in n) ∙ is in
+    drop_item put (length put - (k + 1)) e (slice_get_within put (length put - (k + 1)) e here) (sym (get_or_from_slice_get put (length put - (k + 1)) e e here))
+    ∙ ap (λ (m : ℕ). e ∷ drop m put) (let n : length put - (k + 1) + 1 ≡ length put - k = omega arith in n)
 
 -- ---- their bytes
 

@@ -2,13 +2,14 @@ use Rattle.std.proofs.Common.{ℕ, List, length, Option, sym, ap, subst, ◌∙�
 use Rattle.std.specs.Option.{option_map}
 use Rattle.std.proofs.lemmas.Bool.Decides.{nat_tests}
 use Rattle.ex_base.specs.Fields.{number_at}
+use Rattle.ex_base.proofs.Options.{if_some_both}
 use Rattle.ex_base.proofs.Results.{if_ok_both}
 use Rattle.slotted_pages.specs.FilePage.{file_page}
 use Rattle.object_files.specs.Catalog.{catalog_page}
 use Rattle.page_entries.specs.Said.{changes_read}
 use Rattle.page_entries.specs.Applying.{SlotsApply, page_after_slots}
 use Rattle.page_entries.specs.FilesAfter.{FilesReadApply, catalog_after_read}
-use Rattle.page_entries.proofs.Files.{if_some_as, if_none_as}
+use Rattle.page_entries.proofs.Files.{if_none_as}
 use Rattle.page_entries.proofs.Entered.{image_applies, image_entered, no_slots_page, slots_apply, slots_applied, slots_entered, no_files_page, files_apply, files_applied, files_entered}
 use Rattle.page_entries.proofs.apply.apply_entry.Goals as goal
 
@@ -25,12 +26,12 @@ pub returns-in-None-clause-refused : goal.returns-in-None-clause-refused
 returns-in-None-clause-refused c = no_slots_page c.args.entry.now.page.0 c.args.entry.now.form c.args.entry.now.fields (held c.args.so_far) c.in-SlotChanges.is (ap held c.in-None.is)
 
 pub returns-in-Some-clause-applies : goal.returns-in-Some-clause-applies
-returns-in-Some-clause-applies c = if_ok_both c.apply_slots.result _ _ _ (λ after made again. if_some_as after _ _ (λ image h.
+returns-in-Some-clause-applies c = if_ok_both c.apply_slots.result _ _ _ (λ after made again. if_some_both after _ _ (λ image h.
     slots_apply c.args.entry.now.page.0 c.args.entry.now.form c.args.entry.now.fields c.in-Some.old.now (held c.args.so_far) c.in-SlotChanges.is (ap held c.in-Some.is)
     (subst (λ (t : List ℕ). SlotsApply c.in-Some.old.now (changes_read t (number_at 2 t 4) 6)) c.as_slice-fields.ensures h.0)) made) c.apply_slots.ensures.applied c.apply_slots.ensures.applied
 
 pub returns-in-Some-clause-applied : goal.returns-in-Some-clause-applied
-returns-in-Some-clause-applied c = if_ok_both c.apply_slots.result _ _ _ (λ after made again. if_some_as after _ _ (λ image h.
+returns-in-Some-clause-applied c = if_ok_both c.apply_slots.result _ _ _ (λ after made again. if_some_both after _ _ (λ image h.
     slots_entered c.args.entry.now.form c.args.entry.now.fields c.in-Some.old.now image (held c.args.so_far) c.in-SlotChanges.is (ap held c.in-Some.is)
     (h.1 ∙ ap (λ (t : List ℕ). file_page (length c.in-Some.old.now) (page_after_slots (changes_read t (number_at 2 t 4) 6) c.in-Some.old.now)) c.as_slice-fields.ensures)) made) c.apply_slots.ensures.applied c.apply_slots.ensures.applied
 
@@ -48,13 +49,13 @@ returns-then-ne-clause-refused c = λ a.
     let test = c.ne.ensures in let other = c.if-ne.true in absurd (grind (arith, nat_tests, is, test, other))
 
 pub returns-else-ne-clause-applies : goal.returns-else-ne-clause-applies
-returns-else-ne-clause-applies c = if_ok_both c.apply_files.result _ _ _ (λ after made again. if_some_as after _ _ (λ image h.
+returns-else-ne-clause-applies c = if_ok_both c.apply_files.result _ _ _ (λ after made again. if_some_both after _ _ (λ image h.
     files_apply c.args.entry.now.page.0 c.args.entry.now.form c.args.entry.now.fields c.in-Some-so_far.old.now (held c.args.so_far) c.in-FileChanges.is (ap held c.in-Some-so_far.is)
     (let test = c.ne.ensures in let same = c.if-ne.false in grind (arith, nat_tests, test, same))
     (subst (FilesReadApply c.in-Some-so_far.old.now) c.as_slice-fields.ensures h.0)) made) c.apply_files.ensures.applied c.apply_files.ensures.applied
 
 pub returns-else-ne-clause-applied : goal.returns-else-ne-clause-applied
-returns-else-ne-clause-applied c = if_ok_both c.apply_files.result _ _ _ (λ after made again. if_some_as after _ _ (λ image h.
+returns-else-ne-clause-applied c = if_ok_both c.apply_files.result _ _ _ (λ after made again. if_some_both after _ _ (λ image h.
     files_entered c.args.entry.now.form c.args.entry.now.fields c.in-Some-so_far.old.now image (held c.args.so_far) c.in-FileChanges.is (ap held c.in-Some-so_far.is)
     (h.1 ∙ ap (λ (t : List ℕ). catalog_page (length c.in-Some-so_far.old.now) (catalog_after_read c.in-Some-so_far.old.now t)) c.as_slice-fields.ensures)) made) c.apply_files.ensures.applied c.apply_files.ensures.applied
 

@@ -1,12 +1,13 @@
 use Rattle.std.proofs.Common.{◌≡◌, ℕ, length, map, sym, ap, subst, ◌∙◌, arith, rules}
 use Rattle.std.specs.Prelude.{Contains}
 use Rattle.std.specs.List.{AllByRecursion}
+use Rattle.ex_base.proofs.Options.{if_some_both}
 use Rattle.ex_base.proofs.Results.{if_ok_both}
 use Rattle.object_files.specs.Catalog.{Catalog, number_of}
 use Rattle.page_entries.specs.Said.{numbers_read}
 use Rattle.page_entries.specs.Fronts.{ArePut, removed_read, put_read}
 use Rattle.page_entries.specs.FilesAfter.{files_after}
-use Rattle.page_entries.proofs.Files.{if_some_as, if_none_as}
+use Rattle.page_entries.proofs.Files.{if_none_as}
 use Rattle.page_entries.proofs.FilesApplied.{FilesHere, files_here, Merging, merging, merged_each, there_in, after_applied, after_refused}
 use Rattle.page_entries.proofs.file_changes.apply_files.Goals as goal
 
@@ -47,7 +48,7 @@ returns-clause-applied c =
     merging c.args.old.now c.args.fields.now c.in-Some.files c.in-Some-put_view.put.entries c.requires c.in-Some.ensures.found (subst (λ (k : ℕ). ArePut k c.args.fields.now c.in-Some-put_view.put.entries) long c.in-Some-put_view.ensures.found) in
     let there : AllByRecursion (λ (x : ℕ). Contains (map number_of c.in-Some.files.entries) x) (removed_read c.args.fields.now) =
     subst (λ (k : ℕ). AllByRecursion (λ (x : ℕ). Contains (map number_of c.in-Some.files.entries) x) (numbers_read c.args.fields.now k 18)) c.get_u16-removed.ensures (c.are_there.ensures.0 (search rules)) in
-    if_ok_both c.catalog_of.result _ _ _ (λ after made again. if_some_as after _ _ (λ image h.
+    if_ok_both c.catalog_of.result _ _ _ (λ after made again. if_some_both after _ _ (λ image h.
     after_applied c.args.old.now c.args.fields.now c.in-Some.files c.in-Some-put_view.put.entries c.next_unique.result c.last_txn.result image m there
     (c.next_unique.ensures ∙ ap (λ (x : Catalog). x.next_unique) c.in-Some-put_view.ensures.numbers) (c.last_txn.ensures ∙ ap (λ (x : Catalog). x.last) c.in-Some-put_view.ensures.numbers)
     (h (files_after (removed_read c.args.fields.now) c.in-Some-put_view.put.entries c.in-Some.files.entries) (merged_each c.args.old.now c.args.fields.now c.in-Some.files c.in-Some-put_view.put.entries m) (c.deref.ensures.value ∙ c.in_ok-entries.ensures))) made)
