@@ -1,12 +1,10 @@
 -- Records of a file with their labels as objects.
-use Rattle.std.proofs.Common.{◌≡◌, ◌<◌, ◌≤◌, ◌+◌, ℕ, List, [], ◌∷◌, ◌++◌, length, drop, get_or, map, refl, sym, ap, subst, ◌∙◌, arith, append_assoc}
-use Rattle.std.specs.Prelude.{Contains}
+use Rattle.std.proofs.Common.{◌≡◌, ◌<◌, ◌+◌, ℕ, List, [], ◌∷◌, ◌++◌, length, map, refl, sym, ap, subst, ◌∙◌, arith}
 use Rattle.std.specs.List.{AllByRecursion}
 use Rattle.std.proofs.lemmas.Bool.{cond-true, cond-false}
-use Rattle.std.proofs.lemmas.List.{append-nil, drop_all, drop_more, length-map}
+use Rattle.std.proofs.lemmas.List.{length-map}
 use Rattle.ex_base.specs.declared.names.Place.{Place}
 use Rattle.ex_base.proofs.Each.{each_from, each_mapped, map_same}
-use Rattle.ex_base.proofs.Members.{contains_cases, contains_later}
 use Rattle.ex_base.proofs.Rows.{each-append}
 use Rattle.record_links.specs.declared.Linked.{Linked}
 use Rattle.record_links.specs.Links.{AreLinked, IsBefore, InPlaceOrder, same_place}
@@ -16,30 +14,8 @@ use Rattle.record_links.proofs.Labelling.{label_of}
 use Rattle.file_walk.specs.declared.Found.{Found}
 use Rattle.file_walk.specs.declared.records.Standing.{Standing}
 use Rattle.file_walk.specs.Objects.{AddsNumbered, found_by, found_with, linked_in, links_of}
-use Rattle.file_walk.specs.Records.{AddsFile, AddsRows, AreRooted, HasFields, HasRootFields, IsGoodFile, standing_at}
+use Rattle.file_walk.specs.Records.{AddsFile, AddsRows, AreRooted, HasRootFields, IsGoodFile, standing_at}
 use Rattle.file_walk.proofs.Lists.{contains_map}
-
--- ---- one after the other
-
-pub labelled_start : (first : ℕ) (old : List Found) (records : List Standing) (labels : List ℕ) → old ++ found_by first records labels ≡ old ++ found_by first (drop 0 records) (drop 0 labels)
-labelled_start first old records labels = refl
-
-here : (first : ℕ) (records : List Standing) (labels : List ℕ) (i : ℕ) (s : Standing) → i < length records → length labels ≡ length records
-    → found_by first (drop i records) (drop i labels) ≡ found_with (first + get_or labels i 0) (get_or records i s) ∷ found_by first (drop (i + 1) records) (drop (i + 1) labels)
-here first records labels i s lt len =
-    ap (λ (t : List Standing). found_by first t (drop i labels)) (drop_more records i s lt)
-    ∙ ap (found_by first (get_or records i s ∷ drop (i + 1) records)) (drop_more labels i 0 (omega (arith, lt, len)))
-
-pub labelled_step : (first : ℕ) (all now next : List Found) (records : List Standing) (labels : List ℕ) (i : ℕ) (s : Standing) → i < length records → length labels ≡ length records
-    → all ≡ now ++ found_by first (drop i records) (drop i labels) → next ≡ now ++ found_with (first + get_or labels i 0) (get_or records i s) ∷ [] → all ≡ next ++ found_by first (drop (i + 1) records) (drop (i + 1) labels)
-labelled_step first all now next records labels i s lt len before is =
-    let rest = found_by first (drop (i + 1) records) (drop (i + 1) labels) in
-    before ∙ ap (λ (t : List Found). now ++ t) (here first records labels i s lt len) ∙ sym (append_assoc now (found_with (first + get_or labels i 0) (get_or records i s) ∷ []) rest)
-    ∙ ap (λ (t : List Found). t ++ rest) (sym is)
-
-pub labelled_end : (first : ℕ) (all now : List Found) (records : List Standing) (labels : List ℕ) (i : ℕ) → length records ≤ i → all ≡ now ++ found_by first (drop i records) (drop i labels) → now ≡ all
-labelled_end first all now records labels i le before =
-    sym (before ∙ ap (λ (t : List Standing). now ++ found_by first t (drop i labels)) (drop_all i records le) ∙ append-nil now)
 
 -- ---- by a label for each place
 
@@ -81,9 +57,6 @@ labelled old new records labels order are is =
     }
 
 -- ---- roots
-
-abbrev Rooted : Standing → Type 0
-Rooted s = HasFields s.root
 
 pub numbered_rooted : (old new : List Found) (records : List Standing) → AddsNumbered old new records → AreRooted records → AllByRecursion HasRootFields old → AllByRecursion HasRootFields new
 numbered_rooted old new records adds rooted was =

@@ -10,7 +10,7 @@ use Rattle.file_index.specs.IndexPage.{entries_on}
 use Rattle.file_index.specs.Edits.{keys_among, pages_among}
 use Rattle.file_index.specs.Index.{IsFilesPage, IsNamed, HasKey, IsUnder, keys_under, pages_under}
 use Rattle.file_index.proofs.Counts.{count_is}
-use Rattle.file_walk.specs.declared.named.Named.{Named}
+use Rattle.file_index.specs.declared.named.Named.{Named}
 use Rattle.file_walk.specs.Indexes.{IsFreeIndex}
 
 module _ (g : Geometry) (file_no : ℕ) (images : ℕ → List ℕ) where

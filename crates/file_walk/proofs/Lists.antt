@@ -1,19 +1,16 @@
 -- What is left of a list behind an item, and lists that are gathered item by item.
-use Rattle.std.proofs.Common.{◌≡◌, ◌≤◌, ◌+◌, ℕ, zero, suc, List, [], ◌∷◌, ◌++◌, length, drop, Option, Some, None, sym, ap, ◌∙◌, arith, append_assoc}
+use Rattle.std.proofs.Common.{◌≡◌, ◌≤◌, ◌+◌, ℕ, List, [], ◌∷◌, ◌++◌, length, drop, Option, Some, None, sym, ap, ◌∙◌, append_assoc}
 use Rattle.std.specs.Prelude.{slice_get, map, Contains, OnSome}
 use Rattle.std.specs.List.{flat_map}
 use Rattle.std.proofs.lemmas.List.{append-nil, map-append, drop_all}
+use Rattle.std.proofs.lemmas.Option.{slice_get_within, get_or_from_slice_get}
 use Rattle.ex_base.specs.declared.names.PageNo.{PageNo}
+use Rattle.ex_base.proofs.Lists.{drop_item}
 use Rattle.version_lists.proofs.Lists.{contains_has, has_contains, has_map}
 use Rattle.file_walk.specs.Walk.{page_numbers}
 
 pub drop_get : {A : Type 0} (xs : List A) (i : ℕ) (x : A) → slice_get xs i ≡ Some x → drop i xs ≡ x ∷ drop (i + 1) xs
-drop_get [] zero x is = absurd cc
-drop_get [] (suc i) x is = absurd cc
-drop_get (y ∷ xs) zero x is = let same : y ≡ x = cc in ap (λ z. z ∷ xs) same
-drop_get (y ∷ xs) (suc i) x is =
-    let e : suc (i + 1) ≡ suc i + 1 = omega arith in
-    drop_get xs i x is ∙ ap (λ (n : ℕ). x ∷ drop n (y ∷ xs)) e
+drop_get xs i x is = drop_item xs i x (slice_get_within xs i x is) (sym (get_or_from_slice_get xs i x x is))
 
 pub numbers-append : (xs ys : List PageNo) → page_numbers (xs ++ ys) ≡ page_numbers xs ++ page_numbers ys
 numbers-append xs ys = map-append (λ (page : PageNo). page.0) xs ys

@@ -1,8 +1,7 @@
 -- How often a number stands in a list, and lists whose numbers differ.
-use Rattle.std.proofs.Common.{◌≡◌, ◌≢◌, ◌≤◌, ◌+◌, ℕ, List, [], ◌∷◌, refl, sym, ap, subst, ◌∙◌, arith, inl, inr}
-use Rattle.std.specs.Prelude.{Contains, sum_by, if◌then◌else◌, ◌==◌}
+use Rattle.std.proofs.Common.{◌≡◌, ◌≢◌, ◌≤◌, ℕ, List, [], ◌∷◌, refl, sym, subst, arith, inl, inr}
+use Rattle.std.specs.Prelude.{Contains}
 use Rattle.std.specs.List.{AllByRecursion}
-use Rattle.std.proofs.lemmas.List.Sums.{sum_by-cons}
 use Rattle.ex_base.specs.Ports.{times}
 use Rattle.ex_base.proofs.Counts.{none_or_some, times_apart, times_contains}
 
@@ -18,9 +17,3 @@ absent x y xs same lacks = elim (none_or_some (times x xs)) [
 pub never : (x : ℕ) (xs : List ℕ) → AllByRecursion (λ (y : ℕ). y ≢ x) xs → times x xs ≡ 0
 never x [] h = refl
 never x (y ∷ xs) h = omega (arith, times_apart x y xs (λ same. h.0 (sym same)), never x xs h.1)
-
--- ---- another order
-
-times_sum : (x : ℕ) (xs : List ℕ) → times x xs ≡ sum_by (λ (y : ℕ). if y == x then 1 else 0) xs
-times_sum x [] = refl
-times_sum x (y ∷ xs) = ap (λ (n : ℕ). (if y == x then 1 else 0) + n) (times_sum x xs) ∙ sym (sum_by-cons (λ (z : ℕ). if z == x then 1 else 0) y xs)

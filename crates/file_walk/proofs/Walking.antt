@@ -18,7 +18,7 @@ use Rattle.file_index.specs.Index.{IsFilesPage, IsNamed, HasKey, keys_under, pag
 use Rattle.file_index.proofs.Counts.{count_most}
 use Rattle.object_files.specs.Catalog.{FileEntry}
 use Rattle.trees.specs.Trees.{Units}
-use Rattle.file_walk.specs.declared.named.Named.{Named}
+use Rattle.file_index.specs.declared.named.Named.{Named}
 use Rattle.file_walk.specs.declared.indexes.FilePages.{FilePages}
 use Rattle.file_walk.specs.Walk.{page_numbers, CountsUsed}
 use Rattle.file_walk.specs.Indexes.{IsFreeIndex, IsFreeRoot, AddsIndex, AddsRoot, AddsPages, IsWalked, IsInArea, IsEntryIndex, AreFreeIndexes, walked_pages, pages_named}
@@ -79,9 +79,6 @@ leaf_added g images named old new level files key numbers index_pages =
       numbers = ap page_numbers numbers ∙ numbers-append old.numbers.items (named.page ∷ []) ∙ ap (λ (t : List ℕ). page_numbers old.numbers.items ++ t) (sym leaf.keys);
       index_pages = ap page_numbers index_pages ∙ sym (append-nil (page_numbers old.index_pages.items)) ∙ ap (λ (t : List ℕ). page_numbers old.index_pages.items ++ t) (sym leaf.pages);
     }
-
-pub leaf_bad : (g : Geometry) (images : Units) (used : ℕ → Bool) (named : Named) → named.level ≡ 0 → (HasKey named.least named.page.0 → ⊥) → IsFreeIndex g images used named → ⊥
-leaf_bad g images used named level never free = never ((at_leaf g named.file_no images named.level named.page.0 level).opened named.least free.whole)
 
 -- ---- the entries of an index page
 

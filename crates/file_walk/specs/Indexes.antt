@@ -10,7 +10,7 @@ use Rattle.file_index.specs.Changes.{count_of}
 use Rattle.file_index.specs.Index.{IsUnder, IsRoot, IsIndex, keys_under, pages_under, keys_of, pages_of}
 use Rattle.object_files.specs.Catalog.{FileEntry}
 use Rattle.trees.specs.Trees.{Units}
-use Rattle.file_walk.specs.declared.named.Named.{Named}
+use Rattle.file_index.specs.declared.named.Named.{Named}
 use Rattle.file_walk.specs.declared.indexes.FilePages.{FilePages}
 use Rattle.file_walk.specs.Walk.{page_numbers, CountsUsed}
 

@@ -1,5 +1,5 @@
 //! The walk over the indexes of all files.
-ghost use Rattle.std.specs.Prelude.{◌≡◌, ◌<◌, ◌≤◌, ◌+◌, ◌++◌, [], ◌∷◌, ℕ, true, false, List, length, IfOk, IfErr, IfSome, IfNone, OnOk, OnSome, IsTrue, ◌↔◌};
+ghost use Rattle.std.specs.Prelude.{◌≡◌, ◌<◌, ◌≤◌, ◌+◌, [], ◌∷◌, ℕ, true, false, List, length, IfOk, IfErr, IfSome, IfNone, OnSome, IsTrue, ◌↔◌};
 ghost use Rattle.std.specs.List.{AllByRecursion, AllZip, flat_map};
 ghost use Rattle.ex_base.specs.Area.{catalog_no};
 ghost use Rattle.ex_base.specs.Order.{Rising};
@@ -11,25 +11,19 @@ ghost use Rattle.trees.specs.Trees.{Units as Images};
 ghost use Rattle.file_walk.specs.Walk.{Tells, page_numbers, CountsUsed, KeepsUnits};
 ghost use Rattle.file_walk.specs.Indexes.{HasRisingPages, IsFreeIndex, IsFreeRoot, AddsIndex, AddsRoot, AddsPages, IsWalked, IsInArea, AreFreeIndexes, walked_pages};
 
-use crate::named::{Named, entries_at, has_key};
+use crate::named::{entries_at, has_key};
 use ex_base::{PageNo, PortFault, ReadPages};
+use file_index::Named;
 use object_files::{CatalogView, Entry};
 use page_alloc::Units;
-use std::alloc::{AllocError, Global};
+use std::alloc::Global;
+use trees::put;
 
 /// The pages of a file: those with records, and those of its index.
 #[derive(Drop)]
 pub struct FilePages {
     pub numbers: Vec<PageNo>,
     pub index_pages: Vec<PageNo>,
-}
-
-/// Adds an item to a list.
-fn add<T: Drop>(items: &mut Vec<T>, item: T) -> Result<(), AllocError>
-    ensures { OnOk result (items.new.items ≡ items.old.items ++ (item ∷ [])) }
-{
-    items.push(item)?;
-    Ok(())
 }
 
 /// Makes a page one of a file. False where it lies outside of the page area, or is in use, as the catalog's page is.
@@ -78,10 +72,10 @@ fn walk_under<P: ReadPages>(
         return Ok(false);
     }
     if named.level == 0 {
-        add(&mut walked.numbers, named.page)?;
+        put(&mut walked.numbers, named.page)?;
         return Ok(has_key(named.least, named.page.0));
     }
-    add(&mut walked.index_pages, named.page)?;
+    put(&mut walked.index_pages, named.page)?;
     let Some(entries) = entries_at(pages, alloc, &named)? else {
         return Ok(false);
     };
@@ -239,7 +233,7 @@ pub fn walk_indexes<P: ReadPages>(
             Ok(None) => return Ok(None),
             Err(fault) => return Err(fault),
         };
-        add(&mut files, file)?;
+        put(&mut files, file)?;
     }
     Ok(Some(files))
 }

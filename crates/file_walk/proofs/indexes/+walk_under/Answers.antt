@@ -16,7 +16,7 @@ use Rattle.file_walk.proofs.indexes.+walk_under.Goals as goal
 
 pub returns-then-named-eq0-clause-pages : goal.returns-then-named-eq0-clause-pages
 returns-then-named-eq0-clause-pages g t c = λ is.
-    adds_number (g.P.Ground.geometry c.args.pages.now) c.args.units.now c.claim.new.units c.args.walked.now _ c.args.named.page (c.if-not-claim.ensures.claimed refl) (c.if-not-claim.ensures.area refl).0 c.in_ok-add.ensures refl
+    adds_number (g.P.Ground.geometry c.args.pages.now) c.args.units.now c.claim.new.units c.args.walked.now _ c.args.named.page (c.if-not-claim.ensures.claimed refl) (c.if-not-claim.ensures.area refl).0 c.in_ok-put.ensures refl
 
 pub returns-in_default-clause-bad : goal.returns-in_default-clause-bad
 returns-in_default-clause-bad g t c = λ e images told free.
@@ -28,13 +28,13 @@ pub loop-entry-init : goal.loop-entry-init
 loop-entry-init g t c = record {
   kept = c.entries_at.ensures.kept;
   units = c.claim.ensures.units;
-  pages = adds_index_page (g.P.Ground.geometry c.args.pages.now) c.args.units.now c.claim.new.units c.args.walked.now _ c.args.named.page (c.if-not-claim.ensures.claimed refl) (c.if-not-claim.ensures.area refl).0 refl c.in_ok-add-2.ensures;
+  pages = adds_index_page (g.P.Ground.geometry c.args.pages.now) c.args.units.now c.claim.new.units c.args.walked.now _ c.args.named.page (c.if-not-claim.ensures.claimed refl) (c.if-not-claim.ensures.area refl).0 refl c.in_ok-put-2.ensures;
   told = λ images told.
       let same = told.same c.args.named.page.0 (c.if-not-claim.ensures.area refl).0 in
       walk_starts (g.P.Ground.geometry c.args.pages.now) images c.args.named c.args.walked.now _ c.deref-entry-items.result.now c.if-named-eq0.false
       (subst (λ (page : List ℕ). IsNamed (g.P.Ground.geometry c.args.pages.now).page_size page c.args.named.level c.args.named.file_no c.args.named.least) (sym same) (on_some c.in_ok-entries.field-0 c.in-Some.entries _ c.in-Some.is c.in_ok-entries.ensures.some told.tells))
       (c.deref-entry-items.ensures.value ∙ at_some c.in_ok-entries.field-0 c.in-Some.entries _ c.in-Some.is c.in_ok-entries.ensures.entries told.tells ∙ ap entries_on (sym same))
-      refl c.in_ok-add-2.ensures;
+      refl c.in_ok-put-2.ensures;
 }
 
 pub walk_under-requires : goal.walk_under-requires

@@ -29,18 +29,18 @@ loop-at-preserved g c =
     record {
       kept = keeps_on g.P.Ground c.args.pages.now c.loop-at.pages c.walk_index.new.pages c.loop-at.invariant.kept c.walk_index.ensures.kept;
       units = units_on c.args.units.now c.loop-at.units c.walk_index.new.units c.loop-at.invariant.units c.walk_index.ensures.units;
-      counted = counted_on c.args.units.now c.loop-at.units c.walk_index.new.units (flat_map walked_pages c.loop-at.files.items) (walked_pages c.in-Ok-Some.file) (flat_map walked_pages c.add.new.items.items) c.loop-at.invariant.counted
+      counted = counted_on c.args.units.now c.loop-at.units c.walk_index.new.units (flat_map walked_pages c.loop-at.files.items) (walked_pages c.in-Ok-Some.file) (flat_map walked_pages c.put.new.items.items) c.loop-at.invariant.counted
           (at_some c.in-Ok-Some.field-0 c.in-Ok-Some.file _ c.in-Ok-Some.field-0-is c.in-Ok-Some.ensures.used)
-          (ap (flat_map walked_pages) c.in_ok-add.ensures ∙ pages_push c.loop-at.files.items c.in-Ok-Some.file);
-      area = subst (AllByRecursion (IsInArea (g.P.Ground.geometry c.args.pages.now))) (sym c.in_ok-add.ensures)
+          (ap (flat_map walked_pages) c.in_ok-put.ensures ∙ pages_push c.loop-at.files.items c.in-Ok-Some.file);
+      area = subst (AllByRecursion (IsInArea (g.P.Ground.geometry c.args.pages.now))) (sym c.in_ok-put.ensures)
           (each-append (IsInArea (g.P.Ground.geometry c.args.pages.now)) c.loop-at.files.items (c.in-Ok-Some.file ∷ []) c.loop-at.invariant.area
           (subst (λ (y : Geometry). IsInArea y c.in-Ok-Some.file) geo (at_some c.in-Ok-Some.field-0 c.in-Ok-Some.file _ c.in-Ok-Some.field-0-is c.in-Ok-Some.ensures.area), tt));
-      rising = subst (AllByRecursion HasRisingPages) (sym c.in_ok-add.ensures)
+      rising = subst (AllByRecursion HasRisingPages) (sym c.in_ok-put.ensures)
           (each-append HasRisingPages c.loop-at.files.items (c.in-Ok-Some.file ∷ []) c.loop-at.invariant.rising
           (at_some c.in-Ok-Some.field-0 c.in-Ok-Some.file _ c.in-Ok-Some.field-0-is c.in-Ok-Some.ensures.rising, tt));
-      len = omega (arith, ap length c.in_ok-add.ensures, length-append c.loop-at.files.items (c.in-Ok-Some.file ∷ []), c.loop-at.invariant.len);
+      len = omega (arith, ap length c.in_ok-put.ensures, length-append c.loop-at.files.items (c.in-Ok-Some.file ∷ []), c.loop-at.invariant.len);
       told = λ images told.
-          subst (IndexesTo (g.P.Ground.geometry c.args.pages.now) images c.args.catalog.now.entries (drop (c.loop-at.at + 1) c.args.catalog.now.entries)) (sym c.in_ok-add.ensures)
+          subst (IndexesTo (g.P.Ground.geometry c.args.pages.now) images c.args.catalog.now.entries (drop (c.loop-at.at + 1) c.args.catalog.now.entries)) (sym c.in_ok-put.ensures)
           (indexes_step (g.P.Ground.geometry c.args.pages.now) images c.args.catalog.now.entries (entry_of c.entry-entry.result) (drop (c.loop-at.at + 1) c.args.catalog.now.entries) c.loop-at.files.items c.in-Ok-Some.file
           (subst (λ (left : List FileEntry). IndexesTo (g.P.Ground.geometry c.args.pages.now) images c.args.catalog.now.entries left c.loop-at.files.items) (drop_get c.args.catalog.now.entries c.loop-at.at (entry_of c.entry-entry.result) c.entry-entry.ensures) (c.loop-at.invariant.told images told))
           (subst (λ (y : Geometry). IsWalked y images (entry_of c.entry-entry.result) c.in-Ok-Some.file) geo
