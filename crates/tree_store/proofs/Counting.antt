@@ -1,10 +1,12 @@
 -- The references that the names on a page make, one after the other.
-use Rattle.std.proofs.Common.{◌≡◌, ◌≤◌, ◌<◌, ◌+◌, ◌-◌, ◌*◌, ℕ, zero, suc, Bool, true, false, cond, List, [], ◌∷◌, length, drop, Some, nat_eq, inl, inr, refl, sym, ap, subst, ◌∙◌, arith, eqb-true, eq-eqb, lt-ltb, le-ltb}
+use Rattle.std.proofs.Common.{◌≡◌, ◌≤◌, ◌+◌, ◌-◌, ℕ, Bool, true, false, cond, List, ◌∷◌, length, drop, Some, nat_eq, inl, inr, refl, sym, ap, subst, ◌∙◌, arith, eqb-true, eq-eqb, lt-ltb, le-ltb}
 use Rattle.std.specs.Prelude.{slice_get}
 use Rattle.std.proofs.lemmas.Bool.{cases_lt, both_ways}
 use Rattle.std.proofs.lemmas.List.{drop_all}
+use Rattle.std.proofs.lemmas.Option.{slice_get_within, get_or_from_slice_get}
 use Rattle.ex_base.specs.declared.geometry.Geometry.{Geometry}
 use Rattle.ex_base.specs.Area.{IsUnit}
+use Rattle.ex_base.proofs.Lists.{drop_item}
 use Rattle.ex_base.specs.Ports.{refs_most, times, with_ref, with_refs}
 use Rattle.page_alloc.specs.UnitSet.{UnitSet, used_at, refs_at, updated}
 use Rattle.tree_store.specs.Stored.{IsCounted}
@@ -44,9 +46,7 @@ pub record CountedSoFar (g : Geometry) (names : List ℕ) (before : UnitSet) (do
 
 -- the names that are left begin with the next one
 names_next : (names : List ℕ) (done page : ℕ) → slice_get names done ≡ Some page → drop done names ≡ page ∷ drop (done + 1) names
-names_next [] done page is = absurd cc
-names_next (name ∷ names) zero page is = let same : name ≡ page = cc in ap (λ (n : ℕ). n ∷ names) same
-names_next (name ∷ names) (suc done) page is = names_next names done page is ∙ ap (λ (k : ℕ). page ∷ drop k (name ∷ names)) (let e : suc (done + 1) ≡ suc done + 1 = omega arith in e)
+names_next names done page is = drop_item names done page (slice_get_within names done page is) (sym (get_or_from_slice_get names done page page is))
 
 -- a reference more, and a name less
 ref_moved : (used : ℕ → Bool) (refs : ℕ → ℕ) (page p k : ℕ)
