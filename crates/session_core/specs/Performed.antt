@@ -4,6 +4,7 @@ use Rattle.ex_base.specs.declared.ground.Ground as ground
 use Rattle.ex_base.specs.declared.faults.PortFault.{PortFault}
 use Rattle.ex_base.specs.declared.names.Oid.{Oid}
 use Rattle.ex_base.specs.Ports.{IsDamage}
+use Rattle.file_bodies.specs.Touches.{body_pages}
 use Rattle.op_log.specs.declared.record.LogRecord.{LogRecord}
 use Rattle.versions.specs.Edited.{change_of}
 use Rattle.versions.specs.Versions.{AreInUse}
@@ -58,8 +59,8 @@ IsCopying _ = ⊥
 
 -- What an update takes for granted where so many pages are free: a new version has the pages that it may take, and a number follows its own.
 abbrev pub CanPerform : ObjectUpdate → ℕ → Type 0
-CanPerform (update.Create file_no unique) free = (7 ≤ free) × (unique + 1 < 2 ^ 64)
-CanPerform (update.Copy copying oid unique) free = (7 ≤ free) × (unique + 1 < 2 ^ 64)
+CanPerform (update.Create file_no unique) free = (body_pages ≤ free) × (unique + 1 < 2 ^ 64)
+CanPerform (update.Copy copying oid unique) free = (body_pages ≤ free) × (unique + 1 < 2 ^ 64)
 CanPerform _ free = ⊤
 
 -- What an update does with a volume that has what it asks: the volume becomes one with the updated table, and its roots turn as is told; and where the

@@ -7,6 +7,7 @@ ghost use Rattle.object_records.specs.declared.State.TheVariants.{Frozen};
 ghost use Rattle.ex_base.specs.declared.names.Index.{Index};
 ghost use Rattle.file_index.specs.Touches.{TouchesAtMost};
 ghost use Rattle.file_index.specs.Taking.{OnlyTakes};
+ghost use Rattle.file_bodies.specs.Touches.{body_pages};
 ghost use Rattle.file_bodies.specs.Files.{HasFile};
 ghost use Rattle.file_bodies.specs.Places.{IsChosen, IsRoom};
 ghost use Rattle.versions.specs.Versions.{HasRecord, place_of, root_of};
@@ -67,7 +68,7 @@ fn derive_read<V: Volume>(
     unique: u64,
 ) -> Result<Place, PortFault>
     requires ready { V.ready volume.old }
-    requires free { 7 ≤ V.free volume.old Page }
+    requires free { body_pages ≤ V.free volume.old Page }
     ensures derived { IfOk result (λ place. V.tells volume.old → (index : Index) (is : Record)
         → IsVersionIn V.Ground volume.old index was.now is → index.file_no ≡ room.old.file_no
         → Derives V.Ground volume.old volume.new index was.now.place is (oid_at place unique)) }
@@ -80,7 +81,7 @@ fn derive_read<V: Volume>(
       from = place.page;
       len = length was.now.body.items;
     }) }
-    ensures pages { OnOk result (V.free volume.old Page ≤ V.free volume.new Page + 7) }
+    ensures pages { OnOk result (V.free volume.old Page ≤ V.free volume.new Page + body_pages) }
     ensures takes { OnOk result (OnlyTakes V.Ground volume.old volume.new) }
     ensures sound { IfErr result (λ fault. IsDamage fault → V.tells volume.old
         → (index : Index) (is : Record) → IsVersionIn V.Ground volume.old index was.now is
@@ -114,7 +115,7 @@ pub fn derive<V: Volume>(
     unique: u64,
 ) -> Result<Copied, PortFault>
     requires ready { V.ready volume.old }
-    requires free { 7 ≤ V.free volume.old Page }
+    requires free { body_pages ≤ V.free volume.old Page }
     ensures derived { IfOk result (λ made. V.tells volume.old → (index : Index) (is : Record)
         → HasRecord V.Ground volume.old index oid.now is
         → index.file_no ≡ room.old.file_no
@@ -135,7 +136,7 @@ pub fn derive<V: Volume>(
     ensures len { OnOk result (V.tells volume.old → (index : Index) (is : Record)
         → (has : HasRecord V.Ground volume.old index oid.now is)
         → room.new.len ≡ length has.body) }
-    ensures pages { OnOk result (V.free volume.old Page ≤ V.free volume.new Page + 7) }
+    ensures pages { OnOk result (V.free volume.old Page ≤ V.free volume.new Page + body_pages) }
     ensures takes { OnOk result (OnlyTakes V.Ground volume.old volume.new) }
     ensures sound { IfErr result (λ fault. IsDamage fault → V.tells volume.old
         → (index : Index) (is : Record) → HasRecord V.Ground volume.old index oid.now is

@@ -1,5 +1,5 @@
 //! Records that get another head, with the content that they have.
-ghost use Rattle.std.specs.Prelude.{◌≡◌, ◌≤◌, ◌+◌, ◌↔◌, max, ℕ, List, [], length, IfOk, IfErr, OnOk, IsTrue, false};
+ghost use Rattle.std.specs.Prelude.{◌≡◌, ◌≤◌, ◌+◌, ◌↔◌, max, ℕ, List, [], length, IfOk, IfErr, OnOk, IsTrue, false, OnErr};
 ghost use Rattle.ex_base.specs.Fields.{IsPlaceField};
 ghost use Rattle.ex_base.specs.Ports.{HasCause, IsDamage};
 ghost use Rattle.ex_base.specs.declared.names.Area.TheVariants.{Page, Segment};
@@ -8,7 +8,7 @@ ghost use Rattle.object_records.specs.Reads.{small_record, content_of};
 ghost use Rattle.ex_base.specs.declared.names.Index.{Index};
 ghost use Rattle.file_index.specs.Touches.{TouchesAtMost};
 ghost use Rattle.file_index.specs.Taking.{OnlyTakes};
-ghost use Rattle.file_bodies.specs.Touches.{body_touches};
+ghost use Rattle.file_bodies.specs.Touches.{body_touches, body_pages};
 ghost use Rattle.file_bodies.specs.Files.{HasFile, HasBody};
 ghost use Rattle.file_bodies.specs.Places.{IsChosen, IsRoom};
 ghost use Rattle.version_tree.specs.Bodies.{SameUnits, with_head};
@@ -121,7 +121,7 @@ pub(crate) fn put_head<V: Volume>(
     check(done, stored.place)
 }
 
-/// Puts a copy of a record with another head into a file. It takes at most 7 pages.
+/// Puts a copy of a record with another head into a file. It takes at most `body_pages` pages.
 pub(crate) fn put_copy<V: Volume>(
     volume: &mut V,
     alloc: Global,
@@ -130,7 +130,7 @@ pub(crate) fn put_copy<V: Volume>(
     head: &Head,
 ) -> Result<Place, PortFault>
     requires ready { V.ready volume.old }
-    requires free { 7 ≤ V.free volume.old Page }
+    requires free { body_pages ≤ V.free volume.old Page }
     ensures copies { IfOk result (λ place. V.tells volume.old → (index : Index) (is : Record)
         → HasFile V.Ground volume.old index → index.file_no ≡ room.old.file_no
         → BodyOf stored.now.body.items is
@@ -144,7 +144,8 @@ pub(crate) fn put_copy<V: Volume>(
       from = place.page;
       len = length stored.now.body.items;
     }) }
-    ensures pages { OnOk result (V.free volume.old Page ≤ V.free volume.new Page + 7) }
+    ensures unplaced { OnErr result (room.new ≡ room.old) }
+    ensures pages { OnOk result (V.free volume.old Page ≤ V.free volume.new Page + body_pages) }
     ensures takes { OnOk result (OnlyTakes V.Ground volume.old volume.new) }
     ensures sound { IfErr result (λ fault. IsDamage fault → V.tells volume.old
         → (index : Index) (is : Record)

@@ -1,12 +1,12 @@
 //! A new object.
-ghost use Rattle.std.specs.Prelude.{◌≡◌, ◌≤◌, ◌+◌, ℕ, List, IfOk, IfErr, OnOk};
+ghost use Rattle.std.specs.Prelude.{◌≡◌, ◌≤◌, ◌+◌, ℕ, List, IfOk, IfErr, OnOk, OnErr};
 ghost use Rattle.ex_base.specs.Ports.{HasCause, IsDamage};
 ghost use Rattle.ex_base.specs.declared.names.Area.TheVariants.{Page, Segment};
 ghost use Rattle.object_records.specs.Record.{BodyOf};
 ghost use Rattle.ex_base.specs.declared.names.Index.{Index};
 ghost use Rattle.file_index.specs.Taking.{OnlyTakes};
 ghost use Rattle.file_index.specs.Touches.{TouchesAtMost};
-ghost use Rattle.file_bodies.specs.Touches.{body_touches};
+ghost use Rattle.file_bodies.specs.Touches.{body_touches, body_pages};
 ghost use Rattle.file_bodies.specs.Files.{HasFile};
 ghost use Rattle.file_bodies.specs.Places.{IsRoom};
 ghost use Rattle.file_bodies.specs.Placing.{start_of};
@@ -19,8 +19,8 @@ use file_bodies::{Room, place_body};
 use object_records::{Head, LARGE_LEN, State, write_small};
 use std::alloc::Global;
 
-/// Puts the record of a new object into the file of `room`: a small version without bytes, under a number that no version has had. It takes at most 7 pages.
-/// Its place is the lowest with room where `room` is true of the file, and else some place that the file hadn't.
+/// Puts the record of a new object into the file of `room`: a small version without bytes, under a number that no version has had. It takes at most
+/// `body_pages` pages. Its place is the lowest with room where `room` is true of the file, and else some place that the file hadn't.
 pub fn create<V: Volume>(
     volume: &mut V,
     alloc: Global,
@@ -28,7 +28,7 @@ pub fn create<V: Volume>(
     unique: u64,
 ) -> Result<Oid, PortFault>
     requires ready { V.ready volume.old }
-    requires free { 7 ≤ V.free volume.old Page }
+    requires free { body_pages ≤ V.free volume.old Page }
     ensures created { IfOk result (λ oid. V.tells volume.old → (index : Index)
         → HasFile V.Ground volume.old index → index.file_no ≡ room.old.file_no
         → IsRoom V.Ground volume.old index room.old
@@ -39,7 +39,8 @@ pub fn create<V: Volume>(
     ensures number { IfOk result (λ oid. oid.unique ≡ unique) }
     ensures room { IfOk result (λ oid. room.new
         ≡ record { file_no = room.old.file_no; from = oid.page; len = 36 }) }
-    ensures pages { OnOk result (V.free volume.old Page ≤ V.free volume.new Page + 7) }
+    ensures unplaced { OnErr result (room.new ≡ room.old) }
+    ensures pages { OnOk result (V.free volume.old Page ≤ V.free volume.new Page + body_pages) }
     ensures takes { OnOk result (OnlyTakes V.Ground volume.old volume.new) }
     ensures sound { IfErr result (λ fault. IsDamage fault → V.tells volume.old → (index : Index)
         → HasFile V.Ground volume.old index → index.file_no ≡ room.old.file_no → ⊥) }

@@ -2,6 +2,7 @@
 ghost use Rattle.std.specs.Prelude.{◌≡◌, ◌≤◌, ◌<◌, ◌+◌, ◌^◌, IfErr, IfOk, OnOk};
 ghost use Rattle.ex_base.specs.Ports.{HasCause};
 ghost use Rattle.ex_base.specs.declared.names.Area.TheVariants.{Page};
+ghost use Rattle.file_bodies.specs.Touches.{body_pages};
 ghost use Rattle.file_index.specs.Taking.{OnlyTakes};
 ghost use Rattle.file_index.specs.Touches.{TouchesAtMost};
 ghost use Rattle.file_rooms.specs.Rooms.{ChangesOne};
@@ -38,7 +39,7 @@ pub fn copy<V: Volume>(
     unique: u64,
 ) -> Result<Done, PortFault>
     requires ready { V.ready volume.old }
-    requires pages { 7 ≤ V.free volume.old Page }
+    requires pages { body_pages ≤ V.free volume.old Page }
     requires number { unique + 1 < 2 ^ 64 }
     ensures named { IfOk result (λ done. done.oid.unique ≡ unique) }
     ensures updates { Updates V.Ground volume.old volume.new (copies copying oid.now unique) result }

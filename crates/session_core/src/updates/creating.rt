@@ -6,6 +6,7 @@ ghost use Rattle.ex_base.specs.declared.faults.PortFault.TheVariants.{Damaged};
 ghost use Rattle.ex_base.specs.declared.names.Area.TheVariants.{Page};
 ghost use Rattle.ex_base.specs.Seen.{catalog_seen, nothing_seen};
 ghost use Rattle.file_bodies.specs.Damage.{IsCatalogFault};
+ghost use Rattle.file_bodies.specs.Touches.{body_pages};
 ghost use Rattle.file_index.specs.Taking.{OnlyTakes};
 ghost use Rattle.file_index.specs.Touches.{TouchesAtMost};
 ghost use Rattle.object_files.specs.Edits.{IsCatalogPage};
@@ -86,7 +87,7 @@ pub fn create<V: Volume>(
     unique: u64,
 ) -> Result<Done, PortFault>
     requires ready { V.ready volume.old }
-    requires pages { 7 ≤ V.free volume.old Page }
+    requires pages { body_pages ≤ V.free volume.old Page }
     requires number { unique + 1 < 2 ^ 64 }
     ensures named { IfOk result (λ done. done.oid.unique ≡ unique) }
     ensures updates { (name : List ℕ)
