@@ -4,7 +4,6 @@ use Rattle.std.specs.Borrow.{MutBor}
 use Rattle.std.specs.Map.{lookup}
 use Rattle.std.proofs.lemmas.Bool.{cases_Bool, cases_eq, both_ways}
 use Rattle.std.proofs.lemmas.List.{get_or-set_same, get_or-set_other, length-set}
-use Rattle.ex_base.specs.declared.geometry.Geometry.{Geometry}
 use Rattle.ex_base.specs.declared.ground.Ground as ground
 use Rattle.ex_base.specs.Area.{area_end, catalog_no}
 use Rattle.ex_base.proofs.Options.{some_apart, some_apart_inside}

@@ -1,5 +1,5 @@
 //! A port for reading alone, and how a logged page is read as the open transaction has it.
-ghost use Rattle.std.specs.Prelude.{◌≡◌, ◌≤◌, ◌+◌, ◌↔◌, length, false, IsTrue, OnOk, IfErr, IfOk, IsOk, ◌<◌, ◌*◌, ℕ, List, All, Some, None};
+ghost use Rattle.std.specs.Prelude.{◌≡◌, ◌≤◌, ◌<◌, ◌+◌, ◌*◌, ◌↔◌, ℕ, List, All, Some, None, length, false, IsTrue, OnOk, IfErr, IsOk};
 ghost use Rattle.ex_base.specs.Area.{InPageArea, NamesLeaf, catalog_no};
 ghost use Rattle.ex_base.specs.Bytes.{bytes_at};
 ghost use Rattle.ex_base.specs.Ports.{Keeps, HasCause, IsDamage};
@@ -23,7 +23,7 @@ use meta_pages::Meta;
 use std::alloc::Global;
 use tree_store::Store;
 
-// Copies the working image of a page into `room`.
+/// Copies the working image of a page into `room`.
 pub(crate) fn read_page<'a, D: Disk>(
     store: &mut Store<'a, D>,
     meta: &Meta,
@@ -48,7 +48,7 @@ pub(crate) fn read_page<'a, D: Disk>(
     Ok(())
 }
 
-// Copies the working image of a page into `room`: that of the overlay, and else the disk's page, which is brought into the group at the index.
+/// Copies the working image of a page into `room`: that of the overlay, and else the disk's page, which is brought into the group at the index.
 pub(crate) fn read_image<D: Disk>(
     groups: &mut Groups,
     index: u32,
@@ -85,6 +85,7 @@ pub(crate) fn read_image<D: Disk>(
 pub struct ReadingPort<'a, D: Disk> {
     pub disk: &'a mut D,
     pub groups: &'a mut Groups,
+    /// Room for the bytes of the page that was lent last.
     pub room: &'a mut PageRoom,
     /// The group that pages are read through.
     pub index: u32,
