@@ -1,19 +1,23 @@
 -- The working pages and the working catalog after an edit.
-use Rattle.std.proofs.Common.{◌≡◌, ◌≢◌, ◌∙◌, ⊎_elim, ltb, ℕ, ◌+◌, ◌<◌, ◌≤◌, true, false, cond, List, [], ◌∷◌, length, map, Option, Some, None, nat_eq, nat_lt, refl, sym, ap, subst, inl, inr, arith, ltb-true, eqb-true, eq-eqb}
+use Rattle.std.proofs.Common.{◌≡◌, ◌≢◌, ◌∙◌, ⊎_elim, ltb, ℕ, ◌<◌, true, false, cond, List, [], ◌∷◌, map, Option, Some, None, nat_eq, nat_lt, refl, sym, ap, subst, inl, inr, arith, ltb-true, eqb-true}
 use Rattle.std.specs.Prelude.{Contains}
 use Rattle.std.specs.List.{AllByRecursion}
 use Rattle.std.specs.Map.{lookup}
 use Rattle.ex_base.specs.Area.{catalog_no}
 use Rattle.ex_base.specs.Order.{Rising}
+use Rattle.ex_base.proofs.Counts.{not_equal}
 use Rattle.meta_pages.specs.Rows.{with_row}
-use Rattle.meta_pages.proofs.RowLists.{not_equal_above}
+use Rattle.meta_pages.proofs.RowLists.{All-with_row, not_equal_above}
 use Rattle.op_log.specs.AfterLog.{after_log}
 use Rattle.session_views.specs.View.{View}
 use Rattle.volume_model.specs.Shown.{Held, WorkingRow, IsWorkingPage, laid_over, laid_over_page, working_units}
 use Rattle.volume_model.specs.Volume.{Volume, Decoded, file_pages, units_of}
 use Rattle.ex_base.specs.Area.{area_end, page_at, leaf_at}
 use Rattle.volume_model.proofs.KeptOff.{SameOff}
+use Rattle.volume_port.proofs.Frames.{all_of_each, each_of_all}
 use Rattle.volume_port.proofs.WorkingRows.{put_other}
+pub use Rattle.volume_port.proofs.WorkingRows.{put_here as lookup_put}
+pub use Rattle.meta_pages.proofs.RowLists.{length-with_row as length_put}
 use Rattle.std.proofs.lemmas.Bool.{cases_eq}
 use Rattle.volume_model.proofs.Showing.{page_unit}
 
@@ -23,24 +27,10 @@ abbrev first_of_row : WorkingRow → ℕ
 first_of_row row = row.0
 
 unlike : (page k : ℕ) → k < page → nat_eq page k ≡ false
-unlike page k lt = (elim (nat_eq page k) as (λ b. nat_eq page k ≡ b → b ≡ false) [ true ↦ λ t. absurd (omega (arith, lt, eqb-true page k t)) | false ↦ λ t. refl ]) refl
+unlike page k lt = not_equal page k (λ same. absurd (omega (arith, lt, same)))
 
 unlike_above : (page k : ℕ) → page < k → nat_eq page k ≡ false
-unlike_above page k lt = (elim (nat_eq page k) as (λ b. nat_eq page k ≡ b → b ≡ false) [ true ↦ λ t. absurd (omega (arith, lt, eqb-true page k t)) | false ↦ λ t. refl ]) refl
-
-pub lookup_put : (page : ℕ) (v : Option (List ℕ)) (rows : List WorkingRow) → lookup (nat_eq page) (with_row page v rows) ≡ Some v
-lookup_put page v [] = rw (eq-eqb page page refl) refl
-lookup_put page v (row ∷ rows) = (elim (nat_lt row.0 page) as (λ b. nat_lt row.0 page ≡ b → lookup (nat_eq page) (cond b (row ∷ with_row page v rows) (cond (nat_eq page row.0) ((page, v) ∷ rows) ((page, v) ∷ row ∷ rows))) ≡ Some v) [
-  | true ↦ λ is. rw (unlike page row.0 (ltb-true row.0 page is)) (lookup_put page v rows)
-  | false ↦ λ _. elim (nat_eq page row.0) as (λ b. lookup (nat_eq page) (cond b ((page, v) ∷ rows) ((page, v) ∷ row ∷ rows)) ≡ Some v) [ true ↦ rw (eq-eqb page page refl) refl | false ↦ rw (eq-eqb page page refl) refl ]
-]) refl
-
-pub length_put : (page : ℕ) (v : Option (List ℕ)) (rows : List WorkingRow) → length (with_row page v rows) ≤ length rows + 1
-length_put page v [] = omega arith
-length_put page v (row ∷ rows) = elim (nat_lt row.0 page) as (λ b. length (cond b (row ∷ with_row page v rows) (cond (nat_eq page row.0) ((page, v) ∷ rows) ((page, v) ∷ row ∷ rows))) ≤ length (row ∷ rows) + 1) [
-  | true ↦ omega (arith, length_put page v rows)
-  | false ↦ elim (nat_eq page row.0) as (λ b. length (cond b ((page, v) ∷ rows) ((page, v) ∷ row ∷ rows)) ≤ length (row ∷ rows) + 1) [ true ↦ omega arith | false ↦ omega arith ]
-]
+unlike_above page k lt = not_equal page k (λ same. absurd (omega (arith, lt, same)))
 
 absent_above : (page low : ℕ) (rows : List WorkingRow) → page < low → Rising (low ∷ map first_of_row rows) → lookup (nat_eq page) rows ≡ None
 absent_above page low [] lt rising = refl
@@ -64,11 +54,7 @@ firsts_put page v x (row ∷ rows) rising there = (elim (nat_lt row.0 page) as (
     ]) refl
 
 pub each_put : (P : WorkingRow → Type 0) (page : ℕ) (v : Option (List ℕ)) (rows : List WorkingRow) → P (page, v) → AllByRecursion P rows → AllByRecursion P (with_row page v rows)
-each_put P page v [] here each = (here, tt)
-each_put P page v (row ∷ rows) here each = elim (nat_lt row.0 page) as (λ b. AllByRecursion P (cond b (row ∷ with_row page v rows) (cond (nat_eq page row.0) ((page, v) ∷ rows) ((page, v) ∷ row ∷ rows)))) [
-  | true ↦ (each.0, each_put P page v rows here each.1)
-  | false ↦ elim (nat_eq page row.0) as (λ b. AllByRecursion P (cond b ((page, v) ∷ rows) ((page, v) ∷ row ∷ rows))) [ true ↦ (here, each.1) | false ↦ (here, each) ]
-]
+each_put P page v rows here each = each_of_all P (with_row page v rows) (All-with_row page P v rows here (all_of_each P rows each))
 
 -- the images stay those of the files, where these have the pages that they had
 pub images_of_files : (working new : Volume) (rows : List WorkingRow) → file_pages new ≡ file_pages working → AllByRecursion (IsWorkingPage working) rows → AllByRecursion (IsWorkingPage new) rows
