@@ -1,5 +1,5 @@
 -- What a port over a session that shows finds of a version.
-use Rattle.std.proofs.Common.{◌≡◌, ◌∙◌, ℕ, ◌<◌, ◌≤◌, List, length, All, Option, Some, None, Result, Ok, Err, refl, sym, ap, subst, arith, inl, inr}
+use Rattle.std.proofs.Common.{◌≡◌, ◌∙◌, ℕ, List, length, All, Option, Some, None, Result, Ok, Err, refl, sym, ap, subst, inl, inr}
 use Rattle.std.specs.Prelude.{◌↔◌, slice_index_or, IsSome, IfOk, IfErr, IfSome, OnOk}
 use Rattle.std.specs.Borrow.{MutBor}
 use Rattle.ex_base.specs.declared.ground.Ground as ground
@@ -7,7 +7,6 @@ use Rattle.ex_base.specs.declared.geometry.Geometry.{Geometry}
 use Rattle.ex_base.specs.declared.faults.PortFault.{PortFault}
 use Rattle.ex_base.specs.declared.faults.PortFault.TheVariants as fault
 use Rattle.ex_base.specs.declared.names.Oid.{Oid}
-use Rattle.ex_base.specs.declared.names.Root.{Root}
 use Rattle.ex_base.specs.declared.names.Place.{Place}
 use Rattle.ex_base.specs.Area.{InPageArea}
 use Rattle.ex_base.specs.Ports.{Cause, HasCause, IsDamage, Keeps}
@@ -37,8 +36,6 @@ use Rattle.table_model.specs.Refusals.{branches_if}
 use Rattle.session_views.specs.declared.engine.Stop.{Stop}
 use Rattle.session_views.specs.View.{View, ShowsNow}
 use Rattle.versions.specs.Found as found_words
-use Rattle.trees.specs.Roots.{IsRootFor}
-use Rattle.ex_base.specs.Sizes.{object_most}
 use Rattle.ex_base.proofs.Members.{In, in_contains, of_each}
 use Rattle.versions.proofs.Roots.{root_is_for}
 use Rattle.versions.specs.Found.{HasLimits, IsReadable, found_of, root_of}
@@ -346,16 +343,3 @@ stopped_so a b fault why is cause = subst (LineStops a b) (sym is) (stops_here a
 -- The version is one that the port reads.
 pub reads_live : {S : Type 0} (g : ground.Ghosts S) (s : S) {before : View SessionState} → (shows : PortShows g s before) → (oid : Oid) (version : Version) → version_at (shown before.machine) oid ≡ Some version → ReadsVersion g s oid version
 reads_live g s {before} shows oid version is = version_read g s shows.records shows.working shows.volume oid version (ap (λ (t : Table). version_at t oid) (sym shows.table) ∙ is)
-
--- ---- the size that is found
-
-small_enough : (g : Geometry) (found : Found) (root : Option Root) → found.root ≡ root → (found.root ≡ None → found.size < 65536) → IfSome root (IsRootFor g) → IfSome root (λ r. found.size ≡ r.size) → found.size ≤ object_most
-small_enough g found None is small limits large = omega (arith, small is)
-small_enough g found (Some root) is small limits large = omega (arith, limits.small, large)
-
--- what is found is of at most so many bytes as an object may have
-pub limit_found : (g : Geometry) (result : Result (Option Found) PortFault) → IfOk result (λ found. IfSome found (λ f. f.root ≡ None → f.size < 65536)) → IfOk result (λ found. IfSome found (λ f. IfSome f.root (λ root. IsRootFor g root)))
-    → IfOk result (λ found. IfSome found (λ f. IfSome f.root (λ root. f.size ≡ root.size))) → IfOk result (λ found. IfSome found (λ f. f.size ≤ object_most))
-limit_found g (Err fault) small limits large = tt
-limit_found g (Ok None) small limits large = tt
-limit_found g (Ok (Some found)) small limits large = small_enough g found found.root refl small limits large
