@@ -12,6 +12,7 @@ use Rattle.ex_base.specs.Area.{InPageArea}
 use Rattle.ex_base.proofs.Each.{split_each}
 use Rattle.disk_model.specs.Outside.{Outside}
 use Rattle.trees.specs.declared.Pair.{Pair}
+use Rattle.trees.specs.Damage.{IsWhole}
 use Rattle.trees.specs.Node.{pairs_on}
 use Rattle.trees.specs.Shape.{Subtree, leaves_of}
 use Rattle.trees.specs.Trees.{Units, IsNamed, RootNamed, RootSpells, for_each_child, root_shape, root_shape_at, root_units_at, shape_on, units_on}
@@ -22,7 +23,7 @@ use Rattle.table_model.specs.Tables.{version_at}
 use Rattle.session_views.specs.View.{View}
 use Rattle.versions.specs.Found.{root_of}
 use Rattle.versions.specs.Versions.{HoldsVersion}
-use Rattle.versions.proofs.Standing.{large_content}
+use Rattle.versions.proofs.Standing.{large_content, version_whole}
 use Rattle.volume_edits.specs.Shown.{ReadsVersion}
 use Rattle.volume_model.specs.Shown.{Held}
 use Rattle.session_core.specs.Finding.{IfRoot, IfShown, PortShows, TellsShape, content_named, lengths_named}
@@ -74,6 +75,9 @@ module _ {S : Type 0} (g : ground.Ghosts S) (s : S) {before : View SessionState}
   holds =
       subst (λ (content : Content). HoldsVersion g s reads.index oid reads.head content version.bytes) (sym (named_content g s shows reads.index oid its_record reads.stored) ∙ content_is)
       (held_version g s oid version reads)
+
+  pub whole_read : IsWhole (g.geometry s) (g.unit s) root
+  whole_read = version_whole g s reads.index oid reads.head root version.bytes holds
 
   -- a node has the bytes that the session has
   node_is : (page : ℕ) → InPageArea (g.geometry s) page → g.held s page ≡ false → units_held v page ≡ g.unit s page

@@ -1,5 +1,5 @@
 -- What a session tells of a page that isn't what names it.
-use Rattle.std.specs.Prelude.{◌≡◌, ◌⊎◌, ℕ, List, Contains, Some, ⊤, ◌^◌, ◌-◌}
+use Rattle.std.specs.Prelude.{◌≡◌, ◌⊎◌, ℕ, List, Contains, Option, Some, None, ⊤, ◌^◌, ◌-◌}
 use Rattle.ex_base.specs.declared.faults.PortFault.{PortFault}
 use Rattle.ex_base.specs.declared.faults.PortFault.TheVariants as fault
 use Rattle.ex_base.specs.declared.faults.Seen.{Seen}
@@ -83,3 +83,8 @@ no_version oid = ⊥
 
 abbrev pub the_version : Oid → Oid → Type 0
 the_version own oid = oid ≡ own
+
+-- The same of a call that reads a version as it was found: where it has a root, of the tree of that, else of the version.
+abbrev pub TellsOfFound : Outside → Outside → SessionState → Oid → Option Root → Stop → Type 0
+TellsOfFound a b s oid None why = TellsDamage a b s (the_version oid) why
+TellsOfFound a b s oid (Some root) why = TellsOfTree a s root why

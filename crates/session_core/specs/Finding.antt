@@ -138,6 +138,10 @@ IsFound before oid (Some found) = TellsVersion before oid found
 abbrev pub IfLive : View SessionState → Oid → (List ℕ → Type 0) → Type 0
 IfLive before oid P = (version : Version) → version_at (shown before.machine) oid ≡ Some version → P version.bytes
 
+-- what holds of the bytes of the version that was found, where there is one under its OID, and it has the root that was told
+abbrev pub IfFound : View SessionState → Named → (List ℕ → Type 0) → Type 0
+IfFound before named P = (version : Version) → version_at (shown before.machine) named.oid ≡ Some version → named.found.root ≡ root_of (content_named (held_view before) named.oid) → P version.bytes
+
 -- ---- the relatives of a version
 
 -- the OID as a list, if there is one

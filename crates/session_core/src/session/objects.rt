@@ -4,7 +4,7 @@ ghost use Rattle.ex_base.specs.Bytes.{bytes_at};
 ghost use Rattle.ex_base.specs.Sizes.{volume_bytes, object_most};
 ghost use Rattle.table_model.specs.Requests.{reference_of};
 ghost use Rattle.trees.specs.Roots.{IsRootFor};
-ghost use Rattle.session_core.specs.Finding.{IfFile, IfLive, IfShown, IsFound, IsUnnamed, oid_among, oids_listed, stop_at, stop_or};
+ghost use Rattle.session_core.specs.Finding.{IfFile, IfFound, IfLive, IfShown, IsFound, IsUnnamed, oid_among, oids_listed, stop_at, stop_or};
 
 use super::Session;
 use bound_names::NameMap;
@@ -84,7 +84,7 @@ impl Session {
     ghost use Rattle.session_core.specs.Steps.{OnlyFrames};
     ghost use Rattle.tree_store.specs.Stored.{Tells};
     ghost use Rattle.versions.specs.Damage.{IsRootAt};
-    ghost use Rattle.session_core.specs.Damage.{TellsDamage, image_on, no_version, the_version};
+    ghost use Rattle.session_core.specs.Damage.{TellsDamage, TellsOfFound, image_on, no_version, the_version};
     ghost use Rattle.session_core.specs.Finding.{IsNamed, LineStops, IsOutside};
 
     /// What is told of the version that an OID names, none where there is none.
@@ -102,6 +102,8 @@ impl Session {
         ensures limit { IfOk result (λ found. IfSome found (λ found. found.size ≤ object_most)) }
         ensures root { IfOk result (λ found. IfSome found (λ found. IfSome found.root
             (λ root. IsRootFor self.old.geometry root))) }
+        ensures large { IfOk result (λ found. IfSome found (λ found. IfSome found.root
+            (λ root. found.size ≡ root.size))) }
         ensures rooted { IfOk result (λ found. IfSome found (λ found.
             Tells (D.outside disk.old) self.old.groups → IfSome found.root
             (IsRootAt (image_on (D.outside disk.old) self.old) oid.now))) }
@@ -141,6 +143,8 @@ impl Session {
             ≤ object_most)) }
         ensures root { IfOk result (λ told. IfOk told (λ version. IfSome version.found.root
             (λ root. IsRootFor self.old.geometry root))) }
+        ensures large { IfOk result (λ told. IfOk told (λ version. IfSome version.found.root
+            (λ root. version.found.size ≡ root.size))) }
         ensures asked { IfOk result (λ told. IfOk told (λ version.
             oid_among self.old.names (reference_of x.now) ≡ Some version.oid)) }
         ensures rooted { IfOk result (λ told. IfOk told (λ version.
@@ -196,6 +200,39 @@ impl Session {
             pages: &self.volume.pages,
         };
         or_stop(read_at(&mut port, alloc, oid, pos, out))
+    }
+
+    /// Reads bytes of a version as it was found, from a position on, as many as `out` holds. A large one isn't looked for again: it is read by its root. It
+    /// stops where the disk fails, where memory is wanted, and at a page that isn't what names it.
+    pub fn read_found<D: Disk>(
+        &mut self,
+        alloc: Global,
+        disk: &mut D,
+        version: &Named,
+        pos: u64,
+        out: &mut [u8],
+    ) -> Result<(), Stop>
+        requires room { volume_bytes self.old.geometry ≤ (D.outside disk.old).size }
+        requires root { IfSome version.now.found.root (IsRootFor self.old.geometry) }
+        requires large { IfSome version.now.found.root
+            (λ root. version.now.found.size ≡ root.size) }
+        requires range { pos + length out.old ≤ version.now.found.size }
+        ensures session { IsSession self.old }
+        ensures only { OnlyFrames (D.outside disk.old) (D.outside disk.new) self.old self.new }
+        ensures bytes { OnOk result (IfShown (D.outside disk.old) self.old
+            (λ before. IfFound before version.now (λ bytes. out.new
+            ≡ bytes_at bytes pos (length out.old)))) }
+        ensures stops { IfErr result (LineStops (D.outside disk.old) (D.outside disk.new)) }
+        ensures damage { IfErr result (TellsOfFound (D.outside disk.old) (D.outside disk.new)
+            self.old version.now.oid version.now.found.root) }
+        ensures sound { IfErr result (λ why. IfShown (D.outside disk.old) self.old
+            (λ before. IfFound before version.now (λ bytes. pos + length out.old ≤ length bytes
+            → IsOutside why))) }
+    {
+        match version.found.root {
+            Some(root) => self.read_tree(alloc, disk, &root, pos, out),
+            None => self.read_bytes(alloc, disk, &version.oid, pos, out),
+        }
     }
 
     /// The OIDs of the current versions of the file with a number, in order of unique number. It stops where the disk fails, where memory is wanted, and

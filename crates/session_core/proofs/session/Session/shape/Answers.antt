@@ -1,8 +1,7 @@
 use Rattle.std.proofs.Common.{refl, rules}
 use Rattle.std.proofs.lemmas.Result.{IfErr-weaker}
-use Rattle.versions.proofs.Standing.{version_whole}
 use Rattle.session_core.specs.Finding.{TellsShape}
-use Rattle.session_core.proofs.Shaping.{holds, ok_root, reads, shape_told}
+use Rattle.session_core.proofs.Shaping.{ok_root, shape_told, whole_read}
 use Rattle.session_core.specs.contracts.session.Session as session
 use Rattle.session_core.proofs.Finding.{frames_left, frames_to, no_damage, only_reads, over_session, port_shows, read_session, told_err, told_ok}
 use Rattle.session_core.proofs.Damage.{tree_told}
@@ -29,8 +28,7 @@ returns-clause-sound g c =
     let over = over_session c.leaf_lengths.ensures.kept w c.self.view_is c.self.invariant refl refl refl refl (λ h. h) in
     told_err c.leaf_lengths.result c.or_stop.result c.or_stop.ensures _ (IfErr-weaker c.leaf_lengths.result _ _ (λ fault sound before same now oid version live rooted. no_damage fault (
     let shows = port_shows _ _ over before same now in
-    let read = reads _ _ shows oid c.args.root.now version live rooted in
-    sound shows.tells (version_whole _ _ read.index oid read.head c.args.root.now version.bytes (holds _ _ shows oid c.args.root.now version live rooted)))) c.leaf_lengths.ensures.sound)
+    sound shows.tells (whole_read _ _ shows oid c.args.root.now version live rooted))) c.leaf_lengths.ensures.sound)
 
 pub returns-clause-damage : goal.returns-clause-damage
 returns-clause-damage g c =

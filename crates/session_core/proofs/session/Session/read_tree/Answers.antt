@@ -1,0 +1,32 @@
+use Rattle.std.proofs.Common.{refl, rules}
+use Rattle.std.proofs.lemmas.Result.{IfErr-weaker, on_ok_weaker}
+use Rattle.session_core.proofs.Shaping.{holds, whole_read}
+use Rattle.session_core.specs.contracts.session.Session as session
+use Rattle.session_core.proofs.Finding.{frames_left, frames_to, no_damage, only_reads, over_session, port_shows, read_session, told_err, told_on_ok}
+use Rattle.session_core.proofs.Damage.{tree_told}
+use Rattle.session_core.proofs.session.Session.read_tree.Goals as goal
+
+pub invariant_of-self : goal.invariant_of-self
+invariant_of-self g c = read_session (session.the_view c.self.inside) _ (frames_left c.read.ensures.kept.leads) c.self.invariant
+
+pub returns-clause-only : goal.returns-clause-only
+returns-clause-only g c = only_reads (session.the_view c.self.inside) c.args.self.now _ c.self.view_is (frames_to g.D.World.outside c.read.new.blocks.disk.now _ (search rules) (frames_left c.read.ensures.kept.leads))
+
+pub returns-clause-bytes : goal.returns-clause-bytes
+returns-clause-bytes g c =
+    let over = over_session c.read.ensures.kept (g.D.World.outside c.args.disk.now) c.self.view_is c.self.invariant refl refl refl refl (λ h. h) in
+    told_on_ok c.read.result c.or_stop.result c.or_stop.ensures _ (on_ok_weaker c.read.result (λ told before same now oid other is rooted version live.
+    let shows = port_shows _ _ over before same now in
+    told shows.tells version.bytes (holds _ _ shows oid c.args.root.now version live rooted).spells.0) c.read.ensures.bytes)
+
+pub returns-clause-sound : goal.returns-clause-sound
+returns-clause-sound g c =
+    let over = over_session c.read.ensures.kept (g.D.World.outside c.args.disk.now) c.self.view_is c.self.invariant refl refl refl refl (λ h. h) in
+    told_err c.read.result c.or_stop.result c.or_stop.ensures _ (IfErr-weaker c.read.result _ _ (λ fault sound before same now oid version live rooted. no_damage fault (
+    let shows = port_shows _ _ over before same now in
+    sound shows.tells (whole_read _ _ shows oid c.args.root.now version live rooted))) c.read.ensures.sound)
+
+pub returns-clause-damage : goal.returns-clause-damage
+returns-clause-damage g c =
+    let over = over_session c.read.ensures.kept (g.D.World.outside c.args.disk.now) c.self.view_is c.self.invariant refl refl refl refl (λ h. h) in
+    tree_told _ _ c.args.root.now c.read.result c.or_stop.result c.or_stop.ensures over c.read.ensures.fault
