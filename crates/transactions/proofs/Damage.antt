@@ -1,5 +1,5 @@
 -- A damage that a line tells, of the version that it names.
-use Rattle.std.proofs.Common.{◌≡◌, ◌∙◌, Option, Some, Result, Ok, Err, sym, ap, subst}
+use Rattle.std.proofs.Common.{◌≡◌, ◌∙◌, Option, Some, None, Result, Ok, Err, sym, ap, subst}
 use Rattle.std.specs.Prelude.{IfErr, IfOk, IfSome}
 use Rattle.ex_base.specs.declared.faults.Seen.{Seen}
 use Rattle.ex_base.specs.declared.names.Oid.{Oid}
@@ -14,11 +14,11 @@ use Rattle.session_views.specs.declared.engine.Stop.TheVariants as stop
 use Rattle.tree_store.specs.Stored.{Tells}
 use Rattle.versions.specs.Damage.{IsRootAt}
 use Rattle.session_core.specs.declared.session.objects.Named.{Named}
-use Rattle.session_core.specs.Damage.{IsSessionDamage, TellsDamage, image_on, the_version}
+use Rattle.session_core.specs.Damage.{IsSessionDamage, TellsDamage, TellsOfFound, image_on, the_version}
 use Rattle.session_core.specs.Finding.{oid_among}
 use Rattle.session_core.specs.Sessions.{SessionState}
 use Rattle.session_core.specs.Steps.{OnlyFrames}
-use Rattle.session_core.proofs.Damage.{later_damage, wider_damage}
+use Rattle.session_core.proofs.Damage.{later_damage, shape_damage, wider_damage}
 use Rattle.transactions.specs.Commands.{names_version}
 use Rattle.transactions.specs.Lines.{named_as}
 use Rattle.transactions.proofs.UpdateLines.{admitted_with}
@@ -32,11 +32,20 @@ pub then_damage : {a b : Outside} {old mid : SessionState} (x : Reference) → O
 then_damage {a} {b} {old} {mid} x one c {oid} why own is =
     later_damage old mid one c (named_as old x) why (wider_damage b c mid (the_version oid) (named_as old x) why (λ other same. own ∙ ap (λ (o : Oid). Some o) (sym same)) is)
 
--- the root that was found stands in the record of the version
+-- the root that was found, where there is one, stands in the record of the version
+pub roots_at : (s : SessionState) (w : Outside) (version : Named) (told : Result Named Refusal) → told ≡ Ok version → IfOk told (λ (v : Named). Tells w s.groups → IfSome v.found.root (IsRootAt (image_on w s) v.oid))
+    → Tells w s.groups → IfSome version.found.root (IsRootAt (image_on w s) version.oid)
+roots_at s w version told is rooted = admitted_with (λ (v : Named). Tells w s.groups → IfSome v.found.root (IsRootAt (image_on w s) v.oid)) version told is rooted
+
 pub rooted_at : (s : SessionState) (w : Outside) (version : Named) (root : Root) (told : Result Named Refusal) → told ≡ Ok version → IfOk told (λ (v : Named). Tells w s.groups → IfSome v.found.root (IsRootAt (image_on w s) v.oid)) → version.found.root ≡ Some root
     → Tells w s.groups → IsRootAt (image_on w s) version.oid root
-rooted_at s w version root told is rooted has tells =
-    subst (λ (o : Option Root). IfSome o (IsRootAt (image_on w s) version.oid)) has (admitted_with (λ (v : Named). Tells w s.groups → IfSome v.found.root (IsRootAt (image_on w s) v.oid)) version told is rooted tells)
+rooted_at s w version root told is rooted has tells = subst (λ (o : Option Root). IfSome o (IsRootAt (image_on w s) version.oid)) has (roots_at s w version told is rooted tells)
+
+-- what a later call tells that reads the version as it was found
+pub found_damage : {a b : Outside} {old mid : SessionState} (x : Reference) → OnlyFrames a b old mid → (c : Outside) {oid : Oid} (root : Option Root) (why : Stop) → oid_among old.names x ≡ Some oid → (Tells a old.groups → IfSome root (IsRootAt (image_on a old) oid))
+    → TellsOfFound b c mid oid root why → TellsDamage a c old (named_as old x) why
+found_damage x one c None why own at is = then_damage x one c why own is
+found_damage {a} {b} {old} {mid} x one c {oid} (Some root) why own at is = shape_damage old mid one c (named_as old x) root oid why at is
 
 -- as a command tells it
 pub damage_as : (a b : Outside) (s : SessionState) (r t : Request) (result : Result Reply Stop) → r ≡ t → IfErr result (TellsDamage a b s (names_version s t)) → IfErr result (TellsDamage a b s (names_version s r))

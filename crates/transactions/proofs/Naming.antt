@@ -22,11 +22,12 @@ use Rattle.table_model.specs.Tables.{version_at}
 use Rattle.table_model.proofs.Stepping.{accepted, refused}
 use Rattle.session_views.specs.declared.engine.Stop.{Stop}
 use Rattle.session_views.specs.View.{View, ShowsNow, Stepped}
+use Rattle.versions.specs.Found.{root_of}
 use Rattle.session_core.specs.declared.session.objects.Named.{Named}
 use Rattle.session_core.specs.Sessions.{SessionState, IsSession}
 use Rattle.session_core.specs.Meant.{meant, pick_of, held_view}
 use Rattle.session_core.specs.Steps.{OnlyFrames}
-use Rattle.session_core.specs.Finding.{IfLive, IfShown, IsMissing, IsNamed, IsOutside, LineStops, NamesVersion}
+use Rattle.session_core.specs.Finding.{IfFound, IfShown, IsMissing, IsNamed, IsOutside, LineStops, NamesVersion, content_named}
 use Rattle.transactions.specs.Lines.{ReadsLine}
 use Rattle.session_core.proofs.Quiet.{same_view, with_groups}
 use Rattle.session_core.proofs.Naming.{frames_twice, later_stops}
@@ -154,7 +155,13 @@ read_outside x pos len named only is names outside = record {
 
 module _ {a b c : Outside} {old mid new : SessionState} (x : Reference) (pos len : ℕ) (named : Named) (one : OnlyFrames a b old mid) (two : OnlyFrames b c mid new) (is : IsSession old)
     (names : IfShown a old (λ before. NamesVersion before x named)) (inside : pos + len ≤ named.found.size) where
-  pub read_line : (out : List ℕ) → IfShown b mid (λ before. IfLive before named.oid (λ bytes. out ≡ bytes_at bytes pos len)) → ReadsLine a c old new (request.Read x pos len) (Ok (reply.Read out))
+  -- it has the root that was told, where it is read
+  rooted_still : (before : View SessionState) → before.session ≡ old → NamesVersion before x named → named.found.root ≡ root_of (content_named (held_view (with_groups before mid)) named.oid)
+  rooted_still before same n =
+      let sessions : mid ≡ record before.session { groups = mid.groups } = one.same ∙ ap (λ (s : SessionState). record s { groups = mid.groups }) (sym same) in
+      subst (λ (s : SessionState). named.found.root ≡ root_of (content_named (held_view (with_groups before s)) named.oid)) (sym sessions) n.told.root
+
+  pub read_line : (out : List ℕ) → IfShown b mid (λ before. IfFound before named (λ bytes. out ≡ bytes_at bytes pos len)) → ReadsLine a c old new (request.Read x pos len) (Ok (reply.Read out))
   read_line out read = record {
     only = frames_twice one two;
     stops = tt;
@@ -166,19 +173,20 @@ module _ {a b c : Outside} {old mid new : SessionState} (x : Reference) (pos len
         answers_so (request.Read x pos len) (reply.Read out) (frames_twice one two) is before same now
         (λ q. sym (names_pass m x named.oid t.version (range m x (pos + len) ∷ []) n.named_by t.is
         ∙ ap (λ (o : Option Refusal). first (o ∷ [])) (range_of m x named.oid t.version (pos + len) false n.named_by t.is (le-ltb (length t.version.bytes) (pos + len) (omega (arith, inside, t.size))))))
-        (λ q. ap reply.Read (read (with_groups before mid) refl (same_view before same now one is.sizes) t.version t.is
+        (λ q. ap reply.Read (read (with_groups before mid) refl (same_view before same now one is.sizes) t.version t.is (rooted_still before same n)
         ∙ ap (λ (o : Option Version). bytes_at (bytes_if o) pos len) (sym (the_version m x named.oid t.version n.named_by t.is))))
         (λ q. refl)
         (λ q. (tt, λ update. absurd (cc)));
   }
 
-  pub read_stopped : (why : Stop) → LineStops b c why → IfShown b mid (λ before. IfLive before named.oid (λ bytes. pos + len ≤ length bytes → IsOutside why)) → ReadsLine a c old new (request.Read x pos len) (Err why)
+  pub read_stopped : (why : Stop) → LineStops b c why → IfShown b mid (λ before. IfFound before named (λ bytes. pos + len ≤ length bytes → IsOutside why)) → ReadsLine a c old new (request.Read x pos len) (Err why)
   read_stopped why stops sound = record {
     only = frames_twice one two;
     stops = later_stops a b c why one.reads stops;
     sound = λ before same now.
-        let t = (names before same now).told in
-        sound (with_groups before mid) refl (same_view before same now one is.sizes) t.version t.is (omega (arith, inside, t.size));
+        let n = names before same now in
+        let t = n.told in
+        sound (with_groups before mid) refl (same_view before same now one is.sizes) t.version t.is (rooted_still before same n) (omega (arith, inside, t.size));
     stepped = tt;
   }
 

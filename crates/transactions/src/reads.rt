@@ -81,7 +81,7 @@ pub(crate) fn read<H: Host>(
     let Ok(mut bytes) = vec![in alloc; 0u8; len as usize] else {
         return Err(Stop::Memory);
     };
-    match session.read_bytes(alloc, host, &version.oid, pos, &mut bytes) {
+    match session.read_found(alloc, host, &version, pos, &mut bytes) {
         Ok(()) => Ok(Reply::Read {
             bytes: Items::of(bytes),
         }),

@@ -7,7 +7,7 @@ use Rattle.transactions.proofs.reads.read.Goals as goal
 use Rattle.transactions.proofs.reads.read.Goals.{then-pos-size-via-then-pos-size, then-pos-size-via-else-pos-size+then-from-size}
 use Rattle.session_core.proofs.Damage.{none_wider}
 use Rattle.transactions.specs.Lines.{named_as}
-use Rattle.transactions.proofs.Damage.{oid_named, then_damage}
+use Rattle.transactions.proofs.Damage.{found_damage, oid_named, roots_at}
 
 pub returns-in-Ok-Err-clause-line : goal.returns-in-Ok-Err-clause-line
 returns-in-Ok-Err-clause-line g c =
@@ -24,30 +24,33 @@ returns-then-pos-size-clause-line g c =
     ] in
     read_outside x c.args.pos c.args.len version c.named.ensures.only c.named.ensures.session (names_so x version c.in-Ok-Ok.field-0 c.in-Ok-Ok.field-0-is c.in-Ok-Ok.ensures.named) outside
 
-pub returns-in-Ok-read_bytes-clause-line : goal.returns-in-Ok-read_bytes-clause-line
-returns-in-Ok-read_bytes-clause-line g c =
+pub returns-in-Ok-read_found-clause-line : goal.returns-in-Ok-read_found-clause-line
+returns-in-Ok-read_found-clause-line g c =
     let x = reference_of c.args.x.now in
     let version = c.in-Ok-Ok.version in
     let inside : c.args.pos + c.args.len ≤ version.found.size = omega (arith, c.if-pos-size.false, c.from.ensures, c.if-from-size.false) in
     let long : length c.deref_mut.result.now ≡ c.args.len = omega (arith, c.deref_mut.ensures.len, c.in-Ok.ensures.len, ap length c.deref_mut.ensures.value) in
-    let whole : length c.read_bytes.new.out ≡ c.in-Ok.bytes.len = omega (arith, c.read_bytes.auto.out, c.deref_mut.ensures.len) in
-    let told : c.of.result ≡ c.read_bytes.new.out = c.of.ensures ∙ taken_back c.in-Ok.bytes.len c.read_bytes.new.out (drop (length c.read_bytes.new.out) c.in-Ok.bytes.items) whole in
-    read_line x c.args.pos c.args.len version c.named.ensures.only c.read_bytes.ensures.only c.named.ensures.session (names_so x version c.in-Ok-Ok.field-0 c.in-Ok-Ok.field-0-is c.in-Ok-Ok.ensures.named) inside c.of.result
-    (λ before same now live is. told ∙ c.in-Ok-read_bytes.ensures.bytes before same now live is ∙ ap (λ (n : ℕ). bytes_at live.bytes c.args.pos n) long)
+    let whole : length c.read_found.new.out ≡ c.in-Ok.bytes.len = omega (arith, c.read_found.auto.out, c.deref_mut.ensures.len) in
+    let told : c.of.result ≡ c.read_found.new.out = c.of.ensures ∙ taken_back c.in-Ok.bytes.len c.read_found.new.out (drop (length c.read_found.new.out) c.in-Ok.bytes.items) whole in
+    read_line x c.args.pos c.args.len version c.named.ensures.only c.read_found.ensures.only c.named.ensures.session (names_so x version c.in-Ok-Ok.field-0 c.in-Ok-Ok.field-0-is c.in-Ok-Ok.ensures.named) inside c.of.result
+    (λ before same now live is rooted. told ∙ c.in-Ok-read_found.ensures.bytes before same now live is rooted ∙ ap (λ (n : ℕ). bytes_at live.bytes c.args.pos n) long)
 
-pub returns-in-Err-read_bytes-clause-line : goal.returns-in-Err-read_bytes-clause-line
-returns-in-Err-read_bytes-clause-line g c =
+pub returns-in-Err-read_found-clause-line : goal.returns-in-Err-read_found-clause-line
+returns-in-Err-read_found-clause-line g c =
     let x = reference_of c.args.x.now in
     let version = c.in-Ok-Ok.version in
     let inside : c.args.pos + c.args.len ≤ version.found.size = omega (arith, c.if-pos-size.false, c.from.ensures, c.if-from-size.false) in
     let long : length c.deref_mut.result.now ≡ c.args.len = omega (arith, c.deref_mut.ensures.len, c.in-Ok.ensures.len, ap length c.deref_mut.ensures.value) in
-    read_stopped x c.args.pos c.args.len version c.named.ensures.only c.read_bytes.ensures.only c.named.ensures.session (names_so x version c.in-Ok-Ok.field-0 c.in-Ok-Ok.field-0-is c.in-Ok-Ok.ensures.named) inside c.in-Err-read_bytes.stop
-    c.in-Err-read_bytes.ensures.stops (λ before same now live is room. c.in-Err-read_bytes.ensures.sound before same now live is (omega (arith, room, long)))
+    read_stopped x c.args.pos c.args.len version c.named.ensures.only c.read_found.ensures.only c.named.ensures.session (names_so x version c.in-Ok-Ok.field-0 c.in-Ok-Ok.field-0-is c.in-Ok-Ok.ensures.named) inside c.in-Err-read_found.stop
+    c.in-Err-read_found.ensures.stops (λ before same now live is rooted room. c.in-Err-read_found.ensures.sound before same now live is rooted (omega (arith, room, long)))
 
 pub returns-in-Err-clause-damage : goal.returns-in-Err-clause-damage
 returns-in-Err-clause-damage g c = none_wider (g.H.World.outside c.args.host.now) (g.H.World.outside c.named.new.host) c.args.session.now (named_as c.args.session.now (reference_of c.args.x.now)) c.in-Err.stop c.in-Err.ensures.damage
 
-pub returns-in-Err-read_bytes-clause-damage : goal.returns-in-Err-read_bytes-clause-damage
-returns-in-Err-read_bytes-clause-damage g c = then_damage (reference_of c.args.x.now) c.named.ensures.only (g.H.World.outside c.read_bytes.new.disk) c.in-Err-read_bytes.stop
-    (oid_named c.args.session.now (reference_of c.args.x.now) c.in-Ok-Ok.version c.in-Ok-Ok.field-0 c.in-Ok-Ok.field-0-is c.in-Ok-Ok.ensures.asked)
-    c.in-Err-read_bytes.ensures.damage
+pub returns-in-Err-read_found-clause-damage : goal.returns-in-Err-read_found-clause-damage
+returns-in-Err-read_found-clause-damage g c =
+    let s = c.args.session.now in
+    let version = c.in-Ok-Ok.version in
+    found_damage (reference_of c.args.x.now) c.named.ensures.only (g.H.World.outside c.read_found.new.disk) version.found.root c.in-Err-read_found.stop
+    (oid_named s (reference_of c.args.x.now) version c.in-Ok-Ok.field-0 c.in-Ok-Ok.field-0-is c.in-Ok-Ok.ensures.asked)
+    (roots_at s (g.H.World.outside c.args.host.now) version c.in-Ok-Ok.field-0 c.in-Ok-Ok.field-0-is c.in-Ok-Ok.ensures.rooted) c.in-Err-read_found.ensures.damage
