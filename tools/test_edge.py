@@ -31,11 +31,11 @@ RUN = [
     "usage: exsm run VOLUME [--max-bytes N] < SCRIPT",
     "           by default --max-bytes 1099511627776",
 ]
+CHECK = ["usage: exsm check VOLUME"]
+GEN = ["usage: exsm gen VOLUME --seed N --count 1..1000000"]
 USAGE = [
     *FORMAT,
-    *(line.replace("usage:", "      ") for line in RUN),
-    "       exsm check VOLUME",
-    "       exsm gen VOLUME --seed N --count 1..1000000",
+    *(line.replace("usage:", "      ") for line in [*RUN, *CHECK, *GEN]),
 ]
 
 
@@ -203,26 +203,28 @@ class Causes(InAFolder):
         self.assertEqual(ran.returncode, status)
 
     def test_words(self):
-        grammar = "the words aren't in the command's grammar"
+        fan = "--fan takes 2..(page size - 20) / 24"
         table = [
             ("", "no command", USAGE),
             ("frob v", "'frob' is no command", USAGE),
-            ("--help", "'--help' is no command", USAGE),
-            ("run", grammar, RUN),
-            ("run v w", grammar, RUN),
-            ("run -v", grammar, RUN),
-            ("run v --max-bytes 1 --max-bytes 2", grammar, RUN),
-            ("run v --help", grammar, RUN),
-            ("run -- v", grammar, RUN),
-            ("format", grammar, FORMAT),
-            ("format --pages", grammar, FORMAT),
-            ("format v --page-size", grammar, FORMAT),
-            ("format v --page-size 4k", grammar, FORMAT),
-            ("format v --page-size 500", grammar, FORMAT),
-            ("format v --pages 0", grammar, FORMAT),
-            ("format v --segs 4000001", grammar, FORMAT),
-            ("format v --seg-len 17", grammar, FORMAT),
-            ("format v --page-size 512 --fan 21", grammar, FORMAT),
+            ("run", "run takes a VOLUME, and no word names one", RUN),
+            ("run v w", "'w' is a second VOLUME, after 'v'", RUN),
+            ("run -v", "'-v' is neither an option of run nor a VOLUME", RUN),
+            ("run v --max-bytes 1 --max-bytes 2", "--max-bytes stands there twice", RUN),
+            ("run v --help", "'--help' is neither an option of run nor a VOLUME", RUN),
+            ("run -- v", "'--' is neither an option of run nor a VOLUME", RUN),
+            ("format", "format takes a VOLUME, and no word names one", FORMAT),
+            ("format --pages", "--pages takes 1..4000000, and no word is left", FORMAT),
+            ("format v --page-size", "--page-size takes 512|1024|2048|4096|8192, and no word is left", FORMAT),
+            ("format v --page-size 4k", "--page-size takes 512|1024|2048|4096|8192, not '4k'", FORMAT),
+            ("format v --page-size 500", "--page-size takes 512|1024|2048|4096|8192, not '500'", FORMAT),
+            ("format v --pages 0", "--pages takes 1..4000000, not '0'", FORMAT),
+            ("format v --segs 4000001", "--segs takes 0..4000000, not '4000001'", FORMAT),
+            ("format v --seg-len 17", "--seg-len takes 1..16, not '17'", FORMAT),
+            ("format v --page-size 512 --fan 21", f"{fan}, not '21'", FORMAT),
+            ("check v w", "'w' is a second VOLUME, after 'v'", CHECK),
+            ("gen v --count 1", "gen takes --seed N, and it isn't there", GEN),
+            ("gen v --seed 1 --count 0", "--count takes 1..1000000, not '0'", GEN),
         ]
         for words, text, usage in table:
             with self.subTest(words=words):
@@ -230,6 +232,11 @@ class Causes(InAFolder):
                 self.check(ran, 2, "usage", f"exsm: {text}", *usage)
                 self.assertEqual(ran.stdout, b"")
         self.assertEqual(os.listdir(), [])
+
+    def test_help(self):
+        for word in ("help", "--help", "-h"):
+            with self.subTest(word=word):
+                self.check(exsm(word), 2, "usage", *USAGE)
 
     def test_a_word_that_is_not_utf_8(self):
         ran = exsm("run", b"caf\xe9")
@@ -258,7 +265,7 @@ class Causes(InAFolder):
             (["run", "none"], "exsm: none: No such file or directory (os error 2) (exsm format makes a volume)"),
             (["run", "folder"], "exsm: folder: Is a directory (os error 21)"),
             (["format", "folder", *SIZES], "exsm: folder: Is a directory (os error 21)"),
-            (["format", "none/v", *SIZES], "exsm: none/v: No such file or directory (os error 2)"),
+            (["format", "none/v", *SIZES], "exsm: none/v: No such file or directory (os error 2) (its folder isn't there)"),
         ]
         os.symlink("nowhere", "dangling")
         table += [(["format", "dangling", *SIZES], "exsm: dangling: File exists (os error 17)")]
@@ -300,7 +307,8 @@ class Causes(InAFolder):
         with open("v", "wb") as file:
             file.write(b"x" * 1000)
         ran = exsm("format", "v", *SIZES)
-        self.check(ran, 10, "too small", f"exsm: v has 1000 bytes, the volume needs {BYTES}; nothing was written")
+        text = f"exsm: v has 1000 bytes, the volume needs {BYTES}; nothing was written. Remove the file, or make a smaller volume"
+        self.check(ran, 10, "too small", text)
         self.assertEqual(contents("v"), b"x" * 1000)
 
     def test_another_file_is_written_over(self):

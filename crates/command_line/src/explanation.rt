@@ -2,6 +2,7 @@
 ghost use Rattle.std.specs.Prelude.{◌≡◌, ◌≢◌, Some, MatchOption};
 ghost use Rattle.command_line.specs.Texts.{status_line};
 
+use crate::misfit::misfit_of;
 use crate::seen::Damage;
 use crate::status::{Status, part_name};
 use crate::usage::Usage;
@@ -80,7 +81,7 @@ impl fmt::Display for Explanation<'_> {
             ),
             Status::TooSmall { have, need } => write!(
                 f,
-                "exsm: {volume} has {have} bytes, the volume needs {need}; nothing was written"
+                "exsm: {volume} has {have} bytes, the volume needs {need}; nothing was written. Remove the file, or make a smaller volume"
             ),
             Status::ScriptLong { max } => write!(
                 f,
@@ -109,16 +110,11 @@ impl Explanation<'_> {
         let command = self.command();
         if self.cause.is_some() {
             f.write_str("exsm: a word isn't UTF-8 text\n")?;
-        } else if command.is_none() {
-            match self.words.first() {
-                Some(word) => {
-                    let word = word.as_str();
-                    write!(f, "exsm: '{word}' is no command\n")?;
-                }
+        } else {
+            match self.words.split_first() {
+                Some((first, rest)) => tell_misfit(f, first.as_str(), command, rest)?,
                 None => f.write_str("exsm: no command\n")?,
             }
-        } else {
-            f.write_str("exsm: the words aren't in the command's grammar\n")?;
         }
         let usage = Usage(command);
         write!(f, "{usage}")
@@ -145,11 +141,33 @@ impl Explanation<'_> {
         };
         write!(f, "exsm: {volume}: {cause}")?;
         match (self.command(), cause.kind()) {
+            (Some(CommandWord::Format), ErrorKind::NotFound) => {
+                f.write_str(" (its folder isn't there)")
+            }
             (Some(CommandWord::Format), _) => Ok(()),
             (_, ErrorKind::NotFound) => f.write_str(" (exsm format makes a volume)"),
             (_, ErrorKind::PermissionDenied) => f.write_str(" (an opening also writes)"),
             _ => Ok(()),
         }
+    }
+}
+
+// The line on the first word that doesn't fit. Where help is asked for there is none.
+fn tell_misfit<W: fmt::Write>(
+    f: &mut fmt::Formatter<W>,
+    first: &str,
+    command: Option<CommandWord>,
+    rest: &[String],
+) -> fmt::Result {
+    let Some(command) = command else {
+        return match first {
+            "help" | "--help" | "-h" => Ok(()),
+            _ => write!(f, "exsm: '{first}' is no command\n"),
+        };
+    };
+    match misfit_of(command, rest) {
+        Some(misfit) => write!(f, "exsm: {misfit}\n"),
+        None => f.write_str("exsm: the words aren't in the command's grammar\n"),
     }
 }
 

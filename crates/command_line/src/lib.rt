@@ -3,6 +3,7 @@
 
 mod explanation;
 mod laws;
+mod misfit;
 mod seen;
 mod status;
 mod usage;
