@@ -1,5 +1,5 @@
 -- The room beside the record of a version, as a port over a session that shows tells it.
-use Rattle.std.proofs.Common.{◌≡◌, ◌∙◌, ℕ, List, Result, Ok, Err, sym, ap, subst}
+use Rattle.std.proofs.Common.{◌≡◌, ◌∙◌, ℕ, List, Result, Ok, Err, sym, ap}
 use Rattle.std.proofs.lemmas.Result.{IfErr-weaker}
 use Rattle.std.specs.Prelude.{IfOk, IfErr, OnOk}
 use Rattle.ex_base.specs.declared.ground.Ground as ground
@@ -17,12 +17,11 @@ use Rattle.file_bodies.proofs.Belonging.{of_page}
 use Rattle.object_records.specs.Record.{Record}
 use Rattle.disk_model.specs.Outside.{Outside}
 use Rattle.session_views.specs.View.{View, ShowsNow}
-use Rattle.session_views.specs.declared.engine.Stop.{Stop}
 use Rattle.session_core.specs.Sessions.{SessionState}
 use Rattle.session_core.specs.Meant.{meant}
-use Rattle.session_core.specs.Finding.{PortShows, IfLive, IfShown, IsOutside, stop_at}
+use Rattle.session_core.specs.Finding.{PortShows, IfLive, IfShown}
 use Rattle.session_core.specs.Needs.{room_beside}
-use Rattle.session_core.proofs.Finding.{no_damage, page_lies, reads_live}
+use Rattle.session_core.proofs.Finding.{page_lies, reads_live}
 
 -- what a view of a page tells
 pub room_told : (size room : ℕ) (page image : List ℕ) (p : FilePage) → room ≡ room_of size p.slots → SlotsOf page p → page ≡ image → room ≡ room_of size (slots_of image)

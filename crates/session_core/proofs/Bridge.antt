@@ -9,7 +9,7 @@ use Rattle.ex_base.specs.Area.{InPageArea, catalog_no, area_end, page_at}
 use Rattle.ex_base.proofs.Each.{each_from}
 use Rattle.ex_base.proofs.Members.{contains_later}
 use Rattle.op_log.specs.AfterLog.{logged}
-use Rattle.meta_pages.specs.Overlays.{Overlays, image_at, over}
+use Rattle.meta_pages.specs.Overlays.{Overlays, image_at}
 use Rattle.disk_model.specs.Outside.{Outside}
 use Rattle.trees.specs.Trees.{Units}
 use Rattle.tree_store.specs.Stored.{unit_bytes}

@@ -32,6 +32,7 @@ use Rattle.session_core.specs.Opening.{ShowsThen, without_scan}
 use Rattle.session_core.specs.Sessions.{IsSession, SessionState, held}
 use Rattle.session_core.proofs.Ending.{scan_roots}
 use Rattle.session_core.proofs.Finding.{stopped_outside}
+use Rattle.session_core.proofs.HeldRows.{AreOpen, scans_session}
 use Rattle.volume_port.proofs.Frames.{frames_shown}
 use Rattle.session_core.proofs.OtherScans.{rescanned, scanning}
 use Rattle.session_core.proofs.Quiet.{left_before, now_after, shows_frames}
@@ -135,29 +136,10 @@ module _ {a : Outside} {before : View SessionState} (now : ShowsNow meant a befo
 pub close_session : (s : SessionState) (index : ℕ) → IsSession s → IsSession (record s { scans = remove s.scans index })
 close_session s index is =
     let P : OpenRow → Type 0 = IsOpenScan s.geometry (length s.group_rows) in
-    record {
-      log = is.log;
-      meta = is.meta;
-      units = is.units;
-      pages = is.pages;
-      in_use = is.in_use;
-      sizes = is.sizes;
-      groups = is.groups;
-      few_groups = is.few_groups;
-      scans = All-append P (take index s.scans) (drop (suc index) s.scans) (All-take P index s.scans is.scans) (All-drop P (suc index) s.scans is.scans);
-      few_scans = omega (arith, fewer_left s.scans index, is.few_scans);
-      logged = is.logged;
-      behind = is.behind;
-      few_notes = is.few_notes;
-      notes = is.notes;
-      few_gained = is.few_gained;
-      few_lost = is.few_lost;
-      few_pages = is.few_pages;
-      in_order = is.in_order;
-      work = is.work;
-      up = is.up;
-      idle = is.idle;
-    }
+    scans_session s (remove s.scans index) (record {
+      each = All-append P (take index s.scans) (drop (suc index) s.scans) (All-take P index s.scans is.scans) (All-drop P (suc index) s.scans is.scans);
+      few = omega (arith, fewer_left s.scans index, is.few_scans);
+    }) is
 
 -- ---- as the code comes to it
 

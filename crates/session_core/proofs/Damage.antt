@@ -1,5 +1,5 @@
 -- A damage that a call on the session's volume tells, and the same of calls one after the other.
-use Rattle.std.proofs.Common.{◌≡◌, ◌∙◌, ◌<◌, ℕ, List, length, All, arith, Option, Some, None, Result, Ok, Err, refl, sym, ap, subst, ◌≤◌, ltb, ◌^◌, ◌-◌, true, [], Bool}
+use Rattle.std.proofs.Common.{◌≡◌, ◌∙◌, ◌<◌, ℕ, List, length, All, arith, Option, Some, None, Result, Ok, Err, refl, sym, ap, subst, ltb, ◌^◌, ◌-◌, true, Bool}
 use Rattle.std.specs.Prelude.{Contains, IfErr, IfOk, IfSome, IsSome, slice_get, unwrap_or}
 use Rattle.std.proofs.lemmas.Option.{get_or_from_slice_get, slice_get_within}
 use Rattle.ex_base.specs.declared.ground.Ground as ground
@@ -24,8 +24,8 @@ use Rattle.versions.specs.Found.{root_of}
 use Rattle.versions.specs.declared.finding.Found.{Found}
 use Rattle.volume_port.specs.GivingUp.{IsGivingFault}
 use Rattle.disk_model.specs.Outside.{Outside}
-use Rattle.disk_model.specs.Runs.{honest_on}
-use Rattle.buffer_groups.specs.Frames.{Frames, Lends}
+use Rattle.disk_model.specs.Runs.{honest_on, told_value}
+use Rattle.buffer_groups.specs.Frames.{Lends}
 use Rattle.session_views.specs.declared.engine.Stop.{Stop}
 use Rattle.session_views.specs.declared.engine.Stop.TheVariants as stop
 use Rattle.tree_store.specs.Stored.{Tells, unit_bytes}
@@ -225,10 +225,6 @@ module _ {a b : Outside} (old mid : SessionState) (one : OnlyFrames a b old mid)
 
 -- ---- the catalog
 
-some_disk : (o : Option (List ℕ)) → IsSome o → (d : List ℕ) × (o ≡ Some d)
-some_disk None some = absurd (cc)
-some_disk (Some d) some = (d, refl)
-
 catalog_image : (w : Outside) (s : SessionState) (d : List ℕ) → w.disk ≡ Some d → image_on w s catalog_no ≡ catalog_bytes s d
 catalog_image w s d holds =
     let g = s.geometry in
@@ -242,7 +238,7 @@ catalog_told a b s asked stop.Memory is = tt
 catalog_told a b s asked stop.Disk is = tt
 catalog_told a b s asked stop.Down is = tt
 catalog_told a b s asked (stop.Damaged page want got) is = λ tells.
-    let disk = some_disk a.disk tells.1 in
+    let disk = told_value a.disk tells.1 in
     told.of_volume (damage.as_it_is (damage.of_page catalog_no (files.broken_catalog (
       is.page_is,
       is.want_is,
@@ -255,7 +251,7 @@ catalog_told a b s asked (stop.Damaged page want got) is = λ tells.
 pub spent_told : (a b : Outside) (s : SessionState) (page : List ℕ) → ((d : List ℕ) → a.disk ≡ Some d → FramesLend a s → page ≡ catalog_bytes s d) → (catalog_on page).last ≡ 2 ^ 64 - 1
     → TellsDamage a b s no_version (stop.Damaged (record { 0 = catalog_no }) catalog_seen nothing_seen)
 spent_told a b s page read spent = λ tells.
-    let disk = some_disk a.disk tells.1 in
+    let disk = told_value a.disk tells.1 in
     told.of_spent refl refl refl (ap (λ (bytes : List ℕ). (catalog_on bytes).last) (catalog_image a s disk.0 disk.1 ∙ sym (read disk.0 disk.1 tells.2)) ∙ spent)
 
 -- a commit that fails tells no damage

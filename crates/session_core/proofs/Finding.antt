@@ -57,6 +57,7 @@ use Rattle.session_core.specs.Meant.{meant, held_view}
 use Rattle.session_core.specs.Finding.{IsPortOver, PortShows, IfShown, LineStops, IsOutside, IsFound, TellsVersion, held_image, content_named, record_named, stop_at, stop_or}
 use Rattle.session_core.specs.Steps.{OnlyFrames}
 use Rattle.session_core.proofs.Bridge.{shows_volume, table_is, image_shown}
+use Rattle.session_core.proofs.Reading.{frames_session}
 use Rattle.volume_model.proofs.Showing.{session_geometry}
 use Rattle.volume_port.proofs.Frames.{frames_lent}
 
@@ -93,29 +94,7 @@ only_reads {a} {b} s now groups is left = record {
 }
 
 pub read_session : {a b : Outside} (s : SessionState) (groups : List Frames) → LeavesFrames a b s.groups groups → IsSession s → IsSession (record s { groups = groups })
-read_session s groups left is = record {
-  log = is.log;
-  meta = is.meta;
-  units = is.units;
-  pages = is.pages;
-  in_use = is.in_use;
-  sizes = left.sizes s.geometry.page_size is.sizes;
-  groups = left.kinds ∙ is.groups;
-  few_groups = is.few_groups;
-  scans = is.scans;
-  few_scans = is.few_scans;
-  logged = is.logged;
-  behind = left.behind is.behind;
-  few_notes = is.few_notes;
-  notes = is.notes;
-  few_gained = is.few_gained;
-  few_lost = is.few_lost;
-  few_pages = is.few_pages;
-  in_order = is.in_order;
-  work = is.work;
-  up = is.up;
-  idle = is.idle;
-}
+read_session s groups left is = frames_session s groups (left.sizes s.geometry.page_size is.sizes) (left.kinds ∙ is.groups) (left.behind is.behind) is
 
 -- ---- why it stops
 

@@ -9,7 +9,6 @@ use Rattle.ex_base.specs.declared.names.Root.{Root}
 use Rattle.ex_base.specs.Area.{InPageArea, catalog_no}
 use Rattle.disk_model.specs.Outside.{Outside}
 use Rattle.disk_model.specs.Runs.{honest_on}
-use Rattle.buffer_groups.specs.Frames.{Frames}
 use Rattle.meta_pages.specs.Overlays.{AreRows, Overlays, image_at}
 use Rattle.open_scans.specs.OpenScans.{OpenRow, scan_of}
 use Rattle.page_alloc.specs.UnitSet.{refs_at, used_at}

@@ -1,5 +1,5 @@
 -- What holds of every session goes on holding after an update, and after one that is given up.
-use Rattle.std.proofs.Common.{◌≡◌, ◌≢◌, ◌∙◌, ⊎_elim, ℕ, ◌<◌, ◌≤◌, ◌+◌, ◌-◌, ◌*◌, ◌^◌, cond, slice_get, suc, true, false, List, [], ◌∷◌, ◌++◌, Bool, length, Some, nat_eq, refl, sym, ap, subst, inl, inr, arith, length-append}
+use Rattle.std.proofs.Common.{◌≡◌, ◌∙◌, ⊎_elim, ℕ, ◌<◌, ◌≤◌, ◌+◌, ◌-◌, ◌*◌, ◌^◌, suc, true, false, List, [], ◌∷◌, ◌++◌, Bool, length, Some, nat_eq, refl, sym, ap, subst, inl, inr, arith, length-append}
 use Rattle.std.specs.Map.{lookup}
 use Rattle.std.proofs.lemmas.Bool.{cases_Bool, both_ways, or_right}
 use Rattle.ex_base.specs.declared.geometry.Geometry.{Geometry}

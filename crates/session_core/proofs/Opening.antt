@@ -2,6 +2,7 @@
 use Rattle.std.proofs.Common.{◌≡◌, ◌∙◌, ◌≤◌, ◌<◌, ℕ, Bool, true, List, [], ◌∷◌, ◌++◌, map, length, take, Option, Some, None, refl, sym, ap, subst, arith}
 use Rattle.std.specs.List.{AllZip}
 use Rattle.std.specs.Prelude.{IfSome}
+use Rattle.std.proofs.Math.Seq.{take-append_seam}
 use Rattle.std.proofs.lemmas.List.{length-append, map-append}
 use Rattle.std.proofs.lemmas.List.Elements.{All-append}
 use Rattle.disk_model.specs.Outside.{Outside}
@@ -170,10 +171,6 @@ open_session s units row is used counted one few = record {
 
 -- ---- as the code comes to it
 
-taken_front : (out rest : List ℕ) → take (length out) (out ++ rest) ≡ out
-taken_front [] rest = refl
-taken_front (x ∷ out) rest = ap (λ (t : List ℕ). x ∷ t) (taken_front out rest)
-
 all_bytes : (bytes : List ℕ) → bytes_at bytes 0 (length bytes) ≡ bytes
 all_bytes [] = refl
 all_bytes (x ∷ bytes) = ap (λ (t : List ℕ). x ∷ t) (all_bytes bytes)
@@ -183,7 +180,7 @@ pub all_read : (n : ℕ) (out new rest bytes lent small : List ℕ) → small �
 all_read n out new rest bytes lent small is lends long as_many read =
     is
     ∙ lends
-    ∙ subst (λ (m : ℕ). take m (new ++ rest) ≡ new) long (taken_front new rest)
+    ∙ subst (λ (m : ℕ). take m (new ++ rest) ≡ new) long (take-append_seam new rest)
     ∙ read
     ∙ ap (bytes_at bytes 0) as_many
     ∙ all_bytes bytes

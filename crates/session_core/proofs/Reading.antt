@@ -11,6 +11,7 @@ use Rattle.ex_base.specs.declared.geometry.Geometry.{Geometry}
 use Rattle.disk_model.specs.Outside.{Outside, ReadsOnly}
 use Rattle.buffer_groups.specs.Groups.{GroupsKeep, SameKinds}
 use Rattle.commits.specs.Room.{AreBehindLog}
+use Rattle.open_scans.specs.GroupRows.{AreGroupsOf}
 use Rattle.session_core.specs.Sessions.{SessionState, IsSession}
 use Rattle.session_core.specs.Catalogs.{FramesLend, catalog_over, catalog_bytes}
 use Rattle.session_core.specs.Steps.{OnlyFrames}
@@ -37,20 +38,20 @@ behind_read groups old new there some keeps behind =
 
 -- ---- a session with other frames
 
-pub other_frames : (s : SessionState) (groups : List Frames) (disk : Option (List ℕ)) → GroupsKeep disk s.groups groups → (AreBehindLog s.groups → AreBehindLog groups) → IsSession s → IsSession (record s { groups = groups })
-other_frames s groups disk keeps behind is = record {
+pub frames_session : (s : SessionState) (groups : List Frames) → All (λ (f : Frames). f.page_size ≡ s.geometry.page_size) groups → AreGroupsOf s.group_rows groups → AreBehindLog groups → IsSession s → IsSession (record s { groups = groups })
+frames_session s groups sizes kinds behind is = record {
   log = is.log;
   meta = is.meta;
   units = is.units;
   pages = is.pages;
   in_use = is.in_use;
-  sizes = keeps.sizes s.geometry.page_size is.sizes;
-  groups = keeps.kinds ∙ is.groups;
+  sizes = sizes;
+  groups = kinds;
   few_groups = is.few_groups;
   scans = is.scans;
   few_scans = is.few_scans;
   logged = is.logged;
-  behind = behind is.behind;
+  behind = behind;
   few_notes = is.few_notes;
   notes = is.notes;
   few_gained = is.few_gained;
@@ -61,6 +62,9 @@ other_frames s groups disk keeps behind is = record {
   up = is.up;
   idle = is.idle;
 }
+
+pub other_frames : (s : SessionState) (groups : List Frames) (disk : Option (List ℕ)) → GroupsKeep disk s.groups groups → (AreBehindLog s.groups → AreBehindLog groups) → IsSession s → IsSession (record s { groups = groups })
+other_frames s groups disk keeps behind is = frames_session s groups (keeps.sizes s.geometry.page_size is.sizes) (keeps.kinds ∙ is.groups) (behind is.behind) is
 
 pub only_frames : {a b : Outside} (s now : SessionState) (groups : List Frames) → s ≡ now → ReadsOnly a b → GroupsKeep a.disk s.groups groups → OnlyFrames a b now (record s { groups = groups })
 only_frames {a} {b} s now groups is reads keeps = record {

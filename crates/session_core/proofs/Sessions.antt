@@ -138,9 +138,6 @@ still_closed is from only closed = ap (λ (s : SessionState). s.opened) is ∙ a
 pub still_up : {a b : Outside} {s now old : SessionState} → s ≡ now → OnlyFrames a b old now → old.down ≡ false → s.down ≡ false
 still_up is only up = ap (λ (s : SessionState). s.down) is ∙ ap (λ (s : SessionState). s.down) only.same ∙ up
 
-pub number_left : (last : ℕ) (page : List ℕ) → IsCatalogPage page → last ≡ (catalog_on page).last → (last ≢ 2 ^ 64 - 1) → (catalog_on page).last < 2 ^ 64 - 1
-number_left last page is same apart = omega (arith, is.fits.last, apart, same)
-
 pub begun_is : (s now : SessionState) (meta : Overlays) (notes : List OpNote) (page : List ℕ) → s ≡ now → meta ≡ record s.meta { working = (catalog_no, Some page) ∷ [] } → notes ≡ [] → begun now page ≡ working_on s meta notes true false
 begun_is s now meta notes page is same none = ap (λ (t : SessionState). begun t page) (sym is) ∙ cc (same, none)
 

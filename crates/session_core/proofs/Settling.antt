@@ -30,9 +30,6 @@ gives_on P Q R u v w p q one two = record {
   free = λ area. omega (arith, one.free area, two.free area);
 }
 
-pub gives_fewer : (P Q : ℕ → Type 0) (u v : UnitSet) → ((unit : ℕ) → Q unit → P unit) → OnlyGives P u v → OnlyGives Q u v
-gives_fewer P Q u v weaker one = record { geometry = one.geometry; used = one.used; stays = λ unit is q. one.stays unit is (weaker unit q); owned = one.owned; refs = one.refs; free = one.free }
-
 -- a unit that is free is free after
 pub free_still : (stays : ℕ → Type 0) (u v : UnitSet) → OnlyGives stays u v → (unit : ℕ) → used_at u unit ≡ false → used_at v unit ≡ false
 free_still stays u v gives unit free = false_from_ne_true (used_at v unit) (λ is. both_ways _ free (gives.used unit is))
@@ -47,15 +44,6 @@ pub image_below : (rows : List WorkingRow) (i : ℕ) (row : WorkingRow) → IsRi
 image_below rows i row rising is p has = ⊎_elim
     (λ (same : p ≡ row.0). absurd (both_ways _ (ap (λ (q : ℕ). is_there (lookup (nat_eq q) (take i rows))) same ∙ ap is_there (none_below rows i row rising is)) has))
     (λ (differ : p ≢ row.0). ap is_there (next_other rows i row rising is p differ) ∙ has) (cases_eq p row.0)
-
-pub taken_back_start : (kept : List Bool) (old : LoggedSet) (u : UnitSet) → TakenBack [] kept old old u u
-taken_back_start kept old u = record {
-  held_len = refl;
-  touched = λ page row has. absurd (cc);
-  others = λ page none. refl;
-  units = gives_none (λ unit. WasTaken [] kept unit → ⊥) u;
-  freed = λ page taken. absurd (cc (taken.0));
-}
 
 pub taken_back_next : (rows : List WorkingRow) (i : ℕ) (row : WorkingRow) (kept : List Bool) (old mid new : LoggedSet) (u v w : UnitSet) (image flag : Bool) → IsRising rows → slice_get rows i ≡ Some row
     → row.0 < length mid → image ≡ is_some row.1 → flag ≡ is_kept kept row.0 → TakenBack (take i rows) kept old mid u v
@@ -94,16 +82,6 @@ taken_back_next rows i row kept old mid new u v w image flag rising is inside wi
 
 abbrev pub StaysSettled : List WorkingRow → List Bool → ℕ → Type 0
 StaysSettled rows kept unit = (lookup (nat_eq unit) rows ≡ Some None) × (is_kept kept unit ≡ true) → ⊥
-
-pub settled_start : (kept : List Bool) (u : UnitSet) → Settled [] kept kept u u
-settled_start kept u = record {
-  kept_len = refl;
-  images = λ page image has. absurd (cc);
-  gone = λ page has. absurd (cc);
-  others = λ page none. refl;
-  units = gives_none (StaysSettled [] kept) u;
-  freed = λ page has. absurd (cc);
-}
 
 pub settled_next : (rows : List WorkingRow) (i : ℕ) (row : WorkingRow) (kept mid_kept now : List Bool) (u v w : UnitSet) (flag : Bool) → IsRising rows → slice_get rows i ≡ Some row
     → row.0 < length mid_kept → flag ≡ is_some row.1 → Settled (take i rows) kept mid_kept u v → now ≡ slice_set mid_kept row.0 flag

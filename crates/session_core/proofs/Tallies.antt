@@ -21,7 +21,6 @@ use Rattle.table_model.specs.declared.table.TableFile.{TableFile}
 use Rattle.table_model.specs.Machines.{shown}
 use Rattle.table_model.specs.Tables.{file_at, versions_in}
 use Rattle.trees.specs.Trees.{Units}
-use Rattle.version_lists.specs.declared.version.Version.{Version}
 use Rattle.version_lists.specs.Objects.{objects_formed}
 use Rattle.version_lists.specs.Sorted.{in_order, put_by}
 use Rattle.version_lists.specs.Versions.{unique_of as number_of, is_first as is_first_version}

@@ -1,6 +1,7 @@
 -- The flags of a session's logged pages go on being those of its pages.
 use Rattle.std.proofs.Common.{◌≡◌, ◌≢◌, ◌∙◌, ℕ, Bool, true, false, List, [], Option, Some, None, nat_eq, refl, sym, ap, inl, inr, ⊎_elim, arith}
 use Rattle.std.specs.Map.{lookup}
+use Rattle.std.specs.Cmp as cmp
 use Rattle.std.proofs.lemmas.Bool.{cases_eq, both_ways}
 use Rattle.ex_base.specs.declared.geometry.Geometry.{Geometry}
 use Rattle.ex_base.specs.Area.{catalog_no}
@@ -15,17 +16,6 @@ use Rattle.session_core.specs.Sessions.{ArePagesUsed, IsTracked, OnlyGives, Sett
 
 some_none : (x : Option (List ℕ)) → Some x ≡ None → ⊥
 some_none x e = cc
-
-pub bits_same : (a b : Bool) → (a ≡ true → b ≡ true) → (b ≡ true → a ≡ true) → a ≡ b
-bits_same true b f g = sym (f refl)
-bits_same false true f g = absurd (cc (g refl))
-bits_same false false f g = refl
-
--- what holds of each page with an image holds of a touched page that is there
-pub held_there : {P : Type 0} (row : Option (Option (List ℕ))) → ((image : List ℕ) → row ≡ Some (Some image) → P) → is_there row ≡ true → P
-held_there None held there = absurd (cc)
-held_there (Some None) held there = absurd (cc)
-held_there (Some (Some image)) held there = held image refl
 
 -- a row, or none, or one that was given back
 pub data RowOf (o : Option (Option (List ℕ))) : Type 0 where
@@ -68,7 +58,7 @@ module _ (g : Geometry) (rows : List WorkingRow) (pages : LoggedSet) (kept : Lis
 
   -- where a page has no row it is there exactly where the committed state has it
   pub same_flags : (p : ℕ) → lookup (nat_eq p) rows ≡ None → is_held pages p ≡ is_kept kept p
-  same_flags p none = bits_same (is_held pages p) (is_kept kept p) (λ held. is.untouched p held none)
+  same_flags p none = cmp.both_ways (is_held pages p) (is_kept kept p) (λ held. is.untouched p held none)
       (λ flag. ⊎_elim (λ held. held) (λ gone. absurd (some_none None (sym gone ∙ none))) (is.known p flag))
 
   -- ---- an abort

@@ -1,5 +1,5 @@
 -- A damage that an update of the session's volume tells.
-use Rattle.std.proofs.Common.{◌≡◌, ◌⊎◌, ℕ, List, [], ◌∷◌, Option, Some, refl, sym, ap, subst, inl, inr}
+use Rattle.std.proofs.Common.{◌≡◌, ℕ, List, [], ◌∷◌, Option, Some, sym, subst, inl, inr}
 use Rattle.std.specs.Prelude.{Result, Ok, Err, IfErr}
 use Rattle.ex_base.specs.declared.ground.Ground as ground
 use Rattle.ex_base.specs.declared.faults.PortFault.{PortFault}
@@ -13,7 +13,6 @@ use Rattle.buffer_groups.specs.Frames.{Frames}
 use Rattle.session_views.specs.declared.engine.Stop.{Stop}
 use Rattle.tree_store.specs.Stored.{Tells, unit_bytes}
 use Rattle.trees.specs.Damage.{IsRootFault}
-use Rattle.trees.specs.Trees.{Units}
 use Rattle.volume_edits.specs.Damage as damage
 use Rattle.volume_edits.specs.Damage.{IsVolumeFault}
 use Rattle.volume_port.specs.GivingUp.{IsGivingFault}

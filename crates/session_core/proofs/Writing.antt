@@ -237,10 +237,6 @@ module _ {a i m b : Outside} (old : SessionState) (page image : List ℕ) (numbe
 
 -- ---- from what the code comes to
 
--- the parts at the call of a commit are those of the session before it
-pub at_call : (s mid two : SessionState) (edited : Overlays) (image : List ℕ) → mid ≡ record s { groups = mid.groups } → two ≡ mid → edited ≡ numbered_pages two.meta image → edited ≡ numbered_pages s.meta image
-at_call s mid two edited image only is same = same ∙ ap (λ (t : SessionState). numbered_pages t.meta image) (is ∙ only)
-
 pub moments_at : (m b : Outside) (s mid two : SessionState) (edited : Overlays) (image : List ℕ) (number : ℕ) → mid ≡ record s { groups = mid.groups } → two ≡ mid → edited ≡ numbered_pages two.meta image → Moments m b two.log edited number
     → Moments m b s.log (numbered_pages s.meta image) number
 moments_at m b s mid two edited image number only is same moments =

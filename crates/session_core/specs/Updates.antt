@@ -1,8 +1,6 @@
 -- What an update makes of the volume of a session.
-use Rattle.std.specs.Prelude.{◌≡◌, ◌≤◌, ◌+◌, ◌++◌, ◌∷◌, [], ℕ, Bool, true, false, List, length, Some, None, nat_eq, Option, Result, Ok, Err, All, IsTrue, ⊤}
-use Rattle.std.specs.Map.{lookup}
+use Rattle.std.specs.Prelude.{◌≡◌, ◌≤◌, ◌+◌, ◌++◌, ◌∷◌, [], ℕ, Bool, false, List, length, Some, Option, Result, Ok, Err, All, IsTrue, ⊤}
 use Rattle.ex_base.specs.declared.geometry.Geometry.{Geometry}
-use Rattle.ex_base.specs.Area.{area_end, catalog_no}
 use Rattle.ex_base.specs.declared.faults.PortFault.{PortFault}
 use Rattle.ex_base.specs.declared.names.Area.{Area}
 use Rattle.ex_base.specs.declared.names.Oid.{Oid}
@@ -12,10 +10,9 @@ use Rattle.disk_model.specs.Outside.{Outside}
 use Rattle.ex_base.specs.declared.names.Root.{Root}
 use Rattle.disk_model.specs.Changes.{ChangesWithin}
 use Rattle.buffer_groups.specs.Frames.{Frames, Lends}
-use Rattle.buffer_groups.specs.Groups.{SameKinds}
 use Rattle.meta_pages.specs.Overlays.{Overlays}
 use Rattle.page_alloc.specs.UnitSet.{UnitSet, used_at}
-use Rattle.tree_store.specs.Stored.{Fits, InRest, NoUnit, Tells}
+use Rattle.tree_store.specs.Stored.{InRest, NoUnit, Tells}
 use Rattle.ex_base.specs.declared.names.Area.TheVariants.{Page, Segment}
 use Rattle.table_model.specs.declared.machine.Machine.{Machine}
 use Rattle.table_model.specs.declared.table.Table.{Table}

@@ -66,7 +66,7 @@ impl Model for Session {
 }
 
 impl Session {
-    ghost use Rattle.std.specs.Prelude.{◌≡◌, ℕ, [], length, All, true, false};
+    ghost use Rattle.std.specs.Prelude.{◌≡◌, ℕ, [], length, All, true};
     ghost use Rattle.ex_base.specs.Area.{area_end, catalog_no};
     ghost use Rattle.tree_store.specs.Stored.{IsCounted};
     ghost use Rattle.page_alloc.specs.UnitSet.{used_at};

@@ -1,5 +1,5 @@
 //! Objects are made, changed and removed in a volume, over any port: what is done to the volume's pages is the same as what is done to its table.
-ghost use Rattle.std.specs.Prelude.{◌≡◌, ℕ, List, IfErr, IfOk, OnOk};
+ghost use Rattle.std.specs.Prelude.{◌≡◌, IfErr, IfOk, OnOk};
 ghost use Rattle.ex_base.specs.Ports.{HasCause};
 ghost use Rattle.ex_base.specs.declared.names.Area.TheVariants.{Page};
 ghost use Rattle.volume_edits.specs.TableUpdates.{TableUpdate, TakesNeed, Changes};

@@ -25,7 +25,7 @@ impl Session {
     ghost use Rattle.session_core.specs.Steps.{Steps, StepsQuietly};
 
     /// Opens a transaction: the working catalog is the committed one, and no update is noted. Refused where one is open, and where no number of a commit is
-    /// left.
+    /// left. It stops where the disk fails, where memory is wanted, and where the catalog is outside of its grammar.
     pub fn begin<H: Host>(&mut self, alloc: Global, host: &mut H) -> Result<Reply, Stop>
         requires room { volume_bytes self.old.geometry ≤ (H.outside host.old).size }
         requires up { self.old.down ≡ false }
@@ -49,8 +49,8 @@ impl Session {
     }
 
     /// Gives the open transaction up: each tree whose root it gained has an owner less, its working pages are dropped, the pages that it took are free, and
-    /// the names that it bound are unbound. Refused where none is open. It stops where the disk fails and where memory is wanted, since it reads the nodes
-    /// that become free.
+    /// the names that it bound are unbound. Refused where none is open. It reads the nodes that become free. It stops where the disk fails and where memory
+    /// is wanted, and at a node that isn't what names it.
     pub fn abort<H: Host>(&mut self, alloc: Global, host: &mut H) -> Result<Reply, Stop>
         requires room { volume_bytes self.old.geometry ≤ (H.outside host.old).size }
         ensures steps { Steps (H.outside host.old)

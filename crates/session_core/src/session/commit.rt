@@ -59,8 +59,8 @@ impl Session {
     ghost use Rattle.session_core.specs.Steps.{Steps};
 
     /// Makes the working state the committed one, under the number after that of the last commit. Each tree whose root the transaction gave up has an owner
-    /// less, before anything is written. Refused where no transaction is open. It stops where the disk fails, where memory is wanted, and where the catalog has no
-    /// number left, which it had when the transaction was opened.
+    /// less, before anything is written. Refused where no transaction is open. It stops where the disk fails, where memory is wanted, at a page that isn't what
+    /// names it, and where the catalog has no number left, which it had when the transaction was opened.
     pub fn commit<H: Host>(&mut self, alloc: Global, host: &mut H) -> Result<Reply, Stop>
         requires room { volume_bytes self.old.geometry ≤ (H.outside host.old).size }
         ensures steps { Steps (H.outside host.old)

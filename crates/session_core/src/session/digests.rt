@@ -19,8 +19,8 @@ impl Session {
     ghost use Rattle.session_core.specs.Damage.{TellsDamage, the_version};
     ghost use Rattle.session_core.specs.Finding.{LineStops, IsOutside};
 
-    /// The SHA-256 digest of a version of `size` bytes, which are read as many at a time as `buffer` has room for. It stops where the disk fails, where
-    /// memory is wanted, and at a page that isn't what names it.
+    /// The SHA-256 digest of a version of `size` bytes, which are read as many at a time as `buffer` has room for: what it holds afterwards says nothing. It
+    /// stops where the disk fails, where memory is wanted, and at a page that isn't what names it.
     pub fn digest_bytes<D: Disk>(
         &mut self,
         alloc: Global,

@@ -1,5 +1,5 @@
 //! Updates of objects, through a port over the volume of a session.
-ghost use Rattle.std.specs.Prelude.{◌≡◌, ◌≤◌, ◌<◌, ◌+◌, [], length, suc, true, false, IfOk, IfErr, OnOk, OnErr};
+ghost use Rattle.std.specs.Prelude.{◌≡◌, ◌≤◌, ◌<◌, ◌+◌, [], length, suc, true, IfOk, IfErr, OnOk, OnErr};
 ghost use Rattle.ex_base.specs.Ports.{HasCause, IsDamage};
 ghost use Rattle.disk_model.specs.Outside.{DiskOnly, Leaves};
 ghost use Rattle.table_model.specs.Requests.{Request};
@@ -182,7 +182,7 @@ impl Session {
     ghost use Rattle.session_core.specs.Sessions.{volume_held};
 
     /// Performs an update of objects, and notes it: the note has the OID of the version that was made, changed or removed, which is answered. It takes no more
-    /// than it needs. Where memory is wanted or the disk fails, the transaction is given up and the call stops.
+    /// than it needs. Where memory is wanted or the disk fails, and at a page that isn't what names it, the transaction is given up and the call stops.
     pub fn update_objects<H: Host>(
         &mut self,
         alloc: Global,

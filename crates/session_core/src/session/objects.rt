@@ -1,5 +1,5 @@
 //! Objects are found and read.
-ghost use Rattle.std.specs.Prelude.{◌≡◌, ◌≤◌, ◌+◌, ◌⊎◌, ◌^◌, ℕ, length, Some, None, IfOk, IfErr, IfSome, OnOk, MatchResult};
+ghost use Rattle.std.specs.Prelude.{◌≡◌, ◌≤◌, ◌+◌, ◌⊎◌, ◌^◌, length, Some, None, IfOk, IfErr, IfSome, OnOk, MatchResult};
 ghost use Rattle.ex_base.specs.Bytes.{bytes_at};
 ghost use Rattle.ex_base.specs.Sizes.{volume_bytes, object_most};
 ghost use Rattle.table_model.specs.Requests.{reference_of};
@@ -167,7 +167,7 @@ impl Session {
     }
 
     /// Reads bytes of a version from a position on, as many as `out` holds. It stops where the disk fails, where memory is wanted, and at a page that isn't
-    /// what names it.
+    /// what names it; then `out` holds nothing that counts.
     pub fn read_bytes<D: Disk>(
         &mut self,
         alloc: Global,

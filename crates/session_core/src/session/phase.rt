@@ -1,8 +1,8 @@
-//! What a session is in.
+//! The phase that a session is in.
 ghost use Rattle.std.specs.Prelude.{◌≡◌};
 ghost use Rattle.session_core.specs.Phases.{is_down, is_open};
 
-/// What a session is in.
+/// The phase that a session is in: idle, in an open transaction, or down.
 #[derive(Clone, Copy, Debug, PartialEq, Eq)]
 pub(super) enum Phase {
     /// No transaction is open.

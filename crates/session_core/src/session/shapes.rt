@@ -21,7 +21,7 @@ impl Session {
     ghost use Rattle.session_core.specs.Finding.{LineStops, IsOutside};
 
     /// The number of leaves of a version's tree, and in `first` the bytes of the first ones, as many as it has room for. It stops where the disk fails,
-    /// where memory is wanted, and at a page that isn't what names it.
+    /// where memory is wanted, and at a page that isn't what names it; then `first` holds nothing that counts.
     pub fn shape<D: Disk>(
         &mut self,
         alloc: Global,

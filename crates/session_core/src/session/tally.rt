@@ -19,7 +19,9 @@ use volume_port::{MAIN, ReadingPort};
 /// How many objects and versions a file has.
 #[derive(Clone, Copy)]
 pub struct Tally {
+    /// Its objects.
     pub objects: usize,
+    /// The versions of all of them.
     pub versions: usize,
 }
 

@@ -1,13 +1,12 @@
 use Rattle.std.proofs.Common.{◌≡◌, ◌<◌, ap, length, refl, rules, subst, sym, Some, ◌∙◌}
 use Rattle.std.proofs.lemmas.Result.{IfErr-weaker}
-use Rattle.ex_base.specs.Ports.{IsDamage}
 use Rattle.session_core.specs.Finding.{IsOutside, stop_at}
 use Rattle.session_core.specs.ScanRows.{AtScan, bytes_next, with_scans}
 use Rattle.session_core.specs.Sessions.{SessionState}
 use Rattle.session_core.proofs.HeldRows.{can_read_on, read_on_session, read_open, root_read}
 use Rattle.session_core.proofs.ScanBytes.{given_shown, port_scans, sound_shown}
 use Rattle.session_core.specs.contracts.session.Session as session
-use Rattle.session_core.proofs.Finding.{error_shown, frames_left, frames_to, no_damage, ok_shown, only_reads, over_session, read_session, told_err, told_ok}
+use Rattle.session_core.proofs.Finding.{error_shown, frames_left, frames_to, no_damage, ok_shown, only_reads, over_session, told_err, told_ok}
 use Rattle.std.specs.Prelude.{slice_get}
 use Rattle.open_scans.proofs.Rows.{row_there}
 use Rattle.session_core.proofs.Damage.{scan_told}

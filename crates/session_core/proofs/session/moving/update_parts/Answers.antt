@@ -1,7 +1,7 @@
-use Rattle.std.proofs.Common.{◌≡◌, ◌∙◌, refl, rules, subst, sym}
-use Rattle.std.proofs.lemmas.Result.{on_ok_weaker, IfErr-weaker}
+use Rattle.std.proofs.Common.{◌≡◌, ◌∙◌, refl, rules, subst}
+use Rattle.std.proofs.lemmas.Result.{on_ok_weaker}
 use Rattle.ex_base.specs.declared.names.Area.TheVariants.{Page}
-use Rattle.session_core.specs.Performed.{CanPerform, asked_of}
+use Rattle.session_core.specs.Performed.{CanPerform}
 use Rattle.page_alloc.specs.UnitSet.{UnitSet, free_count, used_at}
 use Rattle.session_core.proofs.Moving.{IsMade, begins_over, fits_there, later_at, made_of, moved_at, parts_same, ready_of, ready_there, volume_moved}
 use Rattle.session_core.proofs.Performing.{performed_kept, performed_owns, performed_shown, performed_sound}

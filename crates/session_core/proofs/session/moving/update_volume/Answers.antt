@@ -1,6 +1,5 @@
 use Rattle.std.proofs.Common.{◌+◌, ◌≤◌, ap, length, refl, subst, sym, arith, inl, Bool, List}
 use Rattle.meta_pages.specs.Overlays.{AreRows}
-use Rattle.ex_base.specs.declared.names.Area.{Area}
 use Rattle.page_alloc.specs.UnitSet.{free_count, used_at}
 use Rattle.table_model.specs.Machines.{shown}
 use Rattle.volume_port.specs.declared.state.VolumeState.{VolumeState}

@@ -1,10 +1,9 @@
 use Rattle.std.proofs.Common.{◌≡◌, ◌∙◌, false, sym, ap, subst, arith}
 use Rattle.std.specs.Option.{option_copied}
-use Rattle.meta_pages.specs.Overlays.{IsWorkingRow}
 use Rattle.page_alloc.specs.UnitSet.{UnitSet, used_at}
 use Rattle.volume_model.specs.Shown.{WorkingRow}
 use Rattle.session_core.specs.Sessions.{OnlyGives}
-use Rattle.session_core.proofs.Settling.{copied_some, at_row}
+use Rattle.session_core.proofs.Settling.{copied_some}
 use Rattle.session_core.proofs.Sweeping.{swept_next}
 use Rattle.session_core.proofs.session.settle.sweep.Goals.{in-Some, in_default}
 use Rattle.session_core.proofs.session.settle.sweep.Goals as goal
