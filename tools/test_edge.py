@@ -211,6 +211,7 @@ class Causes(InAFolder):
             ("run v w", "'w' is a second VOLUME, after 'v'", RUN),
             ("run -v", "'-v' is neither an option of run nor a VOLUME", RUN),
             ("run v --max-bytes 1 --max-bytes 2", "--max-bytes stands there twice", RUN),
+            (f"run v --max-bytes {'0' * 20}1", f"--max-bytes takes N, not '{'0' * 20}1'", RUN),
             ("run v --help", "'--help' is neither an option of run nor a VOLUME", RUN),
             ("run -- v", "'--' is neither an option of run nor a VOLUME", RUN),
             ("format", "format takes a VOLUME, and no word names one", FORMAT),

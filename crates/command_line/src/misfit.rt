@@ -101,10 +101,10 @@ fn takes(option: &str, value: &str) -> bool {
     geometry.is_ok()
 }
 
-// The number that begins with a digit, as the grammar wants it.
+// The number that a word writes in 1 to 20 digits.
 fn number_of(value: &str) -> Option<u64> {
     match value.as_bytes() {
-        [b'0'..=b'9', ..] => value.parse().ok(),
+        [b'0'..=b'9', more @ ..] if more.len() < 20 => value.parse().ok(),
         _ => None,
     }
 }
