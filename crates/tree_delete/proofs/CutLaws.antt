@@ -1,8 +1,8 @@
 -- What a cut takes from a row.
-use Rattle.std.proofs.Common.{◌≡◌, ◌⊎◌, ℕ, zero, suc, ◌+◌, ◌-◌, ◌<◌, ◌≤◌, List, [], ◌∷◌, ◌++◌, length, take, drop, get_or, sym, ap, subst, ◌∙◌, arith, append_assoc, inl, inr}
+use Rattle.std.proofs.Common.{◌≡◌, ◌⊎◌, ℕ, zero, suc, ◌+◌, ◌-◌, ◌<◌, ◌≤◌, List, [], ◌∷◌, ◌++◌, length, take, drop, get_or, sym, ap, subst, ◌∙◌, arith, append_assoc, take_all, inl, inr}
 use Rattle.std.specs.List.{AllByRecursion}
 use Rattle.std.proofs.lemmas.Bool.{cases_lt}
-use Rattle.std.proofs.lemmas.List.{length-append, length-drop, take-append-le, drop-append-le, take-append-drop, drop-drop, append-nil}
+use Rattle.std.proofs.lemmas.List.{length-append, take-append-le, drop-append-le, take-append-drop, drop-drop, append-nil}
 use Rattle.std.proofs.Math.Seq.{take-append-add, drop-append-add}
 use Rattle.ex_base.specs.Edits.{deleted}
 use Rattle.ex_base.specs.declared.geometry.Geometry.{Geometry}
@@ -14,9 +14,9 @@ use Rattle.trees.specs.declared.rows.Part.{Part}
 use Rattle.trees.specs.Rows.{row_size, row_bytes, row_units, AreTrees}
 use Rattle.trees.specs.Made.{Has}
 use Rattle.trees.proofs.Laid.{row_length, has_left, has_right}
-use Rattle.trees.proofs.Over.{bytes_app, units_app}
+use Rattle.trees.proofs.Over.{bytes_app, has_split, units_app}
 use Rattle.trees.proofs.Reading.{no_part}
-use Rattle.trees.proofs.Sizes.{size-front, front_most, take_all}
+use Rattle.trees.proofs.Sizes.{size-front, front_le, front_most, piece_size, rest_most}
 use Rattle.tree_delete.specs.declared.cut.Cut.{Cut}
 use Rattle.tree_delete.specs.Places.{IsPlace}
 use Rattle.tree_delete.specs.Cuts.{all_of, cut_bytes, IsCutOf}
@@ -41,21 +41,9 @@ place_here row pos index at lt less start = record {
 
 -- ---- pieces of a row
 
-pub front_le : (row : List Part) (i j : ℕ) → i ≤ j → row_size (take i row) ≤ row_size (take j row)
-front_le row zero j le = omega arith
-front_le [] (suc i) zero le = absurd (omega arith)
-front_le [] (suc i) (suc j) le = omega arith
-front_le (part ∷ row) (suc i) zero le = absurd (omega arith)
-front_le (part ∷ row) (suc i) (suc j) le = omega (arith, front_le row i j (omega arith))
-
 next_piece : (row : List Part) (i j : ℕ) → i ≤ j → drop i row ≡ take (j - i) (drop i row) ++ drop j row
 next_piece row i j le =
     sym (ap (λ r. take (j - i) (drop i row) ++ r) (ap (λ k. drop k row) {x = j} {y = i + (j - i)} (omega arith) ∙ sym (drop-drop (j - i) i row)) ∙ take-append-drop (j - i) (drop i row))
-
-pub piece_size : (row : List Part) (i j : ℕ) → i ≤ j → row_size (take i row) + row_size (take (j - i) (drop i row)) ≡ row_size (take j row)
-piece_size row i j le =
-    let first : row_size (take i row) + row_size (drop i row) ≡ row_size row = sym (sym (ap row_size (take-append-drop i row)) ∙ size_app (take i row) (drop i row)) in
-    omega (arith, sym (ap row_size (take-append-drop i row)) ∙ size_app (take i row) (drop i row), sym (ap row_size (take-append-drop j row)) ∙ size_app (take j row) (drop j row), ap row_size (next_piece row i j le), size_app (take (j - i) (drop i row)) (drop j row))
 
 five_pieces : (row : List Part) (i j k m : ℕ) → i ≤ j → j ≤ k → k ≤ m
     → row ≡ take i row ++ ((take (j - i) (drop i row) ++ (take (k - j) (drop j row) ++ take (m - k) (drop k row))) ++ drop m row)
@@ -95,11 +83,11 @@ ends row at len first inside last over lead_end right_start p q fits no_lead lea
     let s_last = q.start in
     let some_first : 1 ≤ inside → first < length row = λ one. elim (cases_lt first (length row)) [
       | inl lt ↦ lt
-      | inr ge ↦ absurd (omega (arith, p.start, ap row_size (take_all row first ge)))
+      | inr ge ↦ absurd (omega (arith, p.start, ap row_size (take_all first row ge)))
     ] in
     let some_last : 1 ≤ over → last < length row = λ one. elim (cases_lt last (length row)) [
       | inl lt ↦ lt
-      | inr ge ↦ absurd (omega (arith, q.start, ap row_size (take_all row last ge)))
+      | inr ge ↦ absurd (omega (arith, q.start, ap row_size (take_all last row ge)))
     ] in
     let order : first ≤ last = elim (cases_lt last first) [
       | inl lt ↦ absurd (omega (arith, q.next (omega (arith, p.inside)), front_le row (last + 1) first (omega arith), p.start))
@@ -252,23 +240,11 @@ cut_is row at len first inside last over lead_end right_start tail_start cut p q
       few = omega (arith, ap length run_is, length-append (take (lead_end - first) (drop first row)) (take (right_start - tail_start) (drop tail_start row)), piece_length row first lead_end e.lead_first, piece_length row tail_start right_start km, e.lead_one, e.last_one);
     }
 
-take_most : (row : List Part) (n : ℕ) → row_size (take n row) ≤ row_size row
-take_most row n = front_most row n
-
-drop_most : (row : List Part) (n : ℕ) → row_size (drop n row) ≤ row_size row
-drop_most row n = omega (arith, sym (ap row_size (take-append-drop n row)) ∙ size_app (take n row) (drop n row))
-
 pub piece_most : (row : List Part) (i j : ℕ) → row_size (take (j - i) (drop i row)) ≤ row_size row
-piece_most row i j = omega (arith, take_most (drop i row) (j - i), drop_most row i)
+piece_most row i j = omega (arith, front_most (drop i row) (j - i), rest_most row i)
 
 pub no_more : (xs : List Part) → xs ++ ([] ++ []) ≡ xs
 no_more xs = append-nil xs
-
-pub rest_is : (xs : List Part) (i : ℕ) → take (length xs - i) (drop i xs) ≡ drop i xs
-rest_is xs i = take_all (drop i xs) (length xs - i) (omega (arith, length-drop i xs))
-
-pub front_most_at : (row : List Part) (i : ℕ) → row_size (take i row) ≤ row_size row
-front_most_at row i = front_most row i
 
 pub bytes_more : (row : List Part) (i bytes : ℕ) → i < length row → bytes ≡ row_size (take i row) → bytes + (get_or row i no_part).size ≡ row_size (take (i + 1) row)
 bytes_more row i bytes lt is = omega (arith, size-front row i lt)
@@ -336,19 +312,9 @@ length_cut row at len cut h =
       length-append h.lead h.tail,
     )
 
-has_cases : (xs ys : List ℕ) (p : ℕ) → Has (xs ++ ys) p → Has xs p ⊎ Has ys p
-has_cases [] ys p h = inr h
-has_cases (x ∷ xs) ys p h = elim h [
-  | inl e ↦ inl (inl e)
-  | inr r ↦ elim (has_cases xs ys p r) [
-    | inl a ↦ inl (inr a)
-    | inr b ↦ inr b
-  ]
-]
-
 -- the units of a row of two parts
 pub in_either : (u : Units) (l : ℕ) (xs ys : List Part) (p : ℕ) → Has (row_units u l (xs ++ ys)) p → Has (row_units u l xs) p ⊎ Has (row_units u l ys) p
-in_either u l xs ys p h = has_cases (row_units u l xs) (row_units u l ys) p (subst (λ us. Has us p) (units_app u l xs ys) h)
+in_either u l xs ys p h = has_split (row_units u l xs) (row_units u l ys) p (subst (λ us. Has us p) (units_app u l xs ys) h)
 
 pub in_first : (u : Units) (l : ℕ) (xs ys : List Part) (p : ℕ) → Has (row_units u l xs) p → Has (row_units u l (xs ++ ys)) p
 in_first u l xs ys p h = subst (λ us. Has us p) (sym (units_app u l xs ys)) (has_left (row_units u l xs) (row_units u l ys) p h)

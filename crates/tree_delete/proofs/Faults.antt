@@ -8,6 +8,7 @@ use Rattle.ex_base.specs.declared.ground.Ground as ground
 use Rattle.trees.specs.Trees.{Units}
 use Rattle.trees.specs.declared.rows.Part.{Part}
 use Rattle.trees.specs.Damage.{IsWalkFault, AnyPart}
+use Rattle.trees.proofs.Blame.{any_split}
 use Rattle.tree_delete.specs.declared.cut.Cut.{Cut}
 use Rattle.tree_delete.specs.Cuts.{all_of, IsCutOf}
 
@@ -21,16 +22,6 @@ any_left P (x ∷ xs) ys h = elim h [
 any_right : (P : Part → Type 0) (xs ys : List Part) → AnyPart P ys → AnyPart P (xs ++ ys)
 any_right P [] ys h = h
 any_right P (x ∷ xs) ys h = inr (any_right P xs ys h)
-
-any_split : (P : Part → Type 0) (xs ys : List Part) → AnyPart P (xs ++ ys) → AnyPart P xs ⊎ AnyPart P ys
-any_split P [] ys h = inr h
-any_split P (x ∷ xs) ys h = elim h [
-  | inl here ↦ inl (inl here)
-  | inr rest ↦ elim (any_split P xs ys rest) [
-    | inl a ↦ inl (inr a)
-    | inr b ↦ inr b
-  ]
-]
 
 any_cut : (P : Part → Type 0) (row : List Part) (at len : ℕ) (cut : Cut) → IsCutOf row at len cut → AnyPart P (all_of cut) → AnyPart P row
 any_cut P row at len cut h any =

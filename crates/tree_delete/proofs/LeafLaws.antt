@@ -1,8 +1,8 @@
 -- Leaves that are written anew.
-use Rattle.std.proofs.Common.{get_or, drop, ◌≡◌, ◌≢◌, ◌⊎◌, ℕ, ◌+◌, ◌-◌, ◌*◌, ◌/◌, ◌<◌, ◌≤◌, List, [], ◌∷◌, ◌++◌, length, refl, sym, ap, subst, ◌∙◌, arith, append_assoc, inl, inr}
+use Rattle.std.proofs.Common.{get_or, drop, ◌≡◌, ◌≢◌, ◌⊎◌, ℕ, ◌+◌, ◌-◌, ◌*◌, ◌/◌, ◌<◌, ◌≤◌, List, [], ◌∷◌, ◌++◌, length, sym, ap, subst, ◌∙◌, arith, append_assoc, inl, inr}
 use Rattle.std.specs.List.{AllByRecursion}
 use Rattle.std.proofs.lemmas.Bool.{cases_lt}
-use Rattle.std.proofs.lemmas.List.{length-append, length-map, append-nil}
+use Rattle.std.proofs.lemmas.List.{length-append, length-map, append-nil, nil_from_length}
 use Rattle.ex_base.specs.Area.{NamesLeaf}
 use Rattle.ex_base.specs.Edits.{deleted}
 use Rattle.ex_base.specs.Even.{sum_of}
@@ -10,7 +10,7 @@ use Rattle.ex_base.specs.Sizes.{leaf_bytes}
 use Rattle.ex_base.specs.declared.geometry.Geometry.{Geometry}
 use Rattle.ex_base.specs.declared.ground.Ground as ground
 use Rattle.ex_base.proofs.Rows.{each-append}
-use Rattle.ex_base.proofs.Each.{split_each}
+use Rattle.ex_base.proofs.Each.{each_mapped, each_unmapped, split_each}
 use Rattle.trees.specs.Trees.{Units}
 use Rattle.trees.proofs.TreeLaws.{AreWhole}
 use Rattle.trees.specs.declared.rows.Part.{Part}
@@ -20,6 +20,7 @@ use Rattle.trees.specs.Made.{Extends, Holds, Took, pages_of, sizes_of}
 use Rattle.trees.specs.Built.{AreSome}
 use Rattle.trees.proofs.Laid.{row_length}
 use Rattle.trees.proofs.Over.{bytes_app}
+use Rattle.trees.proofs.Sizes.{sizes_sum}
 use Rattle.trees.specs.Grown.{Grew}
 use Rattle.tree_delete.specs.declared.cut.Cut.{Cut}
 use Rattle.tree_delete.specs.Cuts.{all_of, sides, cut_bytes}
@@ -118,20 +119,8 @@ first_gone (part ∷ row) rest near some is rest_is = cc
 
 -- ---- the new row
 
-sizes_sum : (row : List Part) → sum_of (λ n. n) (sizes_of row) ≡ row_size row
-sizes_sum [] = refl
-sizes_sum (part ∷ row) = ap (λ n. part.size + n) (sizes_sum row)
-
-sizes_each : (P : ℕ → Type 0) (row : List Part) → AllByRecursion P (sizes_of row) → AllByRecursion (λ (part : Part). P part.size) row
-sizes_each P [] all = tt
-sizes_each P (part ∷ row) all = (all.0, sizes_each P row all.1)
-
-pub each_size : (P : ℕ → Type 0) (row : List Part) → AllByRecursion (λ (part : Part). P part.size) row → AllByRecursion P (sizes_of row)
-each_size P [] all = tt
-each_size P (part ∷ row) all = (all.0, each_size P row all.1)
-
 somes : (full : ℕ) (row : List Part) (lengths : List ℕ) → sizes_of row ≡ lengths → AllByRecursion (λ n. (1 ≤ n) × (n ≤ full)) lengths → AreSome row
-somes full row lengths is each = only full row (sizes_each (λ n. (1 ≤ n) × (n ≤ full)) row (subst (AllByRecursion (λ n. (1 ≤ n) × (n ≤ full))) (sym is) each))
+somes full row lengths is each = only full row (each_unmapped (λ n. (1 ≤ n) × (n ≤ full)) (λ (part : Part). part.size) row (subst (AllByRecursion (λ n. (1 ≤ n) × (n ≤ full))) (sym is) each))
   where
     only : (full : ℕ) (row : List Part) → AllByRecursion (λ (part : Part). (1 ≤ part.size) × (part.size ≤ full)) row → AreSome row
     only full [] all = tt
@@ -160,10 +149,6 @@ leaves_left_of full cut wider made row lengths w inside some e is row_is =
       few = omega (arith, e.few);
     }
 
-empty : (xs : List Part) → length xs ≡ 0 → xs ≡ []
-empty [] none = refl
-empty (x ∷ xs) none = absurd (omega arith)
-
 pub leaves_roots : (full : ℕ) (cut wider : Cut) (made row : List Part) (lengths : List ℕ) → IsWider full cut wider → AreEven full (row_size wider.run.items - wider.len) lengths
     → sizes_of made ≡ lengths → row ≡ wider.left.items ++ (made ++ wider.right.items) → sides cut ≡ 0 → AreRootLeaves full row
 leaves_roots full cut wider made row lengths w e is row_is none =
@@ -171,16 +156,16 @@ leaves_roots full cut wider made row lengths w e is row_is none =
       | inl same ↦ omega arith
       | inr less ↦ absurd (omega (arith, less.0))
     ] in
-    let no_left : wider.left.items ≡ [] = empty wider.left.items (omega arith) in
-    let no_right : wider.right.items ≡ [] = empty wider.right.items (omega arith) in
+    let no_left : wider.left.items ≡ [] = nil_from_length wider.left.items (omega arith) in
+    let no_right : wider.right.items ≡ [] = nil_from_length wider.right.items (omega arith) in
     let is_made : row ≡ made = row_is ∙ ap (λ (xs : List Part). xs ++ (made ++ wider.right.items)) no_left ∙ ap (λ (xs : List Part). made ++ xs) no_right ∙ append-nil made in
     let count : length made ≡ length lengths = sym (length-map made (λ (part : Part). part.size)) ∙ ap length is in
     subst (AreRootLeaves full) (sym is_made) (elim e.alone [
       | inl few ↦ elim (cases_lt 0 (length made)) [
         | inl one ↦ inl (omega arith)
-        | inr none ↦ inr (subst (AreHalfFull full) (sym (empty made (omega arith))) tt)
+        | inr none ↦ inr (subst (AreHalfFull full) (sym (nil_from_length made (omega arith))) tt)
       ]
-      | inr halves ↦ inr (sizes_each (λ n. (full / 2 ≤ n) × (n ≤ full)) made (subst (AllByRecursion (λ n. (full / 2 ≤ n) × (n ≤ full))) (sym is) halves))
+      | inr halves ↦ inr (each_unmapped (λ n. (full / 2 ≤ n) × (n ≤ full)) (λ (part : Part). part.size) made (subst (AllByRecursion (λ n. (full / 2 ≤ n) × (n ≤ full))) (sym is) halves))
     ])
 
 -- the same cut of the same row
@@ -223,15 +208,15 @@ leaves_left {S} g a b cut wider made row lengths ready told w inside e ext is na
       halves = λ side halves.
           let full : ℕ = leaf_bytes (g.geometry a) in
           let on_sizes : AllByRecursion (λ n. (leaf_bytes (g.geometry a) / 2 ≤ n) × (n ≤ leaf_bytes (g.geometry a))) (sizes_of (all_of cut)) = halves in
-          let half : AreHalfFull (leaf_bytes (g.geometry a)) (all_of cut) = sizes_each (λ n. (leaf_bytes (g.geometry a) / 2 ≤ n) × (n ≤ leaf_bytes (g.geometry a))) (all_of cut) on_sizes in
+          let half : AreHalfFull (leaf_bytes (g.geometry a)) (all_of cut) = each_unmapped (λ n. (leaf_bytes (g.geometry a) / 2 ≤ n) × (n ≤ leaf_bytes (g.geometry a))) (λ (part : Part). part.size) (all_of cut) on_sizes in
           let parts = split_each _ wider.left.items (wider.run.items ++ wider.right.items) (subst (AreHalfFull (leaf_bytes (g.geometry a))) (sym w.row) half) in
           let others = split_each _ wider.run.items wider.right.items parts.1 in
           let new : AllByRecursion (λ n. (leaf_bytes (g.geometry a) / 2 ≤ n) × (n ≤ leaf_bytes (g.geometry a))) lengths = elim (w.half half side) [
             | inl none ↦ no_lengths (leaf_bytes (g.geometry a)) _ lengths e none
             | inr enough ↦ e.half enough
           ] in
-          each-append _ (sizes_of wider.left.items) (lengths ++ sizes_of wider.right.items) (each_size (λ n. (leaf_bytes (g.geometry a) / 2 ≤ n) × (n ≤ leaf_bytes (g.geometry a))) wider.left.items parts.0)
-          (each-append _ lengths (sizes_of wider.right.items) new (each_size (λ n. (leaf_bytes (g.geometry a) / 2 ≤ n) × (n ≤ leaf_bytes (g.geometry a))) wider.right.items others.1));
+          each-append _ (sizes_of wider.left.items) (lengths ++ sizes_of wider.right.items) (each_mapped (λ n. (leaf_bytes (g.geometry a) / 2 ≤ n) × (n ≤ leaf_bytes (g.geometry a))) (λ (part : Part). part.size) wider.left.items parts.0)
+          (each-append _ lengths (sizes_of wider.right.items) new (each_mapped (λ n. (leaf_bytes (g.geometry a) / 2 ≤ n) × (n ≤ leaf_bytes (g.geometry a))) (λ (part : Part). part.size) wider.right.items others.1));
     }
   where
     holds_two : {S : Type 0} (g : ground.Ghosts S) (s : S) (xs ys : List Part) → Holds g s 0 (xs ++ ys) → Holds g s 0 xs × Holds g s 0 ys

@@ -1,6 +1,6 @@
 -- The children of a row of nodes.
-use Rattle.std.proofs.Common.{◌≡◌, ℕ, suc, ◌+◌, ◌-◌, ◌*◌, ◌<◌, ◌≤◌, List, [], ◌∷◌, ◌++◌, length, map, take, get_or, refl, sym, ap, subst, ◌∙◌, arith, inl, inr}
-use Rattle.std.specs.List.{AllByRecursion, flat_map}
+use Rattle.std.proofs.Common.{◌≡◌, ℕ, suc, ◌+◌, ◌-◌, ◌*◌, ◌<◌, ◌≤◌, List, [], ◌∷◌, ◌++◌, length, take, get_or, refl, sym, ap, subst, ◌∙◌, arith, inl, inr}
+use Rattle.std.specs.List.{AllByRecursion}
 use Rattle.std.proofs.lemmas.List.{append-nil, length-append, take_more}
 use Rattle.ex_base.specs.Edits.{deleted}
 use Rattle.ex_base.specs.Ports.{Keeps}
@@ -8,13 +8,11 @@ use Rattle.ex_base.specs.Sizes.{object_most}
 use Rattle.ex_base.specs.declared.geometry.Geometry.{Geometry}
 use Rattle.ex_base.specs.declared.ground.Ground as ground
 use Rattle.ex_base.proofs.Rows.{each-append}
-use Rattle.trees.specs.declared.Pair.{Pair}
-use Rattle.trees.specs.Node.{pairs_on}
 use Rattle.trees.specs.Split.{most_pairs}
 use Rattle.trees.specs.Shape.{Subtree}
-use Rattle.trees.specs.Trees.{Units, for_each_child, bytes_on, shape_on, units_on}
+use Rattle.trees.specs.Trees.{Units, bytes_on, shape_on}
 use Rattle.trees.specs.declared.rows.Part.{Part}
-use Rattle.trees.specs.Rows.{row_size, row_bytes, row_shape, row_units, AreTrees, IsCounted, IsRowOn, parts_of}
+use Rattle.trees.specs.Rows.{row_size, row_bytes, row_shape, row_units, AreTrees, IsCounted, IsRowOn}
 use Rattle.ex_base.specs.declared.faults.PortFault.{PortFault}
 use Rattle.trees.specs.Damage.{IsSoundWay, IsWalkFault, NamesNode}
 use Rattle.ex_base.specs.Area.{NamesLeaf}
@@ -22,7 +20,7 @@ use Rattle.trees.proofs.Ways.{way_append, way_back, way_front, way_inner, way_mo
 use Rattle.trees.proofs.Blame.{walk_below}
 use Rattle.tree_delete.proofs.Faults.{walk_nowhere, walk_either}
 use Rattle.trees.proofs.Parts.{below_fit}
-use Rattle.trees.proofs.Reading.{row_trees, row_spells, no_part}
+use Rattle.trees.proofs.Reading.{row_trees, row_spells, shape_below, units_below, no_part}
 use Rattle.ex_base.proofs.Keeping.{keeps_on, keeps_refl}
 use Rattle.ex_base.proofs.Each.{each_mapped, each_unmapped, split_each}
 use Rattle.trees.specs.Made.{AreUsed, Has, Holds}
@@ -54,23 +52,6 @@ half_children geo l (tree ∷ trees) all = (all.0.2, half_children geo l trees a
 
 have_two : (geo : Geometry) (u : Units) (l : ℕ) (xs ys : List Part) → HaveHalves geo (suc l) (row_shape u (suc l) (xs ++ ys)) → HaveHalves geo (suc l) (row_shape u (suc l) xs) × HaveHalves geo (suc l) (row_shape u (suc l) ys)
 have_two geo u l xs ys all = split_each (AreHalves geo l) (row_shape u (suc l) xs) (row_shape u (suc l) ys) (subst (AllByRecursion (AreHalves geo l)) (shape_app u (suc l) xs ys) all)
-
--- ---- the row on a node's page
-
-children_shape : {A : Type 0} (make : ℕ → ℕ → A) (before : ℕ) (pairs : List Pair) → for_each_child make before pairs ≡ map (λ (part : Part). make part.page.0 part.size) (parts_of before pairs)
-children_shape make before [] = refl
-children_shape make before (pair ∷ pairs) = ap (λ xs. make pair.page.0 (pair.count - before) ∷ xs) (children_shape make pair.count pairs)
-
-shape_below : (u : Units) (l page n : ℕ) (below : List Part) → below ≡ parts_of 0 (pairs_on (u page)) → shape_on u (suc l) page n ≡ row_shape u l below
-shape_below u l page n below is = children_shape (shape_on u l) 0 (pairs_on (u page)) ∙ ap (row_shape u l) (sym is)
-
-children_units : (f : ℕ → List ℕ) (before : ℕ) (pairs : List Pair) → flat_map (λ (pair : Pair). f pair.page.0) pairs ≡ flat_map (λ (part : Part). f part.page.0) (parts_of before pairs)
-children_units f before [] = refl
-children_units f before (pair ∷ pairs) = ap (λ us. f pair.page.0 ++ us) (children_units f pair.count pairs)
-
-units_below : (u : Units) (l : ℕ) (part : Part) (below : List Part) → below ≡ parts_of 0 (pairs_on (u part.page.0)) → row_units u (suc l) (part ∷ []) ≡ part.page.0 ∷ row_units u l below
-units_below u l part below is =
-    append-nil (units_on u (suc l) part.page.0) ∙ ap (λ us. part.page.0 ∷ us) (children_units (units_on u l) 0 (pairs_on (u part.page.0)) ∙ ap (row_units u l) (sym is))
 
 module _ {S : Type 0} (g : ground.Ghosts S) where
   -- ---- rows that are held

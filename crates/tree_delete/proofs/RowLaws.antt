@@ -1,8 +1,8 @@
 -- What a cut leaves of a row of nodes.
-use Rattle.std.proofs.Common.{◌≡◌, ◌≢◌, ℕ, zero, suc, ◌+◌, ◌-◌, ◌*◌, ◌≤◌, true, false, eqb, List, [], ◌∷◌, ◌++◌, length, take, drop, refl, sym, ap, subst, ◌∙◌, arith, inl, inr, true≢false}
+use Rattle.std.proofs.Common.{◌≡◌, ◌≢◌, ℕ, zero, suc, ◌+◌, ◌-◌, ◌*◌, ◌≤◌, true, false, eqb, List, [], ◌++◌, length, take, drop, refl, sym, ap, subst, ◌∙◌, arith, inl, inr, true≢false}
 use Rattle.std.specs.List.{AllByRecursion}
 use Rattle.std.proofs.lemmas.Bool.{cases_lt, eqb-true, eq-eqb}
-use Rattle.std.proofs.lemmas.List.{length-append, length-map}
+use Rattle.std.proofs.lemmas.List.{length-append, length-map, nil_from_length}
 use Rattle.std.proofs.Math.Nat.{mul-le-mul_right}
 use Rattle.ex_base.specs.Edits.{deleted}
 use Rattle.ex_base.specs.Ports.{Keeps}
@@ -23,7 +23,6 @@ use Rattle.trees.specs.Made.{Extends, Has, Holds, Took, pages_of}
 use Rattle.trees.specs.Built.{Built, AreSome, even_lens}
 use Rattle.trees.proofs.Laid.{extends_kept, extends_on}
 use Rattle.trees.proofs.Over.{all_has, bytes_app}
-use Rattle.trees.proofs.Kept.{row_extends}
 use Rattle.trees.specs.Counted.{Counted, NamesPairs}
 use Rattle.trees.proofs.Counts.{counted_same}
 use Rattle.trees.specs.Grown.{Grew}
@@ -34,8 +33,7 @@ use Rattle.tree_delete.specs.Opens.{OpensTo, IsOpenedCut}
 use Rattle.tree_delete.specs.Left.{IsLeftOf, IsLeft}
 use Rattle.tree_delete.proofs.CutLaws.{size_app}
 use Rattle.tree_delete.proofs.NodeLaws.{halves_two}
-use Rattle.trees.proofs.RootSteps.{turned_on, turned_built, used_after, over_row}
-use Rattle.trees.proofs.Growing.{grew_between, widen, holds_kept, grew_back}
+use Rattle.trees.proofs.Growing.{grew_between, grew_over, holds_kept, grew_back}
 
 -- ---- nodes over trees
 
@@ -60,10 +58,6 @@ nodes_half fan full h trees two enough each = elim (cases_lt (most_pairs fan) (l
 
 -- ---- nothing is cut through
 
-pub empty_row : (xs : List Part) → length xs ≡ 0 → xs ≡ []
-empty_row [] none = refl
-empty_row (x ∷ xs) none = absurd (omega arith)
-
 take_none : (n : ℕ) → take n (let xs : List ℕ = [] in xs) ≡ []
 take_none zero = refl
 take_none (suc n) = refl
@@ -78,7 +72,7 @@ deleted_none at n = ap (λ xs. xs ++ drop (at + n) []) (take_none at) ∙ drop_n
 module _ {S : Type 0} (g : ground.Ghosts S) where
   pub whole_left : (a : S) (l : ℕ) (cut : Cut) (made : List Part) → length cut.run.items ≡ 0 → made ≡ cut.left.items ++ cut.right.items → Holds g a l (all_of cut) → IsLeft g a a l cut made
   whole_left a l cut made none is holds =
-      let run : cut.run.items ≡ [] = empty_row cut.run.items none in
+      let run : cut.run.items ≡ [] = nil_from_length cut.run.items none in
       let same : made ≡ all_of cut = is ∙ ap (λ (xs : List Part). cut.left.items ++ (xs ++ cut.right.items)) (sym run) in
       let gone : deleted (row_bytes (g.unit a) l cut.run.items) cut.at cut.len ≡ [] = ap (λ (r : List Part). deleted (row_bytes (g.unit a) l r) cut.at cut.len) run ∙ deleted_none cut.at cut.len in
       record {
@@ -99,29 +93,6 @@ module _ {S : Type 0} (g : ground.Ghosts S) where
 
   -- ---- new nodes
 
-  -- new nodes over what is left of the children of some nodes come in the place of these
-  grew_over : (a b c : S) (l : ℕ) (mid row grown above : List Part) (bytes : List ℕ) (shape : List (Subtree l)) → Extends g a b → Extends g b c → Holds g a l row
-      → ((p : ℕ) → Has (row_units (g.unit a) l row) p → Has (row_units (g.unit a) (suc l) mid) p) → Grew g a b l row grown bytes shape → Took g b c (pages_of above) → (Holds g b l grown → Built g c l (even_lens (g.geometry b).fan (length grown)) grown above)
-      → (Holds g b l grown → NamesPairs g → Counted g b c) → Grew g a c (suc l) mid above bytes (nodes_over (g.geometry a).fan shape)
-  grew_over a b c l mid row grown above bytes shape x y holds units grew took build counts =
-      let held : Holds g b l grown = record { trees = grew.trees; used = used_after g a b (row_units (g.unit a) l row) (row_units (g.unit b) l grown) x holds.used grew.units } in
-      let built = build held in
-      let same = row_extends g b c l grown y held in
-      let turned = turned_on g a b c (row_units (g.unit a) l row) (row_units (g.unit b) l grown) (row_units (g.unit c) (suc l) above) x y grew.units
-      (turned_built g b c l (even_lens (g.geometry b).fan (length grown)) grown above took built (counts held) (row_units (g.unit b) l grown) same.units)
-      (λ p h. built.all p (inr (subst (λ us. Has us p) (sym same.units) h))) in
-      record {
-        trees = built.trees;
-        bytes_are = built.bytes ∙ same.bytes ∙ grew.bytes_are;
-        shape_is = built.shape ∙ sym (over_row (g.geometry b).fan (g.unit c) l grown) ∙ ap (λ (k : Geometry). nodes_over k.fan (row_shape (g.unit c) l grown)) (g.leads_geometry a b x.leads)
-            ∙ ap (nodes_over (g.geometry a).fan) (same.shape ∙ grew.shape_is);
-        units = record {
-          own = widen g a c (row_units (g.unit a) l row) (row_units (g.unit a) (suc l) mid) (row_units (g.unit c) (suc l) above) units turned.own;
-          all = turned.all;
-          counts = turned.counts;
-        };
-      }
-
   pub node_left : (a b c d : S) (l : ℕ) (cut : Cut) (o : Opened) (kept made row : List Part) → Keeps g a b → Extends g b c → Extends g c d → Holds g a (suc l) (all_of cut) → IsOpenedCut g a l cut o
       → (Holds g b l (all_of o.below) → IsLeft g b c l o.below kept) → (g.geometry a).fan ≤ length kept → 1 ≤ sides o.below → Took g c d (pages_of made) → (Holds g c l kept → Built g d l (even_lens (g.geometry c).fan (length kept)) kept made)
       → (Holds g c l kept → NamesPairs g → Counted g c d)
@@ -131,7 +102,7 @@ module _ {S : Type 0} (g : ground.Ghosts S) where
       let low = below low_holds in
       let geo = g.leads_geometry a b k.leads in
       let fans : (g.geometry b).fan ≡ (g.geometry a).fan = ap (λ (q : Geometry). q.fan) geo in
-      let over = grew_over b c d l op.mid (all_of o.below) kept made (cut_bytes (g.unit b) l o.below) low.shape x y low_holds
+      let over = grew_over g b c d l op.mid (all_of o.below) kept made (cut_bytes (g.unit b) l o.below) low.shape x y low_holds
       (subst (λ u. (p : ℕ) → Has (row_units u l (all_of o.below)) p → Has (row_units u (suc l) op.mid) p) (sym k.units) op.units) low.grew took build counts in
       let here = grew_back g a b d (suc l) op.mid made (cut_bytes (g.unit b) l o.below) (nodes_over (g.geometry b).fan low.shape) k over in
       let ext = extends_on g a b d (extends_kept g a b k) (extends_on g b c d x y) in
@@ -193,7 +164,7 @@ pub made_few : (geo : Geometry) (level : ℕ) (cut : Cut) (o : Opened) (kept : L
 made_few geo level cut o kept op low = four_nodes geo.fan (length kept) (omega (arith, geo.two)) (omega (arith, low.few, op.few))
 
 pub no_size : (row : List Part) → length row ≡ 0 → row_size row ≡ 0
-no_size row none = ap row_size (empty_row row none)
+no_size row none = ap row_size (nil_from_length row none)
 
 pub no_len : (n : ℕ) (row : List Part) → n ≡ length row → true ≡ eqb n 0 → length row ≡ 0
 no_len n row is none = omega (arith, eqb-true n 0 (sym none))

@@ -1,13 +1,13 @@
 -- What a cut leaves of a whole tree.
 use Rattle.std.proofs.Common.{◌≡◌, ◌≢◌, ◌⊎◌, ℕ, zero, suc, ◌-◌, ◌/◌, ◌≤◌, Bool, List, [], ◌∷◌, ◌++◌, refl, sym, ap, subst, ◌∙◌, arith, inl, inr}
 use Rattle.std.proofs.lemmas.Bool.{cases_lt}
-use Rattle.std.proofs.lemmas.List.{append-nil}
+use Rattle.std.proofs.lemmas.List.{append-nil, nil_from_length}
 use Rattle.ex_base.specs.Edits.{deleted}
 use Rattle.ex_base.specs.Ports.{Keeps}
 use Rattle.ex_base.specs.Sizes.{leaf_bytes}
 use Rattle.ex_base.specs.declared.geometry.Geometry.{Geometry}
 use Rattle.ex_base.specs.declared.ground.Ground as ground
-use Rattle.ex_base.proofs.Each.{each_as}
+use Rattle.ex_base.proofs.Each.{each_as, each_mapped}
 use Rattle.trees.specs.Shape.{Subtree}
 use Rattle.trees.specs.Trees.{Units}
 use Rattle.trees.specs.declared.rows.Part.{Part}
@@ -16,11 +16,9 @@ use Rattle.trees.specs.Made.{Has, Holds}
 use Rattle.tree_delete.specs.declared.cut.Cut.{Cut}
 use Rattle.tree_delete.specs.Cuts.{all_of, sides, cut_bytes, AreHalves, HaveHalves, IsBelow}
 use Rattle.tree_delete.specs.Left.{IsLeft, AreRootLeaves, AreRoots, IsTrimmed}
-use Rattle.tree_delete.proofs.LeafLaws.{each_size}
 use Rattle.trees.proofs.Growing.{holds_kept}
 use Rattle.trees.proofs.Counts.{counted_back}
 use Rattle.tree_delete.proofs.NodeLaws.{halves_two, half_children}
-use Rattle.tree_delete.proofs.RowLaws.{empty_row}
 
 have_of : (geo : Geometry) (l : ℕ) (trees : List (Subtree l)) → AreHalves geo l trees → HaveHalves geo l trees
 have_of geo zero trees all = tt
@@ -34,7 +32,7 @@ run_have geo u l cut all =
 
 -- leaves of a root
 leaf_roots : (geo : Geometry) (u : Units) (row : List Part) → AreTrees geo u 0 row → AreRootLeaves (leaf_bytes geo) row → AreRoots geo 0 (row_shape u 0 row)
-leaf_roots geo u row trees (inr halves) = inl (each_size (λ n. (leaf_bytes geo / 2 ≤ n) × (n ≤ leaf_bytes geo)) row halves)
+leaf_roots geo u row trees (inr halves) = inl (each_mapped (λ n. (leaf_bytes geo / 2 ≤ n) × (n ≤ leaf_bytes geo)) (λ (part : Part). part.size) row halves)
 leaf_roots geo u [] trees (inl one) = absurd (omega arith)
 leaf_roots geo u (part ∷ []) trees (inl one) = inr (part.size, refl, trees.0.1)
 leaf_roots geo u (part ∷ next ∷ row) trees (inl one) = absurd (omega arith)
@@ -70,8 +68,8 @@ module _ {S : Type 0} (g : ground.Ghosts S) where
       → (Holds g b l (all_of below) → (1 ≤ sides below → AreHalves (g.geometry b) l (row_shape (g.unit b) l (all_of below))) → HaveHalves (g.geometry b) l (row_shape (g.unit b) l below.run.items) → IsTrimmed g b d (row_units (g.unit b) l (all_of below)) (cut_bytes (g.unit b) l below) m row)
       → IsTrimmed g a d (row_units (g.unit a) (suc l) (all_of cut)) (cut_bytes (g.unit a) (suc l) cut) m row
   trimmed_node a b d l m cut below row k none holds have opens rest =
-      let no_left : cut.left.items ≡ [] = empty_row cut.left.items (omega arith) in
-      let no_right : cut.right.items ≡ [] = empty_row cut.right.items (omega arith) in
+      let no_left : cut.left.items ≡ [] = nil_from_length cut.left.items (omega arith) in
+      let no_right : cut.right.items ≡ [] = nil_from_length cut.right.items (omega arith) in
       let run_is : all_of cut ≡ cut.run.items = ap (λ (xs : List Part). xs ++ (cut.run.items ++ cut.right.items)) no_left ∙ ap (λ (xs : List Part). cut.run.items ++ xs) no_right ∙ append-nil cut.run.items in
       let bytes_is : cut_bytes (g.unit a) (suc l) cut ≡ deleted (row_bytes (g.unit a) (suc l) cut.run.items) cut.at cut.len =
       ap (λ (r : List Part). row_bytes (g.unit a) (suc l) r ++ (deleted (row_bytes (g.unit a) (suc l) cut.run.items) cut.at cut.len ++ row_bytes (g.unit a) (suc l) cut.right.items)) no_left

@@ -1,5 +1,5 @@
 // Cuts through rows of trees: which trees a range of bytes goes through, and which stay as they are.
-ghost use Rattle.std.specs.Prelude.{◌≡◌, ◌≤◌, ◌<◌, ◌+◌, ◌-◌, ◌*◌, ◌^◌, ◌++◌, [], length, take, IfOk, OnOk};
+ghost use Rattle.std.specs.Prelude.{◌≡◌, ◌≤◌, ◌<◌, ◌+◌, ◌-◌, ◌^◌, ◌++◌, [], IfOk, OnOk};
 ghost use Rattle.ex_base.specs.Sizes.{object_most};
 ghost use Rattle.trees.specs.Rows.{row_size};
 ghost use Rattle.tree_delete.specs.Places.{IsPlace};

@@ -1,6 +1,6 @@
 // From a cut through a row of nodes to the cut through their children.
 ghost use Rattle.ex_base.specs.Area.{NamesLeaf};
-ghost use Rattle.std.specs.Prelude.{◌≡◌, ℕ, suc, ◌≤◌, ◌<◌, ◌+◌, ◌-◌, ◌*◌, ◌^◌, length, IfOk, IfErr, OnOk};
+ghost use Rattle.std.specs.Prelude.{◌≡◌, ℕ, suc, ◌≤◌, ◌<◌, ◌+◌, ◌-◌, ◌*◌, length, IfOk, IfErr};
 ghost use Rattle.ex_base.specs.Ports.{Keeps, HasCause};
 ghost use Rattle.trees.specs.Split.{most_pairs};
 ghost use Rattle.ex_base.specs.declared.faults.PortFault.{PortFault};

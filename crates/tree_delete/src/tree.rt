@@ -1,5 +1,5 @@
 // Deletes of whole trees.
-ghost use Rattle.std.specs.Prelude.{◌≡◌, IfErr, ℕ, List, ◌≤◌, ◌<◌, ◌+◌, ◌-◌, ◌*◌, ◌^◌, ◌∷◌, [], length, IfOk, OnOk, Ok, ◌⊎◌};
+ghost use Rattle.std.specs.Prelude.{◌≡◌, IfErr, ℕ, List, ◌≤◌, ◌<◌, ◌+◌, ◌-◌, ◌*◌, ◌∷◌, [], IfOk, OnOk, Ok, ◌⊎◌};
 ghost use Rattle.ex_base.specs.Edits.{deleted};
 ghost use Rattle.ex_base.specs.Needs.{delete_need};
 ghost use Rattle.ex_base.specs.Ports.{HasCause, IsDamage};

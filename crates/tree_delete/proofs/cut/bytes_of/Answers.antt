@@ -1,11 +1,12 @@
 use Rattle.std.proofs.Common.{rules, ◌+◌}
-use Rattle.tree_delete.proofs.CutLaws.{bytes_more, front_most_at}
+use Rattle.trees.proofs.Sizes.{front_most}
+use Rattle.tree_delete.proofs.CutLaws.{bytes_more}
 use Rattle.tree_delete.proofs.cut.bytes_of.Goals as goal
 
 pub overflow_add-bytes : goal.overflow_add-bytes
 overflow_add-bytes c =
     let more = bytes_more c.args.row.now c.loop-part.part-index c.loop-part.bytes c.loop-part-test.true c.loop-part.invariant in
-    let most = front_most_at c.args.row.now (c.loop-part.part-index + 1) in
+    let most = front_most c.args.row.now (c.loop-part.part-index + 1) in
     search rules
 
 pub loop-part-preserved : goal.loop-part-preserved

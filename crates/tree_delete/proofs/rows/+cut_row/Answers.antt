@@ -1,7 +1,7 @@
 use Rattle.std.proofs.Common.{arith, rules, ℕ, List, [], ◌≡◌, ◌≤◌, ◌-◌, ◌*◌, ◌++◌, ◌∙◌, ap, sym, subst, length}
 use Rattle.std.specs.Vec.{vec_len}
 use Rattle.std.proofs.lemmas.Bool.{eqb-true}
-use Rattle.std.proofs.lemmas.List.{length-take-le}
+use Rattle.std.proofs.lemmas.List.{length-take-le, nil_from_length}
 use Rattle.std.proofs.lemmas.Result.{IfOk-at_ok, on_ok_weaker}
 use Rattle.ex_base.specs.declared.geometry.Geometry.{Geometry}
 use Rattle.ex_base.specs.declared.names.Area.{Area}
@@ -19,7 +19,7 @@ use Rattle.trees.proofs.Parts.{narrow}
 use Rattle.tree_delete.proofs.Ends.{ends_kept, ends_low, ends_nowhere}
 use Rattle.trees.specs.Damage.{IsWalkFault}
 use Rattle.trees.proofs.Blame.{walk_back}
-use Rattle.tree_delete.proofs.RowLaws.{empty_row, no_size, left_at, whole_left, tree_left, node_left_of, made_few}
+use Rattle.tree_delete.proofs.RowLaws.{no_size, left_at, whole_left, tree_left, node_left_of, made_few}
 use Rattle.tree_delete.specs.Beside.{OpensSound}
 use Rattle.tree_delete.proofs.Beside.{beside_low, beside_nowhere, opens_kept}
 use Rattle.tree_delete.proofs.rows.+cut_row.Goals as goal
@@ -142,7 +142,7 @@ returns-then-level-eq0-clause-beside g t c =
 
 pub returns-then-is_empty-clause-beside : goal.returns-then-is_empty-clause-beside
 returns-then-is_empty-clause-beside g t c = λ told least only.
-    beside_nowhere (g.B.Ground.geometry c.args.blocks.now) (g.B.Ground.unit c.args.blocks.now) c.args.level least c.args.cut (omega (arith, c.if-level-eq0.false)) (empty_row c.args.cut.run.items (omega (arith, eqb-true (vec_len c.args.cut.run) 0 (sym c.if-is_empty.ensures), c.args.cut.run.ok.0)))
+    beside_nowhere (g.B.Ground.geometry c.args.blocks.now) (g.B.Ground.unit c.args.blocks.now) c.args.level least c.args.cut (omega (arith, c.if-level-eq0.false)) (nil_from_length c.args.cut.run.items (omega (arith, eqb-true (vec_len c.args.cut.run) 0 (sym c.if-is_empty.ensures), c.args.cut.run.ok.0)))
 
 pub returns-clause-beside : goal.returns-clause-beside
 returns-clause-beside g t c = λ told least only.

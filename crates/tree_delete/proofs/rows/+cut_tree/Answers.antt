@@ -1,11 +1,12 @@
 use Rattle.std.proofs.Common.{◌∙◌, ap, subst, ◌≤◌, ◌+◌, ◌*◌, ◌-◌, arith, ◌≡◌, length, inl, inr}
+use Rattle.std.proofs.lemmas.List.{nil_from_length}
 use Rattle.std.proofs.lemmas.Result.{IfErr-weaker, IfOk-at_ok, on_ok_weaker}
 use Rattle.std.specs.Vec.{vec_len}
 use Rattle.trees.proofs.Laid.{extends_on, extends_kept}
 use Rattle.tree_delete.proofs.OpenLaws.{three_sizes}
 use Rattle.trees.specs.Split.{most_pairs}
 use Rattle.tree_delete.proofs.Ends.{ends_kept}
-use Rattle.tree_delete.proofs.RowLaws.{empty_row, no_size, no_len, some_len}
+use Rattle.tree_delete.proofs.RowLaws.{no_size, no_len, some_len}
 use Rattle.ex_base.specs.declared.geometry.Geometry.{Geometry}
 use Rattle.ex_base.proofs.Results.{from_ok, if_err_handed, if_ok_from, on_ok_from}
 use Rattle.trees.specs.Damage.{IsWalkFault}
@@ -93,8 +94,8 @@ returns-then-level-eq0-clause-beside g t c = λ told.
 
 pub returns-clause-beside : goal.returns-clause-beside
 returns-clause-beside g t c =
-    let left = empty_row c.args.cut.left.items (no_len (vec_len c.args.cut.left) c.args.cut.left.items (omega (arith, c.args.cut.left.ok.0)) c.if-not-is_empty.ensures) in
-    let right = empty_row c.args.cut.right.items (no_len (vec_len c.args.cut.right) c.args.cut.right.items (omega (arith, c.args.cut.right.ok.0)) c.if-not-is_empty-2.ensures) in
+    let left = nil_from_length c.args.cut.left.items (no_len (vec_len c.args.cut.left) c.args.cut.left.items (omega (arith, c.args.cut.left.ok.0)) c.if-not-is_empty.ensures) in
+    let right = nil_from_length c.args.cut.right.items (no_len (vec_len c.args.cut.right) c.args.cut.right.items (omega (arith, c.args.cut.right.ok.0)) c.if-not-is_empty-2.ensures) in
     on_ok_weaker c.cut_tree.result (λ beside told.
     let nodes = c.in_ok-below.ensures.nodes told in
     beside_up (g.B.Ground.geometry c.args.blocks.now) (g.B.Ground.unit c.args.blocks.now) c.args.level c.args.least c.args.cut c.in_ok-below.below (omega (arith, c.if-level-eq0.false)) nodes.0 nodes.1
