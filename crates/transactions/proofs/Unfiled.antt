@@ -1,5 +1,5 @@
 -- A volume without one of its empty files. A file has pages exactly where it has objects.
-use Rattle.std.proofs.Common.{◌≡◌, ◌∙◌, ℕ, zero, suc, ◌<◌, ◌≤◌, true, false, cond, not, List, [], ◌∷◌, ◌++◌, length, map, filter, Option, Some, None, is_some, refl, sym, ap, subst, arith}
+use Rattle.std.proofs.Common.{◌≡◌, ◌∙◌, ℕ, zero, suc, ◌<◌, ◌≤◌, true, false, cond, List, [], ◌∷◌, length, map, Option, Some, None, is_some, refl, sym, ap, subst, arith}
 use Rattle.std.specs.Prelude.{bytes_eq, find, nat_lt}
 use Rattle.std.specs.List.{flat_map, AllByRecursion, AllZip, zip}
 use Rattle.std.specs.Cmp.Lexicographic.{slice_cmp, nat_list_cmp_total}
@@ -12,6 +12,7 @@ use Rattle.ex_base.specs.declared.names.PageNo.{PageNo}
 use Rattle.ex_base.specs.declared.names.Root.{Root}
 use Rattle.ex_base.specs.Area.{catalog_no}
 use Rattle.ex_base.specs.Order.{AllDiffer, RisingTexts}
+use Rattle.ex_base.proofs.Each.{zip_as}
 use Rattle.ex_base.proofs.Lists.{texts_tail}
 use Rattle.op_log.specs.declared.record.LogRecord.{LogRecord}
 use Rattle.file_index.specs.declared.Entry.{Entry}
@@ -21,7 +22,6 @@ use Rattle.file_index.specs.Index.{IsUnder, IsRoot, keys_under, keys_of, pages_o
 use Rattle.object_files.specs.Catalog.{FileEntry, name_of}
 use Rattle.object_files.specs.Edits as edits
 use Rattle.trees.specs.Trees.{Units, RootNamed, root_units}
-use Rattle.table_model.specs.declared.table.TableFile.{TableFile}
 use Rattle.table_model.specs.Tables as tables
 use Rattle.table_model.specs.Refusals.{has_objects}
 use Rattle.volume_edits.proofs.Lists.{as_long}
@@ -33,19 +33,15 @@ use Rattle.volume_edits.proofs.Emptied.{as_many, none_formed}
 use Rattle.volume_edits.proofs.FileVersions.{IsFile, linked_file}
 use Rattle.transactions.specs.Refused.{has_pages}
 use Rattle.volume_model.proofs.KeptOff.{Others}
-use Rattle.transactions.proofs.Filed.{empty_file}
+use Rattle.volume_model.proofs.FilesListed.{HasNone, each_left, file_left, flat_left, no_pages, no_stored, table_left, zip_left}
 use Rattle.std.proofs.lemmas.Bool.{both_ways}
 use Rattle.ex_base.proofs.Options.{none_from_test}
 
 -- ---- a file has pages exactly where it has objects
 
-no_pages : (units : Units) (entry : FileEntry) (pages : List FilePage) → AllZip (HasPage units entry) [] pages → pages ≡ []
-no_pages units entry [] h = refl
-no_pages units entry (page ∷ pages) h = absurd h
-
-no_stored : (stored : List Stored) → AllZip IsStored [] stored → stored ≡ []
-no_stored [] h = refl
-no_stored (s ∷ stored) h = absurd h
+none_of_pages : (units : Units) (entry : FileEntry) (pages : List FilePage) → AllZip (HasPage units entry) [] pages → pages ≡ []
+none_of_pages units entry [] h = refl
+none_of_pages units entry (page ∷ pages) h = absurd h
 
 abbrev content_of : List ℕ → List ℕ → List FilePage → List Stored → FileContent
 content_of numbers index pages stored = record { numbers = numbers; index_pages = index; pages = pages; stored = stored }
@@ -57,12 +53,12 @@ pub record HasAll (g : Geometry) (units : Units) (e : FileEntry) (f : FileConten
   pub bodies : HasBodies f
   pub whole : IsFile f
 
-rootless : (g : Geometry) (units : Units) (e : FileEntry) (f : FileContent) → HasAll g units e f → e.root ≡ None → f ≡ empty_file
+rootless : (g : Geometry) (units : Units) (e : FileEntry) (f : FileContent) → HasAll g units e f → e.root ≡ None → f ≡ no_pages
 rootless g units e f all none =
     let numbers : f.numbers ≡ [] = all.index.numbers ∙ ap (λ (r : Option PageNo). keys_of units e.level r) none in
     let index_pages : f.index_pages ≡ [] = all.index.index_pages ∙ ap (λ (r : Option PageNo). pages_of units e.level r) none in
-    let no_page : f.pages ≡ [] = no_pages units e f.pages (subst (λ (ns : List ℕ). AllZip (HasPage units e) ns f.pages) numbers all.pages) in
-    let no_record : f.stored ≡ [] = no_stored f.stored (subst (λ (ns : List ℕ). AllZip IsStored (flat_map (λ (row : ℕ × FilePage). bodies_from row.0 0 row.1.slots) (zip ns f.pages)) f.stored) numbers all.bodies.records) in
+    let no_page : f.pages ≡ [] = none_of_pages units e f.pages (subst (λ (ns : List ℕ). AllZip (HasPage units e) ns f.pages) numbers all.pages) in
+    let no_record : f.stored ≡ [] = no_stored f.numbers f.pages f.stored numbers all.bodies.records in
     let same : content_of f.numbers f.index_pages f.pages f.stored ≡ content_of [] [] [] [] = cc (numbers, index_pages, no_page, no_record) in
     same
 
@@ -154,7 +150,7 @@ all_later x (e ∷ es) h = (h.0, earlier es (all_later e.name es h.1))
     earlier (f ∷ fs) p = (nat_list_cmp_total.trans x e.name f.name h.0 p.0, earlier fs p.1)
 
 abbrev pub IsGone : List ℕ → FileEntry → FileContent → Type 0
-IsGone name e f = bytes_eq e.name name ≡ true → f ≡ empty_file
+IsGone name e f = bytes_eq e.name name ≡ true → f ≡ no_pages
 
 none_later : (name : List ℕ) (R : FileEntry → FileContent → Type 0) (es : List FileEntry) (fs : List FileContent) → AllByRecursion (λ (e : FileEntry). slice_cmp nat_cmp name e.name ≡ Less) es → AllZip R es fs → AllZip (IsGone name) es fs
 none_later name R [] [] later h = tt
@@ -178,59 +174,29 @@ gone_of g units name (e ∷ es) (f ∷ fs) sorted none h =
 
 -- ---- without it
 
-abbrev pub files_without : List ℕ → List FileEntry → List FileContent → List FileContent
-files_without name [] fs = fs
-files_without name (e ∷ es) [] = []
-files_without name (e ∷ es) (f ∷ fs) = cond (not (bytes_eq e.name name)) (f ∷ files_without name es fs) (files_without name es fs)
-
 abbrev pub volume_without : List ℕ → Volume → Volume
-volume_without name v = record { catalog = edits.with_entries v.catalog (edits.without_name name v.catalog.entries); files = files_without name v.catalog.entries v.files }
+volume_without name v = record { catalog = edits.with_entries v.catalog (edits.without_name name v.catalog.entries); files = file_left name v.catalog.entries v.files }
 
-zip_without : (R : FileEntry → FileContent → Type 0) (name : List ℕ) (es : List FileEntry) (fs : List FileContent) → AllZip R es fs → AllZip R (edits.without_name name es) (files_without name es fs)
-zip_without R name [] [] h = tt
-zip_without R name [] (f ∷ fs) h = absurd h
-zip_without R name (e ∷ es) [] h = absurd h
-zip_without R name (e ∷ es) (f ∷ fs) h =
-    elim (bytes_eq e.name name) as (λ b. AllZip R (cond (not b) (e ∷ edits.without_name name es) (edits.without_name name es)) (cond (not b) (f ∷ files_without name es fs) (files_without name es fs))) [
-      | true ↦ zip_without R name es fs h.1
-      | false ↦ (h.0, zip_without R name es fs h.1)
-    ]
-
-each_without : (P : FileContent → Type 0) (name : List ℕ) (es : List FileEntry) (fs : List FileContent) → AllByRecursion P fs → AllByRecursion P (files_without name es fs)
-each_without P name [] fs h = h
-each_without P name (e ∷ es) [] h = tt
-each_without P name (e ∷ es) (f ∷ fs) h =
-    elim (bytes_eq e.name name) as (λ b. AllByRecursion P (cond (not b) (f ∷ files_without name es fs) (files_without name es fs))) [
-      | true ↦ each_without P name es fs h.1
-      | false ↦ (h.0, each_without P name es fs h.1)
-    ]
-
-flat_without : {A : Type 0} (F : FileContent → List A) (name : List ℕ) (es : List FileEntry) (fs : List FileContent) → F empty_file ≡ [] → AllZip (IsGone name) es fs → flat_map F (files_without name es fs) ≡ flat_map F fs
-flat_without F name [] [] none h = refl
-flat_without F name [] (f ∷ fs) none h = absurd h
-flat_without F name (e ∷ es) [] none h = absurd h
-flat_without F name (e ∷ es) (f ∷ fs) none h =
-    (elim (bytes_eq e.name name) as (λ b. bytes_eq e.name name ≡ b → flat_map F (cond (not b) (f ∷ files_without name es fs) (files_without name es fs)) ≡ F f ++ flat_map F fs) [
-      | true ↦ λ is. flat_without F name es fs none h.1 ∙ sym (ap (λ l. l ++ flat_map F fs) (ap F (h.0 is) ∙ none))
-      | false ↦ λ isnt. ap (λ l. F f ++ l) (flat_without F name es fs none h.1)
-    ]) refl
+-- the file that goes has nothing of what no file without pages has
+none_of_gone : {A : Type 0} (f : FileContent → List A) (name : List ℕ) (es : List FileEntry) (fs : List FileContent) → f no_pages ≡ [] → AllZip (IsGone name) es fs → AllZip (HasNone f name) es fs
+none_of_gone f name es fs none gone = zip_as (IsGone name) (HasNone f name) es fs (λ e file goes is. ap f (goes is) ∙ none) gone
 
 module _ (name : List ℕ) (v : Volume) (gone : AllZip (IsGone name) v.catalog.entries v.files) where
   pub pages_without : file_pages (volume_without name v) ≡ file_pages v
-  pages_without = flat_without pages_of_file name v.catalog.entries v.files refl gone
+  pages_without = flat_left pages_of_file name v.catalog.entries v.files (none_of_gone pages_of_file name v.catalog.entries v.files refl gone)
 
   pub stored_without : stored_in (volume_without name v) ≡ stored_in v
-  stored_without = flat_without (λ (file : FileContent). file.stored) name v.catalog.entries v.files refl gone
+  stored_without = flat_left (λ (file : FileContent). file.stored) name v.catalog.entries v.files (none_of_gone (λ (file : FileContent). file.stored) name v.catalog.entries v.files refl gone)
 
   pub others_without : (g : Geometry) (records : List LogRecord) (units : Units) → Others g records units v → Others g records units (volume_without name v)
   others_without g records units (file, (page, (body, (node, (balance, (unique, end)))))) =
       let es = v.catalog.entries in
       let roots = ap roots_in stored_without in (
-        (zip_without (HasIndex g units) name es v.files file.0, subst AllDiffer (sym pages_without) file.1),
+        (zip_left (HasIndex g units) name es v.files file.0, subst AllDiffer (sym pages_without) file.1),
         (
-          zip_without (HasPages units) name es v.files page,
+          zip_left (HasPages units) name es v.files page,
           (
-            each_without HasBodies name es v.files body,
+            each_left HasBodies name es v.files body,
             (
               record {
                 named = subst (λ (rs : List Root). AllByRecursion (λ (root : Root). RootNamed g units root.height root.page) rs) (sym roots) node.named;
@@ -255,17 +221,8 @@ module _ (name : List ℕ) (v : Volume) (gone : AllZip (IsGone name) v.catalog.e
         ),
       )
 
-table_files : (R : FileEntry → FileContent → Type 0) (units : Units) (name : List ℕ) (es : List FileEntry) (fs : List FileContent) → AllZip R es fs
-    → map (file_of units) (zip (edits.without_name name es) (files_without name es fs)) ≡ filter (λ f. not (tables.has_name name f)) (map (file_of units) (zip es fs))
-table_files R units name [] [] h = refl
-table_files R units name [] (f ∷ fs) h = absurd h
-table_files R units name (e ∷ es) [] h = absurd h
-table_files R units name (e ∷ es) (f ∷ fs) h =
-    elim (bytes_eq e.name name) as (λ b. map (file_of units) (zip (cond (not b) (e ∷ edits.without_name name es) (edits.without_name name es)) (cond (not b) (f ∷ files_without name es fs) (files_without name es fs)))
-    ≡ cond (not b) (file_of units (e, f) ∷ filter (λ f. not (tables.has_name name f)) (map (file_of units) (zip es fs))) (filter (λ f. not (tables.has_name name f)) (map (file_of units) (zip es fs)))) [
-      | true ↦ table_files R units name es fs h.1
-      | false ↦ ap (λ (fs : List TableFile). file_of units (e, f) ∷ fs) (table_files R units name es fs h.1)
-    ]
-
 pub table_without_file : (g : Geometry) (records : List LogRecord) (units : Units) (name : List ℕ) (v : Volume) → Others g records units v → table_of units (volume_without name v) ≡ tables.without_file name (table_of units v)
-table_without_file g records units name v others = let files = table_files (HasIndex g units) units name v.catalog.entries v.files others.0.0 in cc (files)
+table_without_file g records units name v others =
+    let paired = zip_as (HasIndex g units) (λ (e : FileEntry) (f : FileContent). Unit {0}) v.catalog.entries v.files (λ e f index. tt) others.0.0 in
+    let files = table_left units name v.catalog.entries v.files paired in
+    cc (files)
