@@ -27,13 +27,78 @@ fn wrong_words_are_told_by_the_grammar_of_their_command(rt: HostRuntime) -> Resu
         ("frob v", "'frob' is no command", None),
         (
             "run",
-            "the words aren't in the command's grammar",
+            "run takes a VOLUME, and no word names one",
             Some(CommandWord::Run),
         ),
         (
             "format -v",
-            "the words aren't in the command's grammar",
+            "'-v' is neither an option of format nor a VOLUME",
             Some(CommandWord::Format),
+        ),
+        (
+            "check v w",
+            "'w' is a second VOLUME, after 'v'",
+            Some(CommandWord::Check),
+        ),
+        (
+            "run v --bogus 3",
+            "'--bogus' is neither an option of run nor a VOLUME",
+            Some(CommandWord::Run),
+        ),
+        (
+            "run v --max-bytes 1 --max-bytes=2",
+            "--max-bytes stands there twice",
+            Some(CommandWord::Run),
+        ),
+        (
+            "run v --max-bytes=+1",
+            "--max-bytes takes N, not '+1'",
+            Some(CommandWord::Run),
+        ),
+        (
+            "format v --page-size 1000",
+            "--page-size takes 512|1024|2048|4096|8192, not '1000'",
+            Some(CommandWord::Format),
+        ),
+        (
+            "format --pages 0 v w",
+            "--pages takes 1..4000000, not '0'",
+            Some(CommandWord::Format),
+        ),
+        (
+            "format v --segs=4000001",
+            "--segs takes 0..4000000, not '4000001'",
+            Some(CommandWord::Format),
+        ),
+        (
+            "format v --seg-len --fan 2",
+            "--seg-len takes 1..16, not '--fan'",
+            Some(CommandWord::Format),
+        ),
+        (
+            "format --fan 21 v --page-size 512",
+            "--fan takes 2..(page size - 20) / 24, not '21'",
+            Some(CommandWord::Format),
+        ),
+        (
+            "format v --fan",
+            "--fan takes 2..(page size - 20) / 24, and no word is left",
+            Some(CommandWord::Format),
+        ),
+        (
+            "gen v --count 1",
+            "gen takes --seed N, and it isn't there",
+            Some(CommandWord::Gen),
+        ),
+        (
+            "gen v --seed 1",
+            "gen takes --count 1..1000000, and it isn't there",
+            Some(CommandWord::Gen),
+        ),
+        (
+            "gen v --seed 1 --count 0",
+            "--count takes 1..1000000, not '0'",
+            Some(CommandWord::Gen),
         ),
     ];
     for (line, text, command) in rows {
@@ -47,6 +112,25 @@ fn wrong_words_are_told_by_the_grammar_of_their_command(rt: HostRuntime) -> Resu
         let usage = Usage(command);
         let wanted = format!(in alloc; "exsm: {text}\n{usage}")?;
         assert!(rt; format!(in alloc; "{told}")?.as_str() == wanted.as_str());
+    }
+    Ok(())
+}
+
+#[test]
+fn who_asks_for_help_is_shown_the_usage_alone(rt: HostRuntime) -> Result<(), Fail> {
+    let alloc = rt.alloc();
+    for line in ["help", "--help", "-h"] {
+        let words = words_of(alloc, line)?;
+        let told = Explanation {
+            words: &words,
+            volume: None,
+            status: Status::Usage,
+            cause: None,
+        };
+        let usage = Usage(None);
+        assert!(rt;
+            format!(in alloc; "{told}")?.as_str() == format!(in alloc; "{usage}")?.as_str()
+        );
     }
     Ok(())
 }
@@ -103,7 +187,7 @@ fn each_status_has_its_reason(rt: HostRuntime) -> Result<(), Fail> {
             FORMAT,
             Status::DiskFault,
             missing,
-            "w: No such file or directory (os error 2)",
+            "w: No such file or directory (os error 2) (its folder isn't there)",
         ),
         (
             "run v",
@@ -139,7 +223,7 @@ fn each_status_has_its_reason(rt: HostRuntime) -> Result<(), Fail> {
             FORMAT,
             small,
             None,
-            "w has 1000 bytes, the volume needs 172544; nothing was written",
+            "w has 1000 bytes, the volume needs 172544; nothing was written. Remove the file, or make a smaller volume",
         ),
         (
             "run v",
