@@ -38,7 +38,7 @@ use Rattle.session_core.specs.Sessions.{SessionState, held, IsSession, updated}
 use Rattle.session_core.specs.Catalogs.{FramesLend}
 use Rattle.session_core.specs.Meant.{meant, pick_of, held_view}
 use Rattle.session_core.specs.Counts.{used_of}
-use Rattle.transactions.specs.Refused.{file_refusal, unfile_refusal, entry_of, has_pages}
+use Rattle.transactions.specs.Refused.{file_refusal, unfile_refusal, entry_named, has_pages}
 use Rattle.table_model.specs.Tables as tables
 use Rattle.transactions.proofs.Files.{no_pages_there}
 use Rattle.transactions.proofs.Unfiled.{HasAll, volume_without, all_of, not_empty_as, gone_of, pages_without, stored_without, others_without, table_without_file}
@@ -217,7 +217,7 @@ file_no {a} {b} old mid page name why c is only opened reads same refuses =
     ∙ ap (λ (s : SessionState). file_refusal s c name) (ap (λ (s : SessionState). record s { groups = mid.groups }) from ∙ sym only.same)
     ∙ sym refuses)
 
-not_empty_shown : {a : Outside} {before : View SessionState} (now : ShowsNow meant a before) (name : List ℕ) → has_objects (find (tables.has_name name) (shown before.machine).files) ≡ has_pages (entry_of now.shows.working.catalog name)
+not_empty_shown : {a : Outside} {before : View SessionState} (now : ShowsNow meant a before) (name : List ℕ) → has_objects (find (tables.has_name name) (shown before.machine).files) ≡ has_pages (entry_named now.shows.working.catalog name)
 not_empty_shown {a} {before} now name =
     let d = now.shows.decoded in
     let units = working_units d before.disk before.session.meta.working in

@@ -1,9 +1,8 @@
 -- How a line that closes a scan is answered.
-use Rattle.std.proofs.Common.{◌≡◌, ◌∙◌, ℕ, zero, suc, ◌+◌, ◌≤◌, Bool, true, false, cond, not, List, [], ◌∷◌, ◌++◌, length, Option, Some, None, Ok, Err, IsTrue, refl, sym, ap, subst, arith, inl, inr}
+use Rattle.std.proofs.Common.{◌≡◌, ◌∙◌, ℕ, zero, suc, ◌≤◌, Bool, true, false, cond, not, List, [], ◌∷◌, length, Option, Some, None, Ok, IsTrue, refl, sym, ap, subst, arith}
 use Rattle.std.specs.Prelude.{bytes_eq, filter, is_none, slice_get}
 use Rattle.std.specs.List.{remove}
 use Rattle.std.specs.Option.{option_or}
-use Rattle.std.proofs.lemmas.Bool.{cases_Bool}
 use Rattle.disk_model.specs.Outside.{Outside, ReadsOnly}
 use Rattle.ex_base.specs.declared.geometry.Geometry.{Geometry}
 use Rattle.ex_base.specs.declared.names.Area.{Area}
@@ -11,24 +10,19 @@ use Rattle.ex_base.specs.declared.names.Area.TheVariants.{Page, Segment}
 use Rattle.open_scans.specs.OpenScans.{scan_index}
 use Rattle.open_scans.proofs.Beside.{HasScan, is_scan_named}
 use Rattle.page_alloc.specs.UnitSet.{free_count, used_at}
-use Rattle.session_views.specs.declared.engine.Stop.{Stop}
-use Rattle.session_views.specs.View.{View, ShowsNow, Stepped}
-use Rattle.table_model.specs.declared.machine.GroupRow.{GroupRow}
-use Rattle.table_model.specs.declared.machine.BoundName.{BoundName}
 use Rattle.table_model.specs.declared.machine.Machine.{Machine}
 use Rattle.table_model.specs.declared.machine.Pick.{Pick}
 use Rattle.table_model.specs.declared.machine.ScanRow.{ScanRow}
 use Rattle.table_model.specs.declared.reply.Refusal.TheVariants as refusal
 use Rattle.table_model.specs.declared.reply.Reply.TheVariants as reply
-use Rattle.table_model.specs.Machines.{IsMachine, main, scan_at, uses}
 use Rattle.table_model.specs.Refusals.{first, refusal_of, when}
 use Rattle.table_model.specs.Requests.{Request, is_request}
 use Rattle.table_model.specs.Requests as request
 use Rattle.table_model.specs.Steps.{Step, machine_after}
 use Rattle.table_model.proofs.StepsKeep.{steps_keep}
 use Rattle.volume_model.specs.Shown.{used_in}
-use Rattle.session_core.specs.Finding.{IfShown, IsOutside, LineStops}
-use Rattle.session_core.specs.Meant.{held_view, meant, pick_of}
+use Rattle.session_core.specs.Finding.{IfShown}
+use Rattle.session_core.specs.Meant.{held_view, pick_of}
 use Rattle.session_core.specs.Opening.{GivesUnits, ShowsThen, closed_at, without_scan}
 use Rattle.session_core.specs.Sessions.{IsSession, SessionState}
 use Rattle.session_core.proofs.Accepted.{took_place}
@@ -37,7 +31,7 @@ use Rattle.session_core.proofs.Quiet.{nothing_changed}
 use Rattle.volume_model.proofs.Showing.{session_geometry}
 use Rattle.session_core.proofs.Taken.{no_scan_as, scan_as}
 use Rattle.transactions.specs.Lines.{ScansLine}
-use Rattle.transactions.proofs.ScanLines.{scans_refused, scans_stopped}
+use Rattle.transactions.proofs.ScanLines.{scans_refused}
 
 -- ---- the only scan of a name, taken out
 
@@ -101,16 +95,6 @@ pub close_refused : {a : Outside} {old : SessionState} (name : List ℕ) → IsS
 close_refused {a} {old} name is none =
     scans_refused (request.Close name) refusal.NoScan (nothing_changed a old) is
     (λ before same now q. ap (λ (o : Option ScanRow). option_or (when (is_none o) refusal.NoScan) (first [])) (no_scan_as before now.shows name (ap (λ (s : SessionState). scan_index s.scans name) same ∙ none)))
-
-pub close_stopped : {a b : Outside} {old new : SessionState} (name : List ℕ) (why : Stop) → ReadsOnly a b → new ≡ record old { groups = new.groups; units = new.units } → LineStops a b why → IfShown a old (λ before. IsOutside why)
-    → ScansLine a b old new (request.Close name) (Err why)
-close_stopped name why reads same stops sound =
-    scans_stopped (request.Close name) why (record {
-      reads = reads;
-      geometry = ap (λ (s : SessionState). s.geometry) same;
-      log = ap (λ (s : SessionState). s.log) same;
-      down = ap (λ (s : SessionState). s.down) same;
-    }) stops sound
 
 pub close_done : {a b : Outside} {old new : SessionState} (name : List ℕ) (index : ℕ) → IsTrue (is_request (request.Close name)) → IsSession old → scan_index old.scans name ≡ Some index → ReadsOnly a b → GivesUnits a b old new → new ≡ closed_at index old new
     → IfShown a old (λ before. ShowsThen before b new (without_scan index new before.machine)) → ScansLine a b old new (request.Close name) (Ok (reply.Close name))

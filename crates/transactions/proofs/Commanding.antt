@@ -1,16 +1,13 @@
 -- One step on any command.
 use Rattle.std.proofs.Common.{◌≡◌, ◌≢◌, ◌⊎◌, ℕ, List, Some, true, true≢false, Result, Ok, Err, sym, ap, subst, ◌∙◌}
 use Rattle.std.specs.Prelude.{IfOk, IfErr}
-use Rattle.disk_model.specs.Outside.{Outside, IsWorld, Rose}
-use Rattle.ex_base.specs.declared.faults.Seen.{Seen}
-use Rattle.ex_base.specs.declared.names.PageNo.{PageNo}
+use Rattle.disk_model.specs.Outside.{Outside, IsWorld}
 use Rattle.session_views.specs.declared.engine.Stop.{Stop}
 use Rattle.session_views.specs.declared.engine.Stop.TheVariants as stop
 use Rattle.session_views.specs.View.{View, ShowsNow, Stepped}
 use Rattle.table_model.specs.declared.reply.Reply.{Reply}
 use Rattle.table_model.specs.Requests.{Request}
 use Rattle.session_core.specs.Sessions.{SessionState, IsSession}
-use Rattle.session_core.specs.Catalogs.{IsDamaged, catalog_bytes}
 use Rattle.transactions.specs.Commands.{Answers, IsOfCatalog, asks_objects, changes_objects}
 use Rattle.session_core.specs.Finding.{IfShown, IsOutside, LineStops}
 use Rattle.transactions.specs.Lines.{ReadsLine, ScansLine, UpdatesLine}
@@ -123,18 +120,6 @@ of_update {a} {b} {old} {new} r s result is changes asks line = subst (λ (t : R
 })
 
 -- ---- what the engine promises, from a step
-
-pub stops_rose : {a b : Outside} {old new : SessionState} (r : Request) (result : Result Reply Stop) → Answers a b old new r result → result ≡ Err stop.Disk → Rose a.disk_faults b.disk_faults
-stops_rose {a} {b} r result answers is = subst (λ (o : Result Reply Stop). IfErr o (LineStops a b)) is answers.stops
-
-pub stops_differ : {a b : Outside} {old new : SessionState} (r : Request) (result : Result Reply Stop) → Answers a b old new r result → (page : PageNo) (want got : Seen) → result ≡ Err (stop.Damaged page want got) → want ≢ got
-stops_differ {a} {b} r result answers page want got is = subst (λ (o : Result Reply Stop). IfErr o (LineStops a b)) is answers.stops
-
-pub stops_damaged : {a b : Outside} {old new : SessionState} (r : Request) (result : Result Reply Stop) → Answers a b old new r result → IsOfCatalog r → (page : PageNo) (want got : Seen) → result ≡ Err (stop.Damaged page want got) → IsDamaged a old.groups (catalog_bytes old) page want got
-stops_damaged {a} {b} {old} r result answers catalog page want got is = subst (λ (o : Result Reply Stop). IfErr o (Stops a b old)) is (answers.catalog catalog)
-
-pub not_down : {a b : Outside} {old new : SessionState} (r : Request) (result : Result Reply Stop) → Answers a b old new r result → result ≡ Err stop.Down → ⊥
-not_down {a} {b} r result answers is = subst (λ (o : Result Reply Stop). IfErr o (LineStops a b)) is answers.stops
 
 pub is_sound : {a b : Outside} {old new : SessionState} (r : Request) (result : Result Reply Stop) → Answers a b old new r result → (before : View SessionState) (why : Stop) → before.session ≡ old → ShowsNow meant a before → result ≡ Err why
     → (why ≡ stop.Disk) ⊎ (why ≡ stop.Memory)

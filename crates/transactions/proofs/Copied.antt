@@ -1,6 +1,6 @@
 -- How a line that copies a version is answered.
 use Rattle.std.proofs.Common.{◌≡◌, ◌∙◌, ◌-◌, ◌^◌, ℕ, Bool, true, false, List, [], ◌∷◌, length, Option, Some, None, is_some, Result, Ok, Err, IsTrue, refl, sym, ap, subst, inl, inr}
-use Rattle.std.specs.Prelude.{◌==◌, is_none, not}
+use Rattle.std.specs.Prelude.{◌==◌, not}
 use Rattle.std.specs.Option.{option_or}
 use Rattle.std.proofs.lemmas.Bool.{not-false}
 use Rattle.ex_base.specs.declared.names.Oid.{Oid}
@@ -52,7 +52,7 @@ use Rattle.transactions.specs.Making.{MakesVersion, making_need, number_in}
 use Rattle.transactions.specs.Scanning.{missing, unbound}
 use Rattle.transactions.proofs.EditRefusals.{joined, opens, room_is, room_told, units_counted, update_counts}
 use Rattle.transactions.proofs.Made.{IsNext, Makes, MakesIn, line_made, next_told, spent_told}
-use Rattle.transactions.proofs.Naming.{the_oid_named, the_version}
+use Rattle.transactions.proofs.Naming.{named_first, the_oid_named, the_version}
 use Rattle.transactions.proofs.UpdateLines.{line_refused, update_stopped}
 use Rattle.transactions.proofs.Vacancy.{derive_vacant, freeze_vacant}
 
@@ -66,10 +66,6 @@ kind_told copying.Derive version = when (current_if version) refusal.Current
 kind_is : (how : Copying) (version : Version) → kind_told how (Some version) ≡ kind_refusal how version.frozen
 kind_is copying.Freeze version = refl
 kind_is copying.Derive version = refl
-
--- the tests that follow one another, from what each finds
-named_first : Option Oid → Option Version → Bool → Option Refusal → Option Refusal
-named_first oid version taken last = option_or (when (is_none oid) refusal.NoName) (option_or (when taken refusal.NameTaken) (option_or (when (is_none version) refusal.NoObject) last))
 
 copy_told : (m : Machine) (how : Copying) (x : Reference) (name : List ℕ) (q : Pick) → is_some m.working ≡ true
     → refusal_of m (copy_request how x name) q ≡ named_first (oid_of m x) (version_of m x) (is_taken m name) (option_or (kind_told how (version_of m x))

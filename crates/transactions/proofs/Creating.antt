@@ -1,6 +1,6 @@
 -- How a line that makes an object is answered.
 use Rattle.std.proofs.Common.{◌≡◌, ◌∙◌, ◌-◌, ◌^◌, ℕ, Bool, true, false, List, Option, Some, None, is_some, Ok, Err, refl, sym, ap, subst}
-use Rattle.std.specs.Prelude.{Contains, IsTrue, ◌==◌, bytes_eq, find, if◌then◌else◌, is_none}
+use Rattle.std.specs.Prelude.{Contains, IsTrue, ◌==◌, bytes_eq, if◌then◌else◌, is_none}
 use Rattle.std.specs.Option.{option_or}
 use Rattle.std.proofs.lemmas.Slice.Eq.{bytes_eq-Decides}
 use Rattle.ex_base.specs.declared.names.Oid.{Oid}
@@ -28,10 +28,11 @@ use Rattle.session_views.specs.View.{View, ShowsNow}
 use Rattle.session_views.specs.declared.engine.Stop.{Stop}
 use Rattle.volume_edits.proofs.Finding.{find_in}
 use Rattle.transactions.specs.declared.creation.NewObject.{NewObject}
-use Rattle.transactions.specs.Editing.{new_object_in, place_if, room_refusal}
+use Rattle.transactions.specs.Editing.{new_object_in, numbered_at, place_if, room_refusal}
 use Rattle.session_core.specs.Finding.{IsOutside, LineStops}
 use Rattle.transactions.specs.Lines.{UpdatesLine, WentOn}
 use Rattle.transactions.specs.Making.{MakesVersion, making_need}
+use Rattle.transactions.specs.Refused.{entry_named}
 use Rattle.session_core.specs.Meant.{held_view, meant, pick_of}
 use Rattle.session_core.specs.ScanRows.{takes_name}
 use Rattle.session_core.specs.Sessions.{SessionState, IsSession}
@@ -62,13 +63,13 @@ same_told a b c d e = cc (a, b, c, d, e)
 
 -- why no object is made in a file of the catalog, and its name bound, in an open transaction
 abbrev pub create_refusal : SessionState → Catalog → List ℕ → List ℕ → Option Refusal
-create_refusal s c file name = told_by false (takes_name s name) (is_none (find (has_name file) c.entries)) (c.next_unique == 2 ^ 64 - 1) (room_refusal s making_need)
+create_refusal s c file name = told_by false (takes_name s name) (is_none (entry_named c file)) (c.next_unique == 2 ^ 64 - 1) (room_refusal s making_need)
 
 -- what a view gives of the machine for a new object
 pub record GivesRoom (v : View SessionState) (c : Catalog) (file name : List ℕ) : Type 0 where
   pub has_work : is_some v.machine.working ≡ true
   pub taken : is_taken v.machine name ≡ takes_name v.session name
-  pub absent : is_none (file_at (shown v.machine) file) ≡ is_none (find (has_name file) c.entries)
+  pub absent : is_none (file_at (shown v.machine) file) ≡ is_none (entry_named c file)
   pub next : (shown v.machine).next_unique ≡ c.next_unique
   pub counts : UpdateCounts v
 
@@ -90,26 +91,26 @@ create_told v c file name q gives =
 abbrev made_in : ℕ → ℕ → NewObject
 made_in file_no unique = record { file_no = file_no; unique = unique }
 
-placed_no : (o : Option FileEntry) (n : ℕ) (why : Refusal) (room : Option Refusal) → Err why ≡ place_if o n → told_by false false (is_none o) (n == 2 ^ 64 - 1) room ≡ Some why
-placed_no None n why room is = cc (is)
-placed_no (Some e) n why room is = (elim (n == 2 ^ 64 - 1) as (λ b. Err why ≡ (if b then Err refusal.IdsSpent else Ok (made_in e.file_no n)) → told_by false false false b room ≡ Some why) [
+placed_no : (o : Option FileEntry) (c : Catalog) (why : Refusal) (room : Option Refusal) → Err why ≡ place_if o c → told_by false false (is_none o) (c.next_unique == 2 ^ 64 - 1) room ≡ Some why
+placed_no None c why room is = cc (is)
+placed_no (Some e) c why room is = (elim (c.next_unique == 2 ^ 64 - 1) as (λ b. Err why ≡ numbered_at e (if b then Err refusal.IdsSpent else Ok c.next_unique) → told_by false false false b room ≡ Some why) [
   | true ↦ λ spent. cc (spent)
   | false ↦ λ made. absurd (cc (made))
 ]) is
 
 -- the file of the object that is made, with its number
-record PlacedIn (o : Option FileEntry) (n : ℕ) (made : NewObject) : Type 0 where
+record PlacedIn (o : Option FileEntry) (c : Catalog) (made : NewObject) : Type 0 where
   entry : FileEntry
   found : o ≡ Some entry
   file_no : entry.file_no ≡ made.file_no
-  unique : n ≡ made.unique
-  passes : (room : Option Refusal) → told_by false false (is_none o) (n == 2 ^ 64 - 1) room ≡ room
+  unique : c.next_unique ≡ made.unique
+  passes : (room : Option Refusal) → told_by false false (is_none o) (c.next_unique == 2 ^ 64 - 1) room ≡ room
 
-placed : (o : Option FileEntry) (n : ℕ) (made : NewObject) → Ok made ≡ place_if o n → PlacedIn o n made
-placed None n made is = absurd (cc (is))
-placed (Some e) n made is = (elim (n == 2 ^ 64 - 1) as (λ b. n == 2 ^ 64 - 1 ≡ b → Ok made ≡ (if b then Err refusal.IdsSpent else Ok (made_in e.file_no n)) → PlacedIn (Some e) n made) [
+placed : (o : Option FileEntry) (c : Catalog) (made : NewObject) → Ok made ≡ place_if o c → PlacedIn o c made
+placed None c made is = absurd (cc (is))
+placed (Some e) c made is = (elim (c.next_unique == 2 ^ 64 - 1) as (λ b. c.next_unique == 2 ^ 64 - 1 ≡ b → Ok made ≡ numbered_at e (if b then Err refusal.IdsSpent else Ok c.next_unique) → PlacedIn (Some e) c made) [
   | true ↦ λ _ spent. absurd (cc (spent))
-  | false ↦ λ few made_so. (let same : made ≡ made_in e.file_no n = cc in record {
+  | false ↦ λ few made_so. (let same : made ≡ made_in e.file_no c.next_unique = cc in record {
     entry = e;
     found = refl;
     file_no = sym (ap (λ (m : NewObject). m.file_no) same);
@@ -133,27 +134,27 @@ module _ {a b : Outside} {old mid : SessionState} (file name : List ℕ) (world 
   pub create_taken : takes_name old name ≡ true → UpdatesLine a b old mid line (Ok (reply.No refusal.NameTaken))
   create_taken taken = line_refused line world only refusal.NameTaken is (λ before same now after.
       answered before (pick_of (held_view before) line after) same now
-      ∙ ap (λ (t : Bool). told_by false t (is_none (find (has_name file) now.shows.working.catalog.entries)) (now.shows.working.catalog.next_unique == 2 ^ 64 - 1) (room_refusal old making_need)) taken)
+      ∙ ap (λ (t : Bool). told_by false t (is_none (entry_named now.shows.working.catalog file)) (now.shows.working.catalog.next_unique == 2 ^ 64 - 1) (room_refusal old making_need)) taken)
 
   module _ (page : List ℕ) (reads : ReadsCatalog a old page) (untaken : takes_name old name ≡ false) where
     -- with the catalog that was read
     answered_on : (before : View SessionState) (q : Pick) → before.session ≡ old → (now : ShowsNow meant a before)
-        → refusal_of before.machine line q ≡ told_by false false (is_none (find (has_name file) (catalog_on page).entries)) ((catalog_on page).next_unique == 2 ^ 64 - 1) (room_refusal old making_need)
+        → refusal_of before.machine line q ≡ told_by false false (is_none (entry_named (catalog_on page) file)) ((catalog_on page).next_unique == 2 ^ 64 - 1) (room_refusal old making_need)
     answered_on before q same now =
         let on = shown_on now page (subst (λ (s : SessionState). ReadsCatalog a s page) (sym same) reads) (shown_lends now (subst IsSession (sym same) is).sizes) in
         answered before q same now
         ∙ ap (λ (c : Catalog). create_refusal old c file name) (sym on)
-        ∙ ap (λ (t : Bool). told_by false t (is_none (find (has_name file) (catalog_on page).entries)) ((catalog_on page).next_unique == 2 ^ 64 - 1) (room_refusal old making_need)) untaken
+        ∙ ap (λ (t : Bool). told_by false t (is_none (entry_named (catalog_on page) file)) ((catalog_on page).next_unique == 2 ^ 64 - 1) (room_refusal old making_need)) untaken
 
     pub create_unplaced : (why : Refusal) → Err why ≡ new_object_in (catalog_on page) file → UpdatesLine a b old mid line (Ok (reply.No why))
     create_unplaced why refuses = line_refused line world only why is (λ before same now after.
         answered_on before (pick_of (held_view before) line after) same now
-        ∙ placed_no (find (has_name file) (catalog_on page).entries) (catalog_on page).next_unique why (room_refusal old making_need) refuses)
+        ∙ placed_no (entry_named (catalog_on page) file) (catalog_on page) why (room_refusal old making_need) refuses)
 
     pub create_roomless : (made : NewObject) (why : Refusal) → Ok made ≡ new_object_in (catalog_on page) file → Some why ≡ room_refusal mid making_need → UpdatesLine a b old mid line (Ok (reply.No why))
     create_roomless made why placed_there refuses = line_refused line world only why is (λ before same now after.
         answered_on before (pick_of (held_view before) line after) same now
-        ∙ (placed (find (has_name file) (catalog_on page).entries) (catalog_on page).next_unique made placed_there).passes (room_refusal old making_need)
+        ∙ (placed (entry_named (catalog_on page) file) (catalog_on page) made placed_there).passes (room_refusal old making_need)
         ∙ sym (room_back making_need (Some why) only refuses))
 
 -- ---- a line that goes on
@@ -167,8 +168,8 @@ module _ {a b c : Outside} {old mid new : SessionState} (file name page : List �
   abbrev its_line : Request
   its_line = request.Create file name
 
-  at : PlacedIn (find (has_name file) (catalog_on page).entries) (catalog_on page).next_unique made
-  at = placed (find (has_name file) (catalog_on page).entries) (catalog_on page).next_unique made placed_there
+  at : PlacedIn (entry_named (catalog_on page) file) (catalog_on page) made
+  at = placed (entry_named (catalog_on page) file) (catalog_on page) made placed_there
 
   module _ (before : View SessionState) (same : before.session ≡ old) (now : ShowsNow meant a before) (later : ShowsNow meant b (with_groups before mid)) where
     abbrev catalog : Catalog
@@ -195,11 +196,11 @@ module _ {a b c : Outside} {old mid new : SessionState} (file name page : List �
     accepted q =
         create_told (with_groups before mid) catalog file name q gives
         ∙ ap (λ (k : Catalog). create_refusal mid k file name) (sym on)
-        ∙ ap (λ (t : Bool). told_by false t (is_none (find (has_name file) (catalog_on page).entries)) ((catalog_on page).next_unique == 2 ^ 64 - 1) (room_refusal mid making_need)) (still_free name read untaken)
+        ∙ ap (λ (t : Bool). told_by false t (is_none (entry_named (catalog_on page) file)) ((catalog_on page).next_unique == 2 ^ 64 - 1) (room_refusal mid making_need)) (still_free name read untaken)
         ∙ at.passes (room_refusal mid making_need) ∙ sym room
 
     there_is : is_none (file_at (shown before.machine) file) ≡ false
-    there_is = gives.absent ∙ ap (λ (k : Catalog). is_none (find (has_name file) k.entries)) (sym on) ∙ ap (λ (o : Option FileEntry). is_none o) at.found
+    there_is = gives.absent ∙ ap (λ (k : Catalog). is_none (entry_named k file)) (sym on) ∙ ap (λ (o : Option FileEntry). is_none o) at.found
 
     makes : Makes before.machine its_line name note_kind.ObjectMade (λ oid. reply.Create oid) (update.Makes file made.file_no made.unique)
     makes = record {

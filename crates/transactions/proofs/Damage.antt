@@ -58,6 +58,7 @@ disk_damage a b s asked why is = subst (TellsDamage a b s asked) (sym is) tt
 pub memory_damage : (a b : Outside) (s : SessionState) (asked : Oid → Type 0) (why : Stop) → why ≡ stop.Memory → TellsDamage a b s asked why
 memory_damage a b s asked why is = subst (TellsDamage a b s asked) (sym is) tt
 
-pub damage_at : (a b : Outside) (s : SessionState) (r : Request) (result : Result Reply Stop) (page : PageNo) (want got : Seen) → IfErr result (TellsDamage a b s (names_version s r)) → result ≡ Err (stop.Damaged page want got)
-    → Tells a s.groups → IsSessionDamage a b s (names_version s r) page want got
-damage_at a b s r result page want got is same = subst (λ (o : Result Reply Stop). IfErr o (TellsDamage a b s (names_version s r))) same is
+-- at a page that is blamed
+pub damage_at : {T : Type 0} (a b : Outside) (s : SessionState) (asked : Oid → Type 0) (result : Result T Stop) (page : PageNo) (want got : Seen) → IfErr result (TellsDamage a b s asked) → result ≡ Err (stop.Damaged page want got)
+    → Tells a s.groups → IsSessionDamage a b s asked page want got
+damage_at {T} a b s asked result page want got is same = subst (λ (o : Result T Stop). IfErr o (TellsDamage a b s asked)) same is

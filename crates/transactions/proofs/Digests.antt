@@ -14,7 +14,7 @@ use Rattle.session_core.specs.Finding.{IfLive, IfShown, IsMissing, IsOutside, Li
 use Rattle.transactions.specs.Lines.{ReadsLine}
 use Rattle.session_core.specs.Sessions.{SessionState, IsSession}
 use Rattle.session_core.specs.Steps.{OnlyFrames}
-use Rattle.transactions.proofs.Naming.{answers_so, names_pass, refuses_missing, refuses_so, the_version}
+use Rattle.transactions.proofs.Naming.{answers_so, missing_refused, names_pass, refuses_missing, the_version}
 use Rattle.session_core.proofs.Naming.{frames_twice, later_stops}
 use Rattle.session_core.proofs.Quiet.{same_view, with_groups}
 
@@ -22,12 +22,7 @@ use Rattle.session_core.proofs.Quiet.{same_view, with_groups}
 
 pub digest_refused : {a b : Outside} {old new : SessionState} (x : Reference) (why : Refusal) → OnlyFrames a b old new → IsSession old → IfShown a old (λ before. IsMissing before.machine x why)
     → ReadsLine a b old new (request.Digest x) (Ok (reply.No why))
-digest_refused x why only is missing = record {
-  only = only;
-  stops = tt;
-  sound = tt;
-  stepped = λ before same now. refuses_so (request.Digest x) why only is before same now (λ q. refuses_missing before.machine x why [] (missing before same now));
-}
+digest_refused x why only is missing = missing_refused (request.Digest x) x why only is missing (λ m q. refuses_missing m x why [])
 
 module _ {a b c : Outside} {old mid new : SessionState} (x : Reference) (named : Named) (one : OnlyFrames a b old mid) (two : OnlyFrames b c mid new) (is : IsSession old)
     (names : IfShown a old (λ before. NamesVersion before x named)) where

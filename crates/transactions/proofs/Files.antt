@@ -1,12 +1,9 @@
 -- What an update of the files finds of its catalog.
-use Rattle.std.proofs.Common.{◌≡◌, ℕ, zero, suc, ◌-◌, ◌^◌, ◌<◌, true, false, cond, List, [], ◌∷◌, length, map, Option, Some, None, is_some, refl, sym, ap, subst, arith, leb-true}
-use Rattle.std.specs.Prelude.{find, is_none, Contains, IsTrue, bytes_eq, slice_index_or, nat_le, ◌&&◌, nat_eq}
+use Rattle.std.proofs.Common.{◌≡◌, ℕ, zero, suc, ◌-◌, ◌<◌, true, false, cond, List, [], ◌∷◌, length, map, Some, None, is_some, refl, sym, subst, arith, leb-true}
+use Rattle.std.specs.Prelude.{find, is_none, Contains, IsTrue, bytes_eq, slice_index_or, nat_le, ◌&&◌}
 use Rattle.std.specs.List.{AllByRecursion, list_all}
-use Rattle.std.specs.Map.{lookup}
 use Rattle.std.proofs.lemmas.Slice.Eq.{bytes_eq-Decides}
-use Rattle.ex_base.specs.Area.{catalog_no}
 use Rattle.ex_base.proofs.Booleans.{bytes_test}
-use Rattle.meta_pages.specs.Overlays.{over, image_at}
 use Rattle.object_files.specs.Catalog.{Catalog, CatalogOf, FileEntry, IsName, is_name_byte, name_of}
 use Rattle.object_files.specs.Edits.{IsCatalogPage, has_name, with_entries}
 use Rattle.object_files.specs.Reads.{catalog_on}
@@ -16,8 +13,8 @@ use Rattle.table_model.specs.declared.reply.Refusal.TheVariants as refusal
 use Rattle.table_model.specs.Refusals.{when}
 use Rattle.table_model.proofs.Stepping.{neither, unmet}
 use Rattle.std.proofs.lemmas.Bool.{and_parts}
-use Rattle.session_core.specs.Sessions.{SessionState, IsSession}
-use Rattle.transactions.specs.Refused.{file_refusal, unfile_refusal, entry_of, has_pages}
+use Rattle.session_core.specs.Sessions.{SessionState}
+use Rattle.transactions.specs.Refused.{file_refusal, unfile_refusal, entry_named, has_pages}
 
 -- ---- names
 
@@ -49,14 +46,14 @@ there_if name (e ∷ es) some = (elim (bytes_eq e.name name) as (λ b. bytes_eq 
 ]) refl some
 
 pub name_unused : (s : SessionState) (c : Catalog) (name : List ℕ) → None ≡ file_refusal s c name → Contains (map name_of c.entries) name → ⊥
-name_unused s c name none = missing_if name c.entries (unmet (is_some (entry_of c name)) refusal.FileExists (neither (when (is_some (entry_of c name)) refusal.FileExists) _ none).0)
+name_unused s c name none = missing_if name c.entries (unmet (is_some (entry_named c name)) refusal.FileExists (neither (when (is_some (entry_named c name)) refusal.FileExists) _ none).0)
 
 pub name_used : (s : SessionState) (c : Catalog) (name : List ℕ) → None ≡ unfile_refusal s c name → Contains (map name_of c.entries) name
-name_used s c name none = there_if name c.entries (unmet (is_none (entry_of c name)) refusal.NoFile (neither (when (is_none (entry_of c name)) refusal.NoFile) _ none).0)
+name_used s c name none = there_if name c.entries (unmet (is_none (entry_named c name)) refusal.NoFile (neither (when (is_none (entry_named c name)) refusal.NoFile) _ none).0)
 
-pub no_pages_there : (s : SessionState) (c : Catalog) (name : List ℕ) → None ≡ unfile_refusal s c name → has_pages (entry_of c name) ≡ false
+pub no_pages_there : (s : SessionState) (c : Catalog) (name : List ℕ) → None ≡ unfile_refusal s c name → has_pages (entry_named c name) ≡ false
 no_pages_there s c name none =
-    unmet (has_pages (entry_of c name)) refusal.NotEmpty (neither (when (has_pages (entry_of c name)) refusal.NotEmpty) _ (neither (when (is_none (entry_of c name)) refusal.NoFile) _ none).1).0
+    unmet (has_pages (entry_named c name)) refusal.NotEmpty (neither (when (has_pages (entry_named c name)) refusal.NotEmpty) _ (neither (when (is_none (entry_named c name)) refusal.NoFile) _ none).1).0
 
 -- an edit of the entries leaves a catalog
 pub edited_page : (page image : List ℕ) (entries : List FileEntry) → CatalogOf image (with_entries (catalog_on page) entries) → IsCatalogPage image

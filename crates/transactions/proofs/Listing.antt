@@ -1,6 +1,6 @@
 -- How a line is answered that lists a file.
 use Rattle.std.proofs.Common.{◌≡◌, ◌∙◌, ℕ, Bool, false, List, [], ◌∷◌, Option, Some, None, Ok, Err, refl, sym, ap, subst}
-use Rattle.std.specs.Prelude.{Contains, find, is_none, option_map}
+use Rattle.std.specs.Prelude.{Contains, is_none, option_map}
 use Rattle.std.proofs.lemmas.Slice.Eq.{bytes_eq-Decides}
 use Rattle.ex_base.specs.declared.names.Oid.{Oid}
 use Rattle.ex_base.proofs.Members.{contains_in}
@@ -19,6 +19,7 @@ use Rattle.session_views.specs.View.{View}
 use Rattle.volume_edits.proofs.Finding.{find_in}
 use Rattle.session_core.specs.Finding.{IfFile, IfShown, IsOutside, LineStops, oids_listed}
 use Rattle.transactions.specs.Lines.{ReadsLine}
+use Rattle.transactions.specs.Refused.{entry_named}
 use Rattle.session_core.specs.Sessions.{IsSession, SessionState}
 use Rattle.session_core.specs.Steps.{OnlyFrames, Stops}
 use Rattle.session_core.proofs.Accepted.{ReadsCatalog, shown_on}
@@ -45,7 +46,7 @@ numbered n (Some e) is = (e, refl, cc)
 pub list_unread : {a b : Outside} {old mid : SessionState} (name : List ℕ) (why : Stop) → OnlyFrames a b old mid → IsSession old → Stops a b old why → ReadsLine a b old mid (request.ListFile name) (Err why)
 list_unread {a} {b} {old} name why only is stops = line_stops (request.ListFile name) why only (unread_stops a b old why stops) (unread_outside b why is stops)
 
-pub list_refused : {a b : Outside} {old mid : SessionState} (name page : List ℕ) → OnlyFrames a b old mid → IsSession old → ReadsCatalog a old page → None ≡ option_map number_of (find (has_name name) (catalog_on page).entries)
+pub list_refused : {a b : Outside} {old mid : SessionState} (name page : List ℕ) → OnlyFrames a b old mid → IsSession old → ReadsCatalog a old page → None ≡ option_map number_of (entry_named (catalog_on page) name)
     → ReadsLine a b old mid (request.ListFile name) (Ok (reply.No refusal.NoFile))
 list_refused {a} {b} {old} {mid} name page only is reads none = record {
   only = only;
@@ -54,19 +55,19 @@ list_refused {a} {b} {old} {mid} name page only is reads none = record {
   stepped = λ before same now.
       let session = subst IsSession (sym same) is in
       let on = shown_on now page (subst (λ (s : SessionState). ReadsCatalog a s page) (sym same) reads) (shown_lends now session.sizes) in
-      let none_there : find (has_name name) now.shows.working.catalog.entries ≡ None = ap (λ (c : Catalog). find (has_name name) c.entries) (sym on) ∙ unnumbered (find (has_name name) (catalog_on page).entries) none in
+      let none_there : entry_named now.shows.working.catalog name ≡ None = ap (λ (c : Catalog). entry_named c name) (sym on) ∙ unnumbered (entry_named (catalog_on page) name) none in
       let table = missing name (shown before.machine).files now.shows.working.catalog.entries (same_counts {v = before} now.shows session.units.geometry).names in
       refuses_so (request.ListFile name) refusal.NoFile only is before same now
       (λ q. ap (λ (t : Bool). first (when t refusal.NoFile ∷ [])) (table ∙ ap (λ (o : Option FileEntry). is_none o) none_there));
 }
 
 module _ {a b c : Outside} {old mid new : SessionState} (name page : List ℕ) (file_no : ℕ) (one : OnlyFrames a b old mid) (two : OnlyFrames b c mid new) (is : IsSession old) (reads : ReadsCatalog a old page)
-    (number : Some file_no ≡ option_map number_of (find (has_name name) (catalog_on page).entries)) where
+    (number : Some file_no ≡ option_map number_of (entry_named (catalog_on page) name)) where
   -- what holds of the file with the number holds of the one with the name
   named_file : (P : View SessionState → List ℕ → Type 0) → IfFile b mid file_no P → IfShown a old (λ before. P (with_groups before mid) name)
   named_file P each = λ before same now.
       let later = same_view before same now one is.sizes in
-      let entry = numbered file_no (find (has_name name) (catalog_on page).entries) number in
+      let entry = numbered file_no (entry_named (catalog_on page) name) number in
       let there = find_in (has_name name) (catalog_on page).entries entry.0 entry.1 in
       let on = on_after page is one reads before same now later in
       subst (P (with_groups before mid)) ((bytes_eq-Decides (entry.0).name name).0 there.1)
@@ -76,9 +77,9 @@ module _ {a b c : Outside} {old mid new : SessionState} (name page : List ℕ) (
   there_is = λ before same now.
       let session = subst IsSession (sym same) is in
       let on = shown_on now page (subst (λ (s : SessionState). ReadsCatalog a s page) (sym same) reads) (shown_lends now session.sizes) in
-      let entry = numbered file_no (find (has_name name) (catalog_on page).entries) number in
+      let entry = numbered file_no (entry_named (catalog_on page) name) number in
       missing name (shown before.machine).files now.shows.working.catalog.entries (same_counts {v = before} now.shows session.units.geometry).names
-      ∙ ap (λ (k : Catalog). is_none (find (has_name name) k.entries)) (sym on) ∙ ap (λ (o : Option FileEntry). is_none o) entry.1
+      ∙ ap (λ (k : Catalog). is_none (entry_named k name)) (sym on) ∙ ap (λ (o : Option FileEntry). is_none o) entry.1
 
   pub list_line : (oids : List Oid) → IfFile b mid file_no (λ before name. oids ≡ oids_listed before.machine name) → ReadsLine a c old new (request.ListFile name) (Ok (reply.List oids))
   list_line oids each = record {

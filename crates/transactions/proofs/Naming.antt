@@ -1,6 +1,7 @@
 -- How a line that names a version is answered.
 use Rattle.std.proofs.Common.{◌≡◌, ◌∙◌, ℕ, ◌<◌, ◌≤◌, ◌+◌, Bool, true, false, List, [], ◌∷◌, ◌++◌, length, Option, Some, None, Result, Ok, Err, refl, sym, ap, subst, arith, inl, inr}
 use Rattle.std.proofs.lemmas.Bool.{le-ltb, lt-ltb}
+use Rattle.std.proofs.Math.Seq.{take-append_seam}
 use Rattle.std.specs.Prelude.{is_none, nat_lt, take}
 use Rattle.std.specs.Option.{option_or}
 use Rattle.ex_base.specs.declared.names.Oid.{Oid}
@@ -33,6 +34,10 @@ use Rattle.session_core.proofs.Quiet.{same_view, with_groups}
 use Rattle.session_core.proofs.Naming.{frames_twice, later_stops}
 
 -- ---- its first two refusals
+
+-- and that of a name that it gives, between them, where a version is found or not
+unfoldable pub named_first : Option Oid → Option Version → Bool → Option Refusal → Option Refusal
+named_first oid version taken last = option_or (when (is_none oid) refusal.NoName) (option_or (when taken refusal.NameTaken) (option_or (when (is_none version) refusal.NoObject) last))
 
 pub refuses_missing : (m : Machine) (x : Reference) (why : Refusal) (rest : List (Option Refusal)) → IsMissing m x why → first (no_name m x ∷ no_object m x ∷ rest) ≡ Some why
 refuses_missing m x why rest (inl (is, none)) =
@@ -90,6 +95,16 @@ refuses_so {a} {b} {old} {new} r why only is before same now refuses =
       step = refused before.machine r q why (reply.No why) before.machine (sym (refuses q)) refl refl (subst (λ (o : Option Refusal). IfAccepted o (IsAllowed before.machine r q)) (sym (refuses q)) tt);
     }
 
+-- where the version that it names is missing
+pub missing_refused : {a b : Outside} {old new : SessionState} (r : Request) (x : Reference) (why : Refusal) → OnlyFrames a b old new → IsSession old → IfShown a old (λ before. IsMissing before.machine x why)
+    → ((m : Machine) (q : Pick) → IsMissing m x why → refusal_of m r q ≡ Some why) → ReadsLine a b old new r (Ok (reply.No why))
+missing_refused r x why only is missing refuses = record {
+  only = only;
+  stops = tt;
+  sound = tt;
+  stepped = λ before same now. refuses_so r why only is before same now (λ q. refuses before.machine q (missing before same now));
+}
+
 pub line_stops : {a b : Outside} {old new : SessionState} (r : Request) (why : Stop) → OnlyFrames a b old new → LineStops a b why → IfShown a old (λ before. IsOutside why) → ReadsLine a b old new r (Err why)
 line_stops r why only stops sound = record { only = only; stops = stops; sound = sound; stepped = tt }
 
@@ -114,12 +129,7 @@ size_line x named only is names = record {
 
 pub size_refused : {a b : Outside} {old new : SessionState} (x : Reference) (why : Refusal) → OnlyFrames a b old new → IsSession old → IfShown a old (λ before. IsMissing before.machine x why)
     → ReadsLine a b old new (request.Size x) (Ok (reply.No why))
-size_refused x why only is missing = record {
-  only = only;
-  stops = tt;
-  sound = tt;
-  stepped = λ before same now. refuses_so (request.Size x) why only is before same now (λ q. refuses_missing before.machine x why [] (missing before same now));
-}
+size_refused x why only is missing = missing_refused (request.Size x) x why only is missing (λ m q. refuses_missing m x why [])
 
 -- ---- bytes of a version
 
@@ -131,12 +141,7 @@ range_of m x oid version end b named is lt =
 
 pub read_refused : {a b : Outside} {old new : SessionState} (x : Reference) (pos len : ℕ) (why : Refusal) → OnlyFrames a b old new → IsSession old → IfShown a old (λ before. IsMissing before.machine x why)
     → ReadsLine a b old new (request.Read x pos len) (Ok (reply.No why))
-read_refused x pos len why only is missing = record {
-  only = only;
-  stops = tt;
-  sound = tt;
-  stepped = λ before same now. refuses_so (request.Read x pos len) why only is before same now (λ q. refuses_missing before.machine x why (range before.machine x (pos + len) ∷ []) (missing before same now));
-}
+read_refused x pos len why only is missing = missing_refused (request.Read x pos len) x why only is missing (λ m q. refuses_missing m x why (range m x (pos + len) ∷ []))
 
 pub read_outside : {a b : Outside} {old new : SessionState} (x : Reference) (pos len : ℕ) (named : Named) → OnlyFrames a b old new → IsSession old → IfShown a old (λ before. NamesVersion before x named)
     → named.found.size < pos + len → ReadsLine a b old new (request.Read x pos len) (Ok (reply.No refusal.Range))
@@ -191,9 +196,5 @@ module _ {a b c : Outside} {old mid new : SessionState} (x : Reference) (pos len
   }
 
 -- what was read into a list that is as long is what the list has
-taken_front : (out rest : List ℕ) → take (length out) (out ++ rest) ≡ out
-taken_front [] rest = refl
-taken_front (x ∷ out) rest = ap (λ (t : List ℕ). x ∷ t) (taken_front out rest)
-
 pub taken_back : (n : ℕ) (out rest : List ℕ) → length out ≡ n → take n (out ++ rest) ≡ out
-taken_back n out rest same = subst (λ (m : ℕ). take m (out ++ rest) ≡ out) same (taken_front out rest)
+taken_back n out rest same = subst (λ (m : ℕ). take m (out ++ rest) ≡ out) same (take-append_seam out rest)

@@ -1,18 +1,19 @@
 -- The version that another one is derived from, and how many are derived from one.
 use Rattle.std.proofs.Common.{◌≡◌, ◌∙◌, ℕ, List, [], ◌∷◌, length, Option, Some, None, true, refl, sym, ap, subst}
-use Rattle.std.specs.Prelude.{◌↔◌, IfSome, is_some, option_map, slice_get, unwrap_or}
+use Rattle.std.specs.Prelude.{◌↔◌, is_some, option_map, slice_get}
 use Rattle.std.proofs.lemmas.List.Sorted.{length_permutation}
 use Rattle.std.proofs.lemmas.List.{length-map}
 use Rattle.ex_base.specs.declared.names.Oid.{Oid}
 use Rattle.disk_model.specs.Outside.{Outside}
 use Rattle.version_lists.specs.declared.version.Version.{Version}
-use Rattle.version_lists.specs.Versions.{derived_from, listed, unique_of}
+use Rattle.version_lists.specs.Versions.{derived_from, unique_of}
 use Rattle.table_model.specs.declared.table.Table.{Table}
 use Rattle.table_model.specs.declared.machine.Machine.{Machine}
-use Rattle.table_model.specs.Machines.{IsMachine, IsWorking, shown}
+use Rattle.table_model.specs.Machines.{shown}
 use Rattle.table_model.specs.Refusals.{branches_if, is_only_one}
 use Rattle.table_model.specs.Steps.{oids}
 use Rattle.table_model.specs.Tables.{IsTable, version_at, versions_of}
+use Rattle.table_model.proofs.Keeping.{shown_is}
 use Rattle.session_views.specs.View.{View, ShowsNow}
 use Rattle.session_core.specs.Finding.{AreRelatives, IsFound, TellsVersion, oids_if}
 use Rattle.session_core.specs.Meant.{meant}
@@ -21,14 +22,6 @@ use Rattle.session_core.specs.declared.session.objects.Named.{Named}
 use Rattle.session_core.specs.declared.session.relatives.Relation.TheVariants as relation
 use Rattle.versions.specs.declared.finding.Found.{Found}
 use Rattle.volume_edits.proofs.OlderVersion.{named_there, numbered_is, older_there, only_by_branches}
-
--- the table that is shown keeps the rules
-pub shown_rules : (m : Machine) → IsMachine m → IsTable m.geometry (shown m)
-shown_rules m is = by m.working is.working
-  where
-    by : (working : Option Table) → IfSome working (IsWorking m.geometry m.committed) → IsTable m.geometry (unwrap_or working m.committed)
-    by None kept = is.committed
-    by (Some t) kept = kept.table
 
 -- as many are listed as are derived
 pub derived_counted : (m : Machine) (version : Version) (found : List Oid) → AreRelatives m version relation.Derived found → length found ≡ branches_if (versions_of (shown m)) (Some version)
@@ -45,7 +38,7 @@ module _ {w : Outside} {before : View SessionState} (now : ShowsNow meant w befo
   t = shown before.machine
 
   pub rules : IsTable before.machine.geometry t
-  rules = shown_rules before.machine now.shows.rules
+  rules = shown_is before.machine now.shows.rules
 
   pub number : (n : ℕ) × (told.version.older ≡ Some n)
   number = by told.version.older refl

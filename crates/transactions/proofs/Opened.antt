@@ -1,5 +1,5 @@
 -- How a line that opens a scan is answered.
-use Rattle.std.proofs.Common.{◌≡◌, ◌∙◌, ℕ, ◌+◌, ◌<◌, ◌≤◌, Bool, true, false, cond, not, List, [], ◌∷◌, ◌++◌, length, Option, Some, None, is_some, Result, Ok, Err, IsTrue, refl, sym, ap, subst, arith, inl, inr}
+use Rattle.std.proofs.Common.{◌≡◌, ◌∙◌, ℕ, ◌+◌, ◌<◌, ◌≤◌, Bool, true, false, cond, not, List, [], ◌∷◌, length, Option, Some, None, is_some, Result, Ok, Err, IsTrue, refl, sym, ap, subst, arith, inl, inr}
 use Rattle.std.specs.Prelude.{bytes_eq, is_none, nat_le, map, option_map, position}
 use Rattle.std.specs.List.{position_from}
 use Rattle.std.proofs.lemmas.Bool.{leb-false}
@@ -11,27 +11,24 @@ use Rattle.disk_model.specs.Outside.{Outside}
 use Rattle.disk_model.specs.Runs.{reads_trans}
 use Rattle.ex_base.specs.declared.names.Oid.{Oid}
 use Rattle.open_scans.specs.GroupRows.{group_index, is_row_named}
-use Rattle.open_scans.specs.OpenScans.{OpenRow, scan_of}
+use Rattle.open_scans.specs.OpenScans.{scan_of}
 use Rattle.session_views.specs.declared.engine.Stop.{Stop}
-use Rattle.session_views.specs.View.{View, ShowsNow, Stepped}
+use Rattle.session_views.specs.View.{View, ShowsNow}
 use Rattle.table_model.specs.declared.machine.GroupRow.{GroupRow}
 use Rattle.table_model.specs.declared.machine.Machine.{Machine}
 use Rattle.table_model.specs.declared.machine.Pick.{Pick}
-use Rattle.table_model.specs.declared.machine.ScanRow.{ScanRow}
 use Rattle.table_model.specs.declared.reply.Refusal.{Refusal}
 use Rattle.table_model.specs.declared.reply.Refusal.TheVariants as refusal
-use Rattle.table_model.specs.declared.reply.Reply.{Reply}
 use Rattle.table_model.specs.declared.reply.Reply.TheVariants as reply
 use Rattle.version_lists.specs.declared.version.Version.{Version}
-use Rattle.table_model.specs.Machines.{IsMachine, bytes_if, bytes_of, has_group, is_taken, main, oid_of, scans_most, shown, size_of, version_if, version_of}
-use Rattle.table_model.specs.Refusals.{first, lacks_group, name_taken, no_group, no_name, no_object, refusal_of, too_many_scans, when}
+use Rattle.table_model.specs.Machines.{bytes_if, bytes_of, main, oid_of, scans_most, shown, version_if, version_of}
+use Rattle.table_model.specs.Refusals.{first, lacks_group, no_group, refusal_of, too_many_scans, when}
 use Rattle.table_model.specs.Requests.{Reference, Request, is_request}
 use Rattle.table_model.specs.Requests as request
 use Rattle.table_model.specs.Steps.{Step}
-use Rattle.table_model.specs.Tables.{version_at}
 use Rattle.table_model.proofs.StepsKeep.{steps_keep}
 use Rattle.volume_model.specs.Homes.{home}
-use Rattle.volume_model.specs.Shown.{HeldScan, ScanShown}
+use Rattle.volume_model.specs.Shown.{ScanShown}
 use Rattle.session_core.specs.declared.session.objects.Named.{Named}
 use Rattle.session_core.specs.Finding.{IfShown, IsMissing, IsNamed, IsOutside, LineStops, NamesVersion}
 use Rattle.session_core.specs.Meant.{held_view, meant, pick_of}
@@ -44,10 +41,10 @@ use Rattle.session_core.proofs.Naming.{frames_twice}
 use Rattle.session_core.proofs.Quiet.{same_view, with_groups}
 use Rattle.session_core.proofs.Taken.{group_as, taken_as}
 use Rattle.transactions.specs.Lines.{ScansLine}
-use Rattle.transactions.specs.Scanning.{MayOpen, group_asked, missing, scan_refusal, unbound}
+use Rattle.transactions.specs.Scanning.{MayOpen, group_asked, scan_refusal}
 use Rattle.transactions.proofs.Changed.{names_then}
-use Rattle.transactions.proofs.Naming.{the_size_named, the_version}
-use Rattle.transactions.proofs.ScanLines.{StoppedAt, scans_refused, scans_stopped}
+use Rattle.transactions.proofs.Naming.{named_first, the_size_named, the_version}
+use Rattle.transactions.proofs.ScanLines.{scans_refused, scans_stopped}
 
 -- ---- its refusals
 
@@ -82,11 +79,6 @@ module _ {w : Outside} {before : View SessionState} (now : ShowsNow meant w befo
   rest_is =
       ap (λ (b : Bool). first (when b refusal.NoGroup ∷ when (nat_le scans_most (length s.scans)) (refusal.TooMany true) ∷ [])) (sym (lacks group))
       ∙ ap (λ (n : ℕ). first (no_group m group ∷ when (nat_le scans_most n) (refusal.TooMany true) ∷ [])) (sym as_many)
-
-  -- the first two refusals and that of the name, where a version is found or not
-  named_first : Option Oid → Option Version → Bool → Option Refusal → Option Refusal
-  named_first oid version taken last =
-      option_or (when (is_none oid) refusal.NoName) (option_or (when taken refusal.NameTaken) (option_or (when (is_none version) refusal.NoObject) last))
 
   missing_is : (why : Refusal) → IsMissing m x why → scan_refusal s (Err why) name group ≡ named_first (oid_of m x) (version_of m x) (takes_name s name) rest
   unfolding named_first

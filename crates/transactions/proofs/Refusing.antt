@@ -22,7 +22,7 @@ use Rattle.volume_model.specs.Shown.{Shows}
 use Rattle.session_core.specs.Sessions.{SessionState}
 use Rattle.session_core.specs.Meant.{held_view}
 use Rattle.session_core.specs.Counts.{free_in}
-use Rattle.transactions.specs.Refused.{entry_of, has_pages, long_txn, full_pages, file_refusal, unfile_refusal}
+use Rattle.transactions.specs.Refused.{entry_named, file_charge, file_need, has_pages, long_txn, full_in, file_refusal, unfile_refusal}
 use Rattle.std.proofs.lemmas.List.{length-map}
 use Rattle.object_files.specs.Catalog.{name_of}
 use Rattle.volume_model.specs.Parts.{HasIndex}
@@ -108,11 +108,11 @@ file_refused v c name q same opened =
     let many = sym (length-map (shown v.machine).files (λ (f : TableFile). f.name)) ∙ ap length same.names ∙ length-map c.entries name_of in
     let size = ap (λ (g : Geometry). g.page_size) same.geometry in
     let change : refusal_of v.machine (request.File name) q
-    ≡ file_told false (is_some (entry_of c name)) v.session.geometry.page_size (length c.entries) (length v.session.notes) (length v.session.meta.working) (free_in v.session Page) false (free v.machine Segment) =
+    ≡ file_told false (is_some (entry_named c name)) v.session.geometry.page_size (length c.entries) (length v.session.notes) (length v.session.meta.working) (free_in v.session Page) false (free v.machine Segment) =
     told (free v.machine Segment) some finds size many (ap length same.notes) same.touched same.free_pages (below_zero (free v.machine Segment)) in
     change
-    ∙ ap (λ (o : Option Refusal). option_or (when (is_some (entry_of c name)) refusal.FileExists) (option_or (when (nat_le ((v.session.geometry.page_size - 32) / 48) (length c.entries)) refusal.FilesFull) (option_or (long_txn v.session 2) o)))
-    (one_less (full_pages v.session 2))
+    ∙ ap (λ (o : Option Refusal). option_or (when (is_some (entry_named c name)) refusal.FileExists) (option_or (when (nat_le ((v.session.geometry.page_size - 32) / 48) (length c.entries)) refusal.FilesFull) (option_or (long_txn v.session file_charge) o)))
+    (one_less (full_in v.session Page file_need))
 
 pub missing : (name : List ℕ) (fs : List TableFile) (es : List FileEntry) → SameNames fs es → is_none (find (tables.has_name name) fs) ≡ is_none (find (entries.has_name name) es)
 missing name [] [] same = refl
@@ -139,12 +139,12 @@ untold : {none none' absent absent' full full' : Bool} {updates updates' touched
     → unfile_told none absent full updates touched wanting_pages wanting pages segs ≡ unfile_told none' absent' full' updates' touched' wanting_pages' wanting' pages segs
 untold pages segs a b c d e f g = cc (a, b, c, d, e, f, g)
 
-pub unfile_refused : (v : View SessionState) (c : Catalog) (name : List ℕ) (q : Pick) → SameCounts v c → has_objects (find (tables.has_name name) (shown v.machine).files) ≡ has_pages (entry_of c name) → v.session.opened ≡ true
+pub unfile_refused : (v : View SessionState) (c : Catalog) (name : List ℕ) (q : Pick) → SameCounts v c → has_objects (find (tables.has_name name) (shown v.machine).files) ≡ has_pages (entry_named c name) → v.session.opened ≡ true
     → refusal_of v.machine (request.Unfile name) q ≡ unfile_refusal v.session c name
 unfile_refused v c name q same empty opened =
     let some = none_is_false v.machine.working (same.is_open ∙ opened) in
     let absent = missing name (shown v.machine).files c.entries same.names in
     let change : refusal_of v.machine (request.Unfile name) q
-    ≡ unfile_told false (is_none (entry_of c name)) (has_pages (entry_of c name)) (length v.session.notes) (length v.session.meta.working) false false (free v.machine Page) (free v.machine Segment) =
+    ≡ unfile_told false (is_none (entry_named c name)) (has_pages (entry_named c name)) (length v.session.notes) (length v.session.meta.working) false false (free v.machine Page) (free v.machine Segment) =
     untold (free v.machine Page) (free v.machine Segment) some absent empty (ap length same.notes) same.touched (below_zero (free v.machine Page)) (below_zero (free v.machine Segment)) in
     change

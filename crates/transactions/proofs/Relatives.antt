@@ -19,16 +19,11 @@ use Rattle.session_core.specs.Steps.{OnlyFrames}
 use Rattle.session_core.proofs.Naming.{frames_twice, later_stops}
 use Rattle.session_core.proofs.Quiet.{same_view, with_groups}
 use Rattle.transactions.specs.Lines.{ReadsLine}
-use Rattle.transactions.proofs.Naming.{answers_so, names_pass, refuses_missing, refuses_so, the_oid_named}
+use Rattle.transactions.proofs.Naming.{answers_so, missing_refused, names_pass, refuses_missing, the_oid_named}
 
 pub versions_refused : {a b : Outside} {old new : SessionState} (x : Reference) (why : Refusal) → OnlyFrames a b old new → IsSession old → IfShown a old (λ before. IsMissing before.machine x why)
     → ReadsLine a b old new (request.Versions x) (Ok (reply.No why))
-versions_refused x why only is missing = record {
-  only = only;
-  stops = tt;
-  sound = tt;
-  stepped = λ before same now. refuses_so (request.Versions x) why only is before same now (λ q. refuses_missing before.machine x why [] (missing before same now));
-}
+versions_refused x why only is missing = missing_refused (request.Versions x) x why only is missing (λ m q. refuses_missing m x why [])
 
 module _ {a b c : Outside} {old mid new : SessionState} (x : Reference) (named : Named) (one : OnlyFrames a b old mid) (two : OnlyFrames b c mid new) (is : IsSession old)
     (names : IfShown a old (λ before. NamesVersion before x named)) where

@@ -1,7 +1,6 @@
 -- How lines on open scans and groups are answered.
-use Rattle.std.proofs.Common.{◌≡◌, ◌∙◌, ℕ, ◌<◌, ◌≤◌, Bool, true, false, List, [], ◌∷◌, length, Option, Some, None, Ok, Err, IsTrue, refl, sym, ap, subst, arith}
+use Rattle.std.proofs.Common.{◌≡◌, ◌∙◌, ℕ, ◌<◌, ◌≤◌, Bool, true, false, List, [], ◌∷◌, length, Option, Some, None, Ok, Err, IsTrue, refl, sym, ap, subst}
 use Rattle.std.specs.Prelude.{is_none, nat_le, slice_get}
-use Rattle.std.specs.Option.{option_or}
 use Rattle.std.proofs.lemmas.Bool.{le-leb, lt-leb}
 use Rattle.disk_model.specs.Outside.{Outside, ReadsOnly}
 use Rattle.disk_model.specs.Runs.{reads_refl}
@@ -17,11 +16,11 @@ use Rattle.table_model.specs.declared.reply.Refusal.{Refusal}
 use Rattle.table_model.specs.declared.reply.Refusal.TheVariants as refusal
 use Rattle.table_model.specs.declared.reply.Reply.{Reply}
 use Rattle.table_model.specs.declared.reply.Reply.TheVariants as reply
-use Rattle.table_model.specs.Machines.{groups_most, is_taken, scan_at}
+use Rattle.table_model.specs.Machines.{groups_most, scan_at}
 use Rattle.table_model.specs.Refusals.{first, refusal_of, when}
 use Rattle.table_model.specs.Requests.{Request, is_request}
 use Rattle.table_model.specs.Requests as request
-use Rattle.table_model.specs.Steps.{IfAccepted, IsAllowed, Step, machine_after, next_bytes, reply_to}
+use Rattle.table_model.specs.Steps.{IfAccepted, IsAllowed, Step, next_bytes}
 use Rattle.table_model.proofs.Stepping.{accepted}
 use Rattle.table_model.proofs.StepsKeep.{steps_keep}
 use Rattle.session_core.specs.Finding.{IfShown, IsOutside, LineStops}
@@ -29,7 +28,7 @@ use Rattle.session_core.specs.Meant.{held_view, meant, pick_of}
 use Rattle.session_core.specs.ScanRows.{grouped, takes_name, with_scans}
 use Rattle.session_core.specs.Sessions.{IsSession, SessionState}
 use Rattle.session_core.specs.Steps.{OnlyFrames}
-use Rattle.session_core.proofs.OtherRows.{GivesNext, found_next, machine_grouped, machine_next, shows_grouped, shows_next}
+use Rattle.session_core.proofs.OtherRows.{GivesNext, machine_grouped, machine_next, shows_grouped, shows_next}
 use Rattle.session_core.proofs.Quiet.{nothing_changed, now_after}
 use Rattle.session_core.proofs.Taken.{no_scan_as, scan_as, taken_as}
 use Rattle.transactions.specs.Lines.{ScansLine}

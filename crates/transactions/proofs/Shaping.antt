@@ -30,7 +30,7 @@ use Rattle.session_core.specs.Sessions.{SessionState, IsSession}
 use Rattle.session_core.specs.Steps.{OnlyFrames}
 use Rattle.session_core.proofs.Accepted.{took_place}
 use Rattle.session_core.proofs.Naming.{frames_twice, later_stops}
-use Rattle.transactions.proofs.Naming.{names_pass, refuses_missing, refuses_so, the_oid_named, the_size_named}
+use Rattle.transactions.proofs.Naming.{missing_refused, names_pass, refuses_missing, the_oid_named, the_size_named}
 use Rattle.session_core.proofs.Picking.{pick_height, pick_small}
 use Rattle.session_core.proofs.Quiet.{same_view, with_groups}
 
@@ -99,12 +99,7 @@ module _ {before : View SessionState} (x : Reference) (named : Named) (names : N
 
 pub stat_refused : {a b : Outside} {old new : SessionState} (x : Reference) (why : Refusal) → OnlyFrames a b old new → IsSession old → IfShown a old (λ before. IsMissing before.machine x why)
     → ReadsLine a b old new (request.Stat x) (Ok (reply.No why))
-stat_refused x why only is missing = record {
-  only = only;
-  stops = tt;
-  sound = tt;
-  stepped = λ before same now. refuses_so (request.Stat x) why only is before same now (λ q. refuses_missing before.machine x why [] (missing before same now));
-}
+stat_refused x why only is missing = missing_refused (request.Stat x) x why only is missing (λ m q. refuses_missing m x why [])
 
 -- it is answered by the machine's reply, with what the volume decides
 answers_stat : {a b : Outside} {old new : SessionState} (x : Reference) (told : Reply) → OnlyFrames a b old new → IsSession old → (before : View SessionState) → before.session ≡ old → ShowsNow meant a before

@@ -1,14 +1,14 @@
 -- What a session sums up of what it shows.
-use Rattle.std.proofs.Common.{◌≡◌, ◌∙◌, ◌⊎◌, ℕ, zero, suc, ◌+◌, ◌≤◌, ◌<◌, ◌*◌, ◌^◌, false, Bool, cond, List, [], ◌∷◌, ◌++◌, length, map, take, Option, Some, Result, Ok, Err, refl, sym, ap, subst, arith, add-one, length-append, inl, inr}
-use Rattle.std.specs.Prelude.{Contains, IfErr, bytes_eq, find, slice_get}
-use Rattle.std.specs.List.{AllByRecursion, AllZip, flat_map, zip}
+use Rattle.std.proofs.Common.{◌≡◌, ◌∙◌, ◌⊎◌, ℕ, zero, suc, ◌+◌, ◌≤◌, ◌<◌, ◌*◌, ◌^◌, false, Bool, cond, List, [], ◌∷◌, ◌++◌, length, map, take, Option, Some, Result, Ok, Err, refl, sym, ap, subst, arith, add-one, length-append}
 use Rattle.std.proofs.lemmas.List.{map-append}
 use Rattle.std.proofs.lemmas.Slice.Eq.{bytes_eq-Decides}
+use Rattle.ex_base.specs.Order.{RisingTexts}
+use Rattle.std.specs.Prelude.{Contains, IfErr, bytes_eq, find, slice_get}
+use Rattle.std.specs.List.{AllByRecursion, AllZip, flat_map, zip}
 use Rattle.ex_base.specs.declared.names.Area.TheVariants.{Page, Segment}
 use Rattle.ex_base.specs.declared.geometry.Geometry.{Geometry}
-use Rattle.ex_base.specs.Order.{RisingTexts}
 use Rattle.ex_base.specs.Sizes.{volume_bytes}
-use Rattle.ex_base.proofs.Members.{In, contains_in}
+use Rattle.ex_base.proofs.Members.{contains_in}
 use Rattle.disk_model.specs.Outside.{Outside}
 use Rattle.op_log.specs.declared.record.LogRecord.{LogRecord}
 use Rattle.object_files.specs.Catalog.{Catalog, CatalogOf, FileEntry, name_of}
@@ -25,12 +25,14 @@ use Rattle.volume_model.proofs.OneReading.{one_catalog}
 use Rattle.volume_model.specs.Parts.{HasIndex}
 use Rattle.volume_model.specs.Shown.{working_units}
 use Rattle.volume_model.specs.Volume.{FileContent, Volume, file_of, table_of}
+use Rattle.open_scans.proofs.Removed.{in_at}
 use Rattle.volume_edits.proofs.Contents.{Beside, zip_by}
 use Rattle.volume_edits.proofs.Lists.{zip_append}
 use Rattle.volume_edits.proofs.Naming.{texts_differ}
 use Rattle.transactions.specs.declared.summary.Summary.{Summary}
 use Rattle.transactions.specs.declared.summary.Totals.{Totals}
 use Rattle.session_core.specs.declared.session.tally.Tally.{Tally}
+use Rattle.session_core.specs.Damage.{TellsDamage, no_version}
 use Rattle.session_core.specs.Finding.{IfFile, IfShown, IsOutside, LineStops}
 use Rattle.session_core.specs.Meant.{meant}
 use Rattle.session_core.specs.Counts.{used_of}
@@ -39,6 +41,7 @@ use Rattle.session_core.specs.Steps.{OnlyFrames, Stops}
 use Rattle.session_core.specs.Tallies.{IsTally, objects_if, objects_named, versions_if, versions_named}
 use Rattle.transactions.specs.Summaries.{AreTotals, IfCatalog, SumsUp}
 use Rattle.session_core.proofs.Accepted.{ReadsCatalog, shown_on, used_is}
+use Rattle.session_core.proofs.Damage.{catalog_told, later_damage}
 use Rattle.session_core.proofs.Listing.{on_after}
 use Rattle.volume_edits.proofs.Records.{paired}
 use Rattle.session_core.proofs.Stopping.{disk_or_memory, unread_outside, unread_stops}
@@ -49,11 +52,6 @@ use Rattle.volume_port.proofs.HeldCatalog.{held_catalog, reads_catalog}
 use Rattle.volume_model.proofs.Volumes.{Parts, as_many_files, shown_parts, shown_table}
 
 -- ---- the entries of a catalog, one after the other
-
-entry_in : (es : List FileEntry) (i : ℕ) (e : FileEntry) → slice_get es i ≡ Some e → In e es
-entry_in [] i e is = absurd (cc)
-entry_in (x ∷ es) zero e is = inl (let same : x ≡ e = cc in sym same)
-entry_in (x ∷ es) (suc i) e is = inr (entry_in es i e is)
 
 count_next : {A : Type 0} (f : FileEntry → List A) (es : List FileEntry) (i : ℕ) (e : FileEntry) → slice_get es i ≡ Some e → length (flat_map f (take (suc i) es)) ≡ length (flat_map f (take i es)) + length (f e)
 count_next f [] i e is = absurd (cc)
@@ -155,7 +153,7 @@ module _ {a b c : Outside} {old mid new : SessionState} (page : List ℕ) (files
   pub next_file : (e : FileEntry) (file_no : ℕ) (P : View SessionState → List ℕ → Type 0) → slice_get (catalog_on page).entries files ≡ Some e → e.file_no ≡ file_no → IfFile b mid file_no P → IfCatalog a old page (λ before. P (with_groups before mid) e.name)
   next_file e file_no P at number each = λ before same now on.
       let later = so_far.shows before same now in
-      let there : Contains (catalog_on page).entries e = contains_in e (catalog_on page).entries (entry_in (catalog_on page).entries files e at) in
+      let there : Contains (catalog_on page).entries e = contains_in e (catalog_on page).entries (in_at (catalog_on page).entries files e at) in
       each (with_groups before mid) refl later e (subst (λ (k : Catalog). Contains k.entries e) (on ∙ catalog_stays before same now so_far.only later) there) number
 
   pub one_more : (e : FileEntry) (file_no : ℕ) (more : Totals) (tally : Tally) → slice_get (catalog_on page).entries files ≡ Some e → e.file_no ≡ file_no → IsMore totals tally more
@@ -191,16 +189,18 @@ pub sums_unread : {a b : Outside} {old mid : SessionState} (why : Stop) → Only
 sums_unread {a} {b} {old} why only is stops = record {
   frames = only;
   stops = unread_stops a b old why stops;
+  damage = catalog_told a b old no_version why stops;
   sound = unread_outside b why is stops;
   sums = λ before same now. tt;
   shows = λ before same now. same_view before same now only is.sizes;
 }
 
 module _ {a b c : Outside} {old mid new : SessionState} (page : List ℕ) (one : OnlyFrames a b old mid) (two : OnlyFrames b c mid new) (is : IsSession old) (reads : ReadsCatalog a old page) where
-  pub sums_stopped : (why : Stop) → LineStops b c why → IfCatalog b mid page (λ before. IsOutside why) → SumsUp a c old new (Err why)
-  sums_stopped why stops sound = record {
+  pub sums_stopped : (why : Stop) → LineStops b c why → TellsDamage b c mid no_version why → IfCatalog b mid page (λ before. IsOutside why) → SumsUp a c old new (Err why)
+  sums_stopped why stops damage sound = record {
     frames = frames_twice one two;
     stops = later_stops a b c why one.reads stops;
+    damage = later_damage old mid one c no_version why damage;
     sound = λ before same now. let later = same_view before same now one is.sizes in sound (with_groups before mid) refl later (on_after page is one reads before same now later);
     sums = λ before same now. tt;
     shows = λ before same now. same_view before same now (frames_twice one two) is.sizes;
@@ -211,6 +211,7 @@ module _ {a b c : Outside} {old mid new : SessionState} (page : List ℕ) (one :
   sums_up last files totals pages segs each counts = record {
     frames = frames_twice one two;
     stops = tt;
+    damage = tt;
     sound = tt;
     sums = λ before same now.
         let session = subst IsSession (sym same) is in

@@ -27,10 +27,10 @@ use Rattle.table_model.proofs.Stepping.{passes, unmet}
 use Rattle.session_views.specs.View.{View, ShowsNow, Stepped}
 use Rattle.volume_model.specs.Shown.{used_in}
 use Rattle.transactions.specs.declared.edits.Need.{Need}
-use Rattle.transactions.specs.Editing.{full_in, room_refusal}
+use Rattle.transactions.specs.Editing.{room_refusal}
 use Rattle.session_core.specs.Meant.{meant, held_view, pick_of}
 use Rattle.session_core.specs.Counts.{free_in}
-use Rattle.transactions.specs.Refused.{long_txn}
+use Rattle.transactions.specs.Refused.{full_in, long_txn}
 use Rattle.session_core.specs.declared.updates.ObjectUpdate.{ObjectUpdate}
 use Rattle.session_core.specs.declared.updates.ObjectUpdate.TheVariants as made
 use Rattle.session_core.specs.Performed.{charge_of}

@@ -1,12 +1,10 @@
 -- What a line that edits a version asks for, why it is refused, and what it leaves.
-use Rattle.std.specs.Prelude.{◌≡◌, ◌≤◌, ◌^◌, ℕ, ◌+◌, ◌-◌, ◌==◌, List, [], ◌∷◌, length, Bool, false, nat_lt, if◌then◌else◌, Option, Some, None, find, Result, Ok, Err}
+use Rattle.std.specs.Prelude.{◌≡◌, ◌≤◌, ◌^◌, ℕ, ◌+◌, List, [], ◌∷◌, length, Bool, false, nat_lt, Option, Some, None, Result, Ok, Err}
 use Rattle.std.specs.Option.{option_or}
 use Rattle.object_files.specs.Catalog.{Catalog, FileEntry}
-use Rattle.object_files.specs.Edits.{has_name}
 use Rattle.transactions.specs.declared.creation.NewObject.{NewObject}
 use Rattle.ex_base.specs.Sizes.{object_most}
 use Rattle.ex_base.specs.declared.geometry.Geometry.{Geometry}
-use Rattle.ex_base.specs.declared.names.Area.{Area}
 use Rattle.ex_base.specs.declared.names.Area.TheVariants.{Page, Segment}
 use Rattle.ex_base.specs.declared.names.Oid.{Oid}
 use Rattle.ex_base.specs.declared.names.OpNote.{OpNote}
@@ -31,8 +29,8 @@ use Rattle.transactions.specs.declared.edits.Admitted.{Admitted}
 use Rattle.session_core.specs.Finding.{NamesVersion}
 use Rattle.session_core.specs.Needs.{fits_beside, size_after, units_need}
 use Rattle.session_core.specs.Meant.{held_view, pick_of}
-use Rattle.session_core.specs.Counts.{free_in}
-use Rattle.transactions.specs.Refused.{long_txn}
+use Rattle.transactions.specs.Making.{number_in}
+use Rattle.transactions.specs.Refused.{entry_named, full_in, long_txn}
 use Rattle.session_core.specs.Sessions.{SessionState}
 
 -- the line asks for this change of the version that the reference names
@@ -79,10 +77,6 @@ pub record IsNeed (need : Need) : Type 0 where
   pub pages : need.pages ≤ 2 ^ 40
   pub segs : need.segs ≤ 2 ^ 40
 
--- the update may take n units of an area
-abbrev pub full_in : SessionState → Area → ℕ → Option Refusal
-full_in s area n = when (nat_lt (free_in s area) n) (refusal.Full area n (free_in s area))
-
 -- the open transaction has no room for an update: of touched pages, of pages, of units of the segment area
 abbrev pub room_refusal : SessionState → Need → Option Refusal
 room_refusal s need = first (long_txn s need.charge ∷ full_in s Page need.pages ∷ full_in s Segment need.segs ∷ [])
@@ -111,10 +105,15 @@ pub record IsWithin (s : SessionState) (change : Change) (given : Admitted) : Ty
 
 -- ---- a new object
 
--- the number of the file that a new object is put into and the object's unique number, or why there is none
-abbrev pub place_if : Option FileEntry → ℕ → Result NewObject Refusal
-place_if None unique = Err refusal.NoFile
-place_if (Some e) unique = if unique == 2 ^ 64 - 1 then Err refusal.IdsSpent else Ok (record { file_no = e.file_no; unique = unique })
+-- what a new object of the file is named by: the file's number, and the object's unique number, if there is one
+abbrev pub numbered_at : FileEntry → Result ℕ Refusal → Result NewObject Refusal
+numbered_at e (Err why) = Err why
+numbered_at e (Ok unique) = Ok (record { file_no = e.file_no; unique = unique })
+
+-- the same of a file that may be missing
+abbrev pub place_if : Option FileEntry → Catalog → Result NewObject Refusal
+place_if None catalog = Err refusal.NoFile
+place_if (Some e) catalog = numbered_at e (number_in catalog)
 
 abbrev pub new_object_in : Catalog → List ℕ → Result NewObject Refusal
-new_object_in catalog file = place_if (find (has_name file) catalog.entries) catalog.next_unique
+new_object_in catalog file = place_if (entry_named catalog file) catalog

@@ -13,6 +13,7 @@ use Rattle.transactions.specs.declared.summary.Summary.{Summary}
 use Rattle.transactions.specs.declared.summary.Totals.{Totals}
 use Rattle.session_core.specs.Sessions.{SessionState}
 use Rattle.session_core.specs.Meant.{meant}
+use Rattle.session_core.specs.Damage.{TellsDamage, no_version}
 use Rattle.session_core.specs.Finding.{IfShown, IsOutside, LineStops}
 use Rattle.session_core.specs.Steps.{OnlyFrames}
 use Rattle.session_core.specs.Tallies.{objects_named, versions_named}
@@ -35,10 +36,12 @@ pub record AreTotals (m : Machine) (entries : List FileEntry) (totals : Totals) 
 abbrev pub IfCatalog : Outside → SessionState → List ℕ → (View SessionState → Type 0) → Type 0
 IfCatalog w s page P = (before : View SessionState) → before.session ≡ s → (now : ShowsNow meant w before) → catalog_on page ≡ now.shows.working.catalog → P before
 
--- A session sums up what it shows, changes nothing but its frames, and goes on showing the same. Where it stops, that is no fault of a volume that shows.
+-- A session sums up what it shows, changes nothing but its frames, and goes on showing the same. Where it stops, that is no fault of a volume that shows, and a
+-- damage that it tells stands there.
 pub record SumsUp (a b : Outside) (old new : SessionState) (result : Result Summary Stop) : Type 0 where
   pub frames : OnlyFrames a b old new
   pub stops : IfErr result (LineStops a b)
+  pub damage : IfErr result (TellsDamage a b old no_version)
   pub sound : IfErr result (λ why. IfShown a old (λ before. IsOutside why))
   pub sums : (before : View SessionState) → before.session ≡ old → ShowsNow meant a before → IfOk result (IsSummary before.machine)
   pub shows : (before : View SessionState) → before.session ≡ old → ShowsNow meant a before → ShowsNow meant b (record before { session = new })

@@ -4,19 +4,18 @@ ghost use Rattle.ex_base.specs.Sizes.{object_most, volume_bytes};
 ghost use Rattle.session_core.specs.Finding.{IfLive, IfShown, IsOutside, LineStops, oid_among};
 ghost use Rattle.transactions.specs.Asking.{CountsItsBytes, asked_change, asked_count};
 ghost use Rattle.versions.specs.Versions.{count_of, record_len};
-ghost use Rattle.transactions.specs.Editing.{bytes_refusal, is_outside};
 ghost use Rattle.session_core.specs.Needs.{root_height, fits_beside, size_after};
 ghost use Rattle.table_model.specs.Machines.{touched_most};
 ghost use Rattle.session_core.specs.Sessions.{IsSession};
 ghost use Rattle.session_core.specs.Steps.{OnlyFrames};
 ghost use Rattle.table_model.specs.Requests.{reference_of};
-ghost use Rattle.transactions.specs.Editing.{IsAnswered, IsAdmitted, IsWithin, IsNeed, full_in, room_refusal, edit_need};
+ghost use Rattle.transactions.specs.Editing.{IsAnswered, IsAdmitted, IsWithin, IsNeed, bytes_refusal, edit_need, is_outside, room_refusal};
 ghost use Rattle.session_core.specs.Damage.{TellsDamage, the_version};
 ghost use Rattle.transactions.specs.Lines.{named_as};
 
 use crate::asked::Asked;
 use crate::needs::{is_inside, size_after, units_need};
-use crate::refuse::{is_frozen, refuses_touching};
+use crate::refuse::{is_frozen, refuses_touching, refuses_units};
 use disk_model::{Disk, Host};
 use ex_base::{Area, OBJECT_MOST};
 use session_core::{Named, Session};
@@ -85,17 +84,6 @@ fn height_of(found: &Found) -> u8
         Some(root) => root.height,
         None => 0,
     }
-}
-
-/// Why the open transaction takes no such number of units of an area.
-fn refuses_units(session: &Session, area: Area, need: u64) -> Option<Refusal>
-    ensures { result ≡ full_in session.now area need }
-{
-    let free = u64::from(session.free(area));
-    if free < need {
-        return Some(Refusal::Full { area, need, free });
-    }
-    None
 }
 
 /// Why the open transaction has no room for an update.

@@ -1,11 +1,12 @@
 //! What lines read of objects.
-ghost use Rattle.std.specs.Prelude.{◌≡◌, ◌≤◌, find, option_map, IfErr};
+ghost use Rattle.std.specs.Prelude.{◌≡◌, ◌≤◌, option_map, IfErr};
 ghost use Rattle.ex_base.specs.Sizes.{volume_bytes};
-ghost use Rattle.object_files.specs.Edits.{IsCatalogPage, has_name};
+ghost use Rattle.object_files.specs.Edits.{IsCatalogPage};
 ghost use Rattle.object_files.specs.Reads.{catalog_on};
 ghost use Rattle.table_model.specs.Requests.{reference_of};
 ghost use Rattle.table_model.specs.Requests as request;
 ghost use Rattle.transactions.specs.Lines.{ReadsLine, named_as};
+ghost use Rattle.transactions.specs.Refused.{entry_named};
 ghost use Rattle.session_core.specs.Damage.{TellsDamage, no_version};
 
 use crate::refuse::entry_named;
@@ -24,7 +25,7 @@ const LEAVES_TOLD: usize = 16;
 fn number_named(page: &[u8], name: &[u8]) -> Option<u32>
     requires { IsCatalogPage page.now }
     ensures { result ≡ option_map
-        (λ e. e.file_no) (find (has_name name.now) (catalog_on page.now).entries) }
+        (λ e. e.file_no) (entry_named (catalog_on page.now) name.now) }
 {
     match entry_named(&view_of(page), name) {
         Some(entry) => Some(entry.file_no),

@@ -1,9 +1,9 @@
 //! Why updates are refused.
-ghost use Rattle.std.specs.Prelude.{◌≡◌, ◌≤◌, find, option_map};
-ghost use Rattle.object_files.specs.Edits.{has_name};
+ghost use Rattle.std.specs.Prelude.{◌≡◌, ◌≤◌, option_map};
 ghost use Rattle.object_files.specs.Reads.{entry_of};
+ghost use Rattle.table_model.specs.Machines.{touched_most};
 ghost use Rattle.volume_model.specs.Volume.{is_frozen};
-ghost use Rattle.transactions.specs.Refused.{file_refusal, unfile_refusal, long_txn, full_pages};
+ghost use Rattle.transactions.specs.Refused.{entry_named, file_refusal, unfile_refusal, long_txn, full_in};
 
 use ex_base::{Area, TOUCHED_MOST, UPDATES_MOST};
 use object_files::{CatalogView, Entry};
@@ -13,14 +13,14 @@ use table_model::Refusal;
 use versions::Found;
 
 /// The pages that `file` may take.
-const FILE_NEED: u32 = 2;
+const FILE_NEED: u64 = 2;
 
 /// The logged pages that `file` and `unfile` may touch.
 const FILE_CHARGE: u32 = 2;
 
 /// The file with a name.
 pub(crate) fn entry_named<'a>(catalog: &CatalogView<'a>, name: &[u8]) -> Option<Entry<'a>>
-    ensures { option_map entry_of result ≡ find (has_name name.now) catalog.now.entries }
+    ensures { option_map entry_of result ≡ entry_named catalog.now name.now }
 {
     for index in 0..catalog.len() {
         let entry = catalog.entry(index);
@@ -55,7 +55,7 @@ pub(crate) fn refuses_file(
     if let Some(why) = refuses_touching(session, FILE_CHARGE) {
         return Some(why);
     }
-    refuses_taking(session, FILE_NEED)
+    refuses_units(session, Area::Page, FILE_NEED)
 }
 
 /// Why the open transaction removes no file of this name.
@@ -79,7 +79,7 @@ pub(crate) fn refuses_unfile(
 
 /// Why the open transaction accepts no update that may touch so many logged pages more.
 pub(crate) fn refuses_touching(session: &Session, charge: u32) -> Option<Refusal>
-    requires { charge ≤ 128 }
+    requires { charge ≤ touched_most }
     ensures { result ≡ long_txn session.now charge }
 {
     let updates = session.updates();
@@ -90,17 +90,13 @@ pub(crate) fn refuses_touching(session: &Session, charge: u32) -> Option<Refusal
     None
 }
 
-/// Why the open transaction takes no such number of pages more.
-fn refuses_taking(session: &Session, need: u32) -> Option<Refusal>
-    ensures { result ≡ full_pages session.now need }
+/// Why the open transaction takes no such number of units of an area.
+pub(crate) fn refuses_units(session: &Session, area: Area, need: u64) -> Option<Refusal>
+    ensures { result ≡ full_in session.now area need }
 {
-    let free = session.free(Area::Page);
+    let free = u64::from(session.free(area));
     if free < need {
-        return Some(Refusal::Full {
-            area: Area::Page,
-            need: u64::from(need),
-            free: u64::from(free),
-        });
+        return Some(Refusal::Full { area, need, free });
     }
     None
 }

@@ -5,10 +5,12 @@ ghost use Rattle.ex_base.specs.declared.names.PageNo.{PageNo};
 ghost use Rattle.disk_model.specs.Outside.{ReadsOnly, Rose};
 ghost use Rattle.session_views.specs.declared.engine.Stop.{Stop};
 ghost use Rattle.session_views.specs.View.{View, ShowsNow};
+ghost use Rattle.tree_store.specs.Stored.{Tells};
 ghost use Rattle.session_core.specs.Sessions.{SessionState};
 ghost use Rattle.ex_base.specs.Sizes.{volume_bytes};
 ghost use Rattle.object_files.specs.Edits.{IsCatalogPage};
 ghost use Rattle.object_files.specs.Reads.{catalog_on};
+ghost use Rattle.session_core.specs.Damage.{IsSessionDamage, TellsDamage, no_version};
 ghost use Rattle.session_core.specs.Finding.{IfShown, IsOutside, LineStops};
 ghost use Rattle.session_core.specs.Steps.{OnlyFrames};
 ghost use Rattle.session_core.specs.Meant.{meant};
@@ -83,6 +85,8 @@ fn total_in<H: Host>(
     ensures totals { IfOk result (λ totals. IfCatalog (H.outside host.old) session.old page.now
         (λ before. AreTotals before.machine (catalog_on page.now).entries totals)) }
     ensures stops { IfErr result (LineStops (H.outside host.old) (H.outside host.new)) }
+    ensures damage { IfErr result (TellsDamage (H.outside host.old) (H.outside host.new)
+        session.old no_version) }
     ensures sound { IfErr result (λ why. IfCatalog (H.outside host.old) session.old page.now
         (λ before. IsOutside why)) }
 {
@@ -115,6 +119,13 @@ pub fn summarize<H: Host>(
         → Rose (H.outside host.old).disk_faults (H.outside host.new).disk_faults }
     ensures damaged { (page : PageNo) (want got : Seen)
         → result ≡ Err (Stop.Damaged page want got) → want ≢ got }
+
+    // What is told of a damaged page stands there, as after a step that names no version.
+    ensures stands { (page : PageNo) (want got : Seen)
+        → result ≡ Err (Stop.Damaged page want got)
+        → Tells (H.outside host.old) session.old.groups
+        → IsSessionDamage (H.outside host.old) (H.outside host.new) session.old no_version
+        page want got }
 
     // Where a view shows, it is the summary of the machine that the view shows,
     ensures sums { (before : View SessionState) → before.session ≡ session.old

@@ -1,5 +1,5 @@
 //! Files are made and removed.
-ghost use Rattle.std.specs.Prelude.{◌≡◌, ◌≤◌, ◌<◌, ◌+◌, ◌-◌, ◌*◌, ◌^◌, IsTrue, Contains, length, map, true, OnOk};
+ghost use Rattle.std.specs.Prelude.{◌≡◌, ◌≤◌, ◌<◌, ◌+◌, ◌-◌, ◌*◌, IsTrue, Contains, length, map};
 ghost use Rattle.ex_base.specs.Sizes.{volume_bytes};
 ghost use Rattle.object_files.specs.Catalog.{CatalogOf, IsName, name_of};
 ghost use Rattle.object_files.specs.Edits.{IsCatalogPage, entries_on, with_entries, entry_inserted, new_file, without_name};

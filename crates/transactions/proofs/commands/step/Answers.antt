@@ -3,6 +3,7 @@ use Rattle.session_core.specs.Sessions.{SessionState}
 use Rattle.disk_model.specs.Changes.{changes_refl}
 use Rattle.volume_model.specs.Durable.{IsDurable}
 use Rattle.table_model.specs.Requests.{request_of}
+use Rattle.transactions.specs.Commands.{names_version}
 use Rattle.transactions.proofs.Commanding.{is_sound, leaves_durable, leaves_records}
 use Rattle.transactions.proofs.Damage.{damage_at}
 use Rattle.transactions.proofs.commands.step.Goals as goal
@@ -34,7 +35,9 @@ pub returns-else-is_err-clause-records : goal.returns-else-is_err-clause-records
 returns-else-is_err-clause-records g c = λ quiet before from now records says. leaves_records (request_of c.args.command.now) c.answer-told.result c.is_down.ensures.session c.answer-told.ensures.answers quiet before from now records says
 
 pub returns-then-is_err-clause-stands : goal.returns-then-is_err-clause-stands
-returns-then-is_err-clause-stands g c = λ page want got is. damage_at (g.H.World.outside c.args.host.now) (g.H.World.outside c.answer-told.new.host) c.args.session.now (request_of c.args.command.now) c.answer-told.result page want got c.answer-told.ensures.damage is
+returns-then-is_err-clause-stands g c = λ page want got is. damage_at (g.H.World.outside c.args.host.now) (g.H.World.outside c.answer-told.new.host) c.args.session.now
+    (names_version c.args.session.now (request_of c.args.command.now)) c.answer-told.result page want got c.answer-told.ensures.damage is
 
 pub returns-else-is_err-clause-stands : goal.returns-else-is_err-clause-stands
-returns-else-is_err-clause-stands g c = λ page want got is. damage_at (g.H.World.outside c.args.host.now) (g.H.World.outside c.answer-told.new.host) c.args.session.now (request_of c.args.command.now) c.answer-told.result page want got c.answer-told.ensures.damage is
+returns-else-is_err-clause-stands g c = λ page want got is. damage_at (g.H.World.outside c.args.host.now) (g.H.World.outside c.answer-told.new.host) c.args.session.now
+    (names_version c.args.session.now (request_of c.args.command.now)) c.answer-told.result page want got c.answer-told.ensures.damage is

@@ -1,4 +1,4 @@
-use Rattle.std.proofs.Common.{◌≡◌, ◌∙◌, ◌&&◌, ℕ, List, Ok, arith, refl, subst, sym}
+use Rattle.std.proofs.Common.{◌∙◌, ◌&&◌, ℕ, List, Ok, arith, refl, subst, sym}
 use Rattle.std.specs.Prelude.{nat_le}
 use Rattle.std.proofs.lemmas.Bool.{and_parts, leb-true}
 use Rattle.table_model.specs.declared.reply.Reply.TheVariants as reply

@@ -1,8 +1,8 @@
 use Rattle.std.proofs.Common.{◌∙◌, ℕ, List, ap}
-use Rattle.std.specs.Prelude.{find, option_map}
+use Rattle.std.specs.Prelude.{option_map}
 use Rattle.object_files.specs.Catalog.{FileEntry}
-use Rattle.object_files.specs.Edits.{has_name}
 use Rattle.object_files.specs.Reads.{catalog_on}
+use Rattle.transactions.specs.Refused.{entry_named}
 use Rattle.transactions.proofs.Listing.{list_line, list_refused, list_stopped, list_unread}
 use Rattle.session_core.proofs.Damage.{catalog_told, later_damage}
 use Rattle.session_core.specs.Damage.{no_version}
@@ -14,18 +14,18 @@ returns-in-Err-clause-line g c = list_unread c.args.name.now c.in-Err.stop c.cat
 pub returns-in-None-clause-line : goal.returns-in-None-clause-line
 returns-in-None-clause-line g c =
     list_refused c.args.name.now c.in-Ok.page.items c.catalog.ensures.frames c.catalog.ensures.session (record { catalog = c.in-Ok.ensures.catalog; read = c.in-Ok.ensures.read })
-    (c.in-None.ensures ∙ ap (λ (page : List ℕ). option_map (λ (e : FileEntry). e.file_no) (find (has_name c.args.name.now) (catalog_on page).entries)) c.deref.ensures.value)
+    (c.in-None.ensures ∙ ap (λ (page : List ℕ). option_map (λ (e : FileEntry). e.file_no) (entry_named (catalog_on page) c.args.name.now)) c.deref.ensures.value)
 
 pub returns-in-Ok-objects_of-clause-line : goal.returns-in-Ok-objects_of-clause-line
 returns-in-Ok-objects_of-clause-line g c =
     list_line c.args.name.now c.in-Ok.page.items c.in-Some.file_no c.catalog.ensures.frames c.objects_of.ensures.only c.catalog.ensures.session (record { catalog = c.in-Ok.ensures.catalog; read = c.in-Ok.ensures.read })
-    (c.in-Some.ensures ∙ ap (λ (page : List ℕ). option_map (λ (e : FileEntry). e.file_no) (find (has_name c.args.name.now) (catalog_on page).entries)) c.deref.ensures.value)
+    (c.in-Some.ensures ∙ ap (λ (page : List ℕ). option_map (λ (e : FileEntry). e.file_no) (entry_named (catalog_on page) c.args.name.now)) c.deref.ensures.value)
     c.of.result (λ before same now e there number. c.of.ensures ∙ c.in-Ok-objects_of.ensures.oids before same now e there number)
 
 pub returns-clause-line : goal.returns-clause-line
 returns-clause-line g c =
     list_stopped c.args.name.now c.in-Ok.page.items c.in-Some.file_no c.catalog.ensures.frames c.objects_of.ensures.only c.catalog.ensures.session (record { catalog = c.in-Ok.ensures.catalog; read = c.in-Ok.ensures.read })
-    (c.in-Some.ensures ∙ ap (λ (page : List ℕ). option_map (λ (e : FileEntry). e.file_no) (find (has_name c.args.name.now) (catalog_on page).entries)) c.deref.ensures.value)
+    (c.in-Some.ensures ∙ ap (λ (page : List ℕ). option_map (λ (e : FileEntry). e.file_no) (entry_named (catalog_on page) c.args.name.now)) c.deref.ensures.value)
     c.in-Err-objects_of.stop c.in-Err-objects_of.ensures.stops c.in-Err-objects_of.ensures.sound
 
 pub returns-in-Err-clause-damage : goal.returns-in-Err-clause-damage

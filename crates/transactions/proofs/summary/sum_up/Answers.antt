@@ -13,6 +13,7 @@ returns-in-Err g c = sums_unread c.in-Err.stop c.catalog.ensures.frames c.catalo
 pub returns-in-Err-total_in : goal.returns-in-Err-total_in
 returns-in-Err-total_in g c =
     sums_stopped c.in-Ok.page.items c.catalog.ensures.frames c.total_in.ensures.only c.catalog.ensures.session (record { catalog = c.in-Ok.ensures.catalog; read = c.in-Ok.ensures.read }) c.in-Err-total_in.stop c.in-Err-total_in.ensures.stops
+    c.in-Err-total_in.ensures.damage
     (subst (λ (page : List ℕ). IfCatalog (g.H.World.outside c.catalog.new.disk) c.catalog.new.self page (λ before. IsOutside c.in-Err-total_in.stop)) c.deref.ensures.value c.in-Err-total_in.ensures.sound)
 
 pub returns : goal.returns

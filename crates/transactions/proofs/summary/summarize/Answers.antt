@@ -1,4 +1,6 @@
 use Rattle.versions.proofs.Results.{ok_of}
+use Rattle.session_core.specs.Damage.{no_version}
+use Rattle.transactions.proofs.Damage.{damage_at}
 use Rattle.transactions.proofs.Summing.{sums_soundly}
 use Rattle.transactions.proofs.summary.summarize.Goals as goal
 
@@ -7,3 +9,9 @@ returns-then-is_err-clause-sound g c = λ before why from now is. sums_soundly c
 
 pub returns-else-is_err-clause-shows : goal.returns-else-is_err-clause-shows
 returns-else-is_err-clause-shows g c = λ before same now. ok_of c.sum_up-summary.result _ (c.sum_up-summary.ensures.shows before same now)
+
+pub returns-then-is_err-clause-stands : goal.returns-then-is_err-clause-stands
+returns-then-is_err-clause-stands g c = λ page want got is. damage_at (g.H.World.outside c.args.host.now) (g.H.World.outside c.sum_up-summary.new.host) c.args.session.now no_version c.sum_up-summary.result page want got c.sum_up-summary.ensures.damage is
+
+pub returns-else-is_err-clause-stands : goal.returns-else-is_err-clause-stands
+returns-else-is_err-clause-stands g c = λ page want got is. damage_at (g.H.World.outside c.args.host.now) (g.H.World.outside c.sum_up-summary.new.host) c.args.session.now no_version c.sum_up-summary.result page want got c.sum_up-summary.ensures.damage is

@@ -1,10 +1,9 @@
-use Rattle.std.proofs.Common.{◌<◌, ◌-◌, ◌^◌, map}
+use Rattle.std.proofs.Common.{◌-◌, map}
 use Rattle.std.specs.Prelude.{Contains}
 use Rattle.object_files.specs.Catalog.{name_of}
 use Rattle.object_files.specs.Edits.{IsCatalogPage}
 use Rattle.std.proofs.Common.{◌∙◌, sym, subst, List, ℕ}
 use Rattle.object_files.specs.Catalog.{Catalog}
-use Rattle.object_files.specs.Reads.{catalog_on}
 use Rattle.table_model.specs.Requests as request
 use Rattle.transactions.proofs.Accepted.{file_told, file_no}
 use Rattle.session_core.proofs.Accepted.{no_open_txn}
