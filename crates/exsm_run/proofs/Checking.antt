@@ -1,6 +1,5 @@
 -- What `check` promises.
-use Rattle.std.proofs.Common.{◌≡◌, ◌≢◌, ◌∙◌, ◌⊎◌, ⊎_elim, ◌<◌, ℕ, List, ◌++◌, Some, length, take, Result, Ok, Err, OnErr, true, inl, inr, refl, subst, arith, IsTrue}
-use Rattle.std.specs.Result.{is_err}
+use Rattle.std.proofs.Common.{◌≡◌, ◌≢◌, ◌∙◌, ◌⊎◌, ⊎_elim, ◌<◌, ℕ, List, ◌++◌, Some, length, take, inl, inr, refl, subst, arith, IsTrue}
 use Rattle.disk_model.specs.Outside.{Outside, DiskOnly, IsWorld, Leaves, Rose, SinkOnly}
 use Rattle.disk_model.specs.Runs.{sink_refl}
 use Rattle.table_model.specs.declared.table.Table.{Table}
@@ -12,7 +11,6 @@ use Rattle.transactions.specs.declared.summary.Summary.{Summary}
 use Rattle.volume_model.specs.Parts.{StandsFor}
 use Rattle.command_line.specs.declared.status.Status.{Status}
 use Rattle.command_line.specs.declared.status.Status.TheVariants as status
-use Rattle.command_line.specs.Status.{IsRefusal}
 use Rattle.exsm_run.specs.Check.{CheckPromise, HoldsCounted, IsCount, IsLineStatus, StopsCount, check_line, counts_line}
 use Rattle.exsm_run.specs.Openings.{OpeningPromise}
 use Rattle.exsm_run.specs.Script.{HoldsVolume}
@@ -20,19 +18,6 @@ use Rattle.exsm_run.proofs.Ending.{starts_on}
 use Rattle.exsm_run.proofs.Lines.{leaves_sink, line_status, opened_well}
 
 -- ---- no count was made
-
-pub stopped_refusal : (s : Status) (a b : Outside) → StopsCount s a b → IsRefusal s → ⊥
-stopped_refusal status.Done a b stops is = stops
-stopped_refusal status.Usage a b stops is = stops
-stopped_refusal status.ScriptFault a b stops is = stops
-stopped_refusal status.OutputFault a b stops is = stops
-stopped_refusal status.DiskFault a b stops is = is
-stopped_refusal (status.BadVolume part) a b stops is = is
-stopped_refusal status.Memory a b stops is = is
-stopped_refusal (status.Damaged page want got) a b stops is = is
-stopped_refusal status.AlreadyVolume a b stops is = stops
-stopped_refusal (status.TooSmall have need) a b stops is = stops
-stopped_refusal (status.ScriptLong max) a b stops is = stops
 
 pub check_stopped : {a b : Outside} (s : Status) → DiskOnly a b → StopsCount s a b
     → ((table : Table) (was : List ℕ) → HoldsVolume a table was → (s ≡ status.DiskFault) ⊎ (s ≡ status.Memory))
@@ -151,7 +136,3 @@ whole_line line only sent = record {
   nothing = λ done output. absurd (done refl);
   output = λ is. absurd (cc);
 }
-
-pub at_error : {X E : Type 0} (r : Result X E) (Q : Type 0) → is_err r ≡ true → OnErr r Q → Q
-at_error (Ok x) Q is h = absurd (cc)
-at_error (Err e) Q is h = h

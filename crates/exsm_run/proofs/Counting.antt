@@ -71,11 +71,6 @@ count_of {mid} {now} {table} world opened reads s sum =
 
 -- ---- why there is no count
 
-pub stops_unopened : (f : OpenFault) (before after : Outside) → (f ≡ open_fault.Disk → Rose before.disk_faults after.disk_faults) → StopsCount (unopened_status f) before after
-stops_unopened open_fault.Memory before after disk = tt
-stops_unopened open_fault.Disk before after disk = disk refl
-stops_unopened (open_fault.BadVolume part) before after disk = tt
-
 pub stops_session : (s : Stop) (told : Status) (before after : Outside) → StopsAs s told → (s ≡ stop.Disk → Rose before.disk_faults after.disk_faults)
     → ((page : PageNo) (want got : Seen) → s ≡ stop.Damaged page want got → want ≢ got) → StopsCount told before after
 stops_session stop.Memory told before after is disk damaged = subst (λ (x : Status). StopsCount x before after) (sym is) tt

@@ -41,17 +41,6 @@ use Rattle.exsm_run.proofs.Ending.{left_alone, opening_status, starts_on}
 abbrev pub StopsGen : Stopped → Type 0
 StopsGen why = IsOpeningStop why ⊎ (IsSessionStop why ⊎ (why ≡ stopped.Memory))
 
-pub no_script : (why : Stopped) → StopsGen why → status_of 0 (Some why) ≡ status.ScriptFault → ⊥
-no_script stopped.Script (inl h) is = h
-no_script stopped.Script (inr (inl h)) is = h
-no_script stopped.Script (inr (inr h)) is = cc
-no_script stopped.Output whence is = cc
-no_script stopped.Disk whence is = cc
-no_script stopped.Memory whence is = cc
-no_script (stopped.BadVolume part) whence is = cc
-no_script (stopped.Damaged page want got) whence is = cc
-no_script stopped.ScriptLong whence is = cc
-
 pub no_output : (why : Stopped) → StopsGen why → status_of 0 (Some why) ≡ status.OutputFault → ⊥
 no_output stopped.Script whence is = cc
 no_output stopped.Output (inl h) is = h

@@ -3,7 +3,7 @@ ghost use Rattle.std.specs.Prelude.{◌≡◌, ◌≢◌, ◌≤◌, ◌<◌, �
 ghost use Rattle.ex_base.specs.Sizes.{volume_bytes};
 ghost use Rattle.ex_base.specs.Superblock.{format_now, magic, super_page};
 ghost use Rattle.object_files.specs.Catalog.{CatalogOf, fresh_catalog};
-ghost use Rattle.disk_model.specs.Outside.{Rose, Goes, Only, DiskOnly, ReadsOnly, RestsOn, Leaves, Along};
+ghost use Rattle.disk_model.specs.Outside.{Rose, Goes, Only, ReadsOnly, RestsOn, Leaves, Along};
 ghost use Rattle.disk_model.specs.Changes.{ChangesWithin};
 ghost use Rattle.exsm_run.specs.EmptyVolume.{HasMagic, IsUnmadeOrEmpty, IsMade, IsPrepared, IsPreparedAt};
 ghost use Rattle.exsm_run.specs.Status.{IsRefusal};

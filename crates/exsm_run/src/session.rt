@@ -33,6 +33,8 @@ impl VolumeSession {
     ghost use Rattle.ex_base.specs.declared.names.PageNo.{PageNo};
     ghost use Rattle.session_views.specs.declared.engine.Stop.{Stop};
     ghost use Rattle.session_views.specs.View.{View, ShowsNow};
+    ghost use Rattle.tree_store.specs.Stored.{Tells};
+    ghost use Rattle.session_core.specs.Damage.{IsSessionDamage, no_version};
     ghost use Rattle.session_core.specs.Meant.{meant};
     ghost use Rattle.session_core.specs.Sessions.{SessionState};
     ghost use Rattle.transactions.specs.Summaries.{IsSummary};
@@ -45,6 +47,13 @@ impl VolumeSession {
             → Rose (H.outside host.old).disk_faults (H.outside host.new).disk_faults }
         ensures damaged { (page : PageNo) (want got : Seen)
             → result ≡ Err (Stop.Damaged page want got) → want ≢ got }
+
+        // What is told of a damaged page stands there, as after a step that names no version.
+        ensures stands { (page : PageNo) (want got : Seen)
+            → result ≡ Err (Stop.Damaged page want got)
+            → Tells (H.outside host.old) self.old.groups
+            → IsSessionDamage (H.outside host.old) (H.outside host.new) self.old no_version
+            page want got }
 
         // Where a view shows, it is the summary of the machine that the view shows, and the view goes on to be shown.
         ensures sums { (before : View SessionState) → before.session ≡ self.old

@@ -1,7 +1,8 @@
-use Rattle.std.proofs.Common.{◌≡◌, ◌∙◌, ◌<◌, ◌++◌, ℕ, List, Some, length, take, refl, sym, subst}
+use Rattle.std.proofs.Common.{◌∙◌, refl, sym}
 use Rattle.ex_base.proofs.Results.{if_no_error}
-use Rattle.exsm_run.specs.Check.{counts_line, StopsCount}
-use Rattle.exsm_run.proofs.Checking.{check_stopped, check_sent, cut_line, stopped_refusal, unsent, whole_line, at_error}
+use Rattle.runs.proofs.Sending.{at_err}
+use Rattle.exsm_run.specs.Check.{counts_line}
+use Rattle.exsm_run.proofs.Checking.{check_stopped, check_sent, cut_line, unsent, whole_line}
 use Rattle.exsm_run.proofs.check.checked.Goals as goal
 
 pub returns-in-Err-clause-promise : goal.returns-in-Err-clause-promise
@@ -19,8 +20,8 @@ returns-then-is_err-clause-promise g c =
     let s = c.in-Ok.summary in
     check_sent _ s c.as_bytes.result.now (g.H.World.is_world c.counted.new.host) c.counted.ensures.only c.in-Ok.ensures.counts c.counted.ensures.any_moment
     c.in-Ok.ensures.opened (c.as_bytes.ensures.value ∙ c.in-Ok-line_of.ensures)
-    (cut_line c.as_bytes.result.now c.send_all.ensures.only (at_error c.send_all.result _ (sym c.is_err.ensures.value ∙ c.if-is_err.true) c.send_all.ensures.cause)
-    (at_error c.send_all.result _ (sym c.is_err.ensures.value ∙ c.if-is_err.true) c.send_all.ensures.failed))
+    (cut_line c.as_bytes.result.now c.send_all.ensures.only (at_err c.send_all.result _ (sym c.is_err.ensures.value ∙ c.if-is_err.true) c.send_all.ensures.cause)
+    (at_err c.send_all.result _ (sym c.is_err.ensures.value ∙ c.if-is_err.true) c.send_all.ensures.failed))
 
 pub returns-clause-promise : goal.returns-clause-promise
 returns-clause-promise g c =

@@ -1,11 +1,9 @@
-use Rattle.std.proofs.Common.{◌≡◌, ◌⊎◌, ◌∙◌, ◌<◌, refl, sym, ap, subst, arith, Err, true≢false}
-use Rattle.disk_model.specs.Outside.{Rose}
+use Rattle.std.proofs.Common.{◌≡◌, ◌⊎◌, ◌∙◌, refl, sym, ap, subst, arith, Err, true≢false}
 use Rattle.disk_model.specs.Runs.{honest_on, leaves_quiet}
 use Rattle.session_views.specs.Opening.{StandsOpening}
 use Rattle.session_core.specs.Meant.{meant}
 use Rattle.command_line.specs.declared.status.Status.{Status}
 use Rattle.command_line.specs.declared.status.Status.TheVariants as status
-use Rattle.exsm_run.specs.Check.{StopsCount}
 use Rattle.exsm_run.specs.Openings.{OpeningPromise}
 use Rattle.exsm_run.proofs.Counting.{count_of, stops_session, unopened_so, stopped_so, no_bad_session, unopened_well}
 use Rattle.exsm_run.proofs.Lines.{opened_well}

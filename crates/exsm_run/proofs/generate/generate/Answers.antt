@@ -1,9 +1,10 @@
-use Rattle.std.proofs.Common.{◌≡◌, ◌∙◌, ⊎_elim, [], refl, sym, ap, subst, arith, Err}
+use Rattle.std.proofs.Common.{◌∙◌, ⊎_elim, [], refl, sym, ap, subst, arith, Err}
 use Rattle.ex_base.proofs.Results.{if_no_error}
 use Rattle.talks.specs.Stops.{IsOpeningStop}
 use Rattle.command_line.specs.declared.status.Status.{Status}
+use Rattle.runs.proofs.Sending.{at_err}
 use Rattle.exsm_run.specs.Generate.{GenPromise}
-use Rattle.exsm_run.proofs.Checking.{cut_line, unsent, whole_line, at_error}
+use Rattle.exsm_run.proofs.Checking.{cut_line, unsent, whole_line}
 use Rattle.exsm_run.proofs.Opened.{err_same}
 use Rattle.exsm_run.proofs.Generating.{gen_stopped, gen_sent}
 use Rattle.exsm_run.proofs.generate.generate.Goals as goal
@@ -25,7 +26,7 @@ returns-in_default-summary-clause-promise g c =
 
 pub returns-then-is_err-clause-output_fault : goal.returns-then-is_err-clause-output_fault
 returns-then-is_err-clause-output_fault g c is =
-    let rose = at_error c.send_all.result _ (sym c.is_err.ensures.value ∙ c.if-is_err.true) c.send_all.ensures.cause in
+    let rose = at_err c.send_all.result _ (sym c.is_err.ensures.value ∙ c.if-is_err.true) c.send_all.ensures.cause in
     omega (arith, rose, c.run_talk.ensures.goes.write_faults)
 
 pub returns-then-is_err-clause-promise : goal.returns-then-is_err-clause-promise
@@ -34,8 +35,8 @@ returns-then-is_err-clause-promise g c =
     gen_sent _ c.args.seed c.args.count c.make-talk.result c.run_talk.new.talk c.as_bytes.result.now (g.H.World.is_world c.run_talk.new.host) promise.goes c.make-talk.ensures.lines c.make-talk.ensures.few c.make-talk.ensures.none
     (λ is replies tally. c.as_bytes.ensures.value ∙ c.in-Ok.ensures replies tally) promise.whole promise.over
     (λ image part holds fails. let is = (promise.unopened image part holds fails).1 in cc)
-    (cut_line c.as_bytes.result.now c.send_all.ensures.only (at_error c.send_all.result _ (sym c.is_err.ensures.value ∙ c.if-is_err.true) c.send_all.ensures.cause)
-    (at_error c.send_all.result _ (sym c.is_err.ensures.value ∙ c.if-is_err.true) c.send_all.ensures.failed))
+    (cut_line c.as_bytes.result.now c.send_all.ensures.only (at_err c.send_all.result _ (sym c.is_err.ensures.value ∙ c.if-is_err.true) c.send_all.ensures.cause)
+    (at_err c.send_all.result _ (sym c.is_err.ensures.value ∙ c.if-is_err.true) c.send_all.ensures.failed))
 
 pub returns-clause-promise : goal.returns-clause-promise
 returns-clause-promise g c =
