@@ -1,23 +1,20 @@
 -- What a session sums up of what it shows.
-use Rattle.std.proofs.Common.{◌≡◌, ◌∙◌, ◌⊎◌, ℕ, zero, suc, ◌+◌, ◌≤◌, ◌<◌, ◌*◌, ◌^◌, false, Bool, cond, List, [], ◌∷◌, ◌++◌, length, map, take, Option, Some, Result, Ok, Err, refl, sym, ap, subst, arith, add-one, length-append}
-use Rattle.std.proofs.lemmas.List.{map-append}
-use Rattle.std.proofs.lemmas.Slice.Eq.{bytes_eq-Decides}
-use Rattle.ex_base.specs.Order.{RisingTexts}
-use Rattle.std.specs.Prelude.{Contains, IfErr, bytes_eq, find, slice_get}
-use Rattle.std.specs.List.{AllByRecursion, AllZip, flat_map, zip}
+use Rattle.std.proofs.Common.{◌≡◌, ◌∙◌, ◌⊎◌, ℕ, zero, suc, ◌+◌, ◌≤◌, ◌<◌, ◌*◌, ◌^◌, List, [], ◌∷◌, ◌++◌, length, map, take, Option, Some, Result, Ok, Err, refl, sym, ap, subst, arith, add-one, length-append}
+use Rattle.std.specs.Prelude.{Contains, IfErr, slice_get}
+use Rattle.std.specs.List.{AllZip, flat_map, zip}
 use Rattle.ex_base.specs.declared.names.Area.TheVariants.{Page, Segment}
 use Rattle.ex_base.specs.declared.geometry.Geometry.{Geometry}
 use Rattle.ex_base.specs.Sizes.{volume_bytes}
 use Rattle.ex_base.proofs.Members.{contains_in}
 use Rattle.disk_model.specs.Outside.{Outside}
 use Rattle.op_log.specs.declared.record.LogRecord.{LogRecord}
-use Rattle.object_files.specs.Catalog.{Catalog, CatalogOf, FileEntry, name_of}
+use Rattle.object_files.specs.Catalog.{Catalog, CatalogOf, FileEntry}
 use Rattle.object_files.specs.Reads.{catalog_on}
 use Rattle.trees.specs.Trees.{Units}
 use Rattle.table_model.specs.declared.table.Table.{Table}
 use Rattle.table_model.specs.declared.table.TableFile.{TableFile}
 use Rattle.table_model.specs.Machines.{shown}
-use Rattle.table_model.specs.Tables.{file_at, has_name}
+use Rattle.table_model.specs.Tables.{file_at}
 use Rattle.session_views.specs.declared.engine.Stop.{Stop}
 use Rattle.session_views.specs.declared.engine.Stop.TheVariants as stop
 use Rattle.session_views.specs.View.{View, ShowsNow}
@@ -26,9 +23,8 @@ use Rattle.volume_model.specs.Parts.{HasIndex}
 use Rattle.volume_model.specs.Shown.{working_units}
 use Rattle.volume_model.specs.Volume.{FileContent, Volume, file_of, table_of}
 use Rattle.open_scans.proofs.Removed.{in_at}
-use Rattle.volume_edits.proofs.Contents.{Beside, zip_by}
-use Rattle.volume_edits.proofs.Lists.{zip_append}
-use Rattle.volume_edits.proofs.Naming.{texts_differ}
+use Rattle.volume_edits.proofs.Contents.{zip_by}
+use Rattle.volume_edits.proofs.Listed.{file_named}
 use Rattle.transactions.specs.declared.summary.Summary.{Summary}
 use Rattle.transactions.specs.declared.summary.Totals.{Totals}
 use Rattle.session_core.specs.declared.session.tally.Tally.{Tally}
@@ -61,12 +57,6 @@ count_next f (x ∷ es) (suc i) e is = omega (arith, length-append (f x) (flat_m
 -- ---- the files of a table, found by name
 
 module _ (U : Units) where
-  named_past : (e : FileEntry) (f : FileContent) (behind : List TableFile) (xs : List FileEntry) (us : List FileContent) → AllByRecursion (λ (m : List ℕ). bytes_eq m e.name ≡ false) (map name_of xs)
-      → find (has_name e.name) (map (file_of U) (zip xs us) ++ file_of U (e, f) ∷ behind) ≡ Some (file_of U (e, f))
-  named_past e f behind [] us differ = ap (λ (b : Bool). cond b (Some (file_of U (e, f))) (find (has_name e.name) behind)) ((bytes_eq-Decides e.name e.name).1 refl)
-  named_past e f behind (x ∷ xs) [] differ = ap (λ (b : Bool). cond b (Some (file_of U (e, f))) (find (has_name e.name) behind)) ((bytes_eq-Decides e.name e.name).1 refl)
-  named_past e f behind (x ∷ xs) (u ∷ us) differ = ap (λ (b : Bool). cond b (Some (file_of U (x, u))) (find (has_name e.name) (map (file_of U) (zip xs us) ++ file_of U (e, f) ∷ behind))) differ.0 ∙ named_past e f behind xs us differ.1
-
   -- The file is the one that the table has under the name of the entry.
   abbrev IsNamed : Table → FileEntry → FileContent → Type 0
   IsNamed t e f = file_at t e.name ≡ Some (file_of U (e, f))
@@ -82,17 +72,8 @@ module _ (U : Units) where
       ∙ ap (λ (rest : List A). part (Some (file_of U (e, f))) ++ rest) (flat_named part t entries files h.1)
 
   module _ (g : Geometry) (records : List LogRecord) (v : Volume) (parts : Parts g records U v) where
-    file_named : (e : FileEntry) (f : FileContent) → Beside v.catalog.entries v.files e f → IsNamed (table_of U v) e f
-    file_named e f b =
-        let names = texts_differ (map name_of b.entries_before) e.name (map name_of b.entries_behind)
-        (subst RisingTexts (map-append name_of b.entries_before (e ∷ b.entries_behind)) (subst (λ (es : List FileEntry). RisingTexts (map name_of es)) b.entries_are parts.0.0.fits.sorted)) in
-        let files : map (file_of U) (zip v.catalog.entries v.files) ≡ map (file_of U) (zip b.entries_before b.files_before) ++ file_of U (e, f) ∷ map (file_of U) (zip b.entries_behind b.files_behind) =
-        ap (λ (es : List FileEntry). map (file_of U) (zip es v.files)) b.entries_are ∙ ap (λ (fs : List FileContent). map (file_of U) (zip (b.entries_before ++ e ∷ b.entries_behind) fs)) b.files_are
-        ∙ ap (map (file_of U)) (zip_append b.entries_before (e ∷ b.entries_behind) b.files_before (f ∷ b.files_behind) b.paired) ∙ map-append (file_of U) (zip b.entries_before b.files_before) ((e, f) ∷ zip b.entries_behind b.files_behind) in
-        ap (find (has_name e.name)) files ∙ named_past e f (map (file_of U) (zip b.entries_behind b.files_behind)) b.entries_before b.files_before names.0
-
     pub all_named : {A : Type 0} (part : Option TableFile → List A) → flat_map (λ (e : FileEntry). part (file_at (table_of U v) e.name)) v.catalog.entries ≡ flat_map (λ (f : TableFile). part (Some f)) (table_of U v).files
-    all_named part = flat_named part (table_of U v) v.catalog.entries v.files (zip_by (IsNamed (table_of U v)) v.catalog.entries v.files file_named (paired g records U v parts))
+    all_named part = flat_named part (table_of U v) v.catalog.entries v.files (zip_by (IsNamed (table_of U v)) v.catalog.entries v.files (file_named U v parts.0.0.fits.sorted) (paired g records U v parts))
 
 -- ---- what a view shows
 
