@@ -121,6 +121,28 @@ module _ {a b : Outside} {old mid : SessionState} (x : Reference) (read : OnlyFr
         ∙ ap (λ (b : Bool). destroy_told solid b (room_refusal before.session removal_need)) (alone_is before same now n)
         ∙ ap (destroy_told solid alone) (ap (λ (s : SessionState). room_refusal s removal_need) same ∙ sym room_told)
 
+    -- a frozen version isn't destroyed, and another one isn't dropped
+    pub frozen_stays : is_frozen version.found.head.state ≡ true → IfShown a old (λ before. Answered before.machine (request.Destroy x) (Some refusal.Frozen))
+    frozen_stays solid before same now q =
+        let n = names before same now in
+        destroy_is now (units_counted is before same) (opens is_open before same) x version n q
+        ∙ ap (λ (b : Bool). destroy_told b (is_only_one (versions_of (shown before.machine)) (Some n.told.version)) (room_refusal before.session removal_need)) solid
+
+    pub current_stays : is_frozen version.found.head.state ≡ false → IfShown a old (λ before. Answered before.machine (request.DropVersion x) (Some refusal.Current))
+    current_stays thawed before same now q =
+        let n = names before same now in
+        drop_is now (units_counted is before same) (opens is_open before same) x version n q
+        ∙ ap (λ (b : Bool). drop_told b (branches_if (versions_of (shown before.machine)) (Some n.told.version)) (room_refusal before.session removal_need)) thawed
+
+    -- a frozen one isn't dropped without room
+    pub drop_full : is_frozen version.found.head.state ≡ true → (why : Refusal) → Some why ≡ room_refusal mid removal_need → IfShown a old (λ before. Answered before.machine (request.DropVersion x) (Some why))
+    drop_full solid why refuses before same now q =
+        let n = names before same now in
+        drop_is now (units_counted is before same) (opens is_open before same) x version n q
+        ∙ ap (λ (b : Bool). drop_told b (branches_if (versions_of (shown before.machine)) (Some n.told.version)) (room_refusal before.session removal_need)) solid
+        ∙ ap (drop_told true (branches_if (versions_of (shown before.machine)) (Some n.told.version)))
+        (ap (λ (s : SessionState). room_refusal s removal_need) same ∙ sym (ap (λ (s : SessionState). room_refusal s removal_need) read.same) ∙ sym refuses)
+
     module _ {c : Outside} {new : SessionState} (later : OnlyFrames b c mid new) where
       -- ---- destroyed
 

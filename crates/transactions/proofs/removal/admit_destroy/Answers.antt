@@ -2,11 +2,18 @@ use Rattle.std.proofs.Common.{◌∙◌, sym}
 use Rattle.table_model.specs.Requests.{reference_of}
 use Rattle.session_core.proofs.Naming.{frames_twice}
 use Rattle.transactions.proofs.Naming.{names_so}
-use Rattle.transactions.proofs.Removed.{destroy_admitted, destroy_alone, destroy_full, still_asked}
+use Rattle.transactions.proofs.Removed.{destroy_admitted, destroy_alone, destroy_full, frozen_stays, still_asked}
 use Rattle.session_core.proofs.Damage.{none_wider}
 use Rattle.transactions.specs.Lines.{named_as}
 use Rattle.transactions.proofs.Damage.{oid_named, then_damage}
 use Rattle.transactions.proofs.removal.admit_destroy.Goals as goal
+
+pub returns-then-is_frozen-clause-refused : goal.returns-then-is_frozen-clause-refused
+returns-then-is_frozen-clause-refused g c =
+    let x = reference_of c.args.x.now in
+    let version = c.in-Ok-Ok.version in
+    let names = names_so x version c.in-Ok-Ok.field-0 c.in-Ok-Ok.field-0-is c.in-Ok-Ok.ensures.named in
+    frozen_stays x c.named.ensures.only c.named.ensures.session c.requires.is_open version names (sym c.is_frozen.ensures ∙ c.if-is_frozen.true)
 
 pub returns-in-Ok-true-clause-only : goal.returns-in-Ok-true-clause-only
 returns-in-Ok-true-clause-only g c = frames_twice c.named.ensures.only c.is_only_one.ensures.only

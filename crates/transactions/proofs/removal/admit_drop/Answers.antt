@@ -3,11 +3,25 @@ use Rattle.std.proofs.lemmas.Bool.{le-leb, lt-leb}
 use Rattle.table_model.specs.Requests.{reference_of}
 use Rattle.session_core.proofs.Naming.{frames_twice}
 use Rattle.transactions.proofs.Naming.{names_so}
-use Rattle.transactions.proofs.Removed.{drop_admitted, drop_branched, still_asked}
+use Rattle.transactions.proofs.Removed.{current_stays, drop_admitted, drop_branched, drop_full, still_asked}
 use Rattle.session_core.proofs.Damage.{none_wider}
 use Rattle.transactions.specs.Lines.{named_as}
 use Rattle.transactions.proofs.Damage.{oid_named, then_damage}
 use Rattle.transactions.proofs.removal.admit_drop.Goals as goal
+
+pub returns-then-not-is_frozen-clause-refused : goal.returns-then-not-is_frozen-clause-refused
+returns-then-not-is_frozen-clause-refused g c =
+    let x = reference_of c.args.x.now in
+    let version = c.in-Ok-Ok.version in
+    let names = names_so x version c.in-Ok-Ok.field-0 c.in-Ok-Ok.field-0-is c.in-Ok-Ok.ensures.named in
+    current_stays x c.named.ensures.only c.named.ensures.session c.requires.is_open version names (sym c.is_frozen.ensures ∙ c.if-not-is_frozen.true)
+
+pub returns-in-Some-clause-refused : goal.returns-in-Some-clause-refused
+returns-in-Some-clause-refused g c =
+    let x = reference_of c.args.x.now in
+    let version = c.in-Ok-Ok.version in
+    let names = names_so x version c.in-Ok-Ok.field-0 c.in-Ok-Ok.field-0-is c.in-Ok-Ok.ensures.named in
+    drop_full x c.named.ensures.only c.named.ensures.session c.requires.is_open version names (sym c.is_frozen.ensures ∙ c.if-not-is_frozen.false) c.in-Some.why c.in-Some.ensures
 
 pub returns-in-Err-branches-clause-only : goal.returns-in-Err-branches-clause-only
 returns-in-Err-branches-clause-only g c = frames_twice c.named.ensures.only c.branches.ensures.only
