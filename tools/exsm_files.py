@@ -1,11 +1,6 @@
 #!/usr/bin/env python3
 """Keeps files of the file system as objects of a volume, under their names.
 
-    exsm_files.py VOLUME put FILE..      stores each file under its name, anew where it is there
-    exsm_files.py VOLUME get NAME [OUT]  writes the bytes to OUT, else to standard output
-    exsm_files.py VOLUME ls              tells sizes, identifiers and names
-    exsm_files.py VOLUME rm NAME..       removes the files, all or none
-
 exsm gives objects no names, so they stand in the volume too: its file `names` has one object of
 lines `UNIQUE NAME`, and its file `blobs` the objects. A file's bytes and its name change in one
 transaction, so a stop at any moment leaves them in step. Of an identifier a line has the last
@@ -13,198 +8,43 @@ number alone, which an object keeps for good; where its record lies is asked of 
 """
 from __future__ import annotations
 
-import os
-import re
+import argparse
 import sys
-from typing import Callable, Iterable
 
-from exsm_client import (
-    PIECE, UPDATES_MOST, Broken, Ended, ProgramMissing, Refused, Store, leave_output)
-from exsm_lines import reason_of
-
-NAMES_FILE, BLOBS_FILE = "names", "blobs"
-NAME_LINE = re.compile(rb"(\d+) ([^\n]+)\n")
-
-PUT_UPDATES = 4
-"""Updates of a `put` beside its bytes: an old object and its name go, a new one and its come."""
-
-PUT_MOST = (UPDATES_MOST - PUT_UPDATES) * PIECE
-"""Bytes of a file that one transaction holds."""
+from exsm.commands import parser_of
+from exsm.files import get, ls, put, rm, run
 
 
-class Wrong(Exception):
-    """What was asked for can't be done; the text says why."""
+def parser_of_words() -> argparse.ArgumentParser:
+    """Reads the words."""
+    parser = parser_of(__doc__)
+    parser.add_argument("volume", metavar="VOLUME")
+    commands = parser.add_subparsers(metavar="COMMAND", required=True)
+
+    putting = commands.add_parser(
+        "put", help="stores each file under its name, anew where it is there")
+    putting.add_argument("paths", metavar="FILE", nargs="+")
+    putting.set_defaults(step=lambda names, words: put(names, words.paths))
+
+    getting = commands.add_parser("get", help="writes the bytes to OUT, else to standard output")
+    getting.add_argument("name", metavar="NAME")
+    getting.add_argument("out", metavar="OUT", nargs="?")
+    getting.set_defaults(step=lambda names, words: get(names, words.name, words.out))
+
+    listing = commands.add_parser("ls", help="tells sizes, identifiers and names")
+    listing.set_defaults(step=lambda names, words: ls(names))
+
+    removing = commands.add_parser("rm", help="removes the files, all or none")
+    removing.add_argument("names", metavar="NAME", nargs="+")
+    removing.set_defaults(step=lambda names, words: rm(names, words.names))
+    return parser
 
 
-class Names:
-    """The names that a volume keeps, in the order in which they were put."""
-
-    def __init__(self, store: Store) -> None:
-        self.store = store
-        self.object = ""
-        self.uniques: dict[bytes, bytes] = {}
-        self.places: dict[bytes, str] = {}
-        if NAMES_FILE in store.files():
-            self._read()
-
-    def _read(self) -> None:
-        """Reads the names, and where their objects lie."""
-        objects = self.store.list(NAMES_FILE)
-        if len(objects) != 1:
-            raise Wrong(f"the volume's file `{NAMES_FILE}` has {len(objects)} objects, not one")
-        self.object = objects[0]
-        text = self.store.read(self.object)
-        lines = NAME_LINE.findall(text)
-        if b"".join(line_of(unique, name) for unique, name in lines) != text:
-            raise Wrong(f"the volume's file `{NAMES_FILE}` has other text than names")
-        self.uniques = {name: unique for unique, name in lines}
-        self.places = {unique_of(oid): oid for oid in self.store.list(BLOBS_FILE)}
-
-    def prepare(self) -> None:
-        """Makes the two files where the volume doesn't have them."""
-        if not self.object:
-            with self.store.transaction():
-                self.store.file(BLOBS_FILE)
-                self.store.file(NAMES_FILE)
-                self.object = self.store.create(NAMES_FILE)
-
-    def __contains__(self, name: bytes) -> bool:
-        return name in self.uniques
-
-    def oid(self, name: bytes) -> str:
-        """The identifier of a name's object."""
-        unique = self.uniques.get(name)
-        if unique is None:
-            raise Wrong(f"no such name: {os.fsdecode(name)}")
-        if unique not in self.places:
-            raise Wrong(f"the object of {os.fsdecode(name)} is gone: some other line destroyed it")
-        return self.places[unique]
-
-    def add(self, name: bytes, oid: str) -> None:
-        """Names an object."""
-        unique = unique_of(oid)
-        self.store.append(self.object, line_of(unique, name))
-        self.uniques[name] = unique
-        self.places[unique] = oid
-
-    def remove(self, name: bytes) -> None:
-        """Removes a name and its object."""
-        self.store.destroy(self.oid(name))
-        position = 0
-        for there, unique in self.uniques.items():
-            if there == name:
-                break
-            position += len(line_of(unique, there))
-        self.store.delete(self.object, position, len(line_of(self.uniques[name], name)))
-        del self.places[self.uniques.pop(name)]
-
-
-def line_of(unique: bytes, name: bytes) -> bytes:
-    """The line of a name."""
-    return b"%s %s\n" % (unique, name)
-
-
-def unique_of(oid: str) -> bytes:
-    """The last number of an identifier."""
-    return oid.rsplit(".", 1)[1].encode()
-
-
-def name_of(path: str) -> bytes:
-    """The name that a file of the file system is stored under."""
-    name = os.fsencode(os.path.basename(path))
-    if not name or b"\n" in name:
-        raise Wrong(f"{path!r} can't be a name")
-    return name
-
-
-def put(store: Store, names: Names, path: str) -> None:
-    """Stores a file under its name, in one transaction."""
-    name = name_of(path)
-    with open(path, "rb") as source, store.transaction():
-        size = os.fstat(source.fileno()).st_size
-        if size > PUT_MOST:
-            raise Wrong(f"{path} has {size:,} bytes, and one transaction holds {PUT_MOST:,}")
-        if name in names:
-            names.remove(name)
-        oid = store.create(BLOBS_FILE)
-        size = 0
-        while piece := source.read(PIECE):
-            store.append(oid, piece)
-            size += len(piece)
-        names.add(name, oid)
-    print(f"{os.fsdecode(name)} {size} bytes, {oid}")
-
-
-def put_all(store: Store, names: Names, words: list[str]) -> None:
-    """`put FILE..`"""
-    names.prepare()
-    for path in words:
-        put(store, names, path)
-
-
-def get(store: Store, names: Names, words: list[str]) -> None:
-    """`get NAME [OUT]`"""
-    pieces = store.pieces(names.oid(os.fsencode(words[0])))
-    if len(words) == 1:
-        sys.stdout.buffer.writelines(pieces)
-        sys.stdout.buffer.flush()
-    else:
-        write_whole(words[1], pieces)
-
-
-def write_whole(path: str, pieces: Iterable[bytes]) -> None:
-    """Makes a file of the pieces; under its name it is there only when it is whole."""
-    part = f"{path}.part"
-    with open(part, "wb") as out:
-        out.writelines(pieces)
-    os.replace(part, path)
-
-
-def ls(store: Store, names: Names, _: list[str]) -> None:
-    """`ls`"""
-    for name in names.uniques:
-        oid = names.oid(name)
-        print(f"{store.size(oid):10}  {oid:14} {os.fsdecode(name)}")
-
-
-def rm(store: Store, names: Names, words: list[str]) -> None:
-    """`rm NAME..`"""
-    with store.transaction():
-        for name in map(os.fsencode, words):
-            names.remove(name)
-
-
-COMMANDS: dict[str, tuple[Callable[[Store, Names, list[str]], None], int, int]] = {
-    "put": (put_all, 1, sys.maxsize),
-    "get": (get, 1, 2),
-    "ls": (ls, 0, 0),
-    "rm": (rm, 1, sys.maxsize),
-}
-"""What each command does, and the least and the greatest number of its words."""
-
-
-def main(words: list[str]) -> int:
+def main() -> int:
     """Does what the words say, and gives the exit status."""
-    if len(words) < 2 or words[1] not in COMMANDS:
-        sys.exit(__doc__)
-    volume, command, *rest = words
-    step, least, most = COMMANDS[command]
-    if not least <= len(rest) <= most:
-        sys.exit(__doc__)
-    try:
-        with Store(volume) as store:
-            step(store, Names(store), rest)
-    except Ended as fault:
-        print(fault, file=sys.stderr)
-        return fault.status if fault.status > 0 else 128 - fault.status
-    except BrokenPipeError:
-        leave_output()
-        return 1
-    except (Refused, Broken, Wrong, ProgramMissing, OSError) as fault:
-        print(f"exsm_files: {reason_of(fault)}", file=sys.stderr)
-        return 1
-    return 0
+    words = parser_of_words().parse_args()
+    return run(words.volume, lambda names: words.step(names, words))
 
 
 if __name__ == "__main__":
-    sys.exit(main(sys.argv[1:]))
+    sys.exit(main())

@@ -5,8 +5,8 @@ import hashlib
 import random
 from typing import Callable
 
-from exsm_client import LINE_MOST, PIECE, Broken, Ended, Refused, Space, Store, is_answered
-from exsm_volume import Volume
+from exsm.client import LINE_MOST, PIECE, Broken, Ended, Refused, Space, Store, is_answered
+from exsm.volume import Volume
 from tests.support import InFolder
 
 SEEDS = 100

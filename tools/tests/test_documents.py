@@ -5,12 +5,12 @@ import os
 import re
 import shutil
 import subprocess
+import sys
 from pathlib import Path
 
-import exsm_client
-import exsm_lines
-import exsm_new
-from exsm_client import Refused, Store
+from exsm.client import STATUS_NAMES, Refused, Store
+from exsm.lines import FORMS
+from exsm.new import geometry_of, size_of
 from tests import transcripts
 from tests.support import TOOLS, TOP, InFolder, Terminal
 
@@ -69,7 +69,7 @@ class DocumentsTest(InFolder):
         """lines of README, manual page, completion and RULES are those that the program takes"""
         built = self.built_lines()
         self.assertGreater(len(built), 15)
-        self.assertEqual(sorted(exsm_lines.FORMS), built)
+        self.assertEqual(sorted(FORMS), built)
         self.assertEqual(built, sorted(rules_lines()))
         manual = text_of(MANUAL).split(".Sh LINES")[1].split(".Sh")[0]
         self.assertEqual(sorted(re.findall(r"^\.It Cm (\w+)", manual, re.M)), built)
@@ -81,7 +81,7 @@ class DocumentsTest(InFolder):
         """the statuses of README, manual page and client are the same"""
         rows = re.findall(r"^\| (\d+) \| ([a-z ]+) \|", section(README, "The program"), re.M)
         readme = {int(code): name for code, name in rows}
-        self.assertEqual({0: "done", **exsm_client.STATUS_NAMES}, readme)
+        self.assertEqual({0: "done", **STATUS_NAMES}, readme)
         manual = text_of(MANUAL).split(".Sh EXIT STATUS")[1].split(".Sh")[0]
         self.assertEqual({int(code): name for code, name in
                           re.findall(r"^\.It (\d+)\n([a-z ]+):", manual, re.M)}, readme)
@@ -91,7 +91,7 @@ class DocumentsTest(InFolder):
         rows = re.findall(r"^\| (\d+[MG]) \| (.*) \|$", section(README, "Sizes"), re.M)
         self.assertEqual([size for size, _ in rows], ["80M", "1G", "16G"])
         for size, cells in rows:
-            numbers = exsm_new.geometry_of(exsm_new.size_of(size))
+            numbers = geometry_of(size_of(size))
             made = (numbers.page_size, numbers.pages, numbers.segs, numbers.seg_len, numbers.fan,
                     numbers.bytes)
             self.assertEqual(cells, " | ".join(f"{number:,}" for number in made))
@@ -234,6 +234,10 @@ class InstallTest(InFolder):
                      "exsm_map.py v", "exsm_volume.py v check"):
             done = subprocess.run(line.split(), env=variables, capture_output=True, check=False)
             self.assertEqual(done.returncode, 0, done.stderr)
+        program = "from exsm.client import Store\nwith Store('v') as store: print(store.files())"
+        done = subprocess.run([sys.executable, "-c", program], capture_output=True, check=False,
+                              env={**variables, "PYTHONPATH": str(prefix / "lib" / "exsm")})
+        self.assertEqual((done.stdout, done.stderr), (b"['blobs', 'names']\n", b""))
         completion = "share/bash-completion/completions/exsm_files.py"
         for name in ("share/man/man1/exsm.1", completion, "bin/exsm"):
             self.assertTrue((prefix / name).is_file(), name)

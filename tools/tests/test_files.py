@@ -7,9 +7,9 @@ import subprocess
 import sys
 import time
 
-from exsm_client import Store
-from exsm_files import PUT_MOST, Names
-from exsm_volume import Volume
+from exsm.client import Store
+from exsm.files import PUT_MOST, Names
+from exsm.volume import Volume
 from tests.support import TOOLS, InFolder
 
 FILES = 20

@@ -3,9 +3,11 @@ from __future__ import annotations
 
 import unittest
 
-import exsm_log
-from exsm_geometry import CATALOG
-from exsm_log import BadLog, PageEntry, page_after
+from exsm.geometry import CATALOG
+from exsm.log import (
+    CATALOG_ENTRY, CATALOG_HEAD, COUNT, FILES_HEAD, FILE_PAGE_HEAD, FORM_FILES, FORM_SLOTS,
+    HEAD, KIND_CATALOG, KIND_FILE_PAGE, PAGE_NUMBER, SLOT, SLOTS_HEAD, BadLog, PageEntry, leave,
+    page_after, records_of)
 
 PAGE = 512
 FILE = 258
@@ -15,37 +17,37 @@ def file_page(*bodies: bytes) -> bytes:
     """A page of file 7 with these bodies in its slots."""
     packed, places = b"", b""
     for body in bodies:
-        offset = exsm_log.FILE_PAGE_HEAD.size + len(packed) if body else 0
-        places = exsm_log.SLOT.pack(offset, len(body)) + places
+        offset = FILE_PAGE_HEAD.size + len(packed) if body else 0
+        places = SLOT.pack(offset, len(body)) + places
         packed += body
-    head = exsm_log.FILE_PAGE_HEAD.pack(exsm_log.KIND_FILE_PAGE, len(bodies), 7) + packed
+    head = FILE_PAGE_HEAD.pack(KIND_FILE_PAGE, len(bodies), 7) + packed
     return head + bytes(PAGE - len(head) - len(places)) + places
 
 
 def slots(*changes: tuple[int, bytes]) -> PageEntry:
     """The entry that changes these slots."""
-    fields = exsm_log.SLOTS_HEAD.pack(len(changes))
+    fields = SLOTS_HEAD.pack(len(changes))
     for slot, body in changes:
-        fields += exsm_log.SLOT.pack(slot, len(body)) + body
-    return PageEntry(FILE, exsm_log.FORM_SLOTS, fields)
+        fields += SLOT.pack(slot, len(body)) + body
+    return PageEntry(FILE, FORM_SLOTS, fields)
 
 
 def catalog(last: int, *files: tuple[str, int]) -> bytes:
     """A catalog with these files, each of one page."""
-    head = exsm_log.CATALOG_HEAD.pack(exsm_log.KIND_CATALOG, len(files), 9, last)
+    head = CATALOG_HEAD.pack(KIND_CATALOG, len(files), 9, last)
     head += b"".join(file_entry(name, number) for name, number in files)
     return head + bytes(PAGE - len(head))
 
 
 def file_entry(name: str, number: int) -> bytes:
-    return exsm_log.CATALOG_ENTRY.pack(len(name), name.encode(), 0, 300 + number, number)
+    return CATALOG_ENTRY.pack(len(name), name.encode(), 0, 300 + number, number)
 
 
 def files(last: int, removed: list[int], *put: tuple[str, int]) -> PageEntry:
     """The entry that removes and puts files."""
-    fields = exsm_log.FILES_HEAD.pack(9, last) + exsm_log.COUNT.pack(len(removed))
-    fields += b"".join(map(exsm_log.PAGE_NUMBER.pack, removed)) + exsm_log.COUNT.pack(len(put))
-    return PageEntry(CATALOG, exsm_log.FORM_FILES,
+    fields = FILES_HEAD.pack(9, last) + COUNT.pack(len(removed))
+    fields += b"".join(map(PAGE_NUMBER.pack, removed)) + COUNT.pack(len(put))
+    return PageEntry(CATALOG, FORM_FILES,
                      fields + b"".join(file_entry(name, number) for name, number in put))
 
 
@@ -77,14 +79,14 @@ class LogTest(unittest.TestCase):
     def test_records(self) -> None:
         """records of both kinds are read, and what stands behind an open gate and is none is told"""
         image = catalog(1)
-        old = exsm_log.HEAD.pack(1, 1, 536, 1, 0, 1, 0) + exsm_log.PAGE_NUMBER.pack(CATALOG) + image
+        old = HEAD.pack(1, 1, 536, 1, 0, 1, 0) + PAGE_NUMBER.pack(CATALOG) + image
         entry = files(2, [], ("a", 1))
-        new = exsm_log.PAGE_NUMBER.pack(CATALOG) + bytes([entry.form]) + entry.fields
-        new = exsm_log.HEAD.pack(1, 2, exsm_log.HEAD.size + len(new), 2, 0, 1, 0) + new
+        new = PAGE_NUMBER.pack(CATALOG) + bytes([entry.form]) + entry.fields
+        new = HEAD.pack(1, 2, HEAD.size + len(new), 2, 0, 1, 0) + new
         log = old + new + bytes(PAGE)
         images: dict[int, bytes] = {}
-        for record in exsm_log.records_of(log, PAGE):
-            exsm_log.leave(record, images)
+        for record in records_of(log, PAGE):
+            leave(record, images)
         self.assertEqual(images, {CATALOG: catalog(2, ("a", 1))})
         with self.assertRaises(BadLog):
-            list(exsm_log.records_of(old[:1] + b"\3" + old[2:] + bytes(PAGE), PAGE))
+            list(records_of(old[:1] + b"\3" + old[2:] + bytes(PAGE), PAGE))

@@ -4,8 +4,8 @@ from __future__ import annotations
 import os
 from pathlib import Path
 
-from exsm_client import Store
-from exsm_new import geometry_of, size_of
+from exsm.client import Store
+from exsm.new import geometry_of, size_of
 from tests.support import InFolder
 
 SIZES = ("2M", "2500K", "80M", "1G", "16G", "19G", "100G", "259G")
@@ -41,4 +41,4 @@ class NewTest(InFolder):
         """other sizes make nothing"""
         for size in ("1M", "260G", "0", "80MB", "-1G", "", "1T", "\u0661M"):
             ran = self.tool("exsm_new", "v", size)
-            self.assertEqual((ran.status, ran.lines, os.path.exists("v")), (1, [], False), size)
+            self.assertEqual((ran.status, ran.lines, os.path.exists("v")), (2, [], False), size)

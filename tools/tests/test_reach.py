@@ -6,8 +6,8 @@ import shutil
 
 from tests.support import InFolder
 
-from exsm_map import areas_of
-from exsm_volume import Volume
+from exsm.map import areas_of
+from exsm.volume import Volume
 
 SEED = 20
 TRANSACTIONS = 30

@@ -8,10 +8,10 @@ import unittest
 from pathlib import Path
 from xml.etree import ElementTree
 
-from exsm_client import Ended, Store
-from exsm_map import picture, usage
-from exsm_records import BadVolume, Record
-from exsm_volume import Volume
+from exsm.client import Ended, Store
+from exsm.map import picture, usage
+from exsm.records import BadVolume, Record
+from exsm.volume import Volume
 from tests.support import InFolder
 
 FLIPS = 150

@@ -4,8 +4,8 @@ from __future__ import annotations
 import re
 from typing import NamedTuple
 
-import exsm_lines
-from exsm_do import readline
+from exsm.do import readline
+from exsm.lines import MEANINGS, meaning
 from tests.support import TOP, InFolder, Terminal
 
 ABORTED = "exsm_do: the open transaction is aborted"
@@ -33,7 +33,7 @@ def stopped(before: Before, line: str, number: int, name: str, *values: str) -> 
     """A script that is refused at the line that stands behind its beginning."""
     place = before.script.count("\n") + 1
     told = [f"exsm_do: line {place}: {line}",
-            f"exsm_do: {exsm_lines.meaning(line, name, list(values))}"]
+            f"exsm_do: {meaning(line, name, list(values))}"]
     reply = " ".join(["no", str(number), name, *values])
     return Row(before.script + line, [*before.replies, reply],
                [*told, ABORTED] if before.replies else told, 1)
@@ -119,9 +119,9 @@ class RunnerTest(InFolder):
         rules = (TOP / "docs" / "RULES.md").read_text(encoding="utf-8")
         names = re.findall(r"^\| \d+ \| `(\w+)` \|", rules, re.M)
         self.assertGreater(len(names), 20)
-        self.assertEqual(sorted(exsm_lines.MEANINGS), sorted(set(names) - {"syntax"}))
+        self.assertEqual(sorted(MEANINGS), sorted(set(names) - {"syntax"}))
         for name in names:
-            self.assertNotEqual(exsm_lines.meaning("x", name, ["scans", "1", "2"]), "")
+            self.assertNotEqual(meaning("x", name, ["scans", "1", "2"]), "")
 
     def test_terminal(self) -> None:
         """in a terminal: a prompt, completion, help, hints, long lines whole, and it goes on"""

@@ -5,7 +5,7 @@ import os
 import random
 import subprocess
 
-from exsm_client import Refused, Store
+from exsm.client import Refused, Store
 from tests.support import BASE, SECONDS, OfRows
 
 SEED = 9

@@ -10,10 +10,10 @@ from pathlib import Path
 from shutil import which
 from typing import Callable, Optional
 
-from exsm_client import Store
-from exsm_log import SLOT
-from exsm_records import Record
-from exsm_volume import Volume
+from exsm.client import Store
+from exsm.log import SLOT
+from exsm.records import Record
+from exsm.volume import Volume
 from tests.support import BASE, SECONDS, OfRows
 
 SEED = 17

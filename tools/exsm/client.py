@@ -125,7 +125,7 @@ def is_answered(line: bytes) -> bool:
 
 def find_program() -> str:
     """The program: `$EXSM`, else the one that this repository built or installed, else `PATH`'s."""
-    tools = Path(__file__).resolve().parent
+    tools = Path(__file__).resolve().parent.parent
     built = tools.parent / "crates" / "exsm" / "out" / "exsm"
     installed = tools.parent.parent / "bin" / "exsm"
     if "EXSM" in os.environ:
@@ -145,7 +145,10 @@ def leave_output() -> None:
 
 
 class Scan:
-    """An open scan: the bytes of an object as they were when it was opened, whatever becomes of the object. At most 64 are open at once."""
+    """An open scan: the bytes of an object as they were when it was opened, whatever becomes of it.
+
+    At most 64 are open at once.
+    """
 
     def __init__(self, store: Store, name: str, oid: str) -> None:
         self._store, self._name = store, name
@@ -368,7 +371,7 @@ class Store:
 
     @contextmanager
     def scan(self, oid: str) -> Iterator[Scan]:
-        """Opens a scan of an object's bytes as they are now, and closes it at the end of the block."""
+        """Opens a scan of an object's bytes as they are now; the end of the block closes it."""
         scan = Scan(self, f"client_scan_{next(self._names)}", oid)
         try:
             yield scan

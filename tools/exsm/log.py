@@ -4,7 +4,7 @@ from __future__ import annotations
 import struct
 from typing import Iterator, NamedTuple, Optional
 
-from exsm_geometry import CATALOG
+from exsm.geometry import CATALOG
 
 HEAD = struct.Struct(">BBIQHHH")
 NOTE_BYTES = 31

@@ -1,0 +1,357 @@
+"""What a volume file is used for, as lines of text and as a picture."""
+from __future__ import annotations
+
+import colorsys
+import os
+import sys
+from collections import defaultdict
+from dataclasses import dataclass
+from html import escape
+from typing import Iterator, NamedTuple, Optional
+
+from exsm.geometry import CATALOG, LOG_PAGES
+from exsm.lines import reason_of
+from exsm.records import BadVolume, Record
+from exsm.volume import Use, Volume
+
+PAGE_COLORS = {"catalog": "#1b1b1b", "index": "#7b4ea3", "file page": "#c7761b", "node": "#2f6db5"}
+FREE, LOG, LEAVES, TEXT, WHITE = "#ececec", "#b03a48", "#3f8f4f", "#222", "#fff"
+WIDTH, MARGIN = 900, 16
+CELLS_MOST = 16_384
+AREA_HEIGHT = 330
+SIDE_LEAST, SIDE_MOST = 4, 22
+BAR, GAP = 14, 30
+LISTED_MOST = 12
+GOLDEN_TURN = 0.381966
+FAINT = 0.4
+SIZES = ("B", "KiB", "MiB", "GiB")
+
+
+def human(count: float) -> str:
+    """A number of bytes, in the unit that suits it."""
+    for unit in SIZES[:-1]:
+        if count < 1024:
+            return f"{count:.0f} B" if unit == "B" else f"{count:.1f} {unit}"
+        count /= 1024
+    return f"{count:.1f} {SIZES[-1]}"
+
+
+def percent(part: float, whole: float) -> str:
+    """A part of a whole in percent."""
+    return f"{100 * part / whole:.1f} %" if whole else "-"
+
+
+def counted(count: int, noun: str) -> str:
+    """A number of things: `1 file`, `2 files`."""
+    return f"{count} {noun}" if count == 1 else f"{count} {noun}s"
+
+
+def contents(volume: Volume) -> str:
+    """How many files and objects a volume has, and versions where an object has several."""
+    objects, versions = len(volume.objects), len(volume.all())
+    more = f", {counted(versions, 'version')}" if versions > objects else ""
+    return f"{counted(len(volume.files), 'file')}, {counted(objects, 'object')}{more}"
+
+
+class Area(NamedTuple):
+    """An area of a volume: its cells are units of so many pages and bytes."""
+
+    name: str
+    first: int
+    units: int
+    pages: int
+    room: int
+    uses: dict[int, Use]
+
+    @property
+    def used(self) -> int:
+        """The bytes that the units in use hold."""
+        return sum(use.used for use in self.uses.values())
+
+    @property
+    def filled(self) -> str:
+        """How full the units in use are."""
+        return percent(self.used, len(self.uses) * self.room)
+
+
+def areas_of(volume: Volume) -> tuple[Area, Area]:
+    """The page area and the segment area with what is in use there."""
+    numbers = volume.geometry
+    pages = {page: use for page, use in volume.uses.items() if page < numbers.first_unit}
+    units = {page: use for page, use in volume.uses.items() if page >= numbers.first_unit}
+    return (Area("page area", CATALOG, numbers.pages, 1, numbers.page_size, pages),
+            Area("segment area", numbers.first_unit, numbers.segs, numbers.seg_len, numbers.unit,
+                 units))
+
+
+# Use as text.
+
+def usage(volume: Volume) -> Iterator[str]:
+    """Lines on the use of a volume, in the manner of `btrfs filesystem usage`."""
+    numbers = volume.geometry
+    yield (f"{volume.path}: {human(numbers.bytes)}; page {numbers.page_size}, "
+           f"unit {numbers.unit} bytes, fan {numbers.fan}")
+    if volume.disk_bytes > numbers.bytes:
+        yield f"  the file has {human(volume.disk_bytes - numbers.bytes)} more than the volume"
+    yield (f"  last commit {volume.last_commit}, next number {volume.next_unique}, "
+           f"{contents(volume)}")
+    log, room = sum(record.length for record in volume.records), LOG_PAGES * numbers.page_size
+    yield (f"  log          {human(log):>9} of {human(room):>9}  {percent(log, room):>7}  "
+           f"{counted(len(volume.records), 'record')}, "
+           f"{counted(len(volume.images), 'page')} not home")
+    page_area, segment_area = areas_of(volume)
+    yield area_line(page_area)
+    yield from kind_lines(page_area)
+    yield f"{area_line(segment_area)}, {segment_area.filled} filled"
+    for name, records in volume.versions.items():
+        yield file_line(name, records)
+    for fault in volume.faults:
+        yield f"  FAULT {fault}"
+
+
+def area_line(area: Area) -> str:
+    """The line of an area."""
+    used = len(area.uses)
+    return (f"  {area.name:12} {used:9} of {area.units:9}  {percent(used, area.units):>7}  "
+            f"in use, {human(used * area.room)}")
+
+
+def kind_lines(area: Area) -> Iterator[str]:
+    """A line for each kind of page."""
+    for kind in PAGE_COLORS:
+        of_kind = [use.used for use in area.uses.values() if use.kind == kind]
+        if of_kind:
+            room = len(of_kind) * area.room
+            yield (f"    {kind:10} {len(of_kind):9}  {human(room)}, "
+                   f"{percent(sum(of_kind), room)} filled")
+
+
+def file_line(name: str, records: list[Record]) -> str:
+    """The line of a file: its versions."""
+    small = [record.size for record in records if record.height is None]
+    large = [record.size for record in records if record.height is not None]
+    return (f"  file {name:10} {len(records):5} versions, {len(small):5} small with "
+            f"{human(sum(small))}, {len(large):5} large with {human(sum(large))}")
+
+
+# The picture.
+
+class Drawing:
+    """Shapes of an SVG file, and how far down it is drawn."""
+
+    def __init__(self) -> None:
+        self.shapes: list[str] = []
+        self.patterns: list[str] = []
+        self.y = 0
+
+    def rectangle(self, x: float, y: float, width: float, height: float, fill: str,
+                  title: str = "", opacity: float = 1) -> None:
+        """A rectangle; its title is told where the mouse points at it."""
+        see_through = "" if opacity == 1 else f' fill-opacity="{opacity:g}"'
+        inside = f"><title>{escape(title)}</title></rect>" if title else "/>"
+        self.shapes.append(f'<rect x="{x:.6g}" y="{y:.6g}" width="{width:.6g}" '
+                           f'height="{height:.6g}" fill="{fill}"{see_through}{inside}')
+
+    def text(self, x: float, words: str, size: int = 12, weight: str = "normal") -> None:
+        """A text on the line that the drawing has come to."""
+        self.shapes.append(f'<text x="{x:g}" y="{self.y}" font-size="{size}" '
+                           f'font-weight="{weight}" fill="{TEXT}">{escape(words)}</text>')
+
+    def grid(self, width: int, height: int, side: int) -> None:
+        """A field of free cells."""
+        name = f"cells{len(self.patterns)}"
+        self.patterns.append(
+            f'<pattern id="{name}" y="{self.y}" width="{side}" height="{side}" '
+            f'patternUnits="userSpaceOnUse"><rect width="{side - 1}" height="{side - 1}" '
+            f'fill="{FREE}"/></pattern>')
+        self.shapes.append(f'<rect x="0" y="{self.y}" width="{width}" height="{height}" '
+                           f'fill="url(#{name})"/>')
+
+    def finished(self) -> str:
+        """The whole file."""
+        width, height = WIDTH + 2 * MARGIN, self.y + 2 * MARGIN
+        patterns, shapes = "".join(self.patterns), "\n".join(self.shapes)
+        return (f'<svg xmlns="http://www.w3.org/2000/svg" viewBox="{-MARGIN} {-MARGIN} {width} '
+                f'{height}" width="{width}" font-family="sans-serif"><defs>{patterns}</defs>\n'
+                f'<rect x="{-MARGIN}" y="{-MARGIN}" width="{width}" height="{height}" '
+                f'fill="{WHITE}"/>\n{shapes}\n</svg>\n')
+
+
+@dataclass(frozen=True)
+class Cells:
+    """How the units of an area lie in a drawing: so many to a cell, cells of a side, in rows."""
+
+    per_cell: int
+    cells: int
+    side: int
+
+    @staticmethod
+    def of(area: Area) -> Cells:
+        """The cells of an area: as large as the height allows."""
+        per_cell = max(1, -(-area.units // CELLS_MOST))
+        cells = -(-area.units // per_cell)
+        fitting = int((WIDTH * AREA_HEIGHT / max(1, cells)) ** 0.5)
+        return Cells(per_cell, cells, max(SIDE_LEAST, min(SIDE_MOST, fitting)))
+
+    @property
+    def in_row(self) -> int:
+        """The cells of a row."""
+        return WIDTH // self.side
+
+    @property
+    def rows(self) -> int:
+        """The rows, of which the last may be short."""
+        return -(-self.cells // self.in_row)
+
+
+def hue(place: int) -> str:
+    """The colour of the object at a place: neighbours differ much."""
+    parts = colorsys.hls_to_rgb((place * GOLDEN_TURN) % 1, 0.42 + 0.1 * (place % 3), 0.62)
+    return "#" + "".join(f"{int(255 * part):02x}" for part in parts)
+
+
+def title_of(area: Area, page: int, use: Use) -> str:
+    """What a cell says of its unit."""
+    place = "page" if area.pages == 1 and use.kind != "leaf" else "unit"
+    owner = f" of {use.owner}" if use.owner else ""
+    return f"{place} {page}: {use.kind}{owner}, {use.used} of {area.room} bytes"
+
+
+def draw_file(drawing: Drawing, volume: Volume) -> None:
+    """The whole file to scale, each part at least two pixels wide."""
+    numbers = volume.geometry
+    parts = [("superblock", numbers.page_size, PAGE_COLORS["catalog"]),
+             ("log", LOG_PAGES * numbers.page_size, LOG),
+             ("page area", numbers.pages * numbers.page_size, PAGE_COLORS["file page"]),
+             ("segment area", numbers.segs * numbers.unit, LEAVES)]
+    x = 0.0
+    for name, size, color in parts:
+        width = max(2.0, (WIDTH - 8) * size / numbers.bytes)
+        drawing.rectangle(x, drawing.y, width, BAR, color, f"{name}, {human(size)}")
+        x += width
+    drawing.y += BAR + GAP
+
+
+def draw_log(drawing: Drawing, volume: Volume) -> None:
+    """The log with its records, each as wide as it is long."""
+    room = LOG_PAGES * volume.geometry.page_size
+    used = sum(record.length for record in volume.records)
+    drawing.text(0, f"log: {human(used)} of {human(room)}, "
+                    f"{counted(len(volume.records), 'record')}, "
+                    f"{counted(len(volume.images), 'page')} not yet at home", 13, "bold")
+    drawing.y += 8
+    drawing.rectangle(0, drawing.y, WIDTH, BAR, FREE)
+    for record in volume.records:
+        width = max(1.0, WIDTH * record.length / room - 1)
+        pages = ", ".join(str(entry.page) for entry in record.entries)
+        title = f"commit {record.transaction}: {counted(record.notes, 'update')}, pages {pages}"
+        drawing.rectangle(WIDTH * record.offset / room, drawing.y, width, BAR, LOG, title)
+    drawing.y += BAR + GAP
+
+
+def draw_area(drawing: Drawing, area: Area, colors: dict[int, str]) -> None:
+    """An area as cells, each filled from below by the bytes that its units hold."""
+    cells = Cells.of(area)
+    drawing.y += 8
+    drawing.grid(min(cells.cells, cells.in_row) * cells.side, cells.rows * cells.side, cells.side)
+    inside: dict[int, list[int]] = defaultdict(list)
+    for page in sorted(area.uses):
+        inside[(page - area.first) // area.pages // cells.per_cell].append(page)
+    for cell, pages in inside.items():
+        share = sum(area.uses[page].used for page in pages) / (area.room * cells.per_cell)
+        x, y = cell % cells.in_row * cells.side, drawing.y + cell // cells.in_row * cells.side
+        width, color = cells.side - 1, colors[pages[0]]
+        title = title_of(area, pages[0], area.uses[pages[0]])
+        drawing.rectangle(x, y, width, width, color, title, FAINT)
+        drawing.rectangle(x, y + width * (1 - share), width, width * share, color)
+    last = cells.cells % cells.in_row
+    if last and cells.rows > 1:
+        drawing.rectangle(last * cells.side, drawing.y + (cells.rows - 1) * cells.side,
+                          (cells.in_row - last) * cells.side, cells.side, WHITE)
+    drawing.y += cells.rows * cells.side + GAP
+
+
+def per_cell_words(area: Area) -> str:
+    """How many units stand for a cell, where it is more than one."""
+    per_cell = Cells.of(area).per_cell
+    return f", {per_cell} to a cell" if per_cell > 1 else ""
+
+
+def draw_pages(drawing: Drawing, area: Area) -> None:
+    """The page area, a colour for each kind of page, and their numbers."""
+    drawing.text(0, f"page area: {len(area.uses)} of {area.units} pages in use"
+                    f"{per_cell_words(area)}", 13, "bold")
+    draw_area(drawing, area, {page: PAGE_COLORS[use.kind] for page, use in area.uses.items()})
+    kinds = [(kind, sum(use.kind == kind for use in area.uses.values())) for kind in PAGE_COLORS]
+    x = 0
+    for kind, count in [*kinds, ("free", area.units - len(area.uses))]:
+        drawing.rectangle(x, drawing.y - GAP // 2 - 10, 11, 11, PAGE_COLORS.get(kind, FREE))
+        drawing.y -= GAP // 2
+        drawing.text(x + 16, f"{kind} {count}")
+        drawing.y += GAP // 2
+        x += 130
+    drawing.y += GAP // 2
+
+
+def draw_units(drawing: Drawing, area: Area, order: dict[str, int]) -> None:
+    """The segment area, a colour for each object."""
+    drawing.text(0, f"segment area: {len(area.uses)} of {area.units} units in use, "
+                    f"{area.filled} filled; a colour is an object{per_cell_words(area)}",
+                 13, "bold")
+    draw_area(drawing, area, {page: hue(order[use.owner]) for page, use in area.uses.items()})
+
+
+def largest_of(versions: list[Record]) -> Record:
+    """The largest of an object's versions."""
+    return max(versions, key=lambda record: record.size)
+
+
+def draw_largest(drawing: Drawing, volume: Volume, largest: list[list[Record]]) -> None:
+    """The largest objects with their colours."""
+    held: dict[str, list[int]] = defaultdict(list)
+    for use in volume.uses.values():
+        if use.kind == "leaf":
+            held[use.owner].append(use.used)
+    for place, versions in enumerate(largest[:LISTED_MOST]):
+        drawing.rectangle(0, drawing.y - 10, 11, 11, hue(place))
+        record, shape = largest_of(versions), "small"
+        if record.height is not None:
+            leaves = held[versions[0].oid]
+            shape = (f"height {record.height}, {counted(len(leaves), 'unit')}, "
+                     f"{percent(sum(leaves), len(leaves) * volume.geometry.unit)} filled")
+        if len(versions) > 1:
+            shape += f", {len(versions)} versions"
+        drawing.text(16, f"{record.oid:14} {human(record.size)}, {shape}")
+        drawing.y += 17
+
+
+def picture(volume: Volume) -> str:
+    """The picture of a volume as an SVG file."""
+    drawing = Drawing()
+    drawing.text(0, f"{os.path.basename(volume.path)}: {human(volume.geometry.bytes)}, "
+                    f"last commit {volume.last_commit}, {contents(volume)}", 17, "bold")
+    drawing.y += 12
+    draw_file(drawing, volume)
+    draw_log(drawing, volume)
+    largest = sorted(volume.objects, key=lambda versions: -largest_of(versions).size)
+    page_area, segment_area = areas_of(volume)
+    draw_pages(drawing, page_area)
+    if segment_area.units:
+        order = {versions[0].oid: place for place, versions in enumerate(largest)}
+        draw_units(drawing, segment_area, order)
+    draw_largest(drawing, volume, largest)
+    return drawing.finished()
+
+
+def run(path: str, out: Optional[str]) -> int:
+    """Tells the use of a volume, draws its picture to a file, and gives the exit status."""
+    try:
+        with Volume(path) as volume:
+            volume.walk()
+            if out is not None:
+                with open(out, "w", encoding="utf-8") as drawn:
+                    drawn.write(picture(volume))
+            print("\n".join(usage(volume)))
+    except (BadVolume, OSError) as fault:
+        sys.exit(f"exsm_map: {reason_of(fault, path)}")
+    return 0
