@@ -1,12 +1,12 @@
 #!/usr/bin/env python3
 """Prints how the crates of crates.txt hang together: levels, chains, sizes, edges and layers.
 
-    tools/crates.py            prints all of it
-    tools/crates.py --check    says what breaks a rule, and ends with status 1 where something does: the longest chain to exsm has at most
-                               ten crates, a crate at most 100 functions and four must-fail edits, each crate stands in a band of
-                               crates.txt behind all that it stands on, no crate is named that no file uses, the documents name each
-                               ported crate among what is trusted, and they have the picture that --write would write
-    tools/crates.py --write    writes the picture into docs/ARCHITECTURE.md and README.md, each between two lines of marks
+    tools/dev/crates.py            prints all of it
+    tools/dev/crates.py --check    says what breaks a rule, and ends with status 1 where something does: the longest chain to exsm has at most
+                                   ten crates, a crate at most 100 functions and four must-fail edits, each crate stands in a band of
+                                   crates.txt behind all that it stands on, no crate is named that no file uses, the documents name each
+                                   ported crate among what is trusted, and they have the picture that --write would write
+    tools/dev/crates.py --write    writes the picture into docs/ARCHITECTURE.md and README.md, each between two lines of marks
 
 A level is one more than the highest level below. A weight is a crate's lines of code, contracts and proofs. Lines are counted without
 blank ones and comments; a contract is a clause or a ghost item; what stands in specs/ is a definition, in proofs/ a proof.
@@ -23,7 +23,7 @@ from crate_code import TOP, edits_of, files_below, named_crates, text_of
 PROGRAM = "exsm"
 CHAIN_MOST, FUNCTIONS_MOST, EDITS_MOST = 10, 100, 4
 ROW_MOST = 92
-BEGIN, END = "<!-- written by tools/crates.py --write -->", "<!-- end of what it writes -->"
+BEGIN, END = "<!-- written by tools/dev/crates.py --write -->", "<!-- end of what it writes -->"
 
 
 def short(words):
@@ -234,7 +234,7 @@ def broken(crates, bands, graph):
         if now is None:
             yield f"{path} has no place for the picture: the lines {BEGIN} and {END}"
         elif now != text_of(path):
-            yield f"{path} has an old picture: run tools/crates.py --write"
+            yield f"{path} has an old picture: run tools/dev/crates.py --write"
 
 
 def report(crates, bands, graph):

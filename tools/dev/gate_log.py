@@ -1,12 +1,12 @@
 #!/usr/bin/env python3
-"""Writes the table of docs/GATE.md from logs of tools/gate.
+"""Writes the table of docs/GATE.md from logs of tools/dev/gate.
 
-    tools/gate_log.py LOG ..            writes the table; of two logs that measured the same the later one holds
-    tools/gate_log.py --again           writes the table anew for the crates of crates.txt, with the figures that stand there
-    tools/gate_log.py --print LOG ..    prints it only
+    tools/dev/gate_log.py LOG ..            writes the table; of two logs that measured the same the later one holds
+    tools/dev/gate_log.py --again           writes the table anew for the crates of crates.txt, with the figures that stand there
+    tools/dev/gate_log.py --print LOG ..    prints it only
 
 What no log measured, since the run kept an earlier proof, is taken from the table that stands there, with a star. Where that has none
-either, the field says `kept`. So a table without stars comes from a run of `tools/gate --anew`, or from the logs of all parts of one.
+either, the field says `kept`. So a table without stars comes from a run of `tools/dev/gate --anew`, or from the logs of all parts of one.
 """
 import re
 import sys
@@ -16,7 +16,7 @@ sys.dont_write_bytecode = True
 from crate_code import TOP, edits_of, files_below, named_crates, text_of
 
 PAGE = "docs/GATE.md"
-BEGIN, END = "<!-- written by tools/gate_log.py -->", "<!-- end of what it writes -->"
+BEGIN, END = "<!-- written by tools/dev/gate_log.py -->", "<!-- end of what it writes -->"
 KINDS = ("proof", "tests", "edit")
 NONE = {"tests": "no tests", "edit": "no edits"}
 
@@ -31,7 +31,7 @@ def has_tests(crate):
 
 
 class Log:
-    """What a log of tools/gate says."""
+    """What a log of tools/dev/gate says."""
 
     def __init__(self, path):
         self.seconds, self.part = {}, set()
@@ -55,7 +55,7 @@ class Log:
             last = re.fullmatch(r"\[ *[\d.]+\] (\d+ passed, \d+ failed.*)", line)
             self.last = last[1] if last else self.last
         if not self.begun:
-            sys.exit(f"{path} is no log of tools/gate: rt's own log has no times")
+            sys.exit(f"{path} is no log of tools/dev/gate: rt's own log has no times")
 
 
 def earlier():

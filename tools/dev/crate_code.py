@@ -3,7 +3,7 @@ import os
 import re
 from collections import defaultdict
 
-TOP = os.path.dirname(os.path.dirname(os.path.abspath(__file__)))
+TOP = os.path.dirname(os.path.dirname(os.path.dirname(os.path.abspath(__file__))))
 
 
 def text_of(path):

@@ -1,13 +1,13 @@
 #!/usr/bin/env python3
 """Finds blocks that stand alike in two crates, in code, definitions or proofs.
 
-    tools/alike.py                  prints each pair of such blocks, the longest first
-    tools/alike.py --check          ends with status 1 where a pair stands that docs/DECISIONS.md doesn't name
-    tools/alike.py --least N        blocks of N lines and more (21)
-    tools/alike.py --within         blocks that stand alike in two files of one crate too
-    tools/alike.py --same           only blocks that are the same to the letter
-    tools/alike.py --near           blocks of so many alike lines with up to four others between, or in one of the two
-    tools/alike.py --lemmas         lemmas of two crates that state the same, but for the names that they bind
+    tools/dev/alike.py                  prints each pair of such blocks, the longest first
+    tools/dev/alike.py --check          ends with status 1 where a pair stands that docs/DECISIONS.md doesn't name
+    tools/dev/alike.py --least N        blocks of N lines and more (21)
+    tools/dev/alike.py --within         blocks that stand alike in two files of one crate too
+    tools/dev/alike.py --same           only blocks that are the same to the letter
+    tools/dev/alike.py --near           blocks of so many alike lines with up to four others between, or in one of the two
+    tools/dev/alike.py --lemmas         lemmas of two crates that state the same, but for the names that they bind
 
 Blank lines, comments and imports don't count, and a statement that is laid out over several lines counts them all. Two blocks are
 alike where they are the same but for names, and each name of one is always the same name of the other.
@@ -22,7 +22,7 @@ import re
 import sys
 from collections import defaultdict
 
-TOP = os.path.dirname(os.path.dirname(os.path.abspath(__file__)))
+TOP = os.path.dirname(os.path.dirname(os.path.dirname(os.path.abspath(__file__))))
 SECTION = "## Blocks that stand alike"
 # A name: letters of any script, digits, and the signs that may stand inside of one.
 NAME = re.compile(r"[^\W\d](?:[\w'’◌≡-]*[\w'’◌])?")

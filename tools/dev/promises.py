@@ -1,8 +1,8 @@
 #!/usr/bin/env python3
 """Holds docs/PROMISES.md against the sources, and writes docs/MAP.md: each promise with its clauses, must-fail edits and tests.
 
-    tools/promises.py            writes docs/MAP.md
-    tools/promises.py --check    writes nothing; status 1 where the page is old or a name isn't there
+    tools/dev/promises.py            writes docs/MAP.md
+    tools/dev/promises.py --check    writes nothing; status 1 where the page is old or a name isn't there
 
 Both end with status 1 where a name of PROMISES.md, or of the tables of clauses in README.md, is no clause of the call that it names,
 where one of README's tables of fields is no field of the records in the words above it, where a row of docs/TOUR.md names a function that
@@ -35,7 +35,7 @@ PAGE, MAP, TOUR, GLOSSARY = "docs/PROMISES.md", "docs/MAP.md", "docs/TOUR.md", "
 HEAD = """# Map
 
 Each promise of [PROMISES.md](PROMISES.md) with the clauses that carry it, and each call with the must-fail edits that change what it \
-leads to and the tests that name it. A test of a call above it stands as `through`. Written by `tools/promises.py`, which fails where a \
+leads to and the tests that name it. A test of a call above it stands as `through`. Written by `tools/dev/promises.py`, which fails where a \
 name is gone."""
 
 
@@ -351,7 +351,7 @@ def main(words):
     is_old = not os.path.isfile(f"{TOP}/{MAP}") or text_of(MAP) != text
     print("".join(f"{it}\n" for it in page.faults), end="")
     if "--check" in words and is_old:
-        print(f"{MAP} is old: run tools/promises.py")
+        print(f"{MAP} is old: run tools/dev/promises.py")
     if "--check" not in words:
         with open(f"{TOP}/{MAP}", "w", encoding="utf-8") as it:
             it.write(text)
