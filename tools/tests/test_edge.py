@@ -1,5 +1,5 @@
-#!/usr/bin/env python3
-"""Tests of the edge of exsm: what it does to its files and streams. They run the built program: tools/test_edge.py PROGRAM [unittest's words]."""
+"""The edge of exsm: what it does to its files and streams."""
+from __future__ import annotations
 
 import concurrent.futures
 import contextlib
@@ -9,12 +9,13 @@ import resource
 import shutil
 import signal
 import subprocess
-import sys
 import tempfile
 import time
 import unittest
 
-PROGRAM = ""
+from tests.support import TOP
+
+PROGRAM = os.environ["EXSM"]
 
 SIZES = "--page-size 512 --pages 64 --segs 64 --seg-len 1 --fan 2".split()
 BYTES = (257 + 64 + 64) * 512
@@ -473,10 +474,9 @@ out/exsm
 
     def setUp(self):
         super().setUp()
-        launcher = os.path.join(os.path.dirname(os.path.dirname(os.path.abspath(__file__))), "exsm")
         for folder in ("top/crates/exsm/src", "top/crates/low/src", "kit", "other kit"):
             os.makedirs(folder)
-        shutil.copy(launcher, "top/exsm")
+        shutil.copy(TOP / "exsm", "top/exsm")
         self.write("top/crates.txt", "# The crates.\nlow: byteorder\nexsm: low\nother: low\n")
         self.write("top/crates/exsm/src/main.rt", "")
         self.write("top/crates/low/src/lib.rt", "")
@@ -548,10 +548,3 @@ out/exsm
         self.assertEqual((ran.returncode, ran.stdout), (1, ""))
         self.assertIn("src/main.rt:1:1: error", ran.stderr)
         self.assertEqual(ran.stderr.splitlines()[-1], "exsm: the build failed")
-
-
-if __name__ == "__main__":
-    if len(sys.argv) < 2:
-        sys.exit(__doc__)
-    PROGRAM = os.path.abspath(sys.argv[1])
-    unittest.main(argv=sys.argv[:1] + sys.argv[2:])
