@@ -6,14 +6,18 @@ line is told on standard error with its number and what it means, and the status
 where the script ends in an open transaction. A status of exsm's own is handed on.
 
 In a terminal there are a prompt (`exsm> `, and `exsm*> ` in a transaction), a history, completion
-by Tab, `help`, and `quit`; a refused line is told and the session goes on.
+by Tab, and words beside the program's: `show X` tells bytes as text, `put PATH in FILE as @NAME`
+stores a file, `source PATH` runs lines, DATA may be text:"..", `help WORD` tells what a line does,
+and `quit` ends. A refused line is told and the session goes on; Ctrl-C drops the line.
 """
 from __future__ import annotations
 
+import os
 import sys
 
 from exsm.commands import parser_of
-from exsm.do import run
+from exsm.do import run, run_lines
+from exsm.prompt import talk
 
 
 def main() -> int:
@@ -23,7 +27,9 @@ def main() -> int:
     parser.add_argument("script", metavar="SCRIPT", nargs="?",
                         help="a file with the lines; standard input where it isn't told")
     words = parser.parse_args()
-    return run(words.volume, words.script)
+    if words.script is None and sys.stdin.isatty():
+        return run(words.volume, lambda runner: talk(runner, os.fspath(words.volume)))
+    return run(words.volume, lambda runner: run_lines(runner, words.script))
 
 
 if __name__ == "__main__":

@@ -1,7 +1,6 @@
 """What the lines of a script look like, what a refusal means and what a fault says, in words."""
 from __future__ import annotations
 
-import difflib
 import os
 
 FORMS = {
@@ -35,6 +34,49 @@ FORMS = {
     "group": "group GROUP FRAMES RULE",
 }
 """The lines that the program takes, by their first word."""
+
+SENTENCES = {
+    "begin": "opens a transaction; what it changes can be seen by this run alone until its commit",
+    "commit": "makes the transaction's changes durable: once it is answered they stay",
+    "abort": "drops the transaction's changes, and unbinds the names that it bound",
+    "checkpoint": "writes what the log has to its place, and empties the log",
+    "log": "tells how many records the log has",
+    "files": "tells the names of all files",
+    "space": "tells how many pages and segment units are in use, and how many there are",
+    "file": "makes an empty file, which is a folder of objects",
+    "unfile": "removes a file without objects",
+    "list": "tells the identifiers of a file's current versions",
+    "create": "makes an empty object in a file, and binds a name to it for this run",
+    "destroy": "removes a current version, and its object where it is the only one",
+    "freeze": "keeps a version as it is now: a frozen copy comes before it, and gets the name",
+    "derive": "opens a current version with the bytes of a frozen one, to go on from it",
+    "versions": "tells the identifiers of all versions of an object",
+    "drop": "removes a frozen version; what is derived from it goes on from its older one",
+    "size": "tells how many bytes a version has",
+    "stat": "tells how a version lies: small on its page, or as a tree of leaves",
+    "digest": "tells the SHA-256 of a version's bytes",
+    "read": "tells bytes from a position on, as hexadecimal digits",
+    "insert": "puts bytes in before the byte at a position",
+    "append": "puts bytes at the end",
+    "replace": "puts bytes over those from a position on",
+    "delete": "takes bytes out",
+    "scan": "opens a scan, which gives the bytes as they are now, whatever is changed later",
+    "next": "tells a scan's next bytes",
+    "close": "closes a scan",
+    "group": "makes a group of frames in memory of its own, for scans to read through",
+}
+"""What each line does, in a sentence."""
+
+SYNONYMS = {
+    "rollback": "abort", "cancel": "abort", "undo": "abort", "start": "begin", "save": "commit",
+    "cat": "read", "get": "read", "print": "read", "ls": "list", "dir": "files", "tables": "files",
+    "rm": "destroy", "remove": "destroy", "del": "delete", "cut": "delete", "mkdir": "file",
+    "rmdir": "unfile", "new": "create", "add": "append", "write": "replace", "put": "append",
+    "len": "size", "length": "size", "hash": "digest", "sha256": "digest", "df": "space",
+    "history": "versions", "snapshot": "freeze", "branch": "derive", "open": "scan",
+    "sync": "checkpoint",
+}
+"""Words of other programs, with the line that does what they do here."""
 
 WORDS = ("X is @NAME or page.slot.unique; DATA is hex:DIGITS, two a byte, or rep:COUNT:BYTE; "
          "NAME, FILE, SCAN and GROUP are 1 to 32 of a-z 0-9 _")
@@ -82,25 +124,6 @@ MEANINGS = {
 """What each refusal means, but `syntax`; {0} on are its values."""
 
 FULL_AREAS = {"pages": "pages", "segs": "segment units"}
-
-
-def meaning(line: str, name: str, values: list[str]) -> str:
-    """What a refusal of a line means, and what helps."""
-    if name == "syntax":
-        return syntax_meaning(line)
-    if name == "full":
-        values = [FULL_AREAS.get(values[0], values[0]), *values[1:]]
-    return MEANINGS[name].format(*values)
-
-
-def syntax_meaning(line: str) -> str:
-    """What is wrong with a line that spells no command: its form, or the word that was meant."""
-    word = (line.split() or [""])[0]
-    if word in FORMS:
-        return "; ".join([f"the form is `{FORMS[word]}`", *filter(None, [WORDS_OF.get(word)]), WORDS])
-    near = difflib.get_close_matches(word.lower(), list(FORMS), 1)
-    hint = f"did you mean `{FORMS[near[0]]}`? " if near else ""
-    return f"{hint}Lines begin with: {' '.join(FORMS)}"
 
 
 def reason_of(fault: Exception, path: str = "") -> str:

@@ -90,14 +90,14 @@ class OfRows(InFolder):
 class Terminal:
     """The runner in a terminal, its history in the folder of the test."""
 
-    def __init__(self, volume: str) -> None:
+    def __init__(self, volume: str, until: str = "exsm> ") -> None:
         self.side, other = pty.openpty()
         variables = {**os.environ, "HOME": ".", "TERM": "dumb", "COLUMNS": "200"}
         self.run = subprocess.Popen(
             [sys.executable, str(TOOLS / "exsm_do.py"), volume], stdin=other, stdout=other,
             stderr=other, start_new_session=True, env=variables)
         os.close(other)
-        self.read_to("exsm> ")
+        self.read_to(until)
 
     def type(self, keys: str, until: str) -> str:
         """Types keys, and gives what comes up to a prompt that ends it."""
@@ -110,7 +110,10 @@ class Terminal:
         while not (seen.endswith(until) and "\n" in seen or seen == until) and until:
             if not select.select([self.side], [], [], end - time.monotonic())[0]:
                 raise AssertionError(f"no {until!r} came, but {seen!r}")
-            seen += os.read(self.side, 65536).decode(errors="replace")
+            try:
+                seen += os.read(self.side, 65536).decode(errors="replace")
+            except OSError:                        # the runner ended, and nothing is left
+                raise AssertionError(f"no {until!r} came, but {seen!r}") from None
         return seen
 
     def close(self) -> None:

@@ -1,11 +1,16 @@
 """The runner: it stops at the first refusal, and tells the line and what it means."""
 from __future__ import annotations
 
+import os
 import re
+import signal
+import time
 from typing import NamedTuple
 
-from exsm.do import readline
-from exsm.lines import MEANINGS, meaning
+from exsm.lines import FORMS, MEANINGS, SENTENCES, SYNONYMS
+from exsm.prompt import readline
+from exsm.spelling import meaning, syntax_meaning
+from exsm.texts import shown, with_digits
 from tests.support import TOP, InFolder, Terminal
 
 ABORTED = "exsm_do: the open transaction is aborted"
@@ -78,6 +83,37 @@ TABLE = [
 ]
 
 
+MISFITS = {
+    "file Docs": "word 2: 'Docs' has 'D', and a name is of a-z, 0-9 and _",
+    f"file {'a' * 33}": "has 33 characters, and a name has at most 32",
+    "append @d hex:6": "word 3: 'hex:6' has an odd number of digits",
+    "append @d hex:6g": "has 'g', which is no hexadecimal digit",
+    "append @d 61": "word 3: '61' is no data: it begins with hex: or rep:",
+    "append @d rep:x:61": "has the count 'x'",
+    "append @d rep:1:6": "has the byte '6'",
+    "append @d rep:1": "is to be rep:COUNT:BYTE",
+    "read @d 1,000 1": "word 3: '1,000' is no number of decimal digits alone",
+    "read @d -1 1": "word 3: '-1' is no number",
+    "read @d 0x1 1": "word 3: '0x1' is no number",
+    "read @d 18446744073709551616 1": "isn't below 2^64",
+    "read @d 0": "word 4 is missing: LEN",
+    "read @d 0 1 2": "word 5: '2' is one too many",
+    "create docs as e": "word 4: 'e' is to be bound, so write @e",
+    "create docs to @e": "word 3: 'to' is to be `as`",
+    "size d": "a bound name is @d",
+    "size 1.2": "is neither @NAME nor page.slot.unique",
+    "size 1.2.x": "has 'x', which is no number",
+    "size @": "has no name",
+    "group g 1 fifo": "word 4: 'fifo' is neither lru nor mru",
+    "scan @d as s of g": "word 5: 'of' is to be `in`",
+    "rollback": "did you mean `abort`?",
+    "Commit": "did you mean `commit`?",
+    "creat a as @x": "did you mean `create FILE as @NAME`?",
+    "xyzzy": "Lines begin with: begin",
+}
+"""Lines that spell no command, and what is told of them."""
+
+
 class RunnerTest(InFolder):
     def test_table(self) -> None:
         """scripts with replies, errors and status"""
@@ -138,6 +174,8 @@ class RunnerTest(InFolder):
             self.assertIn("versions @v", talk.type("vers\t@v\n", "exsm*> "))
             self.assertIn("did you mean `size X`", talk.type("sizes @n\n", "exsm*> "))
             self.assertIn("replace X POS DATA", talk.type("help\n", "exsm*> "))
+            self.assertIn("makes an empty object", talk.type("help create\n", "exsm*> "))
+            self.assertIn("`abort`", talk.type("rollback\n", "exsm*> "))
             self.assertIn("ok commit 1", talk.type("commit\n", "exsm> "))
             talk.type("quit\n", "")
             self.assertEqual(talk.run.wait(10), 0)
@@ -145,3 +183,67 @@ class RunnerTest(InFolder):
             talk.close()
         with open(".exsm_history", encoding="utf-8") as history:
             self.assertIn("create notes as @n", history.read())
+
+    def test_prompt_words(self) -> None:
+        """in a terminal: text as data, bytes shown, a file put, lines of a file, identifiers by Tab"""
+        if readline is None:
+            self.skipTest("this Python has no readline")
+        with open("note", "w", encoding="utf-8") as note:
+            note.write("two\nlines\n")
+        with open("lines", "w", encoding="ascii") as lines:
+            lines.write("file more\nsize @n\nsizes @n\nfile never\n")
+        talk = Terminal(self.format())
+        try:
+            self.assertIn("ok begin 1", talk.type("begin\n", "exsm*> "))
+            self.assertIn("ok file notes", talk.type("file notes\n", "exsm*> "))
+            self.assertIn("10 bytes of note are in @n",
+                          talk.type("put note in notes as @n\n", "exsm*> "))
+            self.assertIn("ok append 22", talk.type('append @n text:"say \\"hi\\"\\n..."\n', "exsm*> "))
+            self.assertIn('two\r\nlines\r\nsay "hi"', talk.type("show @n\n", "exsm*> "))
+            self.assertIn("\r\nlin\r\n", talk.type("show @n 4 3\n", "exsm*> "))
+            told = talk.type("source lines\n", "exsm*> ")
+            self.assertIn("ok size 22", told)
+            self.assertIn("lines: line 3 was refused; none after it was run", told)
+            self.assertIn("ok files 2 more notes", talk.type("files\n", "exsm*> "))
+            self.assertIn("size 258.0.1 \r\nok size 22", talk.type("size 25\t\n", "exsm*> "))
+            self.assertIn("No such file", talk.type("put nowhere in notes as @m\n", "exsm*> "))
+            self.assertIn("the form is `show X [POS LEN]`", talk.type("show @n 1\n", "exsm*> "))
+            os.write(talk.side, b"files and what else")
+            time.sleep(0.5)
+            os.kill(talk.run.pid, signal.SIGINT)
+            self.assertIn("^C", talk.read_to("exsm*> "))
+            self.assertIn("ok commit 1", talk.type("commit\n", "exsm> "))
+            talk.type("quit\n", "")
+            self.assertEqual(talk.run.wait(10), 0)
+        finally:
+            talk.close()
+
+    def test_opens_first(self) -> None:
+        """in a terminal a volume that can't be opened is told before any prompt"""
+        talk = Terminal("missing", "status 5 disk fault\r\n")
+        try:
+            self.assertEqual(talk.run.wait(10), 5)
+        finally:
+            talk.close()
+
+    def test_misfits(self) -> None:
+        """the first word that doesn't fit a line's form is told, and why"""
+        for line, told in MISFITS.items():
+            with self.subTest(line):
+                self.assertIn(told, syntax_meaning(line))
+
+    def test_words(self) -> None:
+        """each line has a sentence, and each synonym means a line"""
+        self.assertEqual(list(SENTENCES), list(FORMS))
+        self.assertEqual(set(SYNONYMS.values()) - set(FORMS), set())
+        self.assertEqual(set(SYNONYMS) & set(FORMS), set())
+
+    def test_texts(self) -> None:
+        """text becomes digits where it stands as a word, and bytes are shown as text or digits"""
+        self.assertEqual(with_digits('append @x text:"a b"'), "append @x hex:612062")
+        self.assertEqual(with_digits("append @x text:\u00e4 "), "append @x hex:c3a4 ")
+        self.assertEqual(with_digits('append @x text:""'), "append @x hex:")
+        self.assertEqual(with_digits('append @x text:"a\\tb\\\\"'), "append @x hex:6109625c")
+        self.assertEqual(with_digits('append @x text:"a"b'), 'append @x text:"a"b')
+        self.assertEqual(shown(b"a\nb"), "a\nb")
+        self.assertEqual(shown(b"\x00A"), "00000000  00 41" + " " * 42 + "  .A")
