@@ -36,7 +36,7 @@ _exsm_files() {
 }
 
 _exsm_volume() {
-    if [ "$COMP_CWORD" = 2 ]; then _exsm_offer "check list get save"; else _exsm_files_here; fi
+    if [ "$COMP_CWORD" = 2 ]; then _exsm_offer "check list get save mend"; else _exsm_files_here; fi
 }
 
 complete -F _exsm exsm

@@ -20,6 +20,8 @@ def main() -> int:
     parser.add_argument("out", metavar="OUT.svg", nargs="?",
                         help="the picture, which is written anew")
     words = parser.parse_args()
+    if words.out is not None and not words.out.endswith(".svg"):
+        parser.error(f"the picture is an SVG file, and {words.out!r} doesn't end with .svg")
     return run(words.volume, words.out)
 
 

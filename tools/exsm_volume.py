@@ -1,9 +1,12 @@
 #!/usr/bin/env python3
 """Reads a volume file as docs/FORMATS.md describes it, without exsm. It never writes to the volume.
 
-It reads volumes that exsm refuses as bad, and media that can't be written. Of a version with a
-fault in its tree, `save` writes what the rest of the tree names, each byte at its position, to
-FOLDER/FILE/OID.damaged, and tells the ranges that are missing, which are zeros there.
+It reads volumes that exsm refuses as bad, and media that can't be written; without a superblock,
+and of a file that was cut off, it reads what the catalog leads to. `check` makes the tests that an
+opening makes, and tells the part that it refuses. Of a version with a fault in its tree, `save`
+writes what the rest of the tree names, each byte at its position, to FOLDER/FILE/OID.damaged, and
+tells the ranges that are missing, which are zeros there. What exsm_files.py put is saved under its
+name. `mend` copies a volume of which only bytes are wrong that no version reads.
 """
 from __future__ import annotations
 
@@ -11,19 +14,20 @@ import argparse
 import signal
 import sys
 
+from exsm.checking import CantMend, check, ended, mend
 from exsm.commands import parser_of
-from exsm.volume import check, get, list_versions, run, save_all
+from exsm.records import BadVolume
+from exsm.saving import get, list_versions, save_all
+from exsm.volume import NoVersion, Volume
 
 
 def parser_of_words() -> argparse.ArgumentParser:
     """Reads the words."""
     parser = parser_of(__doc__)
     parser.add_argument("volume", metavar="VOLUME")
-    commands = parser.add_subparsers(metavar="COMMAND", required=True)
-
-    checking = commands.add_parser(
-        "check", help="tells each fault that it finds; status 1 where there is one")
-    checking.set_defaults(step=lambda volume, words: check(volume))
+    commands = parser.add_subparsers(metavar="COMMAND", dest="command", required=True)
+    commands.add_parser(
+        "check", help="tells the part that an opening refuses; status 1 where there is one")
 
     listing = commands.add_parser(
         "list", help="tells the versions that can be read: size, identifier, file")
@@ -37,13 +41,25 @@ def parser_of_words() -> argparse.ArgumentParser:
         "save", help="writes each version that can be read to FOLDER/FILE/OID")
     saving.add_argument("folder", metavar="FOLDER")
     saving.set_defaults(step=lambda volume, words: save_all(volume, words.folder))
+
+    mending = commands.add_parser(
+        "mend", help="makes COPY, with zeros where bytes are wrong that no version reads")
+    mending.add_argument("copy", metavar="COPY")
     return parser
 
 
 def main() -> int:
     """Does what the words say, and gives the exit status."""
     words = parser_of_words().parse_args()
-    return run(words.volume, lambda volume: words.step(volume, words))
+    try:
+        if words.command == "check":
+            return check(words.volume)
+        if words.command == "mend":
+            return mend(words.volume, words.copy)
+        with Volume(words.volume) as volume:
+            return words.step(volume, words)
+    except (BadVolume, NoVersion, CantMend, OSError) as fault:
+        return ended(words.volume, fault)
 
 
 if __name__ == "__main__":

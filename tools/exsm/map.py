@@ -11,8 +11,9 @@ from typing import Iterator, NamedTuple, Optional
 
 from exsm.geometry import CATALOG, LOG_PAGES
 from exsm.lines import reason_of
+from exsm.named import names_of
 from exsm.records import BadVolume, Record
-from exsm.volume import Use, Volume
+from exsm.volume import Guessed, Use, Volume
 
 PAGE_COLORS = {"catalog": "#1b1b1b", "index": "#7b4ea3", "file page": "#c7761b", "node": "#2f6db5"}
 FREE, LOG, LEAVES, TEXT, WHITE = "#ececec", "#b03a48", "#3f8f4f", "#222", "#fff"
@@ -20,7 +21,7 @@ WIDTH, MARGIN = 900, 16
 CELLS_MOST = 16_384
 AREA_HEIGHT = 330
 SIDE_LEAST, SIDE_MOST = 4, 22
-BAR, GAP = 14, 30
+BAR, GAP, TITLE = 14, 30, 18
 LISTED_MOST = 12
 GOLDEN_TURN = 0.381966
 FAINT = 0.4
@@ -69,6 +70,11 @@ class Area(NamedTuple):
         return sum(use.used for use in self.uses.values())
 
     @property
+    def reach(self) -> int:
+        """The units up to the last one in use."""
+        return (max(self.uses) - self.first) // self.pages + 1 if self.uses else 0
+
+    @property
     def filled(self) -> str:
         """How full the units in use are."""
         return percent(self.used, len(self.uses) * self.room)
@@ -77,6 +83,9 @@ class Area(NamedTuple):
 def areas_of(volume: Volume) -> tuple[Area, Area]:
     """The page area and the segment area with what is in use there."""
     numbers = volume.geometry
+    if isinstance(numbers, Guessed):
+        raise BadVolume("super: without its sizes the use of a volume can't be told; "
+                        "exsm_volume.py saves what can be read")
     pages = {page: use for page, use in volume.uses.items() if page < numbers.first_unit}
     units = {page: use for page, use in volume.uses.items() if page >= numbers.first_unit}
     return (Area("page area", CATALOG, numbers.pages, 1, numbers.page_size, pages),
@@ -142,7 +151,7 @@ class Drawing:
     def __init__(self) -> None:
         self.shapes: list[str] = []
         self.patterns: list[str] = []
-        self.y = 0
+        self.y = TITLE
 
     def rectangle(self, x: float, y: float, width: float, height: float, fill: str,
                   title: str = "", opacity: float = 1) -> None:
@@ -187,9 +196,10 @@ class Cells:
 
     @staticmethod
     def of(area: Area) -> Cells:
-        """The cells of an area: as large as the height allows."""
-        per_cell = max(1, -(-area.units // CELLS_MOST))
-        cells = -(-area.units // per_cell)
+        """The cells of an area up to its last unit in use: as large as the height allows."""
+        units = max(1, area.reach)
+        per_cell = max(1, -(-units // CELLS_MOST))
+        cells = -(-units // per_cell)
         fitting = int((WIDTH * AREA_HEIGHT / max(1, cells)) ** 0.5)
         return Cells(per_cell, cells, max(SIDE_LEAST, min(SIDE_MOST, fitting)))
 
@@ -229,7 +239,16 @@ def draw_file(drawing: Drawing, volume: Volume) -> None:
         width = max(2.0, (WIDTH - 8) * size / numbers.bytes)
         drawing.rectangle(x, drawing.y, width, BAR, color, f"{name}, {human(size)}")
         x += width
-    drawing.y += BAR + GAP
+    drawing.y += BAR + BAR
+    draw_legend(drawing, [(f"{name}, {human(size)}", color) for name, size, color in parts], 200)
+    drawing.y += GAP
+
+
+def draw_legend(drawing: Drawing, rows: list[tuple[str, str]], step: int) -> None:
+    """What colours mean, side by side."""
+    for place, (words, color) in enumerate(rows):
+        drawing.rectangle(place * step, drawing.y - 10, 11, 11, color)
+        drawing.text(place * step + 16, words)
 
 
 def draw_log(drawing: Drawing, volume: Volume) -> None:
@@ -249,56 +268,98 @@ def draw_log(drawing: Drawing, volume: Volume) -> None:
     drawing.y += BAR + GAP
 
 
-def draw_area(drawing: Drawing, area: Area, colors: dict[int, str]) -> None:
+class Run(NamedTuple):
+    """Cells side by side that look alike: the first, the last, their first page, how full."""
+
+    first: int
+    last: int
+    page: int
+    share: float
+
+
+def runs_of(area: Area, colors: dict[int, str], cells: Cells) -> Iterator[Run]:
+    """The cells in use, joined where those of a row have one owner, one colour and one fill."""
+    inside: dict[int, list[int]] = defaultdict(list)
+    for page in sorted(area.uses):
+        inside[(page - area.first) // area.pages // cells.per_cell].append(page)
+    run: Optional[Run] = None
+    for cell, pages in sorted(inside.items()):
+        share = sum(area.uses[page].used for page in pages) / (area.room * cells.per_cell)
+        use = area.uses[pages[0]]
+        if (run is not None and run.last + 1 == cell and cell % cells.in_row
+                and run.share == share and colors[run.page] == colors[pages[0]]
+                and area.uses[run.page][:2] == use[:2]):
+            run = run._replace(last=cell)
+            continue
+        if run is not None:
+            yield run
+        run = Run(cell, cell, pages[0], share)
+    if run is not None:
+        yield run
+
+
+def run_title(area: Area, run: Run, cells: Cells, names: dict[str, str]) -> str:
+    """What the cells of a run say of their units."""
+    use = area.uses[run.page]
+    if use.owner in names:
+        use = use._replace(owner=f"{names[use.owner]} ({use.owner})")
+    if run.first == run.last:
+        return title_of(area, run.page, use)
+    units = (run.last - run.first + 1) * cells.per_cell
+    last = run.page + (units - 1) * area.pages
+    noun = "pages" if area.pages == 1 and use.kind != "leaf" else "units"
+    return (f"{noun} {run.page} to {last}: {use.kind} of {use.owner}, "
+            f"{percent(run.share, 1)} filled")
+
+
+def draw_area(drawing: Drawing, area: Area, colors: dict[int, str],
+              names: dict[str, str]) -> None:
     """An area as cells, each filled from below by the bytes that its units hold."""
     cells = Cells.of(area)
     drawing.y += 8
     drawing.grid(min(cells.cells, cells.in_row) * cells.side, cells.rows * cells.side, cells.side)
-    inside: dict[int, list[int]] = defaultdict(list)
-    for page in sorted(area.uses):
-        inside[(page - area.first) // area.pages // cells.per_cell].append(page)
-    for cell, pages in inside.items():
-        share = sum(area.uses[page].used for page in pages) / (area.room * cells.per_cell)
-        x, y = cell % cells.in_row * cells.side, drawing.y + cell // cells.in_row * cells.side
-        width, color = cells.side - 1, colors[pages[0]]
-        title = title_of(area, pages[0], area.uses[pages[0]])
-        drawing.rectangle(x, y, width, width, color, title, FAINT)
-        drawing.rectangle(x, y + width * (1 - share), width, width * share, color)
+    for run in runs_of(area, colors, cells):
+        row, column = divmod(run.first, cells.in_row)
+        x, y = column * cells.side, drawing.y + row * cells.side
+        width, height = (run.last - run.first + 1) * cells.side - 1, cells.side - 1
+        color, title = colors[run.page], run_title(area, run, cells, names)
+        drawing.rectangle(x, y, width, height, color, title, FAINT)
+        drawing.rectangle(x, y + height * (1 - run.share), width, height * run.share, color)
     last = cells.cells % cells.in_row
     if last and cells.rows > 1:
         drawing.rectangle(last * cells.side, drawing.y + (cells.rows - 1) * cells.side,
                           (cells.in_row - last) * cells.side, cells.side, WHITE)
-    drawing.y += cells.rows * cells.side + GAP
+    drawing.y += cells.rows * cells.side + BAR
+    if area.units > area.reach:
+        drawing.text(0, f"{area.units - area.reach:,} free ones behind these aren't drawn")
+    drawing.y += GAP
 
 
-def per_cell_words(area: Area) -> str:
-    """How many units stand for a cell, where it is more than one."""
+def cell_words(area: Area) -> str:
+    """What a cell stands for."""
     per_cell = Cells.of(area).per_cell
-    return f", {per_cell} to a cell" if per_cell > 1 else ""
+    return f"; a cell is {human(per_cell * area.room)}"
 
 
-def draw_pages(drawing: Drawing, area: Area) -> None:
+def draw_pages(drawing: Drawing, area: Area, names: dict[str, str]) -> None:
     """The page area, a colour for each kind of page, and their numbers."""
-    drawing.text(0, f"page area: {len(area.uses)} of {area.units} pages in use"
-                    f"{per_cell_words(area)}", 13, "bold")
-    draw_area(drawing, area, {page: PAGE_COLORS[use.kind] for page, use in area.uses.items()})
+    drawing.text(0, f"page area: {len(area.uses):,} of {area.units:,} pages in use"
+                    f"{cell_words(area)}", 13, "bold")
+    draw_area(drawing, area, {page: PAGE_COLORS[use.kind] for page, use in area.uses.items()},
+              names)
     kinds = [(kind, sum(use.kind == kind for use in area.uses.values())) for kind in PAGE_COLORS]
-    x = 0
-    for kind, count in [*kinds, ("free", area.units - len(area.uses))]:
-        drawing.rectangle(x, drawing.y - GAP // 2 - 10, 11, 11, PAGE_COLORS.get(kind, FREE))
-        drawing.y -= GAP // 2
-        drawing.text(x + 16, f"{kind} {count}")
-        drawing.y += GAP // 2
-        x += 130
-    drawing.y += GAP // 2
+    rows = [(f"{kind} {count:,}", PAGE_COLORS[kind]) for kind, count in kinds]
+    draw_legend(drawing, [*rows, (f"free {area.units - len(area.uses):,}", FREE)], 130)
+    drawing.y += GAP
 
 
-def draw_units(drawing: Drawing, area: Area, order: dict[str, int]) -> None:
+def draw_units(drawing: Drawing, area: Area, order: dict[str, int],
+               names: dict[str, str]) -> None:
     """The segment area, a colour for each object."""
-    drawing.text(0, f"segment area: {len(area.uses)} of {area.units} units in use, "
-                    f"{area.filled} filled; a colour is an object{per_cell_words(area)}",
-                 13, "bold")
-    draw_area(drawing, area, {page: hue(order[use.owner]) for page, use in area.uses.items()})
+    drawing.text(0, f"segment area: {len(area.uses):,} of {area.units:,} units in use, "
+                    f"{area.filled} filled; a colour is an object{cell_words(area)}", 13, "bold")
+    draw_area(drawing, area, {page: hue(order[use.owner]) for page, use in area.uses.items()},
+              names)
 
 
 def largest_of(versions: list[Record]) -> Record:
@@ -306,7 +367,8 @@ def largest_of(versions: list[Record]) -> Record:
     return max(versions, key=lambda record: record.size)
 
 
-def draw_largest(drawing: Drawing, volume: Volume, largest: list[list[Record]]) -> None:
+def draw_largest(drawing: Drawing, volume: Volume, largest: list[list[Record]],
+                 names: dict[str, str]) -> None:
     """The largest objects with their colours."""
     held: dict[str, list[int]] = defaultdict(list)
     for use in volume.uses.values():
@@ -321,7 +383,9 @@ def draw_largest(drawing: Drawing, volume: Volume, largest: list[list[Record]]) 
                      f"{percent(sum(leaves), len(leaves) * volume.geometry.unit)} filled")
         if len(versions) > 1:
             shape += f", {len(versions)} versions"
-        drawing.text(16, f"{record.oid:14} {human(record.size)}, {shape}")
+        name = next((names[it.oid] for it in versions if it.oid in names), "")
+        told = f"{record.oid} {name}" if name else record.oid
+        drawing.text(16, f"{told:14} {human(record.size)}, {shape}")
         drawing.y += 17
 
 
@@ -334,12 +398,13 @@ def picture(volume: Volume) -> str:
     draw_file(drawing, volume)
     draw_log(drawing, volume)
     largest = sorted(volume.objects, key=lambda versions: -largest_of(versions).size)
+    names = names_of(volume)
     page_area, segment_area = areas_of(volume)
-    draw_pages(drawing, page_area)
+    draw_pages(drawing, page_area, names)
     if segment_area.units:
         order = {versions[0].oid: place for place, versions in enumerate(largest)}
-        draw_units(drawing, segment_area, order)
-    draw_largest(drawing, volume, largest)
+        draw_units(drawing, segment_area, order, names)
+    draw_largest(drawing, volume, largest, names)
     return drawing.finished()
 
 
@@ -348,10 +413,11 @@ def run(path: str, out: Optional[str]) -> int:
     try:
         with Volume(path) as volume:
             volume.walk()
+            told = list(usage(volume))
             if out is not None:
                 with open(out, "w", encoding="utf-8") as drawn:
                     drawn.write(picture(volume))
-            print("\n".join(usage(volume)))
+            print("\n".join(told))
     except (BadVolume, OSError) as fault:
         sys.exit(f"exsm_map: {reason_of(fault, path)}")
     return 0

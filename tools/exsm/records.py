@@ -50,8 +50,8 @@ class Record:
         return f"{self.place.page}.{self.place.slot}.{self.unique}"
 
 
-def record_of(page: int, slot: int, body: bytes) -> Record:
-    """The record that a slot's bytes are."""
+def record_of(page: int, slot: int, body: bytes, most: int = OBJECT_MOST) -> Record:
+    """The record that a slot's bytes are, of a version of at most so many bytes."""
     where = f"body: page {page}, slot {slot}"
     if len(body) < RECORD_HEAD.size + BODY_LEAST:
         raise BadVolume(f"{where} has {len(body)} bytes")
@@ -67,7 +67,7 @@ def record_of(page: int, slot: int, body: bytes) -> Record:
         data = body[RECORD_HEAD.size:RECORD_HEAD.size + number]
         return Record(place, unique, number, frozen, older, newer, data=data)
     size, root = LARGE_BODY.unpack_from(body, RECORD_HEAD.size)
-    if size > OBJECT_MOST or number > HEIGHT_MOST or (root == 0) != (size == 0):
+    if size > most or number > HEIGHT_MOST or (root == 0) != (size == 0):
         raise BadVolume(f"{where} has size {size}, height {number}, root {root}")
     return Record(place, unique, size, frozen, older, newer, number, root)
 

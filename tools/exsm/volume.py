@@ -2,28 +2,15 @@
 from __future__ import annotations
 
 import os
-import re
-import struct
-import sys
+from dataclasses import dataclass
 from typing import Callable, Iterator, NamedTuple
 
 from exsm.geometry import CATALOG, LOG_PAGES, Geometry
-from exsm.lines import reason_of
 from exsm.log import (CATALOG_ENTRY, CATALOG_HEAD, FILE_PAGE_HEAD, KIND_CATALOG, KIND_FILE_PAGE,
                       SLOT, BadLog, LogRecord, leave, records_of)
+from exsm.opening import (INDEX_ENTRY, INDEX_HEAD, KIND_INDEX, NAME, NODE_HEAD, PAGE_SIZES,
+                          PAIRS, SEG_LEN_MOST, Opening, is_catalog)
 from exsm.records import BadVolume, Links, Record, record_of
-
-MAGIC = b"EXSMVOL1"
-FORMATS = (1, 2)
-PAGE_SIZES = (512, 1024, 2048, 4096, 8192)
-SUPERBLOCK = struct.Struct(">8s6I")
-INDEX_HEAD = struct.Struct(">BBH4xI4x")
-INDEX_ENTRY = struct.Struct(">II")
-NODE_HEAD = struct.Struct(">BBH4x")
-# The pairs of a node, by the node's kind: a count of four bytes or of eight, and a page.
-PAIRS = {2: struct.Struct(">II"), 5: struct.Struct(">QI")}
-NAME = re.compile(rb"[a-z0-9_]{1,32}")
-KIND_INDEX = 4
 
 
 class NoVersion(Exception):
@@ -62,6 +49,22 @@ class Use(NamedTuple):
     used: int
 
 
+@dataclass(frozen=True)
+class Guessed(Geometry):
+    """The sizes of a volume without a superblock: of them the page size alone is known, by the
+    catalog. Any page of the file may be one of the page area and the first of a unit."""
+
+    @staticmethod
+    def of(page_size: int, disk_bytes: int) -> Guessed:
+        """What is known of a file of so many bytes, where its catalog tells the page size."""
+        pages = max(1, disk_bytes // page_size - CATALOG)
+        return Guessed(page_size, pages, 0, SEG_LEN_MOST, (page_size - 20) // 24)
+
+    def has_unit(self, page: int) -> bool:
+        """Whether a unit may begin at the page."""
+        return self.has_page(page)
+
+
 class Volume:
     """What a volume file holds. Faults below the catalog are gathered in `faults`."""
 
@@ -90,8 +93,9 @@ class Volume:
         return self._file.read(length)
 
     def home(self, page: int) -> bytes:
-        """A page as it stands at its place."""
-        return self._read(page * self.geometry.page_size, self.geometry.page_size)
+        """A page as it stands at its place; behind the end of a file that was cut all is 0."""
+        size = self.geometry.page_size
+        return self._read(page * size, size).ljust(size, b"\0")
 
     def page(self, page: int) -> bytes:
         """A page as the log leaves it."""
@@ -106,24 +110,28 @@ class Volume:
 
     # The superblock, the log, the catalog: without them nothing can be read.
 
+    def opening(self) -> Opening:
+        """The tests that the program's opening makes, over the bytes of the file."""
+        return Opening(self._read, self.disk_bytes)
+
     def _superblock(self) -> Geometry:
-        head = self._read(0, SUPERBLOCK.size)
-        if len(head) < SUPERBLOCK.size or not head.startswith(MAGIC):
-            raise BadVolume("super: the file doesn't begin as a volume does")
-        _, page_size, pages, segs, seg_len, fan, form = SUPERBLOCK.unpack(head)
-        if form not in FORMATS:
-            raise BadVolume(f"super: format {form}")
-        if page_size not in PAGE_SIZES or not pages or not 1 <= seg_len <= 16:
-            raise BadVolume(f"super: page size {page_size}, {pages} pages, {seg_len} pages a unit")
-        geometry = Geometry(page_size, pages, segs, seg_len, fan)
-        if self.disk_bytes < geometry.bytes:
-            raise BadVolume(f"super: the file has {self.disk_bytes} bytes, "
-                            f"the volume {geometry.bytes}")
-        return geometry
+        """The sizes of the volume; where the superblock is damaged, what its catalog tells."""
+        opening = self.opening()
+        faults = [fault for fault in opening.superblock() if fault.span is None]
+        self.faults.extend(f"super: {fault.text}" for fault in faults)
+        if opening.sizes is not None and len(faults) == opening.is_cut:
+            return opening.sizes
+        for page_size in PAGE_SIZES:
+            if is_catalog(self._read(CATALOG * page_size, page_size), page_size):
+                self.faults.append(f"super: page {CATALOG} is a catalog at page size {page_size}: "
+                                   "read so, without the other sizes")
+                return Guessed.of(page_size, self.disk_bytes)
+        raise BadVolume(self.faults[-1])
 
     def _log(self) -> tuple[list[LogRecord], dict[int, bytes]]:
         """The records that count, and the images that they leave. A fault ends the log there."""
-        log = self._read(self.geometry.page_size, LOG_PAGES * self.geometry.page_size)
+        size = LOG_PAGES * self.geometry.page_size
+        log = self._read(self.geometry.page_size, size).ljust(size, b"\0")
         records: list[LogRecord] = []
         images: dict[int, bytes] = {}
         try:
@@ -256,6 +264,8 @@ class Volume:
     def _test_leaf(self, record: Record, page: int, size: int) -> None:
         if not self.geometry.has_unit(page) or not 0 < size <= self.geometry.unit:
             raise BadVolume(f"node: {record.oid} names leaf {page} of {size} bytes")
+        if page * self.geometry.page_size + size > self.disk_bytes:
+            raise BadVolume(f"super: leaf {page} of {record.oid} lies behind the end of the file")
 
     def walk(self) -> Volume:
         """Notes the use of each page and unit of all trees, and the faults of their nodes."""
@@ -299,6 +309,17 @@ class Volume:
         for leaf in self.leaves(record, raised):
             yield self._read(leaf.page * self.geometry.page_size, leaf.length)
 
+    def is_whole(self, record: Record) -> bool:
+        """Whether each byte of a version can be read."""
+        faults: list[BadVolume] = []
+        seen: set[int] = set()
+
+        def is_new(page: int, _: Use) -> bool:
+            return not (page in seen or seen.add(page))
+        for _ in self.leaves(record, lambda fault, *_: faults.append(fault), is_new):
+            pass
+        return not faults
+
     def bytes_of(self, record: Record) -> bytes:
         """The bytes of a version. A fault in its tree is raised."""
         return b"".join(self.pieces(record))
@@ -318,66 +339,3 @@ class Volume:
 def raised(fault: BadVolume, *_: int) -> None:
     """Raises a fault of a tree."""
     raise fault
-
-
-# The commands.
-
-def check(volume: Volume) -> int:
-    """Tells each fault that it finds."""
-    volume.walk()
-    for fault in volume.faults:
-        print(fault)
-    print(f"{len(volume.faults)} faults, {len(volume.objects)} objects, {len(volume.all())} versions")
-    return 1 if volume.faults else 0
-
-
-def list_versions(volume: Volume) -> int:
-    """Tells the versions that can be read."""
-    for name, records in volume.versions.items():
-        for record in records:
-            print(f"{record.size:10}  {record.oid:14} {name}{' (frozen)' if record.frozen else ''}")
-    return 0
-
-
-def get(volume: Volume, oid: str) -> int:
-    """Writes a version's bytes to standard output."""
-    sys.stdout.buffer.writelines(volume.pieces(volume.find(oid)))
-    sys.stdout.buffer.flush()
-    return 0
-
-
-def save_version(volume: Volume, record: Record, folder: str) -> bool:
-    """Saves what can be read of a version, and tells what can't be; whether it is whole."""
-    path = os.path.join(folder, record.oid)
-    missing = volume.save(record, path)
-    for start, end in missing:
-        print(f"{record.oid}: bytes {start} to {end - 1} of {record.size} are missing")
-    if missing:
-        os.replace(path, f"{path}.damaged")
-    return not missing
-
-
-def save_all(volume: Volume, top: str) -> int:
-    """Writes each version that can be read to a file of a folder below this one."""
-    whole = damaged = 0
-    for name, records in volume.versions.items():
-        folder = os.path.join(top, name)
-        os.makedirs(folder, exist_ok=True)
-        for record in records:
-            if save_version(volume, record, folder):
-                whole += 1
-            else:
-                damaged += 1
-    for fault in volume.faults:
-        print(fault)
-    print(f"{whole} versions saved whole, {damaged} in part")
-    return 1 if damaged or volume.faults else 0
-
-
-def run(path: str, step: Callable[[Volume], int]) -> int:
-    """Makes a step on a volume, and gives its exit status."""
-    try:
-        with Volume(path) as volume:
-            return step(volume)
-    except (BadVolume, NoVersion, OSError) as fault:
-        sys.exit(f"exsm_volume: {reason_of(fault, path)}")

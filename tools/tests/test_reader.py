@@ -3,6 +3,7 @@ from __future__ import annotations
 
 import os
 import random
+import re
 import shutil
 import unittest
 from pathlib import Path
@@ -22,6 +23,18 @@ PEOPLE = 200
 def bytes_by_oid(volume: Volume) -> dict[str, bytes]:
     """The bytes of all objects."""
     return {record.oid: volume.bytes_of(record) for record in volume.all()}
+
+
+def pages_of(title: str) -> list[int]:
+    """The pages and units that a title of the picture names."""
+    one = re.match(r"(?:page|unit) (\d+): ", title)
+    many = re.match(r"(page|unit)s (\d+) to (\d+): ", title)
+    if one:
+        return [int(one[1])]
+    if not many:
+        return []
+    step = 2 if many[1] == "unit" else 1           # the pages of a unit of the test's volume
+    return list(range(int(many[2]), int(many[3]) + 1, step))
 
 
 class ReaderTest(InFolder):
@@ -60,16 +73,65 @@ class ReaderTest(InFolder):
 
     def test_no_volume(self) -> None:
         """a file that holds no volume, one that is cut off, one that isn't there"""
-        shutil.copy("v", "cut")
-        os.truncate("cut", 400_000)
         with open("other", "wb") as out:
             out.write(b"x" * 100)
-        for name, part in (("cut", "super: the file has 400000 bytes"),
-                           ("other", "super: the file doesn't"), ("missing", "missing: No such file or directory")):
-            for tool, words in (("exsm_volume", ["check"]), ("exsm_map", [])):
+        for tool, words in (("exsm_volume", ["list"]), ("exsm_map", [])):
+            for name, told in (("other", "super: the file doesn't begin as a volume does"),
+                               ("missing", "missing: No such file or directory")):
                 ran = self.tool(tool, name, *words)
                 self.assertEqual((ran.status, ran.lines, len(ran.errors)), (1, [], 1))
-                self.assertIn(part, ran.errors[0])
+                self.assertIn(told, ran.errors[0])
+        ran = self.tool("exsm_volume", "other", "check")
+        self.assertEqual((ran.status, ran.lines[0]),
+                         (1, "super: the file doesn't begin as a volume does"))
+        self.assertIn("1 fault, nothing can be read", ran.lines[1])
+
+    def test_cut(self) -> None:
+        """a file that is cut off is read as far as it goes"""
+        shutil.copy("v", "cut")
+        with Volume("v") as volume:
+            first = volume.geometry.first_unit
+        os.truncate("cut", (first + 40) * 512)
+        ran = self.tool("exsm_volume", "cut", "check")
+        self.assertEqual(ran.status, 1)
+        self.assertRegex(ran.lines[0], r"^super: the file has \d+ bytes, the volume 1821184$")
+        self.assertEqual(self.tool("exsm_volume", "cut", "save", "s").status, 1)
+        saved = {path.name: path.read_bytes() for path in Path("s").glob("*/*")}
+        whole = {oid: data for oid, data in saved.items() if not oid.endswith(".damaged")}
+        self.assertEqual(whole, {oid: self.wanted[oid] for oid in whole})
+        self.assertGreater(len(whole), PEOPLE * 9 // 10)
+        self.assertEqual(len(saved), len(self.wanted))
+
+    def test_no_superblock(self) -> None:
+        """without a superblock, or with a damaged one, each version is read by the catalog"""
+        for damage in (bytes(512), b"EXSMVOL1" + bytes([255] * 24)):
+            with open("v", "r+b") as file:
+                file.write(damage)
+            self.assertEqual(self.tool("exsm_volume", "v", "save", "s").status, 1)
+            saved = {path.name: path.read_bytes() for path in Path("s").glob("*/*")}
+            self.assertEqual(saved, self.wanted)
+            shutil.rmtree("s")
+        ran = self.tool("exsm_map", "v")
+        self.assertEqual((ran.status, len(ran.errors)), (1, 1))
+        self.assertIn("without its sizes", ran.errors[0])
+
+    def test_saved_names(self) -> None:
+        """what exsm_files.py put is listed and saved under its name"""
+        os.remove("v")
+        self.format("v", 4096, 100, 200)
+        os.mkdir("files")
+        for name, data in (("a b.txt", b"one"), ("\u00fc", b"two" * 4000)):
+            Path("files", name).write_bytes(data)
+        ran = self.tool("exsm_files", "v", "put", "files/a b.txt", "files/\u00fc")
+        self.assertEqual(ran.status, 0)
+        ran = self.tool("exsm_volume", "v", "save", "s")
+        self.assertEqual((ran.status, ran.lines[-1]),
+                         (0, "3 versions saved whole, 0 in part; 2 of them under their names"))
+        self.assertEqual(Path("s", "blobs", "a b.txt").read_bytes(), b"one")
+        self.assertEqual(Path("s", "blobs", "\u00fc").read_bytes(), b"two" * 4000)
+        self.assertIn("blobs a b.txt", "\n".join(self.tool("exsm_volume", "v", "list").lines))
+        self.assertEqual(self.tool("exsm_map", "v", "m.svg").status, 0)
+        self.assertIn("a b.txt", Path("m.svg").read_text(encoding="utf-8"))
 
     @unittest.skipIf(os.getuid() == 0, "root may write to any file")
     def test_read_only(self) -> None:
@@ -179,8 +241,8 @@ class ReaderTest(InFolder):
             uses = volume.walk().uses
         root = ElementTree.parse("map.svg").getroot()
         titles = [title.text for title in root.iter("{http://www.w3.org/2000/svg}title")]
-        for page, use in uses.items():
-            self.assertEqual(sum(f" {page}: {use.kind}" in title for title in titles), 1)
+        drawn = [number for title in titles for number in pages_of(title)]
+        self.assertEqual(sorted(drawn), sorted(uses))
         with Store("v") as store:
             space = store.space()
         self.assertEqual(len(uses), space.pages + space.segs)
