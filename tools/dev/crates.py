@@ -6,7 +6,7 @@
                                    ten crates, a crate at most 100 functions and four must-fail edits, each crate stands in a band of
                                    crates.txt behind all that it stands on, no crate is named that no file uses, the documents name each
                                    ported crate among what is trusted, and they have the picture that --write would write
-    tools/dev/crates.py --write    writes the picture into docs/ARCHITECTURE.md and README.md, each between two lines of marks
+    tools/dev/crates.py --write    writes the picture into docs/ARCHITECTURE.md, between two lines of marks
 
 A level is one more than the highest level below. A weight is a crate's lines of code, contracts and proofs. Lines are counted without
 blank ones and comments; a contract is a clause or a ghost item; what stands in specs/ is a definition, in proofs/ a proof.
@@ -151,19 +151,6 @@ def picture(crates, bands):
     return "\n".join(["```", *rows[1:], "```"])
 
 
-def short_picture(crates, bands):
-    rows = []
-    width = max((len(it) for it in bands), default=0)
-    for band in reversed(bands):
-        names, line = [it.name for it in crates.values() if it.band == band], ""
-        for name in [*reversed(names), None]:
-            if name is None or len(line) + len(name) > 108:
-                rows.append(f"{'' if rows and rows[-1].startswith(band) else band:{width}}  {line.strip()}")
-                line = ""
-            line += f"  {name}" if name else ""
-    return "\n".join(["```", *rows, "```"])
-
-
 def chains(graph):
     """Says the longest chain to the program and the heaviest one of all."""
     longest = graph.chain(PROGRAM, graph.levels)
@@ -180,7 +167,6 @@ def chains(graph):
 def of_documents(crates, bands, graph):
     return {
         "docs/ARCHITECTURE.md": f"{picture(crates, bands)}\n\n{chains(graph)}",
-        "README.md": short_picture(crates, bands),
     }
 
 

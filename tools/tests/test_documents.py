@@ -102,6 +102,16 @@ class DocumentsTest(InFolder):
         os.symlink(os.environ["EXSM"], "exsm")
         self.compare(README)
 
+    def test_python_of_readme(self) -> None:
+        """the Python program of README runs, and prints what it says"""
+        self.format("v")
+        program = re.findall(r"```python\n(.*?)```", text_of(README), re.S)[0]
+        Path("program.py").write_text(program, encoding="utf-8")
+        ran = subprocess.run([sys.executable, "program.py"], capture_output=True, check=False,
+                             env={**os.environ, "PYTHONPATH": str(TOOLS)})
+        told = re.findall(r"print\(.*\) +# (.*)", program)
+        self.assertEqual(ran.stdout.decode().splitlines(), told, ran.stderr.decode())
+
     def test_tutorial(self) -> None:
         """the tutorial's commands write what it prints, and draw its pictures"""
         self.needs("xxd", "awk", "dd")
