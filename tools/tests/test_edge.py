@@ -6,14 +6,10 @@ import contextlib
 import os
 import re
 import resource
-import shutil
 import signal
 import subprocess
 import tempfile
-import time
 import unittest
-
-from tests.support import TOP
 
 PROGRAM = os.environ["EXSM"]
 
@@ -455,96 +451,3 @@ class Memory(InAFolder):
         if not seen:
             self.skipTest("this build of the program doesn't start in little memory")
         self.assertIn(7, seen)
-
-
-class Launcher(InAFolder):
-    """`./exsm` builds the program where that is wanted, and runs it. A script stands for the toolchain here."""
-
-    RT = """#!/bin/sh
-echo "rt: chose --jobs 1 for low"
-echo "logic=proved functions=1"
-echo "rt: chose --jobs 1 for exsm"
-if [ -e ../../broken ]; then echo "src/main.rt:1:1: error"; exit 1; fi
-echo built >>../../builds
-mkdir -p out
-printf '#!/bin/sh\\nif [ $# = 0 ]; then echo "exsm: status 2 usage" >&2; exit 2; fi\\necho "ran $*"\\n' >out/exsm
-chmod +x out/exsm
-out/exsm
-"""
-
-    def setUp(self):
-        super().setUp()
-        for folder in ("top/crates/exsm/src", "top/crates/low/src", "kit", "other kit"):
-            os.makedirs(folder)
-        shutil.copy(TOP / "exsm", "top/exsm")
-        self.write("top/crates.txt", "# The crates.\nlow: byteorder\nexsm: low\nother: low\n")
-        self.write("top/crates/exsm/src/main.rt", "")
-        self.write("top/crates/low/src/lib.rt", "")
-        for kit in ("kit", "other kit"):
-            self.write(f"{kit}/rt", self.RT)
-            os.chmod(f"{kit}/rt", 0o755)
-
-    def write(self, path, text):
-        with open(path, "w") as file:
-            file.write(text)
-
-    def launch(self, *words, path="top/exsm", kit="kit"):
-        places = [os.path.abspath(kit)] if kit else []
-        how = {"env": {**os.environ, "PATH": ":".join([*places, "/usr/bin", "/bin"])}}
-        return subprocess.run([path, *words], stdin=subprocess.DEVNULL, capture_output=True, text=True, timeout=60, **how)
-
-    def builds(self):
-        return len(contents("top/builds").splitlines())
-
-    def test_it_builds_once_and_tells_how_far_it_is(self):
-        ran = self.launch("run", "v")
-        self.assertEqual((ran.returncode, ran.stdout), (0, "ran run v\n"))
-        lines = ran.stderr.splitlines()
-        self.assertIn("about an hour", lines[0])
-        self.assertIn("exsm: 0 min: proving exsm, 1 proved of at most 2", lines)
-        self.assertEqual(lines[-1], "exsm: built")
-        ran = self.launch("run", "v")
-        self.assertEqual((ran.stdout, ran.stderr), ("ran run v\n", ""))
-        self.assertEqual(self.builds(), 1)
-
-    def test_it_works_through_links(self):
-        os.mkdir("bin")
-        os.symlink("../top/exsm", "bin/exsm")
-        os.symlink("exsm", "bin/second")
-        for path in ("bin/exsm", "bin/second"):
-            self.assertEqual(self.launch("run", "v", path=path).stdout, "ran run v\n")
-        self.assertEqual(self.builds(), 1)
-
-    def test_it_says_what_is_missing(self):
-        ran = self.launch("run", "v", kit=None)
-        self.assertEqual((ran.returncode, ran.stdout), (1, ""))
-        self.assertIn("rt isn't on PATH", ran.stderr)
-        self.assertIn("README", ran.stderr)
-        self.launch("run", "v")
-        self.assertEqual(self.launch("run", "v", kit=None).stdout, "ran run v\n")
-
-    def test_it_builds_again_where_something_changed(self):
-        self.launch("run", "v")
-        later = time.time() + 10
-
-        def touch(path):
-            os.utime(path, (later, later))
-
-        for n, path in enumerate(["top/crates.txt", "top/crates/low/src/lib.rt", "top/crates/low/src"]):
-            touch(path)
-            self.assertIn("sources changed", self.launch("run", "v").stderr)
-            self.assertEqual(self.builds(), n + 2)
-            os.utime(path, (0, 0))
-        self.assertIn("toolchain changed", self.launch("run", "v", kit="other kit").stderr)
-        self.assertEqual(self.launch("run", "v", kit="other kit").stderr, "")
-        self.assertEqual(self.builds(), 5)
-
-    def test_a_failed_build_is_told_and_runs_nothing(self):
-        self.launch("run", "v")
-        self.write("top/broken", "")
-        self.write("top/crates/low/src/more.rt", "")
-        os.utime("top/crates/low/src/more.rt", (time.time() + 10,) * 2)
-        ran = self.launch("run", "v")
-        self.assertEqual((ran.returncode, ran.stdout), (1, ""))
-        self.assertIn("src/main.rt:1:1: error", ran.stderr)
-        self.assertEqual(ran.stderr.splitlines()[-1], "exsm: the build failed")
