@@ -124,13 +124,12 @@ def is_answered(line: bytes) -> bool:
 
 
 def find_program() -> str:
-    """The program: `$EXSM`, else the one that this repository built or installed, else `PATH`'s."""
+    """The program: `$EXSM`, else the one that this repository built, that was installed or unpacked, else `PATH`'s."""
     tools = Path(__file__).resolve().parent.parent
     built = tools.parent / "crates" / "exsm" / "out" / "exsm"
-    installed = tools.parent.parent / "bin" / "exsm"
     if "EXSM" in os.environ:
         return os.environ["EXSM"]
-    for program in (built, installed):
+    for program in (built, tools / "program"):
         if os.access(program, os.X_OK):
             return str(program)
     found = shutil.which("exsm")

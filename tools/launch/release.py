@@ -1,0 +1,137 @@
+"""Makes the archive of a release: the program as it was built of this commit's text, tools, documents and licence.
+
+The archive is the same, byte for byte, whenever it is made of one commit and one program: names stand in order, times are
+the commit's, owners are left out.
+"""
+from __future__ import annotations
+
+import gzip
+import hashlib
+import io
+import os
+import shutil
+import subprocess
+import sys
+import tarfile
+from pathlib import Path
+
+from launch.crates import BUILT, TOP
+from launch.note import EDITED, TEXT, Begun, commit_of_text, digest_of, git, read
+
+PLATFORM = f"{os.uname().sysname.lower()}-{os.uname().machine}"
+# What goes into the archive as it stands, by how its path begins.
+TAKEN = ("LICENSE", "CHANGELOG.md", "README.md", "VERSION", "docs/", "examples/", "tools/exsm/", "tools/exsm_",
+         "tools/exsm.bash", "tools/exsm.sh", "tools/install", "tools/usage.txt")
+WRAPPER, PROGRAM, VERSION_TOLD, SUMS = "exsm", "tools/program", "tools/version.txt", "SHA256SUMS"
+GATE = TOP / ".ci" / "run"
+
+
+class Refused(Exception):
+    """No archive is made, and why."""
+
+
+def asked(*words: str) -> str:
+    """What git says, where it must say something."""
+    said = git(*words)
+    if said is None:
+        raise Refused(f"git {words[0]} fails in {TOP}: a release is made of a commit of its repository")
+    return said
+
+
+def hold_text() -> None:
+    """Refuses where a file isn't what the commit has."""
+    changed = asked("status", "--porcelain", "--untracked-files=no").splitlines()
+    if changed or commit_of_text() == EDITED:
+        first = changed[0][3:] if changed else "a file below crates"
+        raise Refused(f"{first} isn't as the commit has it: a release is made of a commit")
+
+
+def hold_program() -> None:
+    """Refuses a program of which its note doesn't say that it was built of this commit's text."""
+    gate = "`tools/release --gate FOLDER` runs the gate first, and takes what it built"
+    note = read()
+    if not BUILT.is_file() or not note:
+        raise Refused(f"nothing says of what text {BUILT.relative_to(TOP)} was built: {gate}")
+    if note.get("program") != digest_of(BUILT):
+        raise Refused(f"{BUILT.relative_to(TOP)} isn't the program that its note was written of: {gate}")
+    built = note.get("commit", EDITED)
+    if built == EDITED or git("diff", "--quiet", built, "HEAD", "--", *TEXT) is None:
+        raise Refused(f"{BUILT.relative_to(TOP)} was built of other text than this commit's: {gate}")
+
+
+def run_gate() -> None:
+    """Runs the gate, whose last line tells how it ended, and notes of what it built the program."""
+    begun = Begun()
+    last = ""
+    with subprocess.Popen(["bash", str(GATE)], cwd=TOP, stdin=subprocess.DEVNULL, stdout=subprocess.PIPE, text=True,
+                          errors="replace") as run:
+        assert run.stdout is not None
+        for line in run.stdout:
+            last = line.strip() or last
+            print(line, end="", file=sys.stderr, flush=True)
+    if run.returncode != 0 or not last.endswith(" 0 failed") or not BUILT.is_file():
+        raise Refused(f"the gate didn't pass: {last or f'status {run.returncode}'}")
+    begun.write()
+
+
+def contents() -> dict[str, tuple[bytes, bool]]:
+    """The files of the archive by name: what each holds, and whether it is run."""
+    names = [it for it in asked("ls-files", "-z").split("\0") if it.startswith(TAKEN)]
+    found = {it: ((TOP / it).read_bytes(), os.access(TOP / it, os.X_OK)) for it in names}
+    told = subprocess.run([str(TOP / "exsm"), "--version"], capture_output=True, check=True).stdout
+    found[WRAPPER] = found["tools/exsm.sh"]
+    found[PROGRAM] = BUILT.read_bytes(), True
+    found[VERSION_TOLD] = told, False
+    return found
+
+
+def archive_of(files: dict[str, tuple[bytes, bool]], folder: str, seconds: int) -> bytes:
+    """A tar archive, compressed, with the files below a folder."""
+    plain, packed = io.BytesIO(), io.BytesIO()
+    with tarfile.open(fileobj=plain, mode="w", format=tarfile.USTAR_FORMAT) as archive:
+        for name, (data, is_run) in sorted(files.items()):
+            entry = tarfile.TarInfo(f"{folder}/{name}")
+            entry.size, entry.mode, entry.mtime = len(data), 0o755 if is_run else 0o644, seconds
+            archive.addfile(entry, io.BytesIO(data))
+    with gzip.GzipFile(filename="", mode="wb", fileobj=packed, mtime=0) as archive:
+        archive.write(plain.getvalue())
+    return packed.getvalue()
+
+
+def sums(digests: dict[str, str]) -> bytes:
+    """Digests as `sha256sum --check` reads them."""
+    return "".join(f"{digest}  {name}\n" for name, digest in sorted(digests.items())).encode()
+
+
+def make(to: Path, with_gate: bool) -> Path:
+    """Makes the archive and the file with its SHA-256 in a folder, and gives the archive."""
+    hold_text()
+    if with_gate:
+        run_gate()
+    hold_program()
+    files = contents()
+    files[SUMS] = sums({name: hashlib.sha256(data).hexdigest() for name, (data, _) in files.items()}), False
+    version = (TOP / "VERSION").read_text(encoding="ascii").strip()
+    folder = f"exsm-{version}-{PLATFORM}"
+    data = archive_of(files, folder, int(asked("log", "-1", "--format=%ct")))
+    to.mkdir(parents=True, exist_ok=True)
+    archive = to / f"{folder}.tar.gz"
+    for path, text in ((archive, data), (archive.with_name(f"{archive.name}.sha256"),
+                                         sums({archive.name: hashlib.sha256(data).hexdigest()}))):
+        part = path.with_name(f"{path.name}.part")
+        part.write_bytes(text)
+        os.replace(part, path)
+    return archive
+
+
+def release(to: Path, with_gate: bool) -> int:
+    """Makes a release, and gives the exit status."""
+    try:
+        if with_gate and shutil.which("rt") is None:
+            raise Refused("rt isn't on PATH to run the gate: it comes with the Rattle kit (README, \"Build\")")
+        archive = make(to, with_gate)
+    except (Refused, OSError) as fault:
+        print(f"release: {fault}", file=sys.stderr)
+        return 1
+    print(archive.with_name(f"{archive.name}.sha256").read_text(encoding="ascii"), end="")
+    return 0
