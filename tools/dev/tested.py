@@ -1,0 +1,70 @@
+#!/usr/bin/env python3
+"""Writes what the tools' tests cover: the sentences of tools/tests, into docs/TESTS.md between its marks.
+
+    tools/dev/tested.py            prints them
+    tools/dev/tested.py --write    writes the page
+    tools/dev/tested.py --check    says whether the page has them, and ends with status 1 where it hasn't
+"""
+from __future__ import annotations
+
+import argparse
+import ast
+import sys
+from pathlib import Path
+
+TOP = Path(__file__).resolve().parent.parent.parent
+TESTS = TOP / "tools" / "tests"
+PAGE = TOP / "docs" / "TESTS.md"
+BEGIN, END = "<!-- written by tools/dev/tested.py -->", "<!-- end of what it writes -->"
+
+
+def sentence(node: ast.AST) -> str:
+    """The first sentence that stands at the head of a file or a function, on one line."""
+    text = ast.get_docstring(node) or ""  # type: ignore[arg-type]
+    return " ".join(text.split("\n\n")[0].split()).rstrip(".")
+
+
+def tests_of(module: ast.Module) -> list[str]:
+    """What each test of a file says."""
+    classes = [it for it in module.body if isinstance(it, ast.ClassDef)]
+    found = [it for of in classes for it in of.body if isinstance(it, ast.FunctionDef) and it.name.startswith("test_")]
+    return [sentence(it) or it.name.removeprefix("test_").replace("_", " ") for it in found]
+
+
+def text() -> str:
+    """A part for each file of tests, and how many there are."""
+    parts, count = [], 0
+    for file in sorted(TESTS.glob("test_*.py")):
+        module = ast.parse(file.read_text(encoding="utf-8"))
+        tests = tests_of(module)
+        count += len(tests)
+        about = sentence(module)
+        parts.append(f"**{file.name}**: {about[:1].lower()}{about[1:]}.\n\n" + "\n".join(f"- {it}" for it in tests))
+    return "\n\n".join([f"{count} tests in {len(parts)} files.", *parts])
+
+
+def main() -> int:
+    """Prints, writes or checks, and gives the exit status."""
+    parser = argparse.ArgumentParser(description=__doc__, formatter_class=argparse.RawDescriptionHelpFormatter)
+    parser.add_argument("--write", action="store_true")
+    parser.add_argument("--check", action="store_true")
+    words = parser.parse_args()
+    if not words.write and not words.check:
+        print(text())
+        return 0
+    page = PAGE.read_text(encoding="utf-8")
+    before, mark, rest = page.partition(BEGIN)
+    _, end, after = rest.partition(END)
+    if not mark or not end:
+        sys.exit(f"tested: docs/TESTS.md has no lines {BEGIN} and {END}")
+    whole = f"{before}{mark}\n\n{text()}\n\n{end}{after}"
+    if words.write:
+        PAGE.write_text(whole, encoding="utf-8")
+    elif page != whole:
+        print("docs/TESTS.md is old: run tools/dev/tested.py --write")
+        return 1
+    return 0
+
+
+if __name__ == "__main__":
+    sys.exit(main())

@@ -1,0 +1,65 @@
+"""The pages whose figures and lists scripts write: each writes between its marks alone, and nothing where it can't."""
+from __future__ import annotations
+
+import shutil
+import sys
+from pathlib import Path
+
+from tests.support import TOP, InFolder, Ran
+
+
+class PagesTest(InFolder):
+    def setUp(self) -> None:
+        super().setUp()
+        for name in ("tools/dev", "tools/tests", "bench", "docs"):
+            Path(name).mkdir(parents=True)
+        for name in ("figures.py", "tested.py"):
+            shutil.copy(TOP / "tools" / "dev" / name, "tools/dev")
+
+    def script(self, name: str, *words: str) -> Ran:
+        """Runs a script of tools/dev."""
+        return self.run_words(sys.executable, f"tools/dev/{name}", *words)
+
+    def test_figures(self) -> None:
+        """a bench's figures take the place of those between the marks that name it, with its call, and else the page stays"""
+        page = "before\n<!-- figures of bench/a.py -->\n\nold\n\n<!-- end of figures -->\nafter\n"
+        Path("docs/SPEED.md").write_text(page, encoding="utf-8")
+        Path("bench/a.py").write_text("import sys\nprint('took', sys.argv[1:])\n", encoding="utf-8")
+        Path("bench/fails.sh").write_text("exit 3\n", encoding="utf-8")
+        ran = self.script("figures.py", "bench/fails.sh")
+        self.assertEqual((ran.status, Path("docs/SPEED.md").read_text(encoding="utf-8")), (1, page))
+        self.assertIn("<!-- figures of bench/fails.sh -->", ran.errors[0])
+        self.assertEqual(self.script("figures.py", "bench/a.py", "v", "--runs", "3").status, 0)
+        lines = Path("docs/SPEED.md").read_text(encoding="utf-8").splitlines()
+        self.assertEqual(lines[:3] + lines[4:], [
+            "before", "<!-- figures of bench/a.py -->", "", "", "```", "took ['v', '--runs', '3']", "```", "",
+            "<!-- end of figures -->", "after"])
+        self.assertTrue(lines[3].startswith("`bench/a.py v --runs 3`, "), lines[3])
+        Path("bench/a.py").write_text("sys.exit(1)\n", encoding="utf-8")
+        was = Path("docs/SPEED.md").read_bytes()
+        self.assertEqual((self.script("figures.py", "bench/a.py").status, Path("docs/SPEED.md").read_bytes()), (1, was))
+
+    def test_marks(self) -> None:
+        """the pages have the marks that the scripts write between, and each bench that a mark names is there"""
+        speed = (TOP / "docs" / "SPEED.md").read_text(encoding="utf-8")
+        benches = [part.split(" -->")[0] for part in speed.split("<!-- figures of ")[1:]]
+        self.assertGreater(len(benches), 5)
+        self.assertEqual([it for it in benches if not (TOP / it).is_file()], [])
+        self.assertEqual(speed.count("<!-- end of figures -->"), len(benches))
+        gate = (TOP / "docs" / "GATE.md").read_text(encoding="utf-8")
+        for mark in ("<!-- written by tools/dev/gate_log.py -->", "<!-- written by tools/first_build -->",
+                     "<!-- written by tools/first_build --forecast -->"):
+            self.assertEqual(gate.count(mark), 1, mark)
+
+    def test_tested(self) -> None:
+        """the page of tests has the sentences of their files, and --check tells an old one"""
+        Path("tools/tests/test_one.py").write_text(
+            '"""One thing.\n\nMore.\n"""\nclass A:\n    def test_a(self):\n        """it holds\n        on two lines"""\n'
+            '    def test_b_c(self):\n        pass\n    def other(self):\n        pass\n', encoding="utf-8")
+        Path("docs/TESTS.md").write_text(
+            "head\n<!-- written by tools/dev/tested.py -->\n<!-- end of what it writes -->\ntail\n", encoding="utf-8")
+        self.assertEqual(self.script("tested.py", "--check").status, 1)
+        self.assertEqual(self.script("tested.py", "--write").status, 0)
+        self.assertEqual(Path("docs/TESTS.md").read_text(encoding="utf-8").splitlines()[3:9], [
+            "2 tests in 1 files.", "", "**test_one.py**: one thing.", "", "- it holds on two lines", "- b c"])
+        self.assertEqual(self.script("tested.py", "--check").status, 0)
