@@ -65,6 +65,10 @@ class DeviceTest(InFolder):
                 self.assertEqual((ran.status, ran.out, ran.errors), (0, same.out, []))
                 self.assertEqual(same.status, 0)
         self.assertEqual(Path(self.device).read_bytes(), Path("file").read_bytes())
+        for tool, *words in (("exsm_volume", "check"), ("exsm_volume", "list"), ("exsm_map",)):
+            told, same = self.tool(tool, self.device, *words), self.tool(tool, "file", *words)
+            self.assertEqual((told.status, told.errors), (0, []))
+            self.assertEqual(told.out.replace(self.device.encode(), b"file"), same.out)
 
     def test_texts(self) -> None:
         """what is refused on a device is told of a device, and nothing is written"""
