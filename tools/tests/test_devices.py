@@ -13,6 +13,7 @@ from tests.support import SECONDS, TOOLS, InFolder
 SMALL = "--page-size 512 --pages 64 --segs 16 --seg-len 1 --fan 2".split()
 BYTES = (257 + 64 + 16) * 512
 DEVICE_BYTES = 4 << 20
+FAILOVER_SECONDS = 600
 
 SESSION = b"""begin
 file a
@@ -155,10 +156,15 @@ class DeviceTest(InFolder):
 class FailoverTest(InFolder):
     def fails_over(self, *words: str) -> tuple[int, str]:
         """Runs the test of failover, where its packages are."""
-        ran = self.run_words(sys.executable, TOOLS / "test_failover", *words)
-        if ran.errors and "isn't there for this user" in ran.errors[0]:
-            self.skipTest(ran.errors[0].removeprefix("test_failover: "))
-        return ran.status, ran.out.decode() + "\n".join(ran.errors)
+        with subprocess.Popen([sys.executable, TOOLS / "test_failover", *words], text=True,
+                              stdout=subprocess.PIPE, stderr=subprocess.STDOUT) as run:
+            try:
+                text = run.communicate(timeout=FAILOVER_SECONDS)[0]
+            finally:
+                run.terminate()
+        if "isn't there for this user" in text:
+            self.skipTest(text.removeprefix("test_failover: ").strip())
+        return run.returncode, text
 
     def test_failover(self) -> None:
         """the second of two nodes has each commit that was answered, and one that drops syncs is found out"""
