@@ -194,7 +194,7 @@ class DocumentsTest(InFolder):
         if ran.status != 0:
             self.skipTest(f"man can't show a file here: {ran.errors[:1]}")
         self.assertEqual(ran.errors, [])
-        self.assertIn("keep storage objects on a volume file", ran.out.decode(errors="replace"))
+        self.assertIn("keep storage objects on a volume, a file or a block device", ran.out.decode(errors="replace"))
 
 
 COMPLETE = r"""
