@@ -54,7 +54,8 @@ pub struct Explanation<'a> {
 
 impl fmt::Display for Explanation<'_> {
     fn fmt<W: fmt::Write>(&self, f: &mut fmt::Formatter<W>) -> fmt::Result {
-        let volume = self.volume();
+        let word = self.volume();
+        let volume = Shown(word);
         match self.status {
             Status::Done => Ok(()),
             Status::Usage => self.misuse(f),
@@ -100,8 +101,11 @@ impl Explanation<'_> {
         }
     }
 
-    fn volume(&self) -> Shown<'_> {
-        Shown(self.volume.unwrap_or("the volume"))
+    fn volume(&self) -> &str {
+        match self.volume {
+            Some(word) => word,
+            None => "the volume",
+        }
     }
 
     fn misuse<W: fmt::Write>(&self, f: &mut fmt::Formatter<W>) -> fmt::Result {
