@@ -17,4 +17,6 @@ case "${1-}" in
 help | --help | -h) exec cat "$parts/usage.txt" ;;
 --version) exec cat "$parts/version.txt" ;;
 esac
+# A write past the limit of a file's size (ulimit -f) is refused, which the run tells, where its signal is held off.
+trap '' XFSZ
 exec "$parts/program" "$@"

@@ -1,8 +1,10 @@
 #!/usr/bin/env python3
 """Makes a volume of about a size, as in `exsm_new.py v 80M`.
 
-SIZE is a number and K, M or G, of 1024 each; the volume has that many bytes at most. A file that
-is there is left alone. The line that makes the volume is told on standard error.
+SIZE is a number and K, M or G, of 1024 each; the volume has that many bytes at most. A block device
+needs no SIZE: the volume is as large as the device. A file that is there is left alone, and so is a
+device that is in use or isn't zeros at both ends. The line that makes the volume is told on
+standard error.
 """
 from __future__ import annotations
 
@@ -25,7 +27,7 @@ def main() -> int:
     """Makes the volume, and gives the exit status: that of exsm, or 1."""
     parser = parser_of(__doc__)
     parser.add_argument("volume", metavar="VOLUME")
-    parser.add_argument("size", metavar="SIZE", type=size)
+    parser.add_argument("size", metavar="SIZE", type=size, nargs="?")
     words = parser.parse_args()
     return make(words.volume, words.size)
 

@@ -3,8 +3,10 @@ from __future__ import annotations
 
 import os
 import re
+import stat
 import subprocess
 import sys
+from typing import Optional
 
 from exsm.client import AnyPath, ProgramMissing, find_program
 from exsm.geometry import CATALOG, Geometry
@@ -22,6 +24,10 @@ UNITS_OF_SIZE = {"": 1, "K": 1 << 10, "M": 1 << 20, "G": 1 << 30}
 LEAST, MOST = 2 << 20, 259 << 30
 SMALLEST, LARGEST = "2M", "259G"
 """The least and the greatest size, in bytes and as a word."""
+
+
+SIGNS_LEN = 1 << 20
+"""How many bytes at both ends of a device are looked at: file systems and partitions have their signs there."""
 
 
 class WrongSize(Exception):
@@ -51,14 +57,54 @@ def geometry_of(size: int) -> Geometry:
     raise ValueError(f"no volume has {size} bytes")
 
 
-def make(volume: AnyPath, size: int) -> int:
-    """Makes a volume of at most so many bytes, and gives the exit status: that of exsm, or 1."""
+def is_device(path: AnyPath) -> bool:
+    """Whether a path names a block device."""
+    try:
+        return stat.S_ISBLK(os.stat(path).st_mode)
+    except OSError:
+        return False
+
+
+def room_of_device(path: AnyPath) -> int:
+    """The bytes of a block device, which no file system or other program has to itself, and which holds nothing that tells what it is."""
+    device = os.open(path, os.O_RDONLY | os.O_EXCL)
+    try:
+        size = os.lseek(device, 0, os.SEEK_END)
+        for place in (0, max(size - SIGNS_LEN, 0)):
+            if os.pread(device, SIGNS_LEN, place).strip(b"\0"):
+                sys.exit(f"exsm_new: {os.fspath(path)} holds something, and `exsm format` would write over it: "
+                         "clear it first, as `blkdiscard -z` does")
+        return size
+    finally:
+        os.close(device)
+
+
+def size_on_device(path: AnyPath, size: Optional[int]) -> int:
+    """The size of a volume on a block device: what is asked for, or all of the device as far as a volume goes."""
+    room = room_of_device(path)
+    if room < (size or LEAST):
+        sys.exit(f"exsm_new: {os.fspath(path)} has {room} bytes, the volume is to have {size or LEAST}")
+    return size or min(room, MOST)
+
+
+def size_for(volume: AnyPath, size: Optional[int]) -> int:
+    """The size of a volume that may be made there."""
+    if is_device(volume):
+        return size_on_device(volume, size)
     if os.path.lexists(volume):
         sys.exit(f"exsm_new: {os.fspath(volume)} is there already, and `exsm format` would write "
                  "over it: remove it first")
-    line = ["format", os.fspath(volume), *geometry_of(size).words()]
-    print("exsm " + " ".join(line), file=sys.stderr)
+    if size is None:
+        sys.exit(f"exsm_new: {os.fspath(volume)} is no block device, so its volume needs a SIZE")
+    return size
+
+
+def make(volume: AnyPath, size: Optional[int] = None) -> int:
+    """Makes a volume of at most so many bytes, or one that fills a block device, and gives the exit status: that of exsm, or 1."""
     try:
+        numbers = geometry_of(size_for(volume, size))
+        line = ["format", os.fspath(volume), *numbers.words()]
+        print("exsm " + " ".join(line), file=sys.stderr)
         return subprocess.call([find_program(), *line])
     except (ProgramMissing, OSError) as fault:
         sys.exit(f"exsm_new: {reason_of(fault)}")

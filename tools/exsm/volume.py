@@ -66,14 +66,14 @@ class Guessed(Geometry):
 
 
 class Volume:
-    """What a volume file holds. Faults below the catalog are gathered in `faults`."""
+    """What a volume holds. Faults below the catalog are gathered in `faults`."""
 
     def __init__(self, path: str) -> None:
         self.path = path
         self.faults: list[str] = []
         self.uses: dict[int, Use] = {}
         self._file = open(path, "rb")
-        self.disk_bytes = os.fstat(self._file.fileno()).st_size
+        self.disk_bytes = self._file.seek(0, os.SEEK_END)
         self.geometry = self._superblock()
         self.records, self.images = self._log()
         self.next_unique, self.last_commit, self.files = self._catalog()

@@ -15,8 +15,9 @@ from tests import transcripts
 from tests.support import TOOLS, TOP, InFolder, Terminal
 
 README = TOP / "README.md"
-RULES, FORMATS, TUTORIAL, MANUAL = (
-    TOP / "docs" / name for name in ("RULES.md", "FORMATS.md", "TUTORIAL.md", "exsm.1"))
+RULES, FORMATS, TUTORIAL, DEVICES, MANUAL = (
+    TOP / "docs" / name
+    for name in ("RULES.md", "FORMATS.md", "TUTORIAL.md", "DEVICES.md", "exsm.1"))
 PROMPT = re.compile(r"^exsm\*?> ")
 EXAMPLE_PAGE = 512
 IMAGES_IN_LOG = {257 * EXAMPLE_PAGE: 661, 258 * EXAMPLE_PAGE: 1178}
@@ -112,6 +113,12 @@ class DocumentsTest(InFolder):
         told = re.findall(r"print\(.*\) +# (.*)", program)
         self.assertEqual(ran.stdout.decode().splitlines(), told, ran.stderr.decode())
 
+    def test_backups(self) -> None:
+        """a volume comes back whole from a backup, from a file and through a pipe"""
+        self.needs("flock", "gzip")
+        os.symlink(os.environ["EXSM"], "exsm")
+        self.compare(DEVICES)
+
     def test_tutorial(self) -> None:
         """the tutorial's commands write what it prints, and draw its pictures"""
         self.needs("xxd", "awk", "dd")
@@ -197,7 +204,7 @@ class DocumentsTest(InFolder):
         if ran.status != 0:
             self.skipTest(f"man can't show a file here: {ran.errors[:1]}")
         self.assertEqual(ran.errors, [])
-        self.assertIn("keep storage objects on a volume file", ran.out.decode(errors="replace"))
+        self.assertIn("keep storage objects on a volume, a file or a block device", ran.out.decode(errors="replace"))
 
 
 COMPLETE = r"""

@@ -265,12 +265,14 @@ class Causes(InAFolder):
             (["format", "folder", *SIZES], "exsm: folder: Is a directory (os error 21)"),
             (["format", "none/v", *SIZES], "exsm: none/v: No such file or directory (os error 2) (its folder isn't there)"),
         ]
-        os.symlink("nowhere", "dangling")
-        table += [(["format", "dangling", *SIZES], "exsm: dangling: File exists (os error 17)")]
+        os.mkfifo("pipe")
+        odd = "it is neither a file nor a block device"
+        for name in ("pipe", "/dev/null", "/dev/zero", "/dev/full"):
+            table += [(words, f"exsm: {name}: {odd}") for words in (["run", name], ["check", name], ["format", name, *SIZES])]
         for words, line in table:
             with self.subTest(words=words):
                 self.check(exsm(*words), 5, "disk fault", line)
-        self.assertEqual(sorted(os.listdir()), ["dangling", "folder"])
+        self.assertEqual(sorted(os.listdir()), ["folder", "pipe"])
 
     @unittest.skipIf(os.geteuid() == 0 and not os.path.exists("/usr/bin/setpriv"), "root may open every file")
     def test_files_that_may_not_be_written(self):
@@ -289,7 +291,7 @@ class Causes(InAFolder):
         with open("v", "wb") as file:
             file.write(bytes(BYTES))
         ran = exsm("run", "v")
-        part = "part super, the first page, which names the sizes, or the file's size"
+        part = "part super, the first page, which names the sizes, or the size of the file or device"
         self.check(ran, 6, "bad volume super", f"exsm: v holds no volume, or a damaged one: {part}. It is as it was")
         self.assertEqual(contents("v"), bytes(BYTES))
 
@@ -297,7 +299,7 @@ class Causes(InAFolder):
         self.make()
         before = contents("v")
         ran = exsm("format", "v", *SIZES)
-        text = "exsm: v begins as a volume does; nothing was written. Remove the file to make it anew"
+        text = "exsm: v begins as a volume does; nothing was written. To make it anew, remove the file, or write zeros over the front of the device"
         self.check(ran, 9, "already a volume", text)
         self.assertEqual(contents("v"), before)
 
@@ -305,7 +307,7 @@ class Causes(InAFolder):
         with open("v", "wb") as file:
             file.write(b"x" * 1000)
         ran = exsm("format", "v", *SIZES)
-        text = f"exsm: v has 1000 bytes, the volume needs {BYTES}; nothing was written. Remove the file, or make a smaller volume"
+        text = f"exsm: v has 1000 bytes, the volume needs {BYTES}; nothing was written. Make a smaller volume, or remove it if it is a file"
         self.check(ran, 10, "too small", text)
         self.assertEqual(contents("v"), b"x" * 1000)
 

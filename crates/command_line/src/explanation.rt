@@ -4,6 +4,7 @@ ghost use Rattle.command_line.specs.Texts.{status_line};
 
 use crate::misfit::misfit_of;
 use crate::seen::Damage;
+use crate::shown::Shown;
 use crate::status::{Status, part_name};
 use crate::usage::Usage;
 use command_words::CommandWord;
@@ -53,7 +54,8 @@ pub struct Explanation<'a> {
 
 impl fmt::Display for Explanation<'_> {
     fn fmt<W: fmt::Write>(&self, f: &mut fmt::Formatter<W>) -> fmt::Result {
-        let volume = self.volume();
+        let word = self.volume();
+        let volume = Shown(word);
         match self.status {
             Status::Done => Ok(()),
             Status::Usage => self.misuse(f),
@@ -77,11 +79,11 @@ impl fmt::Display for Explanation<'_> {
             }
             Status::AlreadyVolume => write!(
                 f,
-                "exsm: {volume} begins as a volume does; nothing was written. Remove the file to make it anew"
+                "exsm: {volume} begins as a volume does; nothing was written. To make it anew, remove the file, or write zeros over the front of the device"
             ),
             Status::TooSmall { have, need } => write!(
                 f,
-                "exsm: {volume} has {have} bytes, the volume needs {need}; nothing was written. Remove the file, or make a smaller volume"
+                "exsm: {volume} has {have} bytes, the volume needs {need}; nothing was written. Make a smaller volume, or remove it if it is a file"
             ),
             Status::ScriptLong { max } => write!(
                 f,
@@ -135,7 +137,7 @@ impl Explanation<'_> {
         }
     }
 
-    fn disk<W: fmt::Write>(&self, f: &mut fmt::Formatter<W>, volume: &str) -> fmt::Result {
+    fn disk<W: fmt::Write>(&self, f: &mut fmt::Formatter<W>, volume: Shown<'_>) -> fmt::Result {
         let Some(cause) = self.cause else {
             return write!(f, "exsm: {volume} failed");
         };
@@ -162,7 +164,10 @@ fn tell_misfit<W: fmt::Write>(
     let Some(command) = command else {
         return match first {
             "help" | "--help" | "-h" => Ok(()),
-            _ => write!(f, "exsm: '{first}' is no command\n"),
+            _ => {
+                let first = Shown(first);
+                write!(f, "exsm: '{first}' is no command\n")
+            }
         };
     };
     match misfit_of(command, rest) {
@@ -174,7 +179,7 @@ fn tell_misfit<W: fmt::Write>(
 // What stands in a part of a volume.
 fn meaning_of(part: Part) -> &'static str {
     match part {
-        Part::Super => "the first page, which names the sizes, or the file's size",
+        Part::Super => "the first page, which names the sizes, or the size of the file or device",
         Part::Log => "the records of transactions",
         Part::Catalog => "the list of files",
         Part::File => "the list of a file's pages",

@@ -5,6 +5,7 @@ mod explanation;
 mod laws;
 mod misfit;
 mod seen;
+mod shown;
 mod status;
 mod usage;
 

@@ -1,4 +1,5 @@
 //! The first word of a command line that doesn't fit the grammar of its command.
+use crate::shown::Shown;
 use command_words::CommandWord;
 use ex_base::Geometry;
 use std::fmt;
@@ -43,17 +44,21 @@ impl fmt::Display for Misfit<'_> {
     fn fmt<W: fmt::Write>(&self, f: &mut fmt::Formatter<W>) -> fmt::Result {
         match *self {
             Misfit::Word { word, command } => {
-                let command = command.as_str();
+                let (word, command) = (Shown(word), command.as_str());
                 write!(f, "'{word}' is neither an option of {command} nor a VOLUME")
             }
             Misfit::SecondVolume { word, volume } => {
+                let (word, volume) = (Shown(word), Shown(volume));
                 write!(f, "'{word}' is a second VOLUME, after '{volume}'")
             }
             Misfit::SecondOption { option } => write!(f, "--{option} stands there twice"),
             Misfit::Value { option, word } => {
                 let values = values_of(option);
                 match word {
-                    Some(word) => write!(f, "--{option} takes {values}, not '{word}'"),
+                    Some(word) => {
+                        let word = Shown(word);
+                        write!(f, "--{option} takes {values}, not '{word}'")
+                    }
                     None => write!(f, "--{option} takes {values}, and no word is left"),
                 }
             }

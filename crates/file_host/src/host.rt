@@ -11,7 +11,7 @@ use disk_model::{Disk, Failed, Host, Sink, Source, World};
 use std::alloc::{AllocError, Global};
 use std::fs::{Files, OpenFile};
 use std::io;
-use std::io::{ErrorKind, Read, Write};
+use std::io::{ErrorKind, Read, Seek, Write};
 use std::os::fd::AsRawFd;
 use std::os::unix::fs::FileExt;
 
@@ -29,10 +29,10 @@ pub struct FileHost<V: Drop, I: Drop, O: Drop> {
 
 impl<F, R, I: Drop, O: Drop> FileHost<VolumeFile<F, R>, I, O>
 where
-    F: FileExt + OpenFile + LockFile + AsRawFd + Drop,
+    F: FileExt + OpenFile + Seek + LockFile + AsRawFd + Drop,
     R: Files<File = F> + Drop,
 {
-    /// Opens the volume file at `path` for this run alone. One that isn't there is made where `make` gives a size, and filled with zero bytes to that
+    /// Opens the volume file or block device at `path` for this run alone. One that isn't there is made where `make` gives a size, and filled with zero bytes to that
     /// size; it gets its name at the first sync at which it begins as a volume does, and is removed where it never gets it. Without a path, or where
     /// the file can't be opened, made or filled, or another run has it, each disk call fails, and the size is that of `make`, or 0.
     /// The file has no descriptor of a standard stream. Of these, one that is closed is held open while the host is: as an input it has ended, as an

@@ -7,9 +7,9 @@ use ex_base::has_magic;
 use std::alloc::Global;
 use std::fs::{Files, OpenFile, OpenOptions};
 use std::io;
-use std::io::ErrorKind;
+use std::io::{ErrorKind, Seek, SeekFrom};
 use std::os::fd::AsRawFd;
-use std::os::unix::fs::FileExt;
+use std::os::unix::fs::{FileExt, FileTypeExt};
 
 /// How many bytes the magic of a volume has.
 const MAGIC_LEN: usize = 8;
@@ -57,7 +57,7 @@ impl<F: FileExt + OpenFile + Drop, R: Files<File = F> + Drop> StoredFile for Vol
     /// A new file gets its name here, once it begins as a volume does: the magic is written last, so it is whole then.
     fn settle(&mut self) -> io::Result<()> {
         self.file.sync_data()?;
-        let named = match &self.naming {
+        let named = match &mut self.naming {
             Some(naming) if begins_as_volume(&self.file)? => {
                 naming.settle()?;
                 true
@@ -77,8 +77,9 @@ fn begins_as_volume<F: FileExt>(file: &F) -> io::Result<bool> {
     Ok(has_magic(&first))
 }
 
-/// Opens the volume file at a path, to be read and written, for this run alone. Before it, each standard stream that is closed is held open. One that is there is left as it is; one that isn't is made where
-/// `make` gives a size, and filled with zero bytes to that size. Fails where it can't be opened, made or filled, and where another run has it.
+/// Opens the volume file or the block device at a path, to be read and written, for this run alone. Before it, each standard stream that is closed is
+/// held open. One that is there is left as it is; one that isn't is made where `make` gives a size, and filled with zero bytes to that size. Fails where
+/// it can't be opened, made or filled, where it is neither a file nor a block device, and where another run has it.
 pub fn open_volume_file<F, R>(
     alloc: Global,
     files: R,
@@ -86,14 +87,14 @@ pub fn open_volume_file<F, R>(
     make: Option<u64>,
 ) -> io::Result<VolumeFile<F, R>>
 where
-    F: FileExt + OpenFile + LockFile + AsRawFd + Drop,
+    F: FileExt + OpenFile + Seek + LockFile + AsRawFd + Drop,
     R: Files<File = F> + Drop,
 {
     let streams = hold_streams(&files);
     match OpenOptions::new().read(true).write(true).open(&files, path) {
-        Ok(file) => {
+        Ok(mut file) => {
             take(&file)?;
-            let size = file.metadata()?.len();
+            let size = size_of(&mut file)?;
             Ok(VolumeFile {
                 naming: None,
                 file,
@@ -116,6 +117,19 @@ where
             }
             _ => Err(cause),
         },
+    }
+}
+
+// The bytes of a file, or those up to the end of a block device, which has no length of its own.
+fn size_of<F: OpenFile + Seek>(file: &mut F) -> io::Result<u64> {
+    let about = file.metadata()?;
+    let kind = about.file_type();
+    if kind.is_file() {
+        Ok(about.len())
+    } else if kind.is_block_device() {
+        file.seek(SeekFrom::End(0))
+    } else {
+        Err(io::Error::other("it is neither a file nor a block device"))
     }
 }
 

@@ -214,16 +214,22 @@ fn each_status_has_its_reason(rt: HostRuntime) -> Result<(), Fail> {
             "page 259: wanted kind 2, level 1, total 1000; found kind 0, level 0, total 0",
         ),
         (
+            "run a\u{1b}[2J\u{7f}\u{e9}",
+            Status::DiskFault,
+            locked,
+            "a\\u{1b}[2J\\u{7f}\u{e9}: another run has it open",
+        ),
+        (
             FORMAT,
             Status::AlreadyVolume,
             None,
-            "w begins as a volume does; nothing was written. Remove the file to make it anew",
+            "w begins as a volume does; nothing was written. To make it anew, remove the file, or write zeros over the front of the device",
         ),
         (
             FORMAT,
             small,
             None,
-            "w has 1000 bytes, the volume needs 172544; nothing was written. Remove the file, or make a smaller volume",
+            "w has 1000 bytes, the volume needs 172544; nothing was written. Make a smaller volume, or remove it if it is a file",
         ),
         (
             "run v",
