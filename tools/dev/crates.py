@@ -3,13 +3,14 @@
 
     tools/dev/crates.py            prints all of it
     tools/dev/crates.py --check    says what breaks a rule, and ends with status 1 where something does: the longest chain to exsm has at most
-                                   ten crates, a crate at most 100 functions and four must-fail edits, each crate stands in a band of
-                                   crates.txt behind all that it stands on, no crate is named that no file uses, the documents name each
+                                   ten crates, a crate at most 100 functions and four must-fail edits beside those of docs/EDITS.md,
+                                   which are all there, each crate stands in a band of crates.txt behind all that it stands on, no crate is named that no file uses, the documents name each
                                    ported crate among what is trusted, and they have the picture that --write would write
     tools/dev/crates.py --write    writes the picture into docs/ARCHITECTURE.md, between two lines of marks
 
 A level is one more than the highest level below. A weight is a crate's lines of code, contracts and proofs. Lines are counted without
-blank ones and comments; a contract is a clause or a ghost item; what stands in specs/ is a definition, in proofs/ a proof.
+blank ones and comments; a contract is a clause or a ghost item; what stands in specs/ is a definition, in proofs/ a proof. The seconds of
+a chain are those that the table of docs/GATE.md has for the proofs of its crates.
 """
 import argparse
 import os
@@ -22,8 +23,19 @@ from crate_code import TOP, edits_of, files_below, named_crates, text_of
 
 PROGRAM = "exsm"
 CHAIN_MOST, FUNCTIONS_MOST, EDITS_MOST = 10, 100, 4
+EDITS, GATE = "docs/EDITS.md", "docs/GATE.md"
 ROW_MOST = 92
 BEGIN, END = "<!-- written by tools/dev/crates.py --write -->", "<!-- end of what it writes -->"
+
+
+def named_edits():
+    """Returns the must-fail edits that docs/EDITS.md names, each as CRATE/NAME."""
+    return re.findall(r"(?m)^\| `(\w+/\w+)` \|", text_of(EDITS))
+
+
+def seconds_of_proofs():
+    """Returns the seconds of each crate's proof that the table of docs/GATE.md has."""
+    return {name: int(seconds) for name, seconds in re.findall(r"(?m)^\| `(\w+)` \| (\d+)\*? \|", text_of(GATE))}
 
 
 def short(words):
@@ -54,7 +66,9 @@ class Crate:
                 self.read_code(path)
             for path in files_below(f"crates/{name}/{part}", ".antt"):
                 self.read_definitions(path, part)
-        self.edits = len(edits_of(name))
+        found = {f"{name}/{os.path.basename(it)[: -len('.edit')]}" for it in edits_of(name)}
+        named_here = {it for it in named_edits() if it.startswith(f"{name}/")}
+        self.edits, self.own_edits, self.lost_edits = len(found), len(found - named_here), sorted(named_here - found)
 
     def read_code(self, path):
         text = text_of(path)
@@ -131,6 +145,13 @@ class Graph:
             found.insert(0, max(self.crates[found[0]].below, key=lambda it: (by[it], it)))
         return found
 
+    def sums(self, measure):
+        """Returns of each crate the greatest sum of a measure along a chain to it."""
+        found = {}
+        for name in sorted(self.crates, key=self.levels.get):
+            found[name] = measure.get(name, 0) + max((found[it] for it in self.crates[name].below), default=0)
+        return found
+
     def reduced(self, name):
         """Returns what a crate stands on that no other crate below it stands on."""
         below = self.crates[name].below
@@ -164,6 +185,15 @@ def chains(graph):
     )
 
 
+def seconds_of_chains(graph):
+    """Says the chain whose proofs take the most seconds by docs/GATE.md."""
+    seconds = seconds_of_proofs()
+    sums = graph.sums(seconds)
+    top = max(graph.crates, key=sums.get)
+    ways = " ← ".join(f"`{it}` ({seconds.get(it, 0)})" for it in graph.chain(top, sums))
+    return f"The proofs of the heaviest chain take {sums[top]:,} of all {sum(seconds.values()):,} seconds of {GATE}: {ways}."
+
+
 def of_documents(crates, bands, graph):
     return {
         "docs/ARCHITECTURE.md": f"{picture(crates, bands)}\n\n{chains(graph)}",
@@ -193,11 +223,16 @@ def broken(crates, bands, graph):
     if len(longest) > CHAIN_MOST:
         yield f"the longest chain to {PROGRAM} has {len(longest)} crates, above {CHAIN_MOST}: {' '.join(longest)}"
     seen = set()
+    for edit in named_edits():
+        if edit.split("/")[0] not in crates:
+            yield f"{EDITS} names {edit}, and there is no such crate"
     for it in crates.values():
         if it.functions > FUNCTIONS_MOST:
             yield f"{it.name} has {it.functions} functions, above {FUNCTIONS_MOST}"
-        if it.edits > EDITS_MOST:
-            yield f"{it.name} has {it.edits} must-fail edits, above {EDITS_MOST}"
+        if it.own_edits > EDITS_MOST:
+            yield f"{it.name} has {it.own_edits} must-fail edits beside those of {EDITS}, above {EDITS_MOST}"
+        for edit in it.lost_edits:
+            yield f"{EDITS} names {edit}, and there is no such edit"
         if not it.band:
             yield f"{it.name} stands in no band of crates.txt: a band begins with a line '# NAME: what it is'"
         if not os.path.isdir(f"{TOP}/{it.folder}/src"):
@@ -227,7 +262,7 @@ def report(crates, bands, graph):
     print("level  crates")
     for level in range(1, max(graph.levels.values()) + 1):
         print(f"{level:5}  {' '.join(it for it in crates if graph.levels[it] == level)}")
-    print(f"\n{chains(graph)}\n")
+    print(f"\n{chains(graph)}\n\n{seconds_of_chains(graph)}\n")
     print("crate             level  functions   code  contract   spec   proof  tests  edits  above")
     for it in sorted(crates.values(), key=lambda it: -it.weight()):
         numbers = f"{it.functions:9}  {it.code:5}  {it.contract:8}  {it.spec:5}  {it.proof:6}  {it.tests:5}  {it.edits:5}  {len(graph.above(it.name)):5}"
@@ -246,7 +281,7 @@ def report(crates, bands, graph):
     for name, other in for_proofs(crates):
         print(f"  {name} <- {other}")
     print(f"\ncrates above {FUNCTIONS_MOST} functions: {' '.join(f'{it.name} ({it.functions})' for it in crates.values() if it.functions > FUNCTIONS_MOST) or 'none'}")
-    print(f"crates above {EDITS_MOST} must-fail edits: {' '.join(f'{it.name} ({it.edits})' for it in crates.values() if it.edits > EDITS_MOST) or 'none'}\n")
+    print(f"crates above {EDITS_MOST} must-fail edits of their own: {' '.join(f'{it.name} ({it.own_edits})' for it in crates.values() if it.own_edits > EDITS_MOST) or 'none'}\n")
     print(picture(crates, bands))
 
 

@@ -126,9 +126,12 @@ ids_spent number = when (number == 2 ^ 64 - 1) refusal.IdsSpent
 abbrev pub long_txn : Machine → ℕ → Option Refusal
 long_txn m n = when (nat_le updates_most (length m.notes) || nat_lt touched_most (m.touched + n)) (refusal.LongTxn (length m.notes) m.touched)
 
--- the update may take n units of an area
+-- the update may take n units of an area, of which so many are free
+abbrev pub full_of : Area → ℕ → ℕ → Option Refusal
+full_of area n left = when (nat_lt left n) (refusal.Full area n left)
+
 abbrev pub full_in : Machine → ℕ → Area → Option Refusal
-full_in m n area = when (nat_lt (free m area) n) (refusal.Full area n (free m area))
+full_in m n area = full_of area n (free m area)
 
 -- the first that applies
 abbrev pub first : List (Option Refusal) → Option Refusal

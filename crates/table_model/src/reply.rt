@@ -1,4 +1,6 @@
 //! What a step answers.
+ghost use Rattle.std.specs.Prelude.{◌≡◌};
+ghost use Rattle.table_model.specs.Refusals.{full_of};
 
 use crate::machine::Lengths;
 use crate::table::{Bytes, Name};
@@ -64,6 +66,18 @@ pub enum Refusal {
     Branches { derived: u64 },
     /// The transaction of another client is open. A session of one client never answers it.
     Busy { client: u8 },
+}
+
+impl Refusal {
+    /// Why an update that may take `need` units of an area, of which `free` are free, is refused. None where they are enough.
+    pub fn of_units(area: Area, need: u64, free: u64) -> Option<Refusal>
+        ensures { result ≡ full_of area need free }
+    {
+        if free < need {
+            return Some(Refusal::Full { area, need, free });
+        }
+        None
+    }
 }
 
 /// What a line is answered: a reply for each command, two for `stat`, and one for a refusal.

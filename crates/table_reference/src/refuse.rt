@@ -263,8 +263,7 @@ fn free(machine: &Machine, area: Area) -> u32
 fn full_in(machine: &Machine, need: u64, area: Area) -> Option<Refusal>
     ensures { result ≡ full_in machine.now need area }
 {
-    let free = u64::from(free(machine, area));
-    when(free < need, Refusal::Full { area, need, free })
+    Refusal::of_units(area, need, u64::from(free(machine, area)))
 }
 
 /// The update may take so many pages and segment units.

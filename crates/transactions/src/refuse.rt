@@ -94,9 +94,5 @@ pub(crate) fn refuses_touching(session: &Session, charge: u32) -> Option<Refusal
 pub(crate) fn refuses_units(session: &Session, area: Area, need: u64) -> Option<Refusal>
     ensures { result ≡ full_in session.now area need }
 {
-    let free = u64::from(session.free(area));
-    if free < need {
-        return Some(Refusal::Full { area, need, free });
-    }
-    None
+    Refusal::of_units(area, need, u64::from(session.free(area)))
 }
