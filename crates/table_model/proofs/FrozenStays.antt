@@ -23,8 +23,7 @@ use Rattle.table_model.specs.declared.reply.Refusal.{Refusal}
 use Rattle.table_model.specs.declared.reply.Refusal.TheVariants as refusal
 use Rattle.table_model.specs.declared.table.Table.{Table}
 use Rattle.table_model.specs.declared.table.TableFile.{TableFile}
-use Rattle.table_model.specs.Words.{data_bytes}
-use Rattle.table_model.specs.Requests.{Request, Reference}
+use Rattle.table_model.specs.Requests.{Data, Request, Reference, given_bytes}
 use Rattle.table_model.specs.Requests as request
 use Rattle.table_model.specs.Machines.{IsMachine, shown, the_oid, version_of}
 use Rattle.table_model.specs.Tables.{IsTable, all_in, has_name, numbered, object_added, versions_of, with_bytes, with_derived, with_file, with_frozen, with_object, without_file, without_version}
@@ -213,35 +212,35 @@ module _ (m : Machine) (q : Pick) (is : IsMachine m) (oid : Oid) where
       → IsTable m.geometry (with_bytes (the_oid m x) change (shown m)) → KeepsFrozen oid (shown m) (with_bytes (the_oid m x) change (shown m))
   edit_step x change live current after = edit_keeps_frozen m.geometry (shown m) table oid (the_oid m x) change (named_current x live current) after
 
-  freeze_step : (x : Reference) (name : List ℕ) → None ≡ refusal_of m (request.Freeze x name) q → IsTable m.geometry (numbered (with_frozen (the_oid m x) (new_oid m q) (shown m)))
+  freeze_step : (x : Reference) (bind : Option (List ℕ)) → None ≡ refusal_of m (request.Freeze x bind) q → IsTable m.geometry (numbered (with_frozen (the_oid m x) (new_oid m q) (shown m)))
       → KeepsFrozen oid (shown m) (numbered (with_frozen (the_oid m x) (new_oid m q) (shown m)))
-  freeze_step x name none after =
-      let own = (passes_update m (request.Freeze x name) q refl none).own in
+  freeze_step x bind none after =
+      let own = (passes_update m (request.Freeze x bind) q refl none).own in
       freeze_keeps_frozen m.geometry (shown m) table oid (new_oid m q) refl (the_oid m x) (named_current x (unmet _ _ own.1.1.0) (unmet _ _ own.1.1.1.0)) after
 
-  derive_step : (x : Reference) (name : List ℕ) → None ≡ refusal_of m (request.Derive x name) q → IsTable m.geometry (numbered (with_derived (the_oid m x) (new_oid m q) (shown m)))
+  derive_step : (x : Reference) (bind : Option (List ℕ)) → None ≡ refusal_of m (request.Derive x bind) q → IsTable m.geometry (numbered (with_derived (the_oid m x) (new_oid m q) (shown m)))
       → KeepsFrozen oid (shown m) (numbered (with_derived (the_oid m x) (new_oid m q) (shown m)))
-  derive_step x name none after =
-      let own = (passes_update m (request.Derive x name) q refl none).own in
+  derive_step x bind none after =
+      let own = (passes_update m (request.Derive x bind) q refl none).own in
       derive_keeps_frozen m.geometry (shown m) table oid (new_oid m q) refl (the_oid m x) (named_frozen x (unmet _ _ own.1.1.0) (unmet _ _ own.1.1.1.0)) after
 
-  insert_step : (x : Reference) (pos : ℕ) (given : List ℕ) → None ≡ refusal_of m (request.Insert x pos given) q → IsTable m.geometry (table_after m (request.Insert x pos given) q)
+  insert_step : (x : Reference) (pos : ℕ) (given : Data) → None ≡ refusal_of m (request.Insert x pos given) q → IsTable m.geometry (table_after m (request.Insert x pos given) q)
       → KeepsFrozen oid (shown m) (table_after m (request.Insert x pos given) q)
   insert_step x pos given none after =
       let own = (passes_update m (request.Insert x pos given) q refl none).own in
-      edit_step x (λ bytes. inserted bytes pos (data_bytes given)) (unmet _ _ own.1.0) (unmet _ _ own.1.1.0) after
+      edit_step x (λ bytes. inserted bytes pos (given_bytes given)) (unmet _ _ own.1.0) (unmet _ _ own.1.1.0) after
 
-  append_step : (x : Reference) (given : List ℕ) → None ≡ refusal_of m (request.Append x given) q → IsTable m.geometry (table_after m (request.Append x given) q)
+  append_step : (x : Reference) (given : Data) → None ≡ refusal_of m (request.Append x given) q → IsTable m.geometry (table_after m (request.Append x given) q)
       → KeepsFrozen oid (shown m) (table_after m (request.Append x given) q)
   append_step x given none after =
       let own = (passes_update m (request.Append x given) q refl none).own in
-      edit_step x (λ bytes. appended bytes (data_bytes given)) (unmet _ _ own.1.0) (unmet _ _ own.1.1.0) after
+      edit_step x (λ bytes. appended bytes (given_bytes given)) (unmet _ _ own.1.0) (unmet _ _ own.1.1.0) after
 
-  replace_step : (x : Reference) (pos : ℕ) (given : List ℕ) → None ≡ refusal_of m (request.Replace x pos given) q → IsTable m.geometry (table_after m (request.Replace x pos given) q)
+  replace_step : (x : Reference) (pos : ℕ) (given : Data) → None ≡ refusal_of m (request.Replace x pos given) q → IsTable m.geometry (table_after m (request.Replace x pos given) q)
       → KeepsFrozen oid (shown m) (table_after m (request.Replace x pos given) q)
   replace_step x pos given none after =
       let own = (passes_update m (request.Replace x pos given) q refl none).own in
-      edit_step x (λ bytes. replaced bytes pos (data_bytes given)) (unmet _ _ own.1.0) (unmet _ _ own.1.1.0) after
+      edit_step x (λ bytes. replaced bytes pos (given_bytes given)) (unmet _ _ own.1.0) (unmet _ _ own.1.1.0) after
 
   delete_step : (x : Reference) (pos len : ℕ) → None ≡ refusal_of m (request.Delete x pos len) q → IsTable m.geometry (table_after m (request.Delete x pos len) q)
       → KeepsFrozen oid (shown m) (table_after m (request.Delete x pos len) q)

@@ -1,10 +1,10 @@
 -- Each step keeps the rules of machines.
-use Rattle.std.proofs.Common.{◌≡◌, ℕ, suc, ◌+◌, ◌≤◌, List, [], ◌∷◌, ◌++◌, length, map, refl, ap, subst, ◌∙◌, arith, Option, Some, None, IsTrue, Bool, true, false, cond, ◌||◌, inl, inr}
+use Rattle.std.proofs.Common.{◌≡◌, ℕ, suc, ◌+◌, ◌≤◌, List, [], ◌∷◌, ◌++◌, length, map, refl, sym, ap, subst, ◌∙◌, arith, Option, Some, None, IsTrue, Bool, true, false, cond, ◌||◌, inl, inr}
 use Rattle.std.specs.Prelude.{filter, bytes_eq, is_none, unwrap_or, IfSome, IfNone}
 use Rattle.std.specs.List.{list_any}
 use Rattle.std.proofs.lemmas.Bool.{cases_Bool, or_parts}
 use Rattle.std.proofs.lemmas.Slice.Eq.{bytes_eq-Decides}
-use Rattle.std.proofs.lemmas.List.{length-append}
+use Rattle.std.proofs.lemmas.List.{append-nil, length-append}
 use Rattle.std.proofs.lemmas.List.Elements.{All-push, filter-append}
 use Rattle.ex_base.specs.declared.geometry.Geometry.{Geometry}
 use Rattle.ex_base.specs.declared.names.Oid.{Oid}
@@ -14,10 +14,10 @@ use Rattle.table_model.specs.declared.machine.BoundName.{BoundName}
 use Rattle.table_model.specs.declared.machine.ScanRow.{ScanRow}
 use Rattle.table_model.specs.declared.machine.GroupRow.{GroupRow}
 use Rattle.table_model.specs.declared.table.Table.{Table}
-use Rattle.table_model.specs.Words.{is_name}
+use Rattle.table_model.specs.Words.{is_kept_name}
 use Rattle.table_model.specs.Tables.{IsTable}
-use Rattle.table_model.specs.Requests.{Request}
-use Rattle.table_model.specs.Machines.{IsMachine, IsWorking, shown, uses, main, has_group, is_taken, bound}
+use Rattle.table_model.specs.Requests.{Request, is_kept_name_if}
+use Rattle.table_model.specs.Machines.{IsMachine, IsWorking, shown, uses, main, has_group, is_taken, is_taken_if, bound}
 use Rattle.table_model.specs.Steps.{table_after, notes_of, updated, WithinNeed}
 use Rattle.table_model.proofs.Stepping.{PassesUpdate}
 
@@ -133,8 +133,9 @@ idle_none : (P : Type 0) (o : Option Table) → is_none o ≡ false → IfNone o
 idle_none P None begun = cc
 idle_none P (Some t) begun = tt
 
-pub bound_keeps : (m : Machine) (name : List ℕ) (oid : Oid) → IsMachine m → IsTrue (is_name name) → is_taken m name ≡ false → is_none m.working ≡ false → IsMachine (bound name oid m)
-bound_keeps m name oid is spelled free begun = record {
+pub bound_keeps : (m : Machine) (bind : Option (List ℕ)) (oid : Oid) → IsMachine m → IsTrue (is_kept_name_if bind) → is_taken_if m bind ≡ false → is_none m.working ≡ false → IsMachine (bound bind oid m)
+bound_keeps m None oid is spelled free begun = subst (λ (names : List BoundName). IsMachine (record m { names = names })) (sym (append-nil m.names)) is
+bound_keeps m (Some name) oid is spelled free begun = record {
   committed = is.committed;
   working = is.working;
   idle = idle_none _ m.working begun;
@@ -142,7 +143,7 @@ bound_keeps m name oid is spelled free begun = record {
   touched = is.touched;
   pages = is.pages;
   segs = is.segs;
-  names = All-push (λ (b : BoundName). IsTrue (is_name b.name)) m.names (record { name = name; oid = oid; marked = true }) is.names spelled;
+  names = All-push (λ (b : BoundName). IsTrue (is_kept_name b.name)) m.names (record { name = name; oid = oid; marked = true }) is.names spelled;
   scans = is.scans;
   few_scans = is.few_scans;
   groups = is.groups;

@@ -1,3 +1,5 @@
+pub mod GivenData
+pub mod KeptNames
 pub mod Copies
 pub mod Lists
 pub mod TableRules

@@ -14,9 +14,9 @@ use Rattle.table_model.specs.declared.machine.BoundName.{BoundName}
 use Rattle.table_model.specs.declared.machine.ScanRow.{ScanRow}
 use Rattle.table_model.specs.declared.machine.GroupRow.{GroupRow}
 use Rattle.table_model.specs.declared.reply.Refusal.{Refusal}
-use Rattle.table_model.specs.Words.{is_name, data_bytes, data_count}
+use Rattle.table_model.specs.Words.{is_name, is_kept_name}
 use Rattle.table_model.specs.Tables.{IsTable, has_name, numbered, versions_of, with_derived, with_frozen, without_version}
-use Rattle.table_model.specs.Requests.{Request, Reference, is_request, is_reference, frames_most}
+use Rattle.table_model.specs.Requests.{Data, Request, Reference, given_bytes, given_count, is_kept_name_if, is_request, is_reference, frames_most}
 use Rattle.table_model.specs.Requests as request
 use Rattle.table_model.specs.Machines.{IsMachine, IsScan, IsGroup, shown, version_of, bytes_of, kept, scans_most, groups_most}
 use Rattle.table_model.specs.Refusals.{refusal_of, is_only_one}
@@ -90,7 +90,7 @@ commit_keeps m q is none takes =
       touched = omega arith;
       pages = omega (arith, takes.pages, is.pages);
       segs = omega (arith, takes.segs, is.segs);
-      names = All-map (λ (b : BoundName). IsTrue (is_name b.name)) unmark m.names is.names;
+      names = All-map (λ (b : BoundName). IsTrue (is_kept_name b.name)) unmark m.names is.names;
       scans = is.scans;
       few_scans = is.few_scans;
       groups = is.groups;
@@ -111,7 +111,7 @@ abort_keeps m q is takes = record {
   touched = omega arith;
   pages = omega (arith, takes.pages, is.pages);
   segs = omega (arith, takes.segs, is.segs);
-  names = All-filter (λ (b : BoundName). not b.marked) (λ (b : BoundName). IsTrue (is_name b.name)) m.names is.names;
+  names = All-filter (λ (b : BoundName). not b.marked) (λ (b : BoundName). IsTrue (is_kept_name b.name)) m.names is.names;
   scans = is.scans;
   few_scans = is.few_scans;
   groups = is.groups;
@@ -124,8 +124,8 @@ group_keeps : (m : Machine) (name : List ℕ) (frames : ℕ) (mru : Bool) (q : P
 group_keeps m name frames mru q is form none =
     let passed = passes_other m (request.Group name frames mru) q refl none in
     let few : length m.groups < groups_most = leb-false groups_most (length m.groups) (unmet _ _ passed.1.0) in
-    let forms = and_parts (is_name name && nat_le 1 frames) (nat_le frames frames_most) form in
-    let first = and_parts (is_name name) (nat_le 1 frames) forms.0 in
+    let forms = and_parts (is_kept_name name && nat_le 1 frames) (nat_le frames frames_most) form in
+    let first = and_parts (is_kept_name name) (nat_le 1 frames) forms.0 in
     let row : GroupRow = record { name = name; frames = frames; mru = mru } in
     record {
       committed = is.committed;
@@ -148,8 +148,8 @@ scan_keeps : (m : Machine) (x : Reference) (name : List ℕ) (group : Option (Li
 scan_keeps m x name group q is form none =
     let passed = passes_other m (request.Scan x name group) q refl none in
     let few : length m.scans < scans_most = leb-false scans_most (length m.scans) (unmet _ _ passed.1.1.1.1.0) in
-    let forms = and_parts (is_reference x && is_name name) (request.is_name_if group) form in
-    let spelled = (and_parts (is_reference x) (is_name name) forms.0).1 in
+    let forms = and_parts (is_reference x && is_kept_name name) (is_kept_name_if group) form in
+    let spelled = (and_parts (is_reference x) (is_kept_name name) forms.0).1 in
     let row : ScanRow = record { name = name; bytes = bytes_of m x; pos = 0 } in
     record {
       committed = is.committed;
@@ -247,66 +247,66 @@ module _ (m : Machine) (q : Pick) (is : IsMachine m) where
       let kept = without_keeps found.version.oid m.geometry (shown m) (shown_is m is) (frozen_leaves m.geometry (shown m) (shown_is m is) found.version found.there frozen) in
       updated_keeps m (request.DropVersion x) q is passed (allowed.1 refl) (subst (λ (oid : Oid). IsTable m.geometry (without_version oid (shown m))) (sym found.oid_is) kept) refl refl
 
-  create_step : (file name : List ℕ) → IsTrue (is_name name) → None ≡ refusal_of m (request.Create file name) q → IsAllowed m (request.Create file name) q → IsMachine (machine_after m (request.Create file name) q)
-  create_step file name spelled none allowed =
-      let passed = passes_update m (request.Create file name) q refl none in
+  create_step : (file : List ℕ) (bind : Option (List ℕ)) → IsTrue (is_kept_name_if bind) → None ≡ refusal_of m (request.Create file bind) q → IsAllowed m (request.Create file bind) q → IsMachine (machine_after m (request.Create file bind) q)
+  create_step file bind spelled none allowed =
+      let passed = passes_update m (request.Create file bind) q refl none in
       let own = passed.own in
       let table = shown_is m is in
       let room : (shown m).next_unique < 2 ^ 64 - 1 = room_for (shown m).next_unique table.next (unmet _ _ own.1.1.0) in
-      let made = updated_keeps m (request.Create file name) q is passed (allowed.1 refl)
+      let made = updated_keeps m (request.Create file bind) q is passed (allowed.1 refl)
       (create_keeps (new_oid m q) file m.geometry (shown m) table (omega (arith, room)) refl allowed.0) refl refl in
-      bound_keeps (updated m (request.Create file name) q) name (new_oid m q) made spelled (unmet _ _ own.0) refl
+      bound_keeps (updated m (request.Create file bind) q) bind (new_oid m q) made spelled (unmet _ _ own.0) refl
 
-  freeze_step : (x : Reference) (name : List ℕ) → IsTrue (is_name name) → None ≡ refusal_of m (request.Freeze x name) q → IsAllowed m (request.Freeze x name) q → IsMachine (machine_after m (request.Freeze x name) q)
-  freeze_step x name spelled none allowed =
-      let passed = passes_update m (request.Freeze x name) q refl none in
+  freeze_step : (x : Reference) (bind : Option (List ℕ)) → IsTrue (is_kept_name_if bind) → None ≡ refusal_of m (request.Freeze x bind) q → IsAllowed m (request.Freeze x bind) q → IsMachine (machine_after m (request.Freeze x bind) q)
+  freeze_step x bind spelled none allowed =
+      let passed = passes_update m (request.Freeze x bind) q refl none in
       let own = passed.own in
       let table = shown_is m is in
       let found = finds m x (unmet _ _ own.1.1.0) in
       let current = not_frozen found.version (version_of m x) found.is (unmet _ _ own.1.1.1.0) in
       let room : (shown m).next_unique < 2 ^ 64 - 1 = room_for (shown m).next_unique table.next (unmet _ _ own.1.1.1.1.0) in
       let kept = freeze_keeps found.version.oid (new_oid m q) m.geometry (shown m) table (omega (arith, room)) refl allowed.0 (none_frozen m.geometry (shown m) table found.version found.there current) in
-      let made = updated_keeps m (request.Freeze x name) q is passed (allowed.1 refl)
+      let made = updated_keeps m (request.Freeze x bind) q is passed (allowed.1 refl)
       (subst (λ (oid : Oid). IsTable m.geometry (numbered (with_frozen oid (new_oid m q) (shown m)))) (sym found.oid_is) kept) refl refl in
-      bound_keeps (updated m (request.Freeze x name) q) name (new_oid m q) made spelled (unmet _ _ own.1.0) refl
+      bound_keeps (updated m (request.Freeze x bind) q) bind (new_oid m q) made spelled (unmet _ _ own.1.0) refl
 
-  derive_step : (x : Reference) (name : List ℕ) → IsTrue (is_name name) → None ≡ refusal_of m (request.Derive x name) q → IsAllowed m (request.Derive x name) q → IsMachine (machine_after m (request.Derive x name) q)
-  derive_step x name spelled none allowed =
-      let passed = passes_update m (request.Derive x name) q refl none in
+  derive_step : (x : Reference) (bind : Option (List ℕ)) → IsTrue (is_kept_name_if bind) → None ≡ refusal_of m (request.Derive x bind) q → IsAllowed m (request.Derive x bind) q → IsMachine (machine_after m (request.Derive x bind) q)
+  derive_step x bind spelled none allowed =
+      let passed = passes_update m (request.Derive x bind) q refl none in
       let own = passed.own in
       let table = shown_is m is in
       let found = finds m x (unmet _ _ own.1.1.0) in
       let frozen = not_current found.version (version_of m x) found.is (unmet _ _ own.1.1.1.0) in
       let room : (shown m).next_unique < 2 ^ 64 - 1 = room_for (shown m).next_unique table.next (unmet _ _ own.1.1.1.1.0) in
       let kept = derive_keeps found.version.oid (new_oid m q) m.geometry (shown m) table (omega (arith, room)) refl allowed.0 (none_current m.geometry (shown m) table found.version found.there frozen) in
-      let made = updated_keeps m (request.Derive x name) q is passed (allowed.1 refl)
+      let made = updated_keeps m (request.Derive x bind) q is passed (allowed.1 refl)
       (subst (λ (oid : Oid). IsTable m.geometry (numbered (with_derived oid (new_oid m q) (shown m)))) (sym found.oid_is) kept) refl refl in
-      bound_keeps (updated m (request.Derive x name) q) name (new_oid m q) made spelled (unmet _ _ own.1.0) refl
+      bound_keeps (updated m (request.Derive x bind) q) bind (new_oid m q) made spelled (unmet _ _ own.1.0) refl
 
-  insert_step : (x : Reference) (pos : ℕ) (given : List ℕ) → None ≡ refusal_of m (request.Insert x pos given) q → IsAllowed m (request.Insert x pos given) q → IsMachine (machine_after m (request.Insert x pos given) q)
+  insert_step : (x : Reference) (pos : ℕ) (given : Data) → None ≡ refusal_of m (request.Insert x pos given) q → IsAllowed m (request.Insert x pos given) q → IsMachine (machine_after m (request.Insert x pos given) q)
   insert_step x pos given none allowed =
       let passed = passes_update m (request.Insert x pos given) q refl none in
       let own = passed.own in
-      let fits : length (bytes_of m x) + data_count given ≤ object_most = ltb-false object_most (length (bytes_of m x) + data_count given) (unmet _ _ own.1.1.1.1.0) in
+      let fits : length (bytes_of m x) + given_count given ≤ object_most = ltb-false object_most (length (bytes_of m x) + given_count given) (unmet _ _ own.1.1.1.1.0) in
       updated_keeps m (request.Insert x pos given) q is passed (allowed.1 refl)
-      (edit_keeps m.geometry m x (λ bytes. inserted bytes pos (data_bytes given)) (shown_is m is) (unmet _ _ own.1.0) (omega (arith, length-inserted (bytes_of m x) pos (data_bytes given), fits))) refl refl
+      (edit_keeps m.geometry m x (λ bytes. inserted bytes pos (given_bytes given)) (shown_is m is) (unmet _ _ own.1.0) (omega (arith, length-inserted (bytes_of m x) pos (given_bytes given), fits))) refl refl
 
-  append_step : (x : Reference) (given : List ℕ) → None ≡ refusal_of m (request.Append x given) q → IsAllowed m (request.Append x given) q → IsMachine (machine_after m (request.Append x given) q)
+  append_step : (x : Reference) (given : Data) → None ≡ refusal_of m (request.Append x given) q → IsAllowed m (request.Append x given) q → IsMachine (machine_after m (request.Append x given) q)
   append_step x given none allowed =
       let passed = passes_update m (request.Append x given) q refl none in
       let own = passed.own in
-      let fits : length (bytes_of m x) + data_count given ≤ object_most = ltb-false object_most (length (bytes_of m x) + data_count given) (unmet _ _ own.1.1.1.0) in
+      let fits : length (bytes_of m x) + given_count given ≤ object_most = ltb-false object_most (length (bytes_of m x) + given_count given) (unmet _ _ own.1.1.1.0) in
       updated_keeps m (request.Append x given) q is passed (allowed.1 refl)
-      (edit_keeps m.geometry m x (λ bytes. appended bytes (data_bytes given)) (shown_is m is) (unmet _ _ own.1.0) (omega (arith, length-append (bytes_of m x) (data_bytes given), fits))) refl refl
+      (edit_keeps m.geometry m x (λ bytes. appended bytes (given_bytes given)) (shown_is m is) (unmet _ _ own.1.0) (omega (arith, length-append (bytes_of m x) (given_bytes given), fits))) refl refl
 
-  replace_step : (x : Reference) (pos : ℕ) (given : List ℕ) → None ≡ refusal_of m (request.Replace x pos given) q → IsAllowed m (request.Replace x pos given) q → IsMachine (machine_after m (request.Replace x pos given) q)
+  replace_step : (x : Reference) (pos : ℕ) (given : Data) → None ≡ refusal_of m (request.Replace x pos given) q → IsAllowed m (request.Replace x pos given) q → IsMachine (machine_after m (request.Replace x pos given) q)
   replace_step x pos given none allowed =
       let passed = passes_update m (request.Replace x pos given) q refl none in
       let own = passed.own in
-      let inside : pos + data_count given ≤ length (bytes_of m x) = ltb-false (length (bytes_of m x)) (pos + data_count given) (unmet _ _ own.1.1.1.0) in
+      let inside : pos + given_count given ≤ length (bytes_of m x) = ltb-false (length (bytes_of m x)) (pos + given_count given) (unmet _ _ own.1.1.1.0) in
       let fits = bytes_fit m.geometry m x (shown_is m is) in
       updated_keeps m (request.Replace x pos given) q is passed (allowed.1 refl)
-      (edit_keeps m.geometry m x (λ bytes. replaced bytes pos (data_bytes given)) (shown_is m is) (unmet _ _ own.1.0) (omega (arith, length-replaced (bytes_of m x) pos (data_bytes given) inside, fits))) refl refl
+      (edit_keeps m.geometry m x (λ bytes. replaced bytes pos (given_bytes given)) (shown_is m is) (unmet _ _ own.1.0) (omega (arith, length-replaced (bytes_of m x) pos (given_bytes given) inside, fits))) refl refl
 
   delete_step : (x : Reference) (pos len : ℕ) → None ≡ refusal_of m (request.Delete x pos len) q → IsAllowed m (request.Delete x pos len) q → IsMachine (machine_after m (request.Delete x pos len) q)
   delete_step x pos len none allowed =
@@ -324,15 +324,15 @@ accepted_keeps m request.Commit q is form none allowed = commit_keeps m q is non
 accepted_keeps m request.Abort q is form none allowed = abort_keeps m q is allowed.0
 accepted_keeps m (request.File name) q is form none allowed = file_step m q is name form none allowed
 accepted_keeps m (request.Unfile name) q is form none allowed = unfile_step m q is name none allowed
-accepted_keeps m (request.Create file bind) q is form none allowed = create_step m q is file bind (and_parts (is_name file) (is_name bind) form).1 none allowed
+accepted_keeps m (request.Create file bind) q is form none allowed = create_step m q is file bind (and_parts (is_name file) (is_kept_name_if bind) form).1 none allowed
 accepted_keeps m (request.Destroy x) q is form none allowed = destroy_step m q is x none allowed
 accepted_keeps m (request.DropVersion x) q is form none allowed = drop_step m q is x none allowed
 accepted_keeps m (request.Insert x pos given) q is form none allowed = insert_step m q is x pos given none allowed
 accepted_keeps m (request.Append x given) q is form none allowed = append_step m q is x given none allowed
 accepted_keeps m (request.Replace x pos given) q is form none allowed = replace_step m q is x pos given none allowed
 accepted_keeps m (request.Delete x pos len) q is form none allowed = delete_step m q is x pos len none allowed
-accepted_keeps m (request.Freeze x bind) q is form none allowed = freeze_step m q is x bind (and_parts (is_reference x) (is_name bind) form).1 none allowed
-accepted_keeps m (request.Derive x bind) q is form none allowed = derive_step m q is x bind (and_parts (is_reference x) (is_name bind) form).1 none allowed
+accepted_keeps m (request.Freeze x bind) q is form none allowed = freeze_step m q is x bind (and_parts (is_reference x) (is_kept_name_if bind) form).1 none allowed
+accepted_keeps m (request.Derive x bind) q is form none allowed = derive_step m q is x bind (and_parts (is_reference x) (is_kept_name_if bind) form).1 none allowed
 accepted_keeps m (request.Group name frames mru) q is form none allowed = group_keeps m name frames mru q is form none
 accepted_keeps m (request.Scan x name group) q is form none allowed = scan_keeps m x name group q is form none
 accepted_keeps m (request.Next name len) q is form none allowed = next_keeps name len m q is

@@ -7,9 +7,8 @@ use Rattle.ex_base.specs.declared.names.Area.{Area}
 use Rattle.ex_base.specs.declared.names.Area.TheVariants.{Page, Segment}
 use Rattle.table_model.specs.declared.machine.Machine.{Machine}
 use Rattle.table_model.specs.declared.machine.Pick.{Pick}
-use Rattle.table_model.specs.Words.{data_count}
 use Rattle.table_model.specs.Requests as request
-use Rattle.table_model.specs.Requests.{Request}
+use Rattle.table_model.specs.Requests.{Request, given_count}
 
 -- so many pages and no segment unit
 abbrev pub pages_need : ℕ → Area → ℕ
@@ -21,9 +20,9 @@ abbrev pub edit_need : ℕ → Pick → ℕ → ℕ
 edit_need n q most = if n == 0 || q.small then 0 else most
 
 abbrev pub need : Geometry → Request → Pick → Area → ℕ
-need g (request.Insert x pos given) q area = edit_need (data_count given) q (growth_need g (data_count given) q.height area)
-need g (request.Append x given) q area = edit_need (data_count given) q (growth_need g (data_count given) q.height area)
-need g (request.Replace x pos given) q area = edit_need (data_count given) q (replace_need g (data_count given) q.height area)
+need g (request.Insert x pos given) q area = edit_need (given_count given) q (growth_need g (given_count given) q.height area)
+need g (request.Append x given) q area = edit_need (given_count given) q (growth_need g (given_count given) q.height area)
+need g (request.Replace x pos given) q area = edit_need (given_count given) q (replace_need g (given_count given) q.height area)
 need g (request.Delete x pos len) q area = edit_need len q (delete_need q.height area)
 need g (request.Create file bind) q area = pages_need 16 area
 need g (request.Freeze x bind) q area = pages_need 16 area

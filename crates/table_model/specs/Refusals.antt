@@ -12,11 +12,10 @@ use Rattle.version_lists.specs.declared.version.Version.{Version}
 use Rattle.version_lists.specs.Versions.{derived_from, unique_of}
 use Rattle.table_model.specs.declared.reply.Refusal.{Refusal}
 use Rattle.table_model.specs.declared.reply.Refusal.TheVariants as refusal
-use Rattle.table_model.specs.Words.{data_count}
 use Rattle.table_model.specs.Tables.{file_at, is_current, versions_of}
-use Rattle.table_model.specs.Requests.{Request, Reference}
+use Rattle.table_model.specs.Requests.{Request, Reference, given_count}
 use Rattle.table_model.specs.Requests as request
-use Rattle.table_model.specs.Machines.{shown, oid_of, version_of, size_of, scan_at, has_group, is_taken, updates_most, touched_most, scans_most, groups_most}
+use Rattle.table_model.specs.Machines.{shown, oid_of, version_of, size_of, scan_at, has_group, is_taken, is_taken_if, updates_most, touched_most, scans_most, groups_most}
 use Rattle.table_model.specs.Needs.{need, charge, is_update, free}
 
 abbrev pub when : Bool → Refusal → Option Refusal
@@ -35,6 +34,10 @@ no_name m x = when (is_none (oid_of m x)) refusal.NoName
 
 abbrev pub name_taken : Machine → List ℕ → Option Refusal
 name_taken m name = when (is_taken m name) refusal.NameTaken
+
+-- the same of a name that may be missing
+abbrev pub name_taken_if : Machine → Option (List ℕ) → Option Refusal
+name_taken_if m bind = when (is_taken_if m bind) refusal.NameTaken
 
 abbrev pub no_file : Machine → List ℕ → Option Refusal
 no_file m name = when (is_none (file_at (shown m) name)) refusal.NoFile
@@ -159,7 +162,7 @@ tests m request.Space = []
 tests m (request.File name) = file_exists m name ∷ files_full m ∷ []
 tests m (request.Unfile name) = no_file m name ∷ not_empty m name ∷ []
 tests m (request.ListFile name) = no_file m name ∷ []
-tests m (request.Create file bind) = name_taken m bind ∷ no_file m file ∷ ids_spent (shown m).next_unique ∷ []
+tests m (request.Create file bind) = name_taken_if m bind ∷ no_file m file ∷ ids_spent (shown m).next_unique ∷ []
 tests m (request.Destroy x) = no_name m x ∷ no_object m x ∷ frozen m x ∷ has_versions m x ∷ []
 tests m (request.Size x) = no_name m x ∷ no_object m x ∷ []
 tests m (request.Stat x) = no_name m x ∷ no_object m x ∷ []
@@ -167,12 +170,12 @@ tests m (request.Digest x) = no_name m x ∷ no_object m x ∷ []
 tests m (request.Versions x) = no_name m x ∷ no_object m x ∷ []
 tests m (request.DropVersion x) = no_name m x ∷ no_object m x ∷ current m x ∷ []
 tests m (request.Read x pos len) = no_name m x ∷ no_object m x ∷ range m x (pos + len) ∷ []
-tests m (request.Insert x pos given) = no_name m x ∷ no_object m x ∷ frozen m x ∷ range m x pos ∷ too_large m x (data_count given) ∷ []
-tests m (request.Append x given) = no_name m x ∷ no_object m x ∷ frozen m x ∷ too_large m x (data_count given) ∷ []
-tests m (request.Replace x pos given) = no_name m x ∷ no_object m x ∷ frozen m x ∷ range m x (pos + data_count given) ∷ []
+tests m (request.Insert x pos given) = no_name m x ∷ no_object m x ∷ frozen m x ∷ range m x pos ∷ too_large m x (given_count given) ∷ []
+tests m (request.Append x given) = no_name m x ∷ no_object m x ∷ frozen m x ∷ too_large m x (given_count given) ∷ []
+tests m (request.Replace x pos given) = no_name m x ∷ no_object m x ∷ frozen m x ∷ range m x (pos + given_count given) ∷ []
 tests m (request.Delete x pos len) = no_name m x ∷ no_object m x ∷ frozen m x ∷ range m x (pos + len) ∷ []
-tests m (request.Freeze x bind) = no_name m x ∷ name_taken m bind ∷ no_object m x ∷ frozen m x ∷ ids_spent (shown m).next_unique ∷ []
-tests m (request.Derive x bind) = no_name m x ∷ name_taken m bind ∷ no_object m x ∷ current m x ∷ ids_spent (shown m).next_unique ∷ []
+tests m (request.Freeze x bind) = no_name m x ∷ name_taken_if m bind ∷ no_object m x ∷ frozen m x ∷ ids_spent (shown m).next_unique ∷ []
+tests m (request.Derive x bind) = no_name m x ∷ name_taken_if m bind ∷ no_object m x ∷ current m x ∷ ids_spent (shown m).next_unique ∷ []
 tests m (request.Group name frames mru) = name_taken m name ∷ too_many_groups m ∷ []
 tests m (request.Scan x name group) = no_name m x ∷ name_taken m name ∷ no_object m x ∷ no_group m group ∷ too_many_scans m ∷ []
 tests m (request.Next name len) = no_scan m name ∷ []

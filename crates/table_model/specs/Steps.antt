@@ -20,9 +20,8 @@ use Rattle.table_model.specs.declared.machine.Pick.{Pick}
 use Rattle.table_model.specs.declared.reply.Refusal.{Refusal}
 use Rattle.table_model.specs.declared.reply.Reply.{Reply}
 use Rattle.table_model.specs.declared.reply.Reply.TheVariants as reply
-use Rattle.table_model.specs.Words.{data_bytes, data_count}
 use Rattle.table_model.specs.Tables.{current_in, file_at, object_at, versions_of, SamePlace, with_file, without_file, numbered, with_object, with_bytes, with_derived, with_frozen, without_version}
-use Rattle.table_model.specs.Requests.{Request, Reference}
+use Rattle.table_model.specs.Requests.{Request, Reference, given_bytes, given_count}
 use Rattle.table_model.specs.Requests as request
 use Rattle.table_model.specs.Machines.{shown, the_oid, bytes_of, size_of, scan_at, bound, unmarked, kept, no_oid}
 use Rattle.table_model.specs.Needs.{need, charge, is_update}
@@ -42,9 +41,9 @@ notes_of m (request.File name) q = note note_kind.FileMade no_oid 0 0 ∷ []
 notes_of m (request.Unfile name) q = note note_kind.FileRemoved no_oid 0 0 ∷ []
 notes_of m (request.Create file bind) q = note note_kind.ObjectMade (new_oid m q) 0 0 ∷ []
 notes_of m (request.Destroy x) q = note note_kind.ObjectRemoved (the_oid m x) 0 0 ∷ []
-notes_of m (request.Insert x pos given) q = note note_kind.Inserted (the_oid m x) pos (data_count given) ∷ []
-notes_of m (request.Append x given) q = note note_kind.Appended (the_oid m x) (size_of m x) (data_count given) ∷ []
-notes_of m (request.Replace x pos given) q = note note_kind.Replaced (the_oid m x) pos (data_count given) ∷ []
+notes_of m (request.Insert x pos given) q = note note_kind.Inserted (the_oid m x) pos (given_count given) ∷ []
+notes_of m (request.Append x given) q = note note_kind.Appended (the_oid m x) (size_of m x) (given_count given) ∷ []
+notes_of m (request.Replace x pos given) q = note note_kind.Replaced (the_oid m x) pos (given_count given) ∷ []
 notes_of m (request.Delete x pos len) q = note note_kind.Deleted (the_oid m x) pos len ∷ []
 notes_of m (request.Freeze x bind) q = note note_kind.Frozen (new_oid m q) 0 0 ∷ []
 notes_of m (request.Derive x bind) q = note note_kind.Derived (new_oid m q) 0 0 ∷ []
@@ -58,9 +57,9 @@ table_after m (request.File name) q = with_file name (shown m)
 table_after m (request.Unfile name) q = without_file name (shown m)
 table_after m (request.Create file bind) q = numbered (with_object (new_oid m q) file (shown m))
 table_after m (request.Destroy x) q = without_version (the_oid m x) (shown m)
-table_after m (request.Insert x pos given) q = with_bytes (the_oid m x) (λ bytes. inserted bytes pos (data_bytes given)) (shown m)
-table_after m (request.Append x given) q = with_bytes (the_oid m x) (λ bytes. appended bytes (data_bytes given)) (shown m)
-table_after m (request.Replace x pos given) q = with_bytes (the_oid m x) (λ bytes. replaced bytes pos (data_bytes given)) (shown m)
+table_after m (request.Insert x pos given) q = with_bytes (the_oid m x) (λ bytes. inserted bytes pos (given_bytes given)) (shown m)
+table_after m (request.Append x given) q = with_bytes (the_oid m x) (λ bytes. appended bytes (given_bytes given)) (shown m)
+table_after m (request.Replace x pos given) q = with_bytes (the_oid m x) (λ bytes. replaced bytes pos (given_bytes given)) (shown m)
 table_after m (request.Delete x pos len) q = with_bytes (the_oid m x) (λ bytes. deleted bytes pos len) (shown m)
 table_after m (request.Freeze x bind) q = numbered (with_frozen (the_oid m x) (new_oid m q) (shown m))
 table_after m (request.Derive x bind) q = numbered (with_derived (the_oid m x) (new_oid m q) (shown m))
@@ -91,7 +90,7 @@ rest s = length s.bytes - s.pos
 abbrev pub moved : List ℕ → ℕ → ScanRow → ScanRow
 moved name len s = if bytes_eq s.name name then record s { pos = s.pos + min len (rest s) } else s
 
--- the name that the update binds
+-- with the name bound that the update binds, where it binds one
 abbrev pub binds : Request → Oid → Machine → Machine
 binds (request.Create file bind) oid m = bound bind oid m
 binds (request.Freeze x bind) oid m = bound bind oid m
@@ -153,8 +152,8 @@ reply_to m (request.Digest x) q = reply.Digest (sha256 (bytes_of m x))
 reply_to m (request.Versions x) q = reply.Versions (oids (listed (versions_if (object_at (shown m) (the_oid m x)))))
 reply_to m (request.DropVersion x) q = reply.DropVersion (the_oid m x)
 reply_to m (request.Read x pos len) q = reply.Read (bytes_at (bytes_of m x) pos len)
-reply_to m (request.Insert x pos given) q = reply.Insert (size_of m x + data_count given)
-reply_to m (request.Append x given) q = reply.Append (size_of m x + data_count given)
+reply_to m (request.Insert x pos given) q = reply.Insert (size_of m x + given_count given)
+reply_to m (request.Append x given) q = reply.Append (size_of m x + given_count given)
 reply_to m (request.Replace x pos given) q = reply.Replace (size_of m x)
 reply_to m (request.Delete x pos len) q = reply.Delete (size_of m x - len)
 reply_to m (request.Freeze x bind) q = reply.Freeze (new_oid m q)

@@ -9,7 +9,16 @@ pub enum Subject<'a> {
     Number { page: u64, slot: u64, unique: u64 },
 }
 
-/// One command. Its words are slices of the line that it was read from.
+/// The bytes that a command gives.
+#[derive(Clone, Copy)]
+pub enum Given<'a> {
+    /// A data word spells them: `hex:` and digits, or `rep:COUNT:BYTE`.
+    Word(&'a [u8]),
+    /// They stand here themselves.
+    Bytes(&'a [u8]),
+}
+
+/// One command. The words of one that was read from a line are slices of that.
 #[derive(Clone, Copy)]
 pub enum Command<'a> {
     /// Opens a transaction.
@@ -38,10 +47,10 @@ pub enum Command<'a> {
     List {
         name: &'a [u8],
     },
-    /// Makes an empty object at the end of a file, and binds a name to it.
+    /// Makes an empty object at the end of a file, and binds the name to it, where there is one.
     Create {
         file: &'a [u8],
-        bind: &'a [u8],
+        bind: Option<&'a [u8]>,
     },
     /// Removes a current version, and its object with the last one.
     Destroy {
@@ -73,22 +82,22 @@ pub enum Command<'a> {
         pos: u64,
         len: u32,
     },
-    /// Puts bytes in before the byte at `pos`. `given` is the whole data word.
+    /// Puts bytes in before the byte at `pos`.
     Insert {
         x: Subject<'a>,
         pos: u64,
-        given: &'a [u8],
+        given: Given<'a>,
     },
-    /// Puts bytes at the end. `given` is the whole data word.
+    /// Puts bytes at the end.
     Append {
         x: Subject<'a>,
-        given: &'a [u8],
+        given: Given<'a>,
     },
-    /// Puts bytes over those from `pos` on. `given` is the whole data word.
+    /// Puts bytes over those from `pos` on.
     Replace {
         x: Subject<'a>,
         pos: u64,
-        given: &'a [u8],
+        given: Given<'a>,
     },
     /// Removes `len` bytes from `pos` on.
     Delete {
@@ -96,15 +105,15 @@ pub enum Command<'a> {
         pos: u64,
         len: u64,
     },
-    /// Keeps the bytes of a current version as a frozen one, and binds a name to that.
+    /// Keeps the bytes of a current version as a frozen one, and binds the name to that, where there is one.
     Freeze {
         x: Subject<'a>,
-        bind: &'a [u8],
+        bind: Option<&'a [u8]>,
     },
-    /// Makes a current version with the bytes of a frozen one, derived from that, and binds a name to it.
+    /// Makes a current version with the bytes of a frozen one, derived from that, and binds the name to it, where there is one.
     Derive {
         x: Subject<'a>,
-        bind: &'a [u8],
+        bind: Option<&'a [u8]>,
     },
     /// Makes a group of buffer frames. `mru`: its most recent frame is given up first.
     Group {

@@ -9,7 +9,7 @@ mod machine;
 mod reply;
 mod table;
 
-pub use command::{Command, Subject};
+pub use command::{Command, Given, Subject};
 pub use laws::{a_frozen_version_stays, rules_hold_at_the_start, steps_keep_the_rules};
 pub use limits::{DATA_MOST, FRAMES_MOST, GROUPS_MOST, SCANS_MOST};
 pub use machine::{
