@@ -3,8 +3,10 @@
 
 mod data;
 mod digits;
+mod given;
 mod parts;
 
 pub use data::data_bytes;
 pub use digits::{is_hex, number_of};
+pub use given::GivenBytes;
 pub use parts::cut;
