@@ -4,7 +4,7 @@ use Rattle.std.specs.Prelude.{codes, bytes_eq, nat_le, ◌⊎◌}
 use Rattle.table_model.specs.declared.reply.Refusal.{Refusal}
 use Rattle.table_model.specs.declared.reply.Refusal.TheVariants as refusal
 use Rattle.table_model.specs.Words.{data_most}
-use Rattle.table_model.specs.Requests.{Request, Reference}
+use Rattle.table_model.specs.Requests.{Request, Reference, ByWord, ByBytes}
 use Rattle.table_model.specs.Requests as request
 use Rattle.script_lang.specs.declared.parser.Verb.{Verb}
 use Rattle.script_lang.specs.declared.parser.Verb.TheVariants as verb
@@ -13,6 +13,7 @@ use Rattle.script_lang.specs.Grammar.{Slot, Key, Name, At, Number, Frames, Of, G
 use Rattle.script_lang.specs.Reading.{Reading, Silent, Asks, Fails, is_comment, Says}
 use Rattle.script_lang.specs.Verbs.{word_of, verb_of_request}
 use Rattle.script_lang.specs.Spoken.{alone, only_name, only_reference, name_as, reference_as, range, edit, addition, advance, long_scan, short_scan_or, plain, asks, at_most, read_said, insert_said, replace_said, append_said, next_said, said}
+use Rattle.script_lang.proofs.Keeps.{asked_binds, asked_words}
 use Rattle.script_lang.proofs.Slots.{same_bytes, equal_bytes, Gives}
 use Rattle.script_lang.proofs.Rows.{Fits, Plain, front, no_slots, GivesEdit, GivesAddition, only_name_reads, only_name_spells, only_reference_reads, only_reference_spells, name_as_reads, name_as_spells, reference_as_reads, reference_as_spells, range_reads, range_spells, edit_reads, edit_spells, addition_reads, addition_spells, advance_reads, advance_spells, group_reads, group_spells, short_scan_reads, long_slots, long_scan_reads, scan_spells}
 
@@ -58,17 +59,23 @@ spelled (request.Stat x) words h = found verb.Stat (request.Stat x) (Of x ∷ []
 spelled (request.Digest x) words h = found verb.Digest (request.Digest x) (Of x ∷ []) words (λ ws f. ap (λ o. asks (o >>= (λ x. Some (request.Digest x)))) (only_reference_reads x ws f)) h
 spelled (request.Versions x) words h = found verb.Versions (request.Versions x) (Of x ∷ []) words (λ ws f. ap (λ o. asks (o >>= (λ x. Some (request.Versions x)))) (only_reference_reads x ws f)) h
 spelled (request.DropVersion x) words h = found verb.Drop (request.DropVersion x) (Of x ∷ []) words (λ ws f. ap (λ o. asks (o >>= (λ x. Some (request.DropVersion x)))) (only_reference_reads x ws f)) h
-spelled (request.Create n b) words h = found verb.Create (request.Create n b) (Name n ∷ Key (codes "as") ∷ At b ∷ []) words (λ ws f. ap (λ o. asks (o >>= (λ p. Some (request.Create p.0 p.1)))) (name_as_reads n b ws f)) h
-spelled (request.Freeze x b) words h = found verb.Freeze (request.Freeze x b) (Of x ∷ Key (codes "as") ∷ At b ∷ []) words (λ ws f. ap (λ o. asks (o >>= (λ p. Some (request.Freeze p.0 p.1)))) (reference_as_reads x b ws f)) h
-spelled (request.Derive x b) words h = found verb.Derive (request.Derive x b) (Of x ∷ Key (codes "as") ∷ At b ∷ []) words (λ ws f. ap (λ o. asks (o >>= (λ p. Some (request.Derive p.0 p.1)))) (reference_as_reads x b ws f)) h
+spelled (request.Create n None) words h = absurd (true≢false (sym (asked_binds words (request.Create n None) h)))
+spelled (request.Create n (Some b)) words h = found verb.Create (request.Create n (Some b)) (Name n ∷ Key (codes "as") ∷ At b ∷ []) words (λ ws f. ap (λ o. asks (o >>= (λ p. Some (request.Create p.0 (Some p.1))))) (name_as_reads n b ws f)) h
+spelled (request.Freeze x None) words h = absurd (true≢false (sym (asked_binds words (request.Freeze x None) h)))
+spelled (request.Freeze x (Some b)) words h = found verb.Freeze (request.Freeze x (Some b)) (Of x ∷ Key (codes "as") ∷ At b ∷ []) words (λ ws f. ap (λ o. asks (o >>= (λ p. Some (request.Freeze p.0 (Some p.1))))) (reference_as_reads x b ws f)) h
+spelled (request.Derive x None) words h = absurd (true≢false (sym (asked_binds words (request.Derive x None) h)))
+spelled (request.Derive x (Some b)) words h = found verb.Derive (request.Derive x (Some b)) (Of x ∷ Key (codes "as") ∷ At b ∷ []) words (λ ws f. ap (λ o. asks (o >>= (λ p. Some (request.Derive p.0 (Some p.1))))) (reference_as_reads x b ws f)) h
 spelled (request.Delete x pos len) words h = found verb.Delete (request.Delete x pos len) (Of x ∷ Number pos ∷ Number len ∷ []) words (λ ws f. ap (λ o. asks (o >>= (λ p. Some (request.Delete p.0 p.1 p.2)))) (range_reads x pos len ws f)) h
 spelled (request.Group n frames mru) words h = found verb.Group (request.Group n frames mru) (Name n ∷ Frames frames ∷ Key (policy mru) ∷ []) words (λ ws f. ap asks (group_reads n frames mru ws f)) h
 spelled (request.Scan x n None) words h = found verb.Scan (request.Scan x n None) (Of x ∷ Key (codes "as") ∷ Name n ∷ []) words (λ ws f. scan_short x n ws f) h
 spelled (request.Scan x n (Some g)) words h = found verb.Scan (request.Scan x n (Some g)) (Of x ∷ Key (codes "as") ∷ Name n ∷ Key (codes "in") ∷ Name g ∷ []) words (λ ws f. scan_long x n g ws f) h
 spelled (request.Read x pos len) words h = found verb.Read (request.Read x pos len) (Of x ∷ Number pos ∷ Number len ∷ []) words (λ ws f. ap read_said (range_reads x pos len ws f)) h
-spelled (request.Insert x pos g) words h = found verb.Insert (request.Insert x pos g) (Of x ∷ Number pos ∷ Given g ∷ []) words (λ ws f. ap insert_said (edit_reads x pos g ws f)) h
-spelled (request.Replace x pos g) words h = found verb.Replace (request.Replace x pos g) (Of x ∷ Number pos ∷ Given g ∷ []) words (λ ws f. ap replace_said (edit_reads x pos g ws f)) h
-spelled (request.Append x g) words h = found verb.Append (request.Append x g) (Of x ∷ Given g ∷ []) words (λ ws f. ap append_said (addition_reads x g ws f)) h
+spelled (request.Insert x pos (ByBytes b)) words h = absurd (true≢false (sym (asked_words words (request.Insert x pos (ByBytes b)) h)))
+spelled (request.Insert x pos (ByWord g)) words h = found verb.Insert (request.Insert x pos (ByWord g)) (Of x ∷ Number pos ∷ Given g ∷ []) words (λ ws f. ap insert_said (edit_reads x pos g ws f)) h
+spelled (request.Replace x pos (ByBytes b)) words h = absurd (true≢false (sym (asked_words words (request.Replace x pos (ByBytes b)) h)))
+spelled (request.Replace x pos (ByWord g)) words h = found verb.Replace (request.Replace x pos (ByWord g)) (Of x ∷ Number pos ∷ Given g ∷ []) words (λ ws f. ap replace_said (edit_reads x pos g ws f)) h
+spelled (request.Append x (ByBytes b)) words h = absurd (true≢false (sym (asked_words words (request.Append x (ByBytes b)) h)))
+spelled (request.Append x (ByWord g)) words h = found verb.Append (request.Append x (ByWord g)) (Of x ∷ Given g ∷ []) words (λ ws f. ap append_said (addition_reads x g ws f)) h
 spelled (request.Next n len) words h = found verb.Next (request.Next n len) (Name n ∷ Number len ∷ []) words (λ ws f. ap next_said (advance_reads n len ws f)) h
 
 -- ---- what is said is spelled
@@ -118,9 +125,9 @@ plain_sound verb.Stat ws = map_gives (only_reference ws) (λ x. request.Stat x) 
 plain_sound verb.Digest ws = map_gives (only_reference ws) (λ x. request.Digest x) _ _ (λ x f. (f, refl)) (only_reference_spells ws)
 plain_sound verb.Versions ws = map_gives (only_reference ws) (λ x. request.Versions x) _ _ (λ x f. (f, refl)) (only_reference_spells ws)
 plain_sound verb.Drop ws = map_gives (only_reference ws) (λ x. request.DropVersion x) _ _ (λ x f. (f, refl)) (only_reference_spells ws)
-plain_sound verb.Create ws = map_gives (name_as ws) (λ p. request.Create p.0 p.1) _ _ (λ p f. (f, refl)) (name_as_spells ws)
-plain_sound verb.Freeze ws = map_gives (reference_as ws) (λ p. request.Freeze p.0 p.1) _ _ (λ p f. (f, refl)) (reference_as_spells ws)
-plain_sound verb.Derive ws = map_gives (reference_as ws) (λ p. request.Derive p.0 p.1) _ _ (λ p f. (f, refl)) (reference_as_spells ws)
+plain_sound verb.Create ws = map_gives (name_as ws) (λ p. request.Create p.0 (Some p.1)) _ _ (λ p f. (f, refl)) (name_as_spells ws)
+plain_sound verb.Freeze ws = map_gives (reference_as ws) (λ p. request.Freeze p.0 (Some p.1)) _ _ (λ p f. (f, refl)) (reference_as_spells ws)
+plain_sound verb.Derive ws = map_gives (reference_as ws) (λ p. request.Derive p.0 (Some p.1)) _ _ (λ p f. (f, refl)) (reference_as_spells ws)
 plain_sound verb.Delete ws = map_gives (range ws) (λ p. request.Delete p.0 p.1 p.2) _ _ (λ p f. (f, refl)) (range_spells ws)
 plain_sound verb.Group ws = group_spells ws
 plain_sound verb.Scan ws = scan_spells ws
@@ -136,17 +143,17 @@ said_sound verb.Insert ws = go (edit ws) (edit_spells ws)
   where
     go : (o : Option (Reference × ℕ × List ℕ × ℕ)) → Gives o (GivesEdit ws) → Sound (codes "insert" ∷ ws) (insert_said o)
     go None f = tt
-    go (Some p) f = at_most_sound (codes "insert" ∷ ws) p.3 (request.Insert p.0 p.1 p.2) f.0 (ap (λ n. nat_le n data_most) (sym f.1))
+    go (Some p) f = at_most_sound (codes "insert" ∷ ws) p.3 (request.Insert p.0 p.1 (ByWord p.2)) f.0 (ap (λ n. nat_le n data_most) (sym f.1))
 said_sound verb.Replace ws = go (edit ws) (edit_spells ws)
   where
     go : (o : Option (Reference × ℕ × List ℕ × ℕ)) → Gives o (GivesEdit ws) → Sound (codes "replace" ∷ ws) (replace_said o)
     go None f = tt
-    go (Some p) f = at_most_sound (codes "replace" ∷ ws) p.3 (request.Replace p.0 p.1 p.2) f.0 (ap (λ n. nat_le n data_most) (sym f.1))
+    go (Some p) f = at_most_sound (codes "replace" ∷ ws) p.3 (request.Replace p.0 p.1 (ByWord p.2)) f.0 (ap (λ n. nat_le n data_most) (sym f.1))
 said_sound verb.Append ws = go (addition ws) (addition_spells ws)
   where
     go : (o : Option (Reference × List ℕ × ℕ)) → Gives o (GivesAddition ws) → Sound (codes "append" ∷ ws) (append_said o)
     go None f = tt
-    go (Some p) f = at_most_sound (codes "append" ∷ ws) p.2 (request.Append p.0 p.1) f.0 (ap (λ n. nat_le n data_most) (sym f.1))
+    go (Some p) f = at_most_sound (codes "append" ∷ ws) p.2 (request.Append p.0 (ByWord p.1)) f.0 (ap (λ n. nat_le n data_most) (sym f.1))
 said_sound verb.Next ws = go (advance ws) (advance_spells ws)
   where
     go : (o : Option (List ℕ × ℕ)) → Gives o (λ p. Fits (Name p.0 ∷ Number p.1 ∷ []) ws) → Sound (codes "next" ∷ ws) (next_said o)

@@ -2,5 +2,5 @@ pub mod WordCuts
 pub mod DataParts
 pub mod Slots
 pub mod Rows
-pub mod Laws
 pub mod Keeps
+pub mod Laws

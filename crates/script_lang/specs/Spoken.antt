@@ -2,7 +2,7 @@
 use Rattle.std.specs.Prelude.{ℕ, List, [], ◌∷◌, codes, bytes_eq, Bool, true, false, ◌&&◌, nat_le, if◌then◌else◌, Option, Some, None}
 use Rattle.table_model.specs.declared.reply.Refusal.TheVariants as refusal
 use Rattle.table_model.specs.Words.{data_most}
-use Rattle.table_model.specs.Requests.{Request, Reference}
+use Rattle.table_model.specs.Requests.{Request, Reference, ByWord}
 use Rattle.table_model.specs.Requests as request
 use Rattle.script_lang.specs.Forms.{◌>>=◌, name_in, bound_in, number_in, reference_in, count_in}
 use Rattle.script_lang.specs.Reading.{Reading, Asks, Fails}
@@ -182,13 +182,13 @@ plain verb.Drop ws = do
   Some (request.DropVersion x)
 plain verb.Create ws = do
   p ← name_as ws
-  Some (request.Create p.0 p.1)
+  Some (request.Create p.0 (Some p.1))
 plain verb.Freeze ws = do
   p ← reference_as ws
-  Some (request.Freeze p.0 p.1)
+  Some (request.Freeze p.0 (Some p.1))
 plain verb.Derive ws = do
   p ← reference_as ws
-  Some (request.Derive p.0 p.1)
+  Some (request.Derive p.0 (Some p.1))
 plain verb.Delete ws = do
   p ← range ws
   Some (request.Delete p.0 p.1 p.2)
@@ -210,15 +210,15 @@ read_said (Some p) = at_most p.2 (request.Read p.0 p.1 p.2)
 
 abbrev pub insert_said : Option (Reference × ℕ × List ℕ × ℕ) → Reading
 insert_said None = Fails refusal.Syntax
-insert_said (Some p) = at_most p.3 (request.Insert p.0 p.1 p.2)
+insert_said (Some p) = at_most p.3 (request.Insert p.0 p.1 (ByWord p.2))
 
 abbrev pub replace_said : Option (Reference × ℕ × List ℕ × ℕ) → Reading
 replace_said None = Fails refusal.Syntax
-replace_said (Some p) = at_most p.3 (request.Replace p.0 p.1 p.2)
+replace_said (Some p) = at_most p.3 (request.Replace p.0 p.1 (ByWord p.2))
 
 abbrev pub append_said : Option (Reference × List ℕ × ℕ) → Reading
 append_said None = Fails refusal.Syntax
-append_said (Some p) = at_most p.2 (request.Append p.0 p.1)
+append_said (Some p) = at_most p.2 (request.Append p.0 (ByWord p.1))
 
 abbrev pub next_said : Option (List ℕ × ℕ) → Reading
 next_said None = Fails refusal.Syntax

@@ -11,7 +11,7 @@ ghost use Rattle.script_lang.specs.Spoken.{one_of, two_of, three_of, five_of, al
 use crate::forms::{bound_name, data_count, is_word, name, number, subject};
 use crate::parser::Verb;
 use crate::words::Words;
-use table_model::{Command, DATA_MOST, FRAMES_MOST, Refusal, Subject};
+use table_model::{Command, DATA_MOST, FRAMES_MOST, Given, Refusal, Subject};
 
 fn one(mut words: Words<'_>) -> Option<&[u8]>
     ensures { MatchOption result (one_of (words_of words.entry.0.now)
@@ -311,15 +311,24 @@ fn plain(verb: Verb, words: Words<'_>) -> Option<Command<'_>>
         }
         Verb::Create => {
             let (file, bind) = name_as(words)?;
-            Some(Command::Create { file, bind })
+            Some(Command::Create {
+                file,
+                bind: Some(bind),
+            })
         }
         Verb::Freeze => {
             let (x, bind) = subject_as(words)?;
-            Some(Command::Freeze { x, bind })
+            Some(Command::Freeze {
+                x,
+                bind: Some(bind),
+            })
         }
         Verb::Derive => {
             let (x, bind) = subject_as(words)?;
-            Some(Command::Derive { x, bind })
+            Some(Command::Derive {
+                x,
+                bind: Some(bind),
+            })
         }
         Verb::Delete => {
             let (x, pos, len) = range(words)?;
@@ -358,16 +367,19 @@ pub(crate) fn command(verb: Verb, words: Words<'_>) -> Result<Command<'_>, Refus
         Verb::Insert => {
             let (x, pos, given, count) = edit(words).ok_or(Refusal::Syntax)?;
             limited(count)?;
+            let given = Given::Word(given);
             Ok(Command::Insert { x, pos, given })
         }
         Verb::Replace => {
             let (x, pos, given, count) = edit(words).ok_or(Refusal::Syntax)?;
             limited(count)?;
+            let given = Given::Word(given);
             Ok(Command::Replace { x, pos, given })
         }
         Verb::Append => {
             let (x, given, count) = addition(words).ok_or(Refusal::Syntax)?;
             limited(count)?;
+            let given = Given::Word(given);
             Ok(Command::Append { x, given })
         }
         Verb::Next => {

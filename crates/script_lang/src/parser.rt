@@ -1,7 +1,7 @@
 //! What a line says: by its first word the verb, and by the others what is asked.
 
 ghost use Rattle.std.specs.Prelude.{◌≡◌, ◌⊎◌, IfErr, IfOk, IfSome, IsTrue, MatchOption, bytes_eq, true, false};
-ghost use Rattle.table_model.specs.Requests.{is_request, request_of};
+ghost use Rattle.table_model.specs.Requests.{binds_name, gives_word, is_request, is_spelled, request_of};
 ghost use Rattle.script_lines.specs.Lines.{Short};
 ghost use Rattle.script_lang.specs.Reading.{Reading, Reads, is_comment};
 ghost use Rattle.script_lang.specs.Parsed.{reading_of};
@@ -125,13 +125,20 @@ fn begins_comment(word: &[u8]) -> bool
 /// What the line says: nothing where it is blank or a comment, a command, or why it is none. The words of the command are parts of the line. It takes
 /// no memory.
 ///
-/// Each line has exactly one reading, and this is it.
+/// Each line has exactly one reading, and this is it. The names in its command are of 1 to 32 bytes of `a-z`, `0-9` and `_`; a command that makes a
+/// version binds a name, and one that gives bytes gives a data word.
 pub fn parse(line: &[u8]) -> Result<Option<Command<'_>>, Refusal>
     ensures says { Reads (Short line.now) (reading_of result) }
     ensures one { (reading : Reading) → Reads (Short line.now) reading
         → reading ≡ reading_of result }
     ensures form { IfOk result
         (λ told. IfSome told (λ command. IsTrue (is_request (request_of command)))) }
+    ensures names { IfOk result
+        (λ told. IfSome told (λ command. IsTrue (is_spelled (request_of command)))) }
+    ensures binds { IfOk result
+        (λ told. IfSome told (λ command. IsTrue (binds_name (request_of command)))) }
+    ensures words { IfOk result
+        (λ told. IfSome told (λ command. IsTrue (gives_word (request_of command)))) }
     ensures refusals { IfErr result (λ e. (e ≡ Refusal.Syntax) ⊎ (e ≡ Refusal.DataLimit)) }
 {
     let mut words = Words::of(line);

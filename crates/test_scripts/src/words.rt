@@ -4,7 +4,7 @@ use ex_base::{Area, Items, Oid, PageNo};
 use script_lang::parse;
 use script_replies::{push_reply, reply_text};
 use std::test::Fail;
-use table_model::{Command, Refusal, Reply, Subject};
+use table_model::{Command, Given, Refusal, Reply, Subject};
 
 // What the line says, where only its kind is of interest.
 fn kind(line: &[u8]) -> &'static str {
@@ -74,6 +74,9 @@ fn words_of_a_command_are_those_of_its_line(rt: HostRuntime) -> Result<(), Fail>
     let (want_name, want_given): (&[u8], &[u8]) = (b"abc", b"hex:00ff");
     assert!(rt; name == want_name);
     assert!(rt; pos == 7);
+    let Given::Word(given) = given else {
+        return Err("no data word".into());
+    };
     assert!(rt; given == want_given);
     Ok(())
 }

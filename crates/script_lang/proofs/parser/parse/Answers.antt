@@ -2,7 +2,7 @@ use Rattle.std.proofs.Common.{◌≡◌, ◌∙◌, ◌∷◌, sym, rules}
 use Rattle.table_model.specs.Requests.{request_of}
 use Rattle.script_lang.specs.LineWords.{words_of}
 use Rattle.script_lang.specs.Reading.{Asks}
-use Rattle.script_lang.proofs.Keeps.{asked_kept}
+use Rattle.script_lang.proofs.Keeps.{asked_binds, asked_kept, asked_spelled, asked_words}
 use Rattle.script_lang.proofs.Laws.{line_unknown, line_said, refused}
 use Rattle.script_lang.proofs.parser.parse.Goals as goal
 
@@ -59,3 +59,27 @@ returns-in-Ok-clause-form c =
     let e : words ≡ c.in-Some.first.now ∷ rest = search rules in
     let said = (line_said words c.in-Some.first.now rest c.in-Some-verb_of.verb (Asks (request_of c.in-Ok.command)) e c.in-Some-verb_of.ensures c.in-Ok.ensures).0 in
     asked_kept words (request_of c.in-Ok.command) said.0 said.1
+
+pub returns-in-Ok-clause-names : goal.returns-in-Ok-clause-names
+returns-in-Ok-clause-names c =
+    let words = words_of c.args.line.now in
+    let rest = words_of c.next.new.self.0.now in
+    let e : words ≡ c.in-Some.first.now ∷ rest = search rules in
+    let said = (line_said words c.in-Some.first.now rest c.in-Some-verb_of.verb (Asks (request_of c.in-Ok.command)) e c.in-Some-verb_of.ensures c.in-Ok.ensures).0 in
+    asked_spelled words (request_of c.in-Ok.command) said.0
+
+pub returns-in-Ok-clause-binds : goal.returns-in-Ok-clause-binds
+returns-in-Ok-clause-binds c =
+    let words = words_of c.args.line.now in
+    let rest = words_of c.next.new.self.0.now in
+    let e : words ≡ c.in-Some.first.now ∷ rest = search rules in
+    let said = (line_said words c.in-Some.first.now rest c.in-Some-verb_of.verb (Asks (request_of c.in-Ok.command)) e c.in-Some-verb_of.ensures c.in-Ok.ensures).0 in
+    asked_binds words (request_of c.in-Ok.command) said.0
+
+pub returns-in-Ok-clause-words : goal.returns-in-Ok-clause-words
+returns-in-Ok-clause-words c =
+    let words = words_of c.args.line.now in
+    let rest = words_of c.next.new.self.0.now in
+    let e : words ≡ c.in-Some.first.now ∷ rest = search rules in
+    let said = (line_said words c.in-Some.first.now rest c.in-Some-verb_of.verb (Asks (request_of c.in-Ok.command)) e c.in-Some-verb_of.ensures c.in-Ok.ensures).0 in
+    asked_words words (request_of c.in-Ok.command) said.0
