@@ -1,16 +1,18 @@
-//! How many bytes a data word gives, found by making them.
+//! How many bytes a command gives, found by making them.
 
 ghost use Rattle.std.specs.Prelude.{◌≡◌, ◌≤◌, IfOk};
-ghost use Rattle.table_model.specs.Words.{data_count, data_most};
+ghost use Rattle.table_model.specs.Words.{data_most};
+ghost use Rattle.table_model.specs.Requests.{given_count, given_of};
 
-use data_words::data_bytes;
+use data_words::GivenBytes;
 use std::alloc::{AllocError, Global};
+use table_model::Given;
 
-/// How many bytes a data word gives.
-pub fn data_count(alloc: Global, word: &[u8]) -> Result<u64, AllocError>
-    requires { data_count word.now ≤ data_most }
-    ensures { IfOk result (λ count. count ≡ data_count word.now) }
+/// How many bytes a command gives.
+pub fn given_count(alloc: Global, given: &Given) -> Result<u64, AllocError>
+    requires { given_count (given_of given.now) ≤ data_most }
+    ensures { IfOk result (λ count. count ≡ given_count (given_of given.now)) }
 {
-    let bytes = data_bytes(alloc, word)?;
-    Ok(bytes.len() as u64)
+    let bytes = GivenBytes::of(alloc, *given)?;
+    Ok(bytes.as_slice().len() as u64)
 }

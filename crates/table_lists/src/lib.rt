@@ -12,7 +12,7 @@ mod names;
 mod scans;
 mod tree;
 
-pub use data::data_count;
+pub use data::given_count;
 pub use edit::{Edit, index_of};
 pub use files::{
     with_bytes, with_derived, with_file, with_frozen, with_object, without_file, without_version,

@@ -1,8 +1,8 @@
 //! The names of a session, and lists of names and identifiers that replies give.
 
-ghost use Rattle.std.specs.Prelude.{◌≡◌, [], ◌∷◌, ◌++◌, map, find, bytes_eq, true, option_copied, IfOk};
+ghost use Rattle.std.specs.Prelude.{◌≡◌, ◌++◌, map, find, bytes_eq, true, option_copied, option_map, IfOk};
 ghost use Rattle.std.specs.List.{list_any};
-ghost use Rattle.table_model.specs.Machines.{unmarked, kept};
+ghost use Rattle.table_model.specs.Machines.{bound_if, unmarked, kept};
 ghost use Rattle.version_lists.specs.Versions.{listed};
 ghost use Rattle.table_model.specs.Tables.{current_in};
 ghost use Rattle.table_model.specs.Steps.{oids};
@@ -85,25 +85,27 @@ pub fn kept(alloc: Global, names: &[BoundName]) -> Result<BoundNames, AllocError
     Ok(Items::of(out))
 }
 
-/// The names with one more, marked, at their end.
+/// The names, and behind them the one, where there is one, that is bound in the open transaction.
 pub fn with_bound(
     alloc: Global,
     names: &[BoundName],
-    name: &[u8],
+    bind: Option<&[u8]>,
     oid: Oid,
 ) -> Result<BoundNames, AllocError>
-    ensures { IfOk result (λ changed. changed ≡ names.now
-        ++ record { name = name.now; oid = oid; marked = true } ∷ []) }
+    ensures { IfOk result (λ changed. changed
+        ≡ names.now ++ bound_if (option_map (λ name. name.now) bind.entry) oid) }
 {
     let mut out = Vec::new(alloc);
     for bound in names {
         out.push(with_marks(alloc, bound, bound.marked)?)?;
     }
-    out.push(BoundName {
-        name: Items::of_bytes(alloc, name)?,
-        oid,
-        marked: true,
-    })?;
+    if let Some(name) = bind {
+        out.push(BoundName {
+            name: Items::of_bytes(alloc, name)?,
+            oid,
+            marked: true,
+        })?;
+    }
     Ok(Items::of(out))
 }
 

@@ -11,7 +11,7 @@ ghost use Rattle.table_picks.specs.Picks.{lies_at, is_vacant, takes_none, asks, 
 
 use ex_base::{Area, Geometry, Place, delete_need, growth_need, replace_need};
 use std::alloc::{AllocError, Global};
-use table_lists::data_count;
+use table_lists::given_count;
 use table_model::{Command, Machine, Object, Pick, Reply, TableFile, Version};
 use table_reference::{
     EDIT_CHARGE, FILE_CHARGE, FILE_PAGES, RECORD_CHARGE, RECORD_PAGES, edit_need, shown, step_plain,
@@ -121,17 +121,17 @@ fn need_of(
 {
     match command {
         Command::Insert { given, .. } => {
-            let n = data_count(alloc, given)?;
+            let n = given_count(alloc, given)?;
             let most = growth_need(geometry, n, pick.height, area);
             Ok(edit_need(n, pick, most))
         }
         Command::Append { given, .. } => {
-            let n = data_count(alloc, given)?;
+            let n = given_count(alloc, given)?;
             let most = growth_need(geometry, n, pick.height, area);
             Ok(edit_need(n, pick, most))
         }
         Command::Replace { given, .. } => {
-            let n = data_count(alloc, given)?;
+            let n = given_count(alloc, given)?;
             let most = replace_need(geometry, n, pick.height, area);
             Ok(edit_need(n, pick, most))
         }

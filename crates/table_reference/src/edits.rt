@@ -2,8 +2,8 @@
 
 ghost use Rattle.std.specs.Prelude.{◌≡◌, ◌≤◌, ◌<◌, ◌+◌, ◌^◌, IfOk, OnErr};
 ghost use Rattle.std.specs.Option.{option_or};
-ghost use Rattle.table_model.specs.Words.{data_count, data_most};
-ghost use Rattle.table_model.specs.Requests.{reference_of};
+ghost use Rattle.table_model.specs.Words.{data_most};
+ghost use Rattle.table_model.specs.Requests.{given_count, given_of, reference_of};
 ghost use Rattle.table_model.specs.Requests as request;
 ghost use Rattle.table_model.specs.Machines.{IsMachine, size_of};
 ghost use Rattle.table_model.specs.Refusals.{refusal_of, no_txn, no_name, no_object, frozen};
@@ -15,11 +15,11 @@ use crate::refuse::{
     too_large,
 };
 use crate::update::{note, update};
-use data_words::data_bytes;
+use data_words::GivenBytes;
 use ex_base::{Area, NoteKind, delete_need, growth_need, replace_need};
 use std::alloc::{AllocError, Global};
-use table_lists::{Edit, data_count, with_bytes};
-use table_model::{Machine, Pick, Refusal, Reply, Subject};
+use table_lists::{Edit, given_count, with_bytes};
+use table_model::{Given, Machine, Pick, Refusal, Reply, Subject};
 
 /// The refusals that the edits have in common, before one's own.
 fn edit_refusal(machine: &Machine, x: &Subject, own: Option<Refusal>) -> Option<Refusal>
@@ -37,16 +37,16 @@ fn refuse_insert(
     machine: &Machine,
     x: &Subject,
     pos: u64,
-    given: &[u8],
+    given: &Given,
     pick: &Pick,
 ) -> Result<Option<Refusal>, AllocError>
     requires machine { IsMachine machine.now }
-    requires form { data_count given.now ≤ data_most }
+    requires form { given_count (given_of given.now) ≤ data_most }
     ensures { IfOk result
         (λ found. found ≡ refusal_of machine.now
-        (request.Insert (reference_of x.now) pos given.now) pick.now) }
+        (request.Insert (reference_of x.now) pos (given_of given.now)) pick.now) }
 {
-    let n = data_count(alloc, given)?;
+    let n = given_count(alloc, given)?;
     let pages = growth_need(&machine.geometry, n, pick.height, Area::Page);
     let segs = growth_need(&machine.geometry, n, pick.height, Area::Segment);
     let room = limits(
@@ -64,26 +64,24 @@ fn insert(
     machine: &mut Machine,
     x: &Subject,
     pos: u64,
-    given: &[u8],
+    given: &Given,
     pick: &Pick,
 ) -> Result<Reply, AllocError>
-    requires form { data_count given.now ≤ data_most }
-    requires room { size_of machine.old (reference_of x.now) + data_count given.now < 2 ^ 64 }
+    requires form { given_count (given_of given.now) ≤ data_most }
+    requires room { size_of machine.old (reference_of x.now) + given_count (given_of given.now) < 2 ^ 64 }
     ensures reply { IfOk result (λ told. told
-        ≡ reply_to machine.old (request.Insert (reference_of x.now) pos given.now) pick.now) }
+        ≡ reply_to machine.old (request.Insert (reference_of x.now) pos (given_of given.now)) pick.now) }
     ensures machine { IfOk result (λ _. machine.new
-        ≡ machine_after machine.old (request.Insert (reference_of x.now) pos given.now) pick.now) }
+        ≡ machine_after machine.old (request.Insert (reference_of x.now) pos (given_of given.now)) pick.now) }
     ensures kept { OnErr result (machine.new ≡ machine.old) }
 {
-    let more = data_bytes(alloc, given)?;
+    let held = GivenBytes::of(alloc, *given)?;
+    let more = held.as_slice();
     let count = more.len() as u64;
     let key = the_key(machine, x);
     let oid = the_oid(machine, x);
     let before = size_named(machine, x);
-    let edit = Edit::Insert {
-        pos,
-        bytes: more.as_slice(),
-    };
+    let edit = Edit::Insert { pos, bytes: more };
     let table = with_bytes(alloc, shown(machine), &key, &edit)?;
     update(
         machine,
@@ -101,16 +99,16 @@ pub(crate) fn step_insert(
     machine: &mut Machine,
     x: &Subject,
     pos: u64,
-    given: &[u8],
+    given: &Given,
     pick: &Pick,
 ) -> Result<Reply, AllocError>
     requires machine { IsMachine machine.old }
-    requires form { data_count given.now ≤ data_most }
+    requires form { given_count (given_of given.now) ≤ data_most }
     requires allowed { Allows machine.old
-        (request.Insert (reference_of x.now) pos given.now) pick.now }
+        (request.Insert (reference_of x.now) pos (given_of given.now)) pick.now }
     ensures step { IfOk result
         (λ told. Step machine.old (request.Insert
-        (reference_of x.now) pos given.now) pick.now told machine.new) }
+        (reference_of x.now) pos (given_of given.now)) pick.now told machine.new) }
     ensures kept { OnErr result (machine.new ≡ machine.old) }
 {
     match refuse_insert(alloc, machine, x, pos, given, pick)? {
@@ -123,16 +121,16 @@ fn refuse_append(
     alloc: Global,
     machine: &Machine,
     x: &Subject,
-    given: &[u8],
+    given: &Given,
     pick: &Pick,
 ) -> Result<Option<Refusal>, AllocError>
     requires machine { IsMachine machine.now }
-    requires form { data_count given.now ≤ data_most }
+    requires form { given_count (given_of given.now) ≤ data_most }
     ensures { IfOk result
         (λ found. found ≡ refusal_of machine.now
-        (request.Append (reference_of x.now) given.now) pick.now) }
+        (request.Append (reference_of x.now) (given_of given.now)) pick.now) }
 {
-    let n = data_count(alloc, given)?;
+    let n = given_count(alloc, given)?;
     let pages = growth_need(&machine.geometry, n, pick.height, Area::Page);
     let segs = growth_need(&machine.geometry, n, pick.height, Area::Segment);
     let room = limits(
@@ -149,25 +147,24 @@ fn append(
     alloc: Global,
     machine: &mut Machine,
     x: &Subject,
-    given: &[u8],
+    given: &Given,
     pick: &Pick,
 ) -> Result<Reply, AllocError>
-    requires form { data_count given.now ≤ data_most }
-    requires room { size_of machine.old (reference_of x.now) + data_count given.now < 2 ^ 64 }
+    requires form { given_count (given_of given.now) ≤ data_most }
+    requires room { size_of machine.old (reference_of x.now) + given_count (given_of given.now) < 2 ^ 64 }
     ensures reply { IfOk result (λ told. told
-        ≡ reply_to machine.old (request.Append (reference_of x.now) given.now) pick.now) }
+        ≡ reply_to machine.old (request.Append (reference_of x.now) (given_of given.now)) pick.now) }
     ensures machine { IfOk result (λ _. machine.new
-        ≡ machine_after machine.old (request.Append (reference_of x.now) given.now) pick.now) }
+        ≡ machine_after machine.old (request.Append (reference_of x.now) (given_of given.now)) pick.now) }
     ensures kept { OnErr result (machine.new ≡ machine.old) }
 {
-    let more = data_bytes(alloc, given)?;
+    let held = GivenBytes::of(alloc, *given)?;
+    let more = held.as_slice();
     let count = more.len() as u64;
     let key = the_key(machine, x);
     let oid = the_oid(machine, x);
     let before = size_named(machine, x);
-    let edit = Edit::Append {
-        bytes: more.as_slice(),
-    };
+    let edit = Edit::Append { bytes: more };
     let table = with_bytes(alloc, shown(machine), &key, &edit)?;
     update(
         machine,
@@ -184,15 +181,15 @@ pub(crate) fn step_append(
     alloc: Global,
     machine: &mut Machine,
     x: &Subject,
-    given: &[u8],
+    given: &Given,
     pick: &Pick,
 ) -> Result<Reply, AllocError>
     requires machine { IsMachine machine.old }
-    requires form { data_count given.now ≤ data_most }
-    requires allowed { Allows machine.old (request.Append (reference_of x.now) given.now) pick.now }
+    requires form { given_count (given_of given.now) ≤ data_most }
+    requires allowed { Allows machine.old (request.Append (reference_of x.now) (given_of given.now)) pick.now }
     ensures step { IfOk result
         (λ told. Step machine.old (request.Append
-        (reference_of x.now) given.now) pick.now told machine.new) }
+        (reference_of x.now) (given_of given.now)) pick.now told machine.new) }
     ensures kept { OnErr result (machine.new ≡ machine.old) }
 {
     match refuse_append(alloc, machine, x, given, pick)? {
@@ -206,16 +203,16 @@ fn refuse_replace(
     machine: &Machine,
     x: &Subject,
     pos: u64,
-    given: &[u8],
+    given: &Given,
     pick: &Pick,
 ) -> Result<Option<Refusal>, AllocError>
     requires machine { IsMachine machine.now }
-    requires form { data_count given.now ≤ data_most }
+    requires form { given_count (given_of given.now) ≤ data_most }
     ensures { IfOk result
         (λ found. found ≡ refusal_of machine.now
-        (request.Replace (reference_of x.now) pos given.now) pick.now) }
+        (request.Replace (reference_of x.now) pos (given_of given.now)) pick.now) }
 {
-    let n = data_count(alloc, given)?;
+    let n = given_count(alloc, given)?;
     let pages = replace_need(&machine.geometry, n, pick.height, Area::Page);
     let segs = replace_need(&machine.geometry, n, pick.height, Area::Segment);
     let room = limits(
@@ -234,25 +231,23 @@ fn replace(
     machine: &mut Machine,
     x: &Subject,
     pos: u64,
-    given: &[u8],
+    given: &Given,
     pick: &Pick,
 ) -> Result<Reply, AllocError>
-    requires form { data_count given.now ≤ data_most }
+    requires form { given_count (given_of given.now) ≤ data_most }
     ensures reply { IfOk result (λ told. told
-        ≡ reply_to machine.old (request.Replace (reference_of x.now) pos given.now) pick.now) }
+        ≡ reply_to machine.old (request.Replace (reference_of x.now) pos (given_of given.now)) pick.now) }
     ensures machine { IfOk result (λ _. machine.new
-        ≡ machine_after machine.old (request.Replace (reference_of x.now) pos given.now) pick.now) }
+        ≡ machine_after machine.old (request.Replace (reference_of x.now) pos (given_of given.now)) pick.now) }
     ensures kept { OnErr result (machine.new ≡ machine.old) }
 {
-    let more = data_bytes(alloc, given)?;
+    let held = GivenBytes::of(alloc, *given)?;
+    let more = held.as_slice();
     let count = more.len() as u64;
     let key = the_key(machine, x);
     let oid = the_oid(machine, x);
     let before = size_named(machine, x);
-    let edit = Edit::Replace {
-        pos,
-        bytes: more.as_slice(),
-    };
+    let edit = Edit::Replace { pos, bytes: more };
     let table = with_bytes(alloc, shown(machine), &key, &edit)?;
     update(
         machine,
@@ -268,16 +263,16 @@ pub(crate) fn step_replace(
     machine: &mut Machine,
     x: &Subject,
     pos: u64,
-    given: &[u8],
+    given: &Given,
     pick: &Pick,
 ) -> Result<Reply, AllocError>
     requires machine { IsMachine machine.old }
-    requires form { data_count given.now ≤ data_most }
+    requires form { given_count (given_of given.now) ≤ data_most }
     requires allowed { Allows machine.old
-        (request.Replace (reference_of x.now) pos given.now) pick.now }
+        (request.Replace (reference_of x.now) pos (given_of given.now)) pick.now }
     ensures step { IfOk result
         (λ told. Step machine.old (request.Replace
-        (reference_of x.now) pos given.now) pick.now told machine.new) }
+        (reference_of x.now) pos (given_of given.now)) pick.now told machine.new) }
     ensures kept { OnErr result (machine.new ≡ machine.old) }
 {
     match refuse_replace(alloc, machine, x, pos, given, pick)? {

@@ -1,16 +1,16 @@
 //! The steps of `create`, `destroy`, `freeze`, `derive` and `drop`.
 
-ghost use Rattle.std.specs.Prelude.{◌≡◌, ◌≤◌, ◌<◌, ◌-◌, ◌^◌, length, IfOk, OnErr};
+ghost use Rattle.std.specs.Prelude.{◌≡◌, ◌≤◌, ◌<◌, ◌-◌, ◌^◌, length, option_map, IfOk, OnErr};
 ghost use Rattle.std.specs.Option.{option_or};
 ghost use Rattle.table_model.specs.Requests.{reference_of};
 ghost use Rattle.table_model.specs.Requests as request;
 ghost use Rattle.table_model.specs.Machines.{IsMachine, shown, updates_most};
-ghost use Rattle.table_model.specs.Refusals.{refusal_of, no_txn, no_name, name_taken, no_object};
+ghost use Rattle.table_model.specs.Refusals.{refusal_of, no_txn, no_name, name_taken_if, no_object};
 ghost use Rattle.table_model.specs.Steps.{Step, Allows, reply_to, machine_after, new_oid};
 
 use crate::need::{RECORD_CHARGE, RECORD_PAGES};
 use crate::refuse::{
-    branches, current, frozen, full, has_versions, ids_spent, limits, long_txn, name_taken,
+    branches, current, frozen, full, has_versions, ids_spent, limits, long_txn, name_taken_if,
     no_file, no_name, no_object, no_txn, shown, the_key, the_oid,
 };
 use crate::update::{note, update};
@@ -30,27 +30,35 @@ fn new_oid(machine: &Machine, pick: &Pick) -> Oid
     }
 }
 
-fn refuse_create(machine: &Machine, file: &[u8], bind: &[u8], pick: &Pick) -> Option<Refusal>
+fn refuse_create(
+    machine: &Machine,
+    file: &[u8],
+    bind: Option<&[u8]>,
+    pick: &Pick,
+) -> Option<Refusal>
     requires { length machine.now.notes ≤ updates_most }
-    ensures { result ≡ refusal_of machine.now (request.Create file.now bind.now) pick.now }
+    ensures { result ≡ refusal_of machine.now (request.Create file.now
+        (option_map (λ name. name.now) bind.entry)) pick.now }
 {
     let room = limits(machine, RECORD_CHARGE, RECORD_PAGES, 0);
     let spent = ids_spent(shown(machine).next_unique).or(room);
-    no_txn(machine).or(name_taken(machine, bind).or(no_file(machine, file).or(spent)))
+    no_txn(machine).or(name_taken_if(machine, bind).or(no_file(machine, file).or(spent)))
 }
 
 fn create(
     alloc: Global,
     machine: &mut Machine,
     file: &[u8],
-    bind: &[u8],
+    bind: Option<&[u8]>,
     pick: &Pick,
 ) -> Result<Reply, AllocError>
     requires { (shown machine.old).next_unique < 2 ^ 64 - 1 }
     ensures reply { IfOk result (λ told. told
-        ≡ reply_to machine.old (request.Create file.now bind.now) pick.now) }
+        ≡ reply_to machine.old (request.Create file.now
+        (option_map (λ name. name.now) bind.entry)) pick.now) }
     ensures machine { IfOk result (λ _. machine.new
-        ≡ machine_after machine.old (request.Create file.now bind.now) pick.now) }
+        ≡ machine_after machine.old (request.Create file.now
+        (option_map (λ name. name.now) bind.entry)) pick.now) }
     ensures kept { OnErr result (machine.new ≡ machine.old) }
 {
     let oid = new_oid(machine, pick);
@@ -65,13 +73,15 @@ pub(crate) fn step_create(
     alloc: Global,
     machine: &mut Machine,
     name: &[u8],
-    bind: &[u8],
+    bind: Option<&[u8]>,
     pick: &Pick,
 ) -> Result<Reply, AllocError>
     requires machine { IsMachine machine.old }
-    requires allowed { Allows machine.old (request.Create name.now bind.now) pick.now }
+    requires allowed { Allows machine.old (request.Create name.now
+        (option_map (λ name. name.now) bind)) pick.now }
     ensures step { IfOk result
-        (λ told. Step machine.old (request.Create name.now bind.now) pick.now told machine.new) }
+        (λ told. Step machine.old (request.Create name.now
+        (option_map (λ name. name.now) bind.entry)) pick.now told machine.new) }
     ensures kept { OnErr result (machine.new ≡ machine.old) }
 {
     match refuse_create(machine, name, bind, pick) {
@@ -114,22 +124,27 @@ pub(crate) fn step_destroy(
 fn copy_refusal(
     machine: &Machine,
     x: &Subject,
-    bind: &[u8],
+    bind: Option<&[u8]>,
     own: Option<Refusal>,
 ) -> Option<Refusal>
     ensures { result ≡ option_or (no_txn machine.now)
         (option_or (no_name machine.now (reference_of x.now))
-        (option_or (name_taken machine.now bind.now)
+        (option_or (name_taken_if machine.now (option_map (λ name. name.now) bind.entry))
         (option_or (no_object machine.now (reference_of x.now)) own))) }
 {
-    let live = name_taken(machine, bind).or(no_object(machine, x).or(own));
+    let live = name_taken_if(machine, bind).or(no_object(machine, x).or(own));
     no_txn(machine).or(no_name(machine, x).or(live))
 }
 
-fn refuse_freeze(machine: &Machine, x: &Subject, bind: &[u8], pick: &Pick) -> Option<Refusal>
+fn refuse_freeze(
+    machine: &Machine,
+    x: &Subject,
+    bind: Option<&[u8]>,
+    pick: &Pick,
+) -> Option<Refusal>
     requires { IsMachine machine.now }
     ensures { result ≡ refusal_of machine.now
-        (request.Freeze (reference_of x.now) bind.now) pick.now }
+        (request.Freeze (reference_of x.now) (option_map (λ name. name.now) bind.entry)) pick.now }
 {
     let room = limits(machine, RECORD_CHARGE, RECORD_PAGES, 0);
     let spent = ids_spent(shown(machine).next_unique).or(room);
@@ -140,14 +155,16 @@ fn freeze(
     alloc: Global,
     machine: &mut Machine,
     x: &Subject,
-    bind: &[u8],
+    bind: Option<&[u8]>,
     pick: &Pick,
 ) -> Result<Reply, AllocError>
     requires { (shown machine.old).next_unique < 2 ^ 64 - 1 }
     ensures reply { IfOk result (λ told. told
-        ≡ reply_to machine.old (request.Freeze (reference_of x.now) bind.now) pick.now) }
+        ≡ reply_to machine.old (request.Freeze (reference_of x.now)
+        (option_map (λ name. name.now) bind.entry)) pick.now) }
     ensures machine { IfOk result (λ _. machine.new
-        ≡ machine_after machine.old (request.Freeze (reference_of x.now) bind.now) pick.now) }
+        ≡ machine_after machine.old (request.Freeze (reference_of x.now)
+        (option_map (λ name. name.now) bind.entry)) pick.now) }
     ensures kept { OnErr result (machine.new ≡ machine.old) }
 {
     let oid = new_oid(machine, pick);
@@ -163,14 +180,16 @@ pub(crate) fn step_freeze(
     alloc: Global,
     machine: &mut Machine,
     x: &Subject,
-    bind: &[u8],
+    bind: Option<&[u8]>,
     pick: &Pick,
 ) -> Result<Reply, AllocError>
     requires machine { IsMachine machine.old }
-    requires allowed { Allows machine.old (request.Freeze (reference_of x.now) bind.now) pick.now }
+    requires allowed { Allows machine.old (request.Freeze (reference_of x.now)
+        (option_map (λ name. name.now) bind)) pick.now }
     ensures step { IfOk result
         (λ told. Step machine.old (request.Freeze
-        (reference_of x.now) bind.now) pick.now told machine.new) }
+        (reference_of x.now)
+        (option_map (λ name. name.now) bind.entry)) pick.now told machine.new) }
     ensures kept { OnErr result (machine.new ≡ machine.old) }
 {
     match refuse_freeze(machine, x, bind, pick) {
@@ -179,10 +198,15 @@ pub(crate) fn step_freeze(
     }
 }
 
-fn refuse_derive(machine: &Machine, x: &Subject, bind: &[u8], pick: &Pick) -> Option<Refusal>
+fn refuse_derive(
+    machine: &Machine,
+    x: &Subject,
+    bind: Option<&[u8]>,
+    pick: &Pick,
+) -> Option<Refusal>
     requires { IsMachine machine.now }
     ensures { result ≡ refusal_of machine.now
-        (request.Derive (reference_of x.now) bind.now) pick.now }
+        (request.Derive (reference_of x.now) (option_map (λ name. name.now) bind.entry)) pick.now }
 {
     let room = limits(machine, RECORD_CHARGE, RECORD_PAGES, 0);
     let spent = ids_spent(shown(machine).next_unique).or(room);
@@ -193,14 +217,16 @@ fn derive(
     alloc: Global,
     machine: &mut Machine,
     x: &Subject,
-    bind: &[u8],
+    bind: Option<&[u8]>,
     pick: &Pick,
 ) -> Result<Reply, AllocError>
     requires { (shown machine.old).next_unique < 2 ^ 64 - 1 }
     ensures reply { IfOk result (λ told. told
-        ≡ reply_to machine.old (request.Derive (reference_of x.now) bind.now) pick.now) }
+        ≡ reply_to machine.old (request.Derive (reference_of x.now)
+        (option_map (λ name. name.now) bind.entry)) pick.now) }
     ensures machine { IfOk result (λ _. machine.new
-        ≡ machine_after machine.old (request.Derive (reference_of x.now) bind.now) pick.now) }
+        ≡ machine_after machine.old (request.Derive (reference_of x.now)
+        (option_map (λ name. name.now) bind.entry)) pick.now) }
     ensures kept { OnErr result (machine.new ≡ machine.old) }
 {
     let oid = new_oid(machine, pick);
@@ -216,14 +242,16 @@ pub(crate) fn step_derive(
     alloc: Global,
     machine: &mut Machine,
     x: &Subject,
-    bind: &[u8],
+    bind: Option<&[u8]>,
     pick: &Pick,
 ) -> Result<Reply, AllocError>
     requires machine { IsMachine machine.old }
-    requires allowed { Allows machine.old (request.Derive (reference_of x.now) bind.now) pick.now }
+    requires allowed { Allows machine.old (request.Derive (reference_of x.now)
+        (option_map (λ name. name.now) bind)) pick.now }
     ensures step { IfOk result
         (λ told. Step machine.old (request.Derive
-        (reference_of x.now) bind.now) pick.now told machine.new) }
+        (reference_of x.now)
+        (option_map (λ name. name.now) bind.entry)) pick.now told machine.new) }
     ensures kept { OnErr result (machine.new ≡ machine.old) }
 {
     match refuse_derive(machine, x, bind, pick) {

@@ -39,7 +39,7 @@ fn step_of(
         Command::File { name } => step_file(alloc, machine, name, pick),
         Command::Unfile { name } => step_unfile(alloc, machine, name, pick),
         Command::List { name } => step_list(alloc, machine, name, pick),
-        Command::Create { file, bind } => step_create(alloc, machine, file, bind, pick),
+        Command::Create { file, bind } => step_create(alloc, machine, file, *bind, pick),
         Command::Destroy { x } => step_destroy(alloc, machine, x, pick),
         Command::Size { x } => Ok(step_size(machine, x, pick)),
         Command::Stat { x } => step_stat(alloc, machine, x, pick),
@@ -51,8 +51,8 @@ fn step_of(
         Command::Append { x, given } => step_append(alloc, machine, x, given, pick),
         Command::Replace { x, pos, given } => step_replace(alloc, machine, x, *pos, given, pick),
         Command::Delete { x, pos, len } => step_delete(alloc, machine, x, *pos, *len, pick),
-        Command::Freeze { x, bind } => step_freeze(alloc, machine, x, bind, pick),
-        Command::Derive { x, bind } => step_derive(alloc, machine, x, bind, pick),
+        Command::Freeze { x, bind } => step_freeze(alloc, machine, x, *bind, pick),
+        Command::Derive { x, bind } => step_derive(alloc, machine, x, *bind, pick),
         Command::Group { name, frames, mru } => {
             step_group(alloc, machine, name, *frames, *mru, pick)
         }

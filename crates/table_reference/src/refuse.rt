@@ -4,7 +4,7 @@ ghost use Rattle.std.specs.Prelude.{◌≡◌, ◌+◌, ◌-◌, ◌≤◌, ◌�
 ghost use Rattle.table_model.specs.Requests.{reference_of};
 ghost use Rattle.table_model.specs.Machines.{shown, oid_of, the_oid, version_of, size_of, has_group, updates_most};
 ghost use Rattle.table_model.specs.Needs.{free};
-ghost use Rattle.table_model.specs.Refusals.{when, no_txn, txn_open, no_name, name_taken, no_file, file_exists, files_full, no_object, frozen, current, not_empty, has_versions, branches, no_scan, no_group, range, too_large, too_many_scans, too_many_groups, ids_spent, long_txn, full_in, full, first};
+ghost use Rattle.table_model.specs.Refusals.{when, no_txn, txn_open, no_name, name_taken, name_taken_if, no_file, file_exists, files_full, no_object, frozen, current, not_empty, has_versions, branches, no_scan, no_group, range, too_large, too_many_scans, too_many_groups, ids_spent, long_txn, full_in, full, first};
 ghost use Rattle.table_lists.specs.Keys.{oid_of_key};
 
 use ex_base::{Area, OBJECT_MOST, Oid, TOUCHED_MOST, UPDATES_MOST};
@@ -233,6 +233,16 @@ pub(crate) fn name_taken(machine: &Machine, name: &[u8]) -> Option<Refusal>
     let scan = is_scan(machine.scans.as_slice(), name);
     let group = has_group(machine, name);
     when(bound || scan || group, Refusal::NameTaken)
+}
+
+/// The same of a name that may be missing.
+pub(crate) fn name_taken_if(machine: &Machine, bind: Option<&[u8]>) -> Option<Refusal>
+    ensures { result ≡ name_taken_if machine.now (option_map (λ name. name.now) bind.entry) }
+{
+    match bind {
+        Some(name) => name_taken(machine, name),
+        None => None,
+    }
 }
 
 /// The update may touch `more` pages more.
