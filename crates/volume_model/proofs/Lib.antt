@@ -2,6 +2,7 @@ pub mod Places
 pub mod Links
 pub mod Versions
 pub mod Numbers
+pub mod LastNumbers
 pub mod AtMostOne
 pub mod FilePages
 pub mod FirstParts

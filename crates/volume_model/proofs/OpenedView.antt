@@ -13,7 +13,7 @@ use Rattle.table_model.specs.declared.machine.BoundName.{BoundName}
 use Rattle.table_model.specs.declared.table.Table.{Table}
 use Rattle.table_model.specs.Machines.{start, main, IsMachine, IsScan, IsGroup}
 use Rattle.table_model.specs.Tables.{IsTable}
-use Rattle.table_model.specs.Words.{is_name}
+use Rattle.table_model.specs.Words.{is_kept_name}
 use Rattle.ex_base.specs.Ports.{times}
 use Rattle.ex_base.proofs.Counts.{times-append}
 use Rattle.std.proofs.lemmas.List.Elements.{Contains-append_left}
@@ -51,7 +51,7 @@ start_keeps g t used rules = record {
   touched = omega arith;
   pages = used_most used (unit_at g Page) g.pages;
   segs = used_most used (unit_at g Segment) g.segs;
-  names = All-nil (λ (b : BoundName). IsTrue (is_name b.name));
+  names = All-nil (λ (b : BoundName). IsTrue (is_kept_name b.name));
   scans = All-nil IsScan;
   few_scans = omega arith;
   groups = All-nil IsGroup;

@@ -7,6 +7,7 @@ use Rattle.ex_base.specs.declared.names.PageNo.{PageNo}
 use Rattle.ex_base.specs.Area.{catalog_no, log_size}
 use Rattle.ex_base.specs.Order.{Rising}
 use Rattle.op_log.specs.AfterLog.{logged}
+use Rattle.op_log.specs.Decoding.{NumberFollows, last_number}
 use Rattle.op_log.specs.Log.{log_end}
 use Rattle.op_log.specs.Records.{record_len}
 use Rattle.op_log.specs.State.{LogState}
@@ -86,10 +87,11 @@ pub record IsRecordOf (so_far : ℕ → Option (List ℕ)) (txn : ℕ) (notes : 
   pub entries : AreEntries so_far rows r.pages
   pub freed : r.freed ≡ given_back rows
 
--- The working pages, laid over, decode as a volume that can be committed under this number. Each image is of its catalog or of a page of its
--- files, and none of these was given back; a page of the committed files that isn't one of them was, and lies in none of its trees.
+-- The working pages, laid over, decode as a volume that can be committed under this number: it is one more than that of the last record, where one
+-- counts. Each image is of its catalog or of a page of its files, and none of these was given back; a page of the committed files that isn't one of them
+-- was, and lies in none of its trees.
 pub record MayCommit (d : Decoded) (disk : List ℕ) (rows : List WorkingRow) (txn : ℕ) (working : Volume) : Type 0 where
-  pub follows : txn ≡ d.volume.catalog.last + 1
+  pub follows : NumberFollows (last_number d.records) txn
   pub last : working.catalog.last ≡ txn
   pub parts : AllByRecursion (HoldsOf d.geometry [] (working_units d disk rows) working) content_parts
   pub images : AllByRecursion (IsWorkingPage working) rows
