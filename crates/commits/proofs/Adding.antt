@@ -21,8 +21,10 @@ use Rattle.meta_pages.specs.Rows.{IsRising}
 use Rattle.op_log.specs.declared.record.LogRecord.{LogRecord}
 use Rattle.op_log.specs.AfterLog.{logged, after_log, AllApply}
 use Rattle.op_log.proofs.Applied.{records_apply-push}
+use Rattle.op_log.proofs.Validity.{follow-push}
+use Rattle.op_log.specs.Decoding.{NumberFollows, last_number}
 use Rattle.op_log.specs.Gates.{log_end-append}
-use Rattle.op_log.specs.Log.{Follow, SaysLog, DiskSays, KeepsLog, AddsHere, log_end}
+use Rattle.op_log.specs.Log.{SaysLog, DiskSays, KeepsLog, AddsHere, log_end}
 use Rattle.op_log.specs.Records.{record_len}
 use Rattle.op_log.specs.State.{LogState, Prolongs}
 use Rattle.volume_model.specs.Committed.{Committed, CommittedAs, HomesStay, MayCommit, IsOverlayOf, IsRecordOf, StandsForVolume, StandsForEither, with_records}
@@ -40,20 +42,15 @@ use Rattle.commits.proofs.Reached.{reach_behind, without_last, decodes_as, table
 
 -- ---- the record is the next of the log
 
-follows_last : (rs : List LogRecord) (r : LogRecord) (last : ℕ) → Follow rs → IsLastOf rs last → r.txn ≡ last + 1 → Follow (rs ++ r ∷ [])
-follows_last [] r last follow is next = tt
-follows_last (x ∷ []) r last follow is next = (next ∙ ap (λ (n : ℕ). n + 1) is, tt)
-follows_last (x ∷ y ∷ rs) r last follow is next = (follow.0, follows_last (y ∷ rs) r last follow.1 is next)
-
 last_pushed : (rs : List LogRecord) (r : LogRecord) (last : ℕ) → last ≡ r.txn → IsLastOf (rs ++ r ∷ []) last
 last_pushed [] r last is = is
 last_pushed (x ∷ []) r last is = is
 last_pushed (x ∷ y ∷ rs) r last is = last_pushed (y ∷ rs) r last is
 
-pub prolongs : (d : Decoded) (disk : List ℕ) (log : LogState) (rows : List PageRow) (images : List ℕ → Type 0) (r : LogRecord) → Committed images d disk log rows → r.txn ≡ d.volume.catalog.last + 1 → Prolongs log d.records r
+pub prolongs : (d : Decoded) (disk : List ℕ) (log : LogState) (rows : List PageRow) (images : List ℕ → Type 0) (r : LogRecord) → Committed images d disk log rows → NumberFollows (last_number d.records) r.txn → Prolongs log d.records r
 prolongs d disk log rows images r committed next = record {
   at_end = ap (λ (s : LogState). s.end) committed.shown.log_is;
-  follow = follows_last d.records r d.volume.catalog.last committed.parts.1.0.says.follow committed.parts.1.1.0.1 next;
+  follow = follow-push d.records r committed.parts.1.0.says.follow next;
 }
 
 pub keeps_log : (d : Decoded) (disk : List ℕ) (log : LogState) (rows : List PageRow) (w : Outside) → IsTrue w.honest → w.disk ≡ Some disk → Committed w.images d disk log rows → KeepsLog d.geometry w d.records

@@ -11,6 +11,7 @@ use Rattle.ex_base.specs.Area.{catalog_no, area_end, page_at}
 use Rattle.ex_base.proofs.Each.{flat_same}
 use Rattle.op_log.specs.declared.record.LogRecord.{LogRecord}
 use Rattle.op_log.specs.AfterLog.{logged, after_log}
+use Rattle.op_log.specs.Decoding.{NumberFollows, last_number}
 use Rattle.op_log.specs.State.{LogState}
 use Rattle.trees.specs.Trees.{root_units}
 use Rattle.trees.proofs.SameUnits.{Kept}
@@ -27,6 +28,12 @@ use Rattle.commits.proofs.Reached.{reach_behind, same_reach}
 -- a page that is stale now was stale before
 pub stale_before : (d : Decoded) (records : List LogRecord) (rows : List WorkingRow) (page : ℕ) → (records ≡ d.records) ⊎ (records ≡ []) → ¬ IsStale d rows page → ¬ IsStale (with_records d records d.volume) rows page
 stale_before d records rows page those fresh stale = fresh (stale.0, λ none. stale.1 (none_still d records page those none))
+
+-- a number that follows these records follows them still, or none
+still_follows : (was now : List LogRecord) (txn : ℕ) → (now ≡ was) ⊎ (now ≡ []) → NumberFollows (last_number was) txn → NumberFollows (last_number now) txn
+still_follows was now txn those follows = ⊎_elim
+    (λ same. subst (λ (rs : List LogRecord). NumberFollows (last_number rs) txn) (sym same) follows)
+    (λ none. subst (λ (rs : List LogRecord). NumberFollows (last_number rs) txn) (sym none) tt) those
 
 none_or_not : (o : Option (List ℕ)) → (o ≡ None) ⊎ (o ≢ None)
 none_or_not None = inl refl
@@ -89,7 +96,7 @@ module _ (d : Decoded) (disk : List ℕ) (records : List LogRecord) (later : Lis
     -- So it can be committed there,
     pub may_still : MayCommit now later rows txn working
     may_still = record {
-      follows = may.follows;
+      follows = still_follows d.records records txn those may.follows;
       last = may.last;
       parts = parts_kept d.geometry [] (working_units d disk rows) (working_units now later rows) working (kept_from_reach (working_units d disk rows) (working_units now later rows) working reach_same) may.parts;
       images = may.images;

@@ -24,7 +24,7 @@ use Rattle.page_entries.specs.declared.entry.PageEntry.{PageEntry}
 use Rattle.page_entries.specs.EntryOf.{IsEntryOf}
 use Rattle.page_entries.specs.Said.{AreFields}
 use Rattle.std.proofs.lemmas.Nat.{mul-le}
-use Rattle.ex_base.specs.Limits.{page_size_most}
+use Rattle.ex_base.specs.Limits.{page_size_most, touched_most, updates_most}
 use Rattle.commits.proofs.RoomInLog.{entries_most}
 use Rattle.volume_model.specs.Committed.{AreEntries, IsRecordOf, given_back}
 use Rattle.volume_model.specs.Shown.{WorkingRow}
@@ -235,8 +235,8 @@ has_image page ((p, Some bytes) ∷ rows) image found = ⊎_elim
     (λ (same : (nat_eq page p ≡ true) × (page ≡ p)). subst (λ (n : ℕ). Contains (p ∷ imaged_pages rows) n) (sym same.1) (Contains-head p (imaged_pages rows)))
     (λ (other : (nat_eq page p ≡ false) × (page ≢ p)). Contains-tail p (imaged_pages rows) page (has_image page rows image (sym (ap (λ (b : Bool). cond b (Some (Some bytes)) (lookup (nat_eq page) rows)) other.0) ∙ found))) (eqb_tells page p)
 
-module _ (o : Overlays) (f : Pages) (txn : ℕ) (notes : List OpNote) (entries : List PageEntry) (are : AreRows o) (of : AreEntries f o.working entries) (small : txn < 2 ^ 64) (few_notes : length notes ≤ 512) (is_notes : AllByRecursion IsNote notes)
-    (few_pages : length o.working ≤ 128) (catalog : HasCatalog o.working) where
+module _ (o : Overlays) (f : Pages) (txn : ℕ) (notes : List OpNote) (entries : List PageEntry) (are : AreRows o) (of : AreEntries f o.working entries) (small : txn < 2 ^ 64) (few_notes : length notes ≤ updates_most) (is_notes : AllByRecursion IsNote notes)
+    (few_pages : length o.working ≤ touched_most) (catalog : HasCatalog o.working) where
   pages_here : map page_of entries ≡ imaged_pages o.working
   pages_here = pages_are f o.working entries of
 

@@ -2,6 +2,7 @@
 ghost use Rattle.std.specs.Prelude.{◌≡◌, ◌≤◌, ◌<◌, length, IfOk, None};
 ghost use Rattle.std.specs.List.{AllByRecursion};
 ghost use Rattle.ex_base.specs.Area.{log_size};
+ghost use Rattle.ex_base.specs.Limits.{touched_most, updates_most};
 ghost use Rattle.meta_pages.specs.Overlays.{AreRows, committed_image};
 ghost use Rattle.op_log.specs.Records.{IsLogRecord, IsNote, record_len};
 ghost use Rattle.op_log.specs.declared.kind.RecordKind.TheVariants.{Forms};
@@ -22,9 +23,9 @@ pub fn record_of(
     notes: &[OpNote],
     txn: u64,
 ) -> Result<LogRecord, AllocError>
-    requires few_notes { length notes.now ≤ 512 }
+    requires few_notes { length notes.now ≤ updates_most }
     requires notes { AllByRecursion IsNote notes.now }
-    requires few_pages { length meta.now.working ≤ 128 }
+    requires few_pages { length meta.now.working ≤ touched_most }
     requires catalog { HasCatalog meta.now.working }
     ensures rule { IfOk result
         (λ r. IsRecordOf (committed_image meta.now) txn notes.now meta.now.working r) }
@@ -42,9 +43,9 @@ pub fn record_of_images(
     notes: &[OpNote],
     txn: u64,
 ) -> Result<LogRecord, AllocError>
-    requires few_notes { length notes.now ≤ 512 }
+    requires few_notes { length notes.now ≤ updates_most }
     requires notes { AllByRecursion IsNote notes.now }
-    requires few_pages { length meta.now.working ≤ 128 }
+    requires few_pages { length meta.now.working ≤ touched_most }
     requires catalog { HasCatalog meta.now.working }
     ensures rule { IfOk result
         (λ r. IsRecordOf (λ page. None) txn notes.now meta.now.working r) }

@@ -2,6 +2,7 @@
 ghost use Rattle.std.specs.Prelude.{◌≡◌, ◌≤◌, ◌<◌, ◌+◌, ℕ, List, [], length, All, Some, Err, IsTrue, IfOk, OnOk, OnErr};
 ghost use Rattle.std.specs.List.{AllByRecursion};
 ghost use Rattle.ex_base.specs.Area.{log_size};
+ghost use Rattle.ex_base.specs.Limits.{touched_most, updates_most};
 ghost use Rattle.ex_base.specs.Sizes.{volume_bytes};
 ghost use Rattle.disk_model.specs.Outside.{DiskOnly, Leaves, Rose};
 ghost use Rattle.disk_model.specs.Changes.{ChangesWithin};
@@ -48,9 +49,9 @@ pub fn commit<D: Disk>(
     requires room { volume_bytes meta.old.geometry ≤ (D.outside disk.old).size }
     requires sizes { All (λ (f : Frames). f.page_size ≡ meta.old.geometry.page_size) groups.old }
     requires logged { IsLogged log.old meta.old }
-    requires few_notes { length notes.now ≤ 512 }
+    requires few_notes { length notes.now ≤ updates_most }
     requires notes { AllByRecursion IsNote notes.now }
-    requires few_pages { length meta.old.working ≤ 128 }
+    requires few_pages { length meta.old.working ≤ touched_most }
     requires catalog { HasCatalog meta.old.working }
     ensures only { DiskOnly (D.outside disk.old) (D.outside disk.new) }
     ensures disk { result ≡ Err CommitFault.Disk
@@ -117,9 +118,9 @@ fn record_with_room<D: Disk>(
     requires room { volume_bytes meta.old.geometry ≤ (D.outside disk.old).size }
     requires sizes { All (λ (f : Frames). f.page_size ≡ meta.old.geometry.page_size) groups.old }
     requires logged { IsLogged log.old meta.old }
-    requires few_notes { length notes.now ≤ 512 }
+    requires few_notes { length notes.now ≤ updates_most }
     requires notes { AllByRecursion IsNote notes.now }
-    requires few_pages { length meta.old.working ≤ 128 }
+    requires few_pages { length meta.old.working ≤ touched_most }
     requires catalog { HasCatalog meta.old.working }
     ensures only { DiskOnly (D.outside disk.old) (D.outside disk.new) }
     ensures disk { result ≡ Err CommitFault.Disk
