@@ -23,6 +23,7 @@ pub(crate) fn open_fault(fault: PortFault) -> OpenFault
 {
     match fault {
         PortFault::Memory => OpenFault::Memory,
-        PortFault::Disk | PortFault::Damaged { .. } => OpenFault::Disk,
+        PortFault::Disk => OpenFault::Disk,
+        PortFault::Damaged { .. } => unreachable!(),
     }
 }
