@@ -1,12 +1,16 @@
 -- What holds of the state of an open volume, and what is left of it by a port.
-use Rattle.std.specs.Prelude.{◌≡◌, ℕ, true, false, List, length, Some, None, nat_eq}
+use Rattle.std.specs.Prelude.{◌≡◌, ℕ, true, false, List, [], length, Some, None, nat_eq}
 use Rattle.std.specs.Map.{lookup}
 use Rattle.ex_base.specs.Area.{area_end, catalog_no}
 use Rattle.disk_model.specs.Changes.{ChangesWithin}
 use Rattle.disk_model.specs.Outside.{Outside}
 use Rattle.buffer_groups.specs.Groups.{SameKinds}
-use Rattle.page_alloc.specs.UnitSet.{used_at}
+use Rattle.page_alloc.specs.UnitSet.{refs_at, used_at}
 use Rattle.tree_store.specs.Stored.{Fits, InRest, NoUnit, Tells}
+use Rattle.volume_model.specs.Committed.{Committed}
+use Rattle.volume_model.specs.FreshView.{KnowsUnits, OwnsUnits}
+use Rattle.volume_model.specs.Homes.{home}
+use Rattle.volume_model.specs.Volume.{Decoded}
 use Rattle.volume_port.specs.declared.state.VolumeState.{VolumeState}
 use Rattle.volume_port.specs.Logged.{is_held}
 use Rattle.volume_port.specs.Ported.{IsKnown, IsUntouched, IsUsed}
@@ -36,3 +40,18 @@ pub record Moved (freed : ℕ → Type 0) (a b : Outside) (old new : VolumeState
   pub kinds : SameKinds old.groups new.groups
   pub ready : AreReady b.size new
   pub rest : new ≡ record old { units = new.units; groups = new.groups; meta = new.meta; pages = new.pages }
+
+-- Nothing runs on the volume: an honest disk that tells its bytes holds it committed, with no record in its log. No page has an image, and what is in use,
+-- logged and owned is what the volume reaches.
+pub record IsAtRest (w : Outside) (v : VolumeState) (d : Decoded) (disk : List ℕ) : Type 0 where
+  pub told : Tells w v.groups
+  pub ready : AreReady w.size v
+  pub holds : w.disk ≡ Some disk
+  pub none : d.records ≡ []
+  pub geometry : d.geometry ≡ v.geometry
+  pub committed : Committed w.images d disk v.log v.meta.committed
+  pub images : v.meta.committed ≡ []
+  pub working : v.meta.working ≡ []
+  pub knows : KnowsUnits d disk (used_at v.units) (is_held v.pages)
+  pub owned : OwnsUnits d.geometry (home d.geometry disk) d.volume (used_at v.units) (refs_at v.units)
+  pub kept : v.kept ≡ v.pages
