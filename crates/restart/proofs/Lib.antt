@@ -1,5 +1,6 @@
 pub mod Adopted
 pub mod Adopting
+pub mod AtRest
 pub mod BadParts
 pub mod Superblocks
 pub mod UnitsNamed

@@ -1,19 +1,13 @@
 -- The owners of units of pages that are kept.
-use Rattle.std.proofs.Common.{◌≡◌, ◌↔◌, ℕ, suc, Bool, true, List, [], ◌∷◌, ◌++◌, IsPermutation, sum_by, refl, sym, ap, subst, ◌∙◌, arith}
-use Rattle.std.specs.List.{flat_map, AllByRecursion}
-use Rattle.std.specs.Prelude.{Contains}
-use Rattle.std.proofs.lemmas.List.Concat.{flat_map-append}
-use Rattle.std.proofs.lemmas.List.Sorted.{sum_by-IsPermutation}
+use Rattle.std.proofs.Common.{◌≡◌, ℕ, suc, Bool, List, sym, ap, subst, arith}
+use Rattle.std.specs.List.{AllByRecursion}
 use Rattle.ex_base.specs.declared.geometry.Geometry.{Geometry}
-use Rattle.ex_base.specs.declared.names.Root.{Root}
 use Rattle.ex_base.specs.Area.{InPageArea}
 use Rattle.ex_base.specs.Ports.{times}
-use Rattle.ex_base.proofs.Counts.{contains_times, times_contains, times_flat}
 use Rattle.ex_base.proofs.Each.{each_as}
-use Rattle.trees.specs.Owners.{IsInner, IsOwned, StandsAt, named_on, page_here, root_pages}
+use Rattle.trees.specs.Owners.{IsInner, IsOwned, StandsAt, named_on}
 use Rattle.trees.specs.Trees.{Units}
 use Rattle.trees.proofs.Released.{each_kept, stands_kept}
-use Rattle.volume_model.specs.Volume.{Stored, root_in, roots_in}
 
 module _ (g : Geometry) (units later : Units) (kept : (page : ℕ) → InPageArea g page → later page ≡ units page) where
   inner_kept : (page : ℕ) → IsInner g units page → IsInner g later page

@@ -6,7 +6,7 @@ use Rattle.ex_base.specs.declared.geometry.Geometry.{Geometry}
 use Rattle.ex_base.specs.Bytes.{part}
 use Rattle.ex_base.specs.Fields.{four_bytes, number_at, length-field_bytes}
 use Rattle.ex_base.specs.Sizes.{volume_bytes, least_volume, least_page, most_page}
-use Rattle.ex_base.specs.Superblock.{super_page, IsSuper, length-super_page}
+use Rattle.ex_base.specs.Superblock.{IsSuper, length-super_page}
 use Rattle.ex_base.proofs.FieldLaws.{four_is}
 use Rattle.ex_base.proofs.Places.{number_there}
 use Rattle.disk_model.specs.Outside.{Outside, IsWorld}

@@ -8,6 +8,7 @@ use Rattle.object_files.specs.Catalog.{Catalog, CatalogOf}
 use Rattle.op_log.specs.State.{LogState}
 use Rattle.table_model.specs.declared.table.Table.{Table}
 use Rattle.volume_port.specs.declared.state.VolumeState.{VolumeState}
+use Rattle.volume_port.specs.State.{IsAtRest}
 use Rattle.restart.specs.Content.{IsReached}
 use Rattle.volume_model.specs.Homes.{home}
 use Rattle.volume_model.specs.Committed.{Committed, OverlayOf, with_records}
@@ -69,6 +70,13 @@ pub record OpenedOn (image : List ℕ) (g : Geometry) (w : Outside) (log : LogSt
   pub table : table_of (units_of (with_records decoded [] decoded.volume) disk) decoded.volume ≡ table_of (units_of decoded image) decoded.volume
   pub knows : KnowsUnits (with_records decoded [] decoded.volume) disk used held
   pub owned : OwnsUnits decoded.geometry (home decoded.geometry disk) decoded.volume used refs
+
+-- The volume is at rest, with the table that the image stood for.
+pub record RestsAs (image : List ℕ) (w : Outside) (p : VolumeState) : Type 0 where
+  pub decoded : Decoded
+  pub disk : List ℕ
+  pub rests : IsAtRest w p decoded disk
+  pub stood : StandsFor image (table_of (units_of decoded disk) decoded.volume)
 
 -- The image stands for a table for which the other one stands too.
 pub record StandsForSame (image other : List ℕ) : Type 0 where

@@ -51,17 +51,11 @@ pub fn read_content<P: ReadPages>(
     let Ok(mut units) = Units::make(alloc, geometry) else {
         return Err(OpenFault::Memory);
     };
-    let walked = match walk_files(pages, alloc, catalog, &mut units) {
-        Ok(walked) => walked,
-        Err(fault) => return Err(fault),
-    };
+    let walked = walk_files(pages, alloc, catalog, &mut units)?;
     let Ok(roots) = roots_of(alloc, &walked.records) else {
         return Err(OpenFault::Memory);
     };
-    match walk_trees(pages, alloc, geometry, &mut units, roots) {
-        Ok(()) => {}
-        Err(fault) => return Err(fault),
-    }
+    walk_trees(pages, alloc, geometry, &mut units, roots)?;
     match has_good_numbers(alloc, walked.records.as_slice(), catalog.next_unique()) {
         Ok(true) => {}
         Ok(false) => return Err(OpenFault::BadVolume { part: Part::Unique }),

@@ -7,14 +7,12 @@ ghost use Rattle.disk_model.specs.Outside.{ReadsOnly, Rose};
 ghost use Rattle.volume_model.specs.Parts.{SuperOf, FirstBad};
 
 use disk_model::Disk;
-use ex_base::{Geometry, get_u32, read_super};
+use ex_base::{Geometry, PAGE_SIZE_MOST, get_u32, read_super};
 use session_views::{OpenFault, Part};
 use std::alloc::Global;
 
-/// The least and the greatest size of a page.
+/// The bytes of the smallest page.
 const SMALLEST_PAGE: u64 = 512;
-
-const LARGEST_PAGE: u32 = 8192;
 
 /// Where the superblock has the size of a page.
 const PAGE_SIZE_AT: u64 = 8;
@@ -33,10 +31,7 @@ pub fn read_geometry<D: Disk>(alloc: Global, disk: &mut D) -> Result<Geometry, O
     ensures bad { (part : Part) → result ≡ Err (OpenFault.BadVolume part) → (image : List ℕ)
         → (D.outside disk.old).disk ≡ Some image → FirstBad image part }
 {
-    let size = match page_size(disk) {
-        Ok(size) => size,
-        Err(fault) => return Err(fault),
-    };
+    let size = page_size(disk)?;
     let Ok(mut page) = vec![in alloc; 0u8; size as usize] else {
         return Err(OpenFault::Memory);
     };
@@ -72,7 +67,7 @@ fn page_size<D: Disk>(disk: &mut D) -> Result<u32, OpenFault>
         return Err(OpenFault::Disk);
     };
     let size = get_u32(&field, 0);
-    if size > LARGEST_PAGE || u64::from(size) > have {
+    if size as usize > PAGE_SIZE_MOST || u64::from(size) > have {
         return Err(BAD);
     }
     Ok(size)

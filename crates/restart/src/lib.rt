@@ -9,4 +9,7 @@ mod opening;
 mod overlay;
 mod walking;
 
+pub use catalog::read_catalog;
+pub use content::Reached;
 pub use opening::open_volume;
+pub use walking::walk_volume;

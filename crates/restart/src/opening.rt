@@ -14,7 +14,7 @@ ghost use Rattle.page_alloc.specs.UnitSet.{used_at, refs_at};
 ghost use Rattle.volume_model.specs.Parts.{SuperOf, FirstBad, StandsFor};
 ghost use Rattle.volume_port.specs.Logged.{is_held};
 ghost use Rattle.restart.specs.Content.{IsReached};
-ghost use Rattle.restart.specs.Opening.{AreFresh, AreOpened, OpenedOn, OpensAs, ReadsAs};
+ghost use Rattle.restart.specs.Opening.{AreFresh, AreOpened, OpenedOn, OpensAs, ReadsAs, RestsAs};
 
 use crate::catalog::{read_catalog, test_catalog};
 use crate::content::Reached;
@@ -46,6 +46,8 @@ pub fn open_volume<D: Disk>(alloc: Global, disk: &mut D) -> Result<VolumeState, 
         → (D.outside disk.old).disk ≡ Some image
         → OpenedOn image p.geometry (D.outside disk.new) p.log p.meta.committed (used_at p.units)
         (refs_at p.units) (is_held p.pages)) }
+    ensures rests { IfOk result (λ p. (image : List ℕ) → IsTrue (D.outside disk.old).honest
+        → (D.outside disk.old).disk ≡ Some image → RestsAs image (D.outside disk.new) p) }
     ensures stood { IfOk result (λ p. (image : List ℕ) → (D.outside disk.old).disk ≡ Some image
         → (table : Table) × StandsFor image table) }
 
@@ -70,10 +72,7 @@ pub fn open_volume<D: Disk>(alloc: Global, disk: &mut D) -> Result<VolumeState, 
     let Ok(()) = disk.sync() else {
         return Err(OpenFault::Disk);
     };
-    let mut parts = match read_volume(alloc, disk) {
-        Ok(parts) => parts,
-        Err(fault) => return Err(fault),
-    };
+    let mut parts = read_volume(alloc, disk)?;
     let Ok(()) = checkpoint(&mut parts.log, &mut parts.meta, &mut parts.groups, disk) else {
         return Err(OpenFault::Disk);
     };
@@ -95,31 +94,16 @@ fn read_volume<D: Disk>(alloc: Global, disk: &mut D) -> Result<VolumeState, Open
     ensures bad { (part : Part) → result ≡ Err (OpenFault.BadVolume part) → (image : List ℕ)
         → (D.outside disk.old).disk ≡ Some image → FirstBad image part }
 {
-    let geometry = match read_geometry(alloc, disk) {
-        Ok(geometry) => geometry,
-        Err(fault) => return Err(fault),
-    };
-    let records = match read_log(alloc, disk, &geometry) {
-        Ok(records) => records,
-        Err(fault) => return Err(fault),
-    };
-    let meta = match read_overlay(alloc, &geometry, records.as_slice()) {
-        Ok(meta) => meta,
-        Err(fault) => return Err(fault),
-    };
-    let page = match read_catalog(alloc, disk, &geometry, &meta) {
-        Ok(page) => page,
-        Err(fault) => return Err(fault),
-    };
+    let geometry = read_geometry(alloc, disk)?;
+    let records = read_log(alloc, disk, &geometry)?;
+    let meta = read_overlay(alloc, &geometry, records.as_slice())?;
+    let page = read_catalog(alloc, disk, &geometry, &meta)?;
     let Some(catalog) = test_catalog(&page, last_txn(records.as_slice())) else {
         return Err(OpenFault::BadVolume {
             part: Part::Catalog,
         });
     };
-    let reached = match walk_volume(alloc, disk, &geometry, &meta, &catalog) {
-        Ok(reached) => reached,
-        Err(fault) => return Err(fault),
-    };
+    let reached = walk_volume(alloc, disk, &geometry, &meta, &catalog)?;
     let count = records.as_slice().len() as u32;
     match make_parts(alloc, &geometry, meta, records.end(), count, reached) {
         Ok(parts) => Ok(parts),

@@ -1,4 +1,4 @@
-use Rattle.std.proofs.Common.{◌≡◌, ℕ, List, Some, IsTrue, refl, ◌∙◌}
+use Rattle.std.proofs.Common.{◌≡◌, ℕ, List, Some, IsTrue, refl, ◌∙◌, arith}
 use Rattle.disk_model.specs.Outside.{DiskOnly, Leaves}
 use Rattle.disk_model.specs.Runs.{disk_trans, honest_on, writes_nothing_refl, writes_nothing_trans}
 use Rattle.session_views.specs.declared.Part.{Part}
@@ -9,6 +9,8 @@ use Rattle.volume_model.specs.Volume.{table_of, units_of}
 use Rattle.volume_model.specs.Committed.{Committed}
 use Rattle.page_alloc.specs.UnitSet.{refs_at, used_at}
 use Rattle.volume_port.specs.Logged.{is_held}
+use Rattle.node_walk.proofs.Facts.{handed_err}
+use Rattle.restart.proofs.AtRest.{rests_as}
 use Rattle.restart.proofs.Opened.{all_closed, opened_on, opens_as, quiet_leaves, read_committed}
 use Rattle.restart.specs.Opening.{OpensAs, ReadsAs}
 use Rattle.restart.proofs.opening.open_volume.Given as given
@@ -20,18 +22,18 @@ returns-in_default-clause-any_moment g c image honest holds =
     let b = g.D.World.outside c.sync.new.self in
     quiet_leaves (g.D.World.outside c.args.disk.now) b b image (g.D.World.is_world c.args.disk.now) honest c.sync.ensures.only (writes_nothing_refl b)
 
-pub returns-in-Err-clause-bad : goal.returns-in-Err-clause-bad
-returns-in-Err-clause-bad g c part is image holds = c.read_volume.ensures.bad part (c.in-Err.is ∙ is) image (c.sync.ensures.only.disk ∙ holds)
+pub returns-in_err-parts-clause-bad : goal.returns-in_err-parts-clause-bad
+returns-in_err-parts-clause-bad g c part is image holds = c.in_err-parts.ensures.bad part (handed_err c.from_residual.result _ _ c.from_residual.ensures.1 is) image (c.sync.ensures.only.disk ∙ holds)
 
-pub returns-in-Err-clause-any_moment : goal.returns-in-Err-clause-any_moment
-returns-in-Err-clause-any_moment g c image honest holds =
+pub returns-in_err-parts-clause-any_moment : goal.returns-in_err-parts-clause-any_moment
+returns-in_err-parts-clause-any_moment g c image honest holds =
     quiet_leaves (g.D.World.outside c.args.disk.now) (g.D.World.outside c.sync.new.self) (g.D.World.outside c.read_volume.new.disk) image (g.D.World.is_world c.args.disk.now) honest c.sync.ensures.only c.read_volume.ensures.only.nothing
 
-pub returns-in-Err-clause-unwritten : goal.returns-in-Err-clause-unwritten
-returns-in-Err-clause-unwritten g c part is = writes_nothing_trans c.sync.ensures.only c.read_volume.ensures.only.nothing
+pub returns-in_err-parts-clause-unwritten : goal.returns-in_err-parts-clause-unwritten
+returns-in_err-parts-clause-unwritten g c part is = writes_nothing_trans c.sync.ensures.only c.read_volume.ensures.only.nothing
 
-pub returns-in-Err-clause-left : goal.returns-in-Err-clause-left
-returns-in-Err-clause-left g c image part holds bad = writes_nothing_trans c.sync.ensures.only c.read_volume.ensures.only.nothing
+pub returns-in_err-parts-clause-left : goal.returns-in_err-parts-clause-left
+returns-in_err-parts-clause-left g c image part holds bad = writes_nothing_trans c.sync.ensures.only c.read_volume.ensures.only.nothing
 
 -- ---- once it was read
 
@@ -45,13 +47,13 @@ pub returns-clause-only : goal.returns-clause-only
 returns-clause-only g c = only g (goal.at.returns-clause-only g c).After-checkpoint
 
 reads : (g : given.Over) (c : After-checkpoint g) (image : List ℕ) → (g.D.World.outside c.args.disk.now).disk ≡ Some image
-    → ReadsAs image c.in-Ok-read_volume.parts.geometry c.in-Ok-read_volume.parts.log c.in-Ok-read_volume.parts.meta.committed (used_at c.in-Ok-read_volume.parts.units) (refs_at c.in-Ok-read_volume.parts.units) (is_held c.in-Ok-read_volume.parts.pages)
-reads g c image holds = c.in-Ok-read_volume.ensures.reads image (c.sync.ensures.only.disk ∙ holds)
+    → ReadsAs image c.in_ok-parts.parts.geometry c.in_ok-parts.parts.log c.in_ok-parts.parts.meta.committed (used_at c.in_ok-parts.parts.units) (refs_at c.in_ok-parts.parts.units) (is_held c.in_ok-parts.parts.pages)
+reads g c image holds = c.in_ok-parts.ensures.reads image (c.sync.ensures.only.disk ∙ holds)
 
 committed : (g : given.Over) (c : After-checkpoint g) (image : List ℕ) → IsTrue (g.D.World.outside c.args.disk.now).honest → (holds : (g.D.World.outside c.args.disk.now).disk ≡ Some image)
-    → Committed (g.D.World.outside c.read_volume.new.disk).images (reads g c image holds).decoded image c.in-Ok-read_volume.parts.log c.in-Ok-read_volume.parts.meta.committed
+    → Committed (g.D.World.outside c.read_volume.new.disk).images (reads g c image holds).decoded image c.in_ok-parts.parts.log c.in_ok-parts.parts.meta.committed
 committed g c image honest holds =
-    let p = c.in-Ok-read_volume.parts in
+    let p = c.in_ok-parts.parts in
     read_committed (g.D.World.outside c.args.disk.now) (g.D.World.outside c.sync.new.self) (g.D.World.outside c.read_volume.new.disk) image p.geometry p.log p.meta.committed (used_at p.units) (refs_at p.units) (is_held p.pages) honest holds c.sync.ensures.only c.in-Ok.ensures.settles
     c.read_volume.ensures.only.nothing (reads g c image holds)
 
@@ -89,7 +91,7 @@ returns-clause-any_moment g c = leaves g (goal.at.returns-clause-any_moment g c)
 pub returns-clause-opened : goal.returns-clause-opened
 returns-clause-opened g c image honest holds =
     let after = (goal.at.returns-clause-opened g c).After-checkpoint in
-    let p = c.in-Ok-read_volume.parts in
+    let p = c.in_ok-parts.parts in
     let read = reads g after image holds in
     let here = honest_on c.read_volume.ensures.only.nothing.only.goes (honest_on c.sync.ensures.only.only.goes honest) in
     opened_on (g.D.World.outside c.checkpoint.new.disk) image p.geometry p.log c.checkpoint.new.log p.meta.committed c.checkpoint.new.meta.committed (used_at p.units) (refs_at p.units) (is_held p.pages) read
@@ -97,9 +99,9 @@ returns-clause-opened g c image honest holds =
 
 pub returns-clause-parts : goal.returns-clause-parts
 returns-clause-parts g c =
-    let p = c.in-Ok-read_volume.parts in
-    let fresh = c.in-Ok-read_volume.ensures.fresh in
-    let closed = all_closed p.geometry p.log c.checkpoint.new.log p.meta c.checkpoint.new.meta p.groups c.checkpoint.new.groups fresh.log fresh.groups c.in-Ok-read_volume.ensures.logged c.in-Ok-checkpoint.ensures.closed
+    let p = c.in_ok-parts.parts in
+    let fresh = c.in_ok-parts.ensures.fresh in
+    let closed = all_closed p.geometry p.log c.checkpoint.new.log p.meta c.checkpoint.new.meta p.groups c.checkpoint.new.groups fresh.log fresh.groups c.in_ok-parts.ensures.logged c.in-Ok-checkpoint.ensures.closed
     c.in-Ok-checkpoint.ensures.emptied c.in-Ok-checkpoint.ensures.forgotten c.checkpoint.ensures.nothing in
     record {
       fresh = record {
@@ -113,3 +115,9 @@ returns-clause-parts g c =
       log = closed.0;
       images = closed.1;
     }
+
+pub returns-clause-rests : goal.returns-clause-rests
+returns-clause-rests g c image honest holds =
+    let here = honest_on c.read_volume.ensures.only.nothing.only.goes (honest_on c.sync.ensures.only.only.goes honest) in
+    rests_as image _ (returns-clause-parts g c) (honest_on c.checkpoint.ensures.only.goes here)
+    (omega (arith, c.in_ok-parts.ensures.room, c.read_volume.ensures.only.nothing.only.goes.size, c.checkpoint.ensures.only.goes.size)) (returns-clause-opened g c image honest holds)
