@@ -35,6 +35,7 @@ use Rattle.session_core.specs.Sessions.{SessionState, IsSession, IsTracked, Sett
 use Rattle.session_core.specs.Meant.{meant, held_view}
 use Rattle.session_core.proofs.Quiet.{left_before, quiet_moments}
 use Rattle.session_core.proofs.Refusing.{none_is_false}
+use Rattle.volume_model.proofs.LastNumbers.{next_follows}
 use Rattle.volume_model.proofs.Volumes.{shown_parts}
 use Rattle.volume_model.proofs.KeptOff.{Others, SameOff, others_kept, trees_off, trees_kept, table_off}
 use Rattle.trees.specs.Owners.{IsOwned, root_pages}
@@ -130,7 +131,7 @@ module _ {may_leave : List ℕ → Type 0} {v : View SessionState} (shows : Show
       let some : is_some v.machine.working ≡ true = shows.shared.open_txn ∙ opened in
       let old = session.work opened in
       record {
-        follows = ap (λ (n : ℕ). n + 1) (same_number shows (none_is_false v.machine.working some));
+        follows = next_follows d.records d.volume.catalog.last (shows.working.catalog.last + 1) shows.parts.1.1.0.1 (ap (λ (n : ℕ). n + 1) (same_number shows (none_is_false v.machine.working some)));
         last = refl;
         parts = (
           (subst (λ (bytes : List ℕ). CatalogOf bytes (numbered shows.working.catalog)) (sym (working_image d seen page there)) catalog, tt),

@@ -3,6 +3,7 @@ use Rattle.std.specs.Prelude.{ℕ, ◌+◌, ◌-◌, max, Bool, false, nat_le, n
 use Rattle.std.specs.Map.{lookup}
 use Rattle.ex_base.specs.Area.{page_at}
 use Rattle.ex_base.specs.declared.names.Oid.{Oid}
+use Rattle.ex_base.specs.declared.names.OpNote.{OpNote}
 use Rattle.ex_base.specs.declared.names.Place.{Place}
 use Rattle.slotted_pages.specs.FilePage.{Slot, room_of}
 use Rattle.slotted_pages.specs.Edits.{slots_of}
@@ -10,11 +11,9 @@ use Rattle.object_records.specs.Record.{Content, Small, Large}
 use Rattle.object_records.specs.Reads.{record_on}
 use Rattle.trees.specs.Shape.{leaves_of}
 use Rattle.trees.specs.Trees.{Units, units_from, root_shape}
-use Rattle.table_model.specs.declared.machine.BoundName.{BoundName}
 use Rattle.table_model.specs.declared.machine.Pick.{Pick}
-use Rattle.table_model.specs.Words.{data_count}
 use Rattle.table_model.specs.Machines.{the_oid, size_of, no_oid}
-use Rattle.table_model.specs.Requests.{Request}
+use Rattle.table_model.specs.Requests.{Request, given_count}
 use Rattle.table_model.specs.Requests as request
 use Rattle.session_views.specs.View.{View, Meaning}
 use Rattle.volume_model.specs.Shown.{Held, laid_over}
@@ -48,8 +47,8 @@ oid_asked v r = no_oid
 
 abbrev pub size_asked : View Held → Request → ℕ
 size_asked v (request.Stat x) = size_of v.machine x
-size_asked v (request.Insert x pos given) = size_of v.machine x + data_count given
-size_asked v (request.Append x given) = size_of v.machine x + data_count given
+size_asked v (request.Insert x pos given) = size_of v.machine x + given_count given
+size_asked v (request.Append x given) = size_of v.machine x + given_count given
 size_asked v (request.Replace x pos given) = size_of v.machine x
 size_asked v (request.Delete x pos len) = size_of v.machine x - len
 size_asked v r = 0
@@ -71,20 +70,20 @@ abbrev pub lengths_of : Units → Content → List ℕ
 lengths_of units (Small bytes) = []
 lengths_of units (Large root) = leaves_of (root_shape units root)
 
--- the place of the version that was bound last
-abbrev pub place_bound : List BoundName → Place
-place_bound [] = record { page = no_oid.page; slot = no_oid.slot }
-place_bound (b ∷ []) = record { page = b.oid.page; slot = b.oid.slot }
-place_bound (b ∷ c ∷ bs) = place_bound (c ∷ bs)
+-- the place of the version that the last update names
+abbrev pub place_noted : List OpNote → Place
+place_noted [] = record { page = no_oid.page; slot = no_oid.slot }
+place_noted (n ∷ []) = record { page = n.oid.page; slot = n.oid.slot }
+place_noted (n ∷ m ∷ notes) = place_noted (m ∷ notes)
 
 -- ---- what the volume decides
 
--- A new version lies where the name leads that is bound to it. The counts are those of the machine after, and the records those of the log before. The
+-- A new version lies where the note says that its update left. The counts are those of the machine after, and the records those of the log before. The
 -- version that the request names is small where its record, of its size after the request, is that of a small one and fits its page; its tree is that
 -- before.
 abbrev pub pick_of : View Held → Request → View Held → Pick
 pick_of before r after = record {
-  place = place_bound after.session.names;
+  place = place_noted after.machine.notes;
   pages = after.machine.pages_used;
   segs = after.machine.segs_used;
   touched = after.machine.touched;
