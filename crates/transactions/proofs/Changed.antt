@@ -24,11 +24,10 @@ use Rattle.table_model.specs.Machines.{shown, the_oid, touched_most, size_of}
 use Rattle.table_model.specs.Needs.{charge}
 use Rattle.table_model.specs.Needs as needs
 use Rattle.table_model.specs.Refusals.{when}
-use Rattle.table_model.specs.Requests.{Request, Reference}
+use Rattle.table_model.specs.Requests.{Data, given_bytes, Request, Reference}
 use Rattle.table_model.specs.Requests as request
 use Rattle.table_model.specs.Steps.{Asks, machine_after, note, notes_of, reply_to, table_after}
 use Rattle.table_model.specs.Tables.{with_bytes}
-use Rattle.table_model.specs.Words.{data_bytes}
 use Rattle.table_model.proofs.Stepping.{passes, unmet}
 use Rattle.session_views.specs.declared.engine.Stop.{Stop}
 use Rattle.session_views.specs.View.{View, ShowsNow, Stepped}
@@ -185,9 +184,9 @@ module _ (m : Machine) (x : Reference) (oid : Oid) (size : ℕ) (named : the_oid
 
   does : (r : Request) → AsksFor r x change → Does m oid size change r
   does (request.Insert y pos given) asked = record {
-    reply = λ q. ap (λ (c : Change). edit_reply c (size_after c size)) asked.1 ∙ ap (λ (n : ℕ). reply.Insert (n + length (data_bytes given))) (sized_by y asked.0);
-    table = λ q. ap (λ (c : Change). with_bytes oid (changed c) (shown m)) asked.1 ∙ ap (λ (o : Oid). with_bytes o (λ bytes. inserted bytes pos (data_bytes given)) (shown m)) (named_by y asked.0);
-    notes = λ q. ap (λ (c : Change). edit_note c oid size ∷ []) asked.1 ∙ ap (λ (o : Oid). note note_kind.Inserted o pos (length (data_bytes given)) ∷ []) (named_by y asked.0);
+    reply = λ q. ap (λ (c : Change). edit_reply c (size_after c size)) asked.1 ∙ ap (λ (n : ℕ). reply.Insert (n + length (given_bytes given))) (sized_by y asked.0);
+    table = λ q. ap (λ (c : Change). with_bytes oid (changed c) (shown m)) asked.1 ∙ ap (λ (o : Oid). with_bytes o (λ bytes. inserted bytes pos (given_bytes given)) (shown m)) (named_by y asked.0);
+    notes = λ q. ap (λ (c : Change). edit_note c oid size ∷ []) asked.1 ∙ ap (λ (o : Oid). note note_kind.Inserted o pos (length (given_bytes given)) ∷ []) (named_by y asked.0);
     after = λ q. refl;
     asks = λ q. tt;
     charge = refl;
@@ -195,10 +194,10 @@ module _ (m : Machine) (x : Reference) (oid : Oid) (size : ℕ) (named : the_oid
     segs = λ q. ap (λ (c : Change). units_told m.geometry c q.small q.height Segment) asked.1;
   }
   does (request.Append y given) asked = record {
-    reply = λ q. ap (λ (c : Change). edit_reply c (size_after c size)) asked.1 ∙ ap (λ (n : ℕ). reply.Append (n + length (data_bytes given))) (sized_by y asked.0);
-    table = λ q. ap (λ (c : Change). with_bytes oid (changed c) (shown m)) asked.1 ∙ ap (λ (o : Oid). with_bytes o (λ bytes. appended bytes (data_bytes given)) (shown m)) (named_by y asked.0);
-    notes = λ q. ap (λ (c : Change). edit_note c oid size ∷ []) asked.1 ∙ ap (λ (o : Oid). note note_kind.Appended o size (length (data_bytes given)) ∷ []) (named_by y asked.0)
-        ∙ ap (λ (n : ℕ). note note_kind.Appended (the_oid m y) n (length (data_bytes given)) ∷ []) (sized_by y asked.0);
+    reply = λ q. ap (λ (c : Change). edit_reply c (size_after c size)) asked.1 ∙ ap (λ (n : ℕ). reply.Append (n + length (given_bytes given))) (sized_by y asked.0);
+    table = λ q. ap (λ (c : Change). with_bytes oid (changed c) (shown m)) asked.1 ∙ ap (λ (o : Oid). with_bytes o (λ bytes. appended bytes (given_bytes given)) (shown m)) (named_by y asked.0);
+    notes = λ q. ap (λ (c : Change). edit_note c oid size ∷ []) asked.1 ∙ ap (λ (o : Oid). note note_kind.Appended o size (length (given_bytes given)) ∷ []) (named_by y asked.0)
+        ∙ ap (λ (n : ℕ). note note_kind.Appended (the_oid m y) n (length (given_bytes given)) ∷ []) (sized_by y asked.0);
     after = λ q. refl;
     asks = λ q. tt;
     charge = refl;
@@ -207,8 +206,8 @@ module _ (m : Machine) (x : Reference) (oid : Oid) (size : ℕ) (named : the_oid
   }
   does (request.Replace y pos given) asked = record {
     reply = λ q. ap (λ (c : Change). edit_reply c (size_after c size)) asked.1 ∙ ap (λ (n : ℕ). reply.Replace n) (sized_by y asked.0);
-    table = λ q. ap (λ (c : Change). with_bytes oid (changed c) (shown m)) asked.1 ∙ ap (λ (o : Oid). with_bytes o (λ bytes. replaced bytes pos (data_bytes given)) (shown m)) (named_by y asked.0);
-    notes = λ q. ap (λ (c : Change). edit_note c oid size ∷ []) asked.1 ∙ ap (λ (o : Oid). note note_kind.Replaced o pos (length (data_bytes given)) ∷ []) (named_by y asked.0);
+    table = λ q. ap (λ (c : Change). with_bytes oid (changed c) (shown m)) asked.1 ∙ ap (λ (o : Oid). with_bytes o (λ bytes. replaced bytes pos (given_bytes given)) (shown m)) (named_by y asked.0);
+    notes = λ q. ap (λ (c : Change). edit_note c oid size ∷ []) asked.1 ∙ ap (λ (o : Oid). note note_kind.Replaced o pos (length (given_bytes given)) ∷ []) (named_by y asked.0);
     after = λ q. refl;
     asks = λ q. tt;
     charge = refl;

@@ -18,12 +18,11 @@ use Rattle.table_model.specs.declared.reply.Refusal.{Refusal}
 use Rattle.table_model.specs.declared.reply.Refusal.TheVariants as refusal
 use Rattle.table_model.specs.declared.reply.Reply.TheVariants as reply
 use Rattle.table_model.specs.declared.table.Table.{Table}
-use Rattle.table_model.specs.Machines.{is_taken, shown}
+use Rattle.table_model.specs.Machines.{is_taken_if, shown}
 use Rattle.table_model.specs.Refusals.{refusal_of, when}
-use Rattle.table_model.specs.Requests.{Request}
+use Rattle.table_model.specs.Requests.{Request, is_kept_name_if}
 use Rattle.table_model.specs.Requests as request
 use Rattle.table_model.specs.Tables.{file_at}
-use Rattle.table_model.specs.Words.{is_name}
 use Rattle.session_views.specs.View.{View, ShowsNow}
 use Rattle.session_views.specs.declared.engine.Stop.{Stop}
 use Rattle.volume_edits.proofs.Finding.{find_in}
@@ -31,10 +30,9 @@ use Rattle.transactions.specs.declared.creation.NewObject.{NewObject}
 use Rattle.transactions.specs.Editing.{new_object_in, numbered_at, place_if, room_refusal}
 use Rattle.session_core.specs.Finding.{IsOutside, LineStops}
 use Rattle.transactions.specs.Lines.{UpdatesLine, WentOn}
-use Rattle.transactions.specs.Making.{MakesVersion, making_need}
+use Rattle.transactions.specs.Making.{MakesVersion, making_need, takes_if}
 use Rattle.transactions.specs.Refused.{entry_named}
 use Rattle.session_core.specs.Meant.{held_view, meant, pick_of}
-use Rattle.session_core.specs.ScanRows.{takes_name}
 use Rattle.session_core.specs.Sessions.{SessionState, IsSession}
 use Rattle.session_core.specs.Steps.{OnlyFrames}
 use Rattle.session_core.specs.Updates.{HasRoomFor, IfUpdated}
@@ -45,9 +43,8 @@ use Rattle.session_core.proofs.Quiet.{shown_lends, with_groups}
 use Rattle.transactions.proofs.Refusing.{missing, same_counts}
 use Rattle.session_core.proofs.Refusing.{none_is_false}
 use Rattle.volume_model.proofs.Showing.{shows_catalog}
-use Rattle.session_core.proofs.Taken.{taken_as}
 use Rattle.transactions.proofs.UpdateLines.{counted_then, line_refused, opened_then, update_stopped}
-use Rattle.transactions.proofs.Made.{Makes, MakesIn, line_made}
+use Rattle.transactions.proofs.Made.{Makes, MakesIn, line_made, taken_if_as}
 use Rattle.transactions.proofs.Vacancy.{create_vacant}
 use Rattle.table_model.proofs.Keeping.{shown_is}
 
@@ -62,28 +59,28 @@ same_told : {none none' taken taken' absent absent' spent spent' : Bool} {room r
 same_told a b c d e = cc (a, b, c, d, e)
 
 -- why no object is made in a file of the catalog, and its name bound, in an open transaction
-abbrev pub create_refusal : SessionState → Catalog → List ℕ → List ℕ → Option Refusal
-create_refusal s c file name = told_by false (takes_name s name) (is_none (entry_named c file)) (c.next_unique == 2 ^ 64 - 1) (room_refusal s making_need)
+abbrev pub create_refusal : SessionState → Catalog → List ℕ → Option (List ℕ) → Option Refusal
+create_refusal s c file bind = told_by false (takes_if s bind) (is_none (entry_named c file)) (c.next_unique == 2 ^ 64 - 1) (room_refusal s making_need)
 
 -- what a view gives of the machine for a new object
-pub record GivesRoom (v : View SessionState) (c : Catalog) (file name : List ℕ) : Type 0 where
+pub record GivesRoom (v : View SessionState) (c : Catalog) (file : List ℕ) (bind : Option (List ℕ)) : Type 0 where
   pub has_work : is_some v.machine.working ≡ true
-  pub taken : is_taken v.machine name ≡ takes_name v.session name
+  pub taken : is_taken_if v.machine bind ≡ takes_if v.session bind
   pub absent : is_none (file_at (shown v.machine) file) ≡ is_none (entry_named c file)
   pub next : (shown v.machine).next_unique ≡ c.next_unique
   pub counts : UpdateCounts v
 
-pub gives_room : {w : Outside} {v : View SessionState} (now : ShowsNow meant w v) (file name : List ℕ) → v.session.units.geometry ≡ v.session.geometry → v.session.opened ≡ true → GivesRoom v now.shows.working.catalog file name
-gives_room {w} {v} now file name same opened = record {
+pub gives_room : {w : Outside} {v : View SessionState} (now : ShowsNow meant w v) (file : List ℕ) (bind : Option (List ℕ)) → v.session.units.geometry ≡ v.session.geometry → v.session.opened ≡ true → GivesRoom v now.shows.working.catalog file bind
+gives_room {w} {v} now file bind same opened = record {
   has_work = now.shows.shared.open_txn ∙ opened;
-  taken = taken_as v now.shows name;
+  taken = taken_if_as v now.shows bind;
   absent = missing file (shown v.machine).files now.shows.working.catalog.entries (same_counts {v = v} now.shows same).names;
   next = ap (λ (t : Table). t.next_unique) (shows_catalog now.shows).table;
   counts = update_counts {v = v} now.shows same;
 }
 
-pub create_told : (v : View SessionState) (c : Catalog) (file name : List ℕ) (q : Pick) → GivesRoom v c file name → refusal_of v.machine (request.Create file name) q ≡ create_refusal v.session c file name
-create_told v c file name q gives =
+pub create_told : (v : View SessionState) (c : Catalog) (file : List ℕ) (bind : Option (List ℕ)) (q : Pick) → GivesRoom v c file bind → refusal_of v.machine (request.Create file bind) q ≡ create_refusal v.session c file bind
+create_told v c file bind q gives =
     same_told (none_is_false v.machine.working gives.has_work) gives.taken gives.absent (ap (λ (n : ℕ). n == 2 ^ 64 - 1) gives.next) (room_is v making_need 16 16 0 gives.counts refl refl refl)
 
 -- ---- the place of the new object
@@ -121,29 +118,29 @@ placed (Some e) c made is = (elim (c.next_unique == 2 ^ 64 - 1) as (λ b. c.next
 
 -- ---- a line that is refused
 
-module _ {a b : Outside} {old mid : SessionState} (file name : List ℕ) (world : IsWorld a) (only : OnlyFrames a b old mid) (is : IsSession old) (opened : old.opened ≡ true) where
+module _ {a b : Outside} {old mid : SessionState} (file : List ℕ) (bind : Option (List ℕ)) (world : IsWorld a) (only : OnlyFrames a b old mid) (is : IsSession old) (opened : old.opened ≡ true) where
   abbrev line : Request
-  line = request.Create file name
+  line = request.Create file bind
 
   -- what the machine answers, as the session tells it
-  answered : (before : View SessionState) (q : Pick) → before.session ≡ old → (now : ShowsNow meant a before) → refusal_of before.machine line q ≡ create_refusal old now.shows.working.catalog file name
+  answered : (before : View SessionState) (q : Pick) → before.session ≡ old → (now : ShowsNow meant a before) → refusal_of before.machine line q ≡ create_refusal old now.shows.working.catalog file bind
   answered before q same now =
-      create_told before now.shows.working.catalog file name q (gives_room now file name (units_counted is before same) (opens opened before same))
-      ∙ ap (λ (s : SessionState). create_refusal s now.shows.working.catalog file name) same
+      create_told before now.shows.working.catalog file bind q (gives_room now file bind (units_counted is before same) (opens opened before same))
+      ∙ ap (λ (s : SessionState). create_refusal s now.shows.working.catalog file bind) same
 
-  pub create_taken : takes_name old name ≡ true → UpdatesLine a b old mid line (Ok (reply.No refusal.NameTaken))
+  pub create_taken : takes_if old bind ≡ true → UpdatesLine a b old mid line (Ok (reply.No refusal.NameTaken))
   create_taken taken = line_refused line world only refusal.NameTaken is (λ before same now after.
       answered before (pick_of (held_view before) line after) same now
       ∙ ap (λ (t : Bool). told_by false t (is_none (entry_named now.shows.working.catalog file)) (now.shows.working.catalog.next_unique == 2 ^ 64 - 1) (room_refusal old making_need)) taken)
 
-  module _ (page : List ℕ) (reads : ReadsCatalog a old page) (untaken : takes_name old name ≡ false) where
+  module _ (page : List ℕ) (reads : ReadsCatalog a old page) (untaken : takes_if old bind ≡ false) where
     -- with the catalog that was read
     answered_on : (before : View SessionState) (q : Pick) → before.session ≡ old → (now : ShowsNow meant a before)
         → refusal_of before.machine line q ≡ told_by false false (is_none (entry_named (catalog_on page) file)) ((catalog_on page).next_unique == 2 ^ 64 - 1) (room_refusal old making_need)
     answered_on before q same now =
         let on = shown_on now page (subst (λ (s : SessionState). ReadsCatalog a s page) (sym same) reads) (shown_lends now (subst IsSession (sym same) is).sizes) in
         answered before q same now
-        ∙ ap (λ (c : Catalog). create_refusal old c file name) (sym on)
+        ∙ ap (λ (c : Catalog). create_refusal old c file bind) (sym on)
         ∙ ap (λ (t : Bool). told_by false t (is_none (entry_named (catalog_on page) file)) ((catalog_on page).next_unique == 2 ^ 64 - 1) (room_refusal old making_need)) untaken
 
     pub create_unplaced : (why : Refusal) → Err why ≡ new_object_in (catalog_on page) file → UpdatesLine a b old mid line (Ok (reply.No why))
@@ -159,14 +156,14 @@ module _ {a b : Outside} {old mid : SessionState} (file name : List ℕ) (world 
 
 -- ---- a line that goes on
 
--- the name is free where the session was read
-pub still_free : {a b : Outside} {old mid : SessionState} (name : List ℕ) → OnlyFrames a b old mid → takes_name old name ≡ false → takes_name mid name ≡ false
-still_free name read untaken = ap (λ (s : SessionState). takes_name s name) read.same ∙ untaken
+-- the name, where there is one, is free where the session was read
+pub still_free : {a b : Outside} {old mid : SessionState} (bind : Option (List ℕ)) → OnlyFrames a b old mid → takes_if old bind ≡ false → takes_if mid bind ≡ false
+still_free bind read untaken = ap (λ (s : SessionState). takes_if s bind) read.same ∙ untaken
 
-module _ {a b c : Outside} {old mid new : SessionState} (file name page : List ℕ) (made : NewObject) (world : IsWorld a) (is : IsSession old) (read : OnlyFrames a b old mid) (opened : old.opened ≡ true) (reads : ReadsCatalog a old page)
-    (spelled : IsTrue (is_name name)) (untaken : takes_name old name ≡ false) (placed_there : Ok made ≡ new_object_in (catalog_on page) file) (room : None ≡ room_refusal mid making_need) (went : WentOn b c mid new) where
+module _ {a b c : Outside} {old mid new : SessionState} (file : List ℕ) (bind : Option (List ℕ)) (page : List ℕ) (made : NewObject) (world : IsWorld a) (is : IsSession old) (read : OnlyFrames a b old mid) (opened : old.opened ≡ true) (reads : ReadsCatalog a old page)
+    (spelled : IsTrue (is_kept_name_if bind)) (untaken : takes_if old bind ≡ false) (placed_there : Ok made ≡ new_object_in (catalog_on page) file) (room : None ≡ room_refusal mid making_need) (went : WentOn b c mid new) where
   abbrev its_line : Request
-  its_line = request.Create file name
+  its_line = request.Create file bind
 
   at : PlacedIn (entry_named (catalog_on page) file) (catalog_on page) made
   at = placed (entry_named (catalog_on page) file) (catalog_on page) made placed_there
@@ -178,8 +175,8 @@ module _ {a b c : Outside} {old mid new : SessionState} (file name page : List �
     on : catalog_on page ≡ catalog
     on = on_after page is read reads before same now later
 
-    gives : GivesRoom (with_groups before mid) catalog file name
-    gives = gives_room later file name (counted_then read is) (opened_then read opened)
+    gives : GivesRoom (with_groups before mid) catalog file bind
+    gives = gives_room later file bind (counted_then read is) (opened_then read opened)
 
     asks : AsksFile later.shows.working file made.file_no made.unique
     asks =
@@ -194,15 +191,15 @@ module _ {a b c : Outside} {old mid new : SessionState} (file name page : List �
 
     accepted : (q : Pick) → refusal_of before.machine its_line q ≡ None
     accepted q =
-        create_told (with_groups before mid) catalog file name q gives
-        ∙ ap (λ (k : Catalog). create_refusal mid k file name) (sym on)
-        ∙ ap (λ (t : Bool). told_by false t (is_none (entry_named (catalog_on page) file)) ((catalog_on page).next_unique == 2 ^ 64 - 1) (room_refusal mid making_need)) (still_free name read untaken)
+        create_told (with_groups before mid) catalog file bind q gives
+        ∙ ap (λ (k : Catalog). create_refusal mid k file bind) (sym on)
+        ∙ ap (λ (t : Bool). told_by false t (is_none (entry_named (catalog_on page) file)) ((catalog_on page).next_unique == 2 ^ 64 - 1) (room_refusal mid making_need)) (still_free bind read untaken)
         ∙ at.passes (room_refusal mid making_need) ∙ sym room
 
     there_is : is_none (file_at (shown before.machine) file) ≡ false
     there_is = gives.absent ∙ ap (λ (k : Catalog). is_none (entry_named k file)) (sym on) ∙ ap (λ (o : Option FileEntry). is_none o) at.found
 
-    makes : Makes before.machine its_line name note_kind.ObjectMade (λ oid. reply.Create oid) (update.Makes file made.file_no made.unique)
+    makes : Makes before.machine its_line bind note_kind.ObjectMade (λ oid. reply.Create oid) (update.Makes file made.file_no made.unique)
     makes = record {
       accepted = accepted;
       reply = λ q. refl;
@@ -218,7 +215,7 @@ module _ {a b c : Outside} {old mid new : SessionState} (file name page : List �
       vacant = λ oid number apart. create_vacant before.machine.geometry (shown before.machine) (shown_is before.machine now.shows.rules) oid number file there_is apart;
     }
 
-    makes_in : MakesIn (with_groups before mid) later its_line name note_kind.ObjectMade (λ oid. reply.Create oid) (made_update.Create made.file_no made.unique) made.unique
+    makes_in : MakesIn (with_groups before mid) later its_line bind note_kind.ObjectMade (λ oid. reply.Create oid) (made_update.Create made.file_no made.unique) made.unique
     makes_in = record {
       u = update.Makes file made.file_no made.unique;
       is = (file, refl);
@@ -233,7 +230,7 @@ module _ {a b c : Outside} {old mid new : SessionState} (file name page : List �
       update_stopped its_line world is read went why stops
       (λ before same now later. sound (with_groups before mid) refl later (update.Makes file made.file_no made.unique) (file, refl) (asks before same now later) tt)
 
-  pub create_done : (oid : Oid) → MakesVersion b c mid new (made_update.Create made.file_no made.unique) note_kind.ObjectMade name oid → UpdatesLine a c old new its_line (Ok (reply.Create oid))
+  pub create_done : (oid : Oid) → MakesVersion b c mid new (made_update.Create made.file_no made.unique) note_kind.ObjectMade bind oid → UpdatesLine a c old new its_line (Ok (reply.Create oid))
   create_done oid done =
-      line_made its_line name note_kind.ObjectMade (λ oid. reply.Create oid) (made_update.Create made.file_no made.unique) made.unique world is opened read spelled (still_free name read untaken) went oid done.named done
+      line_made its_line bind note_kind.ObjectMade (λ oid. reply.Create oid) (made_update.Create made.file_no made.unique) made.unique world is opened read spelled (still_free bind read untaken) went oid done.named done
       (λ why told. absurd (cc)) makes_in

@@ -15,9 +15,8 @@ use Rattle.table_model.specs.declared.reply.Refusal.TheVariants as refusal
 use Rattle.table_model.specs.Machines.{size_of, the_oid, updates_most, touched_most, version_of}
 use Rattle.table_model.specs.Needs.{free, need}
 use Rattle.table_model.specs.Refusals.{first, when, frozen_if, no_txn, no_name, no_object, frozen, range, too_large, limits, refusal_of}
-use Rattle.table_model.specs.Requests.{Request, Reference}
+use Rattle.table_model.specs.Requests.{Data, given_bytes, Request, Reference}
 use Rattle.table_model.specs.Requests as request
-use Rattle.table_model.specs.Words.{data_bytes}
 use Rattle.disk_model.specs.Outside.{Outside}
 use Rattle.session_views.specs.View.{View, ShowsNow}
 use Rattle.volume_model.specs.Volume.{is_frozen}
@@ -152,20 +151,20 @@ module _ (v : View SessionState) (x : Reference) (version : Named) (counts : Upd
       ap (λ (o : Option Refusal). tests_told (frozen_if (version_of m x)) outside large o) (room_for change)
       ∙ bytes_told version.found change (frozen_if (version_of m x)) outside large (room_refusal v.session (edit_need v.session.geometry version.found change small)) (names_frozen v x version names) out big
 
-  insert_told : (pos : ℕ) (given : List ℕ) → refusal_of m (request.Insert x pos given) q ≡ edit_refusal v.session version.found (Inserts pos (data_bytes given)) small
+  insert_told : (pos : ℕ) (given : Data) → refusal_of m (request.Insert x pos given) q ≡ edit_refusal v.session version.found (Inserts pos (given_bytes given)) small
   insert_told pos given =
-      passes (frozen m x ∷ range m x pos ∷ too_large m x (length (data_bytes given)) ∷ limits m (request.Insert x pos given) q) ∙ told_for (Inserts pos (data_bytes given)) (nat_lt (size_of m x) pos) (nat_lt object_most (size_of m x + length (data_bytes given)))
-      (ap (λ (n : ℕ). nat_lt n pos) size) (ap (λ (n : ℕ). nat_lt object_most (n + length (data_bytes given))) size)
+      passes (frozen m x ∷ range m x pos ∷ too_large m x (length (given_bytes given)) ∷ limits m (request.Insert x pos given) q) ∙ told_for (Inserts pos (given_bytes given)) (nat_lt (size_of m x) pos) (nat_lt object_most (size_of m x + length (given_bytes given)))
+      (ap (λ (n : ℕ). nat_lt n pos) size) (ap (λ (n : ℕ). nat_lt object_most (n + length (given_bytes given))) size)
 
-  append_told : (given : List ℕ) → refusal_of m (request.Append x given) q ≡ edit_refusal v.session version.found (Appends (data_bytes given)) small
+  append_told : (given : Data) → refusal_of m (request.Append x given) q ≡ edit_refusal v.session version.found (Appends (given_bytes given)) small
   append_told given =
-      passes (frozen m x ∷ too_large m x (length (data_bytes given)) ∷ limits m (request.Append x given) q) ∙ told_for (Appends (data_bytes given)) false (nat_lt object_most (size_of m x + length (data_bytes given)))
-      refl (ap (λ (n : ℕ). nat_lt object_most (n + length (data_bytes given))) size)
+      passes (frozen m x ∷ too_large m x (length (given_bytes given)) ∷ limits m (request.Append x given) q) ∙ told_for (Appends (given_bytes given)) false (nat_lt object_most (size_of m x + length (given_bytes given)))
+      refl (ap (λ (n : ℕ). nat_lt object_most (n + length (given_bytes given))) size)
 
-  replace_told : (pos : ℕ) (given : List ℕ) → refusal_of m (request.Replace x pos given) q ≡ edit_refusal v.session version.found (Replaces pos (data_bytes given)) small
+  replace_told : (pos : ℕ) (given : Data) → refusal_of m (request.Replace x pos given) q ≡ edit_refusal v.session version.found (Replaces pos (given_bytes given)) small
   replace_told pos given =
-      passes (frozen m x ∷ range m x (pos + length (data_bytes given)) ∷ limits m (request.Replace x pos given) q) ∙ told_for (Replaces pos (data_bytes given)) (nat_lt (size_of m x) (pos + length (data_bytes given))) false
-      (ap (λ (n : ℕ). nat_lt n (pos + length (data_bytes given))) size) (within version.found.size object_most limit)
+      passes (frozen m x ∷ range m x (pos + length (given_bytes given)) ∷ limits m (request.Replace x pos given) q) ∙ told_for (Replaces pos (given_bytes given)) (nat_lt (size_of m x) (pos + length (given_bytes given))) false
+      (ap (λ (n : ℕ). nat_lt n (pos + length (given_bytes given))) size) (within version.found.size object_most limit)
 
   delete_told : (pos len : ℕ) → refusal_of m (request.Delete x pos len) q ≡ edit_refusal v.session version.found (Deletes pos len) small
   delete_told pos len =
@@ -188,9 +187,9 @@ module _ {w : Outside} {before : View SessionState} (now : ShowsNow meant w befo
 
   -- the line names no version
   pub missing_answered : (change : Change) (why : Refusal) → IsMissing before.machine x why → IsAnswered before x change (Some why)
-  missing_answered change why missing (request.Insert y pos given) after asks = ap (λ (z : Reference). refusal_of before.machine (request.Insert z pos given) (pick_of (held_view before) (request.Insert y pos given) after)) asks.0 ∙ misses why (frozen before.machine x ∷ range before.machine x pos ∷ too_large before.machine x (length (data_bytes given)) ∷ limits before.machine (request.Insert x pos given) (pick_of (held_view before) (request.Insert y pos given) after)) missing
-  missing_answered change why missing (request.Append y given) after asks = ap (λ (z : Reference). refusal_of before.machine (request.Append z given) (pick_of (held_view before) (request.Append y given) after)) asks.0 ∙ misses why (frozen before.machine x ∷ too_large before.machine x (length (data_bytes given)) ∷ limits before.machine (request.Append x given) (pick_of (held_view before) (request.Append y given) after)) missing
-  missing_answered change why missing (request.Replace y pos given) after asks = ap (λ (z : Reference). refusal_of before.machine (request.Replace z pos given) (pick_of (held_view before) (request.Replace y pos given) after)) asks.0 ∙ misses why (frozen before.machine x ∷ range before.machine x (pos + length (data_bytes given)) ∷ limits before.machine (request.Replace x pos given) (pick_of (held_view before) (request.Replace y pos given) after)) missing
+  missing_answered change why missing (request.Insert y pos given) after asks = ap (λ (z : Reference). refusal_of before.machine (request.Insert z pos given) (pick_of (held_view before) (request.Insert y pos given) after)) asks.0 ∙ misses why (frozen before.machine x ∷ range before.machine x pos ∷ too_large before.machine x (length (given_bytes given)) ∷ limits before.machine (request.Insert x pos given) (pick_of (held_view before) (request.Insert y pos given) after)) missing
+  missing_answered change why missing (request.Append y given) after asks = ap (λ (z : Reference). refusal_of before.machine (request.Append z given) (pick_of (held_view before) (request.Append y given) after)) asks.0 ∙ misses why (frozen before.machine x ∷ too_large before.machine x (length (given_bytes given)) ∷ limits before.machine (request.Append x given) (pick_of (held_view before) (request.Append y given) after)) missing
+  missing_answered change why missing (request.Replace y pos given) after asks = ap (λ (z : Reference). refusal_of before.machine (request.Replace z pos given) (pick_of (held_view before) (request.Replace y pos given) after)) asks.0 ∙ misses why (frozen before.machine x ∷ range before.machine x (pos + length (given_bytes given)) ∷ limits before.machine (request.Replace x pos given) (pick_of (held_view before) (request.Replace y pos given) after)) missing
   missing_answered change why missing (request.Delete y pos len) after asks = ap (λ (z : Reference). refusal_of before.machine (request.Delete z pos len) (pick_of (held_view before) (request.Delete y pos len) after)) asks.0 ∙ misses why (frozen before.machine x ∷ range before.machine x (pos + len) ∷ limits before.machine (request.Delete x pos len) (pick_of (held_view before) (request.Delete y pos len) after)) missing
   missing_answered change why missing r after asks = absurd asks
 
@@ -208,11 +207,11 @@ module _ {w : Outside} {before : View SessionState} (now : ShowsNow meant w befo
     asked : (r : Request) → AsksFor r x change → IsAskedOf r
     asked (request.Insert y pos given) asks = record {
       oid = ap (λ (z : Reference). the_oid before.machine z) asks.0 ∙ the_oid_is;
-      size = ap (λ (z : Reference). size_of before.machine z + length (data_bytes given)) asks.0 ∙ ap (λ (n : ℕ). n + length (data_bytes given)) the_size ∙ ap (λ (c : Change). size_after c version.found.size) (sym asks.1);
+      size = ap (λ (z : Reference). size_of before.machine z + length (given_bytes given)) asks.0 ∙ ap (λ (n : ℕ). n + length (given_bytes given)) the_size ∙ ap (λ (c : Change). size_after c version.found.size) (sym asks.1);
     }
     asked (request.Append y given) asks = record {
       oid = ap (λ (z : Reference). the_oid before.machine z) asks.0 ∙ the_oid_is;
-      size = ap (λ (z : Reference). size_of before.machine z + length (data_bytes given)) asks.0 ∙ ap (λ (n : ℕ). n + length (data_bytes given)) the_size ∙ ap (λ (c : Change). size_after c version.found.size) (sym asks.1);
+      size = ap (λ (z : Reference). size_of before.machine z + length (given_bytes given)) asks.0 ∙ ap (λ (n : ℕ). n + length (given_bytes given)) the_size ∙ ap (λ (c : Change). size_after c version.found.size) (sym asks.1);
     }
     asked (request.Replace y pos given) asks = record {
       oid = ap (λ (z : Reference). the_oid before.machine z) asks.0 ∙ the_oid_is;

@@ -18,17 +18,16 @@ use Rattle.volume_model.specs.Volume.{is_frozen}
 use Rattle.session_core.specs.declared.session.objects.Named.{Named}
 use Rattle.session_core.specs.declared.updates.copying.Copying.{Copying}
 use Rattle.session_core.specs.declared.updates.copying.Copying.TheVariants as copying
-use Rattle.session_core.specs.ScanRows.{takes_name}
 use Rattle.session_core.specs.Sessions.{SessionState}
 use Rattle.transactions.specs.declared.copying.Original.{Original}
 use Rattle.transactions.specs.Editing.{room_refusal}
 use Rattle.transactions.specs.Lines.{Answered}
-use Rattle.transactions.specs.Making.{making_need}
+use Rattle.transactions.specs.Making.{making_need, takes_if}
 use Rattle.transactions.specs.Scanning.{missing, unbound}
 
-abbrev pub copy_request : Copying → Reference → List ℕ → Request
-copy_request copying.Freeze x name = request.Freeze x name
-copy_request copying.Derive x name = request.Derive x name
+abbrev pub copy_request : Copying → Reference → Option (List ℕ) → Request
+copy_request copying.Freeze x bind = request.Freeze x bind
+copy_request copying.Derive x bind = request.Derive x bind
 
 abbrev pub copy_reply : Copying → Oid → Reply
 copy_reply copying.Freeze oid = reply.Freeze oid
@@ -53,18 +52,18 @@ abbrev pub found_refusal : Copying → Result Named Refusal → Option Refusal
 found_refusal how (Ok named) = kind_refusal how (is_frozen named.found.head.state)
 found_refusal how (Err why) = None
 
--- why no copy under this name is made of what was found
-abbrev pub copy_refusal : SessionState → Result Named Refusal → Copying → List ℕ → Option Refusal
-copy_refusal s told how name = first (unbound told ∷ when (takes_name s name) refusal.NameTaken ∷ missing told ∷ found_refusal how told ∷ [])
+-- why no copy is made, and bound to the name, where there is one, of what was found
+abbrev pub copy_refusal : SessionState → Result Named Refusal → Copying → Option (List ℕ) → Option Refusal
+copy_refusal s told how bind = first (unbound told ∷ when (takes_if s bind) refusal.NameTaken ∷ missing told ∷ found_refusal how told ∷ [])
 
--- The version that was found may be copied so under the name.
-pub record MayCopy (s : SessionState) (told : Result Named Refusal) (how : Copying) (name : List ℕ) (version : Named) : Type 0 where
-  pub none : copy_refusal s told how name ≡ None
+-- The version that was found may be copied so, and the name, where there is one, be bound.
+pub record MayCopy (s : SessionState) (told : Result Named Refusal) (how : Copying) (bind : Option (List ℕ)) (version : Named) : Type 0 where
+  pub none : copy_refusal s told how bind ≡ None
   pub found : told ≡ Ok version
 
 -- The machine accepts the line. It names this version, of the kind that is copied so, and the copy has the next unique number.
-pub record IsOriginal (m : Machine) (how : Copying) (x : Reference) (name : List ℕ) (given : Original) : Type 0 where
-  pub accepted : Answered m (copy_request how x name) None
+pub record IsOriginal (m : Machine) (how : Copying) (x : Reference) (bind : Option (List ℕ)) (given : Original) : Type 0 where
+  pub accepted : Answered m (copy_request how x bind) None
   pub own : the_oid m x ≡ given.oid
   pub version : Version
   pub is : version_at (shown m) given.oid ≡ Some version
@@ -72,8 +71,8 @@ pub record IsOriginal (m : Machine) (how : Copying) (x : Reference) (name : List
   pub flag : version.frozen ≡ copies_frozen how
   pub next : (shown m).next_unique ≡ given.unique
 
--- There is room for the copy, a number follows its own, and the name is free.
-pub record CanCopy (s : SessionState) (name : List ℕ) (given : Original) : Type 0 where
+-- There is room for the copy, a number follows its own, and the name, where there is one, is free.
+pub record CanCopy (s : SessionState) (bind : Option (List ℕ)) (given : Original) : Type 0 where
   pub room : room_refusal s making_need ≡ None
   pub number : given.unique + 1 < 2 ^ 64
-  pub untaken : takes_name s name ≡ false
+  pub untaken : takes_if s bind ≡ false

@@ -15,10 +15,9 @@ use Rattle.table_model.specs.declared.reply.Refusal.{Refusal}
 use Rattle.table_model.specs.declared.reply.Refusal.TheVariants as refusal
 use Rattle.table_model.specs.Machines.{touched_most}
 use Rattle.table_model.specs.Refusals.{when, first, refusal_of}
-use Rattle.table_model.specs.Requests.{Request, Reference}
+use Rattle.table_model.specs.Requests.{Request, Reference, given_bytes}
 use Rattle.table_model.specs.Requests as request
 use Rattle.table_model.specs.Steps.{note}
-use Rattle.table_model.specs.Words.{data_bytes}
 use Rattle.versions.specs.declared.finding.Found.{Found}
 use Rattle.session_views.specs.View.{View}
 use Rattle.versions.specs.Versions.{Change, Inserts, Appends, Replaces, Deletes, count_of}
@@ -35,9 +34,9 @@ use Rattle.session_core.specs.Sessions.{SessionState}
 
 -- the line asks for this change of the version that the reference names
 abbrev pub AsksFor : Request → Reference → Change → Type 0
-AsksFor (request.Insert y pos given) x change = (y ≡ x) × (change ≡ Inserts pos (data_bytes given))
-AsksFor (request.Append y given) x change = (y ≡ x) × (change ≡ Appends (data_bytes given))
-AsksFor (request.Replace y pos given) x change = (y ≡ x) × (change ≡ Replaces pos (data_bytes given))
+AsksFor (request.Insert y pos given) x change = (y ≡ x) × (change ≡ Inserts pos (given_bytes given))
+AsksFor (request.Append y given) x change = (y ≡ x) × (change ≡ Appends (given_bytes given))
+AsksFor (request.Replace y pos given) x change = (y ≡ x) × (change ≡ Replaces pos (given_bytes given))
 AsksFor (request.Delete y pos len) x change = (y ≡ x) × (change ≡ Deletes pos len)
 AsksFor _ x change = ⊥
 

@@ -1,22 +1,22 @@
 //! The bytes of a version are changed.
 ghost use Rattle.std.specs.Prelude.{◌≡◌, ◌≤◌, IsTrue, true, IfErr};
 ghost use Rattle.ex_base.specs.Sizes.{volume_bytes};
-ghost use Rattle.table_model.specs.Requests.{Request, is_given, reference_of};
+ghost use Rattle.table_model.specs.Requests.{Request, given_of, is_given, reference_of};
 ghost use Rattle.transactions.specs.Asking.{CountsItsBytes, asked_change};
 ghost use Rattle.table_model.specs.Requests as request;
 ghost use Rattle.transactions.specs.Editing.{AsksFor};
 ghost use Rattle.transactions.specs.Lines.{UpdatesLine, named_as};
 ghost use Rattle.session_core.specs.Damage.{TellsDamage};
 
-use crate::asked::{Asked, data_count};
+use crate::asked::{Asked, given_count};
 use crate::edits::admit;
 use crate::needs::{note_of, reply_of, size_after};
-use data_words::data_bytes;
+use data_words::GivenBytes;
 use disk_model::Host;
 use session_core::{ObjectUpdate, Session};
 use session_views::Stop;
 use std::alloc::Global;
-use table_model::{Refusal, Reply, Subject};
+use table_model::{Given, Refusal, Reply, Subject};
 
 /// Changes a version, in an open transaction, and answers its new size.
 fn change<H: Host>(
@@ -39,7 +39,7 @@ fn change<H: Host>(
         Ok(Err(why)) => return Ok(Reply::No(why)),
         Err(stop) => return Err(stop),
     };
-    let Ok(bytes) = data_bytes(alloc, asked.word()) else {
+    let Ok(bytes) = GivenBytes::of(alloc, asked.given()) else {
         return Err(Stop::Memory);
     };
     let edit = asked.with_bytes(bytes.as_slice());
@@ -60,20 +60,24 @@ pub(crate) fn insert<H: Host>(
     host: &mut H,
     x: &Subject<'_>,
     pos: u64,
-    given: &[u8],
+    given: &Given<'_>,
 ) -> Result<Reply, Stop>
     requires room { volume_bytes session.old.geometry ≤ (H.outside host.old).size }
-    requires given { IsTrue (is_given given.now) }
+    requires given { IsTrue (is_given (given_of given.now)) }
     ensures line { UpdatesLine (H.outside host.old) (H.outside host.new) session.old session.new
-        (request.Insert (reference_of x.now) pos given.now) result }
+        (request.Insert (reference_of x.now) pos (given_of given.now)) result }
     ensures damage { IfErr result (TellsDamage (H.outside host.old) (H.outside host.new)
         session.old (named_as session.old (reference_of x.now))) }
 {
     if !session.is_open() {
         return Ok(Reply::No(Refusal::NoTxn));
     }
-    let count = data_count(given);
-    let asked = Asked::Insert { pos, given, count };
+    let count = given_count(given);
+    let asked = Asked::Insert {
+        pos,
+        given: *given,
+        count,
+    };
     change(session, alloc, host, x, &asked)
 }
 
@@ -83,20 +87,24 @@ pub(crate) fn append<H: Host>(
     alloc: Global,
     host: &mut H,
     x: &Subject<'_>,
-    given: &[u8],
+    given: &Given<'_>,
 ) -> Result<Reply, Stop>
     requires room { volume_bytes session.old.geometry ≤ (H.outside host.old).size }
-    requires given { IsTrue (is_given given.now) }
+    requires given { IsTrue (is_given (given_of given.now)) }
     ensures line { UpdatesLine (H.outside host.old) (H.outside host.new) session.old session.new
-        (request.Append (reference_of x.now) given.now) result }
+        (request.Append (reference_of x.now) (given_of given.now)) result }
     ensures damage { IfErr result (TellsDamage (H.outside host.old) (H.outside host.new)
         session.old (named_as session.old (reference_of x.now))) }
 {
     if !session.is_open() {
         return Ok(Reply::No(Refusal::NoTxn));
     }
-    let count = data_count(given);
-    change(session, alloc, host, x, &Asked::Append { given, count })
+    let count = given_count(given);
+    let asked = Asked::Append {
+        given: *given,
+        count,
+    };
+    change(session, alloc, host, x, &asked)
 }
 
 /// Puts bytes over those from a position on.
@@ -106,20 +114,24 @@ pub(crate) fn replace<H: Host>(
     host: &mut H,
     x: &Subject<'_>,
     pos: u64,
-    given: &[u8],
+    given: &Given<'_>,
 ) -> Result<Reply, Stop>
     requires room { volume_bytes session.old.geometry ≤ (H.outside host.old).size }
-    requires given { IsTrue (is_given given.now) }
+    requires given { IsTrue (is_given (given_of given.now)) }
     ensures line { UpdatesLine (H.outside host.old) (H.outside host.new) session.old session.new
-        (request.Replace (reference_of x.now) pos given.now) result }
+        (request.Replace (reference_of x.now) pos (given_of given.now)) result }
     ensures damage { IfErr result (TellsDamage (H.outside host.old) (H.outside host.new)
         session.old (named_as session.old (reference_of x.now))) }
 {
     if !session.is_open() {
         return Ok(Reply::No(Refusal::NoTxn));
     }
-    let count = data_count(given);
-    let asked = Asked::Replace { pos, given, count };
+    let count = given_count(given);
+    let asked = Asked::Replace {
+        pos,
+        given: *given,
+        count,
+    };
     change(session, alloc, host, x, &asked)
 }
 

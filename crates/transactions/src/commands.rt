@@ -122,7 +122,7 @@ fn answer_objects<H: Host>(
 {
     match command {
         Command::List { name } => list(session, alloc, host, name),
-        Command::Create { file, bind } => create(session, alloc, host, file, bind),
+        Command::Create { file, bind } => create(session, alloc, host, file, *bind),
         Command::Destroy { x } => destroy(session, alloc, host, x),
         Command::Size { x } => size(session, alloc, host, x),
         Command::Stat { x } => stat(session, alloc, host, x),
@@ -134,8 +134,8 @@ fn answer_objects<H: Host>(
         Command::Append { x, given } => append(session, alloc, host, x, given),
         Command::Replace { x, pos, given } => replace(session, alloc, host, x, *pos, given),
         Command::Delete { x, pos, len } => delete(session, alloc, host, x, *pos, *len),
-        Command::Freeze { x, bind } => copy(session, alloc, host, Copying::Freeze, x, bind),
-        Command::Derive { x, bind } => copy(session, alloc, host, Copying::Derive, x, bind),
+        Command::Freeze { x, bind } => copy(session, alloc, host, Copying::Freeze, x, *bind),
+        Command::Derive { x, bind } => copy(session, alloc, host, Copying::Derive, x, *bind),
         Command::Scan { x, name, group } => scan(session, alloc, host, x, name, *group),
         Command::Next { name, len } => next(session, alloc, host, name, *len),
         _ => unreachable!(),

@@ -1,18 +1,17 @@
 //! A version is copied: a current one is frozen, or one is derived from a frozen one.
-ghost use Rattle.std.specs.Prelude.{◌≡◌, ◌≤◌, None, Some, IsTrue, true, IfOk, IfErr, OnOk, MatchResult};
+ghost use Rattle.std.specs.Prelude.{◌≡◌, ◌≤◌, None, Some, option_map, IsTrue, true, IfOk, IfErr, OnOk, MatchResult};
 ghost use Rattle.ex_base.specs.Sizes.{volume_bytes};
 ghost use Rattle.session_core.specs.Finding.{IfShown, IsOutside, LineStops, oid_among};
 ghost use Rattle.session_core.specs.Sessions.{IsSession, TakesLogged};
 ghost use Rattle.session_core.specs.Steps.{OnlyFrames};
-ghost use Rattle.table_model.specs.Requests.{reference_of};
-ghost use Rattle.table_model.specs.Words.{is_name};
+ghost use Rattle.table_model.specs.Requests.{is_kept_name_if, reference_of};
 ghost use Rattle.transactions.specs.Copies.{CanCopy, IsOriginal, MayCopy, copy_kind, copy_refusal, copy_reply, copy_request, kind_refusal};
 ghost use Rattle.volume_model.specs.Volume.{is_frozen};
 ghost use Rattle.transactions.specs.Lines.{Answered, UpdatesLine, named_as};
 ghost use Rattle.session_core.specs.Damage.{TellsDamage};
 
 use crate::edits::refuses_room;
-use crate::making::{MAKING_NEED, make, next_number};
+use crate::making::{MAKING_NEED, is_taken, make, next_number};
 use crate::refuse::is_frozen;
 use disk_model::Host;
 use ex_base::{NoteKind, Oid};
@@ -41,21 +40,23 @@ fn refuses_kind(found: &Found, copying: Copying) -> Option<Refusal>
     }
 }
 
-/// The version that may be copied so under a name, or why what was found may not.
+/// The version that may be copied so and bound to the name, where there is one, or why what was found may not.
 fn version_of(
     session: &Session,
     told: Result<Named, Refusal>,
     copying: Copying,
-    name: &[u8],
+    bind: Option<&[u8]>,
 ) -> Result<Named, Refusal>
     ensures { MatchResult result
-        (λ version. MayCopy session.now told copying name.now version)
-        (λ why. copy_refusal session.now told copying name.now ≡ Some why) }
+        (λ version. MayCopy session.now told copying
+        (option_map (λ name. name.now) bind.entry) version)
+        (λ why. copy_refusal session.now told copying
+        (option_map (λ name. name.now) bind.entry) ≡ Some why) }
 {
     if let Err(Refusal::NoName) = told {
         return Err(Refusal::NoName);
     }
-    if session.is_taken(name) {
+    if is_taken(session, bind) {
         return Err(Refusal::NameTaken);
     }
     let version = told?;
@@ -72,7 +73,7 @@ fn admit<H: Host>(
     host: &mut H,
     copying: Copying,
     x: &Subject<'_>,
-    name: &[u8],
+    bind: Option<&[u8]>,
 ) -> Result<Result<Original, Refusal>, Stop>
     requires room { volume_bytes session.old.geometry ≤ (H.outside host.old).size }
     requires is_open { session.old.opened ≡ true }
@@ -80,12 +81,15 @@ fn admit<H: Host>(
     ensures only { OnlyFrames (H.outside host.old) (H.outside host.new) session.old session.new }
     ensures refused { IfOk result
         (λ told. IfErr told (λ why. IfShown (H.outside host.old) session.old (λ before.
-        Answered before.machine (copy_request copying (reference_of x.now) name.now) (Some why)))) }
+        Answered before.machine (copy_request copying (reference_of x.now)
+        (option_map (λ name. name.now) bind.entry)) (Some why)))) }
     ensures admitted { IfOk result
         (λ told. IfOk told (λ given. IfShown (H.outside host.old) session.old (λ before.
-        IsOriginal before.machine copying (reference_of x.now) name.now given))) }
+        IsOriginal before.machine copying (reference_of x.now)
+        (option_map (λ name. name.now) bind.entry) given))) }
     ensures limits { IfOk result
-        (λ told. IfOk told (λ given. CanCopy session.old name.now given)) }
+        (λ told. IfOk told (λ given. CanCopy session.old
+        (option_map (λ name. name.now) bind.entry) given)) }
     ensures stops { IfErr result (LineStops (H.outside host.old) (H.outside host.new)) }
     ensures damage { IfErr result (TellsDamage (H.outside host.old) (H.outside host.new)
         session.old (named_as session.old (reference_of x.now))) }
@@ -98,7 +102,7 @@ fn admit<H: Host>(
         Ok(told) => told,
         Err(stop) => return Err(stop),
     };
-    let version = match version_of(session, told, copying, name) {
+    let version = match version_of(session, told, copying, bind) {
         Ok(version) => version,
         Err(why) => return Ok(Err(why)),
     };
@@ -139,19 +143,20 @@ fn reply_of(copying: Copying, oid: Oid) -> Reply
     }
 }
 
-/// Copies a version, and binds a name to the copy.
+/// Copies a version, and binds the name to the copy, where there is one.
 pub(crate) fn copy<H: Host>(
     session: &mut Session,
     alloc: Global,
     host: &mut H,
     copying: Copying,
     x: &Subject<'_>,
-    name: &[u8],
+    bind: Option<&[u8]>,
 ) -> Result<Reply, Stop>
     requires room { volume_bytes session.old.geometry ≤ (H.outside host.old).size }
-    requires name { IsTrue (is_name name.now) }
+    requires name { IsTrue (is_kept_name_if (option_map (λ name. name.now) bind)) }
     ensures line { UpdatesLine (H.outside host.old) (H.outside host.new) session.old session.new
-        (copy_request copying (reference_of x.now) name.now) result }
+        (copy_request copying (reference_of x.now)
+        (option_map (λ name. name.now) bind.entry)) result }
     ensures damage { IfErr result (TellsDamage (H.outside host.old) (H.outside host.new)
         session.old (named_as session.old (reference_of x.now))) }
     ensures shares { OnOk result
@@ -160,7 +165,7 @@ pub(crate) fn copy<H: Host>(
     if !session.is_open() {
         return Ok(Reply::No(Refusal::NoTxn));
     }
-    let original = match admit(session, alloc, host, copying, x, name) {
+    let original = match admit(session, alloc, host, copying, x, bind) {
         Ok(Ok(original)) => original,
         Ok(Err(why)) => return Ok(Reply::No(why)),
         Err(stop) => return Err(stop),
@@ -170,7 +175,7 @@ pub(crate) fn copy<H: Host>(
         oid: original.oid,
         unique: original.unique,
     };
-    match make(session, alloc, host, &update, kind_of(copying), name) {
+    match make(session, alloc, host, &update, kind_of(copying), bind) {
         Ok(oid) => Ok(reply_of(copying, oid)),
         Err(stop) => Err(stop),
     }

@@ -1,14 +1,15 @@
 //! An object is made.
-ghost use Rattle.std.specs.Prelude.{◌≡◌, ◌≤◌, IsTrue, IfErr};
+ghost use Rattle.std.specs.Prelude.{◌≡◌, ◌≤◌, option_map, IsTrue, IfErr};
 ghost use Rattle.ex_base.specs.Sizes.{volume_bytes};
 ghost use Rattle.table_model.specs.Words.{is_name};
+ghost use Rattle.table_model.specs.Requests.{is_kept_name_if};
 ghost use Rattle.transactions.specs.Editing.{new_object_in};
 ghost use Rattle.table_model.specs.Requests as request;
 ghost use Rattle.transactions.specs.Lines.{UpdatesLine};
 ghost use Rattle.session_core.specs.Damage.{TellsDamage, no_version};
 
 use crate::edits::refuses_room;
-use crate::making::{MAKING_NEED, make, next_number};
+use crate::making::{MAKING_NEED, is_taken, make, next_number};
 use crate::refuse::entry_named;
 use disk_model::Host;
 use ex_base::NoteKind;
@@ -38,26 +39,26 @@ fn new_object(catalog: &CatalogView<'_>, file: &[u8]) -> Result<NewObject, Refus
     })
 }
 
-/// Makes an object without bytes in a file, and binds a name to it.
+/// Makes an object without bytes in a file, and binds the name to it, where there is one.
 pub(crate) fn create<H: Host>(
     session: &mut Session,
     alloc: Global,
     host: &mut H,
     file: &[u8],
-    name: &[u8],
+    bind: Option<&[u8]>,
 ) -> Result<Reply, Stop>
     requires room { volume_bytes session.old.geometry ≤ (H.outside host.old).size }
     requires file { IsTrue (is_name file.now) }
-    requires name { IsTrue (is_name name.now) }
+    requires name { IsTrue (is_kept_name_if (option_map (λ name. name.now) bind)) }
     ensures line { UpdatesLine (H.outside host.old) (H.outside host.new) session.old session.new
-        (request.Create file.now name.now) result }
+        (request.Create file.now (option_map (λ name. name.now) bind.entry)) result }
     ensures damage { IfErr result (TellsDamage (H.outside host.old) (H.outside host.new)
         session.old no_version) }
 {
     if !session.is_open() {
         return Ok(Reply::No(Refusal::NoTxn));
     }
-    if session.is_taken(name) {
+    if is_taken(session, bind) {
         return Ok(Reply::No(Refusal::NameTaken));
     }
     let page = match session.catalog(alloc, host) {
@@ -75,7 +76,7 @@ pub(crate) fn create<H: Host>(
         file_no: made.file_no,
         unique: made.unique,
     };
-    match make(session, alloc, host, &update, NoteKind::ObjectMade, name) {
+    match make(session, alloc, host, &update, NoteKind::ObjectMade, bind) {
         Ok(oid) => Ok(Reply::Create { oid }),
         Err(stop) => Err(stop),
     }

@@ -1,6 +1,8 @@
-use Rattle.std.proofs.Common.{ap, refl}
+use Rattle.std.proofs.Common.{◌∙◌, ap, refl, sym, ◌&&◌}
+use Rattle.std.proofs.lemmas.Bool.{and_parts}
+use Rattle.table_model.specs.Words.{is_name}
 use Rattle.std.specs.Prelude.{option_map}
-use Rattle.table_model.specs.Requests.{Request, request_of, reference_of}
+use Rattle.table_model.specs.Requests.{Request, given_of, is_given, is_kept_name_if, is_position, is_reference, is_request, request_of, reference_of}
 use Rattle.table_model.specs.Requests as request
 use Rattle.transactions.proofs.Commanding.{asks_more, of_read, of_scans, of_update}
 use Rattle.transactions.proofs.Damage.{damage_as}
@@ -22,19 +24,19 @@ pub returns-in-Read-clause-answers : goal.returns-in-Read-clause-answers
 returns-in-Read-clause-answers g c = of_read (request_of c.args.command.now) (request.Read (reference_of c.in-Read.x) c.in-Read.pos c.in-Read.len) c.read.result (ap request_of c.in-Read.is) refl (g.H.World.is_world c.args.host.now) c.read.ensures.line
 
 pub returns-in-Create-clause-answers : goal.returns-in-Create-clause-answers
-returns-in-Create-clause-answers g c = of_update (request_of c.args.command.now) (request.Create c.in-Create.file.now c.in-Create.bind.now) c.create.result (ap request_of c.in-Create.is) refl refl c.create.ensures.line
+returns-in-Create-clause-answers g c = of_update (request_of c.args.command.now) (request.Create c.in-Create.file.now (option_map (λ name. name.now) c.in-Create.bind)) c.create.result (ap request_of c.in-Create.is) refl refl c.create.ensures.line
 
 pub returns-in-Destroy-clause-answers : goal.returns-in-Destroy-clause-answers
 returns-in-Destroy-clause-answers g c = of_update (request_of c.args.command.now) (request.Destroy (reference_of c.in-Destroy.x)) c.destroy.result (ap request_of c.in-Destroy.is) refl refl c.destroy.ensures.line
 
 pub returns-in-Insert-clause-answers : goal.returns-in-Insert-clause-answers
-returns-in-Insert-clause-answers g c = of_update (request_of c.args.command.now) (request.Insert (reference_of c.in-Insert.x) c.in-Insert.pos c.in-Insert.given.now) c.insert.result (ap request_of c.in-Insert.is) refl refl c.insert.ensures.line
+returns-in-Insert-clause-answers g c = of_update (request_of c.args.command.now) (request.Insert (reference_of c.in-Insert.x) c.in-Insert.pos (given_of c.in-Insert.given)) c.insert.result (ap request_of c.in-Insert.is) refl refl c.insert.ensures.line
 
 pub returns-in-Append-clause-answers : goal.returns-in-Append-clause-answers
-returns-in-Append-clause-answers g c = of_update (request_of c.args.command.now) (request.Append (reference_of c.in-Append.x) c.in-Append.given.now) c.append.result (ap request_of c.in-Append.is) refl refl c.append.ensures.line
+returns-in-Append-clause-answers g c = of_update (request_of c.args.command.now) (request.Append (reference_of c.in-Append.x) (given_of c.in-Append.given)) c.append.result (ap request_of c.in-Append.is) refl refl c.append.ensures.line
 
 pub returns-in-Replace-clause-answers : goal.returns-in-Replace-clause-answers
-returns-in-Replace-clause-answers g c = of_update (request_of c.args.command.now) (request.Replace (reference_of c.in-Replace.x) c.in-Replace.pos c.in-Replace.given.now) c.replace.result (ap request_of c.in-Replace.is) refl refl c.replace.ensures.line
+returns-in-Replace-clause-answers g c = of_update (request_of c.args.command.now) (request.Replace (reference_of c.in-Replace.x) c.in-Replace.pos (given_of c.in-Replace.given)) c.replace.result (ap request_of c.in-Replace.is) refl refl c.replace.ensures.line
 
 pub returns-in-Delete-clause-answers : goal.returns-in-Delete-clause-answers
 returns-in-Delete-clause-answers g c = of_update (request_of c.args.command.now) (request.Delete (reference_of c.in-Delete.x) c.in-Delete.pos c.in-Delete.len) c.delete.result (ap request_of c.in-Delete.is) refl refl c.delete.ensures.line
@@ -57,10 +59,10 @@ pub returns-in-DropVersion-clause-answers : goal.returns-in-DropVersion-clause-a
 returns-in-DropVersion-clause-answers g c = of_update (request_of c.args.command.now) (request.DropVersion (reference_of c.in-DropVersion.x)) c.drop_version.result (ap request_of c.in-DropVersion.is) refl refl c.drop_version.ensures.line
 
 pub returns-in-Freeze-clause-answers : goal.returns-in-Freeze-clause-answers
-returns-in-Freeze-clause-answers g c = of_update (request_of c.args.command.now) (request.Freeze (reference_of c.in-Freeze.x) c.in-Freeze.bind.now) c.copy.result (ap request_of c.in-Freeze.is) refl refl c.copy.ensures.line
+returns-in-Freeze-clause-answers g c = of_update (request_of c.args.command.now) (request.Freeze (reference_of c.in-Freeze.x) (option_map (λ name. name.now) c.in-Freeze.bind)) c.copy.result (ap request_of c.in-Freeze.is) refl refl c.copy.ensures.line
 
 pub returns-in-Derive-clause-answers : goal.returns-in-Derive-clause-answers
-returns-in-Derive-clause-answers g c = of_update (request_of c.args.command.now) (request.Derive (reference_of c.in-Derive.x) c.in-Derive.bind.now) c.copy-in-Derive.result (ap request_of c.in-Derive.is) refl refl c.copy-in-Derive.ensures.line
+returns-in-Derive-clause-answers g c = of_update (request_of c.args.command.now) (request.Derive (reference_of c.in-Derive.x) (option_map (λ name. name.now) c.in-Derive.bind)) c.copy-in-Derive.result (ap request_of c.in-Derive.is) refl refl c.copy-in-Derive.ensures.line
 
 pub returns-in-List-clause-damage : goal.returns-in-List-clause-damage
 returns-in-List-clause-damage g c = damage_as (g.H.World.outside c.args.host.now) (g.H.World.outside c.list.new.host) c.args.session.now (request_of c.args.command.now) (request.ListFile c.in-List.name.now) c.list.result (ap request_of c.in-List.is) c.list.ensures.damage
@@ -78,19 +80,19 @@ pub returns-in-Read-clause-damage : goal.returns-in-Read-clause-damage
 returns-in-Read-clause-damage g c = damage_as (g.H.World.outside c.args.host.now) (g.H.World.outside c.read.new.host) c.args.session.now (request_of c.args.command.now) (request.Read (reference_of c.in-Read.x) c.in-Read.pos c.in-Read.len) c.read.result (ap request_of c.in-Read.is) c.read.ensures.damage
 
 pub returns-in-Create-clause-damage : goal.returns-in-Create-clause-damage
-returns-in-Create-clause-damage g c = damage_as (g.H.World.outside c.args.host.now) (g.H.World.outside c.create.new.host) c.args.session.now (request_of c.args.command.now) (request.Create c.in-Create.file.now c.in-Create.bind.now) c.create.result (ap request_of c.in-Create.is) c.create.ensures.damage
+returns-in-Create-clause-damage g c = damage_as (g.H.World.outside c.args.host.now) (g.H.World.outside c.create.new.host) c.args.session.now (request_of c.args.command.now) (request.Create c.in-Create.file.now (option_map (λ name. name.now) c.in-Create.bind)) c.create.result (ap request_of c.in-Create.is) c.create.ensures.damage
 
 pub returns-in-Destroy-clause-damage : goal.returns-in-Destroy-clause-damage
 returns-in-Destroy-clause-damage g c = damage_as (g.H.World.outside c.args.host.now) (g.H.World.outside c.destroy.new.host) c.args.session.now (request_of c.args.command.now) (request.Destroy (reference_of c.in-Destroy.x)) c.destroy.result (ap request_of c.in-Destroy.is) c.destroy.ensures.damage
 
 pub returns-in-Insert-clause-damage : goal.returns-in-Insert-clause-damage
-returns-in-Insert-clause-damage g c = damage_as (g.H.World.outside c.args.host.now) (g.H.World.outside c.insert.new.host) c.args.session.now (request_of c.args.command.now) (request.Insert (reference_of c.in-Insert.x) c.in-Insert.pos c.in-Insert.given.now) c.insert.result (ap request_of c.in-Insert.is) c.insert.ensures.damage
+returns-in-Insert-clause-damage g c = damage_as (g.H.World.outside c.args.host.now) (g.H.World.outside c.insert.new.host) c.args.session.now (request_of c.args.command.now) (request.Insert (reference_of c.in-Insert.x) c.in-Insert.pos (given_of c.in-Insert.given)) c.insert.result (ap request_of c.in-Insert.is) c.insert.ensures.damage
 
 pub returns-in-Append-clause-damage : goal.returns-in-Append-clause-damage
-returns-in-Append-clause-damage g c = damage_as (g.H.World.outside c.args.host.now) (g.H.World.outside c.append.new.host) c.args.session.now (request_of c.args.command.now) (request.Append (reference_of c.in-Append.x) c.in-Append.given.now) c.append.result (ap request_of c.in-Append.is) c.append.ensures.damage
+returns-in-Append-clause-damage g c = damage_as (g.H.World.outside c.args.host.now) (g.H.World.outside c.append.new.host) c.args.session.now (request_of c.args.command.now) (request.Append (reference_of c.in-Append.x) (given_of c.in-Append.given)) c.append.result (ap request_of c.in-Append.is) c.append.ensures.damage
 
 pub returns-in-Replace-clause-damage : goal.returns-in-Replace-clause-damage
-returns-in-Replace-clause-damage g c = damage_as (g.H.World.outside c.args.host.now) (g.H.World.outside c.replace.new.host) c.args.session.now (request_of c.args.command.now) (request.Replace (reference_of c.in-Replace.x) c.in-Replace.pos c.in-Replace.given.now) c.replace.result (ap request_of c.in-Replace.is) c.replace.ensures.damage
+returns-in-Replace-clause-damage g c = damage_as (g.H.World.outside c.args.host.now) (g.H.World.outside c.replace.new.host) c.args.session.now (request_of c.args.command.now) (request.Replace (reference_of c.in-Replace.x) c.in-Replace.pos (given_of c.in-Replace.given)) c.replace.result (ap request_of c.in-Replace.is) c.replace.ensures.damage
 
 pub returns-in-Delete-clause-damage : goal.returns-in-Delete-clause-damage
 returns-in-Delete-clause-damage g c = damage_as (g.H.World.outside c.args.host.now) (g.H.World.outside c.delete.new.host) c.args.session.now (request_of c.args.command.now) (request.Delete (reference_of c.in-Delete.x) c.in-Delete.pos c.in-Delete.len) c.delete.result (ap request_of c.in-Delete.is) c.delete.ensures.damage
@@ -108,7 +110,19 @@ pub returns-in-DropVersion-clause-damage : goal.returns-in-DropVersion-clause-da
 returns-in-DropVersion-clause-damage g c = damage_as (g.H.World.outside c.args.host.now) (g.H.World.outside c.drop_version.new.host) c.args.session.now (request_of c.args.command.now) (request.DropVersion (reference_of c.in-DropVersion.x)) c.drop_version.result (ap request_of c.in-DropVersion.is) c.drop_version.ensures.damage
 
 pub returns-in-Freeze-clause-damage : goal.returns-in-Freeze-clause-damage
-returns-in-Freeze-clause-damage g c = damage_as (g.H.World.outside c.args.host.now) (g.H.World.outside c.copy.new.host) c.args.session.now (request_of c.args.command.now) (request.Freeze (reference_of c.in-Freeze.x) c.in-Freeze.bind.now) c.copy.result (ap request_of c.in-Freeze.is) c.copy.ensures.damage
+returns-in-Freeze-clause-damage g c = damage_as (g.H.World.outside c.args.host.now) (g.H.World.outside c.copy.new.host) c.args.session.now (request_of c.args.command.now) (request.Freeze (reference_of c.in-Freeze.x) (option_map (λ name. name.now) c.in-Freeze.bind)) c.copy.result (ap request_of c.in-Freeze.is) c.copy.ensures.damage
 
 pub returns-in-Derive-clause-damage : goal.returns-in-Derive-clause-damage
-returns-in-Derive-clause-damage g c = damage_as (g.H.World.outside c.args.host.now) (g.H.World.outside c.copy-in-Derive.new.host) c.args.session.now (request_of c.args.command.now) (request.Derive (reference_of c.in-Derive.x) c.in-Derive.bind.now) c.copy-in-Derive.result (ap request_of c.in-Derive.is) c.copy-in-Derive.ensures.damage
+returns-in-Derive-clause-damage g c = damage_as (g.H.World.outside c.args.host.now) (g.H.World.outside c.copy-in-Derive.new.host) c.args.session.now (request_of c.args.command.now) (request.Derive (reference_of c.in-Derive.x) (option_map (λ name. name.now) c.in-Derive.bind)) c.copy-in-Derive.result (ap request_of c.in-Derive.is) c.copy-in-Derive.ensures.damage
+
+pub create-requires-clause-name : goal.create-requires-clause-name
+create-requires-clause-name g c = (and_parts (is_name c.in-Create.file.now) (is_kept_name_if (option_map (λ name. name.now) c.in-Create.bind)) (sym (ap (λ (r : Request). is_request r) (ap request_of c.in-Create.is)) ∙ c.requires.form)).1
+
+pub insert-requires-clause-given : goal.insert-requires-clause-given
+insert-requires-clause-given g c = (and_parts (is_reference (reference_of c.in-Insert.x) && is_position c.in-Insert.pos) (is_given (given_of c.in-Insert.given)) (sym (ap (λ (r : Request). is_request r) (ap request_of c.in-Insert.is)) ∙ c.requires.form)).1
+
+pub replace-requires-clause-given : goal.replace-requires-clause-given
+replace-requires-clause-given g c = (and_parts (is_reference (reference_of c.in-Replace.x) && is_position c.in-Replace.pos) (is_given (given_of c.in-Replace.given)) (sym (ap (λ (r : Request). is_request r) (ap request_of c.in-Replace.is)) ∙ c.requires.form)).1
+
+pub append-requires-clause-given : goal.append-requires-clause-given
+append-requires-clause-given g c = (and_parts (is_reference (reference_of c.in-Append.x)) (is_given (given_of c.in-Append.given)) (sym (ap (λ (r : Request). is_request r) (ap request_of c.in-Append.is)) ∙ c.requires.form)).1

@@ -1,4 +1,5 @@
 use Rattle.std.proofs.Common.{◌∙◌, Ok, refl, sym, ap}
+use Rattle.std.specs.Prelude.{option_map}
 use Rattle.table_model.specs.Requests.{reference_of}
 use Rattle.session_core.proofs.Naming.{frames_twice}
 use Rattle.session_core.proofs.Quiet.{same_view, with_groups}
@@ -15,8 +16,8 @@ pub returns-in-Err-version_of-clause-refused : goal.returns-in-Err-version_of-cl
 returns-in-Err-version_of-clause-refused g c =
     let x = reference_of c.args.x.now in
     let how = c.args.copying in
-    let name = c.args.name.now in
-    copy_unfound how x name c.in-Ok.told c.named.ensures.only c.named.ensures.session c.requires.is_open c.in-Ok.ensures.named c.in-Err-version_of.why c.in-Err-version_of.ensures
+    let bind = option_map (λ name. name.now) c.args.bind in
+    copy_unfound how x bind c.in-Ok.told c.named.ensures.only c.named.ensures.session c.requires.is_open c.in-Ok.ensures.named c.in-Err-version_of.why c.in-Err-version_of.ensures
 
 pub returns-in-Err-catalog-clause-only : goal.returns-in-Err-catalog-clause-only
 returns-in-Err-catalog-clause-only g c = frames_twice c.named.ensures.only c.catalog.ensures.frames
@@ -33,8 +34,8 @@ pub returns-in-Err-next_number-clause-refused : goal.returns-in-Err-next_number-
 returns-in-Err-next_number-clause-refused g c =
     let x = reference_of c.args.x.now in
     let how = c.args.copying in
-    let name = c.args.name.now in
-    copy_spent how x name c.in-Ok.told c.named.ensures.only c.named.ensures.session c.requires.is_open c.in-Ok.ensures.named
+    let bind = option_map (λ name. name.now) c.args.bind in
+    copy_spent how x bind c.in-Ok.told c.named.ensures.only c.named.ensures.session c.requires.is_open c.in-Ok.ensures.named
     c.in-Ok-version_of.version c.in-Ok-version_of.ensures c.catalog.ensures.session c.catalog.ensures.frames c.in-Ok-catalog.page.items (record { catalog = c.in-Ok-catalog.ensures.catalog; read = c.in-Ok-catalog.ensures.read })
     c.in-Err-next_number.why (c.in-Err-next_number.ensures ∙ ap number_in (viewed c.view_of.result c.deref.result.now c.in-Ok-catalog.page.items c.view_of.ensures c.deref.ensures.value))
 
@@ -45,8 +46,8 @@ pub returns-in-Some-clause-refused : goal.returns-in-Some-clause-refused
 returns-in-Some-clause-refused g c =
     let x = reference_of c.args.x.now in
     let how = c.args.copying in
-    let name = c.args.name.now in
-    copy_full how x name c.in-Ok.told c.named.ensures.only c.named.ensures.session c.requires.is_open c.in-Ok.ensures.named
+    let bind = option_map (λ name. name.now) c.args.bind in
+    copy_full how x bind c.in-Ok.told c.named.ensures.only c.named.ensures.session c.requires.is_open c.in-Ok.ensures.named
     c.in-Ok-version_of.version c.in-Ok-version_of.ensures c.catalog.ensures.session c.catalog.ensures.frames c.in-Ok-catalog.page.items (record { catalog = c.in-Ok-catalog.ensures.catalog; read = c.in-Ok-catalog.ensures.read })
     c.in-Ok-next_number.unique (c.in-Ok-next_number.ensures ∙ ap number_in (viewed c.view_of.result c.deref.result.now c.in-Ok-catalog.page.items c.view_of.ensures c.deref.ensures.value)) c.in-Some.why c.in-Some.ensures
 
@@ -57,8 +58,8 @@ pub returns-clause-admitted : goal.returns-clause-admitted
 returns-clause-admitted g c =
     let x = reference_of c.args.x.now in
     let how = c.args.copying in
-    let name = c.args.name.now in
-    copy_admitted how x name c.in-Ok.told c.named.ensures.only c.named.ensures.session c.requires.is_open c.in-Ok.ensures.named
+    let bind = option_map (λ name. name.now) c.args.bind in
+    copy_admitted how x bind c.in-Ok.told c.named.ensures.only c.named.ensures.session c.requires.is_open c.in-Ok.ensures.named
     c.in-Ok-version_of.version c.in-Ok-version_of.ensures c.catalog.ensures.session c.catalog.ensures.frames c.in-Ok-catalog.page.items (record { catalog = c.in-Ok-catalog.ensures.catalog; read = c.in-Ok-catalog.ensures.read })
     c.in-Ok-next_number.unique (c.in-Ok-next_number.ensures ∙ ap number_in (viewed c.view_of.result c.deref.result.now c.in-Ok-catalog.page.items c.view_of.ensures c.deref.ensures.value)) (sym c.in-None.is ∙ c.refuses_room.ensures)
 

@@ -4,7 +4,7 @@ use Rattle.std.proofs.lemmas.Bool.{and_parts, leb-true}
 use Rattle.table_model.specs.declared.reply.Reply.TheVariants as reply
 use Rattle.table_model.specs.Requests.{frames_most}
 use Rattle.table_model.specs.Requests as request
-use Rattle.table_model.specs.Words.{is_name}
+use Rattle.table_model.specs.Words.{is_kept_name}
 use Rattle.transactions.specs.Lines.{ScansLine}
 use Rattle.transactions.proofs.ScanLines.{group_made, group_many, group_taken, group_unmade}
 use Rattle.transactions.proofs.groups.group.Goals as goal
@@ -18,11 +18,11 @@ returns-then-group_count-ge-GROUPS_MOST-clause-line g c =
 
 pub add_group-requires-clause-some : goal.add_group-requires-clause-some
 add_group-requires-clause-some g c =
-    let first = (and_parts (is_name c.args.name.now && nat_le 1 c.args.frames) (nat_le c.args.frames frames_most) c.requires.form).0 in
-    leb-true 1 c.args.frames (and_parts (is_name c.args.name.now) (nat_le 1 c.args.frames) first).1
+    let first = (and_parts (is_kept_name c.args.name.now && nat_le 1 c.args.frames) (nat_le c.args.frames frames_most) c.requires.form).0 in
+    leb-true 1 c.args.frames (and_parts (is_kept_name c.args.name.now) (nat_le 1 c.args.frames) first).1
 
 pub add_group-requires-clause-most : goal.add_group-requires-clause-most
-add_group-requires-clause-most g c = leb-true c.args.frames frames_most (and_parts (is_name c.args.name.now && nat_le 1 c.args.frames) (nat_le c.args.frames frames_most) c.requires.form).1
+add_group-requires-clause-most g c = leb-true c.args.frames frames_most (and_parts (is_kept_name c.args.name.now && nat_le 1 c.args.frames) (nat_le c.args.frames frames_most) c.requires.form).1
 
 pub returns-in-Ok-add_group-clause-line : goal.returns-in-Ok-add_group-clause-line
 returns-in-Ok-add_group-clause-line g c =

@@ -1,4 +1,5 @@
 use Rattle.std.proofs.Common.{subst, arith}
+use Rattle.std.specs.Prelude.{option_map}
 use Rattle.ex_base.specs.declared.names.OpNote.{OpNote}
 use Rattle.session_core.specs.Updates.{Noted, note_with}
 use Rattle.transactions.specs.Making.{making_need}
@@ -12,8 +13,8 @@ update_objects-requires-clause-touched g c =
     let left = (room_left c.args.session.now making_need c.requires.has_room).touched in
     omega (arith, left, most)
 
-pub returns-in-Ok-bind-clause-made : goal.returns-in-Ok-bind-clause-made
-returns-in-Ok-bind-clause-made g c =
+pub returns-in-Ok-bind_if-clause-made : goal.returns-in-Ok-bind_if-clause-made
+returns-in-Ok-bind_if-clause-made g c =
     let mid = c.update_objects.new.self in
     let oid = c.in-Ok.oid in
     let did = subst (λ (n : OpNote). Noted c.args.session.now mid (note_with n oid)) c.object_note-note.ensures c.in-Ok.ensures.noted in
@@ -24,5 +25,5 @@ returns-in-Ok-bind-clause-made g c =
       touched = c.in-Ok.ensures.touched;
       kept = c.in-Ok.ensures.kept;
       holds = c.in-Ok.ensures.holds;
-      bound = bound_then c.args.name.now oid did c.in-Ok-bind.ensures.ok;
+      bound = bound_then (option_map (λ name. name.now) c.args.bind) oid did c.in-Ok-bind_if.ensures.ok;
     }
