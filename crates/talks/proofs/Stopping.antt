@@ -1,10 +1,13 @@
 -- Why a run stops, by cases.
-use Rattle.std.proofs.Common.{◌≡◌, ◌⊎◌, IfErr, Result, Ok, Err, Some, inl, inr, refl, sym, subst, arith}
+use Rattle.std.proofs.Common.{◌≡◌, ◌∙◌, ◌⊎◌, ℕ, List, ap, IfErr, IfSome, Option, Some, None, Result, Ok, Err, inl, inr, refl, sym, subst, arith}
+use Rattle.std.specs.Result.{result_err}
 use Rattle.std.specs.Prelude.{◌≢◌}
+use Rattle.std.proofs.lemmas.List.{append-nil}
 use Rattle.std.proofs.lemmas.Option.{same_Some}
 use Rattle.ex_base.specs.declared.names.PageNo.{PageNo}
 use Rattle.ex_base.specs.declared.faults.Seen.{Seen}
 use Rattle.disk_model.specs.Outside.{Outside, Rose, Goes}
+use Rattle.disk_model.specs.Runs.{sink_refl}
 use Rattle.session_views.specs.declared.Part.{Part}
 use Rattle.session_views.specs.declared.Stop.{Stop}
 use Rattle.session_views.specs.declared.Stop.TheVariants as stop
@@ -12,6 +15,7 @@ use Rattle.session_views.specs.declared.OpenFault.{OpenFault}
 use Rattle.session_views.specs.declared.OpenFault.TheVariants as open_fault
 use Rattle.talks.specs.declared.stopped.Stopped.{Stopped}
 use Rattle.talks.specs.declared.stopped.Stopped.TheVariants.{Script, Output, Disk, Memory, BadVolume, Damaged, ScriptLong}
+use Rattle.talks.specs.Sending.{SentPart}
 use Rattle.talks.specs.Stops.{stop_as, unopened_as, CausedBy, IsSoundStop, IsOpeningStop, IsSessionStop, IsTakingStop, IsSendingStop, IsLinesStop, IsPart}
 
 -- ---- what a stop is
@@ -93,6 +97,12 @@ disk_or_memory (stop.Damaged page want got) why is (inl disk) = absurd (cc)
 disk_or_memory (stop.Damaged page want got) why is (inr memory) = absurd (cc)
 disk_or_memory stop.Down why is one = absurd (cc)
 
+-- the part of a bad volume
+pub bad_part : (f : OpenFault) (part : Part) → Some (unopened_as f) ≡ Some (BadVolume part) → f ≡ open_fault.BadVolume part
+bad_part open_fault.Memory part is = absurd (cc)
+bad_part open_fault.Disk part is = absurd (cc)
+bad_part (open_fault.BadVolume other) part is = cc
+
 -- ---- what shows of it
 
 pub opening_caused : (f : OpenFault) (before after : Outside) → (f ≡ open_fault.Disk → Rose before.disk_faults after.disk_faults) → CausedBy (unopened_as f) before after
@@ -119,8 +129,30 @@ caused_later (BadVolume part) a b c goes caused = tt
 caused_later (Damaged page want got) a b c goes caused = caused
 caused_later ScriptLong a b c goes caused = tt
 
+-- Nothing was sent.
+pub none_sent : (w : Outside) (text : List ℕ) (why : Stopped) → SentPart why w w text
+none_sent w text why = record {
+  n = 0;
+  front = record { only = sink_refl w; sent = λ was is. is ∙ ap (λ (l : List ℕ). Some l) (sym (append-nil was)) };
+  cut = inl refl;
+}
+
 -- ---- results
 
 pub if_err_from : {T E : Type 0} (r : Result T E) (P : E → Type 0) → ((e : E) → r ≡ Err e → P e) → IfErr r P
 if_err_from (Ok x) P given = tt
 if_err_from (Err e) P given = given e refl
+
+pub stop_is : {T : Type 0} (r : Result T Stopped) (P : Stopped → Type 0) → IfErr r P → IfSome (result_err r) P
+stop_is (Ok x) P given = tt
+stop_is (Err why) P given = given
+
+-- how it ended, by its result
+pub by_ending : {T : Type 0} (r : Result T Stopped) (P : Option Stopped → Type 0) → ((x : T) → r ≡ Ok x → P None) → ((why : Stopped) → r ≡ Err why → P (Some why)) → P (result_err r)
+by_ending (Ok x) P whole stopped = whole x refl
+by_ending (Err why) P whole stopped = stopped why refl
+
+-- The stepping of lines finds no bad volume.
+pub lines_good : {T : Type 0} (r : Result T Stopped) (part : Part) → IfErr r IsLinesStop → result_err r ≡ Some (BadVolume part) → ⊥
+lines_good (Ok x) part stops is = cc
+lines_good (Err why) part stops is = subst IsLinesStop (same_Some why (BadVolume part) is) stops

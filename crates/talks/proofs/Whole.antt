@@ -1,24 +1,29 @@
 -- From the opening of a volume to the end of its run.
-use Rattle.std.proofs.Common.{◌≡◌, ◌∙◌, ℕ, Option, Some, None, List, [], ◌∷◌, ◌++◌, refl, sym, ap, subst, inl, ⊎_elim}
+use Rattle.std.proofs.Common.{◌≡◌, ◌∙◌, ℕ, Option, Some, None, List, [], ◌∷◌, ◌++◌, Result, IfErr, IsTrue, refl, sym, ap, subst, inl, ⊎_elim}
+use Rattle.std.specs.Result.{result_err}
 use Rattle.std.proofs.lemmas.List.{append-nil}
 use Rattle.std.proofs.lemmas.Option.{same_Some}
-use Rattle.disk_model.specs.Outside.{Outside, IsWorld, DiskOnly, Goes, Along, Leaves}
+use Rattle.disk_model.specs.Outside.{Outside, IsWorld, DiskOnly, Goes, Along, Leaves, Only, Rose, WritesNothing}
 use Rattle.disk_model.specs.Runs.{along_start, along_disk, along_wider, adds_trans, leaves_wider, goes_trans}
 use Rattle.table_model.specs.declared.table.Table.{Table}
 use Rattle.table_model.specs.declared.machine.Machine.{Machine}
 use Rattle.table_model.specs.Requests.{Request}
 use Rattle.script_lang.specs.Reading.{Reading}
+use Rattle.session_views.specs.declared.OpenFault.{OpenFault}
+use Rattle.session_views.specs.declared.OpenFault.TheVariants as open_fault
+use Rattle.session_views.specs.declared.Part.{Part}
 use Rattle.session_views.specs.View.{View, Meaning}
 use Rattle.session_views.specs.Opening.{StandsOpening}
 use Rattle.talks.specs.Opening.{Opened}
 use Rattle.talks.specs.Acking.{Acking}
-use Rattle.talks.specs.Headline.{HoldsTable, RunStarts, OpenedAt, SteppedTalk, Unopened}
-use Rattle.talks.specs.Stops.{IsOpeningStop}
+use Rattle.talks.specs.Headline.{HoldsTable, RunOn, RunStarts, OpenedAt, SteppedTalk, Unopened}
+use Rattle.talks.specs.Stops.{CausedBy, IsLinesStop, IsOpeningStop, IsSoundStop, unopened_as}
 use Rattle.talks.specs.Talking.{Exchange, Talking}
 use Rattle.talks.specs.Transcript.{Row, Committed, IsRunMoment, Opens, Reached, CutShort, Ended, output_of, request_in}
 use Rattle.talks.specs.declared.stopped.Stopped.{Stopped}
 use Rattle.talks.proofs.Going.{shows_now, stops_kept, trail_later}
 use Rattle.talks.proofs.Rows.{shows_at_later}
+use Rattle.talks.proofs.Stopping.{bad_part, opening_caused, opening_sound, opening_stop, stop_is, lines_good}
 
 -- one run after the other
 along_trans : {a b c : Outside} (P : List ℕ → List ℕ → Type 0) → Along a b P → Along b c P → Along a c P
@@ -119,8 +124,8 @@ stepped_whole {S} {T} {M} {Fresh} K first talk {entry} {mid} {end} {now} {sessio
       rows = so_far.rows;
       after = so_far.view;
       last = None;
-      talked = (refl, subst (λ (l : List Exchange). K.Over first entry.left l talk now.left) (sym so_far.heard) over);
       at = talk;
+      talked = (refl, subst (λ (l : List Exchange). K.Over first entry.left l talk now.left) (sym so_far.heard) over);
       front = [];
       sent = end_only.sent ∙ so_far.sent ∙ ap (λ (l : List ℕ). Some l) (sym (append-nil (was ++ output_of so_far.rows)));
       is_front = refl;
@@ -132,7 +137,7 @@ stepped_whole {S} {T} {M} {Fresh} K first talk {entry} {mid} {end} {now} {sessio
 
 pub stepped_cut : {S T : Type 0} {M : Meaning S} {Fresh : View S → Type 0} (K : Talking T) (first talk at : T) {entry mid now : Outside} {session : S} {table : Table} {was : List ℕ} {had : List Exchange} {last : Option Reading} → IsWorld entry → IsWorld mid
     → (starts : RunStarts M entry table was) → DiskOnly entry mid → Leaves entry mid (λ d. M.StandsFor d table) → (opened : Opened M Fresh table session mid) (why : Stopped)
-    → CutShort M K.acking (K.text at) opened.view was mid now had last why → K.Broken first entry.left had last why now.left → SteppedTalk M Fresh K first talk table was entry now (Some why)
+    → CutShort M K.acking (K.text at) opened.view was mid now had last why → K.Broken first entry.left had last why at now.left → SteppedTalk M Fresh K first talk table was entry now (Some why)
 stepped_cut {S} {T} {M} {Fresh} K first talk at {entry} {mid} {now} {session} {table} {was} {had} {last} world mid_world starts only leaves opened why cut broken = record {
   opening = opened.view;
   time = mid.clock;
@@ -140,8 +145,8 @@ stepped_cut {S} {T} {M} {Fresh} K first talk at {entry} {mid} {now} {session} {t
   rows = cut.rows;
   after = cut.view;
   last = last;
-  talked = subst (λ (l : List Exchange). K.Broken first entry.left l last why now.left) (sym cut.heard) broken;
   at = at;
+  talked = subst (λ (l : List Exchange). K.Broken first entry.left l last why at now.left) (sym cut.heard) broken;
   front = cut.front;
   sent = cut.sent;
   is_front = cut.is_front;
@@ -150,3 +155,37 @@ stepped_cut {S} {T} {M} {Fresh} K first talk at {entry} {mid} {now} {session} {t
   ended = λ end. absurd (cc);
   stops = stops_open K.acking world starts only leaves opened cut.rows cut.view.machine (request_in last) cut.stops;
 }
+
+-- ---- what becomes of the disk, and why a run was stopped
+
+-- The volume wasn't opened.
+pub run_unopened : {S : Type 0} {M : Meaning S} {a b : Outside} (fault : OpenFault) → (fault ≡ open_fault.Disk → Rose a.disk_faults b.disk_faults)
+    → ((part : Part) → fault ≡ open_fault.BadVolume part → (image : List ℕ) → a.disk ≡ Some image → M.FirstBad image part)
+    → ((part : Part) → fault ≡ open_fault.BadVolume part → WritesNothing a b)
+    → ((part : Part) → fault ≡ open_fault.BadVolume part → IsTrue a.honest → (image : List ℕ) → a.disk ≡ Some image → (b.disk ≡ Some image) × Only image b.images)
+    → ((image : List ℕ) (part : Part) → a.disk ≡ Some image → M.FirstBad image part → WritesNothing a b) → RunOn M a b (Some (unopened_as fault))
+run_unopened {S} {M} {a} {b} fault disk bad only kept left = record {
+  caused = opening_caused fault a b disk;
+  sound = λ table was on. opening_sound fault (λ part is. M.no_table on.image table part on.stands (bad part is on.image on.holds));
+  bad = λ part is. bad part (bad_part fault part is);
+  bad_only = λ part is. only part (bad_part fault part is);
+  bad_kept = λ part is image honest holds. kept part (bad_part fault part is) honest image holds;
+  unopened = λ image part holds fails. (unopened_as fault, refl, opening_stop fault);
+  left = left;
+}
+
+-- It was opened, and the lines went to their end or were stopped.
+pub run_opened : {S T : Type 0} {M : Meaning S} {a b : Outside} (r : Result T Stopped) → ((image : List ℕ) → a.disk ≡ Some image → (table : Table) × M.StandsFor image table)
+    → IfErr r IsLinesStop → IfErr r (λ why. CausedBy why a b) → ((table : Table) (was : List ℕ) → HoldsTable M a table was → IfErr r IsSoundStop) → RunOn M a b (result_err r)
+run_opened {S} {T} {M} {a} {b} r opened stops caused sound = record {
+  caused = stop_is r (λ why. CausedBy why a b) caused;
+  sound = λ table was on. stop_is r IsSoundStop (sound table was on);
+  bad = λ part is. absurd (lines_good r part stops is);
+  bad_only = λ part is. absurd (lines_good r part stops is);
+  bad_kept = λ part is. absurd (lines_good r part stops is);
+  unopened = λ image part holds fails. absurd (good image part holds fails);
+  left = λ image part holds fails. absurd (good image part holds fails);
+}
+  where
+    good : (image : List ℕ) (part : Part) → a.disk ≡ Some image → M.FirstBad image part → ⊥
+    good image part holds fails = let stands = opened image holds in M.no_table image stands.0 part stands.1 fails

@@ -1,15 +1,16 @@
 -- What a whole run promises, from the opening of the volume to the last line that was taken.
-use Rattle.std.specs.Prelude.{◌≡◌, ◌⊎◌, ◌≤◌, ℕ, IsTrue, Option, Some, None, List, [], ◌++◌}
-use Rattle.disk_model.specs.Outside.{Outside, Along, Only}
+use Rattle.std.specs.Prelude.{◌≡◌, ◌⊎◌, ◌≤◌, ℕ, IsTrue, IfSome, Option, Some, None, List, [], ◌++◌}
+use Rattle.disk_model.specs.Outside.{Outside, Along, Only, WritesNothing}
 use Rattle.table_model.specs.declared.table.Table.{Table}
 use Rattle.script_lang.specs.Reading.{Reading}
+use Rattle.session_views.specs.declared.Part.{Part}
 use Rattle.session_views.specs.View.{View, Meaning}
 use Rattle.session_views.specs.Opening.{IsStart}
-use Rattle.talks.specs.Stops.{IsOpeningStop}
+use Rattle.talks.specs.Stops.{CausedBy, IsOpeningStop, IsSoundStop}
 use Rattle.talks.specs.Talking.{Talking, HasTalked}
 use Rattle.talks.specs.Transcript.{Row, ShowsAt, Trail, IsRunMoment, LastText, Ended, exchanges, output_of, request_in}
 use Rattle.talks.specs.declared.stopped.Stopped.{Stopped}
-use Rattle.talks.specs.declared.stopped.Stopped.TheVariants.{Output}
+use Rattle.talks.specs.declared.stopped.Stopped.TheVariants.{Output, BadVolume}
 
 -- An honest disk holds an image that stands for this table, and the sink tells what it was sent.
 pub record HoldsTable {S : Type 0} (M : Meaning S) (entry : Outside) (table : Table) (was : List ℕ) : Type 0 where
@@ -43,9 +44,9 @@ pub record SteppedTalk {S T : Type 0} (M : Meaning S) (Fresh : View S → Type 0
   pub rows : List (Row S)
   pub after : View S
   pub last : Option Reading
-  pub talked : HasTalked K first entry.left (exchanges rows) last ending talk now.left
   -- what handed in the last line, as it stood when it did
   pub at : T
+  pub talked : HasTalked K first entry.left (exchanges rows) last ending talk at now.left
   pub front : List ℕ
   pub sent : now.sent ≡ Some (was ++ output_of rows ++ front)
   pub is_front : LastText M (K.text at) after last front
@@ -66,3 +67,17 @@ pub record Unopened {S : Type 0} (M : Meaning S) (table : Table) (was : List ℕ
 -- what a run promises, given how it ends
 abbrev pub TalkHeadline : {S T : Type 0} → Meaning S → (View S → Type 0) → Talking T → T → T → Table → List ℕ → Outside → Outside → Option Stopped → Type 0
 TalkHeadline M Fresh K first talk table was entry now ending = SteppedTalk M Fresh K first talk table was entry now ending ⊎ Unopened M table was entry now ending
+
+-- What a run promises of its disk and of why it was stopped, whatever hands it its lines, given how it ends.
+pub record RunOn {S : Type 0} (M : Meaning S) (before after : Outside) (ending : Option Stopped) : Type 0 where
+  -- A fault of the outside is answered only where the count of such faults rose, and damage only of two things that differ.
+  pub caused : IfSome ending (λ why. CausedBy why before after)
+  -- On a volume nothing but a fault of the outside, want of memory or too long a script stops it.
+  pub sound : (table : Table) (was : List ℕ) → HoldsTable M before table was → IfSome ending IsSoundStop
+  -- The disk holds no volume exactly where a part of it fails. Then nothing is sent, no line is taken, and nothing is written, whatever is answered.
+  pub bad : (part : Part) → ending ≡ Some (BadVolume part) → (image : List ℕ) → before.disk ≡ Some image → M.FirstBad image part
+  pub bad_only : (part : Part) → ending ≡ Some (BadVolume part) → WritesNothing before after
+  pub bad_kept : (part : Part) → ending ≡ Some (BadVolume part) → (image : List ℕ) → IsTrue before.honest → before.disk ≡ Some image
+      → (after.disk ≡ Some image) × Only image after.images
+  pub unopened : (image : List ℕ) (part : Part) → before.disk ≡ Some image → M.FirstBad image part → (why : Stopped) × (ending ≡ Some why) × IsOpeningStop why
+  pub left : (image : List ℕ) (part : Part) → before.disk ≡ Some image → M.FirstBad image part → WritesNothing before after

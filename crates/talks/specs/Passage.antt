@@ -19,7 +19,7 @@ pub record WasCut {S T : Type 0} (M : Meaning S) (K : Talking T) (entry now : Ou
   pub at : T
   pub had : List Exchange
   pub last : Option Reading
-  pub broken : K.Broken first entry.left had last why now.left
+  pub broken : K.Broken first entry.left had last why at now.left
   pub cut : (opening : View S) (was : List ℕ) → opening.session ≡ session → Opens M entry opening was
       → CutShort M K.acking (K.text at) opening was entry now had last why
 
@@ -28,4 +28,4 @@ abbrev pub IsOver : {T : Type 0} → Talking T → T → Left → Left → Type 
 IsOver {T} K first left at = (had : List Exchange) × (talk : T) × K.Over first left had talk at
 
 abbrev pub IsBroken : {T : Type 0} → Talking T → T → Left → Stopped → Left → Type 0
-IsBroken K first left why at = (had : List Exchange) × (last : Option Reading) × K.Broken first left had last why at
+IsBroken {T} K first left why at = (had : List Exchange) × (last : Option Reading) × (handed : T) × K.Broken first left had last why handed at

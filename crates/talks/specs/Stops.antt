@@ -1,6 +1,8 @@
 -- Why a run stops, and what shows of it.
 use Rattle.std.specs.Prelude.{◌≢◌, Option, Some, None, ⊤}
 use Rattle.disk_model.specs.Outside.{Outside, Rose}
+use Rattle.script_lines.specs.declared.shown.LineFault.{LineFault}
+use Rattle.script_lines.specs.declared.shown.LineFault.TheVariants as line_fault
 use Rattle.session_views.specs.declared.Stop.{Stop}
 use Rattle.session_views.specs.declared.Stop.TheVariants as stop
 use Rattle.session_views.specs.declared.OpenFault.{OpenFault}
@@ -20,6 +22,11 @@ abbrev pub unopened_as : OpenFault → Stopped
 unopened_as open_fault.Memory = Memory
 unopened_as open_fault.Disk = Disk
 unopened_as (open_fault.BadVolume part) = BadVolume part
+
+-- a fault of the reading of lines, as a run ends by it
+abbrev pub unread_as : LineFault → Stopped
+unread_as line_fault.Read = Script
+unread_as line_fault.TooMuch = ScriptLong
 
 -- A fault of the outside rose in its count, and damage is of two things that differ.
 abbrev pub CausedBy : Stopped → Outside → Outside → Type 0

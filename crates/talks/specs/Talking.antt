@@ -8,7 +8,7 @@ use Rattle.table_model.specs.declared.reply.Refusal.{Refusal}
 use Rattle.table_model.specs.Requests.{Request, is_request}
 use Rattle.table_model.specs.Machines.{IsMachine}
 use Rattle.table_model.specs.Steps.{Step}
-use Rattle.script_lang.specs.Reading.{Reading, Silent}
+use Rattle.script_lang.specs.Reading.{Reading, Silent, Asks, Fails}
 use Rattle.talks.specs.declared.stopped.Stopped.{Stopped}
 use Rattle.talks.specs.Acking.{Acking}
 use Rattle.talks.specs.Stops.{IsPart}
@@ -23,6 +23,12 @@ pub record Exchange : Type 0 where
 pub data IsReply (told : Reply) : Type 0 where
   stepped : (m : Machine) (r : Request) (q : Pick) (after : Machine) → IsMachine m → IsTrue (is_request r) → Step m r q told after → IsReply told
   refused : (why : Refusal) → told ≡ reply.No why → IsReply told
+
+-- It asks for a reply.
+abbrev pub IsLoud : Reading → Type 0
+IsLoud Silent = ⊥
+IsLoud (Asks r) = Unit {0}
+IsLoud (Fails why) = Unit {0}
 
 -- the source, as far as it tells what it has left
 abbrev pub Left : Type 0
@@ -41,20 +47,21 @@ pub record Talking (T : Type 0) : Type 1 where
   pub Waits : T → Left → List Exchange → T → Left → Type 0
   -- or there is no further line.
   pub Over : T → Left → List Exchange → T → Left → Type 0
-  -- So it may end early, with what the last line asked for, where that wasn't answered, and with this left in the source.
-  pub Broken : T → Left → List Exchange → Option Reading → Stopped → Left → Type 0
+  -- So it may end early, with what the last line asked for, where that wasn't answered, with the value that handed that line in, and with this left in
+  -- the source.
+  pub Broken : T → Left → List Exchange → Option Reading → Stopped → T → Left → Type 0
   pub begun : (first : T) (left : Left) → Had first left [] first left
   -- A line that asks for nothing needs no answer.
   pub quiet : (first now : T) (left at : Left) (had : List Exchange) → Waits first left had now at → Asked now Silent → Had first left had now at
-  -- The session may stop on a line, or at the end.
+  -- The session may stop on a line that asks for a reply, or at the end.
   pub stopped : (first now : T) (left at : Left) (had : List Exchange) (reading : Reading) (why : Stopped)
-      → Waits first left had now at → Asked now reading → IsPart why → Broken first left had (Some reading) why at
+      → Waits first left had now at → Asked now reading → IsLoud reading → IsPart why → Broken first left had (Some reading) why now at
   pub ended : (first now : T) (left at : Left) (had : List Exchange) (why : Stopped)
-      → Over first left had now at → IsPart why → Broken first left had None why at
+      → Over first left had now at → IsPart why → Broken first left had None why now at
   -- Each reply has its text.
   pub tells : (t : T) (told : Reply) → IsReply told → acking.Tells told (text t told)
 
--- The talk ended so, with this value: there was no further line (None), or a stop left the last one unanswered.
-abbrev pub HasTalked : {T : Type 0} → Talking T → T → Left → List Exchange → Option Reading → Option Stopped → T → Left → Type 0
-HasTalked K first left had last None talk at = (last ≡ None) × K.Over first left had talk at
-HasTalked K first left had last (Some why) talk at = K.Broken first left had last why at
+-- The talk ended so: there was no further line (None), with its last value, or a stop left the last line unanswered, with the value that handed it in.
+abbrev pub HasTalked : {T : Type 0} → Talking T → T → Left → List Exchange → Option Reading → Option Stopped → T → T → Left → Type 0
+HasTalked K first left had last None talk handed at = (last ≡ None) × K.Over first left had talk at
+HasTalked K first left had last (Some why) talk handed at = K.Broken first left had last why handed at

@@ -1,9 +1,11 @@
 //! Why a run ends before its script does.
 ghost use Rattle.std.specs.Prelude.{◌≡◌, ◌≢◌, Some};
-ghost use Rattle.talks.specs.Stops.{stop_as, unopened_as};
+ghost use Rattle.talks.specs.Stops.{stop_as};
 
 use ex_base::{PageNo, Seen};
+use script_lines::LineFault;
 use session_views::{OpenFault, Part, Stop};
+use std::alloc::AllocError;
 
 /// Why a run ended before its script did.
 #[derive(Clone, Copy, Debug, PartialEq, Eq)]
@@ -37,13 +39,41 @@ pub(crate) fn stopped_by(stop: Stop) -> Stopped
     }
 }
 
-/// A fault of an opening, as a run ends by it.
-pub(crate) fn unopened_by(fault: OpenFault) -> Stopped
-    ensures { result ≡ unopened_as fault }
-{
-    match fault {
-        OpenFault::Memory => Stopped::Memory,
-        OpenFault::Disk => Stopped::Disk,
-        OpenFault::BadVolume { part } => Stopped::BadVolume { part },
+impl From<OpenFault> for Stopped {
+    ghost use Rattle.talks.specs.Stops.{unopened_as};
+
+    ghost from_gives = { λ fault why. why ≡ unopened_as fault };
+
+    /// A fault of an opening, as a run ends by it.
+    fn from(fault: OpenFault) -> Stopped {
+        match fault {
+            OpenFault::Memory => Stopped::Memory,
+            OpenFault::Disk => Stopped::Disk,
+            OpenFault::BadVolume { part } => Stopped::BadVolume { part },
+        }
+    }
+}
+
+impl From<LineFault> for Stopped {
+    ghost use Rattle.talks.specs.Stops.{unread_as};
+
+    ghost from_gives = { λ fault why. why ≡ unread_as fault };
+
+    /// A fault of the reading of lines, as a run ends by it.
+    fn from(fault: LineFault) -> Stopped {
+        match fault {
+            LineFault::Read => Stopped::Script,
+            LineFault::TooMuch => Stopped::ScriptLong,
+        }
+    }
+}
+
+impl From<AllocError> for Stopped {
+    ghost use Rattle.talks.specs.declared.stopped.Stopped.TheVariants.{Memory};
+
+    ghost from_gives = { λ _ why. why ≡ Memory };
+
+    fn from(_: AllocError) -> Stopped {
+        Stopped::Memory
     }
 }

@@ -5,7 +5,7 @@ ghost use Rattle.script_lang.specs.Reading.{Reading};
 ghost use Rattle.talks.specs.Asking.{reading_of, IsFormed};
 ghost use Rattle.talks.specs.Sending.{SentFront, SentPart};
 ghost use Rattle.talks.specs.Stops.{CausedBy, IsTakingStop, IsSendingStop};
-ghost use Rattle.talks.specs.Talking.{Exchange, Talking, Left};
+ghost use Rattle.talks.specs.Talking.{Exchange, IsLoud, Talking, Left};
 ghost use Rattle.talks.specs.declared.stopped.Stopped.{Stopped};
 
 use crate::stopped::Stopped;
@@ -53,14 +53,14 @@ pub trait Talk {
             → talking.Over first left had self.new (H.outside host.new).left }
         ensures broken { IfErr result (λ why. (first : Self) (left : Left) (had : List Exchange)
             → talking.Had first left had self.old (H.outside host.old).left
-            → talking.Broken first left had None why (H.outside host.new).left) };
+            → talking.Broken first left had None why self.old (H.outside host.new).left) };
 
     /// What the line that was taken last asks for.
     fn asked(&self) -> Asked<'_>
         ensures asked { talking.Asked self.now (reading_of result) }
         ensures formed { IsFormed result };
 
-    /// Sends what a reply to it says.
+    /// Sends what a reply to it says. Only a line that asks for something is answered.
     fn tell<H: Host>(&mut self, alloc: Global, host: &mut H, told: Reply) -> Result<(), Stopped>
         ensures caused { IfErr result
             (λ why. CausedBy why (H.outside host.old) (H.outside host.new)) }
@@ -78,11 +78,14 @@ pub trait Talk {
         ensures had { OnOk result ((first : Self) (left : Left) (had : List Exchange)
             (reading : Reading)
             → talking.Waits first left had self.old (H.outside host.old).left
-            → talking.Asked self.old reading
-            → talking.Had first left (had ++ record { reading = reading; told = told; text = talking.text self.old told } ∷ []) self.new (H.outside host.new).left) }
+            → talking.Asked self.old reading → IsLoud reading
+            → talking.Had first left
+            (had ++ record { reading = reading; told = told; text = talking.text self.old told }
+            ∷ []) self.new (H.outside host.new).left) }
         ensures broken { IfErr result (λ why. (first : Self) (left : Left) (had : List Exchange)
             (reading : Reading)
             → talking.Waits first left had self.old (H.outside host.old).left
-            → talking.Asked self.old reading
-            → talking.Broken first left had (Some reading) why (H.outside host.new).left) };
+            → talking.Asked self.old reading → IsLoud reading
+            → talking.Broken first left had (Some reading) why self.old
+            (H.outside host.new).left) };
 }

@@ -88,8 +88,8 @@ returns-in-Err-clause-cut g c =
       at = at;
       had = old.had;
       last = Some (Asks r);
-      broken = subst (λ (left : Left). K.Broken first entry.left old.had (Some (Asks r)) c.stopped_by.result left) (sym c.step.ensures.only.left)
-          (K.stopped first at entry.left b.left old.had (Asks r) c.stopped_by.result waits c.in-Step.ensures.asked part);
+      broken = subst (λ (left : Left). K.Broken first entry.left old.had (Some (Asks r)) c.stopped_by.result at left) (sym c.step.ensures.only.left)
+          (K.stopped first at entry.left b.left old.had (Asks r) c.stopped_by.result waits c.in-Step.ensures.asked tt part);
       cut = λ opening was same opens.
           let so_far = reached_taken (g.H.World.is_world c.lines.host) c.advance.ensures.only (old.reached opening was same opens) in
           cut_step (K.text at) r so_far (g.H.World.is_world c.advance.new.host) c.step.ensures.only (c.step.ensures.any_moment so_far.view so_far.is so_far.shows) c.stopped_by.result;
@@ -134,7 +134,7 @@ lines-preserved g c =
             goes = goes_trans goes_b sent.only.goes;
             so_far = record {
               had = old.had ++ record { reading = Fails why; told = reply.No why; text = K.text at (reply.No why) } ∷ [];
-              talked = had first entry.left old.had (Fails why) waits w.in-Refused.ensures.asked;
+              talked = had first entry.left old.had (Fails why) waits w.in-Refused.ensures.asked tt;
               reached = λ opening was same opens. reached_refused (reached_taken lines_world c.advance.ensures.only (old.reached opening was same opens)) why
                   (K.tells at (reply.No why) (talking.refused why refl)) early world sent;
             };
@@ -151,7 +151,7 @@ lines-preserved g c =
             goes = goes_trans (goes_trans goes_b w.step.ensures.only.goes) sent.only.goes;
             so_far = record {
               had = old.had ++ record { reading = Asks r; told = told; text = K.text at told } ∷ [];
-              talked = had first entry.left old.had (Asks r) waits w.in-Step.ensures.asked;
+              talked = had first entry.left old.had (Asks r) waits w.in-Step.ensures.asked tt;
               reached = λ opening was same opens.
                   let so_far = reached_taken lines_world c.advance.ensures.only (old.reached opening was same opens) in
                   let stepped = w.in-Ok.ensures.stepped so_far.view so_far.is so_far.shows in
@@ -182,7 +182,7 @@ returns-in_err-tell-clause-cut g c =
             at = at;
             had = old.had;
             last = Some (Fails refusal);
-            broken = broken first entry.left old.had (Fails refusal) waits w.in-Refused.ensures.asked;
+            broken = broken first entry.left old.had (Fails refusal) waits w.in-Refused.ensures.asked tt;
             cut = λ opening was same opens. cut_refused (K.text at) (reached_taken lines_world c.advance.ensures.only (old.reached opening was same opens)) refusal
                 (K.tells at (reply.No refusal) (talking.refused refusal refl)) early why part;
           }
@@ -195,7 +195,7 @@ returns-in_err-tell-clause-cut g c =
             at = at;
             had = old.had;
             last = Some (Asks r);
-            broken = broken first entry.left old.had (Asks r) waits w.in-Step.ensures.asked;
+            broken = broken first entry.left old.had (Asks r) waits w.in-Step.ensures.asked tt;
             cut = λ opening was same opens.
                 let so_far = reached_taken lines_world c.advance.ensures.only (old.reached opening was same opens) in
                 let stepped = w.in-Ok.ensures.stepped so_far.view so_far.is so_far.shows in
