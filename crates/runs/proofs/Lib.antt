@@ -1,3 +1,5 @@
 pub mod Sending
 pub mod Talked
+pub mod Spoken
+pub mod Sourced
 pub mod Whole

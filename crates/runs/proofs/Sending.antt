@@ -1,10 +1,9 @@
 -- What the sending of a text left, where it failed.
-use Rattle.std.proofs.Common.{◌≡◌, ◌<◌, ◌∙◌, ℕ, true, Option, Some, None, List, ◌++◌, length, take, Result, Ok, Err, OnErr, inl, inr, refl, sym, ap}
+use Rattle.std.proofs.Common.{◌≡◌, ◌<◌, ◌∙◌, ℕ, true, Option, Some, None, List, [], ◌++◌, length, take, Result, Ok, Err, OnErr, inl, inr, refl, sym, ap}
 use Rattle.std.proofs.lemmas.Option.{same_Some}
 use Rattle.std.specs.Result.{is_err}
 use Rattle.std.proofs.lemmas.List.{append-nil}
 use Rattle.disk_model.specs.Outside.{Outside, SinkOnly}
-use Rattle.disk_model.specs.Runs.{sink_refl}
 use Rattle.talks.specs.declared.stopped.Stopped.{Stopped}
 use Rattle.talks.specs.Sending.{SentPart}
 use Rattle.talks.specs.declared.stopped.Stopped.TheVariants.{Output}
@@ -31,10 +30,6 @@ part_sent old new text only failed = by_told old.sent refl
           cut = inr (refl, front.1);
         }
 
--- Nothing was sent.
-pub none_sent : (w : Outside) (text : List ℕ) (why : Stopped) → SentPart why w w text
-none_sent w text why = record {
-  n = 0;
-  front = record { only = sink_refl w; sent = λ was is. is ∙ ap (λ (l : List ℕ). Some l) (sym (append-nil was)) };
-  cut = inl refl;
-}
+-- A buffer that was emptied and got a front and a text shows both.
+pub put_behind : {empty begun whole shown : List ℕ} (front text : List ℕ) → empty ≡ [] → begun ≡ empty ++ front → whole ≡ begun ++ text → shown ≡ whole → shown ≡ front ++ text
+put_behind front text none one two same = same ∙ two ∙ ap (λ (l : List ℕ). l ++ text) (one ∙ ap (λ (l : List ℕ). l ++ front) none)

@@ -16,9 +16,9 @@ is_space b = b == 32
 abbrev pub commit_of : List ℕ → Option ℕ
 commit_of line = commit_of_words (slice_split is_space line)
 
--- the commits whose line stands in what was sent, with its line feed
-abbrev pub commits_in : List ℕ → List ℕ
-commits_in sent = filter_map commit_of (whole_lines sent)
+-- the commits whose line stands in what was sent, with its line feed, where their numbers are read of lines so
+abbrev pub commits_by : (List ℕ → Option ℕ) → List ℕ → List ℕ
+commits_by read sent = filter_map read (whole_lines sent)
 
 abbrev pub greatest_or : ℕ → List ℕ → ℕ
 greatest_or n [] = n
@@ -26,8 +26,8 @@ greatest_or n (c ∷ []) = c
 greatest_or n (c ∷ d ∷ cs) = max c (greatest_or n (d ∷ cs))
 
 -- the greatest of them, or the number that the run began with
-abbrev pub acked : ℕ → List ℕ → ℕ
-acked opening sent = greatest_or opening (commits_in sent)
+abbrev pub acked_by : (List ℕ → Option ℕ) → ℕ → List ℕ → ℕ
+acked_by read opening sent = greatest_or opening (commits_by read sent)
 
 -- nothing, or whole lines
 abbrev pub EndsLine : List ℕ → Type 0

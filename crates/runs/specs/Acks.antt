@@ -1,5 +1,5 @@
 -- Lines of what was sent, and what they acknowledge.
-use Rattle.std.proofs.Common.{◌≡◌, ◌∙◌, ℕ, ◌+◌, ◌≤◌, ◌<◌, ◌^◌, Bool, true, false, cond, Some, None, List, [], ◌∷◌, ◌++◌, length, take, filter_map, refl, sym, ap, inl, inr, subst, arith, append_assoc, length-append}
+use Rattle.std.proofs.Common.{◌≡◌, ◌∙◌, ℕ, ◌+◌, ◌≤◌, ◌<◌, ◌^◌, Bool, true, false, cond, Option, Some, None, List, [], ◌∷◌, ◌++◌, length, take, filter_map, refl, sym, ap, inl, inr, subst, arith, append_assoc, length-append}
 use Rattle.std.specs.List.{slice_split, onto_first}
 use Rattle.std.proofs.lemmas.List.{append-nil, take-append-le}
 use Rattle.std.proofs.lemmas.List.Elements.{filter_map-append}
@@ -7,11 +7,9 @@ use Rattle.std.proofs.lemmas.List.Splits.{slice_split_none, slice_split-cons_yes
 use Rattle.table_model.specs.declared.reply.Reply.{Reply}
 use Rattle.table_model.specs.declared.reply.Reply.TheVariants as reply
 use Rattle.script_lines.specs.Lines.{line_feed, whole_lines, whole_of_parts}
-use Rattle.script_replies.specs.ReplyText.{text_of}
 use Rattle.talks.specs.Acking.{IsNoCommit}
-use Rattle.runs.specs.Acknowledged.{acked, commits_in, commit_of, greatest_or, EndsLine}
+use Rattle.runs.specs.Acknowledged.{acked_by, commits_by, greatest_or, EndsLine}
 use Rattle.runs.specs.Lacking.{lacks, each_differs, lacks_take}
-use Rattle.runs.specs.ReplyLines.{IsLine, line_of, other_is_none, commit_is_read}
 
 abbrev on_front : ℕ → List (List ℕ) → List (List ℕ)
 on_front x [] = []
@@ -84,93 +82,97 @@ no_lines front clear = ap whole_of_parts (slice_split_none line_feed front (each
 one_line : (front : List ℕ) → lacks 10 front ≡ true → whole_lines (front ++ 10 ∷ []) ≡ front ∷ []
 one_line front clear = ap whole_of_parts (slice_split_at line_feed front 10 [] (each_differs 10 front clear) refl)
 
--- ---- what is acknowledged
+-- ---- what is acknowledged, where numbers are read of lines so
 
-acked_none : (j : ℕ) → acked j [] ≡ j
-acked_none j = refl
+acked_none : (read : List ℕ → Option ℕ) (j : ℕ) → acked_by read j [] ≡ j
+acked_none read j = refl
 
--- A front of a reply acknowledges nothing.
-acked_quiet : (j : ℕ) (sent t : List ℕ) → EndsLine sent → whole_lines t ≡ [] → acked j (sent ++ t) ≡ acked j sent
-acked_quiet j sent t ends quiet =
-    ap (λ (ls : List (List ℕ)). greatest_or j (filter_map commit_of ls)) (whole_lines-append sent t ends ∙ ap (λ (ls : List (List ℕ)). whole_lines sent ++ ls) quiet ∙ append-nil (whole_lines sent))
+acked_quiet : (read : List ℕ → Option ℕ) (j : ℕ) (sent t : List ℕ) → EndsLine sent → whole_lines t ≡ [] → acked_by read j (sent ++ t) ≡ acked_by read j sent
+acked_quiet read j sent t ends quiet =
+    ap (λ (ls : List (List ℕ)). greatest_or j (filter_map read ls)) (whole_lines-append sent t ends ∙ ap (λ (ls : List (List ℕ)). whole_lines sent ++ ls) quiet ∙ append-nil (whole_lines sent))
 
--- A front of a reply acknowledges nothing.
-acked_part : {told : Reply} (j n : ℕ) (sent : List ℕ) → EndsLine sent → IsLine told → n < length (text_of told) → acked j (sent ++ take n (text_of told)) ≡ acked j sent
-acked_part {told} j n sent ends line short =
-    let front : List ℕ = line_of told in
-    let long : n ≤ length front = omega (arith, short, length-append front (10 ∷ [])) in
-    ap (λ (t : List ℕ). acked j (sent ++ t)) (take-append-le n front (10 ∷ []) long) ∙ acked_quiet j sent (take n front) ends (no_lines (take n front) (lacks_take 10 n front line.clear))
+-- A front of a line acknowledges nothing.
+acked_part : (read : List ℕ → Option ℕ) (j n : ℕ) (sent line : List ℕ) → EndsLine sent → lacks 10 line ≡ true → n < length (line ++ 10 ∷ [])
+    → acked_by read j (sent ++ take n (line ++ 10 ∷ [])) ≡ acked_by read j sent
+acked_part read j n sent line ends clear short =
+    let long : n ≤ length line = omega (arith, short, length-append line (10 ∷ [])) in
+    ap (λ (t : List ℕ). acked_by read j (sent ++ t)) (take-append-le n line (10 ∷ []) long) ∙ acked_quiet read j sent (take n line) ends (no_lines (take n line) (lacks_take 10 n line clear))
 
-commits_more : {told : Reply} (sent : List ℕ) → EndsLine sent → IsLine told → commits_in (sent ++ text_of told) ≡ commits_in sent ++ filter_map commit_of (line_of told ∷ [])
-commits_more {told} sent ends line =
-    ap (filter_map commit_of) (whole_lines-append sent (text_of told) ends ∙ ap (λ (ls : List (List ℕ)). whole_lines sent ++ ls) (one_line (line_of told) line.clear))
-    ∙ filter_map-append commit_of (whole_lines sent) (line_of told ∷ [])
+commits_more : (read : List ℕ → Option ℕ) (sent line : List ℕ) → EndsLine sent → lacks 10 line ≡ true → commits_by read (sent ++ (line ++ 10 ∷ [])) ≡ commits_by read sent ++ filter_map read (line ∷ [])
+commits_more read sent line ends clear =
+    ap (filter_map read) (whole_lines-append sent (line ++ 10 ∷ []) ends ∙ ap (λ (ls : List (List ℕ)). whole_lines sent ++ ls) (one_line line clear))
+    ∙ filter_map-append read (whole_lines sent) (line ∷ [])
 
-none_in : (line : List ℕ) → commit_of line ≡ None → filter_map commit_of (line ∷ []) ≡ []
-none_in line is = rw is refl
+none_in : (read : List ℕ → Option ℕ) (line : List ℕ) → read line ≡ None → filter_map read (line ∷ []) ≡ []
+none_in read line is = rw is refl
 
-one_in : (line : List ℕ) (k : ℕ) → commit_of line ≡ Some k → filter_map commit_of (line ∷ []) ≡ k ∷ []
-one_in line k is = rw is refl
+one_in : (read : List ℕ → Option ℕ) (line : List ℕ) (k : ℕ) → read line ≡ Some k → filter_map read (line ∷ []) ≡ k ∷ []
+one_in read line k is = rw is refl
 
 greatest_last : (j k : ℕ) (cs : List ℕ) → greatest_or j cs ≤ k → greatest_or j (cs ++ k ∷ []) ≡ k
 greatest_last j k [] least = refl
 greatest_last j k (c ∷ []) least = omega (arith, least)
 greatest_last j k (c ∷ d ∷ cs) least = let below : greatest_or j (d ∷ cs) ≤ k = omega (arith, least) in omega (arith, least, greatest_last j k (d ∷ cs) below)
 
--- Nor does any other reply.
-acked_other : {told : Reply} (j : ℕ) (sent : List ℕ) → EndsLine sent → IsLine told → IsNoCommit told → acked j (sent ++ text_of told) ≡ acked j sent
-acked_other {told} j sent ends line none =
-    ap (greatest_or j) (commits_more sent ends line ∙ ap (λ (cs : List ℕ). commits_in sent ++ cs) (none_in (line_of told) (other_is_none told none)) ∙ append-nil (commits_in sent))
+-- Nor does a whole one of which no number is read.
+acked_other : (read : List ℕ → Option ℕ) (j : ℕ) (sent line : List ℕ) → EndsLine sent → lacks 10 line ≡ true → read line ≡ None → acked_by read j (sent ++ (line ++ 10 ∷ [])) ≡ acked_by read j sent
+acked_other read j sent line ends clear none =
+    ap (greatest_or j) (commits_more read sent line ends clear ∙ ap (λ (cs : List ℕ). commits_by read sent ++ cs) (none_in read line none) ∙ append-nil (commits_by read sent))
 
--- A commit's reply acknowledges it.
-acked_commit : (j k : ℕ) (sent : List ℕ) → k < 2 ^ 64 → EndsLine sent → IsLine (reply.Commit k) → acked j sent ≤ k → acked j (sent ++ text_of (reply.Commit k)) ≡ k
-acked_commit j k sent fits ends line least =
-    ap (greatest_or j) (commits_more sent ends line ∙ ap (λ (cs : List ℕ). commits_in sent ++ cs) (one_in (line_of (reply.Commit k)) k (commit_is_read k fits))) ∙ greatest_last j k (commits_in sent) least
+-- One of which a number is read acknowledges that commit.
+acked_commit : (read : List ℕ → Option ℕ) (j k : ℕ) (sent line : List ℕ) → EndsLine sent → lacks 10 line ≡ true → read line ≡ Some k → acked_by read j sent ≤ k → acked_by read j (sent ++ (line ++ 10 ∷ [])) ≡ k
+acked_commit read j k sent line ends clear is least =
+    ap (greatest_or j) (commits_more read sent line ends clear ∙ ap (λ (cs : List ℕ). commits_by read sent ++ cs) (one_in read line k is)) ∙ greatest_last j k (commits_by read sent) least
 
--- ---- the laws of what a script acknowledges
+-- ---- replies that are told as lines
 
--- the text of one line
-abbrev TellsLine : Reply → List ℕ → Type 0
-TellsLine told text = IsLine told × (text ≡ text_of told)
+-- The reply is told by this text: a line without a line feed, and one behind it. A commit's number is read of the line, and of no other reply's.
+pub record TellsLine (read : List ℕ → Option ℕ) (told : Reply) (text : List ℕ) : Type 0 where
+  pub line : List ℕ
+  pub clear : lacks 10 line ≡ true
+  pub is : text ≡ line ++ 10 ∷ []
+  pub other : IsNoCommit told → read line ≡ None
+  pub commit : (k : ℕ) → told ≡ reply.Commit k → k < 2 ^ 64 → read line ≡ Some k
 
 -- What was sent is whole lines, and acknowledges the commits up to that.
-abbrev IsEven : ℕ → List ℕ → ℕ → Type 0
-IsEven first sent j = EndsLine sent × (acked first sent ≡ j)
+abbrev pub IsEven : (List ℕ → Option ℕ) → ℕ → List ℕ → ℕ → Type 0
+IsEven read first sent j = EndsLine sent × (acked_by read first sent ≡ j)
 
-abbrev MayLeave : ℕ → List ℕ → ℕ → Type 0
-MayLeave first sent j = (acked first sent ≤ j) × (j ≤ acked first sent + 1)
+-- A stop may leave what is acknowledged, and the next one.
+abbrev pub MayLeave : (List ℕ → Option ℕ) → ℕ → List ℕ → ℕ → Type 0
+MayLeave read first sent j = (acked_by read first sent ≤ j) × (j ≤ acked_by read first sent + 1)
 
-pub even_start : (first : ℕ) → IsEven first [] first
-even_start first = (inl refl, acked_none first)
+pub even_start : (read : List ℕ → Option ℕ) (first : ℕ) → IsEven read first [] first
+even_start read first = (inl refl, acked_none read first)
 
-pub may_now : (first : ℕ) (sent : List ℕ) (j : ℕ) → IsEven first sent j → MayLeave first sent j
-may_now first sent j even = (omega (arith, even.1), omega (arith, even.1))
+pub may_now : (read : List ℕ → Option ℕ) (first : ℕ) (sent : List ℕ) (j : ℕ) → IsEven read first sent j → MayLeave read first sent j
+may_now read first sent j even = (omega (arith, even.1), omega (arith, even.1))
 
-pub may_next : (first : ℕ) (sent : List ℕ) (j : ℕ) → IsEven first sent j → MayLeave first sent (j + 1)
-may_next first sent j even = (omega (arith, even.1), omega (arith, even.1))
+pub may_next : (read : List ℕ → Option ℕ) (first : ℕ) (sent : List ℕ) (j : ℕ) → IsEven read first sent j → MayLeave read first sent (j + 1)
+may_next read first sent j even = (omega (arith, even.1), omega (arith, even.1))
 
-acked_front : (first : ℕ) (sent : List ℕ) (n : ℕ) (told : Reply) (text : List ℕ) → EndsLine sent → TellsLine told text → n < length text → acked first (sent ++ take n text) ≡ acked first sent
-acked_front first sent n told text ends tells short =
-    subst (λ (t : List ℕ). n < length t → acked first (sent ++ take n t) ≡ acked first sent) (sym tells.1) (λ less. acked_part first n sent ends tells.0 less) short
+acked_front : {told : Reply} (read : List ℕ → Option ℕ) (first : ℕ) (sent : List ℕ) (n : ℕ) (text : List ℕ) → EndsLine sent → TellsLine read told text → n < length text → acked_by read first (sent ++ take n text) ≡ acked_by read first sent
+acked_front read first sent n text ends tells short =
+    subst (λ (t : List ℕ). n < length t → acked_by read first (sent ++ take n t) ≡ acked_by read first sent) (sym tells.is) (λ less. acked_part read first n sent tells.line ends tells.clear less) short
 
-pub may_front : (first : ℕ) (sent : List ℕ) (j n : ℕ) (told : Reply) (text : List ℕ) → IsEven first sent j → TellsLine told text → n < length text → MayLeave first (sent ++ take n text) j
-may_front first sent j n told text even tells short =
-    let same = acked_front first sent n told text even.0 tells short in (omega (arith, even.1, same), omega (arith, even.1, same))
+pub may_front : {told : Reply} (read : List ℕ → Option ℕ) (first : ℕ) (sent : List ℕ) (j n : ℕ) (text : List ℕ) → IsEven read first sent j → TellsLine read told text → n < length text → MayLeave read first (sent ++ take n text) j
+may_front read first sent j n text even tells short =
+    let same = acked_front read first sent n text even.0 tells short in (omega (arith, even.1, same), omega (arith, even.1, same))
 
-pub may_front_next : (first : ℕ) (sent : List ℕ) (j n : ℕ) (told : Reply) (text : List ℕ) → IsEven first sent j → TellsLine told text → n < length text → MayLeave first (sent ++ take n text) (j + 1)
-may_front_next first sent j n told text even tells short =
-    let same = acked_front first sent n told text even.0 tells short in (omega (arith, even.1, same), omega (arith, even.1, same))
+pub may_front_next : {told : Reply} (read : List ℕ → Option ℕ) (first : ℕ) (sent : List ℕ) (j n : ℕ) (text : List ℕ) → IsEven read first sent j → TellsLine read told text → n < length text → MayLeave read first (sent ++ take n text) (j + 1)
+may_front_next read first sent j n text even tells short =
+    let same = acked_front read first sent n text even.0 tells short in (omega (arith, even.1, same), omega (arith, even.1, same))
 
 -- Behind a reply a line ends.
-ends_reply : (sent : List ℕ) (told : Reply) (text : List ℕ) → text ≡ text_of told → EndsLine (sent ++ text)
-ends_reply sent told text is = inr (sent ++ line_of told, ap (λ (t : List ℕ). sent ++ t) is ∙ sym (append_assoc sent (line_of told) (10 ∷ [])))
+ends_reply : (sent line text : List ℕ) → text ≡ line ++ 10 ∷ [] → EndsLine (sent ++ text)
+ends_reply sent line text is = inr (sent ++ line, ap (λ (t : List ℕ). sent ++ t) is ∙ sym (append_assoc sent line (10 ∷ [])))
 
-pub even_other : (first : ℕ) (sent : List ℕ) (j : ℕ) (told : Reply) (text : List ℕ) → IsEven first sent j → TellsLine told text → IsNoCommit told → IsEven first (sent ++ text) j
-even_other first sent j told text even tells none =
-    (ends_reply sent told text tells.1, ap (λ (t : List ℕ). acked first (sent ++ t)) tells.1 ∙ acked_other first sent even.0 tells.0 none ∙ even.1)
+pub even_other : {told : Reply} (read : List ℕ → Option ℕ) (first : ℕ) (sent : List ℕ) (j : ℕ) (text : List ℕ) → IsEven read first sent j → TellsLine read told text → IsNoCommit told → IsEven read first (sent ++ text) j
+even_other read first sent j text even tells none =
+    (ends_reply sent tells.line text tells.is, ap (λ (t : List ℕ). acked_by read first (sent ++ t)) tells.is ∙ acked_other read first sent tells.line even.0 tells.clear (tells.other none) ∙ even.1)
 
-pub even_commit : (first : ℕ) (sent : List ℕ) (j : ℕ) (text : List ℕ) → IsEven first sent j → TellsLine (reply.Commit (j + 1)) text → j + 1 < 2 ^ 64 → IsEven first (sent ++ text) (j + 1)
-even_commit first sent j text even tells fits = (
-  ends_reply sent (reply.Commit (j + 1)) text tells.1,
-  ap (λ (t : List ℕ). acked first (sent ++ t)) tells.1 ∙ acked_commit first (j + 1) sent fits even.0 tells.0 (omega (arith, even.1)),
+pub even_commit : (read : List ℕ → Option ℕ) (first : ℕ) (sent : List ℕ) (j : ℕ) (text : List ℕ) → IsEven read first sent j → TellsLine read (reply.Commit (j + 1)) text → j + 1 < 2 ^ 64 → IsEven read first (sent ++ text) (j + 1)
+even_commit read first sent j text even tells fits = (
+  ends_reply sent tells.line text tells.is,
+  ap (λ (t : List ℕ). acked_by read first (sent ++ t)) tells.is ∙ acked_commit read first (j + 1) sent tells.line even.0 tells.clear (tells.commit (j + 1) refl fits) (omega (arith, even.1)),
 )

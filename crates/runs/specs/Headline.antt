@@ -1,13 +1,13 @@
 -- What a whole run of a script promises, from the opening of the volume to the last line that was taken.
-use Rattle.std.specs.Prelude.{◌≡◌, ◌⊎◌, ◌≤◌, ℕ, Option, Some, None, List, [], ◌++◌, length}
-use Rattle.disk_model.specs.Outside.{Outside, Along, Rose}
+use Rattle.std.specs.Prelude.{◌≡◌, ◌⊎◌, ℕ, Option, Some, None, List, [], ◌++◌}
+use Rattle.disk_model.specs.Outside.{Outside, Along}
 use Rattle.table_model.specs.declared.table.Table.{Table}
 use Rattle.table_model.specs.Requests.{Request}
 use Rattle.script_lines.specs.Lines.{Line}
 use Rattle.script_lang.specs.Reading.{Reading, Asks, Reads}
 use Rattle.script_replies.specs.ReplyText.{text_of}
 use Rattle.session_views.specs.View.{View, Meaning}
-use Rattle.talks.specs.Headline.{HoldsTable, OpenedAt, Unopened}
+use Rattle.talks.specs.Headline.{OpenedAt, Unopened}
 use Rattle.talks.specs.Stops.{IsWhole}
 use Rattle.talks.specs.Transcript.{Row, Trail, IsRunMoment, FrontOfText, Ended, exchanges, output_of}
 use Rattle.talks.specs.declared.stopped.Stopped.{Stopped}
@@ -66,15 +66,3 @@ pub record SteppedLines {S : Type 0} (M : Meaning S) (Fresh : View S → Type 0)
 -- what a run promises, given how it ends
 abbrev pub Headline : {S : Type 0} → Meaning S → (View S → Type 0) → Table → List ℕ → ℕ → Outside → Outside → Option Stopped → Type 0
 Headline M Fresh table was most entry now ending = SteppedLines M Fresh table was most entry now ending ⊎ Unopened M table was entry now ending
-
--- What a run needs to reach the end of its script: a volume, a script that is within its bound, and no fault of the outside.
-pub record MayComplete {S : Type 0} (M : Meaning S) (before after : Outside) (most : ℕ) : Type 0 where
-  pub table : Table
-  pub was : List ℕ
-  pub on : HoldsTable M before table was
-  pub script : List ℕ
-  pub left : before.left ≡ Some script
-  pub within : length script ≤ most
-  pub no_read_fault : Rose before.read_faults after.read_faults → ⊥
-  pub no_output_fault : Rose before.write_faults after.write_faults → ⊥
-  pub no_disk_fault : Rose before.disk_faults after.disk_faults → ⊥

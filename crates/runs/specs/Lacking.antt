@@ -1,5 +1,5 @@
 -- Words without a byte below the digits, as a line feed and a space are.
-use Rattle.std.proofs.Common.{◌≡◌, ◌∙◌, ℕ, zero, suc, ◌+◌, ◌/◌, ◌%◌, ◌<◌, ◌≤◌, Bool, true, false, cond, not, ◌&&◌, nat_le, nat_lt, List, [], ◌∷◌, ◌++◌, length, take, map, get_or, refl, arith, IsTrue}
+use Rattle.std.proofs.Common.{◌≡◌, ◌∙◌, ℕ, zero, suc, ◌+◌, ◌/◌, ◌%◌, ◌<◌, ◌≤◌, Bool, true, false, cond, not, ◌&&◌, ◌||◌, nat_le, nat_lt, List, [], ◌∷◌, ◌++◌, length, take, drop, map, get_or, refl, arith, IsTrue}
 use Rattle.std.specs.Prelude.{◌==◌}
 use Rattle.std.specs.List.{list_all, join_with_byte, All}
 use Rattle.std.specs.Fmt.{digits, digits_onto, digit_glyph, decimal}
@@ -10,7 +10,7 @@ use Rattle.std.proofs.lemmas.List.Sums.{AllPass-from_list_all}
 use Rattle.hex.specs.Hex.{encode_with, encode_lower, lower_digits}
 use Rattle.ex_base.specs.declared.Oid.{Oid}
 use Rattle.table_model.specs.declared.table.TableFile.{TableFile}
-use Rattle.table_model.specs.Words.{is_name, is_name_byte}
+use Rattle.table_model.specs.Words.{is_name, is_name_byte, is_client_name, is_kept_name}
 use Rattle.script_replies.specs.ReplyText.{oid_word, hex_words}
 
 -- the byte stands nowhere in the word
@@ -34,6 +34,11 @@ pub lacks_take : (c n : ℕ) (xs : List ℕ) → lacks c xs ≡ true → lacks c
 lacks_take c zero xs h = refl
 lacks_take c (suc n) [] h = refl
 lacks_take c (suc n) (x ∷ xs) h = and_from (not (x == c)) (lacks c (take n xs)) ((and_parts (not (x == c)) (lacks c xs) h).0) (lacks_take c n xs ((and_parts (not (x == c)) (lacks c xs) h).1))
+
+pub lacks_drop : (c n : ℕ) (xs : List ℕ) → lacks c xs ≡ true → lacks c (drop n xs) ≡ true
+lacks_drop c zero xs h = h
+lacks_drop c (suc n) [] h = refl
+lacks_drop c (suc n) (x ∷ xs) h = lacks_drop c n xs ((and_parts (not (x == c)) (lacks c xs) h).1)
 
 -- Words that are joined by another byte lack it too.
 pub lacks_join : (c by : ℕ) (words : List (List ℕ)) → not (by == c) ≡ true → all_lack c words ≡ true → lacks c (join_with_byte by words) ≡ true
@@ -113,6 +118,22 @@ lacks_name_bytes (b ∷ bs) h = and_from (not (b == 10)) (lacks 10 bs) (name_byt
 
 pub lacks_name : (word : List ℕ) → IsTrue (is_name word) → lacks 10 word ≡ true
 lacks_name word h = lacks_name_bytes word ((and_parts (nat_le 1 (length word) && nat_le (length word) 32) (list_all is_name_byte word) h).1)
+
+letter_byte : (b : ℕ) → (nat_le 65 b && nat_le b 80) ≡ true → not (b == 10) ≡ true
+letter_byte b h = grind (arith, nat_tests)
+
+lacks_client_name : (word : List ℕ) → IsTrue (is_client_name word) → lacks 10 word ≡ true
+lacks_client_name [] h = cc
+lacks_client_name (b ∷ name) h =
+    let parts = and_parts (nat_le 65 b && nat_le b 80) (is_name name) h in
+    and_from (not (b == 10)) (lacks 10 name) (letter_byte b parts.0) (lacks_name name parts.1)
+
+pub lacks_kept : (word : List ℕ) → IsTrue (is_kept_name word) → lacks 10 word ≡ true
+lacks_kept word h = by_kind (is_name word) refl h
+  where
+    by_kind : (b : Bool) → is_name word ≡ b → (b || is_client_name word) ≡ true → lacks 10 word ≡ true
+    by_kind true is h = lacks_name word is
+    by_kind false is h = lacks_client_name word h
 
 pub lacks_names : (files : List TableFile) → All (λ f. IsTrue (is_name f.name)) files → all_lack 10 (map (λ f. f.name) files) ≡ true
 lacks_names [] h = refl

@@ -5,7 +5,10 @@ pub mod Talked
 pub mod Lacking
 pub mod ReplyLines
 pub mod Acks
+pub mod LineAcking
 pub mod Taking
 pub mod TalkLaws
+pub mod ScriptLaws
+pub mod Source
 pub mod ScriptTalk
 pub mod Headline

@@ -20,8 +20,8 @@ use Rattle.table_model.specs.declared.reply.Refusal.{Refusal}
 use Rattle.table_model.specs.declared.reply.Refusal.TheVariants as refusal
 use Rattle.table_model.specs.declared.reply.Reply.{Reply}
 use Rattle.table_model.specs.declared.reply.Reply.TheVariants as reply
-use Rattle.table_model.specs.Words.{is_name, number_of}
-use Rattle.table_model.specs.Requests.{Request, is_request, is_reference, is_name_if, frames_most}
+use Rattle.table_model.specs.Words.{is_name, is_kept_name, number_of}
+use Rattle.table_model.specs.Requests.{Request, is_request, is_reference, is_kept_name_if, frames_most}
 use Rattle.table_model.specs.Requests as request
 use Rattle.table_model.specs.Tables.{IsTable}
 use Rattle.table_model.specs.Machines.{IsMachine, IsWorking, shown, size_of}
@@ -31,7 +31,7 @@ use Rattle.script_replies.specs.ReplyText.{area_word, oid_word, hex_words, refus
 use Rattle.script_replies.specs.Texts.{after_two}
 use Rattle.talks.specs.Acking.{IsNoCommit}
 use Rattle.runs.specs.Acknowledged.{commit_of, commit_of_words, is_space}
-use Rattle.runs.specs.Lacking.{lacks, all_lack, each_differs, lacks_more, lacks_join, lacks_decimal, lacks_decimals, lacks_oid, lacks_oids, lacks_hex_words, lacks_name, lacks_names}
+use Rattle.runs.specs.Lacking.{lacks, all_lack, each_differs, lacks_more, lacks_join, lacks_decimal, lacks_decimals, lacks_oid, lacks_oids, lacks_hex_words, lacks_kept, lacks_name, lacks_names}
 
 -- the text of a reply without its line feed
 abbrev pub line_of : Reply → List ℕ
@@ -56,8 +56,8 @@ numbered n words rest = lacks_more 10 (decimal n) words (clear_decimal n) rest
 one_number : (n : ℕ) → all_lack 10 (decimal n ∷ []) ≡ true
 one_number n = numbered n [] refl
 
-one_name : (name : List ℕ) → IsTrue (is_name name) → all_lack 10 (name ∷ []) ≡ true
-one_name name h = lacks_more 10 name [] (lacks_name name h) refl
+one_word : (word : List ℕ) → lacks 10 word ≡ true → all_lack 10 (word ∷ []) ≡ true
+one_word word h = lacks_more 10 word [] h refl
 
 clear_area : (area : Area) → lacks 10 (area_word area) ≡ true
 clear_area Page = refl
@@ -101,26 +101,26 @@ working_table g None c committed working = committed
 working_table g (Some t) c committed working = working.table
 
 -- the words of a reply that a request or a table gave
-abbrev GivenClear : Reply → Type 0
+abbrev pub GivenClear : Reply → Type 0
 GivenClear (reply.File name) = IsTrue (is_name name)
 GivenClear (reply.Unfile name) = IsTrue (is_name name)
 GivenClear (reply.Files names) = all_lack 10 names ≡ true
-GivenClear (reply.Group name) = IsTrue (is_name name)
-GivenClear (reply.Scan name size) = IsTrue (is_name name)
-GivenClear (reply.Close name) = IsTrue (is_name name)
+GivenClear (reply.Group name) = lacks 10 name ≡ true
+GivenClear (reply.Scan name size) = lacks 10 name ≡ true
+GivenClear (reply.Close name) = lacks 10 name ≡ true
 GivenClear _ = Unit {0}
 
 one_oid : (oid : Oid) → all_lack 10 (oid_word oid ∷ []) ≡ true
 one_oid oid = lacks_more 10 (oid_word oid) [] (lacks_oid 10 oid (omega arith)) refl
 
-clear_words : (told : Reply) → GivenClear told → all_lack 10 (reply_words told) ≡ true
+pub clear_words : (told : Reply) → GivenClear told → all_lack 10 (reply_words told) ≡ true
 clear_words (reply.Begin number) given = one_number number
 clear_words (reply.Commit number) given = one_number number
 clear_words reply.Abort given = refl
 clear_words reply.Checkpoint given = refl
 clear_words (reply.Log records) given = one_number records
-clear_words (reply.File name) given = one_name name given
-clear_words (reply.Unfile name) given = one_name name given
+clear_words (reply.File name) given = one_word name (lacks_name name given)
+clear_words (reply.Unfile name) given = one_word name (lacks_name name given)
 clear_words (reply.Files names) given = numbered (length names) names given
 clear_words (reply.List oids) given = numbered (length (map oid_word oids)) (map oid_word oids) (lacks_oids 10 oids (omega arith))
 clear_words (reply.Create oid) given = one_oid oid
@@ -140,10 +140,10 @@ clear_words (reply.Freeze oid) given = one_oid oid
 clear_words (reply.Derive oid) given = one_oid oid
 clear_words (reply.Versions oids) given = numbered (length (map oid_word oids)) (map oid_word oids) (lacks_oids 10 oids (omega arith))
 clear_words (reply.DropVersion oid) given = one_oid oid
-clear_words (reply.Group name) given = one_name name given
-clear_words (reply.Scan name size) given = lacks_more 10 name (decimal size ∷ []) (lacks_name name given) (one_number size)
+clear_words (reply.Group name) given = one_word name given
+clear_words (reply.Scan name size) given = lacks_more 10 name (decimal size ∷ []) given (one_number size)
 clear_words (reply.Next bytes) given = numbered (length bytes) (hex_words bytes) (lacks_hex_words bytes)
-clear_words (reply.Close name) given = one_name name given
+clear_words (reply.Close name) given = one_word name given
 clear_words (reply.Space pages of_pages segs of_segs) given =
     numbered pages (codes "of" ∷ decimal of_pages ∷ codes "segs" ∷ decimal segs ∷ codes "of" ∷ decimal of_segs ∷ [])
     (numbered of_pages (codes "segs" ∷ decimal segs ∷ codes "of" ∷ decimal of_segs ∷ []) (numbered segs (codes "of" ∷ decimal of_segs ∷ []) (one_number of_segs)))
@@ -153,8 +153,8 @@ given_stat : (small : Bool) (size height leaves : ℕ) (lengths : List ℕ) → 
 given_stat true size height leaves lengths = tt
 given_stat false size height leaves lengths = tt
 
--- A machine under its rules gives names alone, and a request of the right form does.
-given_clear : (m : Machine) (r : Request) (q : Pick) → IsMachine m → IsTrue (is_request r) → GivenClear (reply_to m r q)
+-- A machine under its rules gives names alone, and a request of the right form does: none has a line feed.
+pub given_clear : (m : Machine) (r : Request) (q : Pick) → IsMachine m → IsTrue (is_request r) → GivenClear (reply_to m r q)
 given_clear m request.Begin q rules form = tt
 given_clear m request.Commit q rules form = tt
 given_clear m request.Abort q rules form = tt
@@ -179,10 +179,12 @@ given_clear m (request.Replace x pos given) q rules form = tt
 given_clear m (request.Delete x pos len) q rules form = tt
 given_clear m (request.Freeze x bind) q rules form = tt
 given_clear m (request.Derive x bind) q rules form = tt
-given_clear m (request.Group name frames mru) q rules form = (and_parts (is_name name) (nat_le 1 frames) ((and_parts (is_name name && nat_le 1 frames) (nat_le frames frames_most) form).0)).0
-given_clear m (request.Scan x name group) q rules form = (and_parts (is_reference x) (is_name name) ((and_parts (is_reference x && is_name name) (is_name_if group) form).0)).1
+given_clear m (request.Group name frames mru) q rules form =
+    lacks_kept name (and_parts (is_kept_name name) (nat_le 1 frames) ((and_parts (is_kept_name name && nat_le 1 frames) (nat_le frames frames_most) form).0)).0
+given_clear m (request.Scan x name group) q rules form =
+    lacks_kept name (and_parts (is_reference x) (is_kept_name name) ((and_parts (is_reference x && is_kept_name name) (is_kept_name_if group) form).0)).1
 given_clear m (request.Next name len) q rules form = tt
-given_clear m (request.Close name) q rules form = form
+given_clear m (request.Close name) q rules form = lacks_kept name form
 
 by_refusal : (o : Option Refusal) (told : Reply) → IsLine told → IsLine (answer_of o told)
 by_refusal None told line = line

@@ -1,8 +1,12 @@
-//! A run of a script: a volume is opened, and a session steps on the lines that the source gives, whatever the session and the volume are.
+//! A run of a source: a volume is opened, and a session steps on the lines of a talk that takes them from the source, whatever the session, the volume
+//! and the talk are. The talk of a script is here.
 #![tactic(auto)]
 
-mod run;
 mod script;
+mod sender;
+mod source;
 
-pub use run::run_volume;
+pub use script::Script;
+pub use sender::say;
+pub use source::{SourceTalk, run_source};
 pub use talks::Stopped;
