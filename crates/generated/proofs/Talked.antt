@@ -5,11 +5,9 @@ use Rattle.table_model.specs.declared.reply.Reply.{Reply}
 use Rattle.script_lines.specs.Lines.{Short}
 use Rattle.script_lang.specs.Reading.{Reading, Reads}
 use Rattle.talks.specs.Talking.{Exchange, Left}
-use Rattle.talks.specs.declared.stopped.Stopped.TheVariants.{Memory}
 use Rattle.generated.specs.Lines.{basis_of, line_taken, to_come}
 use Rattle.generated.specs.Replies.{IsTallyOf}
 use Rattle.generated.specs.Talked.{Heard, HasMade, HasAsked, IsAnswer, IsMade, IsCutOff, Tallies, replies_of}
-use Rattle.generated.specs.TalkLaws as laws
 use Rattle.generated.specs.declared.tally.Tally.{Tally}
 use Rattle.generated.specs.declared.talk.Generated.{Generated}
 use Rattle.generated.proofs.Spoken.{first_spoken}
@@ -41,7 +39,7 @@ made_all {first} {old} {now} {left} {at} {had} so_far over same = record {
 }
 
 -- No memory was there for the next line.
-pub cut_making : {first old : Generated} {left at : Left} {had : List Exchange} → HasMade first left had old at → IsCutOff first left had None Memory at
+pub cut_making : {first old : Generated} {left at : Left} {had : List Exchange} → HasMade first left had old at → IsCutOff first left had None at
 cut_making {first} {old} so_far = record {
   heard = record {
     lines = so_far.lines;

@@ -33,10 +33,10 @@ generated_talking = record {
   Had = HasMade;
   Waits = HasAsked;
   Over = IsMade;
-  Broken = IsCutOff;
+  Broken = λ first left had last why handed at. IsCutOff first left had last at;
   begun = laws.begun;
   quiet = laws.quiet;
-  stopped = laws.stopped;
-  ended = laws.ended;
+  stopped = λ first now left at had reading why waits reads loud part. laws.stopped first now left at had reading waits reads;
+  ended = λ first now left at had why over part. laws.ended first now left at had over;
   tells = λ talk told is. refl;
 }

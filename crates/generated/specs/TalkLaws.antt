@@ -2,12 +2,9 @@
 use Rattle.std.proofs.Common.{◌≡◌, ◌∙◌, ◌≤◌, ◌<◌, ◌+◌, ◌^◌, ℕ, Some, None, List, [], ◌∷◌, ◌++◌, length, refl, sym, subst, arith, append_assoc}
 use Rattle.std.proofs.lemmas.List.{append-nil}
 use Rattle.table_model.specs.declared.reply.Reply.{Reply}
-use Rattle.table_model.specs.declared.reply.Reply.TheVariants as reply
 use Rattle.script_lines.specs.Lines.{Short}
 use Rattle.script_lang.specs.Reading.{Reading, Silent, Reads}
-use Rattle.talks.specs.Stops.{IsPart}
 use Rattle.talks.specs.Talking.{Exchange, Left}
-use Rattle.talks.specs.declared.stopped.Stopped.{Stopped}
 use Rattle.generated.specs.Lines.{line_taken, to_come}
 use Rattle.generated.specs.Replies.{IsTallyOf}
 use Rattle.generated.specs.Talked.{Heard, HeardFront, HasMade, HasAsked, IsMade, IsCutOff}
@@ -26,9 +23,8 @@ begun first left = record {
 pub quiet : (first now : Generated) (left at : Left) (had : List Exchange) → HasAsked first left had now at → Reads (Short (line_taken now.lines)) Silent → HasMade first left had now at
 quiet first now left at had waits silent = absurd (waits.spoken silent)
 
-pub stopped : (first now : Generated) (left at : Left) (had : List Exchange) (reading : Reading) (why : Stopped) → HasAsked first left had now at → Reads (Short (line_taken now.lines)) reading → IsPart why
-    → IsCutOff first left had (Some reading) why at
-stopped first now left at had reading why waits reads part = record {
+pub stopped : (first now : Generated) (left at : Left) (had : List Exchange) (reading : Reading) → HasAsked first left had now at → Reads (Short (line_taken now.lines)) reading → IsCutOff first left had (Some reading) at
+stopped first now left at had reading waits reads = record {
   heard = record {
     lines = waits.lines;
     next = Some (line_taken now.lines);
@@ -49,8 +45,8 @@ heard_whole {script} heard = record {
   heard = heard;
 }
 
-pub ended : (first now : Generated) (left at : Left) (had : List Exchange) (why : Stopped) → IsMade first left had now at → IsPart why → IsCutOff first left had None why at
-ended first now left at had why over part = record { heard = heard_whole over.heard; left_so = over.left_so }
+pub ended : (first now : Generated) (left at : Left) (had : List Exchange) → IsMade first left had now at → IsCutOff first left had None at
+ended first now left at had over = record { heard = heard_whole over.heard; left_so = over.left_so }
 
 -- ---- what is acknowledged: nothing is sent, so a stop may leave any commit of the script
 

@@ -6,7 +6,6 @@ use Rattle.script_lines.specs.Lines.{Short}
 use Rattle.script_lang.specs.LineWords.{words_of}
 use Rattle.script_lang.specs.Reading.{Reading, Reads, is_silent}
 use Rattle.talks.specs.Talking.{Exchange, Left}
-use Rattle.talks.specs.declared.stopped.Stopped.{Stopped}
 use Rattle.generated.specs.Lines.{line_taken, to_come}
 use Rattle.generated.specs.Replies.{IsTallyOf}
 use Rattle.generated.specs.declared.talk.Generated.{Generated}
@@ -75,6 +74,6 @@ pub record HeardFront (script : List (List ℕ)) (had : List Exchange) (last : O
   pub heard : Heard lines had
 
 -- It ended early: all lines that were made are answered but perhaps the last one, which asked for that.
-pub record IsCutOff (first : Generated) (left : Left) (had : List Exchange) (last : Option Reading) (why : Stopped) (at : Left) : Type 0 where
+pub record IsCutOff (first : Generated) (left : Left) (had : List Exchange) (last : Option Reading) (at : Left) : Type 0 where
   pub heard : HeardFront (to_come first.lines) had last
   pub left_so : at ≡ left

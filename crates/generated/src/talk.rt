@@ -56,10 +56,7 @@ impl Talk for Generated {
     ghost fails = { λ why. why ≡ Memory };
 
     fn advance<H: Host>(&mut self, _alloc: Global, _host: &mut H) -> Result<bool, Stopped> {
-        match self.lines.advance() {
-            Ok(more) => Ok(more),
-            Err(_) => Err(Stopped::Memory),
-        }
+        Ok(self.lines.advance()?)
     }
 
     fn asked(&self) -> Asked<'_> {
@@ -71,9 +68,7 @@ impl Talk for Generated {
     }
 
     fn tell<H: Host>(&mut self, _alloc: Global, _host: &mut H, told: Reply) -> Result<(), Stopped> {
-        match self.tally.add(&told) {
-            Ok(()) => Ok(()),
-            Err(_) => Err(Stopped::Memory),
-        }
+        self.tally.add(&told)?;
+        Ok(())
     }
 }
