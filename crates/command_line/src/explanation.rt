@@ -8,6 +8,7 @@ use crate::shown::Shown;
 use crate::status::{Status, part_name};
 use crate::usage::Usage;
 use command_words::CommandWord;
+use ex_base::Area;
 use session_views::Part;
 use std::io::ErrorKind;
 use std::{fmt, io};
@@ -69,7 +70,7 @@ impl fmt::Display for Explanation<'_> {
                 let (name, meaning) = (part_name(part), meaning_of(part));
                 write!(
                     f,
-                    "exsm: {volume} holds no volume, or a damaged one: part {name}, {meaning}. It is as it was"
+                    "exsm: {volume} holds no volume, or a damaged one: part {name}, {meaning}. It is as it was; exsm_volume.py {volume} save FOLDER saves what can be read"
                 )
             }
             Status::Memory => f.write_str("exsm: no memory; commits that were answered stay"),
@@ -77,18 +78,7 @@ impl fmt::Display for Explanation<'_> {
                 let damage = Damage { page, want, got };
                 write!(f, "exsm: {damage}")
             }
-            Status::AlreadyVolume => write!(
-                f,
-                "exsm: {volume} begins as a volume does; nothing was written. To make it anew, remove the file, or write zeros over the front of the device"
-            ),
-            Status::TooSmall { have, need } => write!(
-                f,
-                "exsm: {volume} has {have} bytes, the volume needs {need}; nothing was written. Make a smaller volume, or remove it if it is a file"
-            ),
-            Status::ScriptLong { max } => write!(
-                f,
-                "exsm: the script has more than {max} bytes; the lines within them were answered"
-            ),
+            _ => self.refusal(f, volume),
         }
     }
 }
@@ -126,6 +116,59 @@ impl Explanation<'_> {
         match self.cause {
             Some(cause) => write!(f, "exsm: {name}: {cause}"),
             None => write!(f, "exsm: {name} failed"),
+        }
+    }
+
+    // What the volume or the stream isn't that the command needs.
+    fn refusal<W: fmt::Write>(&self, f: &mut fmt::Formatter<W>, volume: Shown<'_>) -> fmt::Result {
+        match self.status {
+            Status::AlreadyVolume => write!(
+                f,
+                "exsm: {volume} begins as a volume does; nothing was written. To make it anew, remove the file, or write zeros over the front of the device"
+            ),
+            Status::TooSmall { have: 0, need } => write!(
+                f,
+                "exsm: {volume} is empty, the volume needs {need} bytes; nothing was written. Remove the file: format makes it in its size"
+            ),
+            Status::TooSmall { have, need } => write!(
+                f,
+                "exsm: {volume} has {have} bytes, the volume needs {need}; nothing was written. Make a smaller volume, or remove it if it is a file"
+            ),
+            Status::ScriptLong { max } => write!(
+                f,
+                "exsm: the script has more than {max} bytes; the lines within them were answered"
+            ),
+            Status::NotEmpty => write!(
+                f,
+                "exsm: {volume} isn't empty; a dump is loaded into a volume that format just made. It is as it was"
+            ),
+            Status::BadDump => write!(
+                f,
+                "exsm: the standard input is no dump, or a damaged one; {volume} is as it was"
+            ),
+            Status::Misfit {
+                field,
+                dump,
+                volume: has,
+            } => {
+                let size = size_name(field);
+                write!(
+                    f,
+                    "exsm: the dump is of a volume with {size} {dump}, {volume} has {has}"
+                )
+            }
+            Status::NoRoom { area, need, free } => {
+                let units = units_name(area);
+                write!(
+                    f,
+                    "exsm: the dump needs {need} {units}, {volume} has {free} free: make a larger one"
+                )
+            }
+            Status::NoPages { need, free } => write!(
+                f,
+                "exsm: an object needs {need} free pages to be moved, {volume} has {free}; objects before it were moved, and everything is as it was"
+            ),
+            _ => Ok(()),
         }
     }
 
@@ -173,6 +216,23 @@ fn tell_misfit<W: fmt::Write>(
     match misfit_of(command, rest) {
         Some(misfit) => write!(f, "exsm: {misfit}\n"),
         None => f.write_str("exsm: the words aren't in the command's grammar\n"),
+    }
+}
+
+// What a volume is made with, by its place among the sizes of a dump.
+fn size_name(field: u8) -> &'static str {
+    match field {
+        1 => "page size",
+        2 => "seg len",
+        _ => "fan",
+    }
+}
+
+// What the units of an area are called.
+fn units_name(area: Area) -> &'static str {
+    match area {
+        Area::Page => "pages",
+        Area::Segment => "segs",
     }
 }
 

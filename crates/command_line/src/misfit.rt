@@ -1,11 +1,14 @@
 //! The first word of a command line that doesn't fit the grammar of its command.
 use crate::shown::Shown;
 use command_words::CommandWord;
-use ex_base::Geometry;
+use ex_base::{Geometry, fan_max};
 use std::fmt;
 
 /// The most options that a command has.
 const OPTIONS_MOST: usize = 5;
+
+/// The least fan of a volume.
+const FAN_LEAST: u32 = 2;
 
 /// What doesn't fit: a word, or that one is missing.
 #[derive(Clone, Copy, Debug)]
@@ -28,6 +31,12 @@ pub enum Misfit<'a> {
     Value {
         option: &'a str,
         word: Option<&'a str>,
+    },
+    /// A fan that a node of the page size has no room for.
+    Fan {
+        word: &'a str,
+        page_size: u32,
+        most: u32,
     },
     /// No word names the volume.
     NoVolume {
@@ -61,6 +70,17 @@ impl fmt::Display for Misfit<'_> {
                     }
                     None => write!(f, "--{option} takes {values}, and no word is left"),
                 }
+            }
+            Misfit::Fan {
+                word,
+                page_size,
+                most,
+            } => {
+                let word = Shown(word);
+                write!(
+                    f,
+                    "--fan takes 2..{most} with pages of {page_size} bytes, not '{word}'"
+                )
             }
             Misfit::NoVolume { command } => {
                 let command = command.as_str();
@@ -225,19 +245,26 @@ impl<'a> Read<'a> {
                 option: "count",
                 command,
             }),
-            (CommandWord::Format, [page_size, .., Some(fan)]) if !has_room(page_size, fan) => {
-                let (option, word) = ("fan", Some(fan));
-                Some(Misfit::Value { option, word })
-            }
+            (CommandWord::Format, [page_size, .., Some(fan)]) => fan_misfit(page_size, fan),
             _ => None,
         }
     }
 }
 
-// Whether a node of the page size, or of the one by default, has room for the fan.
-fn has_room(page_size: Option<&str>, fan: &str) -> bool {
-    match (size_of(page_size.unwrap_or("4096")), size_of(fan)) {
-        (Some(page_size), Some(fan)) => Geometry::make(page_size, 1, 0, 1, fan).is_ok(),
-        _ => true,
+// The fan, where a node of the page size, or of the one by default, has no room for it.
+fn fan_misfit<'a>(page_size: Option<&str>, word: &'a str) -> Option<Misfit<'a>> {
+    let page_size = size_of(page_size.unwrap_or("4096"))?;
+    let fan = size_of(word)?;
+    let Ok(geometry) = Geometry::make(page_size, 1, 0, 1, FAN_LEAST) else {
+        return None;
+    };
+    let most = fan_max(geometry.page_size);
+    if fan <= most {
+        return None;
     }
+    Some(Misfit::Fan {
+        word,
+        page_size,
+        most,
+    })
 }

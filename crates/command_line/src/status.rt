@@ -3,7 +3,7 @@ ghost use Rattle.std.specs.Prelude.{◌≡◌, ◌≢◌, ◌↔◌, Some};
 ghost use Rattle.std.specs.Process.{exit_status};
 ghost use Rattle.command_line.specs.Status.{code_of, status_name, part_name};
 
-use ex_base::{PageNo, Seen};
+use ex_base::{Area, PageNo, Seen};
 use session_views::Part;
 use std::fmt;
 use std::io::ErrorKind;
@@ -34,10 +34,20 @@ pub enum Status {
     TooSmall { have: u64, need: u64 },
     /// The script has more than `max` bytes.
     ScriptLong { max: u64 },
+    /// The volume that a dump is to be loaded into isn't empty.
+    NotEmpty,
+    /// The stream is no dump.
+    BadDump,
+    /// The dump is of a volume of other sizes. `field` is the first that differs: the page size (1), the length of a segment (2) or the fan (3).
+    Misfit { field: u8, dump: u32, volume: u32 },
+    /// The volume has fewer free units in the area than the dump needs.
+    NoRoom { area: Area, need: u64, free: u64 },
+    /// The volume has fewer free pages than an object needs to be moved.
+    NoPages { need: u64, free: u64 },
 }
 
 impl Status {
-    /// The exit status of the program: 0 where the command did all, and 2 to 11 in the order above else.
+    /// The exit status of the program: 0 where the command did all, and 2 to 16 in the order above else.
     pub fn code(&self) -> u8
         ensures { result ≡ code_of self.now }
     {
@@ -53,6 +63,11 @@ impl Status {
             Status::AlreadyVolume => 9,
             Status::TooSmall { .. } => 10,
             Status::ScriptLong { .. } => 11,
+            Status::NotEmpty => 12,
+            Status::BadDump => 13,
+            Status::Misfit { .. } => 14,
+            Status::NoRoom { .. } => 15,
+            Status::NoPages { .. } => 16,
         }
     }
 }
@@ -96,6 +111,11 @@ impl fmt::Display for Status {
             Status::AlreadyVolume => f.write_str("already a volume"),
             Status::TooSmall { .. } => f.write_str("too small"),
             Status::ScriptLong { .. } => f.write_str("script long"),
+            Status::NotEmpty => f.write_str("not empty"),
+            Status::BadDump => f.write_str("bad dump"),
+            Status::Misfit { .. } => f.write_str("misfit"),
+            Status::NoRoom { .. } => f.write_str("no room"),
+            Status::NoPages { .. } => f.write_str("no pages"),
         }
     }
 }

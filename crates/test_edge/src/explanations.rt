@@ -2,7 +2,7 @@
 
 use command_line::{Explanation, Status, StatusLine, Usage};
 use command_words::CommandWord;
-use ex_base::{PageNo, Seen};
+use ex_base::{Area, PageNo, Seen};
 use session_views::Part;
 use std::alloc::{AllocError, Global};
 use std::io;
@@ -17,6 +17,18 @@ fn words_of(alloc: Global, line: &str) -> Result<Vec<String>, AllocError> {
         words.push(String::from_str(alloc, word)?)?;
     }
     Ok(words)
+}
+
+fn misfit(field: u8, dump: u32, volume: u32) -> Status {
+    Status::Misfit {
+        field,
+        dump,
+        volume,
+    }
+}
+
+fn lack(area: Area, need: u64, free: u64) -> Status {
+    Status::NoRoom { area, need, free }
 }
 
 #[test]
@@ -77,7 +89,7 @@ fn wrong_words_are_told_by_the_grammar_of_their_command(rt: HostRuntime) -> Resu
         ),
         (
             "format --fan 21 v --page-size 512",
-            "--fan takes 2..(page size - 20) / 24, not '21'",
+            "--fan takes 2..20 with pages of 512 bytes, not '21'",
             Some(CommandWord::Format),
         ),
         (
@@ -199,7 +211,7 @@ fn each_status_has_its_reason(rt: HostRuntime) -> Result<(), Fail> {
             "run v",
             Status::BadVolume { part: Part::Node },
             None,
-            "v holds no volume, or a damaged one: part node, a node of an object's tree. It is as it was",
+            "v holds no volume, or a damaged one: part node, a node of an object's tree. It is as it was; exsm_volume.py v save FOLDER saves what can be read",
         ),
         (
             "run v",
@@ -277,6 +289,69 @@ fn the_last_line_has_the_number_and_the_name(rt: HostRuntime) -> Result<(), Fail
     ];
     for (reason, status) in unread {
         assert!(rt; Status::of_unread_words(reason) == status);
+    }
+    Ok(())
+}
+
+#[test]
+fn each_refusal_of_a_stream_has_its_reason_and_its_name(rt: HostRuntime) -> Result<(), Fail> {
+    let alloc = rt.alloc();
+    let rows = [
+        (
+            Status::NotEmpty,
+            "v isn't empty; a dump is loaded into a volume that format just made. It is as it was",
+            "12 not empty",
+        ),
+        (
+            Status::BadDump,
+            "the standard input is no dump, or a damaged one; v is as it was",
+            "13 bad dump",
+        ),
+        (
+            misfit(1, 1024, 512),
+            "the dump is of a volume with page size 1024, v has 512",
+            "14 misfit",
+        ),
+        (
+            misfit(2, 1, 2),
+            "the dump is of a volume with seg len 1, v has 2",
+            "14 misfit",
+        ),
+        (
+            misfit(3, 3, 2),
+            "the dump is of a volume with fan 3, v has 2",
+            "14 misfit",
+        ),
+        (
+            lack(Area::Page, 6, 5),
+            "the dump needs 6 pages, v has 5 free: make a larger one",
+            "15 no room",
+        ),
+        (
+            lack(Area::Segment, 2, 1),
+            "the dump needs 2 segs, v has 1 free: make a larger one",
+            "15 no room",
+        ),
+        (
+            Status::NoPages { need: 1, free: 0 },
+            "an object needs 1 free pages to be moved, v has 0; objects before it were moved, and everything is as it was",
+            "16 no pages",
+        ),
+    ];
+    for (status, text, last) in rows {
+        let told = Explanation {
+            words: &[],
+            volume: Some("v"),
+            status,
+            cause: None,
+        };
+        let wanted = format!(in alloc; "exsm: {text}")?;
+        assert!(rt; format!(in alloc; "{told}")?.as_str() == wanted.as_str());
+        let Some(line) = StatusLine::of(status) else {
+            return Err("a status has no line".into());
+        };
+        let wanted = format!(in alloc; "exsm: status {last}")?;
+        assert!(rt; format!(in alloc; "{line}")?.as_str() == wanted.as_str());
     }
     Ok(())
 }
