@@ -68,6 +68,11 @@ line_ends (status.Damaged page want got) kind output disk = absurd kind
 line_ends status.AlreadyVolume kind output disk = absurd kind
 line_ends (status.TooSmall have need) kind output disk = absurd kind
 line_ends (status.ScriptLong max) kind output disk = absurd kind
+line_ends status.NotEmpty kind output disk = absurd kind
+line_ends status.BadDump kind output disk = absurd kind
+line_ends (status.Misfit field dump volume) kind output disk = absurd kind
+line_ends (status.NoRoom area need free) kind output disk = absurd kind
+line_ends (status.NoPages need free) kind output disk = absurd kind
 
 pub check_sent : {a b c : Outside} (s : Status) (summary : Summary) (line : List ℕ) → IsWorld b → DiskOnly a b
     → ((table : Table) (was : List ℕ) → HoldsVolume a table was → IsCount b table summary)

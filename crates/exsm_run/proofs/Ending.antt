@@ -1,13 +1,14 @@
 -- What the status of a run says of how it was stopped.
-use Rattle.std.proofs.Common.{◌≡◌, ◌⊎◌, ℕ, List, Some, arith, inl, inr, refl, sym, subst}
+use Rattle.std.proofs.Common.{◌≡◌, ◌⊎◌, ℕ, List, Option, None, Some, IfSome, arith, inl, inr, refl, sym, subst}
 use Rattle.ex_base.specs.declared.geometry.Geometry.{Geometry}
 use Rattle.disk_model.specs.Outside.{Outside, IsWorld, Rose, WritesNothing}
 use Rattle.disk_model.specs.Runs.{leaves_quiet, leaves_start}
 use Rattle.talks.specs.declared.stopped.Stopped.{Stopped}
 use Rattle.talks.specs.declared.stopped.Stopped.TheVariants as stopped
 use Rattle.table_model.specs.declared.table.Table.{Table}
-use Rattle.talks.specs.Headline.{RunStarts}
-use Rattle.runs.specs.Headline.{MayComplete}
+use Rattle.session_views.specs.declared.part.Part.{Part}
+use Rattle.talks.specs.Headline.{RunOn, RunStarts}
+use Rattle.runs.specs.Source.{MayComplete}
 use Rattle.session_core.specs.Meant.{meant}
 use Rattle.volume_model.proofs.AtMostOne.{one_table}
 use Rattle.talks.specs.Stops.{IsOpeningStop, IsSoundStop}
@@ -15,18 +16,19 @@ use Rattle.command_line.specs.declared.status.Status.{Status}
 use Rattle.command_line.specs.declared.status.Status.TheVariants as status
 use Rattle.exsm_run.specs.Status.{IsRefusal}
 use Rattle.exsm_run.specs.Format.{FormatAnswers, MayFormat}
-use Rattle.exsm_run.specs.Openings.{LeftAlone}
+use Rattle.exsm_run.specs.Openings.{LeftAlone, OpeningPromise}
 use Rattle.exsm_run.specs.Script.{status_of, IsOnVolume, MayRun, IsOpeningStatus, IsRunStatus}
 
 -- what stops a run on a volume gives one of its statuses
-pub run_status : (most : ℕ) (why : Stopped) → IsSoundStop why → IsRunStatus (status_of most (Some why))
-run_status most stopped.Script sound = tt
-run_status most stopped.Output sound = tt
-run_status most stopped.Disk sound = tt
-run_status most stopped.Memory sound = tt
-run_status most (stopped.BadVolume part) sound = sound
-run_status most (stopped.Damaged page want got) sound = sound
-run_status most stopped.ScriptLong sound = tt
+pub run_status : (most : ℕ) (ending : Option Stopped) → IfSome ending IsSoundStop → IsRunStatus (status_of most ending)
+run_status most None sound = tt
+run_status most (Some stopped.Script) sound = tt
+run_status most (Some stopped.Output) sound = tt
+run_status most (Some stopped.Disk) sound = tt
+run_status most (Some stopped.Memory) sound = tt
+run_status most (Some (stopped.BadVolume part)) sound = sound
+run_status most (Some (stopped.Damaged page want got)) sound = sound
+run_status most (Some stopped.ScriptLong) sound = tt
 
 -- what stops an opening gives one of its statuses
 pub opening_status : (most : ℕ) (why : Stopped) → IsOpeningStop why → IsOpeningStatus (status_of most (Some why))
@@ -38,11 +40,55 @@ opening_status most (stopped.BadVolume part) stop = tt
 opening_status most (stopped.Damaged page want got) stop = stop
 opening_status most stopped.ScriptLong stop = stop
 
+-- ---- the ending by its status
+
+pub done_is : (most : ℕ) (ending : Option Stopped) → status_of most ending ≡ status.Done → ending ≡ None
+done_is most None is = refl
+done_is most (Some stopped.Script) is = absurd (cc)
+done_is most (Some stopped.Output) is = absurd (cc)
+done_is most (Some stopped.Disk) is = absurd (cc)
+done_is most (Some stopped.Memory) is = absurd (cc)
+done_is most (Some (stopped.BadVolume part)) is = absurd (cc)
+done_is most (Some (stopped.Damaged page want got)) is = absurd (cc)
+done_is most (Some stopped.ScriptLong) is = absurd (cc)
+
+pub bad_is : (most : ℕ) (ending : Option Stopped) (part : Part) → status_of most ending ≡ status.BadVolume part → ending ≡ Some (stopped.BadVolume part)
+bad_is most None part is = absurd (cc)
+bad_is most (Some stopped.Script) part is = absurd (cc)
+bad_is most (Some stopped.Output) part is = absurd (cc)
+bad_is most (Some stopped.Disk) part is = absurd (cc)
+bad_is most (Some stopped.Memory) part is = absurd (cc)
+bad_is most (Some (stopped.BadVolume other)) part is = cc
+bad_is most (Some (stopped.Damaged page want got)) part is = absurd (cc)
+bad_is most (Some stopped.ScriptLong) part is = absurd (cc)
+
+pub long_is : (most max : ℕ) (ending : Option Stopped) → status_of most ending ≡ status.ScriptLong max → (max ≡ most) × (ending ≡ Some stopped.ScriptLong)
+long_is most max None is = absurd (cc)
+long_is most max (Some stopped.Script) is = absurd (cc)
+long_is most max (Some stopped.Output) is = absurd (cc)
+long_is most max (Some stopped.Disk) is = absurd (cc)
+long_is most max (Some stopped.Memory) is = absurd (cc)
+long_is most max (Some (stopped.BadVolume part)) is = absurd (cc)
+long_is most max (Some (stopped.Damaged page want got)) is = absurd (cc)
+long_is most max (Some stopped.ScriptLong) is = (cc, refl)
+
 -- where nothing was written a crash leaves what it could leave before
 pub left_alone : {a b : Outside} → IsWorld a → WritesNothing a b → LeftAlone a b
 left_alone {a} {b} world nothing = record {
   nothing = nothing;
   moments = λ honest. leaves_quiet a.images (leaves_start a a.images world (λ d here. here)) honest nothing;
+}
+
+-- what a run says of its disk, by its status
+pub opening_of : {a b : Outside} (most : ℕ) (ending : Option Stopped) → IsWorld a → RunOn meant a b ending → OpeningPromise a b (status_of most ending)
+opening_of {a} {b} most ending world on = record {
+  bad = λ part is. on.bad part (bad_is most ending part is);
+  unopened = λ image part holds fails.
+      let found = on.unopened image part holds fails in
+      subst (λ (e : Option Stopped). IsOpeningStatus (status_of most e)) (sym found.1) (opening_status most found.0 found.2);
+  left = λ image part holds fails. left_alone world (on.left image part holds fails);
+  only = λ part is. left_alone world (on.bad_only part (bad_is most ending part is));
+  kept = λ part is. on.bad_kept part (bad_is most ending part is);
 }
 
 -- a run that was stopped is not refused
@@ -97,3 +143,8 @@ made_or_memory g before after (status.Damaged page want got) may answers disk ou
 made_or_memory g before after status.AlreadyVolume may answers disk output = absurd (may.unmade (answers.magic refl may.disk may.holds))
 made_or_memory g before after (status.TooSmall have need) may answers disk output = absurd (omega (arith, answers.too_small have need refl, may.large))
 made_or_memory g before after (status.ScriptLong max) may answers disk output = absurd answers.one_of
+made_or_memory g before after status.NotEmpty may answers disk output = absurd answers.one_of
+made_or_memory g before after status.BadDump may answers disk output = absurd answers.one_of
+made_or_memory g before after (status.Misfit field dump volume) may answers disk output = absurd answers.one_of
+made_or_memory g before after (status.NoRoom area need free) may answers disk output = absurd answers.one_of
+made_or_memory g before after (status.NoPages need free) may answers disk output = absurd answers.one_of

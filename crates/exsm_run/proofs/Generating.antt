@@ -1,14 +1,14 @@
 -- What `gen` promises.
-use Rattle.std.proofs.Common.{◌≡◌, ◌∙◌, ◌⊎◌, ⊎_elim, ◌<◌, ◌^◌, ℕ, List, [], ◌∷◌, ◌++◌, Option, None, Some, IsTrue, length, inl, inr, refl, sym, ap, subst, arith}
+use Rattle.std.proofs.Common.{◌≡◌, ◌∙◌, ◌⊎◌, ⊎_elim, ◌<◌, ◌^◌, ℕ, List, [], ◌∷◌, ◌++◌, Option, None, Some, length, inl, inr, refl, sym, ap, subst, arith}
 use Rattle.std.proofs.lemmas.List.{append-nil}
 use Rattle.std.proofs.lemmas.Option.{same_Some}
 use Rattle.std.specs.Prelude.{is_some}
-use Rattle.disk_model.specs.Outside.{Outside, Along, DiskOnly, Goes, IsWorld, Only, SinkOnly, WritesNothing}
+use Rattle.disk_model.specs.Outside.{Outside, Along, DiskOnly, Goes, IsWorld, SinkOnly}
 use Rattle.disk_model.specs.Runs.{along_sink, along_wider}
 use Rattle.table_model.specs.declared.reply.Reply.{Reply}
 use Rattle.table_model.specs.declared.table.Table.{Table}
 use Rattle.session_views.specs.declared.part.Part.{Part}
-use Rattle.talks.specs.Headline.{HoldsTable, RunStarts, SteppedTalk, TalkHeadline}
+use Rattle.talks.specs.Headline.{RunOn, RunStarts, SteppedTalk, TalkHeadline}
 use Rattle.talks.specs.Passage.{IsBroken, IsOver}
 use Rattle.talks.specs.Stops.{CausedBy, IsOpeningStop, IsSessionStop, IsSoundStop}
 use Rattle.talks.specs.Transcript.{Row, IsRunMoment, exchanges, output_of, request_in}
@@ -33,7 +33,7 @@ use Rattle.exsm_run.specs.Fresh.{IsFresh}
 use Rattle.exsm_run.specs.Generate.{Answered, GenPromise, StandsForOne, StopsUntold, ToldOf}
 use Rattle.exsm_run.specs.Script.{IsOnVolume, status_of}
 use Rattle.exsm_run.proofs.Checking.{SentLine, line_good, line_ends}
-use Rattle.exsm_run.proofs.Ending.{left_alone, opening_status, starts_on}
+use Rattle.exsm_run.proofs.Ending.{opening_of, starts_on}
 
 -- ---- how it is stopped
 
@@ -86,15 +86,6 @@ disk_is (stopped.BadVolume part) is = absurd (cc)
 disk_is (stopped.Damaged page want got) is = absurd (cc)
 disk_is stopped.ScriptLong is = absurd (cc)
 
-bad_is : (why : Stopped) (part : Part) → status_of 0 (Some why) ≡ status.BadVolume part → why ≡ stopped.BadVolume part
-bad_is stopped.Script part is = absurd (cc)
-bad_is stopped.Output part is = absurd (cc)
-bad_is stopped.Disk part is = absurd (cc)
-bad_is stopped.Memory part is = absurd (cc)
-bad_is (stopped.BadVolume p) part is = cc
-bad_is (stopped.Damaged page want got) part is = absurd (cc)
-bad_is stopped.ScriptLong part is = absurd (cc)
-
 -- ---- what was sent by then
 
 -- Nothing is sent for a line.
@@ -137,33 +128,21 @@ stopped_in seed count first talk why script (inl s) = inl (record {
 })
 stopped_in seed count first talk why script (inr u) = inr (why, refl, u)
 
-pub gen_stopped : {a b : Outside} (seed count : ℕ) (first : Generated) (talk : Generated) (why : Stopped) → IsWorld a → to_come first.lines ≡ generated seed count → StopsGen why → CausedBy why a b
+pub gen_stopped : {a b : Outside} (seed count : ℕ) (first : Generated) (talk : Generated) (why : Stopped) → IsWorld a → to_come first.lines ≡ generated seed count → StopsGen why
     → ((table : Table) (was : List ℕ) → RunStarts meant a table was → TalkHeadline meant IsFresh generated_talking first talk table was a b (Some why))
     → (IsBroken generated_talking first a.left why b.left ⊎ (IsOpeningStop why × DiskOnly a b))
-    → ((table : Table) (was : List ℕ) → HoldsTable meant a table was → IsSoundStop why)
-    → ((part : Part) → why ≡ stopped.BadVolume part → (image : List ℕ) → a.disk ≡ Some image → FirstBad image part)
-    → ((part : Part) → why ≡ stopped.BadVolume part → WritesNothing a b)
-    → ((part : Part) → why ≡ stopped.BadVolume part → (image : List ℕ) → IsTrue a.honest → a.disk ≡ Some image → (b.disk ≡ Some image) × Only image b.images)
-    → ((image : List ℕ) (part : Part) → a.disk ≡ Some image → FirstBad image part → IsOpeningStop why)
-    → ((image : List ℕ) (part : Part) → a.disk ≡ Some image → FirstBad image part → WritesNothing a b)
-    → GenPromise seed count a b (status_of 0 (Some why))
-gen_stopped {a} {b} seed count first talk why world script whence caused headline broken sound bad bad_only bad_kept unopened left = record {
+    → RunOn meant a b (Some why) → GenPromise seed count a b (status_of 0 (Some why))
+gen_stopped {a} {b} seed count first talk why world script whence headline broken on = record {
   done = λ table was on is. absurd (no_done why is);
   front = λ table was on is. absurd (no_output why whence is);
   nothing = λ table was on done output. sent_none (Some why) (λ is. not_output why whence (cc)) (headline table was (starts_on on));
   stopped = λ table was on done output. stopped_in seed count first talk why script (headline table was (starts_on on));
-  left = ⊎_elim (λ cut. cut.2.left_so) (λ unopened. unopened.1.left) broken;
+  left = ⊎_elim (λ cut. cut.3.left_so) (λ unopened. unopened.1.left) broken;
   moments = λ table was on. stands_moments (Some why) (headline table was (starts_on on));
-  sound = λ table was on. sound_kind why whence (sound table was on);
-  completes = λ may. line_ends (status_of 0 (Some why)) (sound_kind why whence (sound may.table may.was may.on)) (no_output why whence)
-      (λ is. may.no_disk_fault (subst (λ (w : Stopped). CausedBy w a b) (disk_is why is) caused));
-  opening = record {
-    bad = λ part is. bad part (bad_is why part is);
-    unopened = λ image part holds fails. opening_status 0 why (unopened image part holds fails);
-    left = λ image part holds fails. left_alone world (left image part holds fails);
-    only = λ part is. left_alone world (bad_only part (bad_is why part is));
-    kept = λ part is. bad_kept part (bad_is why part is);
-  };
+  sound = λ table was holds. sound_kind why whence (on.sound table was holds);
+  completes = λ may. line_ends (status_of 0 (Some why)) (sound_kind why whence (on.sound may.table may.was may.on)) (no_output why whence)
+      (λ is. may.no_disk_fault (subst (λ (w : Stopped). CausedBy w a b) (disk_is why is) on.caused));
+  opening = opening_of 0 (Some why) world on;
 }
 
 -- ---- all lines were answered
@@ -227,9 +206,9 @@ pub gen_sent : {a b c : Outside} (s : Status) (seed count : ℕ) (first talk : G
     → ((s ≡ status.Done) ⊎ (s ≡ status.OutputFault) → (replies : List Reply) → IsTallyOf replies talk.tally → line ≡ gen_line replies)
     → ((table : Table) (was : List ℕ) → RunStarts meant a table was → TalkHeadline meant IsFresh generated_talking first talk table was a b None)
     → IsOver generated_talking first a.left b.left
-    → ((image : List ℕ) (part : Part) → a.disk ≡ Some image → FirstBad image part → ⊥)
-    → SentLine s b c line → GenPromise seed count a c s
-gen_sent {a} {b} {c} s seed count first talk line world goes script few none made headline over good sent =
+    → RunOn meant a b None → SentLine s b c line → GenPromise seed count a c s
+gen_sent {a} {b} {c} s seed count first talk line world goes script few none made headline over on sent =
+    let good : (image : List ℕ) (part : Part) → a.disk ≡ Some image → FirstBad image part → ⊥ = λ image part holds fails. let is = (on.unopened image part holds fails).1 in cc in
     let before : (table : Table) (was : List ℕ) → IsOnVolume a table was → b.sent ≡ Some was = λ table was on. sent_none None (λ is. cc) (headline table was (starts_on on)) in
     let told : (s ≡ status.Done) ⊎ (s ≡ status.OutputFault) → (table : Table) (was : List ℕ) → IsOnVolume a table was → ToldOf seed count table was a c line =
     λ is table was on. told_of seed count first talk line world sent.only (before table was on) script few none (made is) (headline table was (starts_on on)) in

@@ -5,3 +5,4 @@ mod Lines
 mod Counting
 mod Checking
 mod Generating
+mod Running

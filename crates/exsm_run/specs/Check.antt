@@ -15,7 +15,7 @@ use Rattle.volume_model.specs.Parts.{Decodes, StandsFor}
 use Rattle.volume_model.specs.Shown.{used_in}
 use Rattle.volume_model.specs.Volume.{Decoded, reach_of, units_of}
 use Rattle.command_line.specs.declared.status.Status.{Status}
-use Rattle.command_line.specs.declared.status.Status.TheVariants.{Done, Usage, ScriptFault, OutputFault, DiskFault, BadVolume, Memory, Damaged, AlreadyVolume, TooSmall, ScriptLong}
+use Rattle.command_line.specs.declared.status.Status.TheVariants.{Done, Usage, ScriptFault, OutputFault, DiskFault, BadVolume, Memory, Damaged, AlreadyVolume, TooSmall, ScriptLong, NotEmpty, BadDump, Misfit, NoRoom, NoPages}
 use Rattle.exsm_run.specs.Openings.{OpeningPromise}
 use Rattle.exsm_run.specs.Script.{HoldsVolume, IsOnVolume}
 
@@ -62,6 +62,11 @@ IsLineStatus (Damaged page want got) = ⊥
 IsLineStatus AlreadyVolume = ⊥
 IsLineStatus (TooSmall have need) = ⊥
 IsLineStatus (ScriptLong max) = ⊥
+IsLineStatus NotEmpty = ⊥
+IsLineStatus BadDump = ⊥
+IsLineStatus (Misfit field dump volume) = ⊥
+IsLineStatus (NoRoom area need free) = ⊥
+IsLineStatus (NoPages need free) = ⊥
 
 -- the status where a volume wasn't opened
 abbrev pub unopened_status : OpenFault → Status
@@ -89,6 +94,11 @@ StopsCount (Damaged page want got) before after = want ≢ got
 StopsCount AlreadyVolume before after = ⊥
 StopsCount (TooSmall have need) before after = ⊥
 StopsCount (ScriptLong max) before after = ⊥
+StopsCount NotEmpty before after = ⊥
+StopsCount BadDump before after = ⊥
+StopsCount (Misfit field dump volume) before after = ⊥
+StopsCount (NoRoom area need free) before after = ⊥
+StopsCount (NoPages need free) before after = ⊥
 
 -- The summary is of the table that the disk holds and of the units that it reaches, whatever a crash now leaves.
 pub record IsCount (w : Outside) (table : Table) (s : Summary) : Type 0 where

@@ -7,7 +7,7 @@ use Rattle.disk_model.specs.Outside.{Outside, RestsOn, Rose}
 use Rattle.disk_model.specs.Changes.{SameBut}
 use Rattle.exsm_run.specs.EmptyVolume.{HasMagic, IsEmptyVolume, IsMade, IsUnmadeOrEmpty}
 use Rattle.command_line.specs.declared.status.Status.{Status}
-use Rattle.command_line.specs.declared.status.Status.TheVariants.{Done, Usage, ScriptFault, OutputFault, DiskFault, BadVolume, Memory, Damaged, AlreadyVolume, TooSmall, ScriptLong}
+use Rattle.command_line.specs.declared.status.Status.TheVariants.{Done, Usage, ScriptFault, OutputFault, DiskFault, BadVolume, Memory, Damaged, AlreadyVolume, TooSmall, ScriptLong, NotEmpty, BadDump, Misfit, NoRoom, NoPages}
 
 -- the line that says how many bytes the volume has
 unfoldable pub format_line : ℕ → List ℕ
@@ -26,6 +26,11 @@ IsFormatStatus (Damaged page want got) = ⊥
 IsFormatStatus AlreadyVolume = ⊤
 IsFormatStatus (TooSmall have need) = ⊤
 IsFormatStatus (ScriptLong max) = ⊥
+IsFormatStatus NotEmpty = ⊥
+IsFormatStatus BadDump = ⊥
+IsFormatStatus (Misfit field dump volume) = ⊥
+IsFormatStatus (NoRoom area need free) = ⊥
+IsFormatStatus (NoPages need free) = ⊥
 
 -- which status `format` gives on a disk
 pub record FormatAnswers (g : Geometry) (status : Status) (before : Outside) : Type 0 where

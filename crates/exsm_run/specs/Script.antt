@@ -6,10 +6,12 @@ use Rattle.session_views.specs.View.{View, Meaning}
 use Rattle.talks.specs.Headline.{HoldsTable}
 use Rattle.talks.specs.declared.stopped.Stopped.{Stopped}
 use Rattle.talks.specs.declared.stopped.Stopped.TheVariants as stopped
+use Rattle.talks.specs.Talking.{Talking}
 use Rattle.runs.specs.Headline.{Headline}
+use Rattle.runs.specs.Source.{RunOfSource}
 use Rattle.session_core.specs.Meant.{meant}
 use Rattle.command_line.specs.declared.status.Status.{Status}
-use Rattle.command_line.specs.declared.status.Status.TheVariants.{Done, Usage, ScriptFault, OutputFault, DiskFault, BadVolume, Memory, Damaged, AlreadyVolume, TooSmall, ScriptLong}
+use Rattle.command_line.specs.declared.status.Status.TheVariants.{Done, Usage, ScriptFault, OutputFault, DiskFault, BadVolume, Memory, Damaged, AlreadyVolume, TooSmall, ScriptLong, NotEmpty, BadDump, Misfit, NoRoom, NoPages}
 
 -- the status of a run that ended so, where at most so many bytes of a script count: at the end of its script (None), or by a stop
 abbrev pub status_of : ℕ → Option Stopped → Status
@@ -28,6 +30,12 @@ pub record Ran {S : Type 0} (M : Meaning S) (Fresh : View S → Type 0) (most : 
   pub is : status ≡ status_of most ending
   pub headline : Headline M Fresh table was most before after ending
 
+-- The run of a source of at most so many bytes ended with this status, whichever talk took its lines, and this is what it did.
+pub record RanSource {S T : Type 0} (M : Meaning S) (Fresh : View S → Type 0) (K : Talking T) (begins : T → ℕ → Type 0) (most : ℕ) (before after : Outside) (status : Status) : Type 0 where
+  pub ending : Option Stopped
+  pub is : status ≡ status_of most ending
+  pub run : RunOfSource M Fresh K begins most before after ending
+
 -- the statuses of a run that took no line: the disk holds no volume, or could not be read, or no memory was there
 abbrev pub IsOpeningStatus : Status → Type 0
 IsOpeningStatus Done = ⊥
@@ -41,6 +49,11 @@ IsOpeningStatus (Damaged page want got) = ⊥
 IsOpeningStatus AlreadyVolume = ⊥
 IsOpeningStatus (TooSmall have need) = ⊥
 IsOpeningStatus (ScriptLong max) = ⊥
+IsOpeningStatus NotEmpty = ⊥
+IsOpeningStatus BadDump = ⊥
+IsOpeningStatus (Misfit field dump volume) = ⊥
+IsOpeningStatus (NoRoom area need free) = ⊥
+IsOpeningStatus (NoPages need free) = ⊥
 
 -- the statuses of a run on a volume
 abbrev pub IsRunStatus : Status → Type 0
@@ -55,6 +68,11 @@ IsRunStatus (Damaged page want got) = ⊥
 IsRunStatus AlreadyVolume = ⊥
 IsRunStatus (TooSmall have need) = ⊥
 IsRunStatus (ScriptLong max) = ⊤
+IsRunStatus NotEmpty = ⊥
+IsRunStatus BadDump = ⊥
+IsRunStatus (Misfit field dump volume) = ⊥
+IsRunStatus (NoRoom area need free) = ⊥
+IsRunStatus (NoPages need free) = ⊥
 
 -- An honest disk holds an image of this table, and the sink tells what it was sent.
 abbrev pub HoldsVolume : Outside → Table → List ℕ → Type 0

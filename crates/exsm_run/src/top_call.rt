@@ -15,6 +15,7 @@ use crate::session::VolumeSession;
 use crate::status::Status;
 use command_words::{Wish, wish_of};
 use disk_model::Host;
+use runs::Script;
 use std::alloc::Global;
 
 /// Does on the host what the words of a command line ask for, and says how it ended.
@@ -77,7 +78,7 @@ fn fulfil<H: Host>(alloc: Global, host: &mut H, wish: Wish) -> Status
 {
     match wish {
         Wish::Format(geometry) => format(alloc, host, &geometry),
-        Wish::Run { most } => run_script::<VolumeSession, H>(alloc, host, most),
+        Wish::Run { most } => run_script::<VolumeSession, Script, H>(alloc, host, most),
         Wish::Check => checked(alloc, host),
         Wish::Gen { seed, count } => generate(alloc, host, seed, count),
     }

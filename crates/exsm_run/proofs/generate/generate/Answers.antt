@@ -13,16 +13,13 @@ pub returns-in-Err-clause-promise : goal.returns-in-Err-clause-promise
 returns-in-Err-clause-promise g c =
     let promise = c.in-Err.ensures in
     subst (λ (s : Status). GenPromise c.args.seed c.args.count (g.H.World.outside c.args.host.now) (g.H.World.outside c.run_talk.new.host) s) (sym c.status_of.ensures)
-    (gen_stopped c.args.seed c.args.count c.make-talk.result c.run_talk.new.talk c.in-Err.stopped (g.H.World.is_world c.args.host.now) c.make-talk.ensures.lines promise.whence promise.caused promise.stopped promise.broken promise.sound
-    (λ part is. promise.bad part (ap (λ w. Err w) is)) (λ part is. promise.bad_only part (ap (λ w. Err w) is)) (λ part is. promise.bad_kept part (ap (λ w. Err w) is))
-    (λ image part holds fails. let found = promise.unopened image part holds fails in subst IsOpeningStop (sym (err_same _ _ refl refl found.1)) found.2) promise.left)
+    (gen_stopped c.args.seed c.args.count c.make-talk.result c.run_talk.new.talk c.in-Err.stopped (g.H.World.is_world c.args.host.now) c.make-talk.ensures.lines promise.whence promise.headline promise.broken promise.on)
 
 pub returns-in_default-summary-clause-promise : goal.returns-in_default-summary-clause-promise
 returns-in_default-summary-clause-promise g c =
     let promise = c.in_default.ensures in
     gen_sent _ c.args.seed c.args.count c.make-talk.result c.run_talk.new.talk [] (g.H.World.is_world c.run_talk.new.host) promise.goes c.make-talk.ensures.lines c.make-talk.ensures.few c.make-talk.ensures.none
-    (λ is replies tally. ⊎_elim (λ done. absurd (cc)) (λ output. absurd (cc)) is) promise.whole promise.over
-    (λ image part holds fails. let is = (promise.unopened image part holds fails).1 in cc) (unsent (g.H.World.outside c.run_talk.new.host) [])
+    (λ is replies tally. ⊎_elim (λ done. absurd (cc)) (λ output. absurd (cc)) is) promise.headline promise.over promise.on (unsent (g.H.World.outside c.run_talk.new.host) [])
 
 pub returns-then-is_err-clause-output_fault : goal.returns-then-is_err-clause-output_fault
 returns-then-is_err-clause-output_fault g c is =
@@ -33,8 +30,7 @@ pub returns-then-is_err-clause-promise : goal.returns-then-is_err-clause-promise
 returns-then-is_err-clause-promise g c =
     let promise = c.in_default.ensures in
     gen_sent _ c.args.seed c.args.count c.make-talk.result c.run_talk.new.talk c.as_bytes.result.now (g.H.World.is_world c.run_talk.new.host) promise.goes c.make-talk.ensures.lines c.make-talk.ensures.few c.make-talk.ensures.none
-    (λ is replies tally. c.as_bytes.ensures.value ∙ c.in-Ok.ensures replies tally) promise.whole promise.over
-    (λ image part holds fails. let is = (promise.unopened image part holds fails).1 in cc)
+    (λ is replies tally. c.as_bytes.ensures.value ∙ c.in-Ok.ensures replies tally) promise.headline promise.over promise.on
     (cut_line c.as_bytes.result.now c.send_all.ensures.only (at_err c.send_all.result _ (sym c.is_err.ensures.value ∙ c.if-is_err.true) c.send_all.ensures.cause)
     (at_err c.send_all.result _ (sym c.is_err.ensures.value ∙ c.if-is_err.true) c.send_all.ensures.failed))
 
@@ -42,6 +38,5 @@ pub returns-clause-promise : goal.returns-clause-promise
 returns-clause-promise g c =
     let promise = c.in_default.ensures in
     gen_sent _ c.args.seed c.args.count c.make-talk.result c.run_talk.new.talk c.as_bytes.result.now (g.H.World.is_world c.run_talk.new.host) promise.goes c.make-talk.ensures.lines c.make-talk.ensures.few c.make-talk.ensures.none
-    (λ is replies tally. c.as_bytes.ensures.value ∙ c.in-Ok.ensures replies tally) promise.whole promise.over
-    (λ image part holds fails. let is = (promise.unopened image part holds fails).1 in cc)
+    (λ is replies tally. c.as_bytes.ensures.value ∙ c.in-Ok.ensures replies tally) promise.headline promise.over promise.on
     (whole_line c.as_bytes.result.now c.send_all.ensures.only (if_no_error c.send_all.result (sym c.is_err.ensures.value ∙ c.if-is_err.false) c.send_all.ensures.sent))

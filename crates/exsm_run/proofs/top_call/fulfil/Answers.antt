@@ -1,8 +1,9 @@
 use Rattle.std.proofs.Common.{sym, subst}
 use Rattle.command_words.specs.declared.wish.Wish.{Wish}
 use Rattle.exsm_run.specs.Format.{FormatAnswers, IsFormatStatus}
-use Rattle.exsm_run.specs.Promises.{FormatPromise, Promise, RunPromise}
-use Rattle.exsm_run.proofs.Ending.{no_usage, starts_on, completes_on, made_or_memory}
+use Rattle.exsm_run.specs.Promises.{FormatPromise, Promise}
+use Rattle.exsm_run.proofs.Ending.{no_usage, made_or_memory}
+use Rattle.exsm_run.proofs.Running.{run_promise}
 use Rattle.exsm_run.proofs.top_call.fulfil.Goals as goal
 
 pub returns-in-Format-clause-promise : goal.returns-in-Format-clause-promise
@@ -38,21 +39,5 @@ returns-in-Run-clause-refused g c refused = absurd (c.run_script.ensures.never r
 
 pub returns-in-Run-clause-promise : goal.returns-in-Run-clause-promise
 returns-in-Run-clause-promise g c =
-    let promise = c.run_script.ensures in
-    let whole : RunPromise c.in-Run.most (g.H.World.outside c.args.host.now) (g.H.World.outside c.run_script.new.host) c.run_script.result = record {
-      headline = λ table was volume. promise.headline table was (starts_on volume);
-      sound = promise.sound;
-      completes = λ may. promise.completes (completes_on may);
-      reads_all = promise.reads_all;
-      within = promise.within;
-      long = promise.script_long;
-      draws = promise.drawn;
-      opening = record {
-        bad = promise.bad;
-        unopened = promise.unopened;
-        left = promise.left;
-        only = promise.bad_only;
-        kept = promise.bad_kept;
-      };
-    } in
-    subst (λ (w : Wish). Promise w (g.H.World.outside c.args.host.now) (g.H.World.outside c.run_script.new.host) c.run_script.result) (sym c.in-Run.is) whole
+    subst (λ (w : Wish). Promise w (g.H.World.outside c.args.host.now) (g.H.World.outside c.run_script.new.host) c.run_script.result) (sym c.in-Run.is)
+    (run_promise (g.H.World.is_world c.args.host.now) c.run_script.ensures.ran)

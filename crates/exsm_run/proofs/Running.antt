@@ -1,0 +1,53 @@
+-- What a run of a source promises, by its status.
+use Rattle.std.proofs.Common.{◌≡◌, ◌⊎◌, ◌∙◌, ⊎_elim, ◌≤◌, ◌<◌, ◌+◌, ℕ, List, [], Option, Some, length, drop, inl, inr, sym, ap, subst}
+use Rattle.disk_model.specs.Outside.{Outside, IsWorld}
+use Rattle.table_model.specs.declared.table.Table.{Table}
+use Rattle.session_views.specs.View.{View}
+use Rattle.talks.specs.Talking.{Talking}
+use Rattle.talks.specs.declared.stopped.Stopped.{Stopped}
+use Rattle.runs.specs.ScriptTalk.{script_begins, script_talking}
+use Rattle.runs.proofs.Whole.{headline_of}
+use Rattle.session_core.specs.Meant.{meant}
+use Rattle.session_core.specs.Sessions.{SessionState}
+use Rattle.command_line.specs.declared.status.Status.{Status}
+use Rattle.command_line.specs.declared.status.Status.TheVariants.{Done, Memory, ScriptLong}
+use Rattle.exsm_run.specs.Fresh.{IsFresh}
+use Rattle.exsm_run.specs.Openings.{OpeningPromise}
+use Rattle.exsm_run.specs.Promises.{RunPromise}
+use Rattle.exsm_run.specs.Script.{HoldsVolume, IsRunStatus, MayRun, RanSource, status_of}
+use Rattle.exsm_run.proofs.Ending.{completes_on, done_is, long_is, opening_of, run_status, starts_on}
+
+-- What it promises whichever talk took its lines.
+pub record Ends (most : ℕ) (before after : Outside) (status : Status) : Type 0 where
+  pub sound : (table : Table) (was : List ℕ) → HoldsVolume before table was → IsRunStatus status
+  pub completes : MayRun most before after → (status ≡ Done) ⊎ (status ≡ Memory)
+  pub reads_all : status ≡ Done → (script : List ℕ) → before.left ≡ Some script → after.left ≡ Some []
+  pub within : status ≡ Done → (script : List ℕ) → before.left ≡ Some script → length script ≤ most
+  pub long : (max : ℕ) → status ≡ ScriptLong max → (script : List ℕ) → before.left ≡ Some script → (max ≡ most) × (most < length script)
+  pub draws : (script : List ℕ) → before.left ≡ Some script → (n : ℕ) × (n ≤ most + 1) × (after.left ≡ Some (drop n script))
+  pub opening : OpeningPromise before after status
+
+pub ends_of : {T : Type 0} {Fresh : View SessionState → Type 0} {K : Talking T} {begins : T → ℕ → Type 0} {most : ℕ} {before after : Outside} {status : Status} → IsWorld before
+    → RanSource meant Fresh K begins most before after status → Ends most before after status
+ends_of {most = most} {before = before} {after = after} world ran = record {
+  sound = λ table was on. subst IsRunStatus (sym ran.is) (run_status most ran.ending (ran.run.on.sound table was on));
+  completes = λ may. ⊎_elim (λ none. inl (ran.is ∙ ap (status_of most) none)) (λ memory. inr (ran.is ∙ ap (status_of most) memory)) (ran.run.completes (completes_on may));
+  reads_all = λ done. ran.run.reads.reads_all (done_is most ran.ending (sym ran.is ∙ done));
+  within = λ done. ran.run.reads.within (done_is most ran.ending (sym ran.is ∙ done));
+  long = λ max is script told. let long = long_is most max ran.ending (sym ran.is ∙ is) in (long.0, ran.run.reads.long long.1 script told);
+  draws = ran.run.reads.draws;
+  opening = subst (OpeningPromise before after) (sym ran.is) (opening_of most ran.ending world ran.run.on);
+}
+
+pub run_promise : {most : ℕ} {before after : Outside} {status : Status} → IsWorld before → RanSource meant IsFresh script_talking script_begins most before after status → RunPromise most before after status
+run_promise world ran =
+    let ends = ends_of world ran in record {
+      headline = λ table was volume. record { ending = ran.ending; is = ran.is; headline = headline_of (ran.run.headline table was (starts_on volume)) };
+      sound = ends.sound;
+      completes = ends.completes;
+      reads_all = ends.reads_all;
+      within = ends.within;
+      long = ends.long;
+      draws = ends.draws;
+      opening = ends.opening;
+    }
