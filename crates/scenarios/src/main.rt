@@ -1,0 +1,23 @@
+//! Reads scenarios on the standard input, and writes what came of them: command lines on volumes in memory, whose calls may fail, lie or stop.
+#![tactic(auto)]
+
+mod faults;
+mod hosts;
+mod images;
+mod outcomes;
+mod scenes;
+mod values;
+
+use std::io;
+use std::io::Write;
+
+fn main(rt: HostRuntime) -> io::Result<()> {
+    let mut scenes = scenes::Scenes::new(rt.alloc());
+    let mut number: u64 = 0;
+    for line in rt.lines(rt.alloc()) {
+        number = number.saturating_add(1);
+        let told = scenes.told(number, line?.as_str())?;
+        io::writer(&rt).write_all(told.as_slice())?;
+    }
+    Ok(())
+}

@@ -1,5 +1,0 @@
-use Rattle.table_model.specs.Machines.{IsMachine}
-use Rattle.test_gen.proofs.reference.line_by.Given as goal
-
-abbrev pub invariant-loop-four : goal.invariant-loop-four
-invariant-loop-four l = (goal.iterator-loop-four).can_next l.four-iterator × (goal.iterator-loop-four).is_finite l.four-iterator × IsMachine l.machine
