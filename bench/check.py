@@ -1,26 +1,39 @@
 #!/usr/bin/env python3
 """Times `exsm check` on volumes of several sizes, and `exsm gen`.
 
-    python3 bench/check.py PROGRAM [--folder FOLDER] [--quick]
-
-PROGRAM is a built exsm. Volumes lie in a new folder below FOLDER (/dev/shm where there is none given). Each figure is the least of three runs: time
-of the clock, time of the processor, and the most memory that the process had, of which the system can't tell less than what Python has, some 14 MiB. The volumes: one object of 100 MiB, one of 4 GiB, and 100,000 objects of
-100 bytes in one file; and an empty script is run on the largest geometry. `gen` makes 10,000 and 100,000 lines on a volume of 64,000 pages. `--quick` leaves out what takes more than some seconds.
+PROGRAM is a built exsm. Volumes lie in a new folder below FOLDER (/dev/shm where there is none
+given). Each figure is the least of three runs: time of the clock, time of the processor, and the
+most memory that the process had, of which the system can't tell less than what Python has, some
+14 MiB. The volumes: one object of 100 MiB, one of 4 GiB, and 100,000 objects of 100 bytes in one
+file; and an empty script is run on the largest geometry. `gen` makes 10,000 and 100,000 lines on
+a volume of 64,000 pages. `--quick` leaves out what takes more than some seconds.
 """
+from __future__ import annotations
+
 import argparse
 import os
 import subprocess
 import sys
 import tempfile
 import time
+from typing import Iterable, Iterator, NamedTuple
 
 MIB = 1 << 20
 LINE_MOST = 16 * MIB
 RUNS = 3
 
 
-def once(words, lines=()):
-    """Seconds of the clock and of the processor, MiB, and what was sent."""
+class Ran(NamedTuple):
+    """A run: seconds of the clock and of the processor, MiB, and what was sent."""
+
+    clock: float
+    processor: float
+    memory: float
+    sent: str
+
+
+def once(words: list[object], lines: Iterable[str] = ()) -> Ran:
+    """Runs a command on a script."""
     with tempfile.TemporaryFile() as source, tempfile.TemporaryFile() as sink:
         source.writelines(f"{line}\n".encode() for line in lines)
         source.seek(0)
@@ -33,22 +46,28 @@ def once(words, lines=()):
         sent = sink.read().decode()
     if child.returncode:
         sys.exit(f"check.py: {' '.join(map(str, words))} ended with status {child.returncode}")
-    return wall, used.ru_utime + used.ru_stime, used.ru_maxrss / 1024, sent
+    return Ran(wall, used.ru_utime + used.ru_stime, used.ru_maxrss / 1024, sent)
 
 
-def tell(what, runs):
-    wall, processor, memory = (min(run[at] for run in runs) for at in range(3))
-    print(f"{what}: {wall * 1000:.1f} ms, {processor * 1000:.1f} ms of the processor, {memory:.1f} MiB; {runs[0][3].strip()}", flush=True)
+def tell(what: str, runs: list[Ran]) -> None:
+    """Prints the least of some runs, and what the first one sent."""
+    clock = min(it.clock for it in runs)
+    processor = min(it.processor for it in runs)
+    memory = min(it.memory for it in runs)
+    print(f"{what}: {clock * 1000:.1f} ms, {processor * 1000:.1f} ms of the processor, "
+          f"{memory:.1f} MiB; {runs[0].sent.strip()}", flush=True)
 
 
-def one_object(size):
+def one_object(size: int) -> Iterator[str]:
+    """A script that makes an object of so many bytes."""
     yield from ("begin", "file docs", "create docs as @d")
     for at in range(0, size, LINE_MOST):
         yield f"append @d rep:{min(LINE_MOST, size - at)}:61"
     yield "commit"
 
 
-def small_objects(count, block=200):
+def small_objects(count: int, block: int = 200) -> Iterator[str]:
+    """A script that makes so many objects of 100 bytes in one file."""
     yield from ("begin", "file small", "commit")
     for first in range(0, count, block):
         yield "begin"
@@ -57,19 +76,25 @@ def small_objects(count, block=200):
         yield "commit"
 
 
-def volume(program, path, pages, segs):
+def volume(program: str, path: str, pages: int, segs: int, page_size: int = 4096,
+           fan: int = 169) -> None:
+    """Makes a new volume."""
     if os.path.exists(path):
         os.remove(path)
-    once([program, "format", path, "--page-size", 4096, "--pages", pages, "--segs", segs, "--seg-len", 1, "--fan", 169])
+    once([program, "format", path, "--page-size", page_size, "--pages", pages, "--segs", segs,
+          "--seg-len", 1, "--fan", fan])
 
 
-def checked(program, path, what, pages, segs, lines):
+def checked(program: str, path: str, what: str, pages: int, segs: int,
+            lines: Iterable[str]) -> None:
+    """Times `check` of a volume on which a script ran."""
     volume(program, path, pages, segs)
     once([program, "run", path], lines)
     tell(f"check of {what}", [once([program, "check", path]) for _ in range(RUNS)])
 
 
-def generated(program, path, count):
+def generated(program: str, path: str, count: int) -> None:
+    """Times `gen` of so many lines."""
     runs = []
     for _ in range(RUNS):
         volume(program, path, 64_000, 64_000)
@@ -77,15 +102,18 @@ def generated(program, path, count):
     tell(f"gen of {count:,} lines", runs)
 
 
-def largest(program, path):
-    os.remove(path)
-    once([program, "format", path, "--page-size", 512, "--pages", 4_000_000, "--segs", 4_000_000, "--seg-len", 1, "--fan", 2])
-    tell("an empty script on the largest geometry", [once([program, "run", path]) for _ in range(RUNS)])
+def largest(program: str, path: str) -> None:
+    """Times an empty script on the largest geometry."""
+    volume(program, path, 4_000_000, 4_000_000, 512, 2)
+    tell("an empty script on the largest geometry",
+         [once([program, "run", path]) for _ in range(RUNS)])
 
 
-def main():
-    parser = argparse.ArgumentParser(description=__doc__.splitlines()[0])
-    parser.add_argument("program")
+def main() -> None:
+    """Times all of it on one program."""
+    parser = argparse.ArgumentParser(
+        description=__doc__, formatter_class=argparse.RawDescriptionHelpFormatter)
+    parser.add_argument("program", metavar="PROGRAM")
     parser.add_argument("--folder", default="/dev/shm")
     parser.add_argument("--quick", action="store_true")
     asked = parser.parse_args()
@@ -95,9 +123,11 @@ def main():
         checked(program, path, "one object of 100 MiB", 1024, 32_000, one_object(100 * MIB))
         generated(program, path, 10_000)
         if not asked.quick:
-            checked(program, path, "one object of 4 GiB", 16_000, 1_100_000, one_object(4096 * MIB - 1))
+            checked(program, path, "one object of 4 GiB", 16_000, 1_100_000,
+                    one_object(4096 * MIB - 1))
             largest(program, path)
-            checked(program, path, "100,000 objects of 100 bytes", 64_000, 1024, small_objects(100_000))
+            checked(program, path, "100,000 objects of 100 bytes", 64_000, 1024,
+                    small_objects(100_000))
             generated(program, path, 100_000)
 
 
