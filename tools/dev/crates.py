@@ -2,44 +2,63 @@
 """Prints how the crates of crates.txt hang together: levels, chains, sizes, edges and layers.
 
     tools/dev/crates.py            prints all of it
-    tools/dev/crates.py --check    says what breaks a rule, and ends with status 1 where something does: the longest chain to exsm has at most
-                                   ten crates, a crate at most 100 functions and four must-fail edits beside those of docs/EDITS.md,
-                                   which are all there, each crate stands in a band of crates.txt behind all that it stands on, no crate is named that no file uses, the documents name each
-                                   ported crate among what is trusted, and they have the picture that --write would write
-    tools/dev/crates.py --write    writes the picture into docs/ARCHITECTURE.md, between two lines of marks
+    tools/dev/crates.py --check    says what breaks a rule, with status 1 where something does
+    tools/dev/crates.py --write    writes the layers into docs/ARCHITECTURE.md, between two marks
 
-A level is one more than the highest level below. A weight is a crate's lines of code, contracts and proofs. Lines are counted without
-blank ones and comments; a contract is a clause or a ghost item; what stands in specs/ is a definition, in proofs/ a proof. The seconds of
-a chain are those that the table of docs/GATE.md has for the proofs of its crates.
+The rules: the longest chain to exsm has at most ten crates, a crate at most 100 functions and
+four must-fail edits beside those of docs/EDITS.md, which are all there; each crate stands in a
+band of crates.txt behind all that it stands on, and each crate below exsm in one box of
+ARCHITECTURE's picture; no crate is named that no file uses; the documents name each ported crate
+among what is trusted, and have the layers that --write would write.
+
+A level is one more than the highest level below. A weight is a crate's lines of code, contracts
+and proofs. Lines are counted without blank ones and comments; a contract is a clause or a ghost
+item; what stands in specs/ is a definition, in proofs/ a proof. The seconds of a chain are those
+that the table of docs/GATE.md has for the proofs of its crates.
 """
+from __future__ import annotations
+
 import argparse
 import os
 import re
 import sys
+from pathlib import Path
+from typing import Iterable, Iterator, Optional
 
 sys.dont_write_bytecode = True
 
-from crate_code import TOP, edits_of, files_below, named_crates, text_of
+from crate_code import (  # noqa: E402
+    TOP, edits_of, files_below, named_crates, text_of, write_text)
 
 PROGRAM = "exsm"
 CHAIN_MOST, FUNCTIONS_MOST, EDITS_MOST = 10, 100, 4
-EDITS, GATE = "docs/EDITS.md", "docs/GATE.md"
 ROW_MOST = 92
-BEGIN, END = "<!-- written by tools/dev/crates.py --write -->", "<!-- end of what it writes -->"
+PAGE, EDITS, GATE = "docs/ARCHITECTURE.md", "docs/EDITS.md", "docs/GATE.md"
+BEGIN = "<!-- written by tools/dev/crates.py --write -->"
+END = "<!-- end of what it writes -->"
+# The section of the page with the boxes. What stands in brackets are the crates of a box.
+PICTURE = "## The picture\n"
+# Where the documents say which ported crates are trusted.
+TRUSTED = (("README.md", "**Trusted**"), ("docs/PROMISES.md", "Trusted:"))
+
+CLAUSE = re.compile(r"(requires|ensures|ghost|decreases|invariant)\b")
+FUNCTION = re.compile(r"(pub(\([a-z]+\))? )?(const )?(unsafe )?fn \w")
+COLUMNS = ("functions", "code", "contract", "spec", "proof", "tests", "edits")
 
 
-def named_edits():
-    """Returns the must-fail edits that docs/EDITS.md names, each as CRATE/NAME."""
+def named_edits() -> list[str]:
+    """The must-fail edits that docs/EDITS.md names, each as CRATE/NAME."""
     return re.findall(r"(?m)^\| `(\w+/\w+)` \|", text_of(EDITS))
 
 
-def seconds_of_proofs():
-    """Returns the seconds of each crate's proof that the table of docs/GATE.md has."""
-    return {name: int(seconds) for name, seconds in re.findall(r"(?m)^\| `(\w+)` \| (\d+)\*? \|", text_of(GATE))}
+def seconds_of_proofs() -> dict[str, int]:
+    """The seconds of each crate's proof that the table of docs/GATE.md has."""
+    rows = re.findall(r"(?m)^\| `(\w+)` \| (\d+)\*? \|", text_of(GATE))
+    return {name: int(seconds) for name, seconds in rows}
 
 
-def short(words):
-    """Returns the first words of a sentence, up to a mark, where it is too long for a row of the picture."""
+def short(words: str) -> str:
+    """The first words of a sentence, up to a mark, where it is too long for a row."""
     if len(words) <= ROW_MOST:
         return words
     for marks, least in (("[:;] ", 36), (", ", 16)):
@@ -52,7 +71,7 @@ def short(words):
 class Crate:
     """A crate of crates.txt: its band, what it stands on, and what its files hold."""
 
-    def __init__(self, name, band, named, own):
+    def __init__(self, name: str, band: str, named: list[str], own: Iterable[str]) -> None:
         self.name, self.band = name, band
         self.below = [it for it in named if it in own]
         self.of_kit = [it for it in named if it not in own]
@@ -60,17 +79,19 @@ class Crate:
         self.functions = self.tests = self.code = self.contract = self.spec = self.proof = 0
         self.about = ""
         # The crates that the code, the definitions and the proofs name.
-        self.uses = {"code": set(), "specs": set(), "proofs": set()}
+        self.uses: dict[str, set[str]] = {"code": set(), "specs": set(), "proofs": set()}
         for part in ("src", "specs", "proofs"):
             for path in files_below(f"crates/{name}/{part}", ".rt"):
-                self.read_code(path)
+                self._read_code(path)
             for path in files_below(f"crates/{name}/{part}", ".antt"):
-                self.read_definitions(path, part)
-        found = {f"{name}/{os.path.basename(it)[: -len('.edit')]}" for it in edits_of(name)}
-        named_here = {it for it in named_edits() if it.startswith(f"{name}/")}
-        self.edits, self.own_edits, self.lost_edits = len(found), len(found - named_here), sorted(named_here - found)
+                self._read_definitions(path, part)
+        found = {f"{name}/{Path(it).stem}" for it in edits_of(name)}
+        must_stand = {it for it in named_edits() if it.startswith(f"{name}/")}
+        self.edits, self.own_edits = len(found), len(found - must_stand)
+        self.lost_edits = sorted(must_stand - found)
 
-    def read_code(self, path):
+    def _read_code(self, path: str) -> None:
+        """Counts the lines of a file of code, and notes what it names."""
         text = text_of(path)
         if os.path.relpath(path, f"{self.folder}/src") in ("lib.rt", "main.rt"):
             about = " ".join(it[3:].strip() for it in text.split("\n") if it.startswith("//!"))
@@ -81,16 +102,18 @@ class Crate:
         for line in (it.strip() for it in text.split("\n")):
             if not line or line.startswith("//"):
                 continue
-            if open_clause or re.match(r"(requires|ensures|ghost|decreases|invariant)\b", line):
+            if open_clause or CLAUSE.match(line):
                 self.contract += 1
                 open_clause += line.count("{") - line.count("}")
                 continue
             self.code += 1
-            self.functions += bool(re.match(r"(pub(\([a-z]+\))? )?(const )?(unsafe )?fn \w", line))
+            self.functions += bool(FUNCTION.match(line))
             self.tests += line == "#[test]"
-            self.uses["code"] |= set(re.findall(r"\b([a-z_0-9]+)::", line)) | set(re.findall(r"^(?:pub )?use (\w+)", line))
+            self.uses["code"] |= set(re.findall(r"\b([a-z_0-9]+)::", line))
+            self.uses["code"] |= set(re.findall(r"^(?:pub )?use (\w+)", line))
 
-    def read_definitions(self, path, part):
+    def _read_definitions(self, path: str, part: str) -> None:
+        """Counts the lines of a file of definitions or proofs, and notes what it names."""
         for line in (it.strip() for it in text_of(path).split("\n")):
             if line and not line.startswith("--"):
                 if part == "specs":
@@ -99,18 +122,24 @@ class Crate:
                     self.proof += 1
                 self.uses[part] |= set(re.findall(r"\bRattle\.(\w+)\.", line))
 
-    def weight(self):
+    def weight(self) -> int:
+        """Its lines that are checked."""
         return self.code + self.contract + self.proof
 
-    def used_in(self, other):
-        """Returns which parts of this crate name the other."""
+    def used_in(self, other: str) -> list[str]:
+        """Which parts of this crate name the other."""
         return [part for part, names in self.uses.items() if other in names]
 
 
-def read_crates():
-    """Returns the crates in the order of crates.txt, and the bands with their words in that order."""
+Crates = dict[str, Crate]
+
+
+def read_crates() -> tuple[Crates, dict[str, str]]:
+    """The crates in the order of crates.txt, and the bands with their words in that order."""
     named = named_crates()
-    crates, bands, band = {}, {}, ""
+    crates: Crates = {}
+    bands: dict[str, str] = {}
+    band = ""
     for line in text_of("crates.txt").split("\n"):
         of_band = re.fullmatch(r"# (\w[\w ]*): (.*)", line)
         if of_band:
@@ -123,47 +152,55 @@ def read_crates():
 
 
 class Graph:
-    def __init__(self, crates):
-        self.crates = crates
-        self.levels, self.all_below, self.heaviest = {}, {}, {}
-        for name in crates:
-            self.level(name)
+    """The crates with their levels, all that is below each, and their heaviest chains."""
 
-    def level(self, name):
-        """Notes a crate's level, all that is below it and the weight of its heaviest chain, once those of the crates that it stands on are."""
+    def __init__(self, crates: Crates) -> None:
+        self.crates = crates
+        self.levels: dict[str, int] = {}
+        self.all_below: dict[str, set[str]] = {}
+        self.heaviest: dict[str, int] = {}
+        for name in crates:
+            self._note(name)
+
+    def _note(self, name: str) -> int:
+        """Notes what is known of a crate once it is known of those that it stands on."""
         if name not in self.levels:
-            below = self.crates[name].below
-            self.levels[name] = 1 + max((self.level(it) for it in below), default=0)
-            self.all_below[name] = set(below).union(*(self.all_below[it] for it in below))
-            self.heaviest[name] = self.crates[name].weight() + max((self.heaviest[it] for it in below), default=0)
+            crate = self.crates[name]
+            self.levels[name] = 1 + max((self._note(it) for it in crate.below), default=0)
+            self.all_below[name] = set(crate.below).union(
+                *(self.all_below[it] for it in crate.below))
+            self.heaviest[name] = crate.weight() + max(
+                (self.heaviest[it] for it in crate.below), default=0)
         return self.levels[name]
 
-    def chain(self, name, by):
-        """Returns the chain to a crate that has the most by a measure of chains, the crate last."""
+    def chain(self, name: str, by: dict[str, int]) -> list[str]:
+        """The chain to a crate that has the most by a measure of chains, the crate last."""
         found = [name]
         while self.crates[found[0]].below:
             found.insert(0, max(self.crates[found[0]].below, key=lambda it: (by[it], it)))
         return found
 
-    def sums(self, measure):
-        """Returns of each crate the greatest sum of a measure along a chain to it."""
-        found = {}
-        for name in sorted(self.crates, key=self.levels.get):
-            found[name] = measure.get(name, 0) + max((found[it] for it in self.crates[name].below), default=0)
+    def sums(self, measure: dict[str, int]) -> dict[str, int]:
+        """The greatest sum of a measure along a chain to each crate."""
+        found: dict[str, int] = {}
+        for name in sorted(self.crates, key=lambda it: self.levels[it]):
+            below = (found[it] for it in self.crates[name].below)
+            found[name] = measure.get(name, 0) + max(below, default=0)
         return found
 
-    def reduced(self, name):
-        """Returns what a crate stands on that no other crate below it stands on."""
+    def reduced(self, name: str) -> list[str]:
+        """What a crate stands on that no other crate below it stands on."""
         below = self.crates[name].below
         return [it for it in below if not any(it in self.all_below[other] for other in below)]
 
-    def above(self, name):
+    def above(self, name: str) -> list[str]:
+        """The crates that stand on a crate, or on one that does."""
         return [it for it in self.crates if name in self.all_below[it]]
 
 
-def picture(crates, bands):
-    """Draws the bands from the top down, each crate with what the first line of its code says of it."""
-    rows = []
+def layers(crates: Crates, bands: dict[str, str]) -> str:
+    """Draws the bands from the top down, each crate with the first line of its code."""
+    rows: list[str] = []
     width = max((len(it) for it in crates), default=0)
     for band in reversed(bands):
         inside = [it for it in crates.values() if it.band == band]
@@ -172,138 +209,197 @@ def picture(crates, bands):
     return "\n".join(["```", *rows[1:], "```"])
 
 
-def chains(graph):
+def arrows(names: list[str]) -> str:
+    """A chain, the lowest crate first."""
+    return " ← ".join(f"`{it}`" for it in names)
+
+
+def chains(graph: Graph) -> str:
     """Says the longest chain to the program and the heaviest one of all."""
     longest = graph.chain(PROGRAM, graph.levels)
     top = max(graph.crates, key=lambda it: graph.heaviest[it])
-    heaviest, whole = graph.chain(top, graph.heaviest), sum(it.weight() for it in graph.crates.values())
+    whole = sum(it.weight() for it in graph.crates.values())
     share = 100 * graph.heaviest[top] / whole
     return (
-        f"The longest chain to `{PROGRAM}` has {len(longest)} crates: {' ← '.join(f'`{it}`' for it in longest)}.\n\n"
-        f"The heaviest chain has {graph.heaviest[top]:,} of all {whole:,} lines of code, contracts and proofs, {share:.0f} %: "
-        f"{' ← '.join(f'`{it}`' for it in heaviest)}. A gate that proves all takes at least as long as these crates take one after the other, however many processors there are."
+        f"The longest chain to `{PROGRAM}` has {len(longest)} crates: {arrows(longest)}.\n\n"
+        f"The heaviest chain has {graph.heaviest[top]:,} of all {whole:,} lines of code, "
+        f"contracts and proofs, {share:.0f} %: {arrows(graph.chain(top, graph.heaviest))}. A gate "
+        "that proves all takes at least as long as these crates take one after the other, however "
+        "many processors there are."
     )
 
 
-def seconds_of_chains(graph):
+def seconds_of_chains(graph: Graph) -> str:
     """Says the chain whose proofs take the most seconds by docs/GATE.md."""
     seconds = seconds_of_proofs()
     sums = graph.sums(seconds)
-    top = max(graph.crates, key=sums.get)
+    top = max(graph.crates, key=lambda it: sums[it])
     ways = " ← ".join(f"`{it}` ({seconds.get(it, 0)})" for it in graph.chain(top, sums))
-    return f"The proofs of the heaviest chain take {sums[top]:,} of all {sum(seconds.values()):,} seconds of {GATE}: {ways}."
+    return (f"The proofs of the heaviest chain take {sums[top]:,} of all "
+            f"{sum(seconds.values()):,} seconds of {GATE}: {ways}.")
 
 
-def of_documents(crates, bands, graph):
-    return {
-        "docs/ARCHITECTURE.md": f"{picture(crates, bands)}\n\n{chains(graph)}",
-    }
-
-
-def with_picture(path, text):
-    """Returns a document's text with what stands between the marks replaced, or None where it has no marks."""
-    was = text_of(path)
+def page_with(text: str) -> Optional[str]:
+    """The page with a text between its marks, or None where it has none."""
+    was = text_of(PAGE)
     if was.count(BEGIN) != 1 or was.count(END) != 1:
         return None
     before, rest = was.split(BEGIN)
     return f"{before}{BEGIN}\n{text}\n{END}{rest.split(END)[1]}"
 
 
-def unused(crates):
-    return [(it.name, other) for it in crates.values() for other in [*it.below, *it.of_kit] if not it.used_in(other)]
+def boxes() -> list[list[str]]:
+    """The crates that stand in each box of the page's picture."""
+    section = text_of(PAGE).partition(PICTURE)[2].partition("\n## ")[0]
+    drawn = "".join(section.split("```")[1:2])
+    return [re.findall(r"\w+", it) for it in re.findall(r"\[([^\]]*)\]", drawn)]
 
 
-def for_proofs(crates):
-    return [(it.name, other) for it in crates.values() for other in it.below if it.used_in(other) == ["proofs"]]
+def faults_of_boxes(graph: Graph) -> Iterator[str]:
+    """The crates below the program that don't stand in one box, and others that stand in one."""
+    if PROGRAM not in graph.crates:
+        return
+    product = [it for it in graph.crates if it == PROGRAM or it in graph.all_below[PROGRAM]]
+    drawn = [name for box in boxes() for name in box]
+    for name in product:
+        if drawn.count(name) != 1:
+            yield f"{name} stands in {drawn.count(name)} boxes of {PAGE}'s picture, not in one"
+    for name in dict.fromkeys(drawn):
+        if name not in product:
+            yield f"{PAGE}'s picture has a crate {name}, on which {PROGRAM} doesn't stand"
 
 
-def broken(crates, bands, graph):
-    """Yields a line for each rule that is broken."""
-    longest = graph.chain(PROGRAM, graph.levels)
-    if len(longest) > CHAIN_MOST:
-        yield f"the longest chain to {PROGRAM} has {len(longest)} crates, above {CHAIN_MOST}: {' '.join(longest)}"
-    seen = set()
+def unused(crates: Crates) -> list[tuple[str, str]]:
+    """The edges that no file uses."""
+    return [(it.name, other) for it in crates.values() for other in (*it.below, *it.of_kit)
+            if not it.used_in(other)]
+
+
+def for_proofs(crates: Crates) -> list[tuple[str, str]]:
+    """The edges that proofs alone use."""
+    return [(it.name, other) for it in crates.values() for other in it.below
+            if it.used_in(other) == ["proofs"]]
+
+
+def faults_of_crates(crates: Crates) -> Iterator[str]:
+    """The rules about a crate by itself that are broken."""
     for edit in named_edits():
         if edit.split("/")[0] not in crates:
             yield f"{EDITS} names {edit}, and there is no such crate"
+    seen: set[str] = set()
     for it in crates.values():
         if it.functions > FUNCTIONS_MOST:
             yield f"{it.name} has {it.functions} functions, above {FUNCTIONS_MOST}"
         if it.own_edits > EDITS_MOST:
-            yield f"{it.name} has {it.own_edits} must-fail edits beside those of {EDITS}, above {EDITS_MOST}"
+            yield (f"{it.name} has {it.own_edits} must-fail edits beside those of {EDITS}, above "
+                   f"{EDITS_MOST}")
         for edit in it.lost_edits:
             yield f"{EDITS} names {edit}, and there is no such edit"
         if not it.band:
-            yield f"{it.name} stands in no band of crates.txt: a band begins with a line '# NAME: what it is'"
-        if not os.path.isdir(f"{TOP}/{it.folder}/src"):
+            yield (f"{it.name} stands in no band of crates.txt: a band begins with a line "
+                   "'# NAME: what it is'")
+        if not os.path.isdir(TOP / it.folder / "src"):
             yield f"{it.name} stands in crates.txt and has no folder"
         elif not it.about:
             yield f"{it.name} has no line //! that says what it is"
         for other in it.below:
             if other not in seen:
-                yield f"an edge goes up: {it.name} stands in crates.txt before {other}, on which it stands"
+                yield (f"an edge goes up: {it.name} stands in crates.txt before {other}, on "
+                       "which it stands")
         seen.add(it.name)
     for name, other in unused(crates):
         yield f"{name} names {other} in crates.txt, and no file of it does"
-    for path, word in (("README.md", "**Trusted**"), ("docs/PROMISES.md", "Trusted:")):
+
+
+def faults_of_trust(crates: Crates) -> Iterator[str]:
+    """The ported crates that a document doesn't name among what is trusted."""
+    ported = sorted({other for it in crates.values() for other in it.of_kit if it.used_in(other)})
+    for path, word in TRUSTED:
         trusted = text_of(path).partition(word)[2].partition("\n\n")[0]
-        for name in sorted({other for it in crates.values() for other in it.of_kit if it.used_in(other)}):
+        for name in ported:
             if f"`{name}`" not in trusted:
                 yield f"{path} doesn't say that {name} is trusted"
-    for path, text in of_documents(crates, bands, graph).items():
-        now = with_picture(path, text)
-        if now is None:
-            yield f"{path} has no place for the picture: the lines {BEGIN} and {END}"
-        elif now != text_of(path):
-            yield f"{path} has an old picture: run tools/dev/crates.py --write"
 
 
-def report(crates, bands, graph):
-    print("level  crates")
-    for level in range(1, max(graph.levels.values()) + 1):
-        print(f"{level:5}  {' '.join(it for it in crates if graph.levels[it] == level)}")
-    print(f"\n{chains(graph)}\n\n{seconds_of_chains(graph)}\n")
+def faults_of(crates: Crates, bands: dict[str, str], graph: Graph) -> Iterator[str]:
+    """A line for each rule that is broken."""
+    longest = graph.chain(PROGRAM, graph.levels)
+    if len(longest) > CHAIN_MOST:
+        yield (f"the longest chain to {PROGRAM} has {len(longest)} crates, above {CHAIN_MOST}: "
+               f"{' '.join(longest)}")
+    yield from faults_of_crates(crates)
+    yield from faults_of_trust(crates)
+    yield from faults_of_boxes(graph)
+    now = page_with(f"{layers(crates, bands)}\n\n{chains(graph)}")
+    if now is None:
+        yield f"{PAGE} has no place for the layers: the lines {BEGIN} and {END}"
+    elif now != text_of(PAGE):
+        yield f"{PAGE} has old layers: run tools/dev/crates.py --write"
+
+
+def report_sizes(crates: Crates, graph: Graph) -> None:
+    """Prints the table of sizes, the heaviest crate first."""
     print("crate             level  functions   code  contract   spec   proof  tests  edits  above")
+    widths = (9, 5, 8, 5, 6, 5, 5)
     for it in sorted(crates.values(), key=lambda it: -it.weight()):
-        numbers = f"{it.functions:9}  {it.code:5}  {it.contract:8}  {it.spec:5}  {it.proof:6}  {it.tests:5}  {it.edits:5}  {len(graph.above(it.name)):5}"
-        print(f"{it.name:16}  {graph.levels[it.name]:5}  {numbers}")
-    whole = [sum(getattr(it, part) for it in crates.values()) for part in ("functions", "code", "contract", "spec", "proof", "tests", "edits")]
-    print(f"{'all':16}         {whole[0]:9}  {whole[1]:5}  {whole[2]:8}  {whole[3]:5}  {whole[4]:6}  {whole[5]:5}  {whole[6]:5}\n")
+        numbers = "  ".join(f"{getattr(it, part):{width}}"
+                            for part, width in zip(COLUMNS, widths))
+        above = len(graph.above(it.name))
+        print(f"{it.name:16}  {graph.levels[it.name]:5}  {numbers}  {above:5}")
+    whole = "  ".join(f"{sum(getattr(it, part) for it in crates.values()):{width}}"
+                      for part, width in zip(COLUMNS, widths))
+    print(f"{'all':16}         {whole}\n")
+
+
+def report_edges(crates: Crates, graph: Graph) -> None:
+    """Prints the edges that say more than the others do, and those that say too much."""
     edges = sum(len(it.below) for it in crates.values())
     print(f"{edges} edges; those that no longer way also makes:")
     for name in crates:
         if crates[name].below:
             print(f"  {name} <- {' '.join(graph.reduced(name))}")
-    print("\nedges that no file uses:")
-    for name, other in unused(crates):
-        print(f"  {name} <- {other}")
-    print("\nedges for proofs alone:")
-    for name, other in for_proofs(crates):
-        print(f"  {name} <- {other}")
-    print(f"\ncrates above {FUNCTIONS_MOST} functions: {' '.join(f'{it.name} ({it.functions})' for it in crates.values() if it.functions > FUNCTIONS_MOST) or 'none'}")
-    print(f"crates above {EDITS_MOST} must-fail edits of their own: {' '.join(f'{it.name} ({it.own_edits})' for it in crates.values() if it.own_edits > EDITS_MOST) or 'none'}\n")
-    print(picture(crates, bands))
+    for what, pairs in (("that no file uses", unused(crates)),
+                        ("for proofs alone", for_proofs(crates))):
+        print(f"\nedges {what}:")
+        for name, other in pairs:
+            print(f"  {name} <- {other}")
 
 
-def main():
-    words = argparse.ArgumentParser(description=__doc__, formatter_class=argparse.RawDescriptionHelpFormatter)
-    words.add_argument("--check", action="store_true")
-    words.add_argument("--write", action="store_true")
-    asked = words.parse_args()
+def report(crates: Crates, bands: dict[str, str], graph: Graph) -> None:
+    """Prints all that is known of the crates."""
+    print("level  crates")
+    for level in range(1, max(graph.levels.values()) + 1):
+        print(f"{level:5}  {' '.join(it for it in crates if graph.levels[it] == level)}")
+    print(f"\n{chains(graph)}\n\n{seconds_of_chains(graph)}\n")
+    report_sizes(crates, graph)
+    report_edges(crates, graph)
+    for what, part, most in (("functions", "functions", FUNCTIONS_MOST),
+                             ("must-fail edits of their own", "own_edits", EDITS_MOST)):
+        more = [f"{it.name} ({getattr(it, part)})" for it in crates.values()
+                if getattr(it, part) > most]
+        print(f"\ncrates above {most} {what}: {' '.join(more) or 'none'}", end="")
+    print(f"\n\n{layers(crates, bands)}")
+
+
+def main() -> int:
+    """Prints, writes or checks, and gives the exit status."""
+    parser = argparse.ArgumentParser(
+        description=__doc__, formatter_class=argparse.RawDescriptionHelpFormatter)
+    parser.add_argument("--check", action="store_true", help="say what breaks a rule")
+    parser.add_argument("--write", action="store_true", help="write the layers into the page")
+    words = parser.parse_args()
     crates, bands = read_crates()
     graph = Graph(crates)
-    if asked.write:
-        for path, text in of_documents(crates, bands, graph).items():
-            now = with_picture(path, text)
-            if now is None:
-                sys.exit(f"{path} has no place for the picture: the lines {BEGIN} and {END}")
-            with open(f"{TOP}/{path}", "w", encoding="utf-8") as it:
-                it.write(now)
-    if asked.check:
-        found = list(broken(crates, bands, graph))
+    if words.write:
+        now = page_with(f"{layers(crates, bands)}\n\n{chains(graph)}")
+        if now is None:
+            sys.exit(f"{PAGE} has no place for the layers: the lines {BEGIN} and {END}")
+        write_text(PAGE, now)
+    if words.check:
+        found = list(faults_of(crates, bands, graph))
         print("\n".join([*found, f"{len(crates)} crates, {len(found)} rules broken"]))
         return 1 if found else 0
-    if not asked.write:
+    if not words.write:
         report(crates, bands, graph)
     return 0
 

@@ -1,66 +1,94 @@
 #!/usr/bin/env python3
 """Writes the table of docs/GATE.md from logs of tools/dev/gate.
 
-    tools/dev/gate_log.py LOG ..            writes the table; of two logs that measured the same the later one holds
-    tools/dev/gate_log.py --again           writes the table anew for the crates of crates.txt, with the figures that stand there
+    tools/dev/gate_log.py LOG ..            writes the table; of two logs that measured the same
+                                            the later one holds
+    tools/dev/gate_log.py --again           writes it anew for the crates of crates.txt, with the
+                                            figures that stand there
     tools/dev/gate_log.py --print LOG ..    prints it only
 
-What no log measured, since the run kept an earlier proof, is taken from the table that stands there, with a star. Where that has none
-either, the field says `kept`. So a table without stars comes from a run of `tools/dev/gate --anew`, or from the logs of all parts of one.
+What no log measured, since the run kept an earlier proof, is taken from the table that stands
+there, with a star. Where that has none either, the field says `kept`. So a table without stars
+comes from a run of `tools/dev/gate --anew`, or from the logs of all parts of one.
 """
+from __future__ import annotations
+
+import argparse
 import re
 import sys
+from pathlib import Path
+from typing import Iterator, Optional
 
 sys.dont_write_bytecode = True
 
-from crate_code import TOP, edits_of, files_below, named_crates, text_of
+from crate_code import edits_of, files_below, named_crates, text_of, write_text  # noqa: E402
 
 PAGE = "docs/GATE.md"
 BEGIN, END = "<!-- written by tools/dev/gate_log.py -->", "<!-- end of what it writes -->"
 KINDS = ("proof", "tests", "edit")
 NONE = {"tests": "no tests", "edit": "no edits"}
+# How many crates are told as the most dear.
+DEAR = 5
+
+# What a figure is of: a kind of work, and a crate.
+Key = tuple[str, str]
+
+WORK = re.compile(r"gate: work (\w+) (\w+) ([\d.]+)")
+BEGUN = re.compile(r"gate: begun (.*), (\d+) processors, .*")
+ENDED = re.compile(
+    r"gate: ended with status \d+, wall ([\d.]+) seconds, processors ([\d.]+) seconds")
+# Where all edits were tried before, the log that measured them holds.
+KEPT_EDITS = re.compile(
+    r"rt: (\w+): (\d+) of its (\d+) must-fail edits were tried by an earlier run")
+LAST = re.compile(r"\[ *[\d.]+\] (\d+ passed, \d+ failed.*)")
 
 
-def log_text(path):
-    with open(path, encoding="utf-8", errors="replace") as it:
-        return it.read()
-
-
-def has_tests(crate):
-    return any("#[test]" in text_of(it) for it in files_below(f"crates/{crate}/src", ".rt"))
+class NoLog(Exception):
+    """A file isn't a log of tools/dev/gate."""
 
 
 class Log:
     """What a log of tools/dev/gate says."""
 
-    def __init__(self, path):
-        self.seconds, self.part = {}, set()
-        self.begun = self.wall = self.processors = self.last = None
-        lines = log_text(path).split("\n")
-        for line in lines:
-            work = re.fullmatch(r"gate: work (\w+) (\w+) ([\d.]+)", line)
-            if work:
-                key = work[1], work[2]
-                self.seconds[key] = self.seconds.get(key, 0) + float(work[3])
-            begun = re.fullmatch(r"gate: begun (.*), (\d+) processors, .*", line)
-            if begun:
-                self.begun, self.number = begun[1], int(begun[2])
-            ended = re.fullmatch(r"gate: ended with status \d+, wall ([\d.]+) seconds, processors ([\d.]+) seconds", line)
-            if ended:
-                self.wall, self.processors = float(ended[1]), float(ended[2])
-            # (where all were, the log that measured them holds)
-            part = re.search(r"rt: (\w+): (\d+) of its (\d+) must-fail edits were tried by an earlier run", line)
-            if part and part[2] != part[3]:
-                self.part.add(("edit", part[1]))
-            last = re.fullmatch(r"\[ *[\d.]+\] (\d+ passed, \d+ failed.*)", line)
-            self.last = last[1] if last else self.last
+    def __init__(self, path: Path) -> None:
+        self.seconds: dict[Key, float] = {}
+        # What it measured of a part of a crate's edits alone.
+        self.part: set[Key] = set()
+        self.begun: Optional[str] = None
+        self.number = 0
+        self.wall: Optional[float] = None
+        self.processors = 0.0
+        self.last: Optional[str] = None
+        for line in path.read_text(encoding="utf-8", errors="replace").split("\n"):
+            self._read(line)
         if not self.begun:
-            sys.exit(f"{path} is no log of tools/dev/gate: rt's own log has no times")
+            raise NoLog(f"{path} is no log of tools/dev/gate: rt's own log has no times")
+
+    def _read(self, line: str) -> None:
+        """Takes a line."""
+        if work := WORK.fullmatch(line):
+            key = work[1], work[2]
+            self.seconds[key] = self.seconds.get(key, 0) + float(work[3])
+        elif begun := BEGUN.fullmatch(line):
+            self.begun, self.number = begun[1], int(begun[2])
+        elif ended := ENDED.fullmatch(line):
+            self.wall, self.processors = float(ended[1]), float(ended[2])
+        elif (part := KEPT_EDITS.search(line)) and part[2] != part[3]:
+            self.part.add(("edit", part[1]))
+        elif last := LAST.fullmatch(line):
+            self.last = last[1]
 
 
-def earlier():
-    """Returns the figures of the table that stands in the page."""
-    found = {}
+def has_work(kind: str, crate: str) -> bool:
+    """Whether a crate has work of a kind."""
+    if kind == "tests":
+        return any("#[test]" in text_of(it) for it in files_below(f"crates/{crate}/src", ".rt"))
+    return kind != "edit" or bool(edits_of(crate))
+
+
+def earlier() -> dict[Key, int]:
+    """The figures of the table that stands in the page."""
+    found: dict[Key, int] = {}
     for row in re.findall(r"(?m)^\| `(\w+)` \|(.*)\|$", text_of(PAGE)):
         for kind, field in zip(KINDS, row[1].split("|")):
             number = re.match(r"\s*([\d,]+)\*?(?: \((\d+)\))?\s*$", field)
@@ -70,70 +98,111 @@ def earlier():
     return found
 
 
-def table(logs):
-    seconds, before = {}, earlier()
-    for log in logs:
-        seconds.update({key: it for key, it in log.seconds.items() if key not in log.part})
-    rows, sums, of_crate, starred, kept = [], dict.fromkeys(KINDS, 0), {}, False, []
-    for crate in named_crates():
-        fields = []
-        for kind in KINDS:
-            key, edits = (kind, crate), len(edits_of(crate))
-            behind = f" ({edits})" if kind == "edit" else ""
-            if kind == "tests" and not has_tests(crate) or kind == "edit" and not edits:
-                fields.append(NONE[kind])
-                continue
-            if key in seconds:
-                number, star = round(seconds[key]), ""
-            elif key in before:
-                number, star, starred = before[key], "*", True
-            else:
-                kept.append(key)
-                fields.append(f"kept{behind}")
-                continue
-            sums[kind] += number
-            of_crate[crate] = of_crate.get(crate, 0) + number
-            fields.append(f"{number:,}{star}{behind}")
-        rows.append(f"| `{crate}` | {' | '.join(fields)} |")
-    minutes = {it: sums[it] / 60 for it in KINDS}
-    last = logs[-1] if logs else None
-    edits = sum(len(edits_of(it)) for it in named_crates())
-    text = ["| Crate | Proof | Tests | Edits |", "|---|---|---|---|", *rows]
-    text += [f"| all, in minutes | {minutes['proof']:.0f} | {minutes['tests']:.0f} | {minutes['edit']:.0f} ({edits}) |", ""]
-    whole = "In all" if not kept else "Of what has a figure"
-    text += [f"{whole} {sum(minutes.values()):.0f} processor minutes: {minutes['proof']:.0f} for proofs, {minutes['tests']:.0f} for tests, {minutes['edit']:.0f} for edits, of which there are {edits}."]
-    dear = sorted(of_crate, key=lambda it: -of_crate[it])[:5]
-    text += [f"Most dear: {', '.join(f'`{it}` ({of_crate[it] / 60:.0f} minutes)' for it in dear)}."]
+class Table:
+    """The rows of the table, and what they come to."""
+
+    def __init__(self, logs: list[Log]) -> None:
+        self.seconds: dict[Key, float] = {}
+        for log in logs:
+            self.seconds.update({key: it for key, it in log.seconds.items()
+                                 if key not in log.part})
+        self.before = earlier()
+        self.sums: dict[str, int] = dict.fromkeys(KINDS, 0)
+        self.of_crate: dict[str, int] = {}
+        self.starred = False
+        # What has no figure.
+        self.kept: list[Key] = []
+        self.rows = [f"| `{crate}` | {' | '.join(self._field(kind, crate) for kind in KINDS)} |"
+                     for crate in named_crates()]
+
+    def _field(self, kind: str, crate: str) -> str:
+        """What stands of a kind of work of a crate."""
+        if not has_work(kind, crate):
+            return NONE[kind]
+        key, star = (kind, crate), ""
+        behind = f" ({len(edits_of(crate))})" if kind == "edit" else ""
+        if key in self.seconds:
+            number = round(self.seconds[key])
+        elif key in self.before:
+            number, star, self.starred = self.before[key], "*", True
+        else:
+            self.kept.append(key)
+            return f"kept{behind}"
+        self.sums[kind] += number
+        self.of_crate[crate] = self.of_crate.get(crate, 0) + number
+        return f"{number:,}{star}{behind}"
+
+    def sentences(self, last: Optional[Log]) -> Iterator[str]:
+        """What stands below the rows."""
+        minutes = {it: self.sums[it] / 60 for it in KINDS}
+        edits = sum(len(edits_of(it)) for it in named_crates())
+        whole = "Of what has a figure" if self.kept else "In all"
+        yield (f"{whole} {sum(minutes.values()):.0f} processor minutes: {minutes['proof']:.0f} "
+               f"for proofs, {minutes['tests']:.0f} for tests, {minutes['edit']:.0f} for edits, "
+               f"of which there are {edits}.")
+        dear = sorted(self.of_crate, key=lambda it: -self.of_crate[it])[:DEAR]
+        told = ", ".join(f"`{it}` ({self.of_crate[it] / 60:.0f} minutes)" for it in dear)
+        yield f"Most dear: {told}."
+        yield of_last(last)
+        if self.starred:
+            yield ("A star marks what an earlier run measured, since the last one kept its "
+                   "proof.")
+        if self.kept:
+            yield "`kept` stands for what an earlier run has done that wasn't measured."
+
+    def text(self, last: Optional[Log]) -> str:
+        """The table, and what stands below it."""
+        minutes = [f"{self.sums[it] / 60:.0f}" for it in KINDS]
+        edits = sum(len(edits_of(it)) for it in named_crates())
+        whole = f"| all, in minutes | {' | '.join(minutes)} ({edits}) |"
+        head = ["| Crate | Proof | Tests | Edits |", "|---|---|---|---|"]
+        return "\n".join(["", *head, *self.rows, whole, "", *self.sentences(last), ""])
+
+
+def of_last(last: Optional[Log]) -> str:
+    """What is told of the last run."""
     if not last:
-        text += ["No run of these crates as a whole was measured."]
-    elif last.wall:
-        text += [f"The last run, of {last.begun}, took {last.wall / 60:.0f} minutes on {last.number} processors, of which it used {last.processors / 60:.0f} processor minutes, and kept what earlier runs had proved.{f' Its last line: `{last.last}`.' if last.last else ''}"]
-    else:
-        text += [f"The last run, of {last.begun}, was cut off."]
-    if starred:
-        text += ["A star marks what an earlier run measured, since the last one kept its proof."]
-    if kept:
-        text += ["`kept` stands for what an earlier run has done that wasn't measured."]
-    return "\n".join(["", *text, ""]), kept
+        return "No run of these crates as a whole was measured."
+    if not last.wall:
+        return f"The last run, of {last.begun}, was cut off."
+    ended = f" Its last line: `{last.last}`." if last.last else ""
+    return (f"The last run, of {last.begun}, took {last.wall / 60:.0f} minutes on {last.number} "
+            f"processors, of which it used {last.processors / 60:.0f} processor minutes, and "
+            f"kept what earlier runs had proved.{ended}")
 
 
-def main(words):
-    logs = [Log(it) for it in words if it not in ("--print", "--again")]
-    if not logs and "--again" not in words:
-        sys.exit(__doc__)
-    text, kept = table(logs)
-    if "--print" in words:
-        print(text)
-        return 0
+def page_with(text: str) -> str:
+    """The page with the table between its marks."""
     page = text_of(PAGE)
     if page.count(BEGIN) != 1 or END not in page:
-        sys.exit(f"docs/GATE.md has no place for the table: the lines {BEGIN} and {END}")
+        sys.exit(f"{PAGE} has no place for the table: the lines {BEGIN} and {END}")
     before, rest = page.split(BEGIN)
-    with open(f"{TOP}/{PAGE}", "w", encoding="utf-8") as it:
-        it.write(f"{before}{BEGIN}\n{text}\n{END}{rest.split(END, 1)[1]}")
-    print(f"docs/GATE.md has its table; {len(kept)} fields say `kept`")
+    return f"{before}{BEGIN}\n{text}\n{END}{rest.split(END, 1)[1]}"
+
+
+def main() -> int:
+    """Prints or writes the table, and gives the exit status."""
+    parser = argparse.ArgumentParser(
+        description=__doc__, formatter_class=argparse.RawDescriptionHelpFormatter)
+    parser.add_argument("logs", metavar="LOG", nargs="*", type=Path)
+    parser.add_argument("--again", action="store_true", help="with the figures that stand there")
+    parser.add_argument("--print", dest="shows", action="store_true", help="print the table only")
+    words = parser.parse_args()
+    if not words.logs and not words.again:
+        parser.error("no LOG, and no --again")
+    try:
+        logs = [Log(it) for it in words.logs]
+    except (NoLog, OSError) as fault:
+        sys.exit(f"gate_log: {fault}")
+    table = Table(logs)
+    text = table.text(logs[-1] if logs else None)
+    if words.shows:
+        print(text)
+        return 0
+    write_text(PAGE, page_with(text))
+    print(f"{PAGE} has its table; {len(table.kept)} fields say `kept`")
     return 0
 
 
 if __name__ == "__main__":
-    sys.exit(main(sys.argv[1:]))
+    sys.exit(main())

@@ -1,9 +1,9 @@
 #!/usr/bin/env python3
-"""Writes what the tools' tests cover: the sentences of tools/tests, into docs/TESTS.md between its marks.
+"""Writes what the tools' tests cover into docs/TESTS.md: the sentences of tools/tests.
 
     tools/dev/tested.py            prints them
-    tools/dev/tested.py --write    writes the page
-    tools/dev/tested.py --check    says whether the page has them, and ends with status 1 where it hasn't
+    tools/dev/tested.py --write    writes them into the page, between its marks
+    tools/dev/tested.py --check    ends with status 1 where the page doesn't have them
 """
 from __future__ import annotations
 
@@ -27,7 +27,8 @@ def sentence(node: ast.AST) -> str:
 def tests_of(module: ast.Module) -> list[str]:
     """What each test of a file says."""
     classes = [it for it in module.body if isinstance(it, ast.ClassDef)]
-    found = [it for of in classes for it in of.body if isinstance(it, ast.FunctionDef) and it.name.startswith("test_")]
+    found = [it for of in classes for it in of.body
+             if isinstance(it, ast.FunctionDef) and it.name.startswith("test_")]
     return [sentence(it) or it.name.removeprefix("test_").replace("_", " ") for it in found]
 
 
@@ -39,15 +40,17 @@ def text() -> str:
         tests = tests_of(module)
         count += len(tests)
         about = sentence(module)
-        parts.append(f"**{file.name}**: {about[:1].lower()}{about[1:]}.\n\n" + "\n".join(f"- {it}" for it in tests))
+        head = f"**{file.name}**: {about[:1].lower()}{about[1:]}.\n\n"
+        parts.append(head + "\n".join(f"- {it}" for it in tests))
     return "\n\n".join([f"{count} tests in {len(parts)} files.", *parts])
 
 
 def main() -> int:
     """Prints, writes or checks, and gives the exit status."""
-    parser = argparse.ArgumentParser(description=__doc__, formatter_class=argparse.RawDescriptionHelpFormatter)
-    parser.add_argument("--write", action="store_true")
-    parser.add_argument("--check", action="store_true")
+    parser = argparse.ArgumentParser(
+        description=__doc__, formatter_class=argparse.RawDescriptionHelpFormatter)
+    parser.add_argument("--write", action="store_true", help="write the page")
+    parser.add_argument("--check", action="store_true", help="compare the page")
     words = parser.parse_args()
     if not words.write and not words.check:
         print(text())

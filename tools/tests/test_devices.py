@@ -81,7 +81,8 @@ class DeviceTest(InFolder):
         self.assertEqual((ran.status, ran.errors), (10, [text, "exsm: status 10 too small"]))
         ran = self.exsm("run", self.device)
         text = (f"exsm: {self.device} holds no volume, or a damaged one: part super, the first page, which names "
-                "the sizes, or the size of the file or device. It is as it was")
+                "the sizes, or the size of the file or device. It is as it was; "
+                f"exsm_volume.py {self.device} save FOLDER saves what can be read")
         self.assertEqual((ran.status, ran.errors), (6, [text, "exsm: status 6 bad volume super"]))
         self.assertEqual(Path(self.device).read_bytes(), before)
         self.assertEqual(self.exsm("format", self.device, *SMALL).status, 0)

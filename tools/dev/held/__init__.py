@@ -1,0 +1,1 @@
+"""What holds the documents against the sources, a module for each document."""
