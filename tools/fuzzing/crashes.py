@@ -1,0 +1,204 @@
+"""Images that a stop may leave: each opens as the table after a prefix of the commits, with each acknowledged one.
+
+What was written before the last sync that ended is there; of what was written since each byte may be as it was,
+as it is to be, or any other. So an image takes of the writes that wait some whole, some in part and none of others.
+"""
+from __future__ import annotations
+
+import random
+from typing import Iterator, NamedTuple
+
+from fuzzing import scripts
+from fuzzing.differs import Differs, same
+from fuzzing.model import Model
+from fuzzing.program import Program, reader_part, same_table, volume_of
+from fuzzing.table import Table
+from fuzzing.trace import Event, Sent, Sync, Write, traced
+from fuzzing.trials import Kind, Report, Trial
+from fuzzing.writer import Writer
+
+PICKS = 120
+"""Images of a moment, of which some may be alike."""
+
+SECTOR = 512
+RUNS_MOST, LINES_MOST = 3, 60
+MORE_LINES = 12
+PROGRAM_SHARE = 0.01
+"""The share of the images that the program opens too."""
+
+STOPPED_SHARE = 0.5
+"""The share of the runs that begin on an image that a stop left."""
+
+
+class Moment(NamedTuple):
+    """A moment of a run: what is synced, what waits, and how many commits were acknowledged."""
+
+    synced: bytes
+    waiting: list[Write]
+    acknowledged: int
+
+
+def moments_of(base: bytes, events: list[Event], last: int) -> Iterator[Moment]:
+    """The moments before each sync ends, and that of the end: what comes earlier leaves no other images."""
+    synced, waiting, sent = bytearray(base), [], b""
+    for event in [*events, Sync()]:
+        if isinstance(event, Write):
+            waiting.append(event)
+        elif isinstance(event, Sent):
+            sent += event.data
+        else:
+            yield Moment(bytes(synced), waiting, last + sent.count(b"ok commit "))
+            for write in waiting:
+                synced[write.at:write.at + len(write.data)] = write.data
+            waiting = []
+
+
+def part_of(chance: random.Random, write: Write, before: bytes) -> bytes:
+    """What a stop may leave of a write."""
+    kind, length = chance.random(), len(write.data)
+    if kind < 0.35:
+        return before
+    if kind < 0.7:
+        return write.data
+    if kind < 0.8:
+        cut = chance.randint(0, length)
+        return write.data[:cut] + before[cut:]
+    if kind < 0.95:
+        left = bytearray(before)
+        for start in range(-(write.at % SECTOR), length, SECTOR):
+            if chance.random() < 0.5:
+                piece = slice(max(start, 0), start + SECTOR)
+                left[piece] = write.data[piece]
+        return bytes(left)
+    return chance.randbytes(length)
+
+
+def pieces_of(chance: random.Random, moment: Moment, befores: list[bytes], pick: int) -> list[bytes]:
+    """What is left of each write that waits: of none, of all, of one in part, or of each as it comes."""
+    if pick < 2:
+        return [write.data for write in moment.waiting] if pick else befores
+    if pick % 2:
+        return [part_of(chance, write, before) for write, before in zip(moment.waiting, befores)]
+    torn = chance.randrange(len(befores))
+    pieces = [chance.choice((write.data, before)) for write, before in zip(moment.waiting, befores)]
+    return [*pieces[:torn], part_of(chance, moment.waiting[torn], befores[torn]), *pieces[torn + 1:]]
+
+
+def images_of(chance: random.Random, moment: Moment) -> Iterator[bytes]:
+    """Images that a stop at a moment may leave, each once."""
+    seen: set[bytes] = set()
+    befores = [moment.synced[write.at:write.at + len(write.data)] for write in moment.waiting]
+    for pick in range(PICKS if moment.waiting else 1):
+        pieces = pieces_of(chance, moment, befores, pick)
+        left = b"".join(pieces)
+        if left in seen:
+            continue
+        seen.add(left)
+        image = bytearray(moment.synced)
+        for write, before, piece in zip(moment.waiting, befores, pieces):
+            if piece != before:
+                image[write.at:write.at + len(piece)] = piece
+        yield bytes(image)
+
+
+def ask_image(image: bytes, tables: dict[int, Table], acknowledged: int) -> int:
+    """Asks that an image opens as the table after a prefix of the commits, and gives its last commit."""
+    same(reader_part(image), ("", []), "the reader's opening of an image: ")
+    with volume_of(image) as volume:
+        last, table = volume.last_commit, Table.of(volume)
+    if last not in (acknowledged, acknowledged + 1) or last not in tables:
+        raise Differs(f"the image stands after commit {last}", f"{acknowledged} acknowledged, and at most one more")
+    same_table(table, tables[last])
+    same(table.next_number, tables[last].next_number, "the next number of an image: ")
+    return last
+
+
+def ask_program(image: bytes, model: Model, program: Program, chance: random.Random) -> None:
+    """Asks that the program reads an image as the model, and goes on from there."""
+    program.volume.write_bytes(image)
+    same(program.part(), "", "part of an image: ")
+    writer = Writer(chance, model)
+    program.run_lines(model, writer.looks())
+    model.begin_run()
+    program.talk(model, scripts.lines_of(chance, writer, MORE_LINES), [])
+    scripts.ask_volume(program, model)
+
+
+class Stops:
+    """The stops of one run."""
+
+    def __init__(self, trial: Trial, program: Program, report: Report, chance: random.Random) -> None:
+        self.trial, self.program, self.report, self.chance = trial, program, report, chance
+
+    def ask(self, base: bytes, lines: list[bytes], model: Model) -> Model:
+        """Tries images of a run that was made on a volume; gives the model of the one that is left there."""
+        after = self.program.volume.read_bytes()
+        events = self.events(base, lines, after)
+        first = min(model.tables)
+        kept, kept_last = after, model.last
+        images = 0
+        for moment in moments_of(base, events, first):
+            for image in images_of(self.chance, moment):
+                last = self.ask_one(image, model, moment.acknowledged)
+                images += 1
+                if self.chance.random() < 1 / images:
+                    kept, kept_last = image, last
+        if self.chance.random() < STOPPED_SHARE:
+            after, last = kept, kept_last
+        else:
+            last = model.last
+        self.program.volume.write_bytes(after)
+        return Model(self.trial.sizes, model.tables[last].copy(), last)
+
+    def ask_one(self, image: bytes, model: Model, acknowledged: int) -> int:
+        """Tries an image; one that differs is left as the volume."""
+        self.report("crash images")
+        try:
+            last = ask_image(image, model.tables, acknowledged)
+        except Exception:
+            self.program.volume.write_bytes(image)
+            raise
+        if self.chance.random() < PROGRAM_SHARE:
+            self.report("crash images by the program")
+            own = Model(self.trial.sizes, model.tables[last].copy(), last)
+            ask_program(image, own, self.program, self.chance)
+        return last
+
+    def events(self, base: bytes, lines: list[bytes], after: bytes) -> list[Event]:
+        """The events of a run, from a trace that explains the volume that it left."""
+        self.program.volume.write_bytes(base)
+        events = traced(self.program, lines, self.program.volume.with_suffix(".trace"))
+        image = bytearray(base)
+        for event in events:
+            if isinstance(event, Write):
+                image[event.at:event.at + len(event.data)] = event.data
+        if image != after:
+            raise Differs("a trace of the run that doesn't explain its volume", "all writes in the trace")
+        return events
+
+
+def explore(trial: Trial, program: Program, report: Report) -> None:
+    """Makes runs, and tries the images that their stops may leave."""
+    stops = Stops(trial, program, report, random.Random(trial.seed + " stops"))
+    chance = random.Random(trial.seed)
+    model = scripts.new_model(trial, program)
+    for _ in range(chance.randint(1, RUNS_MOST)):
+        base = program.volume.read_bytes()
+        scripts.explore_run(trial, program, model, chance, chance.randint(5, LINES_MOST))
+        model = stops.ask(base, trial.runs[-1], model)
+    report("scripts with stops")
+
+
+def replay(trial: Trial, program: Program, report: Report) -> None:
+    """Makes the runs again, with the same choices as long as the writes are the same."""
+    stops = Stops(trial, program, report, random.Random(trial.seed + " stops"))
+    model = scripts.new_model(trial, program)
+    for lines in trial.runs:
+        base = program.volume.read_bytes()
+        model.begin_run()
+        program.run_lines(model, lines)
+        model = stops.ask(base, lines, model)
+    report("scripts with stops")
+
+
+CRASHES = Kind(explore, replay)
