@@ -9,7 +9,7 @@ from __future__ import annotations
 import signal
 import sys
 
-from exsm.commands import parser_of
+from exsm.commands import add_json, parser_of
 from exsm.map import run
 
 
@@ -19,10 +19,11 @@ def main() -> int:
     parser.add_argument("volume", metavar="VOLUME")
     parser.add_argument("out", metavar="OUT.svg", nargs="?",
                         help="the picture, which is written anew")
+    add_json(parser)
     words = parser.parse_args()
     if words.out is not None and not words.out.endswith(".svg"):
         parser.error(f"the picture is an SVG file, and {words.out!r} doesn't end with .svg")
-    return run(words.volume, words.out)
+    return run(words.volume, words.out, words.json)
 
 
 if __name__ == "__main__":

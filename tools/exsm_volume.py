@@ -15,7 +15,7 @@ import signal
 import sys
 
 from exsm.checking import CantMend, check, ended, mend
-from exsm.commands import parser_of
+from exsm.commands import add_json, parser_of
 from exsm.records import BadVolume
 from exsm.saving import get, list_versions, save_all
 from exsm.volume import NoVersion, Volume
@@ -26,12 +26,14 @@ def parser_of_words() -> argparse.ArgumentParser:
     parser = parser_of(__doc__)
     parser.add_argument("volume", metavar="VOLUME")
     commands = parser.add_subparsers(metavar="COMMAND", dest="command", required=True)
-    commands.add_parser(
+    checking = commands.add_parser(
         "check", help="tells the part that an opening refuses; status 1 where there is one")
+    add_json(checking)
 
     listing = commands.add_parser(
         "list", help="tells the versions that can be read: size, identifier, file")
-    listing.set_defaults(step=lambda volume, words: list_versions(volume))
+    add_json(listing)
+    listing.set_defaults(step=lambda volume, words: list_versions(volume, words.json))
 
     getting = commands.add_parser("get", help="writes a version's bytes to standard output")
     getting.add_argument("oid", metavar="OID")
@@ -53,7 +55,7 @@ def main() -> int:
     words = parser_of_words().parse_args()
     try:
         if words.command == "check":
-            return check(words.volume)
+            return check(words.volume, words.json)
         if words.command == "mend":
             return mend(words.volume, words.copy)
         with Volume(words.volume) as volume:

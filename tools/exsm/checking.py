@@ -1,10 +1,11 @@
 """Tells what an opening says of a volume, and makes a copy good where only idle bytes are wrong."""
 from __future__ import annotations
 
+import json
 import os
 import shutil
 import sys
-from typing import BinaryIO
+from typing import BinaryIO, NamedTuple, Optional
 
 from exsm.lines import reason_of
 from exsm.opening import Fault, Opening
@@ -24,16 +25,26 @@ def opening_of(file: BinaryIO) -> Opening:
     return Opening(read, file.seek(0, os.SEEK_END))
 
 
-def counts_of(path: str) -> str:
-    """How many objects and versions of a volume can be read, and how many of these whole."""
+class Counts(NamedTuple):
+    """How many objects and versions of a volume can be read, and how many versions whole."""
+
+    objects: int
+    versions: int
+    whole: int
+
+    def __str__(self) -> str:
+        told = f"{counted(self.objects, 'object')}, {counted(self.versions, 'version')}"
+        return told if self.whole == self.versions else f"{told}, {self.whole} of them whole"
+
+
+def counts_of(path: str) -> Optional[Counts]:
+    """What can be read of a volume, or None where nothing can."""
     try:
         with Volume(path) as volume:
             whole = sum(volume.is_whole(record) for record in volume.all())
-            objects, versions = len(volume.objects), len(volume.all())
+            return Counts(len(volume.objects), len(volume.all()), whole)
     except BadVolume:
-        return "nothing can be read"
-    told = f"{counted(objects, 'object')}, {counted(versions, 'version')}"
-    return told if whole == versions else f"{told}, {whole} of them whole"
+        return None
 
 
 def counted(count: int, noun: str) -> str:
@@ -48,14 +59,21 @@ def way_on(path: str, faults: list[Fault]) -> str:
     return f"`exsm_volume.py {path} save FOLDER` writes what can be read"
 
 
-def check(path: str) -> int:
+def check(path: str, as_json: bool) -> int:
     """Tells the first part that an opening refuses, with its faults; then the status is 1."""
     with open(path, "rb") as file:
         part, faults = opening_of(file).first_bad()
+    counts = counts_of(path)
+    if as_json:
+        print(json.dumps({
+            "part": part or None, "faults": [fault.text for fault in faults],
+            "mends": bool(faults) and all(fault.span for fault in faults),
+            **(counts._asdict() if counts else Counts(0, 0, 0)._asdict())}))
+        return 1 if faults else 0
     for fault in faults:
         print(f"{part}: {fault.text}")
-    counts = f"{counted(len(faults), 'fault')}, {counts_of(path)}"
-    print(f"{counts}: {way_on(path, faults)}" if faults else counts)
+    told = f"{counted(len(faults), 'fault')}, {counts or 'nothing can be read'}"
+    print(f"{told}: {way_on(path, faults)}" if faults else told)
     return 1 if faults else 0
 
 
@@ -78,7 +96,7 @@ def mend(path: str, copy: str) -> int:
 
 
 def mended(file: BinaryIO) -> int:
-    """Writes zeros where bytes are wrong that no version reads, until the volume opens; how often."""
+    """Writes zeros over wrong bytes that no version reads, until the volume opens; how often."""
     pieces = 0
     while True:
         opening = opening_of(file)

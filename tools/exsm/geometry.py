@@ -1,4 +1,7 @@
-"""The shape of a volume: its five numbers, and which pages its areas have. docs/FORMATS.md says how a volume is laid out."""
+"""The shape of a volume: its five numbers, and which pages its areas have.
+
+docs/FORMATS.md says how a volume is laid out.
+"""
 from __future__ import annotations
 
 from dataclasses import dataclass

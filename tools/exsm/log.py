@@ -89,7 +89,8 @@ def record_at(log: bytes, offset: int, page_size: int) -> LogRecord:
     end = at + PAGE_NUMBER.size * freed
     if length != end - offset or end >= len(log):
         raise BadLog(f"log: no record at {offset}")
-    return LogRecord(offset, length, transaction, notes, entries, numbers(PAGE_NUMBER, log, at, freed))
+    freed_pages = numbers(PAGE_NUMBER, log, at, freed)
+    return LogRecord(offset, length, transaction, notes, entries, freed_pages)
 
 
 def records_of(log: bytes, page_size: int) -> Iterator[LogRecord]:

@@ -2,9 +2,10 @@
 from __future__ import annotations
 
 import colorsys
+import json
 import os
 import sys
-from collections import defaultdict
+from collections import Counter, defaultdict
 from dataclasses import dataclass
 from html import escape
 from typing import Iterator, NamedTuple, Optional
@@ -93,7 +94,25 @@ def areas_of(volume: Volume) -> tuple[Area, Area]:
                  units))
 
 
-# Use as text.
+# Use as numbers and as text.
+
+def numbers_of(volume: Volume) -> dict[str, object]:
+    """The use of a volume, for a program."""
+    sizes = volume.geometry
+    areas = {area.name.replace(" ", "_"): {
+        "units": area.units, "used": len(area.uses), "unit_bytes": area.room,
+        "bytes": area.used, "kinds": dict(Counter(use.kind for use in area.uses.values()))}
+        for area in areas_of(volume)}
+    files = {name: {"versions": len(records), "bytes": sum(record.size for record in records)}
+             for name, records in volume.versions.items()}
+    return {
+        "bytes": sizes.bytes, "page_size": sizes.page_size, "unit": sizes.unit, "fan": sizes.fan,
+        "last_commit": volume.last_commit, "next_number": volume.next_unique,
+        "objects": len(volume.objects), "versions": len(volume.all()),
+        "log": {"records": len(volume.records), "pages_not_home": len(volume.images),
+                "bytes": sum(record.length for record in volume.records)},
+        **areas, "files": files, "faults": volume.faults}
+
 
 def usage(volume: Volume) -> Iterator[str]:
     """Lines on the use of a volume, in the manner of `btrfs filesystem usage`."""
@@ -408,12 +427,12 @@ def picture(volume: Volume) -> str:
     return drawing.finished()
 
 
-def run(path: str, out: Optional[str]) -> int:
+def run(path: str, out: Optional[str], as_json: bool) -> int:
     """Tells the use of a volume, draws its picture to a file, and gives the exit status."""
     try:
         with Volume(path) as volume:
             volume.walk()
-            told = list(usage(volume))
+            told = [json.dumps(numbers_of(volume))] if as_json else list(usage(volume))
             if out is not None:
                 with open(out, "w", encoding="utf-8") as drawn:
                     drawn.write(picture(volume))

@@ -65,6 +65,8 @@ Faults = Iterator[Fault]
 
 def zeros(where: str, image: bytes, span: Span) -> Faults:
     """Bytes of a page that are to be zero and aren't: the first of them."""
+    if image.count(0, span.start, span.end) == span.end - span.start:
+        return
     for at in range(span.start, span.end):
         if image[at]:
             yield Fault(f"{where}: byte {at} is {image[at]:02x}, and all from {span.start} to "

@@ -86,15 +86,19 @@ class Links:
         """The links that no tree of versions has."""
         for record in self.at.values():
             if record.older != NOWHERE and not self._is_older(record):
-                yield f"body: the older place of {record.oid} names no version that it may be derived from"
+                yield (f"body: the older place of {record.oid} names no version that it may be "
+                       "derived from")
             if record.newer != self._newer(record):
-                yield f"body: the newer place of {record.oid} isn't that of the only version derived from it"
+                yield (f"body: the newer place of {record.oid} isn't that of the only version "
+                       "derived from it")
             if record.frozen and not self.derived[record.place]:
                 yield f"body: no version is derived from {record.oid}, which is frozen"
 
     def _is_older(self, record: Record) -> bool:
         older = self.at.get(record.older)
-        return older is not None and older.frozen and (not record.frozen or older.unique < record.unique)
+        if older is None or not older.frozen:
+            return False
+        return not record.frozen or older.unique < record.unique
 
     def _newer(self, record: Record) -> Place:
         """What the newer place is to name: the only version derived from a frozen one."""

@@ -1,6 +1,7 @@
 """Lists, reads and saves versions of a volume that the program may refuse."""
 from __future__ import annotations
 
+import json
 import os
 import sys
 
@@ -9,9 +10,15 @@ from exsm.records import Record
 from exsm.volume import Volume
 
 
-def list_versions(volume: Volume) -> int:
+def list_versions(volume: Volume, as_json: bool) -> int:
     """Tells the versions that can be read, with the names that exsm_files.py keeps."""
     names = names_of(volume)
+    if as_json:
+        print(json.dumps([
+            {"oid": record.oid, "size": record.size, "file": file, "frozen": record.frozen,
+             "name": names.get(record.oid)}
+            for file, records in volume.versions.items() for record in records]))
+        return 0
     for file, records in volume.versions.items():
         for record in records:
             name = f" {names[record.oid]}" if record.oid in names else ""

@@ -3,7 +3,7 @@ from __future__ import annotations
 
 import os
 from dataclasses import dataclass
-from typing import Callable, Iterator, NamedTuple
+from typing import BinaryIO, Callable, Iterator, NamedTuple, Optional
 
 from exsm.geometry import CATALOG, LOG_PAGES, Geometry
 from exsm.log import (CATALOG_ENTRY, CATALOG_HEAD, FILE_PAGE_HEAD, KIND_CATALOG, KIND_FILE_PAGE,
@@ -66,13 +66,13 @@ class Guessed(Geometry):
 
 
 class Volume:
-    """What a volume holds. Faults below the catalog are gathered in `faults`."""
+    """What a volume holds, by its path, or by an open file. Faults below the catalog are gathered in `faults`."""
 
-    def __init__(self, path: str) -> None:
+    def __init__(self, path: str, file: Optional[BinaryIO] = None) -> None:
         self.path = path
         self.faults: list[str] = []
         self.uses: dict[int, Use] = {}
-        self._file = open(path, "rb")
+        self._file = open(path, "rb") if file is None else file
         self.disk_bytes = self._file.seek(0, os.SEEK_END)
         self.geometry = self._superblock()
         self.records, self.images = self._log()
@@ -220,7 +220,7 @@ class Volume:
     # Trees.
 
     def node(self, record: Record, page: int, level: int, size: int) -> tuple[list[Pair], int]:
-        """The pairs of a node that is to have a level and a number of bytes, and the bytes of its page that it fills."""
+        """The pairs of a node of this level and size, and the bytes of its page that it fills."""
         image = self.home(page) if self.geometry.has_page(page) else bytes(NODE_HEAD.size)
         kind, there, count = NODE_HEAD.unpack_from(image)
         pair_of = PAIRS.get(kind)
@@ -279,13 +279,17 @@ class Volume:
         self.faults.append(str(fault))
 
     def _note_for(self, owner: str) -> Callable[[int, Use], bool]:
-        """Notes uses for an object, which its least version's identifier names. What is noted already isn't walked again:
-        its versions may share it, and another object's is a fault."""
+        """Notes uses for an object, which its least version's identifier names.
+
+        What is noted already isn't walked again: its versions may share it, and another
+        object's is a fault.
+        """
         def note(page: int, use: Use) -> bool:
             own = use._replace(owner=owner)
             there = self.uses.setdefault(page, own)
             if there.owner != owner:
-                self.faults.append(f"node: {use.owner} names {page}, a {there.kind} of {there.owner}")
+                self.faults.append(
+                    f"node: {use.owner} names {page}, a {there.kind} of {there.owner}")
             return there is own
         return note
 

@@ -1,6 +1,7 @@
 """The reader of the bytes: damaged volumes, what it saves, what it draws."""
 from __future__ import annotations
 
+import json
 import os
 import random
 import re
@@ -126,7 +127,7 @@ class ReaderTest(InFolder):
         self.assertEqual(ran.status, 0)
         ran = self.tool("exsm_volume", "v", "save", "s")
         self.assertEqual((ran.status, ran.lines[-1]),
-                         (0, "3 versions saved whole, 0 in part; 2 of them under their names"))
+                         (0, "4 versions saved whole, 0 in part; 2 of them under their names"))
         self.assertEqual(Path("s", "blobs", "a b.txt").read_bytes(), b"one")
         self.assertEqual(Path("s", "blobs", "\u00fc").read_bytes(), b"two" * 4000)
         self.assertIn("blobs a b.txt", "\n".join(self.tool("exsm_volume", "v", "list").lines))
@@ -197,6 +198,33 @@ class ReaderTest(InFolder):
         except BadVolume:
             self.assertNotEqual(volume.save(record, "saved"), [])
             return False
+
+    def test_json(self) -> None:
+        """what is told of a volume can be read by a program"""
+        told = json.loads(self.tool("exsm_volume", "v", "check", "--json").out)
+        self.assertEqual((told["part"], told["faults"], told["versions"], told["whole"]),
+                         (None, [], len(self.wanted), len(self.wanted)))
+        told = json.loads(self.tool("exsm_volume", "v", "list", "--json").out)
+        self.assertEqual({row["oid"]: row["size"] for row in told},
+                         {oid: len(data) for oid, data in self.wanted.items()})
+        told = json.loads(self.tool("exsm_map", "v", "--json").out)
+        with Store("v") as store:
+            space = store.space()
+        self.assertEqual((told["page_area"]["used"], told["segment_area"]["used"]),
+                         (space.pages, space.segs))
+        self.assertEqual((told["objects"], told["faults"]), (len(self.wanted), []))
+        with open("v", "r+b") as file:
+            self.flip(file, 0, 1)
+        ran = self.tool("exsm_volume", "v", "check", "--json")
+        told = json.loads(ran.out)
+        self.assertEqual((ran.status, told["part"], told["mends"]), (1, "super", False))
+
+    def test_map_out(self) -> None:
+        """a picture is written to a name that ends as one, and over no volume"""
+        ran = self.tool("exsm_map", "v", "v")
+        self.assertEqual((ran.status, ran.lines), (2, []))
+        with Volume("v") as volume:
+            self.assertEqual(bytes_by_oid(volume), self.wanted)
 
     def test_names(self) -> None:
         """names that can't be are told, and lead to no other folder"""
