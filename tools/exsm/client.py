@@ -1,26 +1,35 @@
 """Drives one run of exsm, line by line: a reply is read before the next line is sent.
 
-    with Store("v") as store:
+    with Store("v", wait=5) as store:
         with store.transaction():
             store.file("docs")
             note = store.create("docs")
             store.append(note, b"some bytes")
         store.read(note, 5, 5)                   # b"bytes"
+        store.backup("v.backup")
 
 A line that is refused raises `Refused`, and the transaction that it stands in is then aborted.
-Where the program ends before its script does, `Ended` has its status and what it said.
+Where the program ends before its script does, `Ended` has its status and what it said; `Locked`,
+`Missing`, `Denied` and `NoVolume` are the causes that can be told. docs/PYTHON.md has it all.
 """
 from __future__ import annotations
 
 import itertools
 import os
-import shutil
-import subprocess
 import sys
-import tempfile
+import threading
 from contextlib import contextmanager
-from pathlib import Path
-from typing import Iterator, NamedTuple, NoReturn, Optional, Union
+from typing import Iterator, NamedTuple, Optional
+
+from exsm.transport import (
+    STATUS_NAMES, AnyPath, Denied, Ended, Locked, Missing, NoVolume, ProgramMissing, Transport,
+    find_program, opened, status_words)
+from exsm.whole import copy_volume
+
+__all__ = [
+    "AnyPath", "Broken", "Denied", "Ended", "LINE_MOST", "Locked", "Missing", "NoVolume", "PIECE",
+    "ProgramMissing", "Refused", "STATUS_NAMES", "Scan", "Shape", "Space", "Store", "Transport",
+    "UPDATES_MOST", "find_program", "is_answered", "leave_output", "shortened", "status_words"]
 
 LINE_MOST = 1_048_576
 """Bytes of a line, without its line feed."""
@@ -40,16 +49,8 @@ READ_PIECE = 1 << 20
 SHOWN_MOST = 72
 """Characters of a line that the text of `Refused` shows."""
 
-STATUS_NAMES = {
-    2: "usage", 3: "script fault", 4: "output fault", 5: "disk fault", 6: "bad volume",
-    7: "memory", 8: "damaged", 9: "already a volume", 10: "too small", 11: "script long",
-}
-"""The program's statuses but 0, as the README has them."""
-
 Words = list[str]
 """Words of a reply."""
-
-AnyPath = Union[str, "os.PathLike[str]"]
 
 
 class Refused(Exception):
@@ -60,23 +61,8 @@ class Refused(Exception):
         super().__init__(f"{shortened(line)}: {' '.join([str(number), name, *values])}")
 
 
-class Ended(Exception):
-    """The program ended before its script did, with `status`; below 0 it is a signal's number.
-
-    `text` is what the program wrote to standard error. Its last line is `exsm: status CODE NAME`.
-    """
-
-    def __init__(self, status: int, text: str) -> None:
-        self.status, self.text = status, text.strip()
-        super().__init__(self.text or f"exsm: {status_words(status)}")
-
-
 class Broken(Exception):
     """A line was sent whose reply wasn't read, so no later reply can be told from it."""
-
-
-class ProgramMissing(Exception):
-    """There is no program `exsm` where the tools look for one."""
 
 
 class Space(NamedTuple):
@@ -104,13 +90,6 @@ def shortened(line: str) -> str:
     return f"{line[:SHOWN_MOST]} .. ({len(line)} bytes)"
 
 
-def status_words(status: int) -> str:
-    """A status in words: `status 5 disk fault`, or the signal that ended the program."""
-    if status < 0:
-        return f"ended by signal {-status}"
-    return f"status {status} {STATUS_NAMES.get(status, '')}".rstrip()
-
-
 def is_answered(line: bytes) -> bool:
     """Whether a line gets a reply: it has a word, and the first doesn't begin with `#`.
 
@@ -121,21 +100,6 @@ def is_answered(line: bytes) -> bool:
         return True
     words = (line[:-1] if line.endswith(b"\r") else line).strip(b" \t")
     return words != b"" and not words.startswith(b"#")
-
-
-def find_program() -> str:
-    """The program: `$EXSM`, else the one that this repository built, that was installed or unpacked, else `PATH`'s."""
-    tools = Path(__file__).resolve().parent.parent
-    built = tools.parent / "crates" / "exsm" / "out" / "exsm"
-    if "EXSM" in os.environ:
-        return os.environ["EXSM"]
-    for program in (built, tools / "program"):
-        if os.access(program, os.X_OK):
-            return str(program)
-    found = shutil.which("exsm")
-    if found is None:
-        raise ProgramMissing("there is no program exsm: build it by ./exsm, or name it by EXSM")
-    return found
 
 
 def leave_output() -> None:
@@ -169,13 +133,30 @@ class Scan:
 
 
 class Store:
-    """One run of `exsm run VOLUME`. No other run may have the volume meanwhile."""
+    """One run of `exsm run VOLUME`. No other run may have the volume meanwhile.
 
-    def __init__(self, volume: AnyPath, program: Optional[str] = None) -> None:
-        self._said = tempfile.TemporaryFile()
-        self._run = subprocess.Popen(
-            [program or find_program(), "run", os.fspath(volume)],
-            stdin=subprocess.PIPE, stdout=subprocess.PIPE, stderr=self._said)
+    Threads may share it. A line and its reply stay together, and a transaction belongs to the
+    thread that began it: lines of the others wait until it ends.
+    """
+
+    def __init__(self, volume: AnyPath, program: Optional[str] = None, wait: float = 0) -> None:
+        """Opens the volume, and waits so many seconds where another run has it.
+
+        Where it can't be opened: `Locked`, `Missing`, `Denied`, `NoVolume`, or another `Ended`.
+        """
+        self._begin(opened(volume, program, wait), volume)
+
+    @classmethod
+    def over(cls, transport: Transport, volume: Optional[AnyPath] = None) -> Store:
+        """A store whose lines go over a transport. `backup` wants the name of the volume's file."""
+        store = cls.__new__(cls)
+        store._begin(transport, volume)
+        return store
+
+    def _begin(self, transport: Transport, volume: Optional[AnyPath]) -> None:
+        self.volume = None if volume is None else os.path.abspath(os.fspath(volume))
+        self._transport = transport
+        self._lock = threading.RLock()
         self._names = itertools.count(1)
         self._waits = False
 
@@ -185,13 +166,15 @@ class Store:
         """Sends a line, which has no line feed, and gives its reply, or None where none comes."""
         if b"\n" in line:
             raise ValueError("a line has no line feed")
-        if self._waits:
-            raise Broken("an earlier line was sent whose reply wasn't read")
-        self._waits = True
-        self._send(line)
-        reply = self._receive() if is_answered(line) else None
-        self._waits = False
-        return reply
+        with self._lock:
+            if self._waits:
+                raise Broken("the wait for the reply to an earlier line was broken off, so no "
+                             "later reply can be told from it: close this store, open another")
+            self._waits = True
+            self._transport.send(line)
+            reply = self._transport.receive() if is_answered(line) else None
+            self._waits = False
+            return reply
 
     def ask(self, line: str) -> Words:
         """Sends a line, and gives the words of its reply behind `ok` and the first word."""
@@ -203,40 +186,9 @@ class Store:
             raise Refused(line, int(words[1]), words[2], words[3:])
         return words[2:]
 
-    def _send(self, line: bytes) -> None:
-        try:
-            self._run.stdin.write(line + b"\n")
-            self._run.stdin.flush()
-        except BrokenPipeError:
-            self._ended()
-
-    def _receive(self) -> str:
-        reply = self._run.stdout.readline()
-        if not reply.endswith(b"\n"):
-            self._ended()
-        return reply[:-1].decode("ascii")
-
-    def _ended(self) -> NoReturn:
-        """Raises `Ended` once the program has ended."""
-        status = self._run.wait()
-        self._said.seek(0)
-        raise Ended(status, self._said.read().decode(errors="replace"))
-
     def close(self) -> None:
         """Ends the script, which aborts an open transaction. `Ended` tells a status but 0."""
-        if self._said.closed:
-            return
-        try:
-            try:
-                self._run.stdin.close()
-            except BrokenPipeError:
-                pass                               # what was left to send: its status tells why
-            self._run.stdout.read()                # a reply that wasn't read is no output fault
-            if self._run.wait() != 0:
-                self._ended()
-        finally:
-            self._run.stdout.close()
-            self._said.close()
+        self._transport.end()
 
     def __enter__(self) -> Store:
         return self
@@ -253,16 +205,29 @@ class Store:
     @contextmanager
     def transaction(self) -> Iterator[Store]:
         """Commits what is done within; a fault of any kind aborts it and goes on to the caller."""
-        self.ask("begin")
-        try:
-            yield self
-        except (Ended, Broken):
-            raise
-        except BaseException:
-            if not self._waits:
-                self.ask("abort")
-            raise
-        self.ask("commit")
+        with self._lock:
+            self.ask("begin")
+            try:
+                yield self
+            except (Ended, Broken):
+                raise
+            except BaseException:
+                if not self._waits:
+                    self.ask("abort")
+                raise
+            self.ask("commit")
+
+    def backup(self, path: AnyPath) -> int:
+        """Copies the volume as the last commit left it, and gives that commit's number.
+
+        The copy is synced and opened by the program before it gets its name. Lines of other
+        threads wait meanwhile; an open transaction goes on, and isn't in the copy. A file that is
+        there is refused by `FileExistsError`.
+        """
+        if self.volume is None:
+            raise ValueError("this store has no file of a volume that could be copied")
+        with self._lock:
+            return copy_volume(self.volume, path)
 
     def checkpoint(self) -> None:
         """Writes logged pages home and empties the log."""
@@ -380,4 +345,4 @@ class Store:
 
     def is_usable(self) -> bool:
         """Whether lines can be sent: the run goes on, and each reply was read."""
-        return not self._waits and self._run.poll() is None
+        return not self._waits and self._transport.goes_on()

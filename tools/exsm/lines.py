@@ -92,8 +92,8 @@ MEANINGS = {
     "data_limit": "a line gives or asks for at most 16,777,216 bytes: use several lines",
     "no_txn": "no transaction is open: send `begin` first",
     "txn_open": "a transaction is open: `commit` or `abort` it first",
-    "no_name": "no `create`, `freeze` or `derive` of this run bound the name: names last for one run, and those of an "
-               "aborted transaction are gone; `list FILE` tells identifiers",
+    "no_name": "no `create`, `freeze` or `derive` of this run bound the name: names last for one "
+               "run, and those of an aborted transaction are gone; `list FILE` tells identifiers",
     "name_taken": "the name is taken in this run, by an object, also where that is gone, by an "
                   "open scan or by a group: take another",
     "no_file": "there is no such file: `files` tells them",
@@ -127,7 +127,7 @@ FULL_AREAS = {"pages": "pages", "segs": "segment units"}
 
 
 def reason_of(fault: Exception, path: str = "") -> str:
-    """What a fault says: of a call of the system the file that it names, else the path that is told, and the reason."""
+    """What a fault says: the reason, behind the file that the system names, else the path."""
     if isinstance(fault, OSError) and fault.strerror:
         path = os.fsdecode(fault.filename) if fault.filename else path
         return f"{path}: {fault.strerror}" if path else fault.strerror

@@ -2,10 +2,16 @@
 from __future__ import annotations
 
 import hashlib
+import os
 import random
+import threading
+import time
+import unittest
+from pathlib import Path
 from typing import Callable
 
-from exsm.client import LINE_MOST, PIECE, Broken, Ended, Refused, Space, Store, is_answered
+from exsm.client import (LINE_MOST, PIECE, Broken, Denied, Ended, Locked, Missing, NoVolume,
+                         Refused, Space, Store, is_answered)
 from exsm.volume import Volume
 from tests.support import InFolder
 
@@ -14,6 +20,7 @@ RUNS = 3
 TRANSACTIONS_MOST, UPDATES_MOST = 6, 25
 LENGTHS = (3, 40, 200, 900, 6000)
 PAGES, SEGS = 1500, 1500
+THREADS, THREAD_STEPS = 5, 12
 
 Table = dict[str, dict[str, bytes]]
 
@@ -171,14 +178,143 @@ class ClientTest(InFolder):
                 store.file("b")
             self.assertEqual(store.files(), ["b"])
 
+    def test_causes(self) -> None:
+        """a volume that can't be opened fails at once, by its cause, and with what was said"""
+        os.mkdir("folder")
+        Path("empty").touch()
+        self.format("damaged")
+        with open("damaged", "r+b") as file:
+            file.seek(257 * 512)
+            file.write(b"x")
+        self.format("open")
+        causes = [("missing", Missing, 5, "disk fault"), ("open", Locked, 5, "disk fault"),
+                  ("folder", Ended, 5, "disk fault"), ("empty", NoVolume, 6, "bad volume super"),
+                  ("damaged", NoVolume, 6, "bad volume catalog")]
+        with Store("open"):
+            for name, cause, status, said in causes:
+                with self.subTest(name), self.assertRaises(Ended) as caught:
+                    Store(name)
+                fault = caught.exception
+                self.assertEqual((type(fault), fault.status), (cause, status))
+                self.assertEqual(fault.text.splitlines()[-1], f"exsm: status {status} {said}")
+                self.assertTrue(fault.text.startswith(f"exsm: {name}"))
+                if isinstance(fault, NoVolume):
+                    self.assertEqual(fault.part, said.split()[-1])
+
+    def test_misleading_names(self) -> None:
+        """a volume's name that reads as a cause makes no cause"""
+        name = "v: another run has it open"
+        os.mkdir(name)
+        with self.assertRaises(Ended) as caught:
+            Store(name)
+        self.assertIs(type(caught.exception), Ended)
+
+    @unittest.skipIf(os.getuid() == 0, "root may write to any file")
+    def test_denied(self) -> None:
+        """a volume that may not be written is told as such"""
+        os.chmod(self.format(), 0o444)
+        self.assertRaises(Denied, Store, "v")
+
     def test_ended(self) -> None:
-        """the program's status and what it said are told, and told again"""
-        with self.assertRaises(Ended) as caught, Store("missing") as store:
-            store.files()
-        self.assertEqual(caught.exception.status, 5)
-        self.assertEqual(caught.exception.text.splitlines()[-1], "exsm: status 5 disk fault")
-        store = Store("missing")
-        self.assertRaises(Ended, store.close)
+        """where the program is killed, its signal is told, and told again"""
+        store = Store(self.format())
+        store._transport._run.kill()
+        for step in (store.files, store.close):
+            with self.assertRaises(Ended) as caught:
+                step()
+            self.assertEqual(caught.exception.status, -9)
+        store.close()
+
+    def test_wait(self) -> None:
+        """a store waits for another run as long as it is told, and no longer"""
+        self.format()
+        with Store("v") as store:
+            begun = time.monotonic()
+            self.assertRaises(Locked, Store, "v", wait=0.5)
+            self.assertGreaterEqual(time.monotonic() - begun, 0.5)
+            timer = threading.Timer(0.5, store.close)
+            timer.start()
+            with Store("v", wait=30) as other:
+                self.assertEqual(other.files(), [])
+            timer.join()
+
+    def test_threads(self) -> None:
+        """threads share a store: each transaction is one thread's, and nothing is mixed"""
+        self.format(pages=600, segs=2000)
+        faults: list[BaseException] = []
+
+        def write(store: Store, mark: int) -> None:
+            try:
+                oid = objects[mark]
+                for _ in range(THREAD_STEPS):
+                    with store.transaction():
+                        size = store.size(oid)
+                        store.append(oid, bytes([mark]) * 7)
+                        if store.size(oid) != size + 7:
+                            raise AssertionError("another thread's line stood in between")
+                    store.read(oid, 0, 3)
+            except BaseException as fault:
+                faults.append(fault)
+
+        with Store("v") as store:
+            with store.transaction():
+                store.file("a")
+                objects = [store.create("a") for _ in range(THREADS)]
+            threads = [threading.Thread(target=write, args=(store, mark))
+                       for mark in range(THREADS)]
+            for thread in threads:
+                thread.start()
+            for thread in threads:
+                thread.join()
+            self.assertEqual(faults, [])
+            for mark, oid in enumerate(objects):
+                self.assertEqual(store.read(oid), bytes([mark]) * 7 * THREAD_STEPS)
+
+    def test_backup(self) -> None:
+        """a backup holds the last commit, whole, also from within a transaction"""
+        self.format()
+        Path("there").write_bytes(b"precious")
+        with Store("v") as store:
+            with store.transaction():
+                store.file("a")
+                oid = store.create("a")
+                store.append(oid, b"committed" * 1000)
+            self.assertRaises(FileExistsError, store.backup, "there")
+            with store.transaction():
+                store.append(oid, b"more")
+                self.assertEqual(store.backup("within"), 1)
+            self.assertEqual(store.backup("after"), 2)
+            self.assertRaises(FileNotFoundError, store.backup, "nowhere/copy")
+        for name, wanted in (("within", b"committed" * 1000), ("after", b"committed" * 1000 + b"more")):
+            with Volume(name) as volume:
+                self.assertEqual(volume.walk().faults, [])
+                self.assertEqual(volume.bytes_of(volume.find(oid)), wanted)
+        self.assertEqual(sorted(os.listdir()), ["after", "there", "v", "within"])
+        self.assertEqual(Path("there").read_bytes(), b"precious")
+
+    def test_transport(self) -> None:
+        """a store goes over whatever carries lines and replies"""
+        class Told:
+            def __init__(self) -> None:
+                self.lines: list[bytes] = []
+
+            def send(self, line: bytes) -> None:
+                self.lines.append(line)
+
+            def receive(self) -> str:
+                return "ok log 3"
+
+            def end(self) -> None:
+                self.lines.append(b"end")
+
+            def goes_on(self) -> bool:
+                return True
+
+        told = Told()
+        with Store.over(told) as store:
+            self.assertEqual(store.log(), 3)
+            self.assertRaises(ValueError, store.backup, "copy")
+        self.assertEqual(told.lines, [b"log", b"end"])
 
     def test_lines(self) -> None:
         """a line that would get no reply, or two, isn't sent"""
@@ -203,9 +339,9 @@ class ClientTest(InFolder):
         """after a reply that wasn't read no line is sent"""
         self.format()
         with Store("v") as store:
-            receive = store._receive
-            store._receive = lambda: (_ for _ in ()).throw(KeyboardInterrupt())
+            receive = store._transport.receive
+            store._transport.receive = lambda: (_ for _ in ()).throw(KeyboardInterrupt())
             with self.assertRaises(KeyboardInterrupt), store.transaction():
                 pass
-            store._receive = receive
+            store._transport.receive = receive
             self.assertRaises(Broken, store.files)

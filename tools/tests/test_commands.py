@@ -5,14 +5,25 @@ from tests.support import TOOLS, InFolder
 
 COMMANDS = sorted(path.stem for path in TOOLS.glob("exsm_*.py"))
 WRONG_WORDS = [
+    ("exsm_copy", ["v"], "the following arguments are required: COPY"),
+    ("exsm_copy", ["v", "copy", "--wait", "soon"],
+     "argument --wait: 'soon' is no number of seconds"),
     ("exsm_do", ["v", "script", "more"], "unrecognized arguments: more"),
     ("exsm_files", ["v"], "the following arguments are required: COMMAND"),
     ("exsm_files", ["v", "get"], "the following arguments are required: NAME"),
+    ("exsm_files", ["v", "get", "a", "b", "c"], "several names want a folder: get -d DIR NAME .."),
+    ("exsm_files", ["v", "put", "-"], "standard input wants a name: put -n NAME -"),
+    ("exsm_files", ["v", "put", "-n", "a", "b", "c"],
+     "argument -n/--name: it names one FILE, without -r"),
     ("exsm_map", ["v", "out.svg", "more"], "unrecognized arguments: more"),
+    ("exsm_move", ["v"], "the following arguments are required: NEW"),
+    ("exsm_move", ["v", "new", "--size", "1T"], "argument --size: '1T' is no size"),
     ("exsm_new", ["v", "80MB"],
      "argument SIZE: '80MB' is no size: a number and K, M or G, as in 80M"),
     ("exsm_new", ["v", "1M"],
      "argument SIZE: 1M is no size of 2M to 259G; for others use `exsm format`"),
+    ("exsm_versions", ["v"], "the following arguments are required: COMMAND"),
+    ("exsm_versions", ["v", "diff", "258.0.1"], "the following arguments are required: VERSION"),
     ("exsm_volume", ["v", "get"], "the following arguments are required: OID"),
     ("exsm_volume", ["v", "check", "more"], "unrecognized arguments: more"),
 ]
@@ -21,7 +32,7 @@ WRONG_WORDS = [
 class CommandsTest(InFolder):
     def test_help(self) -> None:
         """each command tells its words by --help"""
-        self.assertEqual(len(COMMANDS), 5)
+        self.assertGreaterEqual(len(COMMANDS), 5)
         for name in COMMANDS:
             with self.subTest(name):
                 ran = self.tool(name, "--help")

@@ -224,8 +224,10 @@ COMPLETIONS = [
     ("exsm|format|v|", SIZES), ("exsm|format|v|--page-size|8", ["8192"]),
     ("exsm|format|v|--page-size|512|", SIZES), ("exsm|run|v|", ["--max-bytes"]),
     ("exsm|gen|v|", ["--count", "--seed"]),
-    ("exsm_files.py|v|", ["get", "ls", "put", "rm"]), ("exsm_new.py|v|", ["16G", "1G", "80M"]),
-    ("exsm_volume.py|v|s", ["save"]), ("exsm_do.py|o", ["other"]),
+    ("exsm_files.py|v|", ["get", "ls", "mv", "put", "rm"]), ("exsm_new.py|v|", ["16G", "1G", "80M"]),
+    ("exsm_volume.py|v|s", ["save"]), ("exsm_volume.py|v|m", ["mend"]),
+    ("exsm_versions.py|v|t", ["tree"]), ("exsm_copy.py|o", ["other"]),
+    ("exsm_move.py|o", ["other"]), ("exsm_do.py|o", ["other"]),
 ]
 
 
@@ -248,13 +250,14 @@ class InstallTest(InFolder):
         variables = {"PATH": path, "PYTHONDONTWRITEBYTECODE": "1"}
         Path("one").write_text("files\n", encoding="ascii")
         for line in ("exsm_new.py v 4M", "exsm_files.py v put one", "exsm_do.py v one",
-                     "exsm_map.py v", "exsm_volume.py v check"):
+                     "exsm_map.py v", "exsm_volume.py v check", "exsm_copy.py v copy",
+                     "exsm_move.py v larger --size 8M", "exsm_versions.py v tree"):
             done = subprocess.run(line.split(), env=variables, capture_output=True, check=False)
             self.assertEqual(done.returncode, 0, done.stderr)
         program = "from exsm.client import Store\nwith Store('v') as store: print(store.files())"
         done = subprocess.run([sys.executable, "-c", program], capture_output=True, check=False,
                               env={**variables, "PYTHONPATH": str(prefix / "lib" / "exsm")})
-        self.assertEqual((done.stdout, done.stderr), (b"['blobs', 'names']\n", b""))
+        self.assertEqual((done.stdout, done.stderr), (b"['blobs', 'names', 'put_sources']\n", b""))
         completion = "share/bash-completion/completions/exsm_files.py"
         for name in ("share/man/man1/exsm.1", completion, "bin/exsm"):
             self.assertTrue((prefix / name).is_file(), name)

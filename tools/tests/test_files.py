@@ -1,20 +1,37 @@
 """Files under their names: there and back, and in step with their objects after a kill."""
 from __future__ import annotations
 
+import fcntl
+import json
 import os
+import pty
 import random
+import re
 import subprocess
 import sys
+import termios
 import time
+from pathlib import Path
 
-from exsm.client import Store
-from exsm.files import PUT_MOST, Names
+from exsm.client import PIECE, Store
+from exsm.files import Names
 from exsm.volume import Volume
+from tests.kills import KILLS, killed, killed_command
 from tests.support import TOOLS, InFolder
 
 FILES = 20
-KILLS = 15
+INTERRUPTED_FILES = 600
 SIZES = (0, 1, 2, 100, 511, 512, 513, 5_000, 49_151, 317_000, 2_000_003)
+
+
+IN_PARTS = """
+import sys
+sys.path.insert(0, {tools!r})
+import exsm.putting
+exsm.putting.PUT_PIECES, exsm.putting.PUT_MOST = 2, 2 * {piece}
+import exsm_files
+sys.exit(exsm_files.main())
+"""
 
 
 class FilesTest(InFolder):
@@ -78,20 +95,320 @@ class FilesTest(InFolder):
         self.assertEqual(self.tool("exsm_files", "v", "rm", names[0], names[1]).status, 0)
         self.assertEqual(sorted(self.stored()), sorted(names[2:]))
 
+    def put(self, *words: object, status: int = 0, given: bytes = b"") -> list[str]:
+        """Puts, and gives what is told: the lines, or of a refusal the errors."""
+        ran = self.tool("exsm_files", "v", "put", *words, given=given)
+        self.assertEqual(ran.status, status, ran.errors)
+        return ran.errors if status else ran.lines
+
+    def tree(self) -> dict[str, bytes]:
+        """Makes a folder with files of one name, names with spaces, an umlaut and a dash."""
+        made = {"a/README.md": b"one", "a/sub/README.md": b"two", "a/with space": b"3",
+                "a/\u00e4 \u2013 x": b"4", "a/-dash": b"5", "a/sub/deep/empty": b""}
+        for name, data in made.items():
+            path = Path(name)
+            path.parent.mkdir(parents=True, exist_ok=True)
+            path.write_bytes(data)
+        return made
+
+    def test_twice(self) -> None:
+        """a name that comes twice, or stands for another path, is refused without --replace"""
+        self.tree()
+        paths = ("a/README.md", "a/sub/README.md")
+        self.assertEqual(self.put(*paths, status=1), [
+            "exsm_files: README.md comes twice, as a/README.md and as a/sub/README.md: -r names "
+            "files by their paths, and --replace keeps the last; nothing was put"])
+        self.assertEqual(self.stored(), {})
+        self.put("a/README.md")
+        self.assertEqual(self.put("a/with space", "a/sub/README.md", status=1), [
+            f"exsm_files: README.md is there already, put from {self.folder}/a/README.md: "
+            "--replace puts it anew, -n NAME or -r names this one otherwise; nothing was put"])
+        self.assertEqual(self.stored(), {"README.md": b"one"})
+        Path("a/README.md").write_bytes(b"anew")
+        self.put("a/README.md")
+        self.assertEqual(self.stored(), {"README.md": b"anew"})
+        self.put("--replace", *paths)
+        self.assertEqual(self.stored(), {"README.md": b"two"})
+
+    def test_folder(self) -> None:
+        """a folder goes in under its paths and comes back alike; a part that is no file is told"""
+        made = self.tree()
+        os.symlink("nowhere", "a/link")
+        ran = self.tool("exsm_files", "v", "put", "-r", "./a/")
+        self.assertEqual((ran.status, ran.errors),
+                         (0, ["exsm_files: left out: ./a/link is no file"]))
+        self.assertEqual(self.stored(), made)
+        os.unlink("a/link")
+        os.mkdir("with")
+        os.link("v", "with/volume")
+        ran = self.tool("exsm_files", "v", "put", "-r", "with")
+        self.assertEqual((ran.status, ran.lines, ran.errors),
+                         (0, [], ["exsm_files: left out: with/volume is the volume itself"]))
+        self.assertEqual(self.put("v", status=1), ["exsm_files: v is the volume itself"])
+        ran = self.tool("exsm_files", "v", "get", "-d", "out")
+        self.assertEqual((ran.status, ran.lines, ran.errors), (0, [], []))
+        self.assertEqual(self.run_words("diff", "-r", "a", "out/a").status, 0)
+        self.assertEqual(self.put("a", status=1),
+                         ["exsm_files: a is a folder: `put -r` puts the files in it"])
+
+    def test_get_is_careful(self) -> None:
+        """get writes over nothing unasked, and nothing outside of its folder"""
+        self.tree()
+        self.put("a/README.md", "a/with space")
+        Path("out").mkdir()
+        Path("out/with space").write_bytes(b"precious")
+        for words in (("-d", "out"), ("with space", "out/with space")):
+            ran = self.tool("exsm_files", "v", "get", *words)
+            self.assertEqual((ran.status, ran.errors), (1, [
+                "exsm_files: out/with space is there already: --replace writes it anew"]))
+        self.assertEqual(os.listdir("out"), ["with space"])
+        self.assertEqual(Path("out/with space").read_bytes(), b"precious")
+        self.tool("exsm_files", "v", "get", "-d", "out", "--replace", "with space")
+        self.assertEqual(Path("out/with space").read_bytes(), b"3")
+        self.assertEqual(os.listdir("out"), ["with space"])
+        os.mkfifo("pipe")
+        ran = self.tool("exsm_files", "v", "get", "--replace", "with space", "pipe")
+        self.assertEqual(ran.errors, ["exsm_files: pipe is there already, and is no file that can "
+                                      "be replaced"])
+        with Store("v") as store, store.transaction():
+            names = store.list("names")[0]
+            store.replace(names, store.read(names).index(b"README.md"), b"../READ.m")
+        ran = self.tool("exsm_files", "v", "get", "-d", "out", "../READ.m")
+        self.assertEqual(ran.status, 1)
+        self.assertIn("can't be a name", ran.errors[0])
+        self.put("-n", "with space/x", "a/README.md")
+        ran = self.tool("exsm_files", "v", "get", "-d", "new", "with space", "with space/x")
+        self.assertEqual(ran.errors, ["exsm_files: new/with space would be a file and a folder: "
+                                      "get these names one by one"])
+        self.assertFalse(os.path.exists("new"))
+
+    def test_standard_input(self) -> None:
+        """standard input goes in under a name, short and long"""
+        long = random.Random(5).randbytes(17 * PIECE + 5)
+        self.put("-n", "in/short", "-", given=b"abc")
+        self.put("-n", "long", "-", given=long)
+        self.assertEqual(self.stored(), {"in/short": b"abc", "long": long})
+        self.assertEqual(self.put("-n", "long", "-", status=1, given=b"x"), [
+            "exsm_files: long is there already, put from -: --replace puts it anew, -n NAME or -r "
+            "names this one otherwise; nothing was put"])
+        self.put("-n", "long", "--replace", "-", given=b"x")
+        self.assertEqual(self.stored(), {"in/short": b"abc", "long": b"x"})
+        for name in ("", "/a", "a//b", "../a", "a/./b", "a\nb"):
+            self.assertIn("can't be a name", self.put("-n", name, "-", status=1)[0])
+
+    def test_lists(self) -> None:
+        """names with spaces and other bytes are told safely"""
+        made = self.tree()
+        odd = b"a/\xff odd"
+        Path(os.fsdecode(odd)).write_bytes(b"odd")
+        self.assertEqual(self.tool("exsm_files", "v", "put", "-r", "a").status, 0)
+        names = sorted([*map(os.fsencode, made), odd])
+        ran = self.tool("exsm_files", "v", "ls", "-0")
+        self.assertEqual(sorted(ran.out.split(b"\0")[:-1]), names)
+        told = json.loads(self.tool("exsm_files", "v", "ls", "--json").out)
+        self.assertEqual(sorted(os.fsencode(row["name"]) for row in told), names)
+        with Store("v") as store:
+            for row in told:
+                data = odd[4:] if os.fsencode(row["name"]) == odd else made[row["name"]]
+                self.assertEqual((store.read(row["oid"]), row["size"]), (data, len(data)))
+        self.assertEqual(len(self.tool("exsm_files", "v", "ls").out.splitlines()), len(names))
+
+    def test_mv(self) -> None:
+        """mv changes a name and nothing else; a name that is there is kept"""
+        self.tree()
+        self.put("-r", "a")
+        before = {row["name"]: row["oid"] for row in self.listed()}
+        self.assertEqual(self.tool("exsm_files", "v", "mv", "a/with space", "new name").status, 0)
+        after = {row["name"]: row["oid"] for row in self.listed()}
+        self.assertEqual(after, {name.replace("a/with space", "new name"): oid
+                                 for name, oid in before.items()})
+        ran = self.tool("exsm_files", "v", "mv", "new name", "a/-dash")
+        self.assertEqual((ran.status, ran.errors), (
+            1, ["exsm_files: a/-dash is there already: --replace removes it"]))
+        self.assertEqual(self.tool("exsm_files", "v", "mv", "nothing", "x").status, 1)
+        ran = self.tool("exsm_files", "v", "mv", "--replace", "new name", "a/-dash")
+        self.assertEqual((ran.status, self.stored()["a/-dash"]), (0, b"3"))
+
+    def listed(self) -> list[dict]:
+        """What `ls --json` tells."""
+        return json.loads(self.tool("exsm_files", "v", "ls", "--json").out)
+
+    def test_versions(self) -> None:
+        """a name whose object has frozen versions is put anew, and removed with them"""
+        Path("text").write_bytes(b"old" * 3_000)
+        self.put("text")
+        oid = self.listed()[0]["oid"]
+        with Store("v") as store, store.transaction():
+            published = store.freeze(oid)
+            branch = store.derive(published)
+            frozen = store.freeze(branch)
+        Path("text").write_bytes(b"new" * 2_000)
+        self.put("text")
+        with Store("v") as store:
+            self.assertEqual(store.read(published), b"old" * 3_000)
+            self.assertEqual(store.read(oid), b"new" * 2_000)
+            self.assertEqual(store.versions(oid), [published, oid, frozen, branch])
+        ran = self.tool("exsm_files", "v", "rm", "text")
+        self.assertEqual((ran.status, ran.errors), (1, [
+            "exsm_files: text has 4 versions: `rm --versions` removes all of them"]))
+        self.assertEqual(self.tool("exsm_files", "v", "rm", "--versions", "text").status, 0)
+        with Store("v") as store:
+            self.assertEqual((store.list("blobs"), self.listed_without(store)), ([], []))
+        self.assertEqual(self.stored(), {})
+
+    def listed_without(self, store: Store) -> list[bytes]:
+        """The names that a store has."""
+        return list(Names(store).uniques)
+
     def test_faults(self) -> None:
         """what can't be stored or got is told, and leaves the volume"""
         self.make(1)
-        os.truncate("in/f0-\u00e4", PUT_MOST + 1)
-        too_long = (f"in/f0-\u00e4 has {PUT_MOST + 1:,} bytes, and one transaction holds "
-                    f"{PUT_MOST:,}")
-        table = [("put", "in/f0-\u00e4", too_long),
-                 ("put", "nothing", "nothing: No such file or directory"),
-                 ("get", "nothing", "no such name: nothing")]
+        table = [("put", "nothing", "nothing: No such file or directory"),
+                 ("get", "nothing", "no such name: nothing"),
+                 ("rm", "nothing", "no such name: nothing")]
         for command, word, error in table:
             ran = self.tool("exsm_files", "v", command, word)
             self.assertEqual((ran.status, ran.lines, ran.errors), (1, [], [f"exsm_files: {error}"]))
         self.assertEqual(self.stored(), {})
         self.assertEqual(self.tool("exsm_files", "missing", "ls").status, 5)
+        with Store("v"):
+            self.assertEqual(self.tool("exsm_files", "v", "ls").status, 5)
+
+    def test_gone(self) -> None:
+        """a name whose object another line destroyed is told, and rm removes it"""
+        Path("a").write_bytes(b"a")
+        self.put("a")
+        with Store("v") as store, store.transaction():
+            store.destroy(store.list("blobs")[0])
+        told = self.tool("exsm_files", "v", "get", "a").errors
+        self.assertEqual(told, ["exsm_files: the object of a is gone, some other line destroyed "
+                                "it: `rm` removes the name"])
+        self.assertEqual(self.tool("exsm_files", "v", "rm", "a").status, 0)
+        self.assertEqual(self.tool("exsm_files", "v", "ls").lines, [])
+
+    def test_interrupt(self) -> None:
+        """Ctrl-C in a terminal: what was told is in, and the rest isn't"""
+        for place in range(INTERRUPTED_FILES):
+            Path(f"f{place}").write_bytes(bytes(20_000))
+        status, seen = self.interrupted_put()
+        self.assertEqual(status, 130)
+        self.assertIn(b"interrupted; what was told is done", seen)
+        self.assertNotIn(b"Traceback", seen)
+        told = {name.decode() for name in re.findall(rb"(f\d+) 20000 bytes", seen)}
+        stored = set(self.stored())                # one may be in that wasn't told yet
+        self.assertLessEqual(told, stored)
+        self.assertLessEqual(len(stored), len(told) + 1)
+        self.assertLess(len(stored), INTERRUPTED_FILES)
+
+    def interrupted_put(self) -> tuple[int, bytes]:
+        """Puts files in a terminal and presses Ctrl-C after the second; the status, and what came."""
+        side, other = pty.openpty()
+        paths = [f"f{place}" for place in range(INTERRUPTED_FILES)]
+        run = subprocess.Popen(
+            [sys.executable, str(TOOLS / "exsm_files.py"), "v", "put", *paths],
+            stdin=other, stdout=other, stderr=other, start_new_session=True,
+            preexec_fn=lambda: fcntl.ioctl(0, termios.TIOCSCTTY, 0))
+        os.close(other)
+        seen = b""
+        while b"f1 20000 bytes" not in seen:
+            seen += os.read(side, 4096)
+        os.write(side, b"\x03")
+        try:
+            while more := os.read(side, 65536):
+                seen += more
+        except OSError:
+            pass                                   # the terminal's other side is closed
+        os.close(side)
+        return run.wait(30), seen
+
+    def test_full(self) -> None:
+        """of a full volume it is told what is in, and what would do"""
+        for place in range(4):
+            Path(f"f{place}").write_bytes(bytes(8_000_000))
+        errors = self.put(*(f"f{place}" for place in range(4)), status=1)
+        self.assertRegex(errors[0], r"^exsm_files: f3: the volume is full: it needs \d+ units and "
+                         r"\d+ are free\. 3 of 4 files are in\. `exsm_move\.py` carries all to a "
+                         r"larger volume$")
+        self.assertEqual(sorted(self.stored()), ["f0", "f1", "f2"])
+        Path("f1").write_bytes(b"x" * 20_000_000)
+        self.assertTrue(self.put("f1", status=1)[0].endswith("so `rm` may also do"))
+        self.assertEqual(self.stored()["f1"], bytes(8_000_000))
+
+    def in_parts(self, *words: str) -> list[str]:
+        """A command whose transactions hold few pieces, so that a short file takes several."""
+        return [sys.executable, "-c", IN_PARTS.format(tools=str(TOOLS), piece=PIECE), "v", *words]
+
+    def test_parts(self) -> None:
+        """a file of several transactions: whole, also over one with versions; old or new after a kill"""
+        chance = random.Random(11)
+        states = [chance.randbytes(9 * PIECE + 17), chance.randbytes(7 * PIECE)]
+        Path("big").write_bytes(states[0])
+        begun = time.monotonic()
+        self.assertEqual(self.run_words(*self.in_parts("put", "big")).status, 0)
+        taken = time.monotonic() - begun
+        self.assertEqual(self.stored(), {"big": states[0]})
+        now = 0
+        for kill in range(KILLS):
+            Path("big").write_bytes(states[1 - now])
+            killed_command(chance, taken, self.in_parts("put", "big"))
+            self.assertEqual(self.tool("exsm_files", "v", "ls").status, 0)
+            self.tool("exsm_files", "v", "mv", "big", "big")          # cleans what was left
+            stored = self.stored()["big"]
+            self.assertIn(stored, states)
+            now = states.index(stored)
+        with Store("v") as store:
+            oid = Names(store).oid(b"big")
+            with store.transaction():
+                published = store.freeze(oid)
+        Path("big").write_bytes(b"over" * PIECE)
+        self.assertEqual(self.run_words(*self.in_parts("put", "big")).status, 0)
+        with Store("v") as store:
+            current = Names(store).oid(b"big")
+            self.assertEqual(store.versions(published), [published, current])
+            self.assertEqual(store.read(published), states[now])
+            self.assertEqual(store.read(current), b"over" * PIECE)
+
+    def test_old_volumes(self) -> None:
+        """a volume whose names have no paths beside them is read, and nothing is replaced unasked"""
+        with Store("v") as store, store.transaction():
+            store.file("blobs")
+            store.file("names")
+            oid = store.create("blobs")
+            store.append(oid, b"old")
+            store.append(store.create("names"), b"%s text\n" % oid.rsplit(".", 1)[1].encode())
+        self.assertEqual(self.stored(), {"text": b"old"})
+        self.assertEqual(self.tool("exsm_files", "v", "get", "text").out, b"old")
+        Path("text").write_bytes(b"new")
+        self.assertEqual(self.put("text", status=1), [
+            "exsm_files: text is there already: --replace puts it anew, -n NAME or -r names this "
+            "one otherwise; nothing was put"])
+        self.put("--replace", "text")
+        self.assertEqual(self.stored(), {"text": b"new"})
+        self.put("text")
+
+    def test_killed_writers(self) -> None:
+        """kills in mv, rm and get: names and objects in step, no file in part under its name"""
+        made = self.make(6)
+        names = list(made)
+        self.put(*(f"in/{name}" for name in names))
+        chance = random.Random(13)
+        for kill in range(KILLS):
+            words = [("mv", names[3], "moved"), ("rm", names[4]), ("get", "-d", "out")][kill % 3]
+            killed(chance, 0.4, "exsm_files", "v", *words)
+            stored = self.stored()
+            self.assertEqual({**made, "moved": made[names[3]], **stored},
+                             {**made, "moved": made[names[3]]})
+            self.assertEqual(names[3] in stored, "moved" not in stored)
+            for path in Path("out").glob("*") if Path("out").is_dir() else ():
+                if ".part-" not in path.name:
+                    self.assertEqual(path.read_bytes(), stored[path.name])
+            self.tool("exsm_files", "v", "get", "-d", "out", "--replace")
+            self.assertEqual({path.name for path in Path("out").glob("*.part-*")}, set())
+            self.tool("exsm_files", "v", "mv", "moved", names[3])
+            self.put(f"in/{names[4]}")
+            for path in Path("out").glob("*"):
+                path.unlink()
+        self.assertEqual(self.stored(), made)
 
     def test_reading(self) -> None:
         """what only reads changes nothing"""

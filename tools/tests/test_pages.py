@@ -1,4 +1,4 @@
-"""The pages whose figures and lists scripts write: each writes between its marks alone, and nothing where it can't."""
+"""The pages that scripts write into: each writes between its marks alone, else nothing."""
 from __future__ import annotations
 
 import shutil
@@ -21,8 +21,9 @@ class PagesTest(InFolder):
         return self.run_words(sys.executable, f"tools/dev/{name}", *words)
 
     def test_figures(self) -> None:
-        """a bench's figures take the place of those between the marks that name it, with its call, and else the page stays"""
-        page = "before\n<!-- figures of bench/a.py -->\n\nold\n\n<!-- end of figures -->\nafter\n"
+        """a bench's figures stand between the marks that name it; where it fails the page stays"""
+        page = ("before\n<!-- figures of bench/a.py -->\n\nold\n\n<!-- end of figures -->\n"
+                "after\n")
         Path("docs/SPEED.md").write_text(page, encoding="utf-8")
         Path("bench/a.py").write_text("import sys\nprint('took', sys.argv[1:])\n", encoding="utf-8")
         Path("bench/fails.sh").write_text("exit 3\n", encoding="utf-8")
@@ -32,34 +33,57 @@ class PagesTest(InFolder):
         self.assertEqual(self.script("figures.py", "bench/a.py", "v", "--runs", "3").status, 0)
         lines = Path("docs/SPEED.md").read_text(encoding="utf-8").splitlines()
         self.assertEqual(lines[:3] + lines[4:], [
-            "before", "<!-- figures of bench/a.py -->", "", "", "```", "took ['v', '--runs', '3']", "```", "",
-            "<!-- end of figures -->", "after"])
+            "before", "<!-- figures of bench/a.py -->", "", "", "```",
+            "took ['v', '--runs', '3']", "```", "", "<!-- end of figures -->", "after"])
         self.assertTrue(lines[3].startswith("`bench/a.py v --runs 3`, "), lines[3])
         Path("bench/a.py").write_text("sys.exit(1)\n", encoding="utf-8")
         was = Path("docs/SPEED.md").read_bytes()
-        self.assertEqual((self.script("figures.py", "bench/a.py").status, Path("docs/SPEED.md").read_bytes()), (1, was))
+        self.assertEqual(self.script("figures.py", "bench/a.py").status, 1)
+        self.assertEqual(Path("docs/SPEED.md").read_bytes(), was)
+
+    def test_figures_of_a_program(self) -> None:
+        """where a mark names a bench with a word, the figures of that call stand behind it alone"""
+        page = "".join(f"<!-- figures of bench/a.py{it} -->\n\nold\n\n<!-- end of figures -->\n"
+                       for it in (" trees", ""))
+        Path("docs/SPEED.md").write_text(page, encoding="utf-8")
+        Path("bench/a.py").write_text("import sys\nprint('of', sys.argv[1])\n", encoding="utf-8")
+        self.assertEqual(self.script("figures.py", "bench/a.py", "trees").status, 0)
+        self.assertEqual(self.script("figures.py", "bench/a.py", "units").status, 0)
+        lines = Path("docs/SPEED.md").read_text(encoding="utf-8").splitlines()
+        places = [lines.index(it) for it in (
+            "<!-- figures of bench/a.py trees -->", "of trees",
+            "<!-- figures of bench/a.py -->", "of units")]
+        self.assertEqual(places, sorted(places))
+        self.assertNotIn("old", lines)
 
     def test_marks(self) -> None:
-        """the pages have the marks that the scripts write between, and each bench that a mark names is there"""
+        """the pages have the marks that scripts write between, and each bench that one names"""
         speed = (TOP / "docs" / "SPEED.md").read_text(encoding="utf-8")
         benches = [part.split(" -->")[0] for part in speed.split("<!-- figures of ")[1:]]
         self.assertGreater(len(benches), 5)
-        self.assertEqual([it for it in benches if not (TOP / it).is_file()], [])
+        self.assertEqual([it for it in benches if not (TOP / it.split()[0]).is_file()], [])
+        programs = [it.split()[1] for it in benches if it.startswith("bench/run.py")]
+        self.assertEqual([it for it in programs
+                          if not (TOP / "bench" / "programs" / it).is_dir()], [])
         self.assertEqual(speed.count("<!-- end of figures -->"), len(benches))
         gate = (TOP / "docs" / "GATE.md").read_text(encoding="utf-8")
-        for mark in ("<!-- written by tools/dev/gate_log.py -->", "<!-- written by tools/first_build -->",
+        for mark in ("<!-- written by tools/dev/gate_log.py -->",
+                     "<!-- written by tools/first_build -->",
                      "<!-- written by tools/first_build --forecast -->"):
             self.assertEqual(gate.count(mark), 1, mark)
 
     def test_tested(self) -> None:
         """the page of tests has the sentences of their files, and --check tells an old one"""
         Path("tools/tests/test_one.py").write_text(
-            '"""One thing.\n\nMore.\n"""\nclass A:\n    def test_a(self):\n        """it holds\n        on two lines"""\n'
-            '    def test_b_c(self):\n        pass\n    def other(self):\n        pass\n', encoding="utf-8")
+            '"""One thing.\n\nMore.\n"""\nclass A:\n    def test_a(self):\n        """it holds\n'
+            '        on two lines"""\n    def test_b_c(self):\n        pass\n'
+            '    def other(self):\n        pass\n', encoding="utf-8")
         Path("docs/TESTS.md").write_text(
-            "head\n<!-- written by tools/dev/tested.py -->\n<!-- end of what it writes -->\ntail\n", encoding="utf-8")
+            "head\n<!-- written by tools/dev/tested.py -->\n<!-- end of what it writes -->\ntail\n",
+            encoding="utf-8")
         self.assertEqual(self.script("tested.py", "--check").status, 1)
         self.assertEqual(self.script("tested.py", "--write").status, 0)
-        self.assertEqual(Path("docs/TESTS.md").read_text(encoding="utf-8").splitlines()[3:9], [
-            "2 tests in 1 files.", "", "**test_one.py**: one thing.", "", "- it holds on two lines", "- b c"])
+        lines = Path("docs/TESTS.md").read_text(encoding="utf-8").splitlines()
+        self.assertEqual(lines[3:9], ["2 tests in 1 files.", "", "**test_one.py**: one thing.", "",
+                                      "- it holds on two lines", "- b c"])
         self.assertEqual(self.script("tested.py", "--check").status, 0)

@@ -1,0 +1,48 @@
+"""A copy of a volume that no run has open, under the program's lock."""
+from __future__ import annotations
+
+import json
+import os
+import sys
+
+from exsm.client import AnyPath, Ended, Locked, NoVolume, ProgramMissing
+from exsm.commands import status_of
+from exsm.lines import reason_of
+from exsm.lock import held
+from exsm.progress import MIB, Progress
+from exsm.whole import copy_volume
+
+
+def copy(volume: AnyPath, path: AnyPath, wait: float, as_json: bool) -> None:
+    """Copies a volume, and tells its size and the number of its last commit."""
+    with held(volume, wait), open(volume, "rb") as file:
+        size = file.seek(0, os.SEEK_END)
+        with Progress(os.fspath(path), size) as progress:
+            commit = copy_volume(volume, path, progress.reach)
+    if as_json:
+        print(json.dumps({"bytes": size, "commit": commit}))
+    else:
+        print(f"{size / MIB:,.1f} MiB, commit {commit}, checked")
+
+
+def fault_text(fault: Exception, volume: str, path: str) -> str:
+    """What a fault says, and what would do."""
+    if isinstance(fault, Locked):
+        return f"{volume}: another run has it open; in that program: store.backup({path!r})"
+    if isinstance(fault, NoVolume):
+        return (f"{volume}: no volume, or a damaged one (part {fault.part}), so no copy was made; "
+                f"`exsm_volume.py {volume} save FOLDER` saves what can be read")
+    return reason_of(fault)
+
+
+def run(volume: str, path: str, wait: float, as_json: bool) -> int:
+    """Copies a volume, tells a fault, and gives the exit status."""
+    try:
+        copy(volume, path, wait, as_json)
+    except (Ended, ProgramMissing, OSError) as fault:
+        print(f"exsm_copy: {fault_text(fault, volume, path)}", file=sys.stderr)
+        return status_of(fault) if isinstance(fault, Ended) else 1
+    except KeyboardInterrupt:
+        print("exsm_copy: interrupted; no copy was made", file=sys.stderr)
+        return 130
+    return 0

@@ -1,0 +1,28 @@
+#!/usr/bin/env python3
+"""Copies a volume that no run has open, as in `exsm_copy.py v backup`.
+
+It has the program's lock meanwhile, so no run can change what is copied. The copy is synced, and
+the program opens and checks it, before it gets its name; a file that is there is left alone. Where
+a run has the volume, its own program copies it: `store.backup("backup")` of exsm.client.
+"""
+from __future__ import annotations
+
+import sys
+
+from exsm.commands import add_json, add_wait, parser_of
+from exsm.copying import run
+
+
+def main() -> int:
+    """Copies the volume, and gives the exit status."""
+    parser = parser_of(__doc__)
+    parser.add_argument("volume", metavar="VOLUME")
+    parser.add_argument("copy", metavar="COPY")
+    add_wait(parser)
+    add_json(parser)
+    words = parser.parse_args()
+    return run(words.volume, words.copy, words.wait, words.json)
+
+
+if __name__ == "__main__":
+    sys.exit(main())
