@@ -2,48 +2,113 @@
 """Keeps files of the file system as objects of a volume, under their names.
 
 exsm gives objects no names, so they stand in the volume too: its file `names` has one object of
-lines `UNIQUE NAME`, and its file `blobs` the objects. A file's bytes and its name change in one
-transaction, so a stop at any moment leaves them in step. Of an identifier a line has the last
-number alone, which an object keeps for good; where its record lies is asked of `list`.
+lines `NUMBER NAME`, its file `blobs` the objects, and its file `put_sources` where they came from.
+A file's bytes and its name change in one transaction, so a stop at any moment leaves them in step;
+a file above some 260 MB takes several, and has its name with the last one.
+
+A name is the last part of a path, or with -r the path as given. A name that comes twice, or that is
+there and was put from another path, is refused, unless --replace is given.
 """
 from __future__ import annotations
 
 import argparse
 import sys
 
-from exsm.commands import parser_of
-from exsm.files import get, ls, put, rm, run
+from exsm.commands import add_wait, parser_of
+from exsm.files import get, get_all, ls, mv, rm, run
+from exsm.putting import STANDARD_INPUT, put
+
+
+def add_replace(parser: argparse.ArgumentParser, what: str) -> None:
+    """Takes whether what is there is replaced."""
+    parser.add_argument("--replace", action="store_true", help=what)
 
 
 def parser_of_words() -> argparse.ArgumentParser:
     """Reads the words."""
     parser = parser_of(__doc__)
     parser.add_argument("volume", metavar="VOLUME")
-    commands = parser.add_subparsers(metavar="COMMAND", required=True)
+    add_wait(parser)
+    commands = parser.add_subparsers(metavar="COMMAND", dest="command", required=True)
+    add_put_and_get(commands)
+    add_others(commands)
+    return parser
 
+
+def add_put_and_get(commands) -> None:
+    """Reads the words of `put` and `get`."""
     putting = commands.add_parser(
-        "put", help="stores each file under its name, anew where it is there")
+        "put", help="stores each file under its name, anew where it came from the same path")
+    putting.add_argument("-r", "--recursive", action="store_true",
+                         help="also the files of folders; names are the paths as given")
+    putting.add_argument("-n", "--name", metavar="NAME",
+                         help="the name of the one file; `-` is standard input")
+    add_replace(putting, "stores it also where the name is there for another path, or comes twice")
     putting.add_argument("paths", metavar="FILE", nargs="+")
-    putting.set_defaults(step=lambda names, words: put(names, words.paths))
+    putting.set_defaults(step=lambda names, words: put(
+        names, words.paths, words.name, words.recursive, words.replace))
 
-    getting = commands.add_parser("get", help="writes the bytes to OUT, else to standard output")
-    getting.add_argument("name", metavar="NAME")
-    getting.add_argument("out", metavar="OUT", nargs="?")
-    getting.set_defaults(step=lambda names, words: get(names, words.name, words.out))
+    getting = commands.add_parser(
+        "get", usage="%(prog)s [-h] [--replace] (NAME [OUT] | -d DIR [NAME ...])",
+        help="writes the bytes to OUT, else to standard output; or files to a folder")
+    getting.add_argument("-d", "--folder", metavar="DIR",
+                         help="writes the files of the names, or all, to this folder")
+    add_replace(getting, "writes over files that are there")
+    getting.add_argument("names", metavar="NAME", nargs="*")
+    getting.set_defaults(step=step_get)
 
+
+def add_others(commands) -> None:
+    """Reads the words of `ls`, `mv` and `rm`."""
     listing = commands.add_parser("ls", help="tells sizes, identifiers and names")
-    listing.set_defaults(step=lambda names, words: ls(names))
+    forms = listing.add_mutually_exclusive_group()
+    forms.add_argument("-0", dest="form", action="store_const", const="zeros", default="lines",
+                       help="the names alone, a zero byte behind each, as `xargs -0` reads them")
+    forms.add_argument("--json", dest="form", action="store_const", const="json",
+                       help="tells them as JSON")
+    listing.set_defaults(step=lambda names, words: ls(names, words.form))
+
+    moving = commands.add_parser("mv", help="gives a file another name")
+    add_replace(moving, "removes the file that has the new name")
+    moving.add_argument("old", metavar="OLD")
+    moving.add_argument("new", metavar="NEW")
+    moving.set_defaults(step=lambda names, words: mv(names, words.old, words.new, words.replace))
 
     removing = commands.add_parser("rm", help="removes the files, all or none")
+    removing.add_argument("--versions", action="store_true",
+                          help="also files that have several versions, with all of them")
     removing.add_argument("names", metavar="NAME", nargs="+")
-    removing.set_defaults(step=lambda names, words: rm(names, words.names))
-    return parser
+    removing.set_defaults(step=lambda names, words: rm(names, words.names, words.versions))
+
+
+def step_get(names, words: argparse.Namespace) -> None:
+    """Does what the words of `get` say."""
+    if words.folder is not None:
+        get_all(names, words.names, words.folder, words.replace)
+    else:
+        get(names, words.names[0], (words.names[1:] or [None])[0], words.replace)
+
+
+def test(parser: argparse.ArgumentParser, words: argparse.Namespace) -> None:
+    """Refuses words that the parser takes by themselves, and that don't go together."""
+    if words.command == "put":
+        if words.name is not None and (len(words.paths) > 1 or words.recursive):
+            parser.error("argument -n/--name: it names one FILE, without -r")
+        if STANDARD_INPUT in words.paths and words.name is None:
+            parser.error("standard input wants a name: put -n NAME -")
+    if words.command == "get" and words.folder is None:
+        if not words.names:
+            parser.error("the following arguments are required: NAME")
+        if len(words.names) > 2:
+            parser.error("several names want a folder: get -d DIR NAME ..")
 
 
 def main() -> int:
     """Does what the words say, and gives the exit status."""
-    words = parser_of_words().parse_args()
-    return run(words.volume, lambda names: words.step(names, words))
+    parser = parser_of_words()
+    words = parser.parse_args()
+    test(parser, words)
+    return run(words.volume, lambda names: words.step(names, words), words.wait)
 
 
 if __name__ == "__main__":

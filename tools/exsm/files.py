@@ -1,28 +1,27 @@
 """Files of the file system as objects of a volume, with the names that the volume keeps of them."""
 from __future__ import annotations
 
+import json
 import os
-import re
+import signal
 import sys
 from typing import Callable, Iterable, Optional
 
-from exsm.client import (
-    PIECE, UPDATES_MOST, AnyPath, Broken, Ended, ProgramMissing, Refused, Store, leave_output)
+from exsm.client import AnyPath, Broken, Ended, ProgramMissing, Refused, Store, leave_output
 from exsm.commands import status_of
 from exsm.lines import reason_of
+from exsm.names import (
+    BLOBS_FILE, NAME_LINE, NAMES_FILE, SOURCES_FILE, NameList, Wrong, unique_of)
+from exsm.progress import Progress
+from exsm.spelling import meaning
+from exsm.whole import remove_left, whole_file
 
-NAMES_FILE, BLOBS_FILE = "names", "blobs"
-NAME_LINE = re.compile(rb"(\d+) ([^\n]+)\n")
+__all__ = ["BLOBS_FILE", "NAMES_FILE", "NAME_LINE", "Names", "Wrong"]
 
-PUT_UPDATES = 4
-"""Updates of a `put` beside its bytes: an old object and its name go, a new one and its come."""
+INTERRUPTED = 130
+"""The exit status after Ctrl-C."""
 
-PUT_MOST = (UPDATES_MOST - PUT_UPDATES) * PIECE
-"""Bytes of a file that one transaction holds."""
-
-
-class Wrong(Exception):
-    """What was asked for can't be done; the text says why."""
+INTERRUPTION = "exsm_files: interrupted; what was told is done, and no file is in the volume in part"
 
 
 class Names:
@@ -30,35 +29,43 @@ class Names:
 
     def __init__(self, store: Store) -> None:
         self.store = store
-        self.object = ""
-        self.uniques: dict[bytes, bytes] = {}
-        self.places: dict[bytes, str] = {}
-        if NAMES_FILE in store.files():
-            self._read()
-
-    def _read(self) -> None:
-        """Reads the names, and where their objects lie."""
-        objects = self.store.list(NAMES_FILE)
-        if len(objects) != 1:
-            raise Wrong(f"the volume's file `{NAMES_FILE}` has {len(objects)} objects, not one")
-        self.object = objects[0]
-        text = self.store.read(self.object)
-        lines = NAME_LINE.findall(text)
-        if b"".join(line_of(unique, name) for unique, name in lines) != text:
-            raise Wrong(f"the volume's file `{NAMES_FILE}` has other text than names")
-        self.uniques = {name: unique for unique, name in lines}
-        self.places = {unique_of(oid): oid for oid in self.store.list(BLOBS_FILE)}
+        files = store.files()
+        self._list = NameList(store, NAMES_FILE, files)
+        self._sources = NameList(store, SOURCES_FILE, files)
+        self._has_blobs = BLOBS_FILE in files
+        self.uniques = {name: unique for unique, name in self._list.lines}
+        self.sources = dict(self._sources.lines)
+        self.places: dict[int, str] = {}
+        if self._has_blobs:
+            self.places = {unique_of(oid): oid for oid in store.list(BLOBS_FILE)}
 
     def prepare(self) -> None:
-        """Makes the two files where the volume doesn't have them."""
-        if not self.object:
+        """Makes the files where the volume doesn't have them, and removes what a stop left."""
+        if not (self._has_blobs and self._list.object and self._sources.object):
             with self.store.transaction():
-                self.store.file(BLOBS_FILE)
-                self.store.file(NAMES_FILE)
-                self.object = self.store.create(NAMES_FILE)
+                if not self._has_blobs:
+                    self.store.file(BLOBS_FILE)
+                    self._has_blobs = True
+                self._list.prepare()
+                self._sources.prepare()
+        self.clean()
+
+    def clean(self) -> None:
+        """Removes the objects of files whose put was stopped: they have a source and no name."""
+        named = set(self.uniques.values())
+        for unique in [unique for unique in self.sources if unique not in named]:
+            with self.store.transaction():
+                if unique in self.places:
+                    self.store.destroy(self.places.pop(unique))
+                self._sources.remove(unique)
+                del self.sources[unique]
 
     def __contains__(self, name: bytes) -> bool:
         return name in self.uniques
+
+    def source(self, name: bytes) -> Optional[bytes]:
+        """The path that a name was put from, where it is known."""
+        return self.sources.get(self.uniques[name])
 
     def oid(self, name: bytes) -> str:
         """The identifier of a name's object."""
@@ -66,115 +73,215 @@ class Names:
         if unique is None:
             raise Wrong(f"no such name: {os.fsdecode(name)}")
         if unique not in self.places:
-            raise Wrong(f"the object of {os.fsdecode(name)} is gone: some other line destroyed it")
+            raise Wrong(f"the object of {os.fsdecode(name)} is gone, some other line destroyed it: "
+                        "`rm` removes the name")
         return self.places[unique]
 
-    def add(self, name: bytes, oid: str) -> None:
-        """Names an object."""
+    def versions(self, name: bytes) -> list[str]:
+        """The versions of a name's object; none where it is gone."""
+        oid = self.places.get(self.uniques[name])
+        return self.store.versions(oid) if oid is not None else []
+
+    # Within a transaction.
+
+    def create(self) -> str:
+        """Makes an object without a name."""
+        oid = self.store.create(BLOBS_FILE)
+        self.places[unique_of(oid)] = oid
+        return oid
+
+    def derive(self, oid: str) -> str:
+        """Makes an empty version without a name, derived from a frozen one."""
+        derived = self.store.derive(oid)
+        self.store.delete(derived, 0, self.store.size(derived))
+        self.places[unique_of(derived)] = derived
+        return derived
+
+    def put_from(self, oid: str, source: bytes) -> None:
+        """Notes the path that a version without a name is put from."""
         unique = unique_of(oid)
-        self.store.append(self.object, line_of(unique, name))
+        if unique in self.sources:
+            self._sources.remove(unique)
+        self._sources.add(unique, source)
+        self.sources[unique] = source
+
+    def name(self, name: bytes, oid: str) -> None:
+        """Names a version; the one that has the name goes."""
+        unique = unique_of(oid)
+        if self.uniques.get(name) == unique:
+            return
+        if name in self:
+            self._forget(name)
+        self._list.add(unique, name)
         self.uniques[name] = unique
-        self.places[unique] = oid
 
-    def remove(self, name: bytes) -> None:
-        """Removes a name and its object."""
-        self.store.destroy(self.oid(name))
-        position = 0
-        for there, unique in self.uniques.items():
-            if there == name:
-                break
-            position += len(line_of(unique, there))
-        self.store.delete(self.object, position, len(line_of(self.uniques[name], name)))
-        del self.places[self.uniques.pop(name)]
+    def _forget(self, name: bytes) -> None:
+        """Removes a name and its version."""
+        unique = self.uniques.pop(name)
+        if unique in self.places:
+            self.store.destroy(self.places.pop(unique))
+        self._list.remove(unique, name)
+        if self.sources.pop(unique, None) is not None:
+            self._sources.remove(unique)
+
+    def remove(self, name: bytes, with_versions: bool) -> None:
+        """Removes a name and its object, with all its versions where that is asked for."""
+        if name not in self:
+            raise Wrong(f"no such name: {os.fsdecode(name)}")
+        versions = self.versions(name)
+        if len(versions) > 1:
+            if not with_versions:
+                raise Wrong(f"{os.fsdecode(name)} has {len(versions)} versions: "
+                            "`rm --versions` removes all of them")
+            self._leave_one(versions, self.oid(name))
+        self._forget(name)
+
+    def _leave_one(self, versions: list[str], kept: str) -> None:
+        """Removes all versions of an object but one current one."""
+        gone = set(versions) - {kept}
+        while gone:
+            for oid in list(gone):
+                is_current = unique_of(oid) in self.places
+                try:
+                    self.store.ask(f"{'destroy' if is_current else 'drop'} {oid}")
+                except Refused as no:
+                    if no.name not in ("has_versions", "branches"):
+                        raise
+                    continue                       # it goes once what is derived beside it went
+                gone.discard(oid)
+                self.places.pop(unique_of(oid), None)
+
+    def rename(self, old: bytes, new: bytes, replace: bool) -> None:
+        """Gives an object another name, and removes the object that has it where that is asked for."""
+        unique = unique_of(self.oid(old))
+        if new in self and new != old:
+            if not replace:
+                raise Wrong(f"{os.fsdecode(new)} is there already: --replace removes it")
+            self.remove(new, with_versions=False)
+        self._list.change(unique, new)
+        self.uniques = {new if name == old else name: it for name, it in self.uniques.items()}
 
 
-def line_of(unique: bytes, name: bytes) -> bytes:
-    """The line of a name."""
-    return b"%s %s\n" % (unique, name)
-
-
-def unique_of(oid: str) -> bytes:
-    """The last number of an identifier."""
-    return oid.rsplit(".", 1)[1].encode()
-
-
-def name_of(path: str) -> bytes:
-    """The name that a file of the file system is stored under."""
-    name = os.fsencode(os.path.basename(path))
-    if not name or b"\n" in name:
-        raise Wrong(f"{path!r} can't be a name")
+def name_of(text: str) -> bytes:
+    """The name that a text is: a path without empty parts, `.` and `..`, in one line."""
+    name = os.fsencode(text)
+    if b"\n" in name or b"\0" in name or any(part in (b"", b".", b"..") for part in name.split(b"/")):
+        raise Wrong(f"{text!r} can't be a name: a name is one line, and a path without `.` and `..`")
     return name
 
 
-def put_one(names: Names, path: str) -> None:
-    """Stores a file under its name, in one transaction."""
-    name, store = name_of(path), names.store
-    with open(path, "rb") as source, store.transaction():
-        size = os.fstat(source.fileno()).st_size
-        if size > PUT_MOST:
-            raise Wrong(f"{path} has {size:,} bytes, and one transaction holds {PUT_MOST:,}")
-        if name in names:
-            names.remove(name)
-        oid = store.create(BLOBS_FILE)
-        size = 0
-        while piece := source.read(PIECE):
-            store.append(oid, piece)
-            size += len(piece)
-        names.add(name, oid)
-    print(f"{os.fsdecode(name)} {size} bytes, {oid}")
+# The commands but put.
 
-
-def put(names: Names, paths: list[str]) -> None:
-    """Stores each file under its name, anew where it is there."""
-    names.prepare()
-    for path in paths:
-        put_one(names, path)
-
-
-def get(names: Names, name: str, out: Optional[str]) -> None:
+def get(names: Names, name: str, out: Optional[str], replace: bool) -> None:
     """Writes the bytes under a name to a file, or else to standard output."""
-    pieces = names.store.pieces(names.oid(os.fsencode(name)))
+    oid = names.oid(os.fsencode(name))
     if out is not None:
-        write_whole(out, pieces)
-    else:
-        sys.stdout.buffer.writelines(pieces)
+        write_all(names, {oid: out}, replace)
+        return
+    sys.stdout.buffer.writelines(names.store.pieces(oid))
+    sys.stdout.buffer.flush()
+
+
+def get_all(names: Names, wanted: list[str], folder: str, replace: bool) -> None:
+    """Writes what stands under names, or under all, to files of a folder, and tells each."""
+    targets = {}
+    for name in map(os.fsencode, wanted) if wanted else names.uniques:
+        targets[names.oid(name)] = os.path.join(folder, os.fsdecode(name_of(os.fsdecode(name))))
+    folders = {parent for path in targets.values() for parent in parents(path, folder)}
+    for path in targets.values():
+        if path in folders:
+            raise Wrong(f"{path} would be a file and a folder: get these names one by one")
+    write_all(names, targets, replace)
+
+
+def parents(path: str, top: str) -> Iterable[str]:
+    """The folders between a folder and a path below it."""
+    while (path := os.path.dirname(path)) not in (top, ""):
+        yield path
+
+
+def write_all(names: Names, targets: dict[str, str], replace: bool) -> None:
+    """Makes files of objects; what is there is refused before anything is written, or replaced."""
+    for path in filter(os.path.lexists, targets.values()):
+        if not replace:
+            raise Wrong(f"{path} is there already: --replace writes it anew")
+        if not os.path.isfile(path):
+            raise Wrong(f"{path} is there already, and is no file that can be replaced")
+    remove_left(targets.values())
+    sizes = {oid: names.store.size(oid) for oid in targets}
+    with Progress("exsm_files: get", sum(sizes.values())) as progress:
+        for oid, path in targets.items():
+            os.makedirs(os.path.dirname(path) or ".", exist_ok=True)
+            with whole_file(path, replace, sync=False) as part, open(part, "xb") as out:
+                for piece in names.store.pieces(oid, 0, sizes[oid]):
+                    out.write(piece)
+                    progress.add(len(piece))
+
+
+def ls(names: Names, form: str) -> None:
+    """Tells sizes, identifiers and names; or the names, a zero byte behind each; or all as JSON."""
+    if form == "zeros":
+        sys.stdout.buffer.writelines(name + b"\0" for name in names.uniques)
         sys.stdout.buffer.flush()
+        return
+    rows = [(names.store.size(names.oid(name)), names.oid(name), os.fsdecode(name))
+            for name in names.uniques]
+    if form == "json":
+        print(json.dumps([{"name": name, "size": size, "oid": oid} for size, oid, name in rows]))
+        return
+    for size, oid, name in rows:
+        print(f"{size:10}  {oid:14} {name}")
 
 
-def write_whole(path: str, pieces: Iterable[bytes]) -> None:
-    """Makes a file of the pieces; under its name it is there only when it is whole."""
-    part = f"{path}.part"
-    with open(part, "wb") as out:
-        out.writelines(pieces)
-    os.replace(part, path)
-
-
-def ls(names: Names) -> None:
-    """Tells sizes, identifiers and names."""
-    for name in names.uniques:
-        oid = names.oid(name)
-        print(f"{names.store.size(oid):10}  {oid:14} {os.fsdecode(name)}")
-
-
-def rm(names: Names, gone: list[str]) -> None:
+def rm(names: Names, gone: list[str], with_versions: bool) -> None:
     """Removes the files of these names, all or none."""
-    with names.store.transaction():
-        for name in map(os.fsencode, gone):
-            names.remove(name)
-
-
-def run(volume: AnyPath, step: Callable[[Names], None]) -> int:
-    """Makes a step on the names of a volume, tells a fault, and gives the exit status."""
+    names.clean()
     try:
-        with Store(volume) as store:
+        with names.store.transaction():
+            for name in map(os.fsencode, gone):
+                names.remove(name, with_versions)
+    except Refused as no:
+        if no.name != "long_txn":
+            raise
+        raise Wrong("one transaction doesn't hold so many: remove fewer at once; all are there") from None
+
+
+def mv(names: Names, old: str, new: str, replace: bool) -> None:
+    """Gives a file another name; its bytes stay where they are."""
+    names.clean()
+    with names.store.transaction():
+        names.rename(os.fsencode(old), name_of(new), replace)
+
+
+def refusal_text(no: Refused) -> str:
+    """What a refusal means, and what would do."""
+    if no.name == "full":
+        what = "units" if no.values[0] == "segs" else "pages"
+        return f"the volume is full: it needs {no.values[1]} {what} and {no.values[2]} are free"
+    return meaning(no.line, no.name, no.values)
+
+
+def fault_text(fault: Exception) -> str:
+    """What a fault says."""
+    return refusal_text(fault) if isinstance(fault, Refused) else reason_of(fault)
+
+
+def run(volume: AnyPath, step: Callable[[Names], None], wait: float = 0) -> int:
+    """Makes a step on the names of a volume, tells a fault, and gives the exit status."""
+    sys.stdout.reconfigure(errors="surrogateescape")
+    try:
+        with Store(volume, wait=wait) as store:
             step(Names(store))
     except Ended as fault:
-        print(fault, file=sys.stderr)
+        print(INTERRUPTION if fault.status == -signal.SIGINT else fault, file=sys.stderr)
         return status_of(fault)
     except BrokenPipeError:
         leave_output()
         return 1
+    except KeyboardInterrupt:
+        print(INTERRUPTION, file=sys.stderr)
+        return INTERRUPTED
     except (Refused, Broken, Wrong, ProgramMissing, OSError) as fault:
-        print(f"exsm_files: {reason_of(fault)}", file=sys.stderr)
+        print(f"exsm_files: {fault_text(fault)}", file=sys.stderr)
         return 1
     return 0

@@ -1,0 +1,212 @@
+"""Puts files of the file system into a volume: under which names, and in how many transactions."""
+from __future__ import annotations
+
+import os
+import stat
+import sys
+from contextlib import nullcontext
+from itertools import chain, islice
+from typing import BinaryIO, ContextManager, Iterable, Iterator, NamedTuple, Optional
+
+from exsm.client import PIECE, UPDATES_MOST, Refused
+from exsm.files import Names, name_of, refusal_text
+from exsm.names import Wrong
+from exsm.progress import Progress
+from exsm.volume import Volume
+
+PUT_UPDATES = 12
+"""Updates of a `put` beside its bytes: an old object, its name and its source go, new ones come."""
+
+PUT_PIECES = UPDATES_MOST - PUT_UPDATES
+"""Pieces of bytes that one transaction of a `put` holds."""
+
+PUT_MOST = PUT_PIECES * PIECE
+"""Bytes of a file that one transaction holds."""
+
+TRIED_PIECES = 16
+"""Pieces of standard input that are kept, to see whether it has more."""
+
+STANDARD_INPUT = "-"
+
+
+class Put(NamedTuple):
+    """A file that is to be put: its name, its path or `-`, its size where that is known."""
+
+    name: bytes
+    path: str
+    size: Optional[int]
+
+    @property
+    def source(self) -> bytes:
+        """The path as the volume keeps it, in one line; only a space where it can't be kept."""
+        path = os.fsencode(self.path if self.path == STANDARD_INPUT else os.path.abspath(self.path))
+        return b" " if b"\n" in path else path
+
+    def opened(self) -> ContextManager[BinaryIO]:
+        """The file, opened to be read."""
+        if self.path == STANDARD_INPUT:
+            return nullcontext(sys.stdin.buffer)
+        return open(self.path, "rb")
+
+
+def put_of(path: str, name: str) -> Put:
+    """The file of a path, which is to be there."""
+    told = os.stat(path)
+    if not stat.S_ISREG(told.st_mode):
+        return Put(name_of(name), path, None)      # a pipe or a device: read to its end
+    return Put(name_of(name), path, told.st_size)
+
+
+def puts_below(folder: str, volume: str) -> Iterator[Put]:
+    """The files of a folder and of those in it but the volume, named by their paths as given."""
+    for top, folders, files in os.walk(folder, onerror=raised):
+        folders.sort()
+        for path in (os.path.join(top, file) for file in sorted(files)):
+            if not os.path.isfile(path):
+                print(f"exsm_files: left out: {path} is no file", file=sys.stderr)
+            elif os.path.samefile(path, volume):
+                print(f"exsm_files: left out: {path} is the volume itself", file=sys.stderr)
+            else:
+                yield put_of(path, given(path))
+
+
+def raised(fault: OSError) -> None:
+    """Raises a fault."""
+    raise fault
+
+
+def given(path: str) -> str:
+    """A path as given, as a name: without a leading `./` or `/`."""
+    return os.path.normpath(path).lstrip("/")
+
+
+def plan(paths: Iterable[str], name: Optional[str], recursive: bool, volume: str) -> list[Put]:
+    """The files that the words name, in their order, to be put into a volume."""
+    puts: list[Put] = []
+    for path in paths:
+        if path == STANDARD_INPUT and name is not None:
+            puts.append(Put(name_of(name), path, None))
+        elif os.path.isdir(path):
+            if not recursive:
+                raise Wrong(f"{path} is a folder: `put -r` puts the files in it")
+            puts.extend(puts_below(path, volume))
+        elif os.path.samefile(path, volume):
+            raise Wrong(f"{path} is the volume itself")
+        elif name is not None:
+            puts.append(put_of(path, name))
+        else:
+            puts.append(put_of(path, given(path) if recursive else os.path.basename(path)))
+    return puts
+
+
+def refuse_traps(names: Names, puts: list[Put]) -> None:
+    """Refuses a name that comes twice, or that stands for another path."""
+    seen: dict[bytes, str] = {}
+    for it in puts:
+        name = os.fsdecode(it.name)
+        if it.name in seen:
+            raise Wrong(f"{name} comes twice, as {seen[it.name]} and as {it.path}: -r names files "
+                        "by their paths, and --replace keeps the last; nothing was put")
+        seen[it.name] = it.path
+        if it.name in names and (it.path == STANDARD_INPUT or names.source(it.name) != it.source):
+            there = names.source(it.name)
+            of = f", put from {os.fsdecode(there)}" if there and there != b" " else ""
+            raise Wrong(f"{name} is there already{of}: --replace puts it anew, -n NAME or -r "
+                        "names this one otherwise; nothing was put")
+
+
+def put(names: Names, paths: list[str], name: Optional[str], recursive: bool,
+        replace: bool) -> None:
+    """Stores files under their names, each anew where it is there and was put from the same path."""
+    puts = plan(paths, name, recursive, names.store.volume)
+    if not replace:
+        refuse_traps(names, puts)
+    names.prepare()
+    with Progress("exsm_files: put", sum(it.size or 0 for it in puts)) as progress:
+        for done, it in enumerate(puts):
+            try:
+                oid, size = put_one(names, it, progress)
+            except Refused as no:
+                raise Wrong(full_text(names, it, no, done, len(puts))) from None
+            print(f"{os.fsdecode(it.name)} {size} bytes, {oid}", flush=True)
+
+
+def full_text(names: Names, it: Put, no: Refused, done: int, count: int) -> str:
+    """What the refusal of a file's bytes means, how many files are in, and what would do."""
+    text = f"{os.fsdecode(it.name)}: {refusal_text(no)}"
+    if count > 1:
+        text += f". {done} of {count} files are in"
+    if no.name == "full":
+        text += ". `exsm_move.py` carries all to a larger volume"
+        if it.name in names:
+            text += "; the old file and the new one are there at once, so `rm` may also do"
+    return text
+
+
+def pieces_of(source: BinaryIO) -> Iterator[bytes]:
+    """The bytes of a file, in pieces that fit on a line."""
+    while piece := source.read(PIECE):
+        yield piece
+
+
+def put_one(names: Names, it: Put, progress: Progress) -> tuple[str, int]:
+    """Stores a file under its name; gives the identifier and the size."""
+    with it.opened() as source:
+        pieces = pieces_of(source)
+        if it.size is not None and it.size <= PUT_MOST:
+            return put_at_once(names, it, pieces, progress)
+        first = list(islice(pieces, TRIED_PIECES))
+        if len(first) < TRIED_PIECES:
+            return put_at_once(names, it, first, progress)
+        return put_in_parts(names, it, chain(first, pieces), progress)
+
+
+def append(names: Names, oid: str, pieces: Iterable[bytes], progress: Progress) -> int:
+    """Puts pieces at the end of an object, and gives their bytes."""
+    size = 0
+    for piece in pieces:
+        names.store.append(oid, piece)
+        progress.add(len(piece))
+        size += len(piece)
+    return size
+
+
+def put_at_once(names: Names, it: Put, pieces: Iterable[bytes],
+                progress: Progress) -> tuple[str, int]:
+    """Stores a file in one transaction. An object with versions keeps them: its current one changes."""
+    with names.store.transaction():
+        if it.name in names and len(names.versions(it.name)) > 1:
+            oid = names.oid(it.name)
+            names.store.delete(oid, 0, names.store.size(oid))
+        else:
+            oid = names.create()
+        size = append(names, oid, pieces, progress)
+        names.put_from(oid, it.source)
+        names.name(it.name, oid)
+    return oid, size
+
+
+def put_in_parts(names: Names, it: Put, pieces: Iterator[bytes],
+                 progress: Progress) -> tuple[str, int]:
+    """Stores a file in several transactions. Its name comes with the last one; until then its
+    source alone is kept, by which `Names.clean` finds what a stop left."""
+    older = older_of(names, it.name)
+    with names.store.transaction():
+        oid = names.create() if older is None else names.derive(older)
+        names.put_from(oid, it.source)
+    size = 0
+    while part := list(islice(pieces, 1)):
+        with names.store.transaction():
+            size += append(names, oid, chain(part, islice(pieces, PUT_PIECES - 1)), progress)
+    with names.store.transaction():
+        names.name(it.name, oid)
+    return oid, size
+
+
+def older_of(names: Names, name: bytes) -> Optional[str]:
+    """The frozen version that a name's version is derived from, as the volume's file has it."""
+    if name not in names or len(names.versions(name)) < 2:
+        return None
+    with Volume(names.store.volume) as volume:
+        older = volume.find(names.oid(name)).older
+        return next(record.oid for record in volume.all() if record.place == older)
