@@ -32,15 +32,30 @@ _exsm_new() {
 }
 
 _exsm_files() {
-    if [ "$COMP_CWORD" = 2 ]; then _exsm_offer "put get ls rm"; else _exsm_files_here; fi
+    case $COMP_CWORD in
+    1) _exsm_files_here ;;
+    2) _exsm_offer "put get ls mv rm" ;;
+    *) _exsm_files_here ;;
+    esac
+}
+
+_exsm_versions() {
+    case $COMP_CWORD in
+    1) _exsm_files_here ;;
+    2) _exsm_offer "tree name unname freeze diff" ;;
+    esac
 }
 
 _exsm_volume() {
-    if [ "$COMP_CWORD" = 2 ]; then _exsm_offer "check list get save mend"; else _exsm_files_here; fi
+    case $COMP_CWORD in
+    2) _exsm_offer "check list get save mend" ;;
+    *) _exsm_files_here ;;
+    esac
 }
 
 complete -F _exsm exsm
 complete -F _exsm_new exsm_new.py
 complete -F _exsm_files exsm_files.py
 complete -F _exsm_volume exsm_volume.py
-complete -F _exsm_files_here exsm_do.py exsm_map.py
+complete -F _exsm_versions exsm_versions.py
+complete -F _exsm_files_here exsm_do.py exsm_map.py exsm_copy.py exsm_move.py
