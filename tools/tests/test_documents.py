@@ -6,6 +6,7 @@ import re
 import shutil
 import subprocess
 import sys
+import unittest
 from pathlib import Path
 
 from exsm.client import STATUS_NAMES, Refused, Store
@@ -232,6 +233,21 @@ COMPLETIONS = [
 
 
 class InstallTest(InFolder):
+    @unittest.skipIf(sys.version_info < (3, 10), "an older Python tells --help in another form")
+    def test_pages_of_tools(self) -> None:
+        """the manual pages of the tools tell what each tells by --help"""
+        ran = self.run_words(sys.executable, TOOLS / "dev" / "manuals.py", "--check")
+        self.assertEqual((ran.status, ran.lines, ran.errors), (0, [], []))
+
+    def test_install_words(self) -> None:
+        """the words of the installation are told by --help, and a wrong one makes nothing"""
+        ran = self.run_words(TOOLS / "install", "--help")
+        self.assertEqual((ran.status, ran.errors), (0, []))
+        self.assertIn("tools/install PREFIX", ran.lines[0])
+        for words in ([], ["--prefix"], ["one", "two"]):
+            self.assertEqual(self.run_words(TOOLS / "install", *words).status, 2)
+        self.assertEqual(os.listdir(), [])
+
     def test_completion(self) -> None:
         """bash completes the words of the program and of the tools"""
         for name in ("v", "other"):
@@ -259,6 +275,7 @@ class InstallTest(InFolder):
                               env={**variables, "PYTHONPATH": str(prefix / "lib" / "exsm")})
         self.assertEqual((done.stdout, done.stderr), (b"['blobs', 'names', 'put_sources']\n", b""))
         completion = "share/bash-completion/completions/exsm_files.py"
-        for name in ("share/man/man1/exsm.1", completion, "bin/exsm"):
+        for name in ("share/man/man1/exsm.1", "share/man/man1/exsm_files.py.1", completion,
+                     "bin/exsm"):
             self.assertTrue((prefix / name).is_file(), name)
         self.assertEqual(self.run_words(TOOLS / "install").status, 2)
