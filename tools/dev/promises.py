@@ -3,6 +3,8 @@
 
     tools/dev/promises.py            writes docs/MAP.md
     tools/dev/promises.py --check    writes nothing; status 1 where the page is old too
+    tools/dev/promises.py --against COMMIT
+                                     lists each clause and definition that changed or went since
 
 MAP has each promise of docs/PROMISES.md with its clauses, must-fail edits and tests. Both end
 with status 1 where a name is gone:
@@ -25,7 +27,7 @@ import sys
 sys.dont_write_bytecode = True
 
 from crate_code import Sources, has_file, text_of, write_text  # noqa: E402
-from held import checks, glossary, readme, sentences, tour  # noqa: E402
+from held import against, checks, glossary, readme, sentences, tour  # noqa: E402
 from held.map import PAGE as MAP, the_map  # noqa: E402
 from held.promises import Page  # noqa: E402
 
@@ -50,7 +52,11 @@ def main() -> int:
     parser = argparse.ArgumentParser(
         description=__doc__, formatter_class=argparse.RawDescriptionHelpFormatter)
     parser.add_argument("--check", action="store_true", help="write nothing")
+    parser.add_argument("--against", metavar="COMMIT", help="list what changed or went since")
     words = parser.parse_args()
+    if words.against:
+        print("\n".join(against.changes(words.against)))
+        return 0
     page = Page(Sources())
     page.read()
     faults = faults_of(page)
