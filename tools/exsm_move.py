@@ -10,20 +10,10 @@ NEW is written beside its name and gets it last, so a stop at any moment leaves 
 """
 from __future__ import annotations
 
-import argparse
 import sys
 
-from exsm.commands import add_json, add_wait, parser_of
+from exsm.commands import add_json, add_wait, parser_of, size
 from exsm.move import run
-from exsm.new import WrongSize, size_of
-
-
-def size(word: str) -> int:
-    """The bytes that a word names."""
-    try:
-        return size_of(word)
-    except WrongSize as fault:
-        raise argparse.ArgumentTypeError(str(fault)) from None
 
 
 def main() -> int:

@@ -8,19 +8,10 @@ standard error.
 """
 from __future__ import annotations
 
-import argparse
 import sys
 
-from exsm.commands import parser_of
-from exsm.new import WrongSize, make, size_of
-
-
-def size(word: str) -> int:
-    """The bytes that a word names."""
-    try:
-        return size_of(word)
-    except WrongSize as fault:
-        raise argparse.ArgumentTypeError(str(fault)) from None
+from exsm.commands import parser_of, size
+from exsm.new import make
 
 
 def main() -> int:

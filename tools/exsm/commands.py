@@ -5,6 +5,7 @@ import argparse
 from typing import Optional
 
 from exsm.client import Ended
+from exsm.new import WrongSize, size_of
 
 
 def parser_of(text: Optional[str]) -> argparse.ArgumentParser:
@@ -22,6 +23,14 @@ def seconds(word: str) -> float:
     if not 0 <= told < float("inf"):
         raise argparse.ArgumentTypeError(f"{word!r} is no number of seconds")
     return told
+
+
+def size(word: str) -> int:
+    """The bytes that a word names, as 80M."""
+    try:
+        return size_of(word)
+    except WrongSize as fault:
+        raise argparse.ArgumentTypeError(str(fault)) from None
 
 
 def add_wait(parser: argparse.ArgumentParser) -> None:
