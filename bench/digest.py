@@ -8,16 +8,15 @@ a run of its own, less the run of an empty script on the same volume. The digest
 """
 from __future__ import annotations
 
-import argparse
 import os
 import subprocess
 import sys
-import tempfile
 import time
 from typing import Sequence
 
 sys.dont_write_bytecode = True
 
+from timing.folder import in_new_folder  # noqa: E402
 from timing.scripts import LINE_MOST, OBJECT  # noqa: E402
 
 SHAPE = ("--page-size", "4096", "--pages", "4096", "--segs", "69632", "--seg-len", "1",
@@ -57,16 +56,5 @@ def measure(program: str, folder: str) -> None:
         sys.exit(f"digest.py: told {told}, and sha256sum {wanted}")
 
 
-def main() -> None:
-    """Measures a program in a new folder."""
-    parser = argparse.ArgumentParser(
-        description=__doc__, formatter_class=argparse.RawDescriptionHelpFormatter)
-    parser.add_argument("program", metavar="PROGRAM")
-    parser.add_argument("--folder")
-    words = parser.parse_args()
-    with tempfile.TemporaryDirectory(dir=words.folder) as folder:
-        measure(os.path.abspath(words.program), folder)
-
-
 if __name__ == "__main__":
-    main()
+    in_new_folder(__doc__, measure)

@@ -10,7 +10,6 @@ a commit has two, one behind its record and one behind its gate.
 """
 from __future__ import annotations
 
-import argparse
 import os
 import subprocess
 import sys
@@ -20,6 +19,7 @@ from typing import Iterator
 
 sys.dont_write_bytecode = True
 
+from timing.folder import in_new_folder  # noqa: E402
 from timing.scripts import MIB, OBJECT, Lines, creations, repeated  # noqa: E402
 
 SHAPE = ("--page-size", "4096", "--pages", "4096", "--segs", "16384", "--seg-len", "1",
@@ -106,16 +106,5 @@ def measure(program: str, folder: str) -> None:
         print(told, flush=True)
 
 
-def main() -> None:
-    """Measures a program in a new folder."""
-    parser = argparse.ArgumentParser(
-        description=__doc__, formatter_class=argparse.RawDescriptionHelpFormatter)
-    parser.add_argument("program", metavar="PROGRAM")
-    parser.add_argument("--folder")
-    words = parser.parse_args()
-    with tempfile.TemporaryDirectory(dir=words.folder) as folder:
-        measure(os.path.abspath(words.program), folder)
-
-
 if __name__ == "__main__":
-    main()
+    in_new_folder(__doc__, measure)
