@@ -6,4 +6,5 @@ mod forms;
 mod parser;
 mod words;
 
+pub use forms::name;
 pub use parser::parse;

@@ -7,3 +7,4 @@ mod window;
 
 pub use lines::Lines;
 pub use shown::{LineFault, LineRef};
+pub use window::LINE_MOST;

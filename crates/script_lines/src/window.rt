@@ -13,7 +13,7 @@ use memchr::memchr;
 use std::alloc::{AllocError, Global};
 
 /// The longest line, without its line feed.
-const LINE_MOST: usize = 1_048_576;
+pub const LINE_MOST: usize = 1_048_576;
 
 /// How many bytes are asked of a source at once.
 const PIECE: usize = 65_536;
