@@ -1,14 +1,14 @@
 //! The first word of a command line that doesn't fit the grammar of its command.
 use crate::shown::Shown;
-use command_words::CommandWord;
-use ex_base::{Geometry, fan_max};
+use command_words::{COUNT_MOST, CommandWord, FAN_LEAST, PAGE_SIZE};
+use ex_base::{Geometry, PAGE_SIZE_MOST, fan_max};
 use std::fmt;
 
 /// The most options that a command has.
 const OPTIONS_MOST: usize = 5;
 
-/// The least fan of a volume.
-const FAN_LEAST: u32 = 2;
+/// The bytes of the smallest page.
+const PAGE_SIZE_LEAST: u32 = 512;
 
 /// What doesn't fit: a word, or that one is missing.
 #[derive(Clone, Copy, Debug)]
@@ -116,12 +116,12 @@ fn takes(option: &str, value: &str) -> bool {
         return false;
     };
     let geometry = match option {
-        "page-size" => Geometry::make(size, 1, 0, 1, 2),
-        "pages" => Geometry::make(512, size, 0, 1, 2),
-        "segs" => Geometry::make(512, 1, size, 1, 2),
-        "seg-len" => Geometry::make(512, 1, 0, size, 2),
-        "fan" => Geometry::make(8192, 1, 0, 1, size),
-        _ => return 1 <= size && size <= 1_000_000,
+        "page-size" => Geometry::make(size, 1, 0, 1, FAN_LEAST),
+        "pages" => Geometry::make(PAGE_SIZE_LEAST, size, 0, 1, FAN_LEAST),
+        "segs" => Geometry::make(PAGE_SIZE_LEAST, 1, size, 1, FAN_LEAST),
+        "seg-len" => Geometry::make(PAGE_SIZE_LEAST, 1, 0, size, FAN_LEAST),
+        "fan" => Geometry::make(PAGE_SIZE_MOST as u32, 1, 0, 1, size),
+        _ => return 1 <= size && u64::from(size) <= COUNT_MOST,
     };
     geometry.is_ok()
 }
@@ -253,7 +253,10 @@ impl<'a> Read<'a> {
 
 // The fan, where a node of the page size, or of the one by default, has no room for it.
 fn fan_misfit<'a>(page_size: Option<&str>, word: &'a str) -> Option<Misfit<'a>> {
-    let page_size = size_of(page_size.unwrap_or("4096"))?;
+    let page_size = match page_size {
+        Some(word) => size_of(word)?,
+        None => PAGE_SIZE,
+    };
     let fan = size_of(word)?;
     let Ok(geometry) = Geometry::make(page_size, 1, 0, 1, FAN_LEAST) else {
         return None;

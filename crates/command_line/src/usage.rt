@@ -23,9 +23,10 @@ impl fmt::Display for Usage {
                 let run = grammar_of(CommandWord::Run);
                 let check = grammar_of(CommandWord::Check);
                 let generate = grammar_of(CommandWord::Gen);
+                let clients = grammar_of(CommandWord::Clients);
                 write!(
                     f,
-                    "usage: exsm {format}\n       exsm {run}\n       exsm {check}\n       exsm {generate}"
+                    "usage: exsm {format}\n       exsm {run}\n       exsm {check}\n       exsm {generate}\n       exsm {clients}"
                 )
             }
         }
@@ -43,6 +44,9 @@ const CHECK: &str = "check VOLUME";
 
 const GEN: &str = "gen VOLUME --seed N --count 1..1000000";
 
+const CLIENTS: &str = "clients VOLUME [--max-bytes N] < SCHEDULE
+           by default --max-bytes 1099511627776";
+
 /// How a command is called, behind the program's name.
 fn grammar_of(command: CommandWord) -> &'static str
     ensures { result.now ≡ grammar_text command }
@@ -52,5 +56,6 @@ fn grammar_of(command: CommandWord) -> &'static str
         CommandWord::Run => RUN,
         CommandWord::Check => CHECK,
         CommandWord::Gen => GEN,
+        CommandWord::Clients => CLIENTS,
     }
 }

@@ -13,7 +13,7 @@ use Rattle.command_words.specs.ClapCommand.{app_for, is_fit}
 use Rattle.command_words.specs.Commands.{option_names, text_of}
 use Rattle.command_words.specs.Items.{HasName}
 use Rattle.command_words.specs.declared.commands.CommandWord.{CommandWord}
-use Rattle.command_words.specs.declared.commands.CommandWord.TheVariants.{Format, Run, Check, Gen}
+use Rattle.command_words.specs.declared.commands.CommandWord.TheVariants.{Format, Run, Check, Gen, Clients}
 use Rattle.command_words.proofs.Scan.{between, volume_id}
 use Rattle.command_words.proofs.ScanSpells.{OptionNames}
 use Rattle.command_words.proofs.WalkAsScan.{TakesOptions, volume_rule, option_rule, state, whole_fault}
@@ -201,31 +201,35 @@ plain_fault : (name : Text) (names : List Text) (all : AreNames names) (ws : Lis
 plain_fault name names all ws = (λ i. level_fault (plain_shape name names) [] nothing_held ws
     (is_some (none_entered name names (walk (rules_with names) [] nothing_held ws).stopped i)) (none_failed name names (walk (rules_with names) [] nothing_held ws).stopped i))
 
--- ---- the four commands
+-- ---- the commands
 
 pub built_is : (c : CommandWord) → built (app_for c) ≡ plain_app (text_of c) (option_names c)
 built_is Format = refl
 built_is Run = refl
 built_is Check = refl
 built_is Gen = refl
+built_is Clients = refl
 
 pub simple : (c : CommandWord) → is_simple_and_free (app_for c) ≡ true
 simple Format = refl
 simple Run = refl
 simple Check = refl
 simple Gen = refl
+simple Clients = refl
 
 pub simple_only : (c : CommandWord) → is_simple (app_for c) ≡ true
 simple_only Format = refl
 simple_only Run = refl
 simple_only Check = refl
 simple_only Gen = refl
+simple_only Clients = refl
 
 all_words : (c : CommandWord) (ws : List Text) → argument_words (app_for c) ws ≡ ws
 all_words Format ws = refl
 all_words Run ws = refl
 all_words Check ws = refl
 all_words Gen ws = refl
+all_words Clients ws = refl
 
 pub option_words : (c : CommandWord) → AreNames (option_names c)
 option_words Format = (
@@ -241,6 +245,7 @@ option_words Format = (
 option_words Run = (record { apart = refl; joined = λ v. refl; apart_fits = refl; joined_fits = λ v. refl; not_volume = refl }, tt)
 option_words Check = tt
 option_words Gen = (record { apart = refl; joined = λ v. refl; apart_fits = refl; joined_fits = λ v. refl; not_volume = refl }, (record { apart = refl; joined = λ v. refl; apart_fits = refl; joined_fits = λ v. refl; not_volume = refl }, tt))
+option_words Clients = (record { apart = refl; joined = λ v. refl; apart_fits = refl; joined_fits = λ v. refl; not_volume = refl }, tt)
 
 -- clap's faults are those of the walk over the words
 pub fault_is : (c : CommandWord) (ws : List Text)

@@ -12,7 +12,7 @@ use Rattle.command_words.specs.Wishes.{AreNumbers, Asks, AsksOn, IsGiven, Means,
 use Rattle.command_words.specs.declared.commands.CommandWord.{CommandWord}
 use Rattle.command_words.specs.declared.commands.CommandWord.TheVariants as word
 use Rattle.command_words.specs.declared.wish.Wish.{Wish}
-use Rattle.command_words.specs.declared.wish.Wish.TheVariants.{Format, Run, Check, Gen}
+use Rattle.command_words.specs.declared.wish.Wish.TheVariants.{Format, Run, Check, Gen, Clients}
 use Rattle.command_words.proofs.OptionFacts.{option_words}
 use Rattle.command_words.proofs.Readings.{one_list, one_number}
 
@@ -26,18 +26,27 @@ same_command word.Format word.Format e = refl
 same_command word.Format word.Run e = apart_texts (text_of word.Format) (text_of word.Run) refl e
 same_command word.Format word.Check e = apart_texts (text_of word.Format) (text_of word.Check) refl e
 same_command word.Format word.Gen e = apart_texts (text_of word.Format) (text_of word.Gen) refl e
+same_command word.Format word.Clients e = apart_texts (text_of word.Format) (text_of word.Clients) refl e
 same_command word.Run word.Format e = apart_texts (text_of word.Run) (text_of word.Format) refl e
 same_command word.Run word.Run e = refl
 same_command word.Run word.Check e = apart_texts (text_of word.Run) (text_of word.Check) refl e
 same_command word.Run word.Gen e = apart_texts (text_of word.Run) (text_of word.Gen) refl e
+same_command word.Run word.Clients e = apart_texts (text_of word.Run) (text_of word.Clients) refl e
 same_command word.Check word.Format e = apart_texts (text_of word.Check) (text_of word.Format) refl e
 same_command word.Check word.Run e = apart_texts (text_of word.Check) (text_of word.Run) refl e
 same_command word.Check word.Check e = refl
 same_command word.Check word.Gen e = apart_texts (text_of word.Check) (text_of word.Gen) refl e
+same_command word.Check word.Clients e = apart_texts (text_of word.Check) (text_of word.Clients) refl e
 same_command word.Gen word.Format e = apart_texts (text_of word.Gen) (text_of word.Format) refl e
 same_command word.Gen word.Run e = apart_texts (text_of word.Gen) (text_of word.Run) refl e
 same_command word.Gen word.Check e = apart_texts (text_of word.Gen) (text_of word.Check) refl e
 same_command word.Gen word.Gen e = refl
+same_command word.Gen word.Clients e = apart_texts (text_of word.Gen) (text_of word.Clients) refl e
+same_command word.Clients word.Format e = apart_texts (text_of word.Clients) (text_of word.Format) refl e
+same_command word.Clients word.Run e = apart_texts (text_of word.Clients) (text_of word.Run) refl e
+same_command word.Clients word.Check e = apart_texts (text_of word.Clients) (text_of word.Check) refl e
+same_command word.Clients word.Gen e = apart_texts (text_of word.Clients) (text_of word.Gen) refl e
+same_command word.Clients word.Clients e = refl
 
 module _ {words rest : List Text} {first volume : Text} {numbers : List (Option ℕ)} (command : CommandWord) (named : words ≡ first ∷ rest) (text : text_of command ≡ first)
     (given : IsGiven (option_names command) rest volume numbers) where
@@ -93,6 +102,7 @@ one_wish words (Format g) (Format h) a b =
 one_wish words (Format g) (Run most) a b = other_command word.Format word.Run refl (same_rest (Format g) (Run most) a b).1
 one_wish words (Format g) Check a b = other_command word.Format word.Check refl (same_rest (Format g) Check a b).1
 one_wish words (Format g) (Gen seed count) a b = other_command word.Format word.Gen refl (same_rest (Format g) (Gen seed count) a b).1
+one_wish words (Format g) (Clients most) a b = other_command word.Format word.Clients refl (same_rest (Format g) (Clients most) a b).1
 one_wish words (Run most) (Format g) a b = other_command word.Run word.Format refl (same_rest (Run most) (Format g) a b).1
 one_wish words (Run most) (Run more) a b =
     let rest = (same_rest (Run most) (Run more) a b).0 in
@@ -100,10 +110,12 @@ one_wish words (Run most) (Run more) a b =
     ap (λ (n : ℕ). Run n) (a.gives ∙ ap (λ o. unwrap_or o 1099511627776) (number (codes "max-bytes") (inl refl)) ∙ sym b.gives)
 one_wish words (Run most) Check a b = other_command word.Run word.Check refl (same_rest (Run most) Check a b).1
 one_wish words (Run most) (Gen seed count) a b = other_command word.Run word.Gen refl (same_rest (Run most) (Gen seed count) a b).1
+one_wish words (Run most) (Clients more) a b = other_command word.Run word.Clients refl (same_rest (Run most) (Clients more) a b).1
 one_wish words Check (Format g) a b = other_command word.Check word.Format refl (same_rest Check (Format g) a b).1
 one_wish words Check (Run most) a b = other_command word.Check word.Run refl (same_rest Check (Run most) a b).1
 one_wish words Check Check a b = refl
 one_wish words Check (Gen seed count) a b = other_command word.Check word.Gen refl (same_rest Check (Gen seed count) a b).1
+one_wish words Check (Clients most) a b = other_command word.Check word.Clients refl (same_rest Check (Clients most) a b).1
 one_wish words (Gen seed count) (Format g) a b = other_command word.Gen word.Format refl (same_rest (Gen seed count) (Format g) a b).1
 one_wish words (Gen seed count) (Run most) a b = other_command word.Gen word.Run refl (same_rest (Gen seed count) (Run most) a b).1
 one_wish words (Gen seed count) Check a b = other_command word.Gen word.Check refl (same_rest (Gen seed count) Check a b).1
@@ -113,3 +125,12 @@ one_wish words (Gen seed count) (Gen other many) a b =
     let seeds : seed ≡ other = some_same (sym a.gives.seed_is ∙ number (codes "seed") (inl refl) ∙ b.gives.seed_is) in
     let counts : count ≡ many = some_same (sym a.gives.count_is ∙ number (codes "count") (inr (inl refl)) ∙ b.gives.count_is) in
     (λ i. Gen (seeds i) (counts i))
+one_wish words (Gen seed count) (Clients most) a b = other_command word.Gen word.Clients refl (same_rest (Gen seed count) (Clients most) a b).1
+one_wish words (Clients most) (Format g) a b = other_command word.Clients word.Format refl (same_rest (Clients most) (Format g) a b).1
+one_wish words (Clients more) (Run most) a b = other_command word.Clients word.Run refl (same_rest (Clients more) (Run most) a b).1
+one_wish words (Clients most) Check a b = other_command word.Clients word.Check refl (same_rest (Clients most) Check a b).1
+one_wish words (Clients most) (Gen seed count) a b = other_command word.Clients word.Gen refl (same_rest (Clients most) (Gen seed count) a b).1
+one_wish words (Clients most) (Clients more) a b =
+    let rest = (same_rest (Clients most) (Clients more) a b).0 in
+    let number = one_number (option_names word.Clients) (option_words word.Clients) rest a.after b.after in
+    ap (λ (n : ℕ). Clients n) (a.gives ∙ ap (λ o. unwrap_or o 1099511627776) (number (codes "max-bytes") (inl refl)) ∙ sym b.gives)

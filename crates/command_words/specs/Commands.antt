@@ -2,7 +2,7 @@
 use Rattle.std.specs.Prelude.{List, [], ◌∷◌, codes}
 use Rattle.command_words.specs.Items.{Text}
 use Rattle.command_words.specs.declared.commands.CommandWord.{CommandWord}
-use Rattle.command_words.specs.declared.commands.CommandWord.TheVariants.{Format, Run, Check, Gen}
+use Rattle.command_words.specs.declared.commands.CommandWord.TheVariants.{Format, Run, Check, Gen, Clients}
 
 -- the word that a command begins with
 abbrev pub text_of : CommandWord → Text
@@ -10,6 +10,7 @@ text_of Format = codes "format"
 text_of Run = codes "run"
 text_of Check = codes "check"
 text_of Gen = codes "gen"
+text_of Clients = codes "clients"
 
 -- the names of a command's options
 abbrev pub option_names : CommandWord → List Text
@@ -17,3 +18,4 @@ option_names Format = codes "page-size" ∷ codes "pages" ∷ codes "segs" ∷ c
 option_names Run = codes "max-bytes" ∷ []
 option_names Check = []
 option_names Gen = codes "seed" ∷ codes "count" ∷ []
+option_names Clients = codes "max-bytes" ∷ []

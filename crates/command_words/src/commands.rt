@@ -13,6 +13,8 @@ pub enum CommandWord {
     Check,
     /// Steps generated lines on a volume.
     Gen,
+    /// Steps the lines of several clients on a volume, by a schedule.
+    Clients,
 }
 
 impl CommandWord {
@@ -26,6 +28,7 @@ impl CommandWord {
             "run" => Some(CommandWord::Run),
             "check" => Some(CommandWord::Check),
             "gen" => Some(CommandWord::Gen),
+            "clients" => Some(CommandWord::Clients),
             _ => None,
         }
     }
@@ -39,6 +42,7 @@ impl CommandWord {
             CommandWord::Run => "run",
             CommandWord::Check => "check",
             CommandWord::Gen => "gen",
+            CommandWord::Clients => "clients",
         }
     }
 
@@ -48,7 +52,7 @@ impl CommandWord {
     {
         match self {
             CommandWord::Format => &["page-size", "pages", "segs", "seg-len", "fan"],
-            CommandWord::Run => &["max-bytes"],
+            CommandWord::Run | CommandWord::Clients => &["max-bytes"],
             CommandWord::Check => &[],
             CommandWord::Gen => &["seed", "count"],
         }

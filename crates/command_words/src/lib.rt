@@ -8,5 +8,7 @@ mod request;
 mod wish;
 
 pub use commands::CommandWord;
-pub use request::{NamedFile, Request, file_of, request_of, wish_of};
+pub use request::{
+    COUNT_MOST, FAN_LEAST, NamedFile, PAGE_SIZE, Request, file_of, request_of, wish_of,
+};
 pub use wish::Wish;

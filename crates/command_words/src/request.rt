@@ -8,9 +8,10 @@ use crate::wish::Wish;
 use ex_base::{Geometry, fan_max};
 use std::alloc::{AllocError, Global};
 
-/// The bytes of a page, the pages, the units and the pages of a unit where `format` isn't told other ones.
-const PAGE_SIZE: u32 = 4096;
+/// The bytes of a page where `format` isn't told another number.
+pub const PAGE_SIZE: u32 = 4096;
 
+/// The pages, the units and the pages of a unit where `format` isn't told other ones.
 const PAGES: u32 = 4096;
 
 const SEGS: u32 = 16_384;
@@ -18,13 +19,13 @@ const SEGS: u32 = 16_384;
 const SEG_LEN: u32 = 1;
 
 /// The least fan.
-const FAN_LEAST: u32 = 2;
+pub const FAN_LEAST: u32 = 2;
 
-/// The most bytes of a script where `run` isn't told another limit.
+/// The most bytes of a script or a schedule where `run` or `clients` isn't told another limit.
 const SCRIPT_MOST: u64 = 1_099_511_627_776;
 
 /// The most commands that `gen` makes.
-const COUNT_MOST: u64 = 1_000_000;
+pub const COUNT_MOST: u64 = 1_000_000;
 
 /// What the words of a command line ask for, and on which volume.
 #[derive(Clone, Copy, Debug)]
@@ -75,7 +76,7 @@ fn bytes_made(wish: Wish) -> Option<u64>
 {
     match wish {
         Wish::Format(geometry) => Some(geometry.volume_bytes()),
-        Wish::Run { .. } | Wish::Check | Wish::Gen { .. } => None,
+        Wish::Run { .. } | Wish::Check | Wish::Gen { .. } | Wish::Clients { .. } => None,
     }
 }
 
@@ -109,6 +110,7 @@ fn wish_by(command: CommandWord, numbers: &[Option<u64>]) -> Option<Wish>
         CommandWord::Run => run_by(numbers),
         CommandWord::Check => Some(Wish::Check),
         CommandWord::Gen => gen_by(numbers),
+        CommandWord::Clients => clients_by(numbers),
     }
 }
 
@@ -131,6 +133,18 @@ fn run_by(numbers: &[Option<u64>]) -> Option<Wish>
 {
     match numbers {
         [most] => Some(Wish::Run {
+            most: most.unwrap_or(SCRIPT_MOST),
+        }),
+        _ => None,
+    }
+}
+
+fn clients_by(numbers: &[Option<u64>]) -> Option<Wish>
+    ensures { MatchOption result (MeansNothing CommandWord.Clients numbers.now)
+        (λ wish. Means CommandWord.Clients numbers.now wish) }
+{
+    match numbers {
+        [most] => Some(Wish::Clients {
             most: most.unwrap_or(SCRIPT_MOST),
         }),
         _ => None,

@@ -12,4 +12,6 @@ pub enum Wish {
     Check,
     /// To open a volume and to step so many generated commands on it.
     Gen { seed: u64, count: u32 },
+    /// To open a volume and to step the lines of a schedule of at most so many bytes.
+    Clients { most: u64 },
 }

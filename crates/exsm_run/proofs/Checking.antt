@@ -27,6 +27,7 @@ check_stopped {a} {b} s only stops kinds moments opening = record {
   front = λ table was on is. absurd (subst (λ (x : Status). StopsCount x a b) is stops);
   nothing = λ done output. only.sent;
   left = only.left;
+  settled = λ table was on is d here. absurd (subst (λ (x : Status). StopsCount x a b) is stops);
   moments = moments;
   moments_settled = λ table was volume. let starts = starts_on volume in leaves_table starts (moments starts.on.image starts.on.honest starts.on.holds);
   sound = λ table was on. line_status s (kinds table was on);
@@ -100,6 +101,7 @@ check_sent {a} {b} {c} s summary line world only counts moments opened made sent
           );
       nothing = λ done output. sent.nothing done output ∙ only.sent;
       left = sent.only.left ∙ only.left;
+      settled = λ table was on is d here. let count = counts table was on in count.images d (sent.only.images.back d here);
       moments = along;
       moments_settled = λ table was volume. let starts = starts_on volume in leaves_table starts (along starts.on.image starts.on.honest starts.on.holds);
       sound = λ table was on. sent.kind;

@@ -1,16 +1,18 @@
 -- What a run of a source promises, by its status.
-use Rattle.std.proofs.Common.{◌≡◌, ◌⊎◌, ◌∙◌, ⊎_elim, ◌≤◌, ◌<◌, ◌+◌, ℕ, List, [], Option, Some, length, drop, inl, inr, sym, ap, subst}
+use Rattle.std.proofs.Common.{◌≡◌, ◌⊎◌, ◌∙◌, ⊎_elim, ◌≤◌, ◌<◌, ◌+◌, ℕ, List, [], Some, length, drop, inl, inr, sym, ap, subst}
 use Rattle.disk_model.specs.Outside.{Outside, IsWorld}
 use Rattle.table_model.specs.declared.table.Table.{Table}
 use Rattle.session_views.specs.View.{View}
 use Rattle.talks.specs.Talking.{Talking}
-use Rattle.talks.specs.declared.stopped.Stopped.{Stopped}
 use Rattle.runs.specs.ScriptTalk.{script_begins, script_talking}
 use Rattle.runs.proofs.Whole.{headline_of}
+use Rattle.clients.specs.ScheduleTalk.{BeginsSchedule, schedule_talking}
+use Rattle.clients.proofs.Whole.{served_of}
 use Rattle.session_core.specs.Meant.{meant}
 use Rattle.session_core.specs.Sessions.{SessionState}
 use Rattle.command_line.specs.declared.status.Status.{Status}
 use Rattle.command_line.specs.declared.status.Status.TheVariants.{Done, Memory, ScriptLong}
+use Rattle.exsm_run.specs.Clients.{ClientsPromise}
 use Rattle.exsm_run.specs.Fresh.{IsFresh}
 use Rattle.exsm_run.specs.Openings.{OpeningPromise}
 use Rattle.exsm_run.specs.Promises.{RunPromise}
@@ -43,6 +45,20 @@ pub run_promise : {most : ℕ} {before after : Outside} {status : Status} → Is
 run_promise world ran =
     let ends = ends_of world ran in record {
       headline = λ table was volume. record { ending = ran.ending; is = ran.is; headline = headline_of (ran.run.headline table was (starts_on volume)) };
+      sound = ends.sound;
+      completes = ends.completes;
+      reads_all = ends.reads_all;
+      within = ends.within;
+      long = ends.long;
+      draws = ends.draws;
+      opening = ends.opening;
+    }
+
+pub clients_promise : {most : ℕ} {before after : Outside} {status : Status} → IsWorld before → RanSource meant IsFresh schedule_talking BeginsSchedule most before after status
+    → ClientsPromise most before after status
+clients_promise world ran =
+    let ends = ends_of world ran in record {
+      headline = λ table was volume. record { ending = ran.ending; is = ran.is; served = served_of (ran.run.headline table was (starts_on volume)) };
       sound = ends.sound;
       completes = ends.completes;
       reads_all = ends.reads_all;

@@ -129,6 +129,8 @@ pub record CheckPromise (before after : Outside) (status : Status) : Type 0 wher
       × ((n : ℕ) × (n < length (check_line table pages segs)) × (after.sent ≡ Some (was ++ take n (check_line table pages segs))))
   pub nothing : status ≢ Done → status ≢ OutputFault → after.sent ≡ before.sent
   pub left : after.left ≡ before.left
+  -- With status 0 nothing of before is pending any more: a crash now leaves the table.
+  pub settled : (table : Table) (was : List ℕ) → HoldsVolume before table was → status ≡ Done → (d : List ℕ) → after.images d → StandsFor d table
   -- A crash at any moment leaves what one in an opening may leave: where nothing is pending at entry, the table.
   pub moments : (image : List ℕ) → IsTrue before.honest → before.disk ≡ Some image → Leaves before after (StandsOpening meant before.images image)
   pub moments_settled : (table : Table) (was : List ℕ) → IsOnVolume before table was → Leaves before after (λ d. StandsFor d table)

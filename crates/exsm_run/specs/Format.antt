@@ -1,5 +1,5 @@
 -- What `format` answers, sends and leaves.
-use Rattle.std.specs.Prelude.{◌≡◌, ◌≢◌, ◌≤◌, ◌<◌, ◌⊎◌, ℕ, IsTrue, Some, List, [], ◌∷◌, ◌++◌, take, codes, ⊤}
+use Rattle.std.specs.Prelude.{◌≡◌, ◌≢◌, ◌≤◌, ◌<◌, ◌⊎◌, ℕ, IsTrue, Some, List, [], ◌∷◌, ◌++◌, length, take, codes, ⊤}
 use Rattle.std.specs.Fmt.{decimal}
 use Rattle.ex_base.specs.Sizes.{volume_bytes}
 use Rattle.ex_base.specs.declared.geometry.Geometry.{Geometry}
@@ -43,10 +43,11 @@ pub record FormatAnswers (g : Geometry) (status : Status) (before : Outside) : T
   pub large : status ≡ AlreadyVolume → volume_bytes g ≤ before.size
   pub magic : status ≡ AlreadyVolume → (d : List ℕ) → before.disk ≡ Some d → HasMagic d
 
--- what `format` sends: its line, a front of it where the output failed, or nothing
+-- what `format` sends: its line, a front of it, but never all, where the output failed, or nothing
 pub record FormatSends (g : Geometry) (status : Status) (before after : Outside) : Type 0 where
   pub line : status ≡ Done → (was : List ℕ) → before.sent ≡ Some was → after.sent ≡ Some (was ++ format_line (volume_bytes g))
-  pub front : status ≡ OutputFault → (was : List ℕ) → before.sent ≡ Some was → (n : ℕ) × (after.sent ≡ Some (was ++ take n (format_line (volume_bytes g))))
+  pub front : status ≡ OutputFault → (was : List ℕ) → before.sent ≡ Some was
+      → (n : ℕ) × (n < length (format_line (volume_bytes g))) × (after.sent ≡ Some (was ++ take n (format_line (volume_bytes g))))
   pub nothing : status ≢ Done → status ≢ OutputFault → after.sent ≡ before.sent
   -- It takes nothing from the source.
   pub left : after.left ≡ before.left

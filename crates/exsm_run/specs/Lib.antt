@@ -5,5 +5,6 @@ pub mod Fresh
 pub mod Script
 pub mod Openings
 pub mod Check
+pub mod Clients
 pub mod Generate
 pub mod Promises

@@ -54,7 +54,8 @@ pub fn format<H: Host>(alloc: Global, host: &mut H, geometry: &Geometry) -> Stat
         → (H.outside host.new).sent ≡ Some (was ++ format_line (volume_bytes geometry.now)) }
     ensures front { result ≡ Status.OutputFault → (was : List ℕ)
         → (H.outside host.old).sent ≡ Some was
-        → (n : ℕ) × ((H.outside host.new).sent
+        → (n : ℕ) × (n < length (format_line (volume_bytes geometry.now)))
+        × ((H.outside host.new).sent
         ≡ Some (was ++ take n (format_line (volume_bytes geometry.now)))) }
     ensures nothing { result ≢ Status.Done → result ≢ Status.OutputFault
         → (H.outside host.new).sent ≡ (H.outside host.old).sent }

@@ -42,6 +42,7 @@ impl VolumeSession {
     /// Sums up what the session shows. The disk is read at most.
     pub fn summary<H: Host>(&mut self, alloc: Global, host: &mut H) -> Result<Summary, Stop>
         requires room { volume_bytes self.old.geometry ≤ (H.outside host.old).size }
+        ensures room { volume_bytes self.new.geometry ≤ (H.outside host.new).size }
         ensures only { ReadsOnly (H.outside host.old) (H.outside host.new) }
         ensures disk { result ≡ Err Stop.Disk
             → Rose (H.outside host.old).disk_faults (H.outside host.new).disk_faults }

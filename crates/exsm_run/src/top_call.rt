@@ -13,6 +13,7 @@ use crate::generate::generate;
 use crate::script::run_script;
 use crate::session::VolumeSession;
 use crate::status::Status;
+use clients::Schedule;
 use command_words::{Wish, wish_of};
 use disk_model::Host;
 use runs::Script;
@@ -81,5 +82,6 @@ fn fulfil<H: Host>(alloc: Global, host: &mut H, wish: Wish) -> Status
         Wish::Run { most } => run_script::<VolumeSession, Script, H>(alloc, host, most),
         Wish::Check => checked(alloc, host),
         Wish::Gen { seed, count } => generate(alloc, host, seed, count),
+        Wish::Clients { most } => run_script::<VolumeSession, Schedule, H>(alloc, host, most),
     }
 }

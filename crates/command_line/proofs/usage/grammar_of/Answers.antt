@@ -18,3 +18,7 @@ returns-in-Check c = ap grammar_text (sym c.in-Check.is)
 pub returns-in-Gen : goal.returns-in-Gen
 unfolding grammar_text digits
 returns-in-Gen c = ap grammar_text (sym c.in-Gen.is)
+
+pub returns-in-Clients : goal.returns-in-Clients
+unfolding grammar_text digits
+returns-in-Clients c = ap grammar_text (sym c.in-Clients.is)

@@ -1,4 +1,5 @@
-use Rattle.std.proofs.Common.{◌∙◌, sym, subst}
+use Rattle.std.proofs.Common.{◌∙◌, ap, arith, sym, subst}
+use Rattle.ex_base.specs.Sizes.{volume_bytes}
 use Rattle.tree_store.specs.Stored.{Tells}
 use Rattle.session_core.specs.Damage.{IsSessionDamage, no_version}
 use Rattle.session_core.specs.Sessions.{SessionState}
@@ -13,3 +14,13 @@ returns-clause-stands g c page want got is tells =
 
 pub returns-clause-sound : goal.returns-clause-sound
 returns-clause-sound g c before stop same shows is = c.summarize.ensures.sound before stop (same ∙ sym c.self.view_is) shows is
+
+pub returns-clause-room : goal.returns-clause-room
+returns-clause-room g c =
+    omega (
+      arith,
+      c.requires.room,
+      ap (λ (s : SessionState). volume_bytes s.geometry) c.self.view_is,
+      ap (λ (s : SessionState). volume_bytes s.geometry) c.summarize.ensures.frames.same,
+      c.summarize.ensures.only.nothing.only.goes.size,
+    )

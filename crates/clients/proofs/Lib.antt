@@ -1,0 +1,10 @@
+pub mod Numbers
+pub mod Readings
+pub mod Words
+pub mod Fronts
+pub mod LineTurns
+pub mod Names
+pub mod Preparing
+pub mod Serving
+pub mod Owners
+pub mod Whole

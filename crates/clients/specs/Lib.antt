@@ -1,0 +1,13 @@
+pub mod Names
+pub mod Numbers
+pub mod Turns
+pub mod Fronts
+pub mod Routing
+pub mod Heard
+pub mod Acknowledged
+pub mod Prepared
+pub mod Sending
+pub mod ScheduleLaws
+pub mod ScheduleTalk
+pub mod Laws
+pub mod Headline
