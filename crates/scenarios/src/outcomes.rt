@@ -150,8 +150,14 @@ pub(crate) fn push_status(
     out.extend_from_slice(status_text(alloc, status)?.as_bytes())
 }
 
+// Whether a reply tells that, also behind the number of a client.
 fn is_kept(line: &[u8]) -> bool {
-    KEPT.iter().any(|front| line.starts_with(front))
+    let reply = match line {
+        [b'0'..=b'9', b' ', reply @ ..] => reply,
+        [b'0'..=b'9', b'0'..=b'9', b' ', reply @ ..] => reply,
+        _ => line,
+    };
+    KEPT.iter().any(|front| reply.starts_with(front))
 }
 
 /// The last whole line that was sent and says that something is kept for good.
