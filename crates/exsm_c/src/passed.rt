@@ -1,0 +1,279 @@
+//! What C passes and gets filled, laid out as C does.
+ghost use Rattle.std.specs.Prelude.{◌≡◌, ◌≤◌};
+ghost use Rattle.table_model.specs.Words.{data_most};
+
+use ex_base::{Area, Oid};
+use session_views::{Part, Stop};
+use table_model::{Command, DATA_MOST, Given, Refusal, Subject};
+use transactions::Summary;
+
+/// The identifier of a version.
+#[repr(C)]
+#[derive(Clone, Copy)]
+pub struct Identifier {
+    pub page: u32,
+    pub slot: u16,
+    pub unique: u64,
+}
+
+impl Identifier {
+    pub(crate) fn of(oid: Oid) -> Identifier {
+        Identifier {
+            page: oid.page.0,
+            slot: oid.slot,
+            unique: oid.unique,
+        }
+    }
+
+    pub(crate) fn subject(&self) -> Subject<'_> {
+        Subject::Number {
+            page: u64::from(self.page),
+            slot: u64::from(self.slot),
+            unique: self.unique,
+        }
+    }
+}
+
+/// The sizes that a volume is made with.
+#[repr(C)]
+#[derive(Clone, Copy)]
+pub struct Sizes {
+    pub page_size: u32,
+    pub pages: u32,
+    pub segs: u32,
+    pub seg_len: u32,
+    pub fan: u32,
+}
+
+/// The units in use, and all that there are.
+#[repr(C)]
+#[derive(Clone, Copy)]
+pub struct Units {
+    pub pages: u32,
+    pub of_pages: u32,
+    pub segs: u32,
+    pub of_segs: u32,
+}
+
+/// How a version lies on the volume. `height` and `leaves` are 0 where it is one record.
+#[repr(C)]
+#[derive(Clone, Copy)]
+pub struct Shape {
+    pub size: u64,
+    pub leaves: u64,
+    pub is_large: bool,
+    pub height: u8,
+}
+
+impl Shape {
+    /// That of one record.
+    pub(crate) fn small(size: u64) -> Shape {
+        Shape {
+            size,
+            leaves: 0,
+            is_large: false,
+            height: 0,
+        }
+    }
+
+    /// That of a tree.
+    pub(crate) fn large(size: u64, height: u8, leaves: u64) -> Shape {
+        Shape {
+            size,
+            leaves,
+            is_large: true,
+            height,
+        }
+    }
+}
+
+/// What a volume holds. A count that is over 64 bits is told as the largest.
+#[repr(C)]
+#[derive(Clone, Copy)]
+pub struct Counts {
+    pub last: u64,
+    pub files: u64,
+    pub objects: u64,
+    pub versions: u64,
+    pub pages: u64,
+    pub segs: u64,
+}
+
+impl Counts {
+    pub(crate) fn of(summary: &Summary) -> Counts {
+        Counts {
+            last: summary.last,
+            files: u64::from(summary.files),
+            objects: most_of(summary.objects),
+            versions: most_of(summary.versions),
+            pages: u64::from(summary.pages),
+            segs: u64::from(summary.segs),
+        }
+    }
+}
+
+fn most_of(count: u128) -> u64 {
+    if count < u64::MAX as u128 {
+        count as u64
+    } else {
+        u64::MAX
+    }
+}
+
+/// A call that is to be made on the file: a write of `len` bytes from `at` on, or a sync.
+#[repr(C)]
+#[derive(Clone, Copy)]
+pub struct AskedCall {
+    pub is_write: bool,
+    pub at: u64,
+    pub len: u64,
+}
+
+/// Why the last call that wasn't done wasn't: its code, and what is known besides. A number that the code doesn't speak of is 0.
+#[repr(C)]
+#[derive(Clone, Copy)]
+pub struct Why {
+    pub code: u32,
+    /// Of too many: whether scans are, or groups.
+    pub scans: bool,
+    /// Of a full area: 1 for the segment area, 0 for the page area.
+    pub area: u8,
+    /// Of a long transaction: its updates, and the pages that it touches.
+    pub updates: u32,
+    pub touched: u32,
+    /// Of a full area: the units that may be needed, and those that are free.
+    pub need: u64,
+    pub free: u64,
+    /// Of branches: how many versions are derived.
+    pub derived: u64,
+    /// Of damage: the page, and the kind, the level and the total that were wanted of it and got.
+    pub page: u32,
+    pub want_kind: u8,
+    pub want_level: u8,
+    pub got_kind: u8,
+    pub got_level: u8,
+    pub want_total: u64,
+    pub got_total: u64,
+}
+
+impl Why {
+    /// A code with nothing besides.
+    pub(crate) fn code(code: u32) -> Why {
+        Why {
+            code,
+            scans: false,
+            area: 0,
+            updates: 0,
+            touched: 0,
+            need: 0,
+            free: 0,
+            derived: 0,
+            page: 0,
+            want_kind: 0,
+            want_level: 0,
+            got_kind: 0,
+            got_level: 0,
+            want_total: 0,
+            got_total: 0,
+        }
+    }
+
+    /// Why a line was refused, with this code.
+    pub(crate) fn refusal(code: u32, why: Refusal) -> Why {
+        let mut told = Why::code(code);
+        match why {
+            Refusal::TooMany { scans } => told.scans = scans,
+            Refusal::LongTxn { updates, touched } => {
+                told.updates = updates;
+                told.touched = touched;
+            }
+            Refusal::Full { area, need, free } => {
+                told.area = match area {
+                    Area::Page => 0,
+                    Area::Segment => 1,
+                };
+                told.need = need;
+                told.free = free;
+            }
+            Refusal::Branches { derived } => told.derived = derived,
+            _ => {}
+        }
+        told
+    }
+
+    /// Why the session stopped, with this code.
+    pub(crate) fn stop(code: u32, stop: Stop) -> Why {
+        let mut told = Why::code(code);
+        if let Stop::Damaged { page, want, got } = stop {
+            told.page = page.0;
+            told.want_kind = want.kind;
+            told.want_level = want.level;
+            told.want_total = want.total;
+            told.got_kind = got.kind;
+            told.got_level = got.level;
+            told.got_total = got.total;
+        }
+        told
+    }
+}
+
+/// The number of a part of a volume, in the order in which an opening tests them.
+pub(crate) fn number_of_part(part: Part) -> u8 {
+    match part {
+        Part::Super => 1,
+        Part::Log => 2,
+        Part::Catalog => 3,
+        Part::File => 4,
+        Part::Page => 5,
+        Part::Body => 6,
+        Part::Node => 7,
+        Part::Balance => 8,
+        Part::Unique => 9,
+    }
+}
+
+/// Copies bytes to the front of `out`, as many as it has room for, and says how many.
+pub(crate) fn put_front(out: &mut [u8], bytes: &[u8]) -> usize {
+    if bytes.len() <= out.len() {
+        out[..bytes.len()].copy_from_slice(bytes);
+        bytes.len()
+    } else {
+        out.copy_from_slice(&bytes[..out.len()]);
+        out.len()
+    }
+}
+
+/// The name of a group, where one is given.
+pub(crate) fn group_of(group: &[u8]) -> Option<&[u8]> {
+    if group.is_empty() { None } else { Some(group) }
+}
+
+/// The count of bytes that is asked for. One that is over the limit of a call stays so.
+pub(crate) fn wanted(count: usize) -> u32
+    ensures { count ≤ data_most → result ≡ count }
+{
+    if count <= DATA_MOST as usize {
+        count as u32
+    } else {
+        DATA_MOST + 1
+    }
+}
+
+fn is_long(given: &Given<'_>) -> bool {
+    match given {
+        Given::Bytes(bytes) => bytes.len() > DATA_MOST as usize,
+        Given::Word(_) => false,
+    }
+}
+
+/// Whether more bytes are given or asked for than one call may.
+pub(crate) fn is_over(command: &Command<'_>) -> bool {
+    match command {
+        Command::Read { len, .. } => *len > DATA_MOST,
+        Command::Next { len, .. } => *len > DATA_MOST,
+        Command::Append { given, .. } => is_long(given),
+        Command::Insert { given, .. } => is_long(given),
+        Command::Replace { given, .. } => is_long(given),
+        _ => false,
+    }
+}
