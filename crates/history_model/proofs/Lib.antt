@@ -1,0 +1,4 @@
+pub mod ItemReadings
+pub mod Lengths
+pub mod SameTables
+pub mod WorkedRows
