@@ -1,0 +1,13 @@
+pub mod Firsts
+pub mod Numbers
+pub mod Transcribing
+pub mod Dumped
+pub mod OneObject
+pub mod Named
+pub mod Whole
+pub mod Order
+pub mod Reached
+pub mod PieceItems
+pub mod FileItems
+pub mod Placed
+pub mod AllItems

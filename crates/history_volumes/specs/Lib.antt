@@ -1,0 +1,4 @@
+pub mod Walks
+pub mod Transcribed
+pub mod Histories
+pub mod Laws

@@ -1,0 +1,18 @@
+//! The records of a file, in order of place: one pass over any volume, in which each record's body is looked at once.
+#![tactic(auto)]
+
+mod listing;
+
+use ex_base::{Place, Root};
+pub use listing::list_records;
+use object_records::Head;
+
+/// What is listed of a record.
+#[derive(Clone, Copy, Debug)]
+pub struct Listed {
+    /// Where it stands.
+    pub place: Place,
+    pub head: Head,
+    /// The root of the tree of a large version, none of a small one.
+    pub root: Option<Root>,
+}
