@@ -54,7 +54,8 @@ def space(model: Model, _: list[Value], reply: str) -> None:
     sizes, used, most = model.sizes, model.used, model.most
     found = match(reply, f"ok space pages ([0-9]+) of {sizes.pages} segs ([0-9]+) of {sizes.segs}")
     pages, segs = int(found[1]), int(found[2])
-    is_known = (pages, segs) == used if used is not None else pages <= most.pages and segs <= most.segs
+    is_known = (pages,
+                segs) == used if used is not None else pages <= most.pages and segs <= most.segs
     if not is_known or pages < 1:
         raise Differs(reply, f"{used} in use, at most {most}")
     model.count(pages, segs)
@@ -91,16 +92,21 @@ def stat(model: Model, values: list[Value], reply: str) -> None:
     if is_small or found.number not in model.table.large and reply.startswith("ok stat small "):
         model.table.heights[found.number] = 0
         return same(reply, f"ok stat small {whole}")
-    told = match(reply, f"ok stat large {whole} height ([0-9]+) leaves ([0-9]+)((?: [0-9]+)*)")
-    height, count, lengths = int(told[1]), int(told[2]), [int(word) for word in told[3].split()]
+    told = match(reply, "ok stat large ([0-9]+) height ([0-9]+) leaves ([0-9]+)((?: [0-9]+)*)")
+    same(told[1], str(whole), "size by stat: ")
+    height, count, lengths = int(told[2]), int(told[3]), [int(word) for word in told[4].split()]
     unit = model.sizes.unit
     least = 1 if count == 1 else -(-unit // 2)
-    is_right = (len(lengths) == min(count, SHOWN_LEAVES) and all(least <= length <= unit for length in lengths)
-                and (sum(lengths) == whole if count <= SHOWN_LEAVES else count * least <= whole <= count * unit)
+    is_right = (len(lengths) == min(count, SHOWN_LEAVES)
+                and all(least <= length <= unit for length in lengths)
+                and (sum(lengths) == whole if count <= SHOWN_LEAVES
+                     else count * least <= whole <= count * unit)
                 and (height == 0) == (count <= 1) and (count == 0) == (whole == 0)
                 and model.table.heights.get(found.number, height) == height)
     if not is_right:
-        raise Differs(reply, f"leaves of {least} to {unit} bytes that have {whole} bytes, and the height of before")
+        raise Differs(reply,
+                      f"leaves of {least} to {unit} bytes that have {whole} bytes, and the height "
+                      f"of before")
     model.table.heights[found.number] = height
     model.table.large.add(found.number)
 
@@ -142,6 +148,8 @@ def close(model: Model, values: list[Value], reply: str) -> None:
 
 
 ANSWERS: dict[str, Callable[[Model, list[Value], str], None]] = {
-    "begin": begin, "commit": commit, "abort": abort, "checkpoint": checkpoint, "log": log, "files": files,
-    "space": space, "list": list_current, "size": size, "stat": stat, "digest": digest, "read": read,
+    "begin": begin, "commit": commit, "abort": abort, "checkpoint": checkpoint, "log": log,
+    "files": files,
+    "space": space, "list": list_current, "size": size, "stat": stat, "digest": digest,
+    "read": read,
     "versions": versions, "group": group, "scan": scan, "next": next_bytes, "close": close}

@@ -9,17 +9,25 @@ from exsm.client import LINE_MOST
 DATA_MOST = 16_777_216
 """Bytes that one line gives or asks for."""
 
+NUMBER = re.compile("[0-9]{1,20}")
+NAME = re.compile("[a-z0-9_]{1,32}")
+HEX, REP = re.compile("hex:([0-9a-fA-F]{2})*"), re.compile("rep:([0-9]{1,20}):([0-9a-fA-F]{2})")
+BLANKS = re.compile("[ \t]+")
 NUMBER_END = 1 << 64
 FRAMES_MOST = 1024
 
-UPDATES = frozenset("file unfile create destroy insert append replace delete freeze derive drop".split())
+UPDATES = frozenset(
+    "file unfile create destroy insert append replace delete freeze derive drop".split())
 """The words of the commands that change the working table."""
 
 FORMS = {
     "begin": "", "commit": "", "abort": "", "checkpoint": "", "log": "", "files": "", "space": "",
-    "file": "F", "unfile": "F", "list": "F", "create": "F as W", "destroy": "X", "size": "X", "stat": "X",
-    "digest": "X", "read": "X N L", "insert": "X N D", "append": "X D", "replace": "X N D", "delete": "X N L",
-    "freeze": "X as W", "derive": "X as W", "versions": "X", "drop": "X", "group": "F G O", "scan": "X as F",
+    "file": "F", "unfile": "F", "list": "F", "create": "F as W", "destroy": "X", "size": "X",
+    "stat": "X",
+    "digest": "X", "read": "X N L", "insert": "X N D", "append": "X D", "replace": "X N D",
+    "delete": "X N L",
+    "freeze": "X as W", "derive": "X as W", "versions": "X", "drop": "X", "group": "F G O",
+    "scan": "X as F",
     "next": "F L", "close": "F",
 }
 """What stands behind the word of each command: a letter for each word, or the word itself."""
@@ -53,23 +61,23 @@ class Command(NamedTuple):
 
 def number(text: str) -> Optional[int]:
     """A number of a line."""
-    if not re.fullmatch("[0-9]{1,20}", text) or int(text) >= NUMBER_END:
+    if not NUMBER.fullmatch(text) or int(text) >= NUMBER_END:
         return None
     return int(text)
 
 
 def data(text: str) -> Optional[Data]:
     """The bytes that a word gives."""
-    if re.fullmatch("hex:([0-9a-fA-F]{2})*", text):
+    if HEX.fullmatch(text):
         return Data(bytes.fromhex(text[4:]), 1)
-    found = re.fullmatch("rep:([0-9]{1,20}):([0-9a-fA-F]{2})", text)
+    found = REP.fullmatch(text)
     count = number(found[1]) if found else None
     return Data(bytes.fromhex(found[2]), count) if found and count is not None else None
 
 
 def named(text: str) -> Optional[str]:
     """A name."""
-    return text if re.fullmatch("[a-z0-9_]{1,32}", text) else None
+    return text if NAME.fullmatch(text) else None
 
 
 def version(text: str) -> Optional[str]:
@@ -101,7 +109,7 @@ def value(form: str, text: str) -> Optional[Value]:
 def words_of(line: bytes) -> list[str]:
     """The words of a line, without the carriage return at its end."""
     text = line.removesuffix(b"\r").decode("latin-1")
-    return [word for word in re.split("[ \t]+", text) if word]
+    return [word for word in BLANKS.split(text) if word]
 
 
 def command_of(line: bytes) -> Optional[Command]:

@@ -1,7 +1,9 @@
-"""Images that a stop may leave: each opens as the table after a prefix of the commits, with each acknowledged one.
+"""Images that a stop may leave: each opens as the table after a prefix of the commits, with each
+acknowledged one.
 
-What was written before the last sync that ended is there; of what was written since each byte may be as it was,
-as it is to be, or any other. So an image takes of the writes that wait some whole, some in part and none of others.
+What was written before the last sync that ended is there; of what was written since each byte may
+be as it was, as it is to be, or any other. So an image takes of the writes that wait some whole,
+some in part and none of others.
 """
 from __future__ import annotations
 
@@ -11,9 +13,9 @@ from typing import Iterator, NamedTuple
 from fuzzing import scripts
 from fuzzing.differs import Differs, same
 from fuzzing.model import Model
-from fuzzing.program import Program, reader_part, same_table, volume_of
+from fuzzing.program import Program, reader_part, same_table, script_of, volume_of
 from fuzzing.table import Table
-from fuzzing.trace import Event, Sent, Sync, Write, traced
+from fuzzing.trace import Call, CallKind, written
 from fuzzing.trials import Kind, Report, Trial
 from fuzzing.writer import Writer
 
@@ -34,26 +36,24 @@ class Moment(NamedTuple):
     """A moment of a run: what is synced, what waits, and how many commits were acknowledged."""
 
     synced: bytes
-    waiting: list[Write]
+    waiting: list[Call]
     acknowledged: int
 
 
-def moments_of(base: bytes, events: list[Event], last: int) -> Iterator[Moment]:
-    """The moments before each sync ends, and that of the end: what comes earlier leaves no other images."""
-    synced, waiting, sent = bytearray(base), [], b""
-    for event in [*events, Sync()]:
-        if isinstance(event, Write):
-            waiting.append(event)
-        elif isinstance(event, Sent):
-            sent += event.data
-        else:
-            yield Moment(bytes(synced), waiting, last + sent.count(b"ok commit "))
-            for write in waiting:
-                synced[write.at:write.at + len(write.data)] = write.data
-            waiting = []
+def moments_of(base: bytes, calls: list[Call], last: int) -> Iterator[Moment]:
+    """The moments before each sync ends, and at the end: an earlier one has no other images."""
+    synced, waiting, sent = base, [], b""
+    for call in [*calls, Call(CallKind.SYNC)]:
+        if call.kind == CallKind.WRITE:
+            waiting.append(call)
+        elif call.kind == CallKind.PUT:
+            sent += call.data
+        elif call.kind == CallKind.SYNC and not call.failed:
+            yield Moment(synced, waiting, last + sent.count(b"ok commit "))
+            synced, waiting = written(synced, waiting), []
 
 
-def part_of(chance: random.Random, write: Write, before: bytes) -> bytes:
+def part_of(chance: random.Random, write: Call, before: bytes) -> bytes:
     """What a stop may leave of a write."""
     kind, length = chance.random(), len(write.data)
     if kind < 0.35:
@@ -73,15 +73,18 @@ def part_of(chance: random.Random, write: Write, before: bytes) -> bytes:
     return chance.randbytes(length)
 
 
-def pieces_of(chance: random.Random, moment: Moment, befores: list[bytes], pick: int) -> list[bytes]:
-    """What is left of each write that waits: of none, of all, of one in part, or of each as it comes."""
+def pieces_of(chance: random.Random, moment: Moment, befores: list[bytes],
+              pick: int) -> list[bytes]:
+    """What is left of each write that waits: of none, of all, of one in part, or of each as it
+    comes."""
     if pick < 2:
         return [write.data for write in moment.waiting] if pick else befores
     if pick % 2:
         return [part_of(chance, write, before) for write, before in zip(moment.waiting, befores)]
     torn = chance.randrange(len(befores))
     pieces = [chance.choice((write.data, before)) for write, before in zip(moment.waiting, befores)]
-    return [*pieces[:torn], part_of(chance, moment.waiting[torn], befores[torn]), *pieces[torn + 1:]]
+    return [*pieces[:torn], part_of(chance, moment.waiting[torn], befores[torn]),
+            *pieces[torn + 1:]]
 
 
 def images_of(chance: random.Random, moment: Moment) -> Iterator[bytes]:
@@ -102,12 +105,14 @@ def images_of(chance: random.Random, moment: Moment) -> Iterator[bytes]:
 
 
 def ask_image(image: bytes, tables: dict[int, Table], acknowledged: int) -> int:
-    """Asks that an image opens as the table after a prefix of the commits, and gives its last commit."""
+    """Asks that an image opens as the table after a prefix of the commits, and gives its last
+    commit."""
     same(reader_part(image), ("", []), "the reader's opening of an image: ")
     with volume_of(image) as volume:
         last, table = volume.last_commit, Table.of(volume)
     if last not in (acknowledged, acknowledged + 1) or last not in tables:
-        raise Differs(f"the image stands after commit {last}", f"{acknowledged} acknowledged, and at most one more")
+        raise Differs(f"the image stands after commit {last}",
+                      f"{acknowledged} acknowledged, and at most one more")
     same_table(table, tables[last])
     same(table.next_number, tables[last].next_number, "the next number of an image: ")
     return last
@@ -127,17 +132,19 @@ def ask_program(image: bytes, model: Model, program: Program, chance: random.Ran
 class Stops:
     """The stops of one run."""
 
-    def __init__(self, trial: Trial, program: Program, report: Report, chance: random.Random) -> None:
+    def __init__(self, trial: Trial, program: Program, report: Report,
+                 chance: random.Random) -> None:
         self.trial, self.program, self.report, self.chance = trial, program, report, chance
 
     def ask(self, base: bytes, lines: list[bytes], model: Model) -> Model:
-        """Tries images of a run that was made on a volume; gives the model of the one that is left there."""
+        """Tries images of a run; gives the model of the one that is left as the volume."""
+        self.report("scripts with stops")
         after = self.program.volume.read_bytes()
-        events = self.events(base, lines, after)
+        calls = self.calls(base, lines, after)
         first = min(model.tables)
         kept, kept_last = after, model.last
         images = 0
-        for moment in moments_of(base, events, first):
+        for moment in moments_of(base, calls, first):
             for image in images_of(self.chance, moment):
                 last = self.ask_one(image, model, moment.acknowledged)
                 images += 1
@@ -164,17 +171,15 @@ class Stops:
             ask_program(image, own, self.program, self.chance)
         return last
 
-    def events(self, base: bytes, lines: list[bytes], after: bytes) -> list[Event]:
-        """The events of a run, from a trace that explains the volume that it left."""
+    def calls(self, base: bytes, lines: list[bytes], after: bytes) -> list[Call]:
+        """The calls of a run, which explain the volume that it left."""
         self.program.volume.write_bytes(base)
-        events = traced(self.program, lines, self.program.volume.with_suffix(".trace"))
-        image = bytearray(base)
-        for event in events:
-            if isinstance(event, Write):
-                image[event.at:event.at + len(event.data)] = event.data
-        if image != after:
-            raise Differs("a trace of the run that doesn't explain its volume", "all writes in the trace")
-        return events
+        ran, calls = self.program.noted("run", script_of(lines))
+        same(ran.status, 0, "status of a run whose calls are noted: ")
+        if written(base, calls) != after:
+            raise Differs("calls of a run that don't explain its volume",
+                          "all writes among its calls")
+        return calls
 
 
 def explore(trial: Trial, program: Program, report: Report) -> None:
@@ -186,7 +191,6 @@ def explore(trial: Trial, program: Program, report: Report) -> None:
         base = program.volume.read_bytes()
         scripts.explore_run(trial, program, model, chance, chance.randint(5, LINES_MOST))
         model = stops.ask(base, trial.runs[-1], model)
-    report("scripts with stops")
 
 
 def replay(trial: Trial, program: Program, report: Report) -> None:
@@ -198,7 +202,6 @@ def replay(trial: Trial, program: Program, report: Report) -> None:
         model.begin_run()
         program.run_lines(model, lines)
         model = stops.ask(base, lines, model)
-    report("scripts with stops")
 
 
 CRASHES = Kind(explore, replay)

@@ -20,7 +20,8 @@ MORE_LINES = 15
 
 
 class Places(NamedTuple):
-    """Where damage counts: the bytes of a page, pages in use, and the bytes of the log that count."""
+    """Where damage counts: the bytes of a page, pages in use, and the bytes of the log that
+    count."""
 
     page_size: int
     pages: list[int]
@@ -41,12 +42,14 @@ def byte_of(chance: random.Random, places: Places, length: int) -> int:
     if kind < 0.08:
         return chance.randrange(64)
     if kind < 0.3 and places.log:
-        return places.page_size + chance.randrange(min(places.log, HEAD) if chance.random() < 0.4 else places.log)
+        return places.page_size + chance.randrange(min(places.log, HEAD) if chance.random() < 0.4
+                                                   else places.log)
     if kind < 0.95:
         reach = chance.choice((HEAD, HEAD, places.page_size))
         place = chance.randrange(reach)
         from_end = reach == HEAD and chance.random() < 0.2
-        return chance.choice(places.pages) * places.page_size + (places.page_size - 1 - place if from_end else place)
+        return chance.choice(places.pages) * places.page_size + (places.page_size - 1 - place
+                                                                 if from_end else place)
     return chance.randrange(length)
 
 
@@ -56,12 +59,14 @@ def harm(chance: random.Random, places: Places, length: int) -> Harm:
     if kind < 0.6:
         return ["flip", byte_of(chance, places, length), chance.randrange(8)]
     if kind < 0.85:
-        return ["set", byte_of(chance, places, length), chance.choice((0, 1, 2, 3, 4, 127, 255, chance.randrange(256)))]
+        return ["set", byte_of(chance, places, length),
+                chance.choice((0, 1, 2, 3, 4, 127, 255, chance.randrange(256)))]
     page = chance.choice([0, 1, *places.pages])
     if kind < 0.9:
         return ["zero", page * places.page_size, places.page_size]
     if kind < 0.97:
-        return ["swap", page * places.page_size, chance.choice(places.pages) * places.page_size, places.page_size]
+        return ["swap", page * places.page_size, chance.choice(places.pages) * places.page_size,
+                places.page_size]
     return ["cut", chance.choice((0, 31, chance.randrange(length), length - 1))]
 
 
@@ -86,15 +91,16 @@ def harmed(data: bytes, harms: list[Harm]) -> bytes:
 
 
 def ask(image: bytes, program: Program, chance: random.Random, report: Report) -> None:
-    """Holds what the program says of an image against the reader, and where both open it what they read."""
+    """Holds what the program says of an image against the reader, and where both open it what they
+    read."""
     program.volume.write_bytes(image)
     part, faults = reader_part(image)
     same(program.part(), part, f"part, where the reader finds {faults[:1]}: ")
     report("damaged images")
     if part:
         if chance.random() < 0.1:
-            ran = program.call("run", str(program.volume), given=b"space\n")
-            same((ran.returncode, ran.stdout), (BAD_VOLUME, b""), "run on a bad volume: ")
+            ran = program.call("run", given=b"space\n")
+            same((ran.status, ran.out), (BAD_VOLUME, b""), "run on a bad volume: ")
         return
     report("damaged images that open")
     model = model_of(image)
@@ -111,11 +117,13 @@ def explore(trial: Trial, program: Program, report: Report) -> None:
     chance = random.Random(trial.seed)
     model = scripts.new_model(trial, program)
     for _ in range(chance.randint(1, RUNS_MOST)):
-        scripts.explore_run(trial, program, model, chance, chance.randint(LINES_MOST // 2, LINES_MOST))
+        scripts.explore_run(trial, program, model, chance,
+                            chance.randint(LINES_MOST // 2, LINES_MOST))
     data = program.volume.read_bytes()
     places = places_of(data)
     for _ in range(IMAGES):
-        trial.harms = [harm(chance, places, len(data)) for _ in range(chance.choice((1, 1, 1, 2, 3)))]
+        trial.harms = [harm(chance, places, len(data))
+                       for _ in range(chance.choice((1, 1, 1, 2, 3)))]
         ask(harmed(data, trial.harms), program, random.Random(trial.seed), report)
 
 
@@ -125,7 +133,8 @@ def replay(trial: Trial, program: Program, report: Report) -> None:
     for lines in trial.runs:
         model.begin_run()
         program.run_lines(model, lines)
-    ask(harmed(program.volume.read_bytes(), trial.harms), program, random.Random(trial.seed), report)
+    ask(harmed(program.volume.read_bytes(), trial.harms), program, random.Random(trial.seed),
+        report)
 
 
 DAMAGE = Kind(explore, replay)

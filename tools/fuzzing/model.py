@@ -1,7 +1,7 @@
 """A model of a run over a plain table: it says of each reply whether it is the right one.
 
-What docs/RULES.md leaves to the volume (where a record lies, how many units are in use, how many pages an
-update touched) is taken from the replies, within the bounds that stand there.
+What docs/RULES.md leaves to the volume (where a record lies, how many units are in use, how many
+pages an update touched) is taken from the replies, within the bounds that stand there.
 """
 from __future__ import annotations
 
@@ -93,7 +93,7 @@ class Model:
             return same(reply, branches)
         if reply.startswith("no 23 "):
             return refusals.full(self, command, reply)
-        needs = refusals.needs(self, command)
+        needs = refusals.need_bounds(self, command)
         self._ask_room(command, reply, needs)
         changes.CHANGES[command.word](self, command.values, reply)
         self.updates += 1
@@ -104,7 +104,8 @@ class Model:
 
     def _ask_room(self, command: Command, reply: str, needs: list[Units]) -> None:
         """Asks that an update that was taken had the room that it needs, where that is known."""
-        if self.used is None or refusals.is_empty(command) or refusals.may_stay_small(self, command):
+        if (self.used is None or refusals.is_empty(command)
+                or refusals.may_stay_small(self, command)):
             return
         free = Units(self.sizes.pages - self.used.pages, self.sizes.segs - self.used.segs)
         if all(one.pages > free.pages or one.segs > free.segs for one in needs):
@@ -113,7 +114,8 @@ class Model:
     def most_after(self, needs: list[Units]) -> Units:
         """The units that may be in use after an update of one of these needs."""
         pages, segs = (max(of) for of in zip(*needs))
-        return Units(min(self.sizes.pages, self.most.pages + pages), min(self.sizes.segs, self.most.segs + segs))
+        return Units(min(self.sizes.pages, self.most.pages + pages),
+                     min(self.sizes.segs, self.most.segs + segs))
 
     def edited(self, found: Found, data: bytes) -> None:
         """Gives a version other bytes."""
@@ -122,7 +124,8 @@ class Model:
 
     def new_oid(self, reply: str, word: str) -> str:
         """The identifier of a new version, which lies where none is and has the next number."""
-        found = match(reply, f"ok {word} (([0-9]+)[.]([0-9]+))[.]{self.table.next_number}")
+        found = match(reply, f"ok {word} (([0-9]+)[.][0-9]+)[.]([0-9]+)")
+        same(found[3], str(self.table.next_number), "number of a version: ")
         if not self.sizes.has_page(int(found[2])) or found[1] in self.table.places():
             raise Differs(reply, "a place in the page area where no version lies")
         self.table.next_number += 1

@@ -5,7 +5,8 @@ from typing import NamedTuple
 
 from exsm.geometry import Geometry
 
-CHARGES = {"insert": 1, "append": 1, "replace": 1, "delete": 1, "create": 16, "freeze": 16, "derive": 16,
+CHARGES = {"insert": 1, "append": 1, "replace": 1, "delete": 1, "create": 16, "freeze": 16,
+           "derive": 16,
            "file": 2, "unfile": 2, "destroy": 16, "drop": 16}
 """Logged pages that an update touches at most."""
 

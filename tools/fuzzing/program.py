@@ -3,10 +3,9 @@ from __future__ import annotations
 
 import io
 import re
-import subprocess
 import threading
 from pathlib import Path
-from typing import Iterable
+from typing import Callable, Iterable
 
 from exsm.client import STATUS_NAMES, is_answered
 from exsm.geometry import Geometry
@@ -14,10 +13,9 @@ from exsm.opening import Opening
 from exsm.volume import Volume
 from fuzzing.differs import Differs, same
 from fuzzing.model import Model
+from fuzzing.outside import SECONDS, Ended, Late, Plan, Served, Started, Talk
 from fuzzing.table import Table
-
-SECONDS = 60
-"""How long a run of the program may take."""
+from fuzzing.trace import Call, calls_of
 
 BAD_VOLUME, DAMAGED = 6, 8
 
@@ -25,17 +23,30 @@ BAD_VOLUME, DAMAGED = 6, 8
 class Program:
     """The program, and the volume of a trial."""
 
-    def __init__(self, path: Path, volume: Path) -> None:
-        self.path, self.volume = path, volume
+    def __init__(self, runs: Started, volume: Path) -> None:
+        self.runs, self.volume = runs, volume
+        self.made: dict[Geometry, list[tuple[int, bytes]]] = {}
+        """Pages of volumes as they are made, by their sizes; all others have zeros."""
 
-    def call(self, *words: str, given: bytes = b"") -> subprocess.CompletedProcess[bytes]:
-        """Runs the program to its end; an end that no document names is a difference."""
+    def call(self, word: str, given: bytes = b"") -> Ended:
+        """Runs the program on the volume to its end, which must be one that a document names."""
+        return self.asked(word, lambda: self.runs.ended([word, str(self.volume)], given))
+
+    def noted(self, word: str, given: bytes = b"",
+              plan: Plan = Plan(noted=True)) -> tuple[Ended, list[Call]]:
+        """Runs the program on the volume to its end, with the calls that it made."""
+        runs = self.runs
+        assert isinstance(runs, Served)
+        ran = self.asked(word, lambda: runs.ended([word, str(self.volume)], given, plan))
+        return ran, calls_of(ran.notes)
+
+    def asked(self, word: str, run: Callable[[], Ended]) -> Ended:
+        """Makes a run to its end, which must be one that a document names."""
         try:
-            ran = subprocess.run([str(self.path), *words], input=given, capture_output=True, timeout=SECONDS,
-                                 check=False)
-        except subprocess.TimeoutExpired:
-            raise Differs(f"{words[0]} doesn't end", f"an end within {SECONDS} s") from None
-        self.ask_end(ran.returncode, ran.stderr)
+            ran = run()
+        except Late:
+            raise Differs(f"{word} doesn't end", f"an end within {SECONDS} s") from None
+        self.ask_end(ran.status, ran.errors)
         return ran
 
     @staticmethod
@@ -48,55 +59,68 @@ class Program:
             raise Differs(f"status {status}, {last}", f"a documented status, and {wanted} last")
 
     def format(self, sizes: Geometry) -> None:
-        """Makes the volume anew."""
+        """Makes the volume anew; one of sizes that were made before has the same pages."""
         self.volume.unlink(missing_ok=True)
-        ran = self.call("format", str(self.volume), *sizes.words())
-        same(ran.stdout, f"ok format {sizes.bytes}\n".encode())
+        if sizes not in self.made:
+            words = ["format", str(self.volume), *sizes.words()]
+            ran = self.asked("format", lambda: self.runs.once(words, b""))
+            same(ran.out, f"ok format {sizes.bytes}\n".encode())
+            data, zeros = self.volume.read_bytes(), bytes(sizes.page_size)
+            pages = ((at, data[at:at + len(zeros)]) for at in range(0, len(data), len(zeros)))
+            self.made[sizes] = [(at, page) for at, page in pages if page != zeros]
+            return
+        with open(self.volume, "wb") as file:
+            file.truncate(sizes.bytes)
+            for at, page in self.made[sizes]:
+                file.seek(at)
+                file.write(page)
 
     def run_lines(self, model: Model, lines: list[bytes]) -> None:
         """Runs lines in one piece, and holds each reply against the model."""
-        ran = self.call("run", str(self.volume), given=b"".join(line + b"\n" for line in lines))
-        hold(model, lines, ran.stdout)
-        same(ran.returncode, 0, "status ")
+        ran = self.call("run", given=script_of(lines))
+        hold(model, lines, ran.out)
+        same(ran.status, 0, "status ")
 
     def talk(self, model: Model, lines: Iterable[bytes], sent: list[bytes]) -> None:
-        """Sends lines one by one, each made once the reply to the one before is stepped; they are noted in `sent`."""
-        with subprocess.Popen([str(self.path), "run", str(self.volume)], stdin=subprocess.PIPE,
-                              stdout=subprocess.PIPE, stderr=subprocess.PIPE) as run:
-            timer = threading.Timer(SECONDS, run.kill)
-            timer.start()
-            try:
-                talk_to(run, model, lines, sent)
-                _, errors = run.communicate()
-            finally:
-                timer.cancel()
-                run.kill()
+        """Sends lines, each made once the reply to the one before is stepped; notes them."""
+        run = self.runs.talk(["run", str(self.volume)])
+        timer = threading.Timer(SECONDS, run.kill)
+        timer.start()
+        try:
+            talk_to(run, model, lines, sent)
+        finally:
+            ran = run.end()
+            timer.cancel()
         model.end_run()
-        same(run.returncode, 0, "status ")
-        self.ask_end(run.returncode, errors)
+        same((ran.status, ran.out), (0, b""), "status and last output ")
+        self.ask_end(ran.status, ran.errors)
 
     def part(self) -> str:
         """The part of the volume that the program refuses, or nothing where it opens."""
-        ran = self.call("check", str(self.volume))
-        if ran.returncode == 0:
+        ran = self.call("check")
+        if ran.status == 0:
             return ""
-        same(ran.returncode, BAD_VOLUME, "status of check: ")
-        found = re.search(rb"part (\w+)", ran.stderr)
+        same(ran.status, BAD_VOLUME, "status of check: ")
+        found = re.search(rb"part (\w+)", ran.errors)
         return found[1].decode() if found else "none is named"
 
 
-def talk_to(run: subprocess.Popen[bytes], model: Model, lines: Iterable[bytes], sent: list[bytes]) -> None:
+def script_of(lines: list[bytes]) -> bytes:
+    """The script of some lines."""
+    return b"".join(line + b"\n" for line in lines)
+
+
+def talk_to(run: Talk, model: Model, lines: Iterable[bytes], sent: list[bytes]) -> None:
     """Sends lines to a run."""
-    assert run.stdin and run.stdout
     for line in lines:
         sent.append(line)
         try:
-            run.stdin.write(line + b"\n")
-            run.stdin.flush()
+            run.given.write(line + b"\n")
+            run.given.flush()
         except BrokenPipeError:
-            raise Differs(f"the run ended with {run.wait()}", f"a reply to {line[:80]!r}") from None
+            raise Differs("the run ended", f"a reply to {line[:80]!r}") from None
         if is_answered(line):
-            reply = run.stdout.readline()
+            reply = run.replies.readline()
             step(model, line, reply.removesuffix(b"\n"), reply.endswith(b"\n"))
 
 
@@ -147,16 +171,19 @@ def compare(model: Model, data: bytes, is_space_known: bool) -> None:
         same(volume.geometry, model.sizes)
         if is_space_known:
             segs = sum(page >= volume.geometry.first_unit for page in volume.uses)
-            same(model.used, (len(volume.uses) - segs, segs), "units that `space` told, and the reader reached: ")
+            same(model.used, (len(volume.uses) - segs, segs),
+                 "units that `space` told, and the reader reached: ")
 
 
 def same_table(read: Table, wanted: Table) -> None:
-    """Asks that two tables have the same files and versions; the difference names the first that differ."""
+    """Asks that two tables have the same files and versions; the difference names the first that
+    differ."""
     if read.shown() == wanted.shown():
         return
     same(sorted(read.files), sorted(wanted.files), "files: ")
     for name, trees in read.files.items():
-        same(sorted(trees.all), sorted(wanted.files[name].all), f"numbers of the versions in {name}: ")
+        same(sorted(trees.all), sorted(wanted.files[name].all),
+             f"numbers of the versions in {name}: ")
         for number, version in trees.all.items():
             same(version, wanted.files[name].all[number], f"version {number} of {name}: ")
 

@@ -1,4 +1,5 @@
-"""When a line is refused, as docs/RULES.md has it: of the refusals that apply the one with the least number."""
+"""When a line is refused, as docs/RULES.md has it: of the refusals that apply the one with the
+least number."""
 from __future__ import annotations
 
 from typing import TYPE_CHECKING, Callable, Optional
@@ -18,7 +19,8 @@ SPENT = (1 << 64) - 1
 
 CATALOG_HEAD, CATALOG_ENTRY = 32, 48
 EDITS = ("insert", "append", "replace", "delete")
-OF_VERSION = ("destroy", "size", "stat", "digest", "read", *EDITS, "freeze", "derive", "versions", "drop", "scan")
+OF_VERSION = ("destroy", "size", "stat", "digest", "read", *EDITS, "freeze", "derive", "versions",
+              "drop", "scan")
 OF_FILE = ("unfile", "list", "create")
 
 
@@ -53,12 +55,14 @@ def transaction(model: Model, command: Command) -> Optional[str]:
     """Numbers 4 and 5."""
     if command.word in UPDATES or command.word in ("commit", "abort"):
         return when(model.working is None, "no 4 no_txn")
-    return when(command.word in ("begin", "checkpoint") and model.working is not None, "no 5 txn_open")
+    return when(command.word in ("begin", "checkpoint") and model.working is not None,
+                "no 5 txn_open")
 
 
 def no_name(model: Model, command: Command) -> Optional[str]:
     """Number 6."""
-    return when(command.word in OF_VERSION and model.oid_of(str(command.values[0])) is None, "no 6 no_name")
+    return when(command.word in OF_VERSION and model.oid_of(str(command.values[0])) is None,
+                "no 6 no_name")
 
 
 def name_taken(model: Model, command: Command) -> Optional[str]:
@@ -95,14 +99,16 @@ def of_version(model: Model, command: Command) -> Optional[str]:
 
 def not_empty(model: Model, command: Command) -> Optional[str]:
     """Number 14."""
-    return when(command.word == "unfile" and bool(model.table.files[str(command.values[0])].all), "no 14 not_empty")
+    return when(command.word == "unfile" and bool(model.table.files[str(command.values[0])].all),
+                "no 14 not_empty")
 
 
 def of_scans(model: Model, command: Command) -> Optional[str]:
     """Numbers 16 and 17."""
     if command.word in ("next", "close"):
         return when(command.values[0] not in model.scans, "no 16 no_scan")
-    return when(command.word == "scan" and command.values[2:] != [] and command.values[2] not in model.groups,
+    return when(command.word == "scan" and command.values[2:] != []
+                and command.values[2] not in model.groups,
                 "no 17 no_group")
 
 
@@ -123,7 +129,8 @@ def too_many(model: Model, command: Command) -> Optional[str]:
     """Number 20."""
     if command.word == "scan":
         return when(len(model.scans) >= SCANS_MOST, "no 20 too_many scans")
-    return when(command.word == "group" and len(model.groups) > GROUPS_MOST, "no 20 too_many groups")
+    return when(command.word == "group" and len(model.groups) > GROUPS_MOST,
+                "no 20 too_many groups")
 
 
 def ids_spent(model: Model, command: Command) -> Optional[str]:
@@ -143,7 +150,8 @@ def branches(model: Model, command: Command) -> Optional[str]:
 
 
 TESTS: list[Callable[[Model, Command], Optional[str]]] = [
-    data_limit, transaction, no_name, name_taken, of_files, of_version, not_empty, of_scans, of_range, too_many,
+    data_limit, transaction, no_name, name_taken, of_files, of_version, not_empty, of_scans,
+    of_range, too_many,
     ids_spent]
 
 
@@ -155,23 +163,38 @@ def long_transaction(model: Model, command: Command, reply: str) -> None:
     touched, charge = int(found[1]), CHARGES[command.word]
     is_known = model.touched_least <= touched <= model.touched_most
     if not is_known or not (model.updates == UPDATES_MOST or touched + charge > TOUCHED_MOST):
-        raise Differs(reply, f"{model.touched_least} to {model.touched_most} pages touched, charge {charge}")
+        raise Differs(reply,
+                      f"{model.touched_least} to {model.touched_most} pages touched, charge "
+                      f"{charge}")
     model.touched_least = model.touched_most = touched
+
+
+def heights_of(model: Model, command: Command) -> range:
+    """The heights that the object of an update may have."""
+    if command.word not in EDITS:
+        return HEIGHTS[:1]
+    known = model.table.heights.get(model.find(str(command.values[0])).number)
+    return HEIGHTS if known is None else HEIGHTS[known:known + 1]
 
 
 def needs(model: Model, command: Command) -> list[Units]:
     """What an update needs, by each height that its object may have."""
-    if command.word not in EDITS:
-        return [need(command.word, 0, 0, model.sizes)]
-    number = model.find(str(command.values[0])).number
-    known = model.table.heights.get(number)
-    heights = HEIGHTS if known is None else [known]
-    return [need(command.word, given(command), height, model.sizes) for height in heights]
+    length = given(command) if command.word in EDITS else 0
+    heights = heights_of(model, command)
+    return [need(command.word, length, height, model.sizes) for height in heights]
+
+
+def need_bounds(model: Model, command: Command) -> list[Units]:
+    """The least and the greatest need of an update: a higher tree needs no less."""
+    length, heights = given(command) if command.word in EDITS else 0, heights_of(model, command)
+    return [need(command.word, length, height, model.sizes) for height in (heights[0], heights[-1])]
 
 
 def may_stay_small(model: Model, command: Command) -> bool:
     """Whether an edit may be one of a small object that stays small, which needs nothing."""
-    return command.word in EDITS and model.find(str(command.values[0])).number not in model.table.large
+    if command.word not in EDITS:
+        return False
+    return model.find(str(command.values[0])).number not in model.table.large
 
 
 def full(model: Model, command: Command, reply: str) -> None:
@@ -184,8 +207,10 @@ def full(model: Model, command: Command, reply: str) -> None:
     wanted = needs(model, command)
     is_need = told_need in [getattr(one, area) for one in wanted]
     is_later = area == "pages" or model.used is None or any(
-        one.segs == told_need and one.pages <= model.sizes.pages - model.used.pages for one in wanted)
+        one.segs == told_need and one.pages <= model.sizes.pages - model.used.pages
+        for one in wanted)
     if is_empty(command) or not (is_free and is_need and is_later and told_need > free):
-        raise Differs(reply, f"a need of {wanted[0]} to {wanted[-1]}, at least {least} free {area}, "
+        raise Differs(reply,
+                      f"a need of {wanted[0]} to {wanted[-1]}, at least {least} free {area}, "
                       f"{model.used} in use")
     model.only(**{area: total - free})

@@ -29,7 +29,8 @@ def new_model(trial: Trial, program: Program) -> Model:
     return Model(trial.sizes, Table({}, 1), 0)
 
 
-def explore_run(trial: Trial, program: Program, model: Model, chance: random.Random, count: int) -> None:
+def explore_run(trial: Trial, program: Program, model: Model, chance: random.Random,
+                count: int) -> None:
     """Makes a run of a trial as it is run."""
     model.begin_run()
     sent: list[bytes] = []
@@ -51,8 +52,8 @@ def explore(trial: Trial, program: Program, report: Report) -> None:
         count = LONG_LINES if chance.random() < 0.02 else chance.randint(1, LINES_MOST)
         explore_run(trial, program, model, chance, count)
         ask_volume(program, model)
-        report("runs")
-    report("scripts")
+        report("scripts")
+    report("volumes")
 
 
 def replay(trial: Trial, program: Program, report: Report) -> None:
@@ -62,8 +63,8 @@ def replay(trial: Trial, program: Program, report: Report) -> None:
         model.begin_run()
         program.run_lines(model, lines)
         ask_volume(program, model)
-        report("runs")
-    report("scripts")
+        report("scripts")
+    report("volumes")
 
 
 SCRIPTS = Kind(explore, replay)

@@ -73,7 +73,8 @@ class Shrinker:
             pass
 
     def drop_lines(self, index: int, most: int) -> bool:
-        """Drops as many lines that stand together as can be spared of a run, from the last ones on."""
+        """Drops as many lines that stand together as can be spared of a run, from the last ones
+        on."""
         dropped = False
         for start in reversed(range(0, len(self.trial.runs[index]), most)):
             run = self.trial.runs[index]

@@ -19,8 +19,8 @@ class Found(NamedTuple):
 class Table:
     """Files by their names, and the next number of a version.
 
-    What `stat` or the reader told of a version is kept until the version is edited: its height, and whether it is
-    large, which it stays.
+    What `stat` or the reader told of a version is kept until the version is edited: its height, and
+    whether it is large, which it stays.
     """
 
     def __init__(self, files: dict[str, Trees], next_number: int) -> None:
@@ -36,7 +36,8 @@ class Table:
         for name, records in volume.versions.items():
             numbers = {record.place: record.unique for record in records}
             files[name] = Trees({record.unique: Version(
-                record.oid, record.frozen, None if record.older == NOWHERE else numbers[record.older],
+                record.oid, record.frozen,
+                None if record.older == NOWHERE else numbers[record.older],
                 volume.bytes_of(record)) for record in records})
             table.heights.update({record.unique: record.height or 0 for record in records})
             table.large.update(record.unique for record in records if record.height is not None)
@@ -44,7 +45,8 @@ class Table:
 
     def copy(self) -> Table:
         """A table that changes by itself."""
-        other = Table({name: Trees(trees.all) for name, trees in self.files.items()}, self.next_number)
+        other = Table({name: Trees(trees.all) for name, trees in self.files.items()},
+                      self.next_number)
         other.heights, other.large = dict(self.heights), set(self.large)
         return other
 
@@ -59,7 +61,8 @@ class Table:
 
     def places(self) -> set[str]:
         """Where the records of all versions lie, as identifiers without the number."""
-        return {version.oid.rsplit(".", 1)[0] for trees in self.files.values() for version in trees.all.values()}
+        return {version.oid.rsplit(".", 1)[0] for trees in self.files.values()
+                for version in trees.all.values()}
 
     def forget(self, number: int) -> None:
         """Drops what was told of the height of a version."""

@@ -25,7 +25,8 @@ class NoTrial(Exception):
 
 @dataclass
 class Trial:
-    """The scripts that are run on a new volume, one after the other, and the damage that is done then."""
+    """The scripts that are run on a new volume, one after the other, and the damage that is done
+    then."""
 
     kind: str
     seed: str
@@ -36,7 +37,8 @@ class Trial:
 
     def text(self) -> str:
         """The trial as a file has it; a byte of a line is a character."""
-        return json.dumps({"about": self.about, "kind": self.kind, "seed": self.seed, "sizes": vars(self.sizes),
+        return json.dumps({"about": self.about, "kind": self.kind, "seed": self.seed,
+                           "sizes": vars(self.sizes),
                            "runs": [[line.decode("latin-1") for line in run] for run in self.runs],
                            "harms": self.harms}, indent=1) + "\n"
 
@@ -55,12 +57,15 @@ class Trial:
 class Kind(NamedTuple):
     """How trials of a kind are made, and how one is done again.
 
-    `explore` makes a trial from its seed while it does it, and `replay` does one that is written down. Each
-    raises `Differs` where something differs, and the trial has then all that led to it.
+    `explore` makes a trial from its seed while it does it, and `replay` does one that is written
+    down. Each raises `Differs` where something differs, and the trial has then all that led to it.
+    `widened` gives a trial that is tried in more ways, so that it may differ still where it is made
+    smaller.
     """
 
     explore: Callable[[Trial, Program, Report], None]
     replay: Callable[[Trial, Program, Report], None]
+    widened: Callable[[Trial], Trial] = lambda trial: trial
 
 
 def done(step: Callable[[Trial, Program, Report], None], trial: Trial, program: Program,
@@ -70,6 +75,7 @@ def done(step: Callable[[Trial, Program, Report], None], trial: Trial, program: 
         step(trial, program, report)
     except Differs as differs:
         return differs
-    except (BadVolume, AssertionError, struct.error, ArithmeticError, LookupError, ValueError, RecursionError) as fault:
+    except (BadVolume, AssertionError, struct.error, ArithmeticError, LookupError, ValueError,
+            RecursionError) as fault:
         return Differs(f"the reader or the model fails: {fault!r}", "no fault of theirs")
     return None

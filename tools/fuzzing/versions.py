@@ -7,7 +7,8 @@ from typing import Optional
 
 @dataclass(frozen=True)
 class Version:
-    """A version as a user sees it: by its number, with the number of the one that it is derived from."""
+    """A version as a user sees it: by its number, with the number of the one that it is derived
+    from."""
 
     oid: str
     frozen: bool
@@ -27,7 +28,8 @@ class Trees:
         self.all = dict(versions or {})
 
     def derived(self, number: Optional[int]) -> list[int]:
-        """The versions derived from one, in order of their numbers; from None the first of each object."""
+        """The versions derived from one, in order of their numbers; from None the first of each
+        object."""
         return sorted(it for it, version in self.all.items() if version.older == number)
 
     def listed(self, number: int) -> list[str]:
@@ -72,6 +74,7 @@ class Trees:
             return "no 13 current"
         if word not in ("derive", "drop") and version.frozen:
             return "no 12 frozen"
-        if word == "destroy" and version.older is not None and len(self.derived(version.older)) == 1:
+        is_alone = version.older is not None and len(self.derived(version.older)) == 1
+        if word == "destroy" and is_alone:
             return "no 15 has_versions"
         return f"no 24 branches {derived}" if word == "drop" and derived > 1 else None

@@ -11,14 +11,18 @@ from fuzzing.refusals import OF_VERSION
 from fuzzing.versions import Version
 
 WORDS = {
-    "file": 4, "unfile": 1, "create": 8, "destroy": 2, "insert": 12, "append": 12, "replace": 8, "delete": 8,
-    "freeze": 6, "derive": 5, "drop": 3, "read": 3, "size": 1, "stat": 4, "digest": 2, "list": 2, "files": 1,
-    "versions": 3, "space": 6, "log": 1, "group": 1, "scan": 3, "next": 4, "close": 2, "begin": 3, "commit": 4,
+    "file": 4, "unfile": 1, "create": 8, "destroy": 2, "insert": 12, "append": 12, "replace": 8,
+    "delete": 8,
+    "freeze": 6, "derive": 5, "drop": 3, "read": 3, "size": 1, "stat": 4, "digest": 2, "list": 2,
+    "files": 1,
+    "versions": 3, "space": 6, "log": 1, "group": 1, "scan": 3, "next": 4, "close": 2, "begin": 3,
+    "commit": 4,
     "abort": 1, "checkpoint": 1, "noise": 2}
 """The commands, by how often a line is of one."""
 
 STYLES: list[dict[str, int]] = [
-    {}, {}, {"freeze": 4, "derive": 4, "drop": 4, "destroy": 4}, {"append": 3, "insert": 3, "commit": 2},
+    {}, {}, {"freeze": 4, "derive": 4, "drop": 4, "destroy": 4},
+    {"append": 3, "insert": 3, "commit": 2},
     {"scan": 30, "group": 60, "close": 0}, {"create": 4, "file": 3, "commit": 0}]
 """Runs of which some commands are more often than in others, or not at all."""
 
@@ -26,10 +30,13 @@ LONG_STYLE = {"commit": 0, "abort": 0, "create": 3, "unfile": 3}
 
 FILES = ["a", "b", "c", "docs", "main", "x" * 32]
 MANY_FILES = [f"f{index}" for index in range(12)]
-NOISE = [b"", b"#", b" \t", b"begin now", b"commit\r", b"\tfiles ", b"read @x 0", b"append @x hex:0", b"frobnicate",
-         b"\xff\xfe", b"file A", b"file " + b"y" * 33, b"size 1.2", b"size 99999999999.0.1", b"list a\r\r",
+NOISE = [b"", b"#", b" \t", b"begin now", b"commit\r", b"\tfiles ", b"read @x 0",
+         b"append @x hex:0", b"frobnicate",
+         b"\xff\xfe", b"file A", b"file " + b"y" * 33, b"size 1.2", b"size 99999999999.0.1",
+         b"list a\r\r",
          b"insert @n1 18446744073709551616 hex:00", b"append @n1 rep:16777217:00", b"group g 0 lru",
-         b"group g 1025 mru", b"scan @n1 as s in none", b"read @n1 0 16777217", b"next s0 16777217", b"files\0"]
+         b"group g 1025 mru", b"scan @n1 as s in none", b"read @n1 0 16777217", b"next s0 16777217",
+         b"files\0"]
 LONGEST, LONGEST_SHARE = b"#" * (LINE_MOST + 1), 0.02
 """A line that is over its limit, and the share of it among lines that are no command."""
 
@@ -38,7 +45,8 @@ PAGE_SIZES = (512, 512, 512, 512, 512, 1024, 1024, 4096)
 
 
 def sizes(chance: random.Random, bytes_most: int) -> Geometry:
-    """The sizes of a volume of at most so many bytes: most are small, and some have no room for many updates."""
+    """The sizes of a volume of at most so many bytes: most are small, and some have no room for
+    many updates."""
     while True:
         pages, segs = chance.choice(((20, 8), (64, 16), (100, 60), (400, 300), (400, 300)))
         seg_len, fan = chance.choice((1, 1, 2, 3)), chance.choice((2, 2, 3, 5))
@@ -116,11 +124,13 @@ class Writer:
         name = self.version()
         found = self.model.table.find(self.model.oid_of(name) or "0.0.0")
         size = len(found.version.data) if found else 0
-        place = self.chance.choice((0, size, self.chance.randint(0, size), self.chance.randint(0, size)))
+        place = self.chance.choice((0, size, self.chance.randint(0, size),
+                                    self.chance.randint(0, size)))
         room = size - place
         length = self.chance.randint(0, self.chance.choice(LENGTHS))
         if word in ("replace", "delete", "read") and self.chance.random() < 0.95:
-            length = self.chance.choice((min(length, room), min(length, room), self.chance.randint(0, room)))
+            length = self.chance.choice((min(length, room), min(length, room),
+                                         self.chance.randint(0, room)))
         if self.chance.random() < 0.03:
             place += 1
         if word in ("delete", "read"):
@@ -140,7 +150,8 @@ class Writer:
         """A line on scans and groups."""
         if word == "group":
             frames = self.chance.choice((1, 2, 8, 1024))
-            return f"group g{self.chance.randrange(90)} {frames} {self.chance.choice(('lru', 'mru'))}"
+            rule = self.chance.choice(("lru", "mru"))
+            return f"group g{self.chance.randrange(90)} {frames} {rule}"
         if word == "scan":
             there = [f" in {it}" for it in sorted(self.model.groups)]
             group = self.chance.choice(["", "", " in g1", *there])
@@ -148,7 +159,9 @@ class Writer:
             return f"scan {name} as s{self.chance.randrange(self.scans)}{group}"
         opened = sorted(self.model.scans)
         name = self.chance.choice(opened if opened and self.chance.random() < 0.9 else ["s0", "s9"])
-        return f"close {name}" if word == "close" else f"next {name} {self.chance.choice((0, 1, 100, 700, 5000))}"
+        if word == "close":
+            return f"close {name}"
+        return f"next {name} {self.chance.choice((0, 1, 100, 700, 5000))}"
 
     def last_lines(self) -> list[bytes]:
         """Lines that end a run so that the units in use are those of the committed table."""
