@@ -9,10 +9,19 @@ _exsm_files_here() {                              # offers names of files
     mapfile -t COMPREPLY < <(compgen -f -- "${COMP_WORDS[COMP_CWORD]}")
 }
 
+_exsm_kept() {                                    # offers names that a volume keeps; a reader of its bytes tells them
+    local name word="${COMP_WORDS[COMP_CWORD]//\\/}"
+    compopt -o filenames
+    COMPREPLY=()
+    while IFS= read -r -d '' name; do
+        [[ "$name" == "$word"* ]] && COMPREPLY+=("$name")
+    done < <(exsm_volume.py "${COMP_WORDS[1]}" list -0 2>/dev/null)
+}
+
 _exsm() {
     case $COMP_CWORD in
-    1) _exsm_offer "format run check gen" ;;
-    2) _exsm_files_here ;;
+    1) _exsm_offer "format run check gen clients help --help --version" ;;
+    2) if [ "${COMP_WORDS[1]}" = help ]; then _exsm_offer "format run check gen clients"; else _exsm_files_here; fi ;;
     *)
         if [ "${COMP_WORDS[COMP_CWORD - 1]}" = --page-size ]; then
             _exsm_offer "512 1024 2048 4096 8192"
@@ -20,7 +29,7 @@ _exsm() {
         fi
         case "${COMP_WORDS[1]}" in
         format) _exsm_offer "--page-size --pages --segs --seg-len --fan" ;;
-        run) _exsm_offer "--max-bytes" ;;
+        run | clients) _exsm_offer "--max-bytes" ;;
         gen) _exsm_offer "--seed --count" ;;
         esac
         ;;
@@ -28,21 +37,30 @@ _exsm() {
 }
 
 _exsm_new() {
-    if [ "$COMP_CWORD" = 1 ]; then _exsm_files_here; else _exsm_offer "80M 1G 16G"; fi
+    case "${COMP_WORDS[COMP_CWORD - 1]}" in
+    --for) _exsm_offer "mixed large small" && return ;;
+    esac
+    if [ "$COMP_CWORD" = 1 ]; then _exsm_files_here; else _exsm_offer "80M 1G 16G --for"; fi
 }
 
 _exsm_files() {
     case $COMP_CWORD in
     1) _exsm_files_here ;;
-    2) _exsm_offer "put get ls mv rm" ;;
-    *) _exsm_files_here ;;
+    2) _exsm_offer "put get ls verify mv rm" ;;
+    *)
+        case "${COMP_WORDS[2]}:${COMP_WORDS[COMP_CWORD - 1]}" in
+        put:* | get:-d | get:--folder) _exsm_files_here ;;
+        *) _exsm_kept ;;
+        esac
+        ;;
     esac
 }
 
 _exsm_versions() {
     case $COMP_CWORD in
     1) _exsm_files_here ;;
-    2) _exsm_offer "tree name unname freeze diff" ;;
+    2) _exsm_offer "tree name unname freeze diff back" ;;
+    *) _exsm_kept ;;
     esac
 }
 
@@ -53,8 +71,13 @@ _exsm_volume() {
     esac
 }
 
+_exsm_serve() {
+    if [ "$COMP_CWORD" -le 2 ]; then _exsm_files_here; else _exsm_offer "--idle --wait"; fi
+}
+
 complete -F _exsm exsm
 complete -F _exsm_new exsm_new.py
+complete -F _exsm_serve exsm_serve.py
 complete -F _exsm_files exsm_files.py
 complete -F _exsm_volume exsm_volume.py
 complete -F _exsm_versions exsm_versions.py

@@ -13,10 +13,21 @@ parts="$here/tools"
 if [ ! -x "$parts/program" ]; then
     parts="$here/../lib/exsm"
 fi
-case "${1-}" in
-help | --help | -h) exec cat "$parts/usage.txt" ;;
---version) exec cat "$parts/version.txt" ;;
-esac
+. "$parts/words.sh"
+if asks_help "$@"; then
+    tell_help "$parts/usage.txt" "$(helped_command "$@")"
+    exit
+fi
+if [ "${1-}" = --version ]; then
+    exec cat "$parts/version.txt"
+fi
+if is_unknown "$@"; then
+    run_unknown "$parts/program" "$@"
+    exit
+fi
+if [ "${1-}" = gen ]; then
+    agrees_to_gen "$parts/program" "$@" || exit
+fi
 # A write past the limit of a file's size (ulimit -f) is refused, which the run tells, where its signal is held off.
 trap '' XFSZ
 exec "$parts/program" "$@"

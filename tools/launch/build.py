@@ -1,6 +1,8 @@
-"""Builds the program: `rt all` proves the crates that it stands on beside each other, and `rt run` builds it.
+"""Builds the program: `rt all` proves the crates that it stands on beside each other, and `rt run`
+builds it.
 
-The scheduling, the locks and what stays of a build that was stopped are rt's own; what is here tells how far it is.
+The scheduling, the locks and what stays of a build that was stopped are rt's own; what is here
+tells how far it is.
 """
 from __future__ import annotations
 
@@ -52,12 +54,14 @@ def lanes() -> int:
     quota = QUOTA.read_text(encoding="ascii").split() if QUOTA.is_file() else ["max"]
     if quota[0] != "max":
         found = min(found, max(int(quota[0]) // int(quota[1]), 1))
-    free = re.search(r"^MemAvailable: +(\d+) kB", Path("/proc/meminfo").read_text(encoding="ascii"), re.M)
+    free = re.search(r"^MemAvailable: +(\d+) kB", Path("/proc/meminfo").read_text(encoding="ascii"),
+                     re.M)
     return max(min(found, int(free[1]) * 1024 // MEMORY_OF_PROOF), 1) if free else found
 
 
 class Blocks:
-    """What `rt all` says: a block for each crate that is done, begun by `== NAME`, and last a summary."""
+    """What `rt all` says: a block for each crate that is done, begun by `== NAME`, and last a
+    summary."""
 
     def __init__(self) -> None:
         self.logs: dict[str, list[str]] = {}
@@ -82,8 +86,8 @@ class Blocks:
 
 
 class Progress:
-    """Tells how many crates are proved and about how long the others take: one line that stands in a
-    terminal, else a line for each crate."""
+    """Tells how many crates are proved and about how long the others take: one line that stands in
+    a terminal, else a line for each crate."""
 
     def __init__(self, forecast: Forecast, names: set[str]) -> None:
         self.forecast, self.names = forecast, names
@@ -104,7 +108,8 @@ class Progress:
         now = time.monotonic()
         left = self.forecast.left(self.done, self.last - self.began, now - self.began)
         count, most = len(self.done), len(self.names)
-        return f"{count} of {most} crates proved, {most - count} left, {minutes(left)} ({(now - self.began) / 60:.0f} min so far)"
+        return (f"{count} of {most} crates proved, {most - count} left, {minutes(left)} "
+                f"({(now - self.began) / 60:.0f} min so far)")
 
     def show(self) -> None:
         """Writes the line anew that stands in a terminal."""
@@ -140,7 +145,8 @@ def lines_of(process: subprocess.Popen[str]) -> Iterator[str | None]:
 
 
 class Run:
-    """A command of rt in the program's folder, whose lines go to the log. It ends when this ends."""
+    """A command of rt in the program's folder, whose lines go to the log. It ends when this
+    ends."""
 
     def __init__(self, log: TextIO, *words: str) -> None:
         self.log = log
@@ -174,7 +180,8 @@ def prove(log: TextIO, count: int) -> bool:
     progress, blocks = Progress(forecast, {it.name for it in crates}), Blocks()
     beside = f", {count} beside each other" if count > 1 else ""
     say(f"{len(crates) - len(kept)} of {len(crates)} crates are to be proved{beside}, "
-        f"{minutes(forecast.whole)} on a machine like that of docs/GATE.md; a look through all sources comes first")
+        f"{minutes(forecast.whole)} on a machine like that of docs/GATE.md; a look through all "
+        f"sources comes first")
     run = Run(log, "all", "check", "--jobs", str(count))
     try:
         for line in run.lines():
@@ -188,7 +195,8 @@ def prove(log: TextIO, count: int) -> bool:
     except Stopped:
         run.stop()
         progress.clear()
-        say(f"stopped: {len(progress.done)} of {len(crates)} crates are proved, which stays; call it again to go on there")
+        say(f"stopped: {len(progress.done)} of {len(crates)} crates are proved, which stays; call "
+            f"it again to go on there")
         raise
     finally:
         progress.clear()
@@ -221,7 +229,8 @@ def link(log: TextIO) -> bool:
         say("stopped: all crates are proved, which stays; call it again to build the program")
         raise
     run.end()
-    # Without words the program ends with its status for wrong usage, and says so last: then it was built.
+    # Without words the program ends with its status for wrong usage, and says so last: then it was
+    # built.
     if os.access(BUILT, os.X_OK) and said[-1:] == [USAGE]:
         return True
     print("\n".join(said[-LINES_SHOWN:]), file=sys.stderr)
@@ -252,11 +261,13 @@ def stop(_number: int, _frame: FrameType | None) -> None:
 def build(why: str) -> int:
     """Builds the program for a reason, and gives the exit status."""
     if shutil.which("rt") is None:
-        say(f"{why}, and rt isn't on PATH to build it: it comes with the Rattle kit (README, \"Build\")")
+        say(f"{why}, and rt isn't on PATH to build it: it comes with the Rattle kit (README, "
+            f"\"Build\")")
         return 1
     for number in (signal.SIGINT, signal.SIGTERM, signal.SIGHUP):
         signal.signal(number, stop)
-    say(f"building, since {why}. What was proved stays, so the build may be stopped and begun again")
+    say(f"building, since {why}. What was proved stays, so the build may be stopped and begun "
+        f"again")
     LOG.parent.mkdir(parents=True, exist_ok=True)
     try:
         with in_turn(), open(LOG, "w", encoding="utf-8") as log:

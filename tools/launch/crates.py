@@ -17,29 +17,34 @@ FIGURES = TOP / "docs" / "GATE.md"
 PARTS = ("src", "specs", "proofs")
 # The seconds of a proof that has no figure.
 UNKNOWN = 60.0
-# As many seconds at the pace of docs/GATE.md stand beside what this machine took so far, so that the first crates say little.
+# As many seconds at the pace of docs/GATE.md stand beside what this machine took so far, so that
+# the first crates say little.
 PRIOR = 300.0
 
 
 @dataclass(frozen=True)
 class Crate:
-    """A crate of crates.txt, all that it stands on, and the processor seconds of its proof in docs/GATE.md."""
+    """A crate of crates.txt, all that it stands on, and the processor seconds of its proof in
+    docs/GATE.md."""
 
     name: str
     below: tuple[str, ...]
     seconds: float
 
     def is_kept(self) -> bool:
-        """Whether an earlier build is likely to have left its library, by times; rt goes by the texts."""
+        """Whether an earlier build is likely to have left its library, by times; rt goes by the
+        texts."""
         stamp = TOP / "crates" / self.name / "out" / "rlib" / "stamp"
         texts = (file for name in (*self.below, self.name) for file in texts_of(name))
-        return stamp.is_file() and all(file.stat().st_mtime <= stamp.stat().st_mtime for file in texts)
+        return stamp.is_file() and all(file.stat().st_mtime <= stamp.stat().st_mtime
+                                       for file in texts)
 
 
 @functools.lru_cache(maxsize=None)
 def texts_of(name: str) -> list[Path]:
     """The files of a crate that its proof reads."""
-    return [it for part in PARTS for it in (TOP / "crates" / name / part).rglob("*") if it.is_file()]
+    return [it for part in PARTS for it in (TOP / "crates" / name / part).rglob("*")
+            if it.is_file()]
 
 
 def named() -> dict[str, list[str]]:
@@ -58,7 +63,8 @@ def figures() -> dict[str, float]:
 
 
 def crates_of_program() -> list[Crate]:
-    """The program and all crates below it, those with fewest crates below them first, as `rt all` takes them."""
+    """The program and all crates below it, those with fewest crates below them first, as `rt all`
+    takes them."""
     names, seconds = named(), figures()
     below: dict[str, tuple[str, ...]] = {}
 
@@ -75,8 +81,9 @@ def crates_of_program() -> list[Crate]:
 
 
 class Forecast:
-    """How long a build is likely to take. It plays through how `rt all` takes the crates, with the seconds
-    of docs/GATE.md, and stretches what is left by how much longer this machine took so far."""
+    """How long a build is likely to take. It plays through how `rt all` takes the crates, with the
+    seconds of docs/GATE.md, and stretches what is left by how much longer this machine took so
+    far."""
 
     def __init__(self, crates: Iterable[Crate], lanes: int, kept: Collection[str] = ()) -> None:
         self.seconds = {it.name: 0.0 if it.name in kept else it.seconds for it in crates}
@@ -99,7 +106,8 @@ class Forecast:
         return self.whole
 
     def left(self, done: Collection[str], then: float, now: float) -> float:
-        """The seconds that are left now, where these crates were done then, in seconds since the build began."""
+        """The seconds that are left now, where these crates were done then, in seconds since the
+        build began."""
         reached = self.reached(done) if done else 0.0
         pace = (then + PRIOR) / (reached + PRIOR)
         return max((self.whole - reached) * pace - (now - then), 0.0)

@@ -1,4 +1,5 @@
-"""Measures what a newcomer waits for: the look before any proof, and the first build, in a clone where nothing is kept."""
+"""Measures what a newcomer waits for: the look before any proof, and the first build, in a clone
+where nothing is kept."""
 from __future__ import annotations
 
 import os
@@ -21,7 +22,8 @@ FORECAST_FOR = (1, 2, 4, 8)
 # Where rt keeps what it proved, beside the kit.
 STORE = "rattle-kept"
 # What the first lines of README's session are answered.
-MADE, CHECKED = b"ok format 84938752\n", b"ok check last 0 files 0 objects 0 versions 0 pages 1 segs 0\n"
+MADE = b"ok format 84938752\n"
+CHECKED = b"ok check last 0 files 0 objects 0 versions 0 pages 1 segs 0\n"
 
 
 class Unmeasured(Exception):
@@ -38,8 +40,9 @@ class Figures:
 
 
 def second_kit(folder: Path) -> Path:
-    """Makes a kit that keeps what it proves in a folder of its own: rt keeps it beside the kit that its text lies in, so that is a
-    copy, and all else leads to the kit on the path. Gives the folder for the path."""
+    """Makes a kit that keeps what it proves in a folder of its own: rt keeps it beside the kit that
+    its text lies in, so that is a copy, and all else leads to the kit on the path. Gives the folder
+    for the path."""
     rt = shutil.which("rt")
     if rt is None:
         raise Unmeasured("rt isn't on PATH: it comes with the Rattle kit (README, \"Build\")")
@@ -55,7 +58,8 @@ def second_kit(folder: Path) -> Path:
     return second / "bin"
 
 
-def on(processors: int, words: list[str], folder: Path, path: Path, **given: object) -> subprocess.Popen[bytes]:
+def on(processors: int, words: list[str], folder: Path, path: Path,
+       **given: object) -> subprocess.Popen[bytes]:
     """Starts a command that may use so many processors."""
     first = sorted(os.sched_getaffinity(0))[:processors]
     return subprocess.Popen(  # type: ignore[call-overload]
@@ -69,11 +73,14 @@ def try_session(processors: int, clone: Path, path: Path) -> float:
     words = (crate / "args").read_text(encoding="utf-8").split()
     began = time.monotonic()
     with open(crate / "stdin", "rb") as script:
-        run = on(processors, [str(clone / "exsm"), "try", *words], crate / "data", path, stdin=script, stdout=subprocess.PIPE)
+        run = on(processors, [str(clone / "exsm"), "try", *words], crate / "data", path,
+                 stdin=script, stdout=subprocess.PIPE)
         replies, _ = run.communicate()
     seconds = time.monotonic() - began
     if run.returncode or replies != (crate / "stdout").read_bytes():
-        raise Unmeasured(f"./exsm try {' '.join(words)} ended with status {run.returncode}, and not as the stored session")
+        raise Unmeasured(
+            f"./exsm try {' '.join(words)} ended with status {run.returncode}, and not as the "
+            f"stored session")
     return seconds
 
 
@@ -85,7 +92,9 @@ def build(processors: int, clone: Path, path: Path) -> float:
         while run.poll() is None:
             time.sleep(0.2)
             if not store.is_dir() and any(clone.glob("crates/*/out/rlib/stamp")):
-                raise Unmeasured(f"this kit keeps what it proves elsewhere than in {store}: it wants a machine where nothing is kept")
+                raise Unmeasured(
+                    f"this kit keeps what it proves elsewhere than in {store}: it wants a machine "
+                    f"where nothing is kept")
     finally:
         if run.poll() is None:
             run.terminate()
@@ -93,7 +102,8 @@ def build(processors: int, clone: Path, path: Path) -> float:
     if run.returncode:
         raise Unmeasured(f"./exsm build ended with status {run.returncode}")
     for words, reply in ((["format", "v"], MADE), (["check", "v"], CHECKED)):
-        said = on(processors, [str(clone / "exsm"), *words], clone, path, stdout=subprocess.PIPE).communicate()[0]
+        said = on(processors, [str(clone / "exsm"), *words], clone, path,
+                  stdout=subprocess.PIPE).communicate()[0]
         if said != reply:
             raise Unmeasured(f"./exsm {' '.join(words)} answered {said!r}")
     return time.monotonic() - began
@@ -105,14 +115,18 @@ def measure(processors: int) -> Figures:
         clone = Path(room) / "exsm"
         subprocess.run(["git", "clone", "-q", "--no-hardlinks", str(TOP), str(clone)], check=True)
         path = second_kit(Path(room))
-        return Figures(processors, try_session(processors, clone, path), build(processors, clone, path))
+        return Figures(processors, try_session(processors, clone, path),
+                       build(processors, clone, path))
 
 
 def machine() -> str:
     """The machine in words: its processor, its memory, and how much else it did."""
-    model = re.search(r"^model name\s*: (.*)$", Path("/proc/cpuinfo").read_text(encoding="utf-8"), re.M)
-    memory = re.search(r"^MemTotal: +(\d+) kB", Path("/proc/meminfo").read_text(encoding="ascii"), re.M)
-    return f"{model[1] if model else os.uname().machine}, {int(memory[1]) / (1 << 20) if memory else 0:.0f} GiB of memory"
+    model = re.search(r"^model name\s*: (.*)$", Path("/proc/cpuinfo").read_text(encoding="utf-8"),
+                      re.M)
+    memory = re.search(r"^MemTotal: +(\d+) kB", Path("/proc/meminfo").read_text(encoding="ascii"),
+                       re.M)
+    room = int(memory[1]) / (1 << 20) if memory else 0
+    return f"{model[1] if model else os.uname().machine}, {room:.0f} GiB of memory"
 
 
 def spent(seconds: float) -> str:
@@ -122,11 +136,14 @@ def spent(seconds: float) -> str:
 
 def table(figures: Iterable[Figures], began_with: float) -> str:
     """What is written into the page."""
-    commit = subprocess.run(["git", "-C", str(TOP), "rev-parse", "--short", "HEAD"], text=True, capture_output=True, check=False)
+    commit = subprocess.run(["git", "-C", str(TOP), "rev-parse", "--short", "HEAD"], text=True,
+                            capture_output=True, check=False)
     day = time.strftime("%-d %B %Y", time.gmtime())
     rows = [f"| {it.processors} | {spent(it.trial)} | {spent(it.build)} |" for it in figures]
-    about = f"{day}, commit {commit.stdout.strip()}, {machine()}, load {began_with:.1f} when it began."
-    return "\n".join(["| Processors | `./exsm try` | `./exsm`, up to the first reply |", "|---|---|---|", *rows, "", about])
+    about = (f"{day}, commit {commit.stdout.strip()}, {machine()}, load {began_with:.1f} when it "
+             "began.")
+    return "\n".join(["| Processors | `./exsm try` | `./exsm`, up to the first reply |",
+                      "|---|---|---|", *rows, "", about])
 
 
 def forecast() -> str:
@@ -134,8 +151,11 @@ def forecast() -> str:
     crates = crates_of_program()
     cells = [f"{Forecast(crates, lanes).whole / 60:.0f} min" for lanes in FORECAST_FOR]
     whole = sum(it.seconds for it in crates) / 60
-    return "\n".join([f"| {len(crates)} crates, {whole:.0f} processor minutes | {' | '.join(f'{it} at once' for it in FORECAST_FOR)} |",
-                      "|---|" + "---|" * len(cells), f"| on a machine as that of the table | {' | '.join(cells)} |"])
+    return "\n".join([
+        f"| {len(crates)} crates, {whole:.0f} processor minutes | "
+        f"{' | '.join(f'{it} at once' for it in FORECAST_FOR)} |",
+                      "|---|" + "---|" * len(cells),
+                      f"| on a machine as that of the table | {' | '.join(cells)} |"])
 
 
 def write(marks: tuple[str, str], text: str) -> None:

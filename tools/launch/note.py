@@ -1,9 +1,10 @@
-"""The note beside the program: of what it was built, by which the launcher tells whether it is to be built again.
+"""The note beside the program: of what it was built, by which the launcher tells whether it is to
+be built again.
 
-It lies beside the program as `exsm.by`, with a line `kit`, `rt`, `commit`, `crates`, `parts` and `program`: the kit's
-identity, where its command lies, the commit whose text was built (`edited` where the text was no commit's), the crates
-that the program stands on, their folders of text, and the SHA-256 of the program. Its time is that at which the build
-began to read the text.
+It lies beside the program as `exsm.by`, with a line `kit`, `rt`, `commit`, `crates`, `parts` and
+`program`: the kit's identity, where its command lies, the commit whose text was built (`edited`
+where the text was no commit's), the crates that the program stands on, their folders of text, and
+the SHA-256 of the program. Its time is that at which the build began to read the text.
 """
 from __future__ import annotations
 
@@ -43,7 +44,8 @@ def commit_of_text() -> str:
     whose = git("rev-parse", "--show-toplevel")
     if whose is None or Path(whose.strip()).resolve() != TOP:
         return EDITED
-    changed = git("-c", "core.excludesFile=", "status", "--porcelain", "--untracked-files=all", "--", *TEXT)
+    changed = git("-c", "core.excludesFile=", "status", "--porcelain", "--untracked-files=all",
+                  "--", *TEXT)
     commit = git("rev-parse", "--verify", "--quiet", "HEAD")
     return commit.strip() if commit and changed == "" else EDITED
 
@@ -72,11 +74,13 @@ class Begun:
         rt = os.path.realpath(shutil.which("rt") or "")
         commit = self.commit if commit_of_text() == self.commit else EDITED
         names = [it.name for it in crates_of_program()]
-        parts = [f"{name}/{part}" for name in names for part in PARTS if (TOP / "crates" / name / part).is_dir()]
+        parts = [f"{name}/{part}" for name in names for part in PARTS
+                 if (TOP / "crates" / name / part).is_dir()]
         rows = {"kit": kit_of(rt), "rt": rt, "commit": commit, "crates": " ".join(names),
                 "parts": " ".join(parts), "program": digest_of(BUILT)}
         part = NOTE.with_name(f"{NOTE.name}.part")
-        part.write_text("".join(f"{key} {value}\n" for key, value in rows.items()), encoding="utf-8")
+        part.write_text("".join(f"{key} {value}\n" for key, value in rows.items()),
+                        encoding="utf-8")
         os.utime(part, ns=(self.at, self.at))
         os.replace(part, NOTE)
 

@@ -1,7 +1,8 @@
-"""Makes the archive of a release: the program as it was built of this commit's text, tools, documents and licence.
+"""Makes the archive of a release: the program as it was built of this commit's text, tools,
+documents and licence.
 
-The archive is the same, byte for byte, whenever it is made of one commit and one program: names stand in order, times are
-the commit's, owners are left out.
+The archive is the same, byte for byte, whenever it is made of one commit and one program: names
+stand in order, times are the commit's, owners are left out.
 """
 from __future__ import annotations
 
@@ -20,8 +21,9 @@ from launch.note import EDITED, TEXT, Begun, commit_of_text, digest_of, git, rea
 
 PLATFORM = f"{os.uname().sysname.lower()}-{os.uname().machine}"
 # What goes into the archive as it stands, by how its path begins.
-TAKEN = ("LICENSE", "CHANGELOG.md", "README.md", "VERSION", "docs/", "examples/", "tools/exsm/", "tools/exsm_",
-         "tools/exsm.bash", "tools/exsm.sh", "tools/install", "tools/usage.txt")
+TAKEN = ("LICENSE", "CHANGELOG.md", "README.md", "VERSION", "docs/", "examples/", "tools/exsm/",
+         "tools/exsm_", "tools/exsm.bash", "tools/exsm.fish", "tools/exsm.sh", "tools/exsm.zsh",
+         "tools/install", "tools/usage.txt", "tools/words.sh", "pyproject.toml")
 WRAPPER, PROGRAM, VERSION_TOLD, SUMS = "exsm", "tools/program", "tools/version.txt", "SHA256SUMS"
 GATE = TOP / ".ci" / "run"
 
@@ -34,7 +36,8 @@ def asked(*words: str) -> str:
     """What git says, where it must say something."""
     said = git(*words)
     if said is None:
-        raise Refused(f"git {words[0]} fails in {TOP}: a release is made of a commit of its repository")
+        raise Refused(
+            f"git {words[0]} fails in {TOP}: a release is made of a commit of its repository")
     return said
 
 
@@ -53,17 +56,20 @@ def hold_program() -> None:
     if not BUILT.is_file() or not note:
         raise Refused(f"nothing says of what text {BUILT.relative_to(TOP)} was built: {gate}")
     if note.get("program") != digest_of(BUILT):
-        raise Refused(f"{BUILT.relative_to(TOP)} isn't the program that its note was written of: {gate}")
+        raise Refused(
+            f"{BUILT.relative_to(TOP)} isn't the program that its note was written of: {gate}")
     built = note.get("commit", EDITED)
     if built == EDITED or git("diff", "--quiet", built, "HEAD", "--", *TEXT) is None:
-        raise Refused(f"{BUILT.relative_to(TOP)} was built of other text than this commit's: {gate}")
+        raise Refused(
+            f"{BUILT.relative_to(TOP)} was built of other text than this commit's: {gate}")
 
 
 def run_gate() -> None:
     """Runs the gate, whose last line tells how it ended, and notes of what it built the program."""
     begun = Begun()
     last = ""
-    with subprocess.Popen(["bash", str(GATE)], cwd=TOP, stdin=subprocess.DEVNULL, stdout=subprocess.PIPE, text=True,
+    with subprocess.Popen(["bash", str(GATE)], cwd=TOP, stdin=subprocess.DEVNULL,
+                          stdout=subprocess.PIPE, text=True,
                           errors="replace") as run:
         assert run.stdout is not None
         for line in run.stdout:
@@ -110,7 +116,8 @@ def make(to: Path, with_gate: bool) -> Path:
         run_gate()
     hold_program()
     files = contents()
-    files[SUMS] = sums({name: hashlib.sha256(data).hexdigest() for name, (data, _) in files.items()}), False
+    files[SUMS] = sums({name: hashlib.sha256(data).hexdigest() for name,
+                        (data, _) in files.items()}), False
     version = (TOP / "VERSION").read_text(encoding="ascii").strip()
     folder = f"exsm-{version}-{PLATFORM}"
     data = archive_of(files, folder, int(asked("log", "-1", "--format=%ct")))
@@ -128,7 +135,8 @@ def release(to: Path, with_gate: bool) -> int:
     """Makes a release, and gives the exit status."""
     try:
         if with_gate and shutil.which("rt") is None:
-            raise Refused("rt isn't on PATH to run the gate: it comes with the Rattle kit (README, \"Build\")")
+            raise Refused("rt isn't on PATH to run the gate: it comes with the Rattle kit (README, "
+                          "\"Build\")")
         archive = make(to, with_gate)
     except (Refused, OSError) as fault:
         print(f"release: {fault}", file=sys.stderr)

@@ -1,4 +1,5 @@
-"""The launcher: what it answers by itself, when it builds, how a build goes on, fails and stops, and the look before it."""
+"""The launcher: what it answers by itself, when it builds, how a build goes on, fails and stops,
+and the look before it."""
 from __future__ import annotations
 
 import os
@@ -13,9 +14,11 @@ from tests.support import TOP, InFolder, Ran
 
 CRATES = "base:\nlists: base\nwords: base\nexsm: lists words\n"
 OTHERS = "tests: lists\n"
-FIGURES = "| `base` | 600 | no tests | no edits |\n| `lists` | 1,200* | 5 | 6 (1) |\n| `exsm` | 60 | 1 | no edits |\n"
+FIGURES = ("| `base` | 600 | no tests | no edits |\n| `lists` | 1,200* | 5 | 6 (1) |\n"
+           "| `exsm` | 60 | 1 | no edits |\n")
 KIT = "kit-of-tests logic 0123"
-NEEDED = ("exsm", "VERSION", "tools/build", "tools/try", "tools/usage.txt", "tools/launch")
+NEEDED = ("exsm", "VERSION", "tools/build", "tools/try", "tools/usage.txt", "tools/words.sh",
+          "tools/launch")
 SECONDS = 120
 
 
@@ -28,7 +31,8 @@ class OfCheckout(InFolder):
         for name in NEEDED:
             (self.top / name).parent.mkdir(parents=True, exist_ok=True)
             if (TOP / name).is_dir():
-                shutil.copytree(TOP / name, self.top / name, ignore=shutil.ignore_patterns("__pycache__"))
+                shutil.copytree(TOP / name, self.top / name,
+                                ignore=shutil.ignore_patterns("__pycache__"))
             else:
                 shutil.copy(TOP / name, self.top / name)
         self.write("crates.txt", CRATES + OTHERS)
@@ -68,7 +72,8 @@ class OfCheckout(InFolder):
 
     def git(self, *words: str) -> None:
         """Calls git on the checkout."""
-        subprocess.run(["git", "-C", str(self.top), "-c", "user.name=t", "-c", "user.email=t@t", *words],
+        subprocess.run(["git", "-C", str(self.top), "-c", "user.name=t", "-c", "user.email=t@t",
+                        *words],
                        check=True, capture_output=True)
 
     def commit_all(self) -> None:
@@ -110,11 +115,12 @@ class WordsTest(OfCheckout):
         self.assertEqual((ran.status, ran.lines, ran.errors), (0, [f"{told}, {KIT}"], []))
 
     def test_usage(self) -> None:
-        """what the launcher tells of the program's words is what the program tells, which keeps `help` a wrong word"""
+        """the launcher tells the words that the program tells, to which `help` is a wrong one"""
         for words in (["help"], ["--help"]):
             ran = self.exsm(*words)
             self.assertEqual((ran.status, ran.errors[-1]), (2, "exsm: status 2 usage"))
-            self.assertEqual(ran.errors[:-1], (TOP / "tools" / "usage.txt").read_text(encoding="utf-8").splitlines())
+            self.assertEqual(ran.errors[:-1],
+                             (TOP / "tools" / "usage.txt").read_text(encoding="utf-8").splitlines())
         self.assertEqual(self.exsm("--version").status, 2)
 
     def test_formats(self) -> None:
@@ -125,14 +131,16 @@ class WordsTest(OfCheckout):
 
 class BuildTest(OfCheckout):
     def test_first_build(self) -> None:
-        """the first call proves the crates below the program beside each other, tells how far it is, and runs"""
+        """the first call proves the crates beside each other, tells how far it is, and runs"""
         ran = self.launch("run", "v")
         self.assertEqual((ran.status, ran.lines), (0, ["ran run v"]))
         calls = self.calls()
         self.assertRegex(calls[0], r"^all check --jobs [1-9]\d*$")
         self.assertEqual(calls[1:], ["run"])
         self.assertIn("since it isn't built yet", ran.errors[0])
-        self.assertRegex(ran.errors[1], r"^exsm: 4 of 4 crates are to be proved(, \d+ beside each other)?, about 3[12] min on ")
+        self.assertRegex(ran.errors[1],
+                         r"^exsm: 4 of 4 crates are to be proved(, \d+ beside each other)?, about "
+                         r"3[12] min on ")
         self.assertEqual([it.split(" crates")[0] for it in ran.errors[2:6]],
                          [f"exsm: {count} of 4" for count in (1, 2, 3, 4)])
         self.assertRegex(ran.errors[2], r"3 left, about \d+ min \(0 min so far\); last base$")
@@ -154,7 +162,8 @@ class BuildTest(OfCheckout):
         for path in ("bin/second", "bin/exsm", "checkout/exsm", "../exsm"):
             if path == "../exsm":
                 os.chdir(self.top / "docs")
-            ran = subprocess.run([path, "check", "v"], capture_output=True, text=True, env=self.variables, timeout=SECONDS, check=False)
+            ran = subprocess.run([path, "check", "v"], capture_output=True, text=True,
+                                 env=self.variables, timeout=SECONDS, check=False)
             self.assertEqual(ran.stdout, "ran check v\n", path)
         self.assertEqual(len(self.calls()), 2)
 
@@ -165,21 +174,25 @@ class BuildTest(OfCheckout):
         ran = self.launch("check", "v")
         self.assertEqual(ran.status, 1)
         self.assertEqual(ran.errors, [
-            "exsm: it isn't built yet, and rt isn't on PATH to build it: it comes with the Rattle kit (README, \"Build\")"])
+            "exsm: it isn't built yet, and rt isn't on PATH to build it: it comes with the Rattle "
+            "kit (README, \"Build\")"])
         self.variables = kept
         self.built()
         self.variables = {**kept, "PATH": "/usr/bin:/bin"}
         self.assertEqual(self.launch("check", "v").lines, ["ran check v"])
 
     def test_failure(self) -> None:
-        """what rt said of a crate that isn't proved is shown, and nothing runs; the next call goes on with what is left"""
+        """what rt said of a crate that isn't proved is shown; the next call does what is left"""
         self.behave("fails", "words")
         ran = self.launch("check", "v")
         self.assertEqual((ran.status, ran.lines), (1, []))
         self.assertIn("exsm: words is not proved; what rt said of it:", ran.errors)
         self.assertIn("src/lib.rt:3:1: error: this does not follow", ran.errors)
-        self.assertEqual(ran.errors[-1], "exsm: the build failed: words, exsm. The whole log is crates/exsm/out/build.log")
-        self.assertIn("logic=not-proved", (self.top / "crates/exsm/out/build.log").read_text(encoding="utf-8"))
+        self.assertEqual(ran.errors[-1],
+                         "exsm: the build failed: words, exsm. The whole log is "
+                         "crates/exsm/out/build.log")
+        self.assertIn("logic=not-proved",
+                      (self.top / "crates/exsm/out/build.log").read_text(encoding="utf-8"))
         self.behave("fails", "")
         ran = self.launch("check", "v")
         self.assertRegex(ran.errors[1], r"^exsm: 2 of 4 crates are to be proved")
@@ -202,7 +215,8 @@ class BuildTest(OfCheckout):
             os.killpg(run.pid, number)
             _, errors = run.communicate(timeout=SECONDS)
             self.assertEqual(errors.splitlines()[-1],
-                             "exsm: stopped: 2 of 4 crates are proved, which stays; call it again to go on there")
+                             "exsm: stopped: 2 of 4 crates are proved, which stays; call it again "
+                             "to go on there")
             self.assertNotEqual(run.returncode, 0)
         self.behave("waits", "")
         ran = self.launch("check", "v")
@@ -210,7 +224,7 @@ class BuildTest(OfCheckout):
         self.assertEqual(ran.lines, ["ran check v"])
 
     def test_two_at_once(self) -> None:
-        """a second build waits for the first one, which is told, and goes on where that was stopped"""
+        """a second build waits for the first, which is told, and goes on where that stopped"""
         self.behave("waits", "words")
         first = self.begin()
         self.wait_for_proofs()
@@ -227,7 +241,8 @@ class BuildTest(OfCheckout):
 
     def begin(self) -> subprocess.Popen[str]:
         """Begins a build."""
-        return subprocess.Popen([str(self.top / "exsm"), "build"], stderr=subprocess.PIPE, text=True, env=self.variables,
+        return subprocess.Popen([str(self.top / "exsm"), "build"], stderr=subprocess.PIPE,
+                                text=True, env=self.variables,
                                 start_new_session=True)
 
     def wait_for_proofs(self) -> None:
@@ -239,12 +254,15 @@ class BuildTest(OfCheckout):
     def test_terminal(self) -> None:
         """in a terminal one line is written over and over, and is taken away at the end"""
         side, other = pty.openpty()
-        ran = subprocess.run([str(self.top / "exsm"), "build"], stderr=other, env=self.variables, timeout=SECONDS, check=False)
+        ran = subprocess.run([str(self.top / "exsm"), "build"], stderr=other, env=self.variables,
+                             timeout=SECONDS, check=False)
         os.close(other)
         shown = os.read(side, 65536).decode()
         os.close(side)
         self.assertEqual(ran.returncode, 0)
-        self.assertRegex(shown, r"exsm: 4 of 4 crates proved, 0 left, less than a minute \(0 min so far\)\x1b\[K\r\x1b\[K")
+        self.assertRegex(shown,
+                         r"exsm: 4 of 4 crates proved, 0 left, less than a minute \(0 min so "
+                         r"far\)\x1b\[K\r\x1b\[K")
         self.assertTrue(shown.endswith("exsm: built\r\n"))
 
 
@@ -252,7 +270,7 @@ class ChangesTest(OfCheckout):
     """When a call builds again: without git, and with it."""
 
     def test_sources(self) -> None:
-        """a source that changed, came, went or was put back with an old date builds again; one that the program doesn't use doesn't"""
+        """a source that changed, came, went or was put back builds again, if the program uses it"""
         for with_git in (False, True):
             with self.subTest(with_git=with_git):
                 if with_git:
@@ -291,7 +309,7 @@ class ChangesTest(OfCheckout):
         self.is_built_again("its sources changed")
 
     def test_kit(self) -> None:
-        """another kit on the path builds again, and so does a program of which nothing says what it was built of"""
+        """another kit on the path builds again, and a program of which nothing says its source"""
         self.built()
         (self.folder / "kit" / "KIT-ID").write_text("kit-of-tests logic 4567\n", encoding="ascii")
         self.is_built_again("the kit on the path is another one")
@@ -307,7 +325,8 @@ class FirstBuildTest(OfCheckout):
     def setUp(self) -> None:
         super().setUp()
         shutil.copy(TOP / "tools" / "first_build", self.top / "tools")
-        stored = {"args": "run\nv\n", "stdin": "files\n", "data/v": "a volume", "stdout": "run v|a volume|files\n"}
+        stored = {"args": "run\nv\n", "stdin": "files\n", "data/v": "a volume",
+                  "stdout": "run v|a volume|files\n"}
         for name, text in stored.items():
             self.write(f"crates/exsm/{name}", text)
         page = (TOP / "docs" / "GATE.md").read_text(encoding="utf-8")
@@ -318,22 +337,26 @@ class FirstBuildTest(OfCheckout):
 
     def measure(self, *words: str) -> Ran:
         """Runs the measurement."""
-        ran = subprocess.run([str(self.top / "tools" / "first_build"), *words], capture_output=True, env=self.variables,
+        ran = subprocess.run([str(self.top / "tools" / "first_build"), *words], capture_output=True,
+                             env=self.variables,
                              timeout=4 * SECONDS, check=False)
         return Ran(ran.returncode, ran.stdout, ran.stderr)
 
     def test_measured(self) -> None:
-        """the look before any proof and the first build are timed in a clone of its own, and the figures stand in the page"""
+        """the look before any proof and the first build are timed in a clone, for the page"""
         self.assertEqual(self.measure("--processors", "1").status, 0)
         page = (self.top / "docs" / "GATE.md").read_text(encoding="utf-8")
-        self.assertRegex(page, r"\| Processors \| `./exsm try` \| `./exsm`, up to the first reply \|\n\|---\|---\|---\|\n\| 1 \| \d+ s \| \d+ s \|\n")
+        self.assertRegex(page,
+                         r"\| Processors \| `./exsm try` \| `./exsm`, up to the first reply "
+                         r"\|\n\|---\|---\|---\|\n\| 1 \| \d+ s \| \d+ s \|\n")
         self.assertNotIn("It wasn't measured yet", page)
         self.assertFalse((self.top / "crates/exsm/out").exists())
-        self.assertFalse((self.folder / "rattle-kept").exists(), "nothing is kept beside the kit on the path")
+        self.assertFalse((self.folder / "rattle-kept").exists(),
+                         "nothing is kept beside the kit on the path")
         self.assertEqual(self.calls(), [])
 
     def test_wrong(self) -> None:
-        """where a reply isn't the stored one, or a proof fails, nothing is written, and it is told"""
+        """where a reply isn't the stored one, or a proof fails, it is told, and nothing written"""
         page = (self.top / "docs" / "GATE.md").read_bytes()
         self.behave("status", "7")
         ran = self.measure()
@@ -342,15 +365,18 @@ class FirstBuildTest(OfCheckout):
         self.behave("status", "0")
         self.behave("fails", "lists")
         ran = self.measure()
-        self.assertEqual((ran.status, ran.errors[-1]), (1, "first_build: ./exsm build ended with status 1"))
+        self.assertEqual((ran.status, ran.errors[-1]),
+                         (1, "first_build: ./exsm build ended with status 1"))
         self.assertEqual((self.top / "docs" / "GATE.md").read_bytes(), page)
-        self.assertEqual([self.measure("--processors", it).status for it in ("0", "1000", "x")], [2, 2, 2])
+        self.assertEqual([self.measure("--processors", it).status for it in ("0", "1000", "x")],
+                         [2, 2, 2])
 
     def test_forecast(self) -> None:
-        """by the seconds of the page's table it is told what a build is to take, for more proofs at once"""
+        """by the page's table it is told what a build is to take, for more proofs at once"""
         ran = self.measure("--forecast", "--print")
         self.assertEqual((ran.status, ran.lines), (0, [
-            "| 4 crates, 32 processor minutes | 1 at once | 2 at once | 4 at once | 8 at once |", "|---|---|---|---|---|",
+            "| 4 crates, 32 processor minutes | 1 at once | 2 at once | 4 at once | 8 at once |",
+            "|---|---|---|---|---|",
             "| on a machine as that of the table | 32 min | 31 min | 31 min | 31 min |"]))
 
 
@@ -378,42 +404,52 @@ class TryTest(OfCheckout):
         shutil.copy("v", "sub/w")
         inside = ", where it was called volume,"
         for word, called, told in (("v", "v", ""), ("./v", "./v", ""), ("sub/w", "sub/w", ""),
-                                   ("../days/v", "volume", inside), (str(Path("v").resolve()), "volume", inside)):
+                                   ("../days/v", "volume", inside),
+                                   (str(Path("v").resolve()), "volume", inside)):
             ran = self.tried("run", word, given=script)
-            self.assertEqual((ran.status, ran.out), (7, f"run {called}|a volume|".encode() + script))
-            self.assertEqual(ran.errors[1:], ["exsm: said", f"{GONE}it ran on a copy of {word}{told} which is gone"])
+            self.assertEqual((ran.status, ran.out),
+                             (7, f"run {called}|a volume|".encode() + script))
+            self.assertEqual(ran.errors[1:],
+                             ["exsm: said",
+                              f"{GONE}it ran on a copy of {word}{told} which is gone"])
         self.assertEqual(Path("v").read_bytes(), b"a volume")
 
     def test_names(self) -> None:
-        """a name that means something to rt, or is also a file of the program's crate, is another one there"""
+        """a name that means something to rt, or is a file of the crate, is another one there"""
         for name in ("program", "stdin", "a=b", "src/lib.rt"):
             Path(name).parent.mkdir(exist_ok=True)
             Path(name).write_bytes(b"of mine")
             ran = self.tried("check", "--max-bytes", "1", name)
             self.assertEqual(ran.out, b"check --max-bytes 1 volume|of mine|")
-            self.assertTrue(ran.errors[-1].startswith(f"{GONE}it ran on a copy of {name}, where it was called volume,"), ran.errors)
+            self.assertTrue(ran.errors[-1].startswith(
+                f"{GONE}it ran on a copy of {name}, where it was called volume,"), ran.errors)
 
     def test_options(self) -> None:
         """options stand before or after the volume, in two words or in one"""
         self.behave("tries", "shown")
-        for words in (["run", "--max-bytes", "v", "gone"], ["run", "--max-bytes=9", "gone"], ["run", "gone", "--max-bytes", "v"]):
+        for words in (["run", "--max-bytes", "v", "gone"], ["run", "--max-bytes=9", "gone"],
+                      ["run", "gone", "--max-bytes", "v"]):
             self.assertEqual(self.launch("try", *words).status, 1)
             self.assertEqual([it for it in self.calls() if "--data" in it], [])
 
     def test_without_copy(self) -> None:
-        """with format, and where the volume isn't there, nothing is copied; a real path is never opened"""
+        """with format, and where no volume is there, nothing is copied, no real path opened"""
         ran = self.tried("format", "gone")
-        self.assertEqual(ran.errors[-1], f"{GONE}what it made of gone is gone, and gone is as it was")
+        self.assertEqual(ran.errors[-1],
+                         f"{GONE}what it made of gone is gone, and gone is as it was")
         ran = self.tried("run", "/gone/v", given=b"line")
-        self.assertEqual(ran.errors[-1], f"{GONE}/gone/v isn't there, so it, where it was called volume, ran without a volume")
+        self.assertEqual(ran.errors[-1],
+                         f"{GONE}/gone/v isn't there, so it, where it was called volume, ran "
+                         f"without a volume")
         ran = self.tried("frob", "v")
         self.assertEqual(ran.errors[-1], f"{GONE}no volume was touched")
         ran = self.tried("format", "v")
-        self.assertEqual((ran.status, ran.out, Path("v").read_bytes()), (7, b"format v|none|", b"a volume"))
+        self.assertEqual((ran.status, ran.out, Path("v").read_bytes()),
+                         (7, b"format v|none|", b"a volume"))
         self.assertEqual([it for it in self.calls() if "--data" in it], [])
 
     def test_refused(self) -> None:
-        """a volume that is too large, or no file, and too long a script are refused, and nothing runs"""
+        """a volume that is too large, or no file, and too long a script are refused"""
         with open("large", "wb") as file:
             file.truncate((256 << 20) + 1)
         with open("largest", "wb") as file:
@@ -422,23 +458,34 @@ class TryTest(OfCheckout):
         self.assertEqual((ran.status, ran.out, ran.errors), (1, b"", [
             "exsm: large has 268,435,457 bytes, and a copy for a try has at most 268,435,456: "
             "`./exsm` without try runs on the volume itself, once it is proved"]))
-        self.assertEqual(self.launch("try", "run", ".").errors, ["exsm: . is no plain file, so it can't be copied"])
+        self.assertEqual(self.launch("try", "run", ".").errors,
+                         ["exsm: . is no plain file, so it can't be copied"])
         self.assertEqual(self.calls(), [])
         self.assertEqual(self.tried("check", "largest").status, 7)
         ran = self.launch("try", "run", "v", given=bytes(64 << 20))
-        self.assertEqual((ran.status, ran.errors), (1, ["exsm: the script has more than 67,108,863 bytes, which is the most that a try reads"]))
+        self.assertEqual((ran.status, ran.errors),
+                         (1,
+                          [
+                              "exsm: the script has more than 67,108,863 bytes, which is the most "
+                              "that a try reads"]))
 
     def test_failed_try(self) -> None:
-        """where rt doesn't come to an end of the program, its lines are shown and the status is 1"""
+        """where rt doesn't come to the program's end, its lines are shown, the status is 1"""
         self.behave("tries", "checked: no-answer: the run did not end\nrun=no-answer proved=no")
         ran = self.tried("check", "v")
         self.assertEqual(ran.status, 1)
         self.assertIn("run=no-answer proved=no", ran.errors)
-        self.assertEqual(ran.errors[-1], "exsm: the try itself failed, and the lines above say how; the program's own status isn't known")
+        self.assertEqual(ran.errors[-1],
+                         "exsm: the try itself failed, and the lines above say how; the program's "
+                         "own status isn't known")
 
     def test_words(self) -> None:
         """try without words tells them with 2, and --help with 0; without rt it says so"""
         self.assertEqual([self.launch("try").status, self.launch("try", "--help").status], [2, 0])
         self.variables = {**self.variables, "PATH": "/usr/bin:/bin"}
         ran = self.launch("try", "check", "v")
-        self.assertEqual((ran.status, ran.errors), (1, ["exsm: rt isn't on PATH to try it: it comes with the Rattle kit (README, \"Build\")"]))
+        self.assertEqual((ran.status, ran.errors),
+                         (1,
+                          [
+                              "exsm: rt isn't on PATH to try it: it comes with the Rattle kit "
+                              "(README, \"Build\")"]))

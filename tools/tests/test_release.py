@@ -1,4 +1,5 @@
-"""A release: what its archive holds and when it is refused; it is unpacked, and the tutorial typed, without rt and without the checkout."""
+"""A release: what its archive holds and when it is refused; it is unpacked, and the tutorial typed,
+without rt and without the checkout."""
 from __future__ import annotations
 
 import hashlib
@@ -12,8 +13,9 @@ from tests import transcripts
 from tests.support import TOP, Ran
 from tests.test_launcher import KIT, OfCheckout
 
-PACKED = ("LICENSE", "CHANGELOG.md", "README.md", "docs", "examples", ".ci", "tools/exsm", "tools/exsm.bash", "tools/exsm.sh",
-          "tools/install", "tools/release")
+PACKED = ("LICENSE", "CHANGELOG.md", "README.md", "docs", "examples", ".ci", "tools/exsm",
+          "tools/exsm.bash", "tools/exsm.fish", "tools/exsm.sh", "tools/exsm.zsh",
+          "tools/install", "tools/release", "tools/words.sh", "pyproject.toml")
 USED_BY_TUTORIAL = ("xxd", "awk", "dd", "diff")
 
 
@@ -24,13 +26,15 @@ class ReleaseTest(OfCheckout):
         for name in (*PACKED, *commands):
             copy = shutil.copytree if (TOP / name).is_dir() else shutil.copy
             (self.top / name).parent.mkdir(parents=True, exist_ok=True)
-            copy(TOP / name, self.top / name, **({"dirs_exist_ok": True} if (TOP / name).is_dir() else {}))
+            copy(TOP / name, self.top / name,
+                 **({"dirs_exist_ok": True} if (TOP / name).is_dir() else {}))
         self.behave("builds", os.environ["EXSM"])
         self.commit_all()
 
     def release(self, *words: str) -> Ran:
         """Makes a release in the folder `to`."""
-        ran = subprocess.run([str(self.top / "tools" / "release"), *words, "to"], capture_output=True, env=self.variables,
+        ran = subprocess.run([str(self.top / "tools" / "release"), *words, "to"],
+                             capture_output=True, env=self.variables,
                              check=False)
         return Ran(ran.returncode, ran.stdout, ran.stderr)
 
@@ -48,7 +52,7 @@ class ReleaseTest(OfCheckout):
         self.assertFalse(Path("to").exists())
 
     def test_refused(self) -> None:
-        """a release is refused where the program isn't of this commit's text, or a file isn't the commit's"""
+        """a release is refused where the program or a file isn't of the commit's text"""
         self.refused("nothing says of what text crates/exsm/out/exsm was built")
         self.launch("build")
         self.write("README.md", "changed")
@@ -67,10 +71,11 @@ class ReleaseTest(OfCheckout):
         self.refused("the gate didn't pass: 0 passed, 1 failed", "--gate")
 
     def test_gate(self) -> None:
-        """with --gate the program is the one that the gate built, which the launcher then takes as it is"""
+        """with --gate the program is the one that the gate built, which the launcher then takes"""
         self.assertEqual(self.release("--gate").status, 0)
         self.assertEqual(self.calls(), ["ci"])
-        self.assertEqual((self.launch("help").status, self.launch("check", "none").status, self.calls()), (0, 5, []))
+        self.assertEqual((self.launch("help").status, self.launch("check", "none").status,
+                          self.calls()), (0, 5, []))
 
     def test_same(self) -> None:
         """two archives of one commit and one program are the same, byte for byte"""
@@ -78,7 +83,8 @@ class ReleaseTest(OfCheckout):
         self.release()
         first = self.archive().read_bytes()
         shutil.rmtree("to")
-        subprocess.run(["find", str(self.top), "-exec", "touch", "-d", "2001-01-01", "{}", "+"], check=True)
+        subprocess.run(["find", str(self.top), "-exec", "touch", "-d", "2001-01-01", "{}", "+"],
+                       check=True)
         self.git("status")
         self.assertEqual(self.release().status, 0)
         self.assertEqual(self.archive().read_bytes(), first)
@@ -113,22 +119,29 @@ class ReleaseTest(OfCheckout):
         return f"{Path('bin').resolve()}:/usr/bin:/bin"
 
     def test_words(self) -> None:
-        """what is unpacked, and what it installs, tell words and version with status 0, and the program's words as it does"""
+        """what is unpacked, and what it installs, tell words and version with status 0"""
         home = self.unpacked()
         path = {"PATH": self.path()}
-        subprocess.run([str(home / "tools" / "install"), "prefix"], env=path, check=True, capture_output=True)
+        subprocess.run([str(home / "tools" / "install"), "prefix"], env=path, check=True,
+                       capture_output=True)
         version = (TOP / "VERSION").read_text(encoding="ascii").strip()
         for exsm in (home / "exsm", Path("prefix/bin/exsm").resolve()):
-            for words, status, last in ((["--version"], 0, None), (["help"], 0, None), (["--help"], 0, None), (["frob"], 2, "usage")):
-                ran = subprocess.run([str(exsm), *words], capture_output=True, env=path, text=True, check=False)
+            for words, status, last in ((["--version"], 0, None), (["help"], 0, None),
+                                        (["--help"], 0, None), (["frob"], 2, "usage"),
+                                        (["Format", "v"], 2, "usage")):
+                ran = subprocess.run([str(exsm), *words], capture_output=True, env=path, text=True,
+                                     check=False)
                 self.assertEqual(ran.returncode, status)
-                self.assertEqual(ran.stderr.splitlines()[-1:], [f"exsm: status {status} {last}"] if last else [])
+                self.assertEqual(ran.stderr.splitlines()[-1:],
+                                 [f"exsm: status {status} {last}"] if last else [])
                 if words == ["--version"]:
-                    told = f"exsm {version}, makes volumes of format 2, opens formats 1 and 2, {KIT}\n"
+                    told = (f"exsm {version}, makes volumes of format 2, opens formats 1 and 2, "
+                            f"{KIT}\n")
                     self.assertEqual(ran.stdout, told)
                 elif status == 0:
                     self.assertTrue(ran.stdout.startswith("usage: exsm format VOLUME"))
-        tool = subprocess.run([str(home / "tools" / "exsm_new.py"), "v", "4M"], env=path, capture_output=True, check=False)
+        tool = subprocess.run([str(home / "tools" / "exsm_new.py"), "v", "4M"], env=path,
+                              capture_output=True, check=False)
         self.assertEqual((tool.returncode, tool.stdout), (0, b"ok format 4194304\n"))
 
     def test_tutorial(self) -> None:
@@ -137,11 +150,13 @@ class ReleaseTest(OfCheckout):
             if shutil.which(program) is None:
                 self.skipTest(f"there is no {program} here")
         home = self.unpacked()
-        variables = {"PATH": self.path(), "HOME": str(home.parent), "EXSM_HOME": str(home), "LC_ALL": "C.UTF-8",
+        variables = {"PATH": self.path(), "HOME": str(home.parent), "EXSM_HOME": str(home),
+                     "LC_ALL": "C.UTF-8",
                      "PYTHONDONTWRITEBYTECODE": "1"}
         steps = transcripts.steps_of((home / "docs" / "TUTORIAL.md").read_text(encoding="utf-8"))
         wrote = transcripts.run(steps, home.parent, variables)
-        commands = [(place, it) for place, it in enumerate(steps) if isinstance(it, transcripts.Command)]
+        commands = [(place, it) for place,
+                    it in enumerate(steps) if isinstance(it, transcripts.Command)]
         self.assertGreater(len(commands), 50)
         for place, step in commands:
             with self.subTest(f"line {step.line}: {step.text}"):
