@@ -5,9 +5,9 @@
     tools/dev/crates.py --check    says what breaks a rule, with status 1 where something does
     tools/dev/crates.py --write    writes the layers into docs/ARCHITECTURE.md, between two marks
 
-The rules: the longest chain to exsm has at most ten crates, a crate at most 100 functions and
-four must-fail edits beside those of docs/EDITS.md, which are all there; each crate stands in a
-band of crates.txt behind all that it stands on, and each crate below exsm in one box of
+The rules: the longest chain to a top, exsm or exsm_c, has at most ten crates, a crate at most 100
+functions and four must-fail edits beside those of docs/EDITS.md, which are all there; each crate
+stands in a band of crates.txt behind all that it stands on, and each crate of a top in one box of
 ARCHITECTURE's picture; no crate is named that no file uses; the documents name each ported crate
 among what is trusted, and have the layers that --write would write.
 
@@ -31,6 +31,8 @@ from crate_code import (  # noqa: E402
     TOP, edits_of, files_below, named_crates, text_of, write_text)
 
 PROGRAM = "exsm"
+# The static library beside the program.
+LIBRARY = "exsm_c"
 CHAIN_MOST, FUNCTIONS_MOST, EDITS_MOST = 10, 100, 4
 ROW_MOST = 92
 PAGE, EDITS, GATE = "docs/ARCHITECTURE.md", "docs/EDITS.md", "docs/GATE.md"
@@ -255,11 +257,18 @@ def boxes() -> list[list[str]]:
     return [re.findall(r"\w+", it) for it in re.findall(r"\[([^\]]*)\]", drawn)]
 
 
+def tops(graph: Graph) -> list[str]:
+    """The crates that are built for users: the program and the library."""
+    return [it for it in (PROGRAM, LIBRARY) if it in graph.crates]
+
+
 def faults_of_boxes(graph: Graph) -> Iterator[str]:
-    """The crates below the program that don't stand in one box, and others that stand in one."""
+    """The crates of the tops that don't stand in one box, and others that stand in one."""
     if PROGRAM not in graph.crates:
         return
-    product = [it for it in graph.crates if it == PROGRAM or it in graph.all_below[PROGRAM]]
+    found = tops(graph)
+    product = [it for it in graph.crates
+               if it in found or any(it in graph.all_below[top] for top in found)]
     drawn = [name for box in boxes() for name in box]
     for name in product:
         if drawn.count(name) != 1:
@@ -323,10 +332,11 @@ def faults_of_trust(crates: Crates) -> Iterator[str]:
 
 def faults_of(crates: Crates, bands: dict[str, str], graph: Graph) -> Iterator[str]:
     """A line for each rule that is broken."""
-    longest = graph.chain(PROGRAM, graph.levels)
-    if len(longest) > CHAIN_MOST:
-        yield (f"the longest chain to {PROGRAM} has {len(longest)} crates, above {CHAIN_MOST}: "
-               f"{' '.join(longest)}")
+    for top in tops(graph):
+        longest = graph.chain(top, graph.levels)
+        if len(longest) > CHAIN_MOST:
+            yield (f"the longest chain to {top} has {len(longest)} crates, above {CHAIN_MOST}: "
+                   f"{' '.join(longest)}")
     yield from faults_of_crates(crates)
     yield from faults_of_trust(crates)
     yield from faults_of_boxes(graph)

@@ -54,6 +54,11 @@ def about(call: str) -> str:
     return f"`{call}`, {day}, {processors} processors, commit {commit or 'none'}:"
 
 
+def as_told(text: str) -> str:
+    """What a bench tells: tables as they are, and all else as lines that keep their ends."""
+    return text if text.startswith("| ") else f"```\n{text}\n```"
+
+
 def write_figures(bench: str, words: list[str]) -> int:
     """Runs the bench, writes what it tells, and gives its status where it fails."""
     page = PAGE.read_text(encoding="utf-8")
@@ -66,7 +71,7 @@ def write_figures(bench: str, words: list[str]) -> int:
         print(f"figures: {bench} ended with status {ran.returncode}, and docs/SPEED.md stays as "
               "it was", file=sys.stderr)
         return ran.returncode or 1
-    text = f"{about(' '.join([bench, *words]))}\n\n```\n{ran.stdout.rstrip()}\n```"
+    text = f"{about(' '.join([bench, *words]))}\n\n{as_told(ran.stdout.rstrip())}"
     PAGE.write_text(replaced(page, name, text), encoding="utf-8")
     return 0
 

@@ -14,7 +14,8 @@ with status 1 where a name is gone:
 - in docs/TOUR.md a function that isn't in its file, or another number of files of a way
 - in docs/GLOSSARY.md a word that isn't in its file
 - in any document a file of a crate that isn't there, and in its sentences a clause or a field
-  (`x` of `y`, the clause `x`, the field `x`)
+  (`x` of `y`, the clause `x`, the field `x`), a name of three words or more that stands nowhere,
+  or a heading of scenarios that isn't there
 - a must-fail edit whose old text doesn't stand once in its file
 
 How each is read stands in the module of tools/dev/held/ that is about it.
@@ -43,6 +44,7 @@ def faults_of(page: Page) -> list[str]:
         *glossary.faults_of_rows(),
         *sentences.faults_of_paths(),
         *sentences.faults_of_sentences(sources),
+        *sentences.faults_of_names(),
         *checks.faults_of_edits(sources),
     ]
 

@@ -25,7 +25,8 @@ class AgainstTest(InToy):
     def test_same(self) -> None:
         """where nothing changed nothing is told, also where a clause is laid out otherwise"""
         self.assertEqual(self.told(), ["0 clauses and definitions are new"])
-        self.change("crates/low/src/pages.rt", "ensures most {\n            result.number ≤ MOST\n"
+        self.change("crates/low/src/pages.rt",
+                    "ensures most {\n            result.number ≤ MOST\n"
                     "        }", "ensures most { result.number ≤ MOST }")
         self.assertEqual(self.told(), ["0 clauses and definitions are new"])
 
@@ -37,7 +38,8 @@ class AgainstTest(InToy):
                     "        requires number < 2 ^ 16\n")
         self.assertEqual(self.told(), [
             "low: ensures Page::of, number went", "  was result.number ≡ number.now",
-            "low: ensures fitted changed", "  was result.number ≤ 9", "  is  result.number ≤ 10",
+            "low: ensures fitted changed", "  was result.number ≤ 9",
+            "  is  result.number ≤ 10",
             "0 clauses and definitions are new"])
 
     def test_definitions(self) -> None:

@@ -73,8 +73,8 @@ class GateTest(InToy):
 
     def test_words(self) -> None:
         """each script for maintainers tells its words by --help, and refuses wrong ones with 2"""
-        for name in ("alike.py", "crates.py", "figures.py", "gate", "gate_log.py", "promises.py",
-                     "tested.py"):
+        for name in ("alike.py", "crates.py", "figures.py", "fuzzed.py", "gate", "gate_log.py",
+                     "promises.py", "tested.py"):
             with self.subTest(name):
                 told = self.script(name, "--help")
                 self.assertEqual((told.status, told.errors), (0, []))

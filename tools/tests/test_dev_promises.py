@@ -63,6 +63,12 @@ GONE = {
     "a field in a sentence": (
         "docs/DECISIONS.md", "None.", "By the field `last` and the field `later`.",
         ["docs/DECISIONS.md: there is no field `later`"]),
+    "a test that a sentence names": (
+        "docs/DECISIONS.md", "None.", "As `no_page_is_ever_lost` shows.",
+        ["docs/DECISIONS.md: `no_page_is_ever_lost` stands nowhere"]),
+    "a heading of scenarios": (
+        "docs/DECISIONS.md", "None.", "As scenarios show (\"A page is lost\").",
+        ["docs/DECISIONS.md: no scenarios have the heading \"A page is lost\""]),
     "the text that an edit changes": (
         "crates/low/src/pages.rt", "number.min(MOST)", "number.max(MOST)",
         ["crates/low/must-fail/number_is_lost.edit: its old text doesn't stand once in its file"]),

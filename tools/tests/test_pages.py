@@ -1,6 +1,7 @@
 """The pages that scripts write into: each writes between its marks alone, else nothing."""
 from __future__ import annotations
 
+import json
 import shutil
 import sys
 from pathlib import Path
@@ -13,7 +14,7 @@ class PagesTest(InFolder):
         super().setUp()
         for name in ("tools/dev", "tools/tests", "bench", "docs"):
             Path(name).mkdir(parents=True)
-        for name in ("figures.py", "tested.py"):
+        for name in ("figures.py", "fuzzed.py", "tested.py"):
             shutil.copy(TOP / "tools" / "dev" / name, "tools/dev")
 
     def script(self, name: str, *words: str) -> Ran:
@@ -36,6 +37,10 @@ class PagesTest(InFolder):
             "before", "<!-- figures of bench/a.py -->", "", "", "```",
             "took ['v', '--runs', '3']", "```", "", "<!-- end of figures -->", "after"])
         self.assertTrue(lines[3].startswith("`bench/a.py v --runs 3`, "), lines[3])
+        Path("bench/a.py").write_text("print('| a |\\n|---|')\n", encoding="utf-8")
+        self.assertEqual(self.script("figures.py", "bench/a.py").status, 0)
+        lines = Path("docs/SPEED.md").read_text(encoding="utf-8").splitlines()
+        self.assertEqual(lines[4:], ["", "| a |", "|---|", "", "<!-- end of figures -->", "after"])
         Path("bench/a.py").write_text("sys.exit(1)\n", encoding="utf-8")
         was = Path("docs/SPEED.md").read_bytes()
         self.assertEqual(self.script("figures.py", "bench/a.py").status, 1)
@@ -87,3 +92,34 @@ class PagesTest(InFolder):
         self.assertEqual(lines[3:9], ["2 tests in 1 files.", "", "**test_one.py**: one thing.", "",
                                       "- it holds on two lines", "- b c"])
         self.assertEqual(self.script("tested.py", "--check").status, 0)
+
+    def test_fuzzed(self) -> None:
+        """what campaigns of one program tried is added and stands in the page; others not"""
+        page = ("head\n<!-- written by tools/dev/fuzzed.py -->\nold\n"
+                "<!-- end of what the fuzzer tried -->\ntail\n")
+        Path("docs/TESTS.md").write_text(page, encoding="utf-8")
+        for name, program, kind, count in (
+                ("a", "ab" * 32, "scripts", 1200), ("b", "ab" * 32, "scripts", 300),
+                ("c", "ab" * 32, "damage", 5), ("d", "cd" * 32, "damage", 5)):
+            told = {"program": program, "seed": "7", "counts": {kind: {"things": count}},
+                    "seconds": {kind: 30.0}, "is_cut": False, "differ": []}
+            Path(name).write_text(json.dumps(told), encoding="utf-8")
+        ran = self.script("fuzzed.py", "--about", "it", "--write", "a", "b", "c")
+        self.assertEqual(ran.status, 0)
+        lines = Path("docs/TESTS.md").read_text(encoding="utf-8").splitlines()
+        self.assertEqual(lines, [
+            "head", "<!-- written by tools/dev/fuzzed.py -->", "",
+            f"On it (SHA-256 {'ab' * 8}..), seed 7, in 2 minutes of a processor: none differed.",
+            "",
+            "| Kind | Tried | In a minute of a processor |", "|---|---|---|",
+            "| `scripts` | 1,500 things | 1,500 things |",
+            "| `damage` | 5 things | 10 things |", "",
+            "<!-- end of what the fuzzer tried -->", "tail"])
+        Path("e").write_text("{}", encoding="utf-8")
+        for files, error in ((["a", "d"], "d is of the program cdcd"),
+                             (["e"], "e tells of no campaign: KeyError"),
+                             (["none"], "none tells of no campaign: FileNotFoundError")):
+            ran = self.script("fuzzed.py", "--write", *files)
+            self.assertEqual((ran.status, ran.lines), (1, []))
+            self.assertIn(error, ran.errors[-1])
+        self.assertEqual(Path("docs/TESTS.md").read_text(encoding="utf-8").splitlines(), lines)
