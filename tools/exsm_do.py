@@ -9,13 +9,16 @@ In a terminal there are a prompt (`exsm> `, and `exsm*> ` in a transaction), a h
 by Tab, and words beside the program's: `show X` tells bytes as text, `put PATH in FILE as @NAME`
 stores a file, `source PATH` runs lines, DATA may be text:"..", `help WORD` tells what a line does,
 and `quit` ends. A refused line is told and the session goes on; Ctrl-C drops the line.
+
+Where a server has the volume (exsm_serve.py), name its socket by --socket, or in VOLUME's place.
 """
 from __future__ import annotations
 
 import os
 import sys
 
-from exsm.commands import parser_of
+from exsm.client import Store
+from exsm.commands import add_socket, parser_of, store_of
 from exsm.do import run, run_lines
 from exsm.prompt import talk
 
@@ -26,10 +29,15 @@ def main() -> int:
     parser.add_argument("volume", metavar="VOLUME")
     parser.add_argument("script", metavar="SCRIPT", nargs="?",
                         help="a file with the lines; standard input where it isn't told")
+    add_socket(parser)
     words = parser.parse_args()
+
+    def opened() -> Store:
+        return store_of(words.volume, words.socket, words.wait)
+
     if words.script is None and sys.stdin.isatty():
-        return run(words.volume, lambda runner: talk(runner, os.fspath(words.volume)))
-    return run(words.volume, lambda runner: run_lines(runner, words.script))
+        return run(opened, lambda runner: talk(runner, os.fspath(words.volume)))
+    return run(opened, lambda runner: run_lines(runner, words.script))
 
 
 if __name__ == "__main__":

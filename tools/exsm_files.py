@@ -2,20 +2,23 @@
 """Keeps files of the file system as objects of a volume, under their names.
 
 exsm gives objects no names, so they stand in the volume too: its file `names` has one object of
-lines `NUMBER NAME`, its file `blobs` the objects, and its file `put_sources` where they came from.
-A file's bytes and its name change in one transaction, so a stop at any moment leaves them in step;
-a file above some 260 MB takes several, and has its name with the last one.
+lines `NUMBER NAME`, its file `blobs` the objects, `put_sources` where they came from, and
+`put_facts` the modes, times and digests that they had then. A file's bytes and its name change in
+one transaction, so a stop at any moment leaves them in step; a file above some 260 MB takes
+several, and has its name with the last one.
 
 A name is the last part of a path, or with -r the path as given. A name that comes twice, or that is
 there and was put from another path, is refused, unless --replace is given.
+
+Where a server has the volume (exsm_serve.py), name its socket by --socket, or in VOLUME's place.
 """
 from __future__ import annotations
 
 import argparse
 import sys
 
-from exsm.commands import add_wait, parser_of
-from exsm.files import get, get_all, ls, mv, rm, run
+from exsm.commands import add_socket, parser_of, store_of
+from exsm.files import Writing, get, get_all, ls, mv, rm, run, verify
 from exsm.putting import STANDARD_INPUT, put
 
 
@@ -28,7 +31,7 @@ def parser_of_words() -> argparse.ArgumentParser:
     """Reads the words."""
     parser = parser_of(__doc__)
     parser.add_argument("volume", metavar="VOLUME")
-    add_wait(parser)
+    add_socket(parser)
     commands = parser.add_subparsers(metavar="COMMAND", dest="command", required=True)
     add_put_and_get(commands)
     add_others(commands)
@@ -49,17 +52,19 @@ def add_put_and_get(commands) -> None:
         names, words.paths, words.name, words.recursive, words.replace))
 
     getting = commands.add_parser(
-        "get", usage="%(prog)s [-h] [--replace] (NAME [OUT] | -d DIR [NAME ...])",
+        "get", usage="%(prog)s [-h] [--replace] [-p] (NAME [OUT] | -d DIR [NAME ...])",
         help="writes the bytes to OUT, else to standard output; or files to a folder")
     getting.add_argument("-d", "--folder", metavar="DIR",
                          help="writes the files of the names, or all, to this folder")
     add_replace(getting, "writes over files that are there")
+    getting.add_argument("-p", "--preserve", action="store_true",
+                         help="gives them the modes and times that they had when they were put")
     getting.add_argument("names", metavar="NAME", nargs="*")
     getting.set_defaults(step=step_get)
 
 
 def add_others(commands) -> None:
-    """Reads the words of `ls`, `mv` and `rm`."""
+    """Reads the words of `ls`, `verify`, `mv` and `rm`."""
     listing = commands.add_parser("ls", help="tells sizes, identifiers and names")
     forms = listing.add_mutually_exclusive_group()
     forms.add_argument("-0", dest="form", action="store_const", const="zeros", default="lines",
@@ -67,6 +72,11 @@ def add_others(commands) -> None:
     forms.add_argument("--json", dest="form", action="store_const", const="json",
                        help="tells them as JSON")
     listing.set_defaults(step=lambda names, words: ls(names, words.form))
+
+    verifying = commands.add_parser(
+        "verify", help="compares the bytes of the files, or of all, with those that were put")
+    verifying.add_argument("names", metavar="NAME", nargs="*")
+    verifying.set_defaults(step=lambda names, words: verify(names, words.names))
 
     moving = commands.add_parser("mv", help="gives a file another name")
     add_replace(moving, "removes the file that has the new name")
@@ -83,10 +93,11 @@ def add_others(commands) -> None:
 
 def step_get(names, words: argparse.Namespace) -> None:
     """Does what the words of `get` say."""
+    how = Writing(words.replace, words.preserve)
     if words.folder is not None:
-        get_all(names, words.names, words.folder, words.replace)
+        get_all(names, words.names, words.folder, how)
     else:
-        get(names, words.names[0], (words.names[1:] or [None])[0], words.replace)
+        get(names, words.names[0], (words.names[1:] or [None])[0], how)
 
 
 def test(parser: argparse.ArgumentParser, words: argparse.Namespace) -> None:
@@ -108,7 +119,8 @@ def main() -> int:
     parser = parser_of_words()
     words = parser.parse_args()
     test(parser, words)
-    return run(words.volume, lambda names: words.step(names, words), words.wait)
+    return run(lambda: store_of(words.volume, words.socket, words.wait),
+               lambda names: words.step(names, words))
 
 
 if __name__ == "__main__":

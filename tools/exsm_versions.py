@@ -1,27 +1,38 @@
 #!/usr/bin/env python3
-"""Shows the versions of objects as trees, names them, and tells in what two of them differ.
+"""Shows the versions of objects as trees, names them, tells in what two of them differ, and goes
+back to one.
 
 A VERSION is an identifier, as 258.1.2, a name that was given here, or the name of a file that
-exsm_files.py keeps. Names of versions stand in the volume, in its file `version_names`. What
-differs is told by the leaves that two versions don't share, so what is common isn't read.
+exsm_files.py keeps. Names of versions stand in the volume, in its file `version_names`, and when
+they were given in `version_times`. What differs is told by the leaves that two versions don't
+share, so what is common isn't read.
+
+Where a server has the volume (exsm_serve.py), name its socket by --socket. Versions are read in the
+volume's file, so other users' lines wait meanwhile.
 """
 from __future__ import annotations
 
 import argparse
 import sys
 
-from exsm.commands import add_json, add_wait, parser_of
-from exsm.versions import change, diff, freeze, name, run, show, tree, unname
+from exsm.commands import add_socket, parser_of
+from exsm.versions import Place, back, change, diff, freeze, name, run, show, tree, unname
+
+
+def place_of(words: argparse.Namespace) -> Place:
+    """The volume that the words name, and the server that has it."""
+    return Place(words.volume, words.socket, words.wait)
 
 
 def parser_of_words() -> argparse.ArgumentParser:
     """Reads the words."""
     parser = parser_of(__doc__)
     parser.add_argument("volume", metavar="VOLUME")
-    add_wait(parser)
+    add_socket(parser)
     commands = parser.add_subparsers(metavar="COMMAND", required=True)
     add_shows(commands)
     add_names(commands)
+    add_back(commands)
     return parser
 
 
@@ -30,9 +41,13 @@ def add_shows(commands) -> None:
     showing = commands.add_parser(
         "tree", help="shows an object's versions; without VERSION those of all that have several")
     showing.add_argument("version", metavar="VERSION", nargs="?")
-    add_json(showing)
+    forms = showing.add_mutually_exclusive_group()
+    forms.add_argument("-t", "--times", dest="form", action="store_const", const="times",
+                       default="plain", help="tells when each version was given its name too")
+    forms.add_argument("--json", dest="form", action="store_const", const="json",
+                       help="tells it as JSON")
     showing.set_defaults(step=lambda words: show(
-        words.volume, lambda shown: tree(shown, words.version, words.json), words.wait))
+        place_of(words), lambda shown: tree(shown, words.version, words.form)))
 
     telling = commands.add_parser("diff", help="tells where two versions of an object differ")
     telling.add_argument("old", metavar="VERSION")
@@ -43,7 +58,7 @@ def add_shows(commands) -> None:
     forms.add_argument("--json", dest="form", action="store_const", const="json",
                        help="as JSON")
     telling.set_defaults(step=lambda words: show(
-        words.volume, lambda shown: diff(shown, words.old, words.new, words.form), words.wait))
+        place_of(words), lambda shown: diff(shown, words.old, words.new, words.form)))
 
 
 def add_names(commands) -> None:
@@ -54,21 +69,30 @@ def add_names(commands) -> None:
     naming.add_argument("version", metavar="VERSION")
     naming.add_argument("name", metavar="NAME")
     naming.set_defaults(step=lambda words: change(
-        words.volume, words.version, lambda store, names, version: name(
-            store, names, version, words.name, words.replace), words.wait))
+        place_of(words), words.version, lambda store, kept, version: name(
+            kept, version, words.name, words.replace)))
 
     removing = commands.add_parser("unname", help="removes a name; the version stays")
     removing.add_argument("name", metavar="NAME")
     removing.set_defaults(step=lambda words: change(
-        words.volume, None, lambda store, names, _: unname(store, names, words.name), words.wait))
+        place_of(words), None, lambda store, kept, _: unname(kept, words.name)))
 
     freezing = commands.add_parser(
         "freeze", help="keeps what a current version holds now, under a name")
     freezing.add_argument("version", metavar="VERSION")
     freezing.add_argument("name", metavar="NAME")
     freezing.set_defaults(step=lambda words: change(
-        words.volume, words.version, lambda store, names, version: freeze(
-            store, names, version, words.name), words.wait))
+        place_of(words), words.version, lambda store, kept, version: freeze(
+            store, kept, version, words.name)))
+
+
+def add_back(commands) -> None:
+    """Reads the words of `back`."""
+    going = commands.add_parser(
+        "back", help="gives a current version the bytes of another version of its object")
+    going.add_argument("version", metavar="VERSION")
+    going.add_argument("older", metavar="OLDER")
+    going.set_defaults(step=lambda words: back(place_of(words), words.version, words.older))
 
 
 def main() -> int:

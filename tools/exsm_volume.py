@@ -2,11 +2,12 @@
 """Reads a volume file as docs/FORMATS.md describes it, without exsm. It never writes to the volume.
 
 It reads volumes that exsm refuses as bad, and media that can't be written; without a superblock,
-and of a file that was cut off, it reads what the catalog leads to. `check` makes the tests that an
-opening makes, and tells the part that it refuses. Of a version with a fault in its tree, `save`
-writes what the rest of the tree names, each byte at its position, to FOLDER/FILE/OID.damaged, and
-tells the ranges that are missing, which are zeros there. What exsm_files.py put is saved under its
-name. `mend` copies a volume of which only bytes are wrong that no version reads.
+and of a file that was cut off, it reads what the catalog leads to. Beside a run it may tell faults
+that are none, and says that the run is there. `check` makes the tests that an opening makes, and
+tells the part that it refuses. Of a version with a fault in its tree, `save` writes what the rest
+of the tree names, each byte at its position, to FOLDER/FILE/OID.damaged, and tells the ranges that
+are missing, which are zeros there. What exsm_files.py put is saved under its name. `mend` copies a
+volume of which only bytes are wrong that no version reads.
 """
 from __future__ import annotations
 
@@ -16,6 +17,7 @@ import sys
 
 from exsm.checking import CantMend, check, ended, mend
 from exsm.commands import add_json, parser_of
+from exsm.lock import told_where_held
 from exsm.records import BadVolume
 from exsm.saving import get, list_versions, save_all
 from exsm.volume import NoVersion, Volume
@@ -32,8 +34,12 @@ def parser_of_words() -> argparse.ArgumentParser:
 
     listing = commands.add_parser(
         "list", help="tells the versions that can be read: size, identifier, file")
-    add_json(listing)
-    listing.set_defaults(step=lambda volume, words: list_versions(volume, words.json))
+    forms = listing.add_mutually_exclusive_group()
+    forms.add_argument("-0", dest="form", action="store_const", const="zeros", default="lines",
+                       help="the names that exsm_files.py keeps alone, a zero byte behind each")
+    forms.add_argument("--json", dest="form", action="store_const", const="json",
+                       help="tells it as JSON")
+    listing.set_defaults(step=lambda volume, words: list_versions(volume, words.form))
 
     getting = commands.add_parser("get", help="writes a version's bytes to standard output")
     getting.add_argument("oid", metavar="OID")
@@ -50,16 +56,22 @@ def parser_of_words() -> argparse.ArgumentParser:
     return parser
 
 
+def step(words: argparse.Namespace) -> int:
+    """Does what the words say, and gives the exit status."""
+    if words.command == "check":
+        return check(words.volume, words.json)
+    if words.command == "mend":
+        return mend(words.volume, words.copy)
+    with Volume(words.volume) as volume:
+        return words.step(volume, words)
+
+
 def main() -> int:
     """Does what the words say, and gives the exit status."""
     words = parser_of_words().parse_args()
     try:
-        if words.command == "check":
-            return check(words.volume, words.json)
-        if words.command == "mend":
-            return mend(words.volume, words.copy)
-        with Volume(words.volume) as volume:
-            return words.step(volume, words)
+        with told_where_held(words.volume, "exsm_volume"):
+            return step(words)
     except (BadVolume, NoVersion, CantMend, OSError) as fault:
         return ended(words.volume, fault)
 

@@ -9,56 +9,57 @@
         store.backup("v.backup")
 
 A line that is refused raises `Refused`, and the transaction that it stands in is then aborted.
-Where the program ends before its script does, `Ended` has its status and what it said; `Locked`,
-`Missing`, `Denied` and `NoVolume` are the causes that can be told. docs/PYTHON.md has it all.
+`Store.connect(SOCKET)` speaks to a server, `exsm_serve.py`, beside other users. Where the program
+ends before its script does, `Ended` has its status and what it said; `Locked`, `Missing`, `Denied`
+and `NoVolume` are the causes that can be told. docs/PYTHON.md has it all.
 """
 from __future__ import annotations
 
 import itertools
 import os
+import random
 import sys
 import threading
+import time
+import weakref
 from contextlib import contextmanager
 from typing import Iterator, NamedTuple, Optional
 
+from exsm.library import LibraryMissing, opened
+from exsm.objects import LINE_MOST, PIECE, READ_PIECE, Objects
+from exsm.refusals import Refused, shortened
+from exsm.sockets import SocketRun
 from exsm.transport import (
-    STATUS_NAMES, AnyPath, Denied, Ended, Locked, Missing, NoVolume, ProgramMissing, Transport,
-    find_program, opened, status_words)
+    STATUS_NAMES, AnyPath, Cut, Denied, Ended, Locked, Missing, NoVolume, ProgramMissing, Transport,
+    find_program, status_words)
 from exsm.whole import copy_volume
 
 __all__ = [
-    "AnyPath", "Broken", "Denied", "Ended", "LINE_MOST", "Locked", "Missing", "NoVolume", "PIECE",
-    "ProgramMissing", "Refused", "STATUS_NAMES", "Scan", "Shape", "Space", "Store", "Transport",
-    "UPDATES_MOST", "find_program", "is_answered", "leave_output", "shortened", "status_words"]
-
-LINE_MOST = 1_048_576
-"""Bytes of a line, without its line feed."""
+    "AnyPath", "Broken", "Cut", "Denied", "Ended", "LINE_MOST", "LibraryMissing", "Locked",
+    "Missing", "NoVolume", "PIECE", "ProgramMissing", "Refused", "STATUS_NAMES", "Scan", "Shape",
+    "Space", "Store", "Transport", "UPDATES_MOST", "find_program", "is_answered", "leave_output",
+    "shortened", "status_words"]
 
 UPDATES_MOST = 512
 """Updates of a transaction."""
 
-WORDS_ROOM = 128
-"""What a line of data needs at most beside its digits: its word, an identifier, a position."""
+BUSY_WAIT = 10.0
+"""Seconds for which a line waits for another user's transaction where nothing else is told."""
 
-PIECE = (LINE_MOST - WORDS_ROOM) // 2
-"""Bytes of data that fit on a line, each as two digits."""
+OWN = b"client_"
+"""What the names begin with that a store binds by itself."""
 
-READ_PIECE = 1 << 20
-"""Bytes that `Store.pieces` asks for at a time; a line may ask for at most 16,777,216."""
+KEEPING = ([b"create"], [b"freeze"], [b"derive"], [b"scan"], [b"group"])
+"""The first words of lines that bind a name, or open something."""
 
-SHOWN_MOST = 72
-"""Characters of a line that the text of `Refused` shows."""
+BUSY = "no 25 busy "
+"""What the refusal of a line begins with that another user's transaction keeps off."""
+
+PAUSE_LEAST, PAUSE_MOST = 0.001, 0.1
+"""Seconds between two tries of a line that is refused as busy: they double, up to the most."""
 
 Words = list[str]
 """Words of a reply."""
-
-
-class Refused(Exception):
-    """A line was answered `no NUMBER NAME VALUE..`. It changed nothing, and the run goes on."""
-
-    def __init__(self, line: str, number: int, name: str, values: Words) -> None:
-        self.line, self.number, self.name, self.values = line, number, name, values
-        super().__init__(f"{shortened(line)}: {' '.join([str(number), name, *values])}")
 
 
 class Broken(Exception):
@@ -81,13 +82,6 @@ class Shape(NamedTuple):
     height: Optional[int]
     leaves: int
     first_lengths: list[int]
-
-
-def shortened(line: str) -> str:
-    """The line, or its beginning and its length where it is long."""
-    if len(line) <= SHOWN_MOST:
-        return line
-    return f"{line[:SHOWN_MOST]} .. ({len(line)} bytes)"
 
 
 def is_answered(line: bytes) -> bool:
@@ -120,8 +114,7 @@ class Scan:
 
     def next(self, length: int) -> bytes:
         """The next bytes, or all that are left where they are fewer."""
-        words = self._store.ask(f"next {self._name} {length}")
-        return bytes.fromhex(words[1]) if len(words) > 1 else b""
+        return self._store.objects.next(self._name, length)
 
     def __iter__(self) -> Iterator[bytes]:
         while piece := self.next(READ_PIECE):
@@ -133,11 +126,21 @@ class Scan:
 
 
 class Store:
-    """One run of `exsm run VOLUME`. No other run may have the volume meanwhile.
+    """One run of `exsm run VOLUME`, or a connection to a server that has one with other users.
 
     Threads may share it. A line and its reply stay together, and a transaction belongs to the
-    thread that began it: lines of the others wait until it ends.
+    thread that began it: lines of the others wait until it ends. At a server a line also waits
+    while another user's transaction is open, for `busy_wait` seconds at most.
     """
+
+    is_shared = False
+    """Whether other users' lines come between those of this store: it is a server's."""
+
+    busy_wait = 0.0
+    """Seconds for which a line that is refused as busy is tried again."""
+
+    begun = 0
+    """The number that the commit of the transaction has that was begun last."""
 
     def __init__(self, volume: AnyPath, program: Optional[str] = None, wait: float = 0) -> None:
         """Opens the volume, and waits so many seconds where another run has it.
@@ -145,6 +148,19 @@ class Store:
         Where it can't be opened: `Locked`, `Missing`, `Denied`, `NoVolume`, or another `Ended`.
         """
         self._begin(opened(volume, program, wait), volume)
+
+    @classmethod
+    def connect(cls, path: AnyPath, wait: float = 0, busy_wait: float = BUSY_WAIT,
+                volume: Optional[AnyPath] = None) -> Store:
+        """A store over a connection to the server of a socket, `exsm_serve.py VOLUME SOCKET`.
+
+        It waits so many seconds for a server that isn't there yet; else `OSError` says why there
+        is none. A line that is refused since another user's transaction is open is tried again
+        for `busy_wait` seconds. `backup` wants the name of the volume's file.
+        """
+        store = cls.over(SocketRun(path, wait), volume)
+        store.is_shared, store.busy_wait = True, busy_wait
+        return store
 
     @classmethod
     def over(cls, transport: Transport, volume: Optional[AnyPath] = None) -> Store:
@@ -159,6 +175,14 @@ class Store:
         self._lock = threading.RLock()
         self._names = itertools.count(1)
         self._waits = False
+        self._bound = False                        # whether a call of this store bound a name
+        self._scans = 0                            # those of `scan` that are open
+        self._keeps = False                        # whether lines of the caller bound or opened
+        this = weakref.proxy(self)                 # so that a store that is forgotten goes at once
+        of_session = getattr(transport, "objects", Objects)
+        self.objects: Objects = of_session(lambda line: this.ask(line),
+                                           lambda line: this._bind(line))
+        """The calls on objects: lines, or those of the session, where it takes bytes."""
 
     # Lines.
 
@@ -171,17 +195,36 @@ class Store:
                 raise Broken("the wait for the reply to an earlier line was broken off, so no "
                              "later reply can be told from it: close this store, open another")
             self._waits = True
+            self._keeps = self._keeps or line.split(None, 1)[:1] in KEEPING and OWN not in line
             self._transport.send(line)
             reply = self._transport.receive() if is_answered(line) else None
             self._waits = False
             return reply
 
-    def ask(self, line: str) -> Words:
-        """Sends a line, and gives the words of its reply behind `ok` and the first word."""
+    def patient_exchange(self, line: bytes, busy_wait: Optional[float] = None) -> Optional[str]:
+        """Exchanges a line; where another user's transaction is open it is tried again.
+
+        That is done with growing pauses, for so many seconds, or for `self.busy_wait`.
+        """
+        until = time.monotonic() + (self.busy_wait if busy_wait is None else busy_wait)
+        pause = PAUSE_LEAST
+        while True:
+            reply = self.exchange(line)
+            left = until - time.monotonic()
+            if reply is None or not reply.startswith(BUSY) or left <= 0:
+                return reply
+            time.sleep(min(left, pause * random.uniform(0.5, 1)))
+            pause = min(2 * pause, PAUSE_MOST)
+
+    def ask(self, line: str, busy_wait: Optional[float] = None) -> Words:
+        """Sends a line, and gives the words of its reply behind `ok` and the first word.
+
+        A line that is refused changed nothing; one that is refused as busy is tried again.
+        """
         sent = line.encode("ascii")
         if not is_answered(sent):
             raise ValueError(f"no reply comes to this line: {shortened(line)}")
-        words = (self.exchange(sent) or "").split()
+        words = (self.patient_exchange(sent, busy_wait) or "").split()
         if words[0] == "no":
             raise Refused(line, int(words[1]), words[2], words[3:])
         return words[2:]
@@ -196,38 +239,94 @@ class Store:
     def __exit__(self, kind: object, *_: object) -> None:
         try:
             self.close()
-        except Ended:
+        except (Ended, Cut):
             if kind is None:                       # else the first fault is the one to tell
                 raise
 
     # Transactions and files.
 
     @contextmanager
-    def transaction(self) -> Iterator[Store]:
-        """Commits what is done within; a fault of any kind aborts it and goes on to the caller."""
+    def transaction(self, busy_wait: Optional[float] = None) -> Iterator[Store]:
+        """Commits what is done within; a fault of any kind aborts it and goes on to the caller.
+
+        Where another user's transaction is open, its `begin` is tried again for so many seconds,
+        or for `self.busy_wait`; then `Refused` says `busy`.
+        """
         with self._lock:
-            self.ask("begin")
+            self.begun = int(self.ask("begin", busy_wait)[0])
             try:
                 yield self
-            except (Ended, Broken):
+            except (Ended, Broken, Cut):
                 raise
             except BaseException:
-                if not self._waits:
-                    self.ask("abort")
+                self._give_up()
                 raise
             self.ask("commit")
+            self._let_go()
+
+    def _let_go(self) -> None:
+        """At a server, gives up names that nobody asks for again, and with them its client.
+
+        They are bound as long as the connection stays, so the next line begins another one.
+        """
+        is_served = isinstance(self._transport, SocketRun)
+        if is_served and self._bound and not self._keeps and not self._scans:
+            self._bound = False
+            self._transport.pause()
+
+    def _bind(self, line: str) -> str:
+        """Makes a version by a line to which a name is added, and gives its identifier."""
+        oid, = self.ask(f"{line} as @{OWN.decode()}{next(self._names)}")
+        self._bound = True
+        return oid
+
+    def _give_up(self) -> None:
+        """Aborts the open transaction, where lines can be sent and the server hasn't done so.
+
+        Where the run has ended meanwhile, what led here is the fault to tell, and `close` tells it.
+        """
+        if not self._waits:
+            try:
+                self.ask("abort")
+            except Refused as no:
+                if no.name != "no_txn":
+                    raise
+            except (Ended, Cut):
+                pass
+
+    @contextmanager
+    def snapshot(self) -> Iterator[Store]:
+        """What is read within is of one moment: at a server no user commits meanwhile.
+
+        There it is a transaction, which is aborted at the end; else nothing comes between anyway.
+        """
+        with self._lock:
+            if self.is_shared:
+                self.begun = int(self.ask("begin")[0])
+            try:
+                yield self
+            finally:
+                if self.is_shared and self.is_usable():
+                    self._give_up()
 
     def backup(self, path: AnyPath) -> int:
         """Copies the volume as the last commit left it, and gives that commit's number.
 
         The copy is synced and opened by the program before it gets its name. Lines of other
-        threads wait meanwhile; an open transaction goes on, and isn't in the copy. A file that is
-        there is refused by `FileExistsError`.
+        threads wait meanwhile; an open transaction goes on, and isn't in the copy. At a server a
+        transaction of this store keeps other users from commits. A file that is there is refused
+        by `FileExistsError`.
         """
         if self.volume is None:
             raise ValueError("this store has no file of a volume that could be copied")
         with self._lock:
-            return copy_volume(self.volume, path)
+            try:
+                with self.snapshot():
+                    return copy_volume(self.volume, path)
+            except Refused as no:
+                if no.name != "txn_open":          # this store's own keeps the others off
+                    raise
+                return copy_volume(self.volume, path)
 
     def checkpoint(self) -> None:
         """Writes logged pages home and empties the log."""
@@ -262,7 +361,8 @@ class Store:
 
     def create(self, file: str) -> str:
         """Makes an empty object in a file, and gives its identifier."""
-        return self.ask(f"create {file} as @client_{next(self._names)}")[0]
+        with self._lock:
+            return self.objects.create(file)
 
     def destroy(self, oid: str) -> None:
         """Removes a current version, and its object where it is the only one."""
@@ -270,11 +370,13 @@ class Store:
 
     def freeze(self, oid: str) -> str:
         """Puts a frozen copy of a current version before it, and gives the copy's identifier."""
-        return self.ask(f"freeze {oid} as @client_{next(self._names)}")[0]
+        with self._lock:
+            return self.objects.freeze(oid)
 
     def derive(self, oid: str) -> str:
         """Makes a current version with the bytes of a frozen one, and gives its identifier."""
-        return self.ask(f"derive {oid} as @client_{next(self._names)}")[0]
+        with self._lock:
+            return self.objects.derive(oid)
 
     def versions(self, oid: str) -> Words:
         """The identifiers of all versions of an object, each before those derived from it."""
@@ -286,7 +388,8 @@ class Store:
 
     def size(self, oid: str) -> int:
         """The bytes of an object."""
-        return int(self.ask(f"size {oid}")[0])
+        with self._lock:
+            return self.objects.size(oid)
 
     def stat(self, oid: str) -> Shape:
         """Whether an object is small or large, and how a large one lies."""
@@ -296,34 +399,50 @@ class Store:
         return Shape(int(size), int(words[1]), int(words[3]), [int(word) for word in words[4:]])
 
     def digest(self, oid: str) -> bytes:
-        """The SHA-256 of an object's bytes, which the program reads itself."""
-        return bytes.fromhex(self.ask(f"digest {oid}")[0])
+        """The SHA-256 of an object's bytes, which the session reads itself."""
+        with self._lock:
+            return self.objects.digest(oid)
+
+    def _pieces_of(self, data: bytes) -> Iterator[tuple[int, bytes]]:
+        """Bytes in pieces that a call takes, each with its place among them."""
+        piece = self.objects.piece
+        if len(data) <= piece:
+            if data:
+                yield 0, data
+            return
+        for start in range(0, len(data), piece):
+            yield start, data[start:start + piece]
 
     def append(self, oid: str, data: bytes) -> None:
-        """Puts bytes at the end, in as many lines as they need."""
-        for start in range(0, len(data), PIECE):
-            self.ask(f"append {oid} hex:{data[start:start + PIECE].hex()}")
+        """Puts bytes at the end, in as many calls as they need."""
+        for _, piece in self._pieces_of(data):
+            with self._lock:
+                self.objects.append(oid, piece)
 
     def insert(self, oid: str, position: int, data: bytes) -> None:
-        """Puts bytes in before the one at a position, in as many lines as they need."""
-        for start in range(0, len(data), PIECE):
-            self.ask(f"insert {oid} {position + start} hex:{data[start:start + PIECE].hex()}")
+        """Puts bytes in before the one at a position, in as many calls as they need."""
+        for start, piece in self._pieces_of(data):
+            with self._lock:
+                self.objects.insert(oid, position + start, piece)
 
     def replace(self, oid: str, position: int, data: bytes) -> None:
-        """Puts bytes over those from a position on, in as many lines as they need."""
-        for start in range(0, len(data), PIECE):
-            self.ask(f"replace {oid} {position + start} hex:{data[start:start + PIECE].hex()}")
+        """Puts bytes over those from a position on, in as many calls as they need."""
+        for start, piece in self._pieces_of(data):
+            with self._lock:
+                self.objects.replace(oid, position + start, piece)
 
     def delete(self, oid: str, position: int, length: int) -> None:
         """Takes bytes out."""
-        self.ask(f"delete {oid} {position} {length}")
+        with self._lock:
+            self.objects.delete(oid, position, length)
 
     def pieces(self, oid: str, position: int = 0, length: Optional[int] = None) -> Iterator[bytes]:
         """The bytes from a position on, as many as told or all, a piece at a time."""
         end = self.size(oid) if length is None else position + length
         while position < end:
-            asked = min(READ_PIECE, end - position)
-            piece = bytes.fromhex(self.ask(f"read {oid} {position} {asked}")[1])
+            with self._lock:
+                piece = self.objects.read(oid, position,
+                                          min(self.objects.read_piece, end - position))
             position += len(piece)
             yield piece
 
@@ -336,12 +455,16 @@ class Store:
     @contextmanager
     def scan(self, oid: str) -> Iterator[Scan]:
         """Opens a scan of an object's bytes as they are now; the end of the block closes it."""
-        scan = Scan(self, f"client_scan_{next(self._names)}", oid)
+        self._scans += 1
         try:
-            yield scan
+            scan = Scan(self, f"{OWN.decode()}scan_{next(self._names)}", oid)
+            try:
+                yield scan
+            finally:
+                if self.is_usable():
+                    scan.close()
         finally:
-            if self.is_usable():
-                scan.close()
+            self._scans -= 1
 
     def is_usable(self) -> bool:
         """Whether lines can be sent: the run goes on, and each reply was read."""

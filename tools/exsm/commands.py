@@ -2,10 +2,12 @@
 from __future__ import annotations
 
 import argparse
-from typing import Optional
+import os
+from typing import IO, Optional
 
-from exsm.client import Ended
+from exsm.client import BUSY_WAIT, AnyPath, Ended, Store
 from exsm.new import WrongSize, size_of
+from exsm.sockets import is_socket
 
 
 def parser_of(text: Optional[str]) -> argparse.ArgumentParser:
@@ -33,10 +35,46 @@ def size(word: str) -> int:
         raise argparse.ArgumentTypeError(str(fault)) from None
 
 
+RED, GREEN, CYAN = "31", "32", "36"
+"""Colours, by their numbers in a terminal."""
+
+
+def is_coloured(stream: IO[str]) -> bool:
+    """Whether colours may be written to a stream: a terminal that has them, unless NO_COLOR is
+    set."""
+    return (stream.isatty() and not os.environ.get("NO_COLOR")
+            and os.environ.get("TERM", "dumb") != "dumb")
+
+
+def coloured(text: str, colour: str) -> str:
+    """A text in a colour of the terminal."""
+    return f"\x1b[{colour}m{text}\x1b[0m"
+
+
 def add_wait(parser: argparse.ArgumentParser) -> None:
     """Takes how long to wait for a volume."""
     parser.add_argument("--wait", metavar="SECONDS", type=seconds, default=0.0,
-                        help="how long to wait where another run has the volume; 0 where it isn't told")
+                        help="how long to wait where another run has the volume; 0 where it isn't "
+                             "told")
+
+
+def add_socket(parser: argparse.ArgumentParser) -> None:
+    """Takes the socket of a server that has the volume, and how long to wait."""
+    parser.add_argument("--socket", metavar="SOCKET",
+                        help="the socket of a server, exsm_serve.py, that has the volume")
+    parser.add_argument("--wait", metavar="SECONDS", type=seconds,
+                        help="how long to wait where another run has the volume, 0 where it isn't "
+                             "told; at a server, where another user's transaction is open, "
+                             f"{BUSY_WAIT:.0f}")
+
+
+def store_of(volume: AnyPath, socket: Optional[AnyPath], wait: Optional[float]) -> Store:
+    """A store over a volume, or over the server that has it; VOLUME may also be its socket."""
+    if socket is None and is_socket(volume):
+        return Store.connect(volume, busy_wait=BUSY_WAIT if wait is None else wait)
+    if socket is None:
+        return Store(volume, wait=wait or 0)
+    return Store.connect(socket, wait or 0, BUSY_WAIT if wait is None else wait, volume)
 
 
 def add_json(parser: argparse.ArgumentParser) -> None:

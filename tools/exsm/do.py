@@ -7,8 +7,9 @@ from contextlib import contextmanager
 from typing import Callable, Iterable, Iterator, Optional
 
 from exsm.client import (
-    AnyPath, Broken, Ended, ProgramMissing, Store, leave_output, shortened)
-from exsm.commands import status_of
+    AnyPath, Broken, Ended, ProgramMissing, Refused, Store, leave_output, shortened)
+from exsm.commands import RED, coloured, is_coloured, status_of
+from exsm.hints import more_of
 from exsm.lines import reason_of
 from exsm.spelling import meaning
 
@@ -18,7 +19,8 @@ BINDING = ("create", "freeze", "derive")
 
 def tell(text: str) -> None:
     """Writes a line to standard error."""
-    print(f"exsm_do: {text}", file=sys.stderr, flush=True)
+    text = f"exsm_do: {text}"
+    print(coloured(text, RED) if is_coloured(sys.stderr) else text, file=sys.stderr, flush=True)
 
 
 @contextmanager
@@ -42,7 +44,7 @@ class Runner:
 
     def step(self, line: bytes, number: int) -> bool:
         """Sends a line and prints its reply; false where it was refused, which is told."""
-        reply = self.store.exchange(line)
+        reply = self.store.patient_exchange(line)
         if reply is None:
             return True
         print(reply, flush=True)
@@ -51,9 +53,16 @@ class Runner:
         if answer == "ok":
             self._note(words[0], text.split())
             return True
-        tell(f"line {number}: {shortened(text)}")
-        tell(meaning(text, words[1], words[2:]))
+        if words[1] == "no_txn":
+            self.in_transaction = False            # a server has aborted it
+        self.tell_refusal(f"line {number}: {shortened(text)}", text, words[1], words[2:])
         return False
+
+    def tell_refusal(self, which: str, line: str, name: str, values: list[str]) -> None:
+        """Tells which line was refused, what that means, and what the run says that helps."""
+        more = more_of(self.store, line, name, values)
+        for text in filter(None, [which, meaning(line, name, values), more]):
+            tell(text)
 
     def _note(self, word: str, line: list[str]) -> None:
         """Notes what an accepted line opens, closes or binds."""
@@ -70,7 +79,11 @@ class Runner:
     def give_up(self) -> None:
         """Aborts an open transaction, and tells so."""
         if self.in_transaction:
-            self.store.ask("abort")
+            try:
+                self.store.ask("abort")
+            except Refused as no:
+                if no.name != "no_txn":            # else a server has done so
+                    raise
             tell("the open transaction is aborted")
 
 
@@ -95,12 +108,12 @@ def run_lines(runner: Runner, script: Optional[AnyPath]) -> int:
         return run_script(runner, lines)
 
 
-def run(volume: AnyPath, steps: Callable[[Runner], int]) -> int:
-    """Hands a run on a volume to these steps, tells a fault, and gives the exit status."""
+def run(opened: Callable[[], Store], steps: Callable[[Runner], int]) -> int:
+    """Hands a session to these steps, tells a fault, and gives the exit status."""
     runner = None
     try:
         with interrupts_ignored():                 # else Ctrl-C would end the program besides
-            store = Store(volume)
+            store = opened()
         with store:
             runner = Runner(store)
             return steps(runner)

@@ -3,15 +3,18 @@ from __future__ import annotations
 
 import json
 import os
+import re
 import signal
 import sys
-from typing import Callable, Iterable, Optional
+from contextlib import contextmanager
+from datetime import datetime, timezone
+from typing import Callable, Iterable, Iterator, NamedTuple, Optional
 
-from exsm.client import AnyPath, Broken, Ended, ProgramMissing, Refused, Store, leave_output
+from exsm.client import Broken, Ended, ProgramMissing, Refused, Store, leave_output
 from exsm.commands import status_of
 from exsm.lines import reason_of
 from exsm.names import (
-    BLOBS_FILE, NAME_LINE, NAMES_FILE, SOURCES_FILE, NameList, Wrong, unique_of)
+    BLOBS_FILE, FACTS_FILE, NAME_LINE, NAMES_FILE, SOURCES_FILE, NameList, Wrong, unique_of)
 from exsm.progress import Progress
 from exsm.spelling import meaning
 from exsm.whole import remove_left, whole_file
@@ -21,7 +24,47 @@ __all__ = ["BLOBS_FILE", "NAMES_FILE", "NAME_LINE", "Names", "Wrong"]
 INTERRUPTED = 130
 """The exit status after Ctrl-C."""
 
-INTERRUPTION = "exsm_files: interrupted; what was told is done, and no file is in the volume in part"
+INTERRUPTION = ("exsm_files: interrupted; what was told is done, and no file is in the volume in "
+                "part")
+
+FACTS = re.compile(rb"(-|[0-7]{1,4}) (-|-?[0-9]{1,20}) ([0-9a-f]{64})")
+"""What is kept of a file: its mode in octal digits, its time in nanoseconds, its SHA-256."""
+
+
+class Facts(NamedTuple):
+    """What is kept of a file beside its bytes: its mode and its time, where it was a file that has
+    them, and the SHA-256 of its bytes."""
+
+    mode: Optional[int]
+    time: Optional[int]
+    """Nanoseconds since 1970."""
+    sha256: str
+
+    def text(self) -> bytes:
+        """The facts as the volume keeps them."""
+        mode = "-" if self.mode is None else f"{self.mode:o}"
+        return f"{mode} {'-' if self.time is None else self.time} {self.sha256}".encode()
+
+    @classmethod
+    def of(cls, text: Optional[bytes]) -> Optional[Facts]:
+        """The facts that a volume keeps; None of another text."""
+        found = FACTS.fullmatch(text or b"")
+        if found is None:
+            return None
+        mode, time, digest = (part.decode() for part in found.groups())
+        return cls(None if mode == "-" else int(mode, 8), None if time == "-" else int(time),
+                   digest)
+
+    def as_json(self) -> dict[str, Optional[str]]:
+        """The facts as a program reads them."""
+        time = None if self.time is None else datetime.fromtimestamp(
+            self.time / 10 ** 9, timezone.utc).isoformat(timespec="seconds")
+        return {"mode": None if self.mode is None else f"{self.mode:o}", "time": time,
+                "sha256": self.sha256 or None}
+
+
+NO_FACTS = Facts(None, None, "")
+"""What is kept of a file that was put before facts were."""
 
 
 class Names:
@@ -29,32 +72,66 @@ class Names:
 
     def __init__(self, store: Store) -> None:
         self.store = store
-        files = store.files()
-        self._list = NameList(store, NAMES_FILE, files)
-        self._sources = NameList(store, SOURCES_FILE, files)
+        with store.snapshot():
+            self._read()
+
+    def _read(self) -> None:
+        """Reads the names, of one moment."""
+        self._last = self.store.begun - 1          # at a server: the commit that they are of
+        files = self.store.files()
+        self._list = NameList(self.store, NAMES_FILE, files)
+        self._sources = NameList(self.store, SOURCES_FILE, files)
+        self._facts = NameList(self.store, FACTS_FILE, files)
         self._has_blobs = BLOBS_FILE in files
         self.uniques = {name: unique for unique, name in self._list.lines}
         self.sources = dict(self._sources.lines)
+        self._facts_of = dict(self._facts.lines)
         self.places: dict[int, str] = {}
         if self._has_blobs:
-            self.places = {unique_of(oid): oid for oid in store.list(BLOBS_FILE)}
+            self.places = {unique_of(oid): oid for oid in self.store.list(BLOBS_FILE)}
+
+    @contextmanager
+    def transaction(self) -> Iterator[None]:
+        """A transaction of the store; what other users committed meanwhile is read first."""
+        with self.store.transaction():
+            if self.store.is_shared and self.store.begun - 1 != self._last:
+                self._read()
+            yield
+        self._last = self.store.begun
+
+    @contextmanager
+    def snapshot(self) -> Iterator[None]:
+        """What is read within is of one moment, and so are the names."""
+        with self.store.snapshot():
+            if self.store.is_shared and self.store.begun - 1 != self._last:
+                self._read()
+            yield
 
     def prepare(self) -> None:
         """Makes the files where the volume doesn't have them, and removes what a stop left."""
-        if not (self._has_blobs and self._list.object and self._sources.object):
-            with self.store.transaction():
+        if not (self._has_blobs and all(it.object for it in self._lists())):
+            with self.transaction():
                 if not self._has_blobs:
                     self.store.file(BLOBS_FILE)
                     self._has_blobs = True
-                self._list.prepare()
-                self._sources.prepare()
+                for it in self._lists():
+                    it.prepare()
         self.clean()
 
+    def _lists(self) -> tuple[NameList, ...]:
+        """The lists that a volume keeps of its files."""
+        return self._list, self._sources, self._facts
+
     def clean(self) -> None:
-        """Removes the objects of files whose put was stopped: they have a source and no name."""
+        """Removes the objects of files whose put was stopped: they have a source and no name.
+
+        At a server nothing is removed: another user may be at it.
+        """
+        if self.store.is_shared:
+            return
         named = set(self.uniques.values())
         for unique in [unique for unique in self.sources if unique not in named]:
-            with self.store.transaction():
+            with self.transaction():
                 if unique in self.places:
                     self.store.destroy(self.places.pop(unique))
                 self._sources.remove(unique)
@@ -66,6 +143,10 @@ class Names:
     def source(self, name: bytes) -> Optional[bytes]:
         """The path that a name was put from, where it is known."""
         return self.sources.get(self.uniques[name])
+
+    def facts(self, name: bytes) -> Optional[Facts]:
+        """What was kept of a name's file when it was put, where it was."""
+        return Facts.of(self._facts_of.get(self.uniques[name]))
 
     def oid(self, name: bytes) -> str:
         """The identifier of a name's object."""
@@ -105,9 +186,21 @@ class Names:
         self._sources.add(unique, source)
         self.sources[unique] = source
 
-    def name(self, name: bytes, oid: str) -> None:
-        """Names a version; the one that has the name goes."""
+    def give_up(self, oid: str) -> None:
+        """Removes a version that gets no name, and its source."""
         unique = unique_of(oid)
+        self.store.destroy(self.places.pop(unique))
+        self._sources.remove(unique)
+        del self.sources[unique]
+
+    def name(self, name: bytes, oid: str, facts: Facts) -> None:
+        """Names a version whose bytes are there; the one that has the name goes."""
+        unique = unique_of(oid)
+        if unique in self._facts_of:
+            self._facts.change(unique, facts.text())
+        else:
+            self._facts.add(unique, facts.text())
+        self._facts_of[unique] = facts.text()
         if self.uniques.get(name) == unique:
             return
         if name in self:
@@ -121,6 +214,8 @@ class Names:
         if unique in self.places:
             self.store.destroy(self.places.pop(unique))
         self._list.remove(unique, name)
+        if self._facts_of.pop(unique, None) is not None:
+            self._facts.remove(unique)
         if self.sources.pop(unique, None) is not None:
             self._sources.remove(unique)
 
@@ -152,7 +247,7 @@ class Names:
                 self.places.pop(unique_of(oid), None)
 
     def rename(self, old: bytes, new: bytes, replace: bool) -> None:
-        """Gives an object another name, and removes the object that has it where that is asked for."""
+        """Gives an object another name; the object that has it goes where that is asked for."""
         unique = unique_of(self.oid(old))
         if new in self and new != old:
             if not replace:
@@ -165,33 +260,46 @@ class Names:
 def name_of(text: str) -> bytes:
     """The name that a text is: a path without empty parts, `.` and `..`, in one line."""
     name = os.fsencode(text)
-    if b"\n" in name or b"\0" in name or any(part in (b"", b".", b"..") for part in name.split(b"/")):
-        raise Wrong(f"{text!r} can't be a name: a name is one line, and a path without `.` and `..`")
+    is_plain = all(part not in (b"", b".", b"..") for part in name.split(b"/"))
+    if b"\n" in name or b"\0" in name or not is_plain:
+        raise Wrong(f"{text!r} can't be a name: a name is one line, and a path without `.` and "
+                    "`..`")
     return name
 
 
 # The commands but put.
 
-def get(names: Names, name: str, out: Optional[str], replace: bool) -> None:
+class Writing(NamedTuple):
+    """How files are made of objects."""
+
+    replace: bool = False
+    """Whether a file that is there is written anew, and not refused."""
+    preserve: bool = False
+    """Whether it gets the mode and the time that it had when it was put."""
+
+
+def get(names: Names, name: str, out: Optional[str], how: Writing) -> None:
     """Writes the bytes under a name to a file, or else to standard output."""
     oid = names.oid(os.fsencode(name))
     if out is not None:
-        write_all(names, {oid: out}, replace)
+        write_all(names, {os.fsencode(name): out}, how)
         return
-    sys.stdout.buffer.writelines(names.store.pieces(oid))
+    with names.store.scan(oid) as scan:
+        sys.stdout.buffer.writelines(scan)
     sys.stdout.buffer.flush()
 
 
-def get_all(names: Names, wanted: list[str], folder: str, replace: bool) -> None:
+def get_all(names: Names, wanted: list[str], folder: str, how: Writing) -> None:
     """Writes what stands under names, or under all, to files of a folder, and tells each."""
     targets = {}
     for name in map(os.fsencode, wanted) if wanted else names.uniques:
-        targets[names.oid(name)] = os.path.join(folder, os.fsdecode(name_of(os.fsdecode(name))))
+        names.oid(name)                            # refuses a name that isn't there
+        targets[name] = os.path.join(folder, os.fsdecode(name_of(os.fsdecode(name))))
     folders = {parent for path in targets.values() for parent in parents(path, folder)}
     for path in targets.values():
         if path in folders:
             raise Wrong(f"{path} would be a file and a folder: get these names one by one")
-    write_all(names, targets, replace)
+    write_all(names, targets, how)
 
 
 def parents(path: str, top: str) -> Iterable[str]:
@@ -200,22 +308,56 @@ def parents(path: str, top: str) -> Iterable[str]:
         yield path
 
 
-def write_all(names: Names, targets: dict[str, str], replace: bool) -> None:
+def write_all(names: Names, targets: dict[bytes, str], how: Writing) -> None:
     """Makes files of objects; what is there is refused before anything is written, or replaced."""
     for path in filter(os.path.lexists, targets.values()):
-        if not replace:
+        if not how.replace:
             raise Wrong(f"{path} is there already: --replace writes it anew")
         if not os.path.isfile(path):
             raise Wrong(f"{path} is there already, and is no file that can be replaced")
     remove_left(targets.values())
-    sizes = {oid: names.store.size(oid) for oid in targets}
+    sizes = {name: names.store.size(names.oid(name)) for name in targets}
     with Progress("exsm_files: get", sum(sizes.values())) as progress:
-        for oid, path in targets.items():
+        for name, path in targets.items():
             os.makedirs(os.path.dirname(path) or ".", exist_ok=True)
-            with whole_file(path, replace, sync=False) as part, open(part, "xb") as out:
-                for piece in names.store.pieces(oid, 0, sizes[oid]):
-                    out.write(piece)
-                    progress.add(len(piece))
+            with whole_file(path, how.replace, sync=False) as part:
+                with open(part, "xb") as out, names.store.scan(names.oid(name)) as scan:
+                    for piece in scan:
+                        out.write(piece)
+                        progress.add(len(piece))
+                if how.preserve:
+                    restore(part, names.facts(name))
+
+
+def restore(path: str, facts: Optional[Facts]) -> None:
+    """Gives a file the mode and the time that are kept of it."""
+    if facts is not None and facts.mode is not None:
+        os.chmod(path, facts.mode)
+    if facts is not None and facts.time is not None:
+        os.utime(path, ns=(facts.time, facts.time))
+
+
+def verify(names: Names, wanted: list[str]) -> None:
+    """Compares the bytes under names, or under all, with those that were put, and tells the names
+    of which they differ."""
+    differ = unknown = 0
+    told = [os.fsencode(name) for name in wanted] or list(names.uniques)
+    with Progress("exsm_files: verify", sum(names.store.size(names.oid(it)) for it in told)) as bar:
+        for name in told:
+            with names.snapshot():
+                oid, facts = names.oid(name), names.facts(name)
+                digest = None if facts is None else names.store.digest(oid).hex()
+            if facts is None:
+                unknown += 1
+            elif digest != facts.sha256:
+                differ += 1
+                print(f"{os.fsdecode(name)}: other bytes than were put: changed since by other "
+                      "lines, or damaged")
+            bar.add(names.store.size(oid))
+    more = f"; of {unknown} no digest is kept" if unknown else ""
+    print(f"{len(told) - differ - unknown} of {len(told)} files have the bytes that were put{more}")
+    if differ:
+        raise Wrong(f"{differ} of {len(told)} files have other bytes than were put")
 
 
 def ls(names: Names, form: str) -> None:
@@ -224,32 +366,35 @@ def ls(names: Names, form: str) -> None:
         sys.stdout.buffer.writelines(name + b"\0" for name in names.uniques)
         sys.stdout.buffer.flush()
         return
-    rows = [(names.store.size(names.oid(name)), names.oid(name), os.fsdecode(name))
-            for name in names.uniques]
+    with names.snapshot():
+        rows = [(names.store.size(names.oid(it)), names.oid(it), it) for it in names.uniques]
     if form == "json":
-        print(json.dumps([{"name": name, "size": size, "oid": oid} for size, oid, name in rows]))
+        print(json.dumps([{"name": os.fsdecode(name), "size": size, "oid": oid,
+                           **(names.facts(name) or NO_FACTS).as_json()}
+                          for size, oid, name in rows]))
         return
     for size, oid, name in rows:
-        print(f"{size:10}  {oid:14} {name}")
+        print(f"{size:10}  {oid:14} {os.fsdecode(name)}")
 
 
 def rm(names: Names, gone: list[str], with_versions: bool) -> None:
     """Removes the files of these names, all or none."""
     names.clean()
     try:
-        with names.store.transaction():
+        with names.transaction():
             for name in map(os.fsencode, gone):
                 names.remove(name, with_versions)
     except Refused as no:
         if no.name != "long_txn":
             raise
-        raise Wrong("one transaction doesn't hold so many: remove fewer at once; all are there") from None
+        raise Wrong("one transaction doesn't hold so many: remove fewer at once; all are "
+                    "there") from None
 
 
 def mv(names: Names, old: str, new: str, replace: bool) -> None:
     """Gives a file another name; its bytes stay where they are."""
     names.clean()
-    with names.store.transaction():
+    with names.transaction():
         names.rename(os.fsencode(old), name_of(new), replace)
 
 
@@ -266,11 +411,11 @@ def fault_text(fault: Exception) -> str:
     return refusal_text(fault) if isinstance(fault, Refused) else reason_of(fault)
 
 
-def run(volume: AnyPath, step: Callable[[Names], None], wait: float = 0) -> int:
+def run(opened: Callable[[], Store], step: Callable[[Names], None]) -> int:
     """Makes a step on the names of a volume, tells a fault, and gives the exit status."""
     sys.stdout.reconfigure(errors="surrogateescape")
     try:
-        with Store(volume, wait=wait) as store:
+        with opened() as store:
             step(Names(store))
     except Ended as fault:
         print(INTERRUPTION if fault.status == -signal.SIGINT else fault, file=sys.stderr)

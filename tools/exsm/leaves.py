@@ -1,4 +1,5 @@
-"""What two versions of an object don't share, by their leaves: a leaf of both is read of neither."""
+"""What two versions of an object don't share, by their leaves: a leaf of both is read of
+neither."""
 from __future__ import annotations
 
 from bisect import bisect_left, bisect_right
@@ -104,7 +105,7 @@ def alike(first: bytes, second: bytes) -> int:
     low, high = 0, min(len(first), len(second))
     if first[:high] == second[:high]:
         return high
-    while high - low > 1:                          # the first `low` are alike, the first `high` aren't
+    while high - low > 1:                      # the first `low` are alike, the first `high` aren't
         middle = (low + high) // 2
         if first[low:middle] == second[low:middle]:
             low = middle

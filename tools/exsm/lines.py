@@ -119,7 +119,8 @@ MEANINGS = {
     "full": "the line may need {1} {0}, and {2} are free: use a larger volume, or less in one "
             "line; what an open transaction replaced is free after its commit",
     "branches": "{0} versions are derived from it: `destroy` or `drop` all of these but one first",
-    "busy": "client {0} has its transaction open; a run of one script is never told so",
+    "busy": "another user's transaction is open, that of client {0}; until it ends others are "
+            "answered `next`, `close` and `group` alone: try again, and keep transactions short",
 }
 """What each refusal means, but `syntax`; {0} on are its values."""
 

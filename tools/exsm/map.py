@@ -12,6 +12,7 @@ from typing import Iterator, NamedTuple, Optional
 
 from exsm.geometry import CATALOG, LOG_PAGES
 from exsm.lines import reason_of
+from exsm.lock import told_where_held
 from exsm.named import names_of
 from exsm.records import BadVolume, Record
 from exsm.volume import Guessed, Use, Volume
@@ -430,7 +431,7 @@ def picture(volume: Volume) -> str:
 def run(path: str, out: Optional[str], as_json: bool) -> int:
     """Tells the use of a volume, draws its picture to a file, and gives the exit status."""
     try:
-        with Volume(path) as volume:
+        with told_where_held(path, "exsm_map"), Volume(path) as volume:
             volume.walk()
             told = [json.dumps(numbers_of(volume))] if as_json else list(usage(volume))
             if out is not None:

@@ -194,7 +194,8 @@ class Move:
             self.batch.insert(oid, new_start, pieces)
 
     def _done(self, file: str, record: Record, oid: str) -> None:
-        """Compares a version's bytes with those that it has in the new volume, and notes its place."""
+        """Compares a version's bytes with those that it has in the new volume, and notes its
+        place."""
         digest = hashlib.sha256()
         for piece in self._pieces(file, record):
             digest.update(piece)
@@ -210,7 +211,8 @@ class Move:
 
 
 def need_of(old: Volume) -> tuple[int, int]:
-    """The bytes of large objects that stand in leaves, what is shared once, and those of small ones."""
+    """The bytes of large objects that stand in leaves, what is shared once, and those of small
+    ones."""
     leaves: dict[int, int] = {}
     small = 0
     for record in old.all():

@@ -1,7 +1,8 @@
 """Names that a volume keeps: objects of lines `NUMBER TEXT`, NUMBER the last one of an identifier.
 
 The file `names` has the names of files and `blobs` their objects, `put_sources` the paths that
-they were put from, and `version_names` the names of versions. Each has one object.
+they were put from, `put_facts` their modes, times and digests then, `version_names` the names of
+versions and `version_times` when they were given. Each but `blobs` has one object.
 """
 from __future__ import annotations
 
@@ -11,8 +12,9 @@ from typing import Optional
 from exsm.client import Store
 
 NAMES_FILE, BLOBS_FILE, SOURCES_FILE = "names", "blobs", "put_sources"
-VERSION_NAMES_FILE = "version_names"
-LISTS = (NAMES_FILE, SOURCES_FILE, VERSION_NAMES_FILE)
+FACTS_FILE = "put_facts"
+VERSION_NAMES_FILE, VERSION_TIMES_FILE = "version_names", "version_times"
+LISTS = (NAMES_FILE, SOURCES_FILE, FACTS_FILE, VERSION_NAMES_FILE, VERSION_TIMES_FILE)
 """The files whose one object is a list of names."""
 
 NAME_LINE = re.compile(rb"(\d+) ([^\n]+)\n")
@@ -70,7 +72,8 @@ class NameList:
         self.lines.append((unique, text))
 
     def remove(self, unique: int, text: Optional[bytes] = None) -> None:
-        """Removes the line of a number, or just the one with a text; nothing where there is none."""
+        """Removes the line of a number, or just the one with a text; nothing where there is
+        none."""
         position = 0
         for place, line in enumerate(self.lines):
             length = len(line_of(*line))

@@ -2,12 +2,14 @@
 from __future__ import annotations
 
 import os
+import signal
+import time
 from typing import Callable, Optional
 
 from exsm.client import PIECE, Refused, shortened
 from exsm.do import Runner, interrupts_ignored, tell
 from exsm.lines import FORMS, SENTENCES, WORDS, WORDS_OF, reason_of
-from exsm.spelling import known_word, meaning
+from exsm.spelling import known_word
 from exsm.texts import shown, with_digits
 
 try:
@@ -25,6 +27,7 @@ OWN_FORMS = {
     "show": "show X [POS LEN]",
     "put": "put PATH in FILE as @NAME",
     "source": "source PATH",
+    "time": "time LINE",
     "help": "help [WORD]",
     "quit": "quit",
 }
@@ -34,6 +37,7 @@ OWN_SENTENCES = {
     "show": f"tells bytes as text, else as digits; of a long object the first {SHOW_MOST:,}",
     "put": "makes an object of a file's bytes, within the open transaction",
     "source": "runs the lines of a file, up to the first that is refused",
+    "time": "does what a line says, and tells how long that took",
     "help": "tells all lines, or one",
     "quit": "ends the session; an open transaction is aborted",
 }
@@ -52,8 +56,8 @@ class Prompt:
         self.runner, self.volume = runner, volume
         self.number = 0
         self.own: dict[str, Callable[[list[str]], None]] = {
-            "show": self.show, "put": self.put, "source": self.source, "help": self.help,
-            "?": self.help, ".help": self.help,
+            "show": self.show, "put": self.put, "source": self.source, "time": self.time,
+            "help": self.help, "?": self.help, ".help": self.help,
         }
 
     def banner(self) -> str:
@@ -69,13 +73,14 @@ class Prompt:
         self.number += 1
         words = line.split()
         own = self.own.get(words[0].lower() if words else "")
+        if own == self.time and len(words) > 1:
+            return self.timed(line.split(maxsplit=1)[1])
         if own is None:
             return self.runner.step(with_digits(line).encode(errors="surrogateescape"), self.number)
         try:
             own(words[1:])
         except Refused as why:
-            tell(shortened(why.line))
-            tell(meaning(why.line, why.name, why.values))
+            self.runner.tell_refusal(shortened(why.line), why.line, why.name, why.values)
         except (Misuse, OSError, ValueError) as why:
             tell(reason_of(why))
         else:
@@ -118,6 +123,17 @@ class Prompt:
                 if line.strip() and not self.step(line.rstrip("\n")):
                     raise Misuse(f"{words[0]}: line {number} was refused; none after it was run")
 
+    def timed(self, line: str) -> bool:
+        """Does what a line says, and tells how long that took."""
+        began = time.perf_counter()
+        is_done = self.step(line)
+        print(f"{(time.perf_counter() - began) * 1000:.1f} ms")
+        return is_done
+
+    def time(self, _: list[str]) -> None:
+        """`time LINE`, where the line isn't there."""
+        raise Misuse(f"the form is `{OWN_FORMS['time']}`")
+
     def help(self, words: list[str]) -> None:
         """`help [WORD]`"""
         sentences = {**SENTENCES, **OWN_SENTENCES}
@@ -152,6 +168,8 @@ class Completion:
     def words_after(self, before: list[str], text: str) -> list[str]:
         """The words that may stand after these on a line."""
         forms = {**FORMS, **OWN_FORMS}
+        if before[:1] == ["time"]:
+            return self.words_after(before[1:], text)
         if not before:
             return list(forms)
         if before[0] == "help":
@@ -190,14 +208,27 @@ def prepare_terminal(runner: Runner) -> None:
         readline.read_history_file(HISTORY)
 
 
+def interrupt_once(*_: object) -> None:
+    """Raises `KeyboardInterrupt`, and ignores what comes behind the first Ctrl-C."""
+    signal.signal(signal.SIGINT, signal.SIG_IGN)
+    raise KeyboardInterrupt
+
+
 def read_line(runner: Runner) -> Optional[str]:
-    """The next line of the terminal, or None at its end. Ctrl-C drops what is typed so far."""
+    """The next line of the terminal, or None at its end. Ctrl-C drops what is typed so far.
+
+    Ctrl-C is taken here alone: in a session it is ignored but while a line is waited for.
+    """
     while True:
         try:
-            return input("exsm*> " if runner.in_transaction else "exsm> ")
+            signal.signal(signal.SIGINT, interrupt_once)
+            line = input("exsm*> " if runner.in_transaction else "exsm> ")
+            signal.signal(signal.SIGINT, signal.SIG_IGN)
+            return line
         except KeyboardInterrupt:
             print("^C")
         except EOFError:
+            signal.signal(signal.SIGINT, signal.SIG_IGN)
             print()
             return None
 
@@ -209,10 +240,10 @@ def talk(runner: Runner, volume: str) -> int:
     if readline is not None:
         prepare_terminal(runner)
     try:
-        while (line := read_line(runner)) is not None and line.strip() not in ("quit", "exit"):
-            with interrupts_ignored():
+        with interrupts_ignored():
+            while (line := read_line(runner)) is not None and line.strip() not in ("quit", "exit"):
                 prompt.step(line)
-        runner.give_up()
+            runner.give_up()
     finally:
         if readline is not None:
             readline.write_history_file(HISTORY)

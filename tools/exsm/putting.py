@@ -1,6 +1,7 @@
 """Puts files of the file system into a volume: under which names, and in how many transactions."""
 from __future__ import annotations
 
+import hashlib
 import os
 import stat
 import sys
@@ -9,7 +10,8 @@ from itertools import chain, islice
 from typing import BinaryIO, ContextManager, Iterable, Iterator, NamedTuple, Optional
 
 from exsm.client import PIECE, UPDATES_MOST, Refused
-from exsm.files import Names, name_of, refusal_text
+from exsm.files import Facts, Names, name_of, refusal_text
+from exsm.hints import larger
 from exsm.names import Wrong
 from exsm.progress import Progress
 from exsm.volume import Volume
@@ -22,6 +24,9 @@ PUT_PIECES = UPDATES_MOST - PUT_UPDATES
 
 PUT_MOST = PUT_PIECES * PIECE
 """Bytes of a file that one transaction holds."""
+
+MODE_KEPT = 0o777
+"""The bits of a mode that are kept: who may read, write and run a file."""
 
 TRIED_PIECES = 16
 """Pieces of standard input that are kept, to see whether it has more."""
@@ -57,14 +62,19 @@ def put_of(path: str, name: str) -> Put:
     return Put(name_of(name), path, told.st_size)
 
 
-def puts_below(folder: str, volume: str) -> Iterator[Put]:
+def is_volume(path: str, volume: Optional[str]) -> bool:
+    """Whether a path names the volume's file, where that is known."""
+    return volume is not None and os.path.exists(volume) and os.path.samefile(path, volume)
+
+
+def puts_below(folder: str, volume: Optional[str]) -> Iterator[Put]:
     """The files of a folder and of those in it but the volume, named by their paths as given."""
     for top, folders, files in os.walk(folder, onerror=raised):
         folders.sort()
         for path in (os.path.join(top, file) for file in sorted(files)):
             if not os.path.isfile(path):
                 print(f"exsm_files: left out: {path} is no file", file=sys.stderr)
-            elif os.path.samefile(path, volume):
+            elif is_volume(path, volume):
                 print(f"exsm_files: left out: {path} is the volume itself", file=sys.stderr)
             else:
                 yield put_of(path, given(path))
@@ -80,7 +90,8 @@ def given(path: str) -> str:
     return os.path.normpath(path).lstrip("/")
 
 
-def plan(paths: Iterable[str], name: Optional[str], recursive: bool, volume: str) -> list[Put]:
+def plan(paths: Iterable[str], name: Optional[str], recursive: bool,
+         volume: Optional[str]) -> list[Put]:
     """The files that the words name, in their order, to be put into a volume."""
     puts: list[Put] = []
     for path in paths:
@@ -90,7 +101,7 @@ def plan(paths: Iterable[str], name: Optional[str], recursive: bool, volume: str
             if not recursive:
                 raise Wrong(f"{path} is a folder: `put -r` puts the files in it")
             puts.extend(puts_below(path, volume))
-        elif os.path.samefile(path, volume):
+        elif is_volume(path, volume):
             raise Wrong(f"{path} is the volume itself")
         elif name is not None:
             puts.append(put_of(path, name))
@@ -108,16 +119,21 @@ def refuse_traps(names: Names, puts: list[Put]) -> None:
             raise Wrong(f"{name} comes twice, as {seen[it.name]} and as {it.path}: -r names files "
                         "by their paths, and --replace keeps the last; nothing was put")
         seen[it.name] = it.path
-        if it.name in names and (it.path == STANDARD_INPUT or names.source(it.name) != it.source):
-            there = names.source(it.name)
-            of = f", put from {os.fsdecode(there)}" if there and there != b" " else ""
-            raise Wrong(f"{name} is there already{of}: --replace puts it anew, -n NAME or -r "
-                        "names this one otherwise; nothing was put")
+        refuse_other(names, it, "; nothing was put")
+
+
+def refuse_other(names: Names, it: Put, done: str = "") -> None:
+    """Refuses a name that stands for another path."""
+    if it.name in names and (it.path == STANDARD_INPUT or names.source(it.name) != it.source):
+        there = names.source(it.name)
+        of = f", put from {os.fsdecode(there)}" if there and there != b" " else ""
+        raise Wrong(f"{os.fsdecode(it.name)} is there already{of}: --replace puts it anew, "
+                    f"-n NAME or -r names this one otherwise{done}")
 
 
 def put(names: Names, paths: list[str], name: Optional[str], recursive: bool,
         replace: bool) -> None:
-    """Stores files under their names, each anew where it is there and was put from the same path."""
+    """Stores files under their names, each anew where it was put from the same path."""
     puts = plan(paths, name, recursive, names.store.volume)
     if not replace:
         refuse_traps(names, puts)
@@ -125,88 +141,127 @@ def put(names: Names, paths: list[str], name: Optional[str], recursive: bool,
     with Progress("exsm_files: put", sum(it.size or 0 for it in puts)) as progress:
         for done, it in enumerate(puts):
             try:
-                oid, size = put_one(names, it, progress)
+                oid, size = put_one(names, it, replace, progress)
             except Refused as no:
-                raise Wrong(full_text(names, it, no, done, len(puts))) from None
+                raise Wrong(full_text(names, puts, no, done)) from None
             print(f"{os.fsdecode(it.name)} {size} bytes, {oid}", flush=True)
 
 
-def full_text(names: Names, it: Put, no: Refused, done: int, count: int) -> str:
+def full_text(names: Names, puts: list[Put], no: Refused, done: int) -> str:
     """What the refusal of a file's bytes means, how many files are in, and what would do."""
+    it = puts[done]
     text = f"{os.fsdecode(it.name)}: {refusal_text(no)}"
-    if count > 1:
-        text += f". {done} of {count} files are in"
+    if len(puts) > 1:
+        text += f". {done} of {len(puts)} files are in"
     if no.name == "full":
-        text += ". `exsm_move.py` carries all to a larger volume"
+        text += f". {room_for(names, puts[done:])}"
         if it.name in names:
             text += "; the old file and the new one are there at once, so `rm` may also do"
     return text
 
 
-def pieces_of(source: BinaryIO) -> Iterator[bytes]:
-    """The bytes of a file, in pieces that fit on a line."""
-    while piece := source.read(PIECE):
-        yield piece
+def room_for(names: Names, left: list[Put]) -> str:
+    """What has room for the files that are left too, where their sizes are known."""
+    size = sum(it.size or 0 for it in left)
+    told = larger(names.store, size=size) if all(it.size is not None for it in left) else None
+    return told or "`exsm_move.py` carries all to a larger volume"
 
 
-def put_one(names: Names, it: Put, progress: Progress) -> tuple[str, int]:
+class Reading:
+    """A file as it is read: how many bytes it had so far, and what is kept of it."""
+
+    def __init__(self, source: BinaryIO, progress: Progress) -> None:
+        self._source, self._progress = source, progress
+        self._told = os.fstat(source.fileno())
+        self._digest = hashlib.sha256()
+        self.size = 0
+
+    def pieces(self) -> Iterator[bytes]:
+        """The bytes, in pieces that fit on a line."""
+        while piece := self._source.read(PIECE):
+            self._digest.update(piece)
+            self.size += len(piece)
+            self._progress.add(len(piece))
+            yield piece
+
+    def facts(self) -> Facts:
+        """What is kept of it, once all is read."""
+        digest = self._digest.hexdigest()
+        if not stat.S_ISREG(self._told.st_mode):
+            return Facts(None, None, digest)
+        return Facts(stat.S_IMODE(self._told.st_mode) & MODE_KEPT, self._told.st_mtime_ns, digest)
+
+
+def put_one(names: Names, it: Put, replace: bool, progress: Progress) -> tuple[str, int]:
     """Stores a file under its name; gives the identifier and the size."""
     with it.opened() as source:
-        pieces = pieces_of(source)
+        read = Reading(source, progress)
+        pieces = read.pieces()
         if it.size is not None and it.size <= PUT_MOST:
-            return put_at_once(names, it, pieces, progress)
-        first = list(islice(pieces, TRIED_PIECES))
-        if len(first) < TRIED_PIECES:
-            return put_at_once(names, it, first, progress)
-        return put_in_parts(names, it, chain(first, pieces), progress)
+            oid = put_at_once(names, it, replace, pieces, read)
+        else:
+            first = list(islice(pieces, TRIED_PIECES))
+            if len(first) < TRIED_PIECES:
+                oid = put_at_once(names, it, replace, first, read)
+            else:
+                oid = put_in_parts(names, it, replace, chain(first, pieces), read)
+        return oid, read.size
 
 
-def append(names: Names, oid: str, pieces: Iterable[bytes], progress: Progress) -> int:
-    """Puts pieces at the end of an object, and gives their bytes."""
-    size = 0
+def append(names: Names, oid: str, pieces: Iterable[bytes]) -> None:
+    """Puts pieces at the end of an object."""
     for piece in pieces:
         names.store.append(oid, piece)
-        progress.add(len(piece))
-        size += len(piece)
-    return size
 
 
-def put_at_once(names: Names, it: Put, pieces: Iterable[bytes],
-                progress: Progress) -> tuple[str, int]:
-    """Stores a file in one transaction. An object with versions keeps them: its current one changes."""
-    with names.store.transaction():
+def put_at_once(names: Names, it: Put, replace: bool, pieces: Iterable[bytes],
+                read: Reading) -> str:
+    """Stores a file in one transaction. An object with versions keeps them, and its current one
+    changes."""
+    with names.transaction():
+        if not replace:
+            refuse_other(names, it)                # another user may have put it meanwhile
         if it.name in names and len(names.versions(it.name)) > 1:
             oid = names.oid(it.name)
             names.store.delete(oid, 0, names.store.size(oid))
         else:
             oid = names.create()
-        size = append(names, oid, pieces, progress)
+        append(names, oid, pieces)
         names.put_from(oid, it.source)
-        names.name(it.name, oid)
-    return oid, size
+        names.name(it.name, oid, read.facts())
+    return oid
 
 
-def put_in_parts(names: Names, it: Put, pieces: Iterator[bytes],
-                 progress: Progress) -> tuple[str, int]:
+def put_in_parts(names: Names, it: Put, replace: bool, pieces: Iterator[bytes],
+                 read: Reading) -> str:
     """Stores a file in several transactions. Its name comes with the last one; until then its
     source alone is kept, by which `Names.clean` finds what a stop left."""
-    older = older_of(names, it.name)
-    with names.store.transaction():
+    with names.transaction():
+        older = older_of(names, it.name)
         oid = names.create() if older is None else names.derive(older)
         names.put_from(oid, it.source)
-    size = 0
     while part := list(islice(pieces, 1)):
-        with names.store.transaction():
-            size += append(names, oid, chain(part, islice(pieces, PUT_PIECES - 1)), progress)
-    with names.store.transaction():
-        names.name(it.name, oid)
-    return oid, size
+        with names.transaction():
+            append(names, oid, chain(part, islice(pieces, PUT_PIECES - 1)))
+    try:
+        with names.transaction():
+            if not replace:
+                refuse_other(names, it)
+            names.name(it.name, oid, read.facts())
+    except Wrong:
+        with names.transaction():
+            names.give_up(oid)
+        raise
+    return oid
 
 
 def older_of(names: Names, name: bytes) -> Optional[str]:
     """The frozen version that a name's version is derived from, as the volume's file has it."""
     if name not in names or len(names.versions(name)) < 2:
         return None
+    if names.store.volume is None:
+        raise Wrong(f"{os.fsdecode(name)} has versions, for which so large a file needs the "
+                    "volume's file: name it as VOLUME, and the server's socket by --socket")
     with Volume(names.store.volume) as volume:
         older = volume.find(names.oid(name)).older
         return next(record.oid for record in volume.all() if record.place == older)

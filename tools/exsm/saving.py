@@ -10,10 +10,15 @@ from exsm.records import Record
 from exsm.volume import Volume
 
 
-def list_versions(volume: Volume, as_json: bool) -> int:
-    """Tells the versions that can be read, with the names that exsm_files.py keeps."""
+def list_versions(volume: Volume, form: str) -> int:
+    """Tells the versions that can be read, with the names that exsm_files.py keeps; or the names
+    alone, a zero byte behind each; or all as JSON."""
     names = names_of(volume)
-    if as_json:
+    if form == "zeros":
+        sys.stdout.buffer.writelines(os.fsencode(name) + b"\0" for name in names.values())
+        sys.stdout.buffer.flush()
+        return 0
+    if form == "json":
         print(json.dumps([
             {"oid": record.oid, "size": record.size, "file": file, "frozen": record.frozen,
              "name": names.get(record.oid)}

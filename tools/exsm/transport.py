@@ -1,6 +1,7 @@
 """How lines reach a run of exsm and how its replies come back, and why a run ended.
 
-`Store` speaks to whatever is a `Transport`: today one run of the program on pipes.
+`Store` speaks to whatever is a `Transport`: a run of the program on pipes, which stands here, the
+library within this process (`exsm.library`), or a connection to a server (`exsm.sockets`).
 """
 from __future__ import annotations
 
@@ -11,7 +12,7 @@ import subprocess
 import tempfile
 import time
 from pathlib import Path
-from typing import NoReturn, Optional, Protocol, Union
+from typing import Callable, NoReturn, Optional, Protocol, Union
 
 STATUS_NAMES = {
     2: "usage", 3: "script fault", 4: "output fault", 5: "disk fault", 6: "bad volume",
@@ -56,6 +57,10 @@ class NoVolume(Ended):
     def __init__(self, status: int, text: str) -> None:
         super().__init__(status, text)
         self.part = self.text.rpartition(" ")[2]
+
+
+class Cut(ConnectionError):
+    """The connection to a server ended before a reply: whether its line was done isn't known."""
 
 
 class ProgramMissing(Exception):
@@ -173,23 +178,32 @@ class ProgramRun:
             self._said.close()
 
 
-def opened(volume: AnyPath, program: Optional[str] = None, wait: float = 0) -> ProgramRun:
-    """A run that has the volume open. Where another one has it, it is tried again for so many seconds.
+def begun(volume: AnyPath, program: Optional[str] = None) -> ProgramRun:
+    """A run that has the volume open.
 
     The first line asks for the log, which changes nothing: its reply says that the volume is open.
     """
+    run = ProgramRun(volume, program)
+    try:
+        run.send(b"log")
+        run.receive()
+        return run
+    except BaseException:
+        try:
+            run.end()
+        except Ended:
+            pass                                   # the first fault is the one to tell
+        raise
+
+
+def waited(start: Callable[[], Transport], wait: float = 0) -> Transport:
+    """A session that is started, and that is tried again for so many seconds where another one has
+    the volume."""
     until = time.monotonic() + wait
     while True:
-        run = ProgramRun(volume, program)
         try:
-            run.send(b"log")
-            run.receive()
-            return run
-        except BaseException as fault:
-            try:
-                run.end()
-            except Ended:
-                pass                               # the first fault is the one to tell
-            if not isinstance(fault, Locked) or time.monotonic() >= until:
+            return start()
+        except Locked:
+            if time.monotonic() >= until:
                 raise
         time.sleep(WAIT_STEP)

@@ -1,4 +1,4 @@
-"""The versions of objects as trees, the names that a volume keeps of them, and their differences."""
+"""Versions of objects as trees, the names that a volume keeps of them, and where they differ."""
 from __future__ import annotations
 
 import difflib
@@ -6,17 +6,21 @@ import json
 import os
 import re
 import sys
+from contextlib import contextmanager
+from datetime import datetime, timezone
 from itertools import accumulate
 from typing import Callable, Iterator, NamedTuple, Optional
 
 from exsm.client import Broken, Ended, Locked, ProgramMissing, Refused, Store, leave_output
-from exsm.commands import status_of
+from exsm.commands import CYAN, GREEN, RED, coloured, is_coloured, status_of, store_of
 from exsm.leaves import Body, Change, changes, trimmed
 from exsm.lines import reason_of
 from exsm.lock import held
 from exsm.named import names_of
-from exsm.names import VERSION_NAMES_FILE, NameList, Wrong, lines_in, unique_of
+from exsm.names import (
+    VERSION_NAMES_FILE, VERSION_TIMES_FILE, NameList, Wrong, lines_in, unique_of)
 from exsm.records import BadVolume, Links, Record
+from exsm.sockets import is_socket
 from exsm.spelling import meaning
 from exsm.volume import Volume
 
@@ -48,21 +52,26 @@ class Shown:
     def __init__(self, volume: Volume) -> None:
         self.volume = volume
         self.links = {name: Links(records) for name, records in volume.versions.items()}
-        self.names = self._names()
+        self.names = self._lines(VERSION_NAMES_FILE)
+        self.times = dict(self._lines(VERSION_TIMES_FILE))
         self.files = names_of(volume)
 
-    def _names(self) -> list[tuple[int, str]]:
-        """The numbers and names of the list that the volume keeps; of another text none."""
-        records = [it for it in self.volume.versions.get(VERSION_NAMES_FILE, ()) if not it.frozen]
+    def _lines(self, file: str) -> list[tuple[int, str]]:
+        """The numbers and texts of a list that the volume keeps; of another text none."""
+        records = [it for it in self.volume.versions.get(file, ()) if not it.frozen]
         lines = lines_in(self.volume.bytes_of(records[0])) if len(records) == 1 else None
-        return [(unique, os.fsdecode(name)) for unique, name in lines or ()]
+        return [(unique, os.fsdecode(text)) for unique, text in lines or ()]
+
+    def time_of(self, record: Record) -> Optional[str]:
+        """When a version was given a name last, where it has one that was given by this tool."""
+        return self.times.get(record.unique) if self.names_of(record) else None
 
     def names_of(self, record: Record) -> list[str]:
         """The names of a version."""
         return [name for unique, name in self.names if unique == record.unique]
 
     def file_name(self, record: Record) -> Optional[str]:
-        """The name that exsm_files.py keeps for a version's object, where this is the one it names."""
+        """The name that exsm_files.py keeps for a version's object, where it names this one."""
         return self.files.get(record.oid)
 
     def find(self, word: str) -> Record:
@@ -94,7 +103,8 @@ class Shown:
         return next(record for record in versions if record.older not in places)
 
     def branches(self, versions: list[Record]) -> Iterator[Branch]:
-        """The versions of an object, each before those derived from it, with the lines that join them."""
+        """The versions of an object, each before those derived from it, with the lines that join
+        them."""
         todo = [(self.first(versions), "", "")]
         while todo:
             record, rule, below = todo.pop()
@@ -113,13 +123,16 @@ def state(record: Record) -> str:
 
 # tree
 
-def rows_of(shown: Shown, versions: list[Record]) -> list[tuple[str, str, str, str]]:
-    """The rows of a tree: identifier, size, state, names."""
+def rows_of(shown: Shown, versions: list[Record],
+            with_times: bool) -> list[tuple[str, str, str, str]]:
+    """The rows of a tree: identifier, size, state, and names, with when they were given last."""
     rows = []
     for record, rule in shown.branches(versions):
         names = shown.names_of(record)
-        file_name = shown.file_name(record)
+        file_name, time = shown.file_name(record), shown.time_of(record)
         told = ", ".join(names) + (f" ({file_name})" if file_name else "")
+        if with_times and time:
+            told += f"  {time.replace('T', ' ')}"
         rows.append((f"{rule}{record.oid}", f"{record.size:,} B", state(record), told.strip()))
     return rows
 
@@ -137,23 +150,24 @@ def tree_json(shown: Shown, versions: list[Record]) -> dict:
     for record, _ in shown.branches(versions):
         made[record.oid] = {
             "oid": record.oid, "size": record.size, "state": state(record),
-            "names": shown.names_of(record), "file": shown.file_name(record), "derived": []}
+            "names": shown.names_of(record), "time": shown.time_of(record),
+            "file": shown.file_name(record), "derived": []}
     for record in versions:
         made[record.oid]["derived"] = [made[newer.oid] for newer in shown.derived(record)]
     return made[shown.first(versions).oid]
 
 
-def tree(shown: Shown, word: Optional[str], as_json: bool) -> None:
+def tree(shown: Shown, word: Optional[str], form: str) -> None:
     """Shows the tree of one object, or of each one that has several versions."""
     if word is not None:
         objects = [shown.object_of(shown.find(word))]
     else:
         objects = [versions for versions in shown.volume.objects if len(versions) > 1]
-    if as_json:
+    if form == "json":
         print(json.dumps([tree_json(shown, versions) for versions in objects]))
         return
     for versions in objects:
-        print("\n".join(tree_lines(rows_of(shown, versions))))
+        print("\n".join(tree_lines(rows_of(shown, versions, form == "times"))))
     if word is None:
         print(f"objects of one version: {len(shown.volume.objects) - len(objects)}")
 
@@ -171,7 +185,8 @@ def told_change(change: Change) -> str:
 
 
 def diff(shown: Shown, old: str, new: str, form: str) -> None:
-    """Shows where two versions of an object differ: as ranges of bytes, as lines of text, or as JSON."""
+    """Shows where two versions of an object differ: as ranges of bytes, as lines of text, or as
+    JSON."""
     records = shown.find(old), shown.find(new)
     if records[1] not in shown.object_of(records[0]):
         raise Wrong(f"{old} and {new} are versions of two objects")
@@ -180,7 +195,8 @@ def diff(shown: Shown, old: str, new: str, form: str) -> None:
     if form == "json":
         print(json.dumps([change._asdict() for change in found]))
     elif form == "text":
-        sys.stdout.writelines(text_lines(bodies, found, (old, new)))
+        for line in text_lines(bodies, found, (old, new)):
+            sys.stdout.write(coloured_line(line) if is_coloured(sys.stdout) else line)
     else:
         for change in found:
             print(told_change(change))
@@ -223,6 +239,14 @@ def text_lines(bodies: tuple[Body, Body], found: list[Change],
         yield line if line.endswith("\n") else f"{line}\n\\ No newline at end of file\n"
 
 
+def coloured_line(line: str) -> str:
+    """A line that `diff -u` shows, in the colour that it mostly has."""
+    for begins, colour in (("+", GREEN), ("-", RED), ("@@", CYAN)):
+        if line.startswith(begins):
+            return coloured(line.rstrip("\n"), colour) + "\n"
+    return line
+
+
 def whole_lines(body: Body, start: int, end: int) -> tuple[int, int]:
     """A range with the lines at its ends whole, and a few lines of context."""
     head = body.between(max(0, start - CONTEXT_BYTES), start)
@@ -242,17 +266,43 @@ def shifted(line: str, before: list[int]) -> str:
 
 # names
 
-def name(store: Store, names: NameList, version: Record, text: str, replace: bool) -> None:
+class Kept:
+    """The names of versions that a volume keeps, and when each version was given one last."""
+
+    def __init__(self, store: Store) -> None:
+        files = store.files()
+        self.names = NameList(store, VERSION_NAMES_FILE, files)
+        self._times = NameList(store, VERSION_TIMES_FILE, files)
+
+    def uniques(self, text: str) -> list[int]:
+        """The numbers of the versions that have a name."""
+        return [unique for unique, told in self.names.lines if os.fsdecode(told) == text]
+
+    def add(self, unique: int, text: str) -> None:
+        """Names a version, in the open transaction."""
+        self.names.prepare()
+        self._times.prepare()
+        self.names.add(unique, os.fsencode(text))
+        self._times.remove(unique)
+        now = datetime.now(timezone.utc)
+        self._times.add(unique, f"{now:%Y-%m-%dT%H:%M:%SZ}".encode())
+
+    def remove(self, text: str) -> None:
+        """Removes a name, in the open transaction; the time goes with a version's last name."""
+        for unique in self.uniques(text):
+            self.names.remove(unique, os.fsencode(text))
+            if unique not in (number for number, _ in self.names.lines):
+                self._times.remove(unique)
+
+
+def name(kept: Kept, version: Record, text: str, replace: bool) -> None:
     """Names a version."""
     check_name(text)
-    there = [unique for unique, told in names.lines if os.fsdecode(told) == text]
+    there = kept.uniques(text)
     if there and there != [version.unique] and not replace:
         raise Wrong(f"{text} names another version already: --replace moves the name to this one")
-    with store.transaction():
-        names.prepare()
-        for unique in there:
-            names.remove(unique, os.fsencode(text))
-        names.add(version.unique, os.fsencode(text))
+    kept.remove(text)
+    kept.add(version.unique, text)
 
 
 def check_name(text: str) -> None:
@@ -261,50 +311,113 @@ def check_name(text: str) -> None:
         raise Wrong(f"{text!r} can't be a name: a name is one line, and no identifier")
 
 
-def unname(store: Store, names: NameList, text: str) -> None:
+def unname(kept: Kept, text: str) -> None:
     """Removes a name of a version; the version stays."""
-    there = [unique for unique, told in names.lines if os.fsdecode(told) == text]
-    if not there:
+    if not kept.uniques(text):
         raise Wrong(f"no version has the name {text}")
-    with store.transaction():
-        for unique in there:
-            names.remove(unique, os.fsencode(text))
+    kept.remove(text)
 
 
-def freeze(store: Store, names: NameList, version: Record, text: str) -> None:
-    """Freezes a current version and names the frozen copy, in one transaction."""
+def freeze(store: Store, kept: Kept, version: Record, text: str) -> str:
+    """Freezes a current version, names the frozen copy, and gives its identifier."""
     check_name(text)
-    if text in (os.fsdecode(told) for _, told in names.lines):
+    if kept.uniques(text):
         raise Wrong(f"{text} names another version already")
-    with store.transaction():
-        names.prepare()
-        frozen = store.freeze(version.oid)
-        names.add(unique_of(frozen), os.fsencode(text))
-    print(frozen)
+    frozen = store.freeze(version.oid)
+    kept.add(unique_of(frozen), text)
+    return frozen
+
+
+# back
+
+def back(place: Place, new: str, old: str) -> None:
+    """Gives a current version the bytes that another version of its object has, in one
+    transaction, by what differs alone; its identifier and its names stay."""
+    with place.store() as store:
+        try:
+            with store.transaction(), Volume(place.volume) as volume:
+                told = gone_back(store, Shown(volume), new, old)
+        except Refused as no:
+            if no.name != "long_txn":
+                raise
+            raise Wrong(f"{new} and {old} differ in more than one transaction holds: derive "
+                        "another version of a frozen one instead") from None
+    print(told)
+
+
+def gone_back(store: Store, shown: Shown, new: str, old: str) -> str:
+    """Goes back within a transaction, and gives what is told of it."""
+    record, wanted = shown.find(new), shown.find(old)
+    if wanted not in shown.object_of(record):
+        raise Wrong(f"{new} and {old} are versions of two objects")
+    bodies = Body(shown.volume, record), Body(shown.volume, wanted)
+    found = list(changes(*bodies))
+    for change_ in found:
+        edit(store, record.oid, bodies[1], change_)
+    taken = sum(it.end - it.start for it in found)
+    put = sum(it.new_end - it.new_start for it in found)
+    return f"{record.oid}: {put:,} bytes for {taken:,}, in {len(found)} places"
+
+
+def edit(store: Store, oid: str, wanted: Body, change_: Change) -> None:
+    """Changes a version, which up to a place has the wanted bytes, in a range that differs."""
+    start, end, new_start, new_end = change_
+    if end > start:
+        store.delete(oid, new_start, end - start)
+    for piece in wanted.pieces(new_start, new_end):
+        store.insert(oid, new_start, piece)
+        new_start += len(piece)
 
 
 # Runs.
 
-def show(path: str, step: Callable[[Shown], None], wait: float) -> None:
-    """Makes a step on a volume that no run has open meanwhile."""
-    with held(path, wait):
+class Place(NamedTuple):
+    """A volume, and the socket of the server that has it, where one has."""
+
+    volume: str
+    socket: Optional[str]
+    wait: Optional[float]
+
+    def store(self) -> Store:
+        """A store over it. Besides that the volume's file is read."""
+        if is_socket(self.volume):
+            raise Wrong(f"{self.volume} is a server's socket: versions are read in the volume's "
+                        "file, so name that as VOLUME, and the socket by --socket")
+        return store_of(self.volume, self.socket, self.wait)
+
+    @contextmanager
+    def held(self) -> Iterator[None]:
+        """Keeps all others from changes: by the program's lock, or at a server by a transaction."""
+        if self.socket is None and not is_socket(self.volume):
+            with held(self.volume, self.wait or 0):
+                yield
+        else:
+            with self.store() as store, store.snapshot():
+                yield
+
+
+def show(place: Place, step: Callable[[Shown], None]) -> None:
+    """Makes a step on a volume that nobody changes meanwhile."""
+    with place.held():
         try:
-            with Volume(path) as volume:
+            with Volume(place.volume) as volume:
                 step(Shown(volume))
         except BadVolume as fault:
-            raise Wrong(f"{path}: {fault}") from None
+            raise Wrong(f"{place.volume}: {fault}") from None
 
 
-def change(path: str, word: Optional[str],
-           step: Callable[[Store, NameList, Optional[Record]], None], wait: float) -> None:
-    """Makes a step on the names of versions, which the program writes."""
-    with Store(path, wait=wait) as store:
-        names = NameList(store, VERSION_NAMES_FILE, store.files())
-        version = None
-        if word is not None:
-            with Volume(path) as volume:
-                version = Shown(volume).find(word)
-        step(store, names, version)
+def change(place: Place, word: Optional[str],
+           step: Callable[[Store, Kept, Optional[Record]], Optional[str]]) -> None:
+    """Makes a step on the names of versions, in one transaction, and tells what it gives."""
+    with place.store() as store:
+        with store.transaction():
+            version = None
+            if word is not None:
+                with Volume(place.volume) as volume:
+                    version = Shown(volume).find(word)
+            told = step(store, Kept(store), version)
+        if told is not None:
+            print(told)
 
 
 def run(step: Callable[[], None]) -> int:

@@ -66,7 +66,8 @@ class Guessed(Geometry):
 
 
 class Volume:
-    """What a volume holds, by its path, or by an open file. Faults below the catalog are gathered in `faults`."""
+    """What a volume holds, by its path, or by an open file. Faults below the catalog are gathered
+    in `faults`."""
 
     def __init__(self, path: str, file: Optional[BinaryIO] = None) -> None:
         self.path = path

@@ -136,7 +136,8 @@ def copy_bytes(source: str, target: str, tell: Callable[[int], None]) -> int:
 
 
 def checked(volume: AnyPath) -> int:
-    """Opens a volume by the program, which tests it whole, and gives the number of its last commit."""
+    """Opens a volume by the program, which tests it whole, and gives the number of its last
+    commit."""
     ran = subprocess.run([find_program(), "check", os.fspath(volume)], stdin=subprocess.DEVNULL,
                          capture_output=True, check=False)
     told = CHECKED.match(ran.stdout.decode("ascii", "replace"))

@@ -1,1 +1,2 @@
-"""Tests of the program's edge, of the tools and of the documents for users. tools/test runs them."""
+"""Tests of the program's edge, of the tools and of the documents for users. tools/test runs
+them."""

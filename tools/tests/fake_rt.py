@@ -1,9 +1,11 @@
 #!/usr/bin/env python3
-"""Stands for the kit's command `rt` in tests of the launcher: it proves nothing, and does at once what the launcher asks for.
+"""Stands for the kit's command `rt` in tests of the launcher: it proves nothing, and does at once
+what the launcher asks for.
 
-It notes each call in the file `calls` beside it. Files beside it say how it behaves: `fails` has the name of a crate whose
-proof fails, `waits` one at which a build waits until it is stopped, `tries` the lines that `rt try` says behind what the
-program says, `status` the status of a program that is tried, and `builds` the program that comes of a build.
+It notes each call in the file `calls` beside it. Files beside it say how it behaves: `fails` has
+the name of a crate whose proof fails, `waits` one at which a build waits until it is stopped,
+`tries` the lines that `rt try` says behind what the program says, `status` the status of a program
+that is tried, and `builds` the program that comes of a build.
 """
 from __future__ import annotations
 
@@ -27,7 +29,8 @@ TRIED = """
 import os, sys
 volume = sys.argv[-1]
 held = open(volume, "rb+").read() if os.path.isfile(volume) else b"none"
-sys.stdout.buffer.write(" ".join(sys.argv[1:]).encode() + b"|" + held[:9] + b"|" + sys.stdin.buffer.read())
+words = " ".join(sys.argv[1:]).encode()
+sys.stdout.buffer.write(words + b"|" + held[:9] + b"|" + sys.stdin.buffer.read())
 sys.stderr.write("exsm: said\\n")
 sys.exit(int(os.environ["STATUS"]))
 """
@@ -58,7 +61,8 @@ def prove_all() -> int:
             failed.append(name)
         elif name == text_of("fails"):
             failed.append(name)
-            print(f"== {name}\nsrc/lib.rt:3:1: error: this does not follow\nlogic=not-proved", flush=True)
+            print(f"== {name}\nsrc/lib.rt:3:1: error: this does not follow\nlogic=not-proved",
+                  flush=True)
         else:
             is_kept = library.is_file()
             library.parent.mkdir(parents=True, exist_ok=True)
@@ -66,7 +70,8 @@ def prove_all() -> int:
             print(f"== {name}" + ("" if is_kept else "\nlogic=proved functions=1"), flush=True)
     print("== summary")
     for name in rows():
-        why = "failed (1)" if name == text_of("fails") else f"not run, since {text_of('fails')} failed"
+        is_cause = name == text_of("fails")
+        why = "failed (1)" if is_cause else f"not run, since {text_of('fails')} failed"
         print(f"{name}: {why if name in failed else 'ok'}")
     return 1 if failed else 0
 
@@ -107,7 +112,8 @@ def try_unproved(words: list[str]) -> int:
                 to.parent.mkdir(parents=True, exist_ok=True)
                 shutil.copyfile(file, to)
         status = subprocess.call([
-            sys.executable, "-c", TRIED, *called], cwd=folder, env={**os.environ, "STATUS": text_of("status") or "7"})
+            sys.executable, "-c", TRIED, *called], cwd=folder,
+            env={**os.environ, "STATUS": text_of("status") or "7"})
     sys.stderr.write(text_of("tries") + "\n" if text_of("tries") else SAID.format(status))
     return status
 

@@ -4,6 +4,7 @@ from __future__ import annotations
 import os
 import pty
 import select
+import signal
 import subprocess
 import sys
 import tempfile
@@ -79,7 +80,8 @@ class OfRows(InFolder):
         return ran.lines
 
     def check_rows(self, rows: dict[str, tuple[str, list[str]]]) -> None:
-        """Runs each script behind BASE on a new volume, and compares the replies to its own lines."""
+        """Runs each script behind BASE on a new volume, and compares the replies to its own
+        lines."""
         for name, (script, wanted) in rows.items():
             with self.subTest(name):
                 self.small()
@@ -87,17 +89,26 @@ class OfRows(InFolder):
                 os.remove("v")
 
 
+def process_state(process: int) -> str:
+    """The letter of a process's state, as `S` of one that waits."""
+    told = Path(f"/proc/{process}/stat").read_text(encoding="ascii", errors="replace")
+    return told.rsplit(")", 1)[1].split()[0]
+
+
 class Terminal:
     """The runner in a terminal, its history in the folder of the test."""
 
-    def __init__(self, volume: str, until: str = "exsm> ") -> None:
+    def __init__(self, volume: str, until: str = "exsm> ", **more: str) -> None:
         self.side, other = pty.openpty()
-        variables = {**os.environ, "HOME": ".", "TERM": "dumb", "COLUMNS": "200"}
+        variables = {**os.environ, "HOME": ".", "TERM": "dumb", "COLUMNS": "200", **more}
         self.run = subprocess.Popen(
             [sys.executable, str(TOOLS / "exsm_do.py"), volume], stdin=other, stdout=other,
             stderr=other, start_new_session=True, env=variables)
         os.close(other)
-        self.read_to(until)
+        if "TERM" in more:
+            self.read_on(until)
+        else:
+            self.read_to(until)
 
     def type(self, keys: str, until: str) -> str:
         """Types keys, and gives what comes up to a prompt that ends it."""
@@ -115,6 +126,33 @@ class Terminal:
             except OSError:                        # the runner ended, and nothing is left
                 raise AssertionError(f"no {until!r} came, but {seen!r}") from None
         return seen
+
+    def read_on(self, until: str, seconds: float = 30) -> str:
+        """What comes until a text is somewhere in it."""
+        seen, end = "", time.monotonic() + seconds
+        while until not in seen:
+            if not select.select([self.side], [], [], max(0, end - time.monotonic()))[0]:
+                raise AssertionError(f"no {until!r} came, but {seen!r}")
+            seen += os.read(self.side, 65536).decode(errors="replace")
+        return seen
+
+    def read_on_after(self, keys: str, until: str) -> str:
+        """Types keys, and gives what comes until a text is somewhere in it."""
+        os.write(self.side, keys.encode())
+        return self.read_on(until)
+
+    def interrupt(self, typed: str) -> str:
+        """Types a line without its end and then Ctrl-C, and gives what comes up to the next prompt.
+
+        Python hears of a signal at a prompt only where it waits for a key. So the signal is sent
+        once the keys were shown, and the runner sleeps again.
+        """
+        os.write(self.side, typed.encode())
+        self.read_to(typed)
+        while process_state(self.run.pid) != "S":
+            time.sleep(0.001)
+        os.kill(self.run.pid, signal.SIGINT)
+        return self.read_to("exsm*> ")
 
     def close(self) -> None:
         """Ends the runner where it is there, and closes the terminal."""

@@ -1,11 +1,19 @@
 """The programs of benches: which copy of the crates each is run in, and what is refused."""
 from __future__ import annotations
 
+import contextlib
+import io
+import os
 import shutil
 import sys
 from pathlib import Path
 
 from tests.support import TOP, InFolder, Ran
+
+sys.path.insert(0, str(TOP / "bench"))
+import scale  # noqa: E402  (the path comes first)
+from scale import Grown  # noqa: E402
+from timing.program import Exsm  # noqa: E402
 
 CRATES = "# base: numbers\nlow: byteorder\nhigh: low\nother: low\nproofs_of: low\n"
 PROGRAM = """[program]
@@ -101,6 +109,27 @@ class ProgramsTest(InFolder):
                 self.assertEqual((told.status, told.errors), (0, []))
                 ran = self.run_words(sys.executable, path)
                 self.assertEqual((ran.status, ran.lines), (2, []))
+
+    def test_scale(self) -> None:
+        """how times grow is told by the last to the first, and by what it is to be at most"""
+        self.assertEqual(Grown("a", [2e-6, 9e-3, 5e-6], 2).cells(),
+                         ["a", "2.00 us", "9.00 ms", "5.00 us", "2.50", "2: missed"])
+        self.assertEqual(Grown("a", [2e-6, 4e-6], 2).cells()[2:], ["4.00 us", "2.00", "2: kept"])
+        self.assertEqual(Grown("a", [2e-6, 1e-6], None).cells()[2:], ["1.00 us", "0.50", ""])
+        told = io.StringIO()
+        with contextlib.redirect_stdout(told):
+            scale.tell(Exsm(os.environ["EXSM"], str(self.folder)), [200, 400], [100, 200], 1)
+        rows = [line.split(" | ") for line in told.getvalue().splitlines() if line]
+        self.assertEqual([len(row) for row in rows], [5] * 10)
+        self.assertEqual([row[0] for row in rows if "---" not in row[0]], [
+            "| Processor time, objects in one file", "| destroy one at random, create, append",
+            "| first create after an abort", "| list, an object", "| opening, a process",
+            "| memory of an opening, an object", "| Processor time, drafts of one version",
+            "| destroy a draft"])
+        self.assertNotIn("volume", os.listdir())
+        ran = self.run_words(sys.executable, TOP / "bench" / "scale.py", "v", "--most", "10")
+        self.assertEqual((ran.status, ran.lines), (2, []))
+        self.assertIn("'10' is no number of 1,000 and more", ran.errors[-1])
 
     def test_all(self) -> None:
         """each program of a bench can be made of the crates as they are, and names no other's"""

@@ -285,7 +285,8 @@ class ClientTest(InFolder):
                 self.assertEqual(store.backup("within"), 1)
             self.assertEqual(store.backup("after"), 2)
             self.assertRaises(FileNotFoundError, store.backup, "nowhere/copy")
-        for name, wanted in (("within", b"committed" * 1000), ("after", b"committed" * 1000 + b"more")):
+        for name, wanted in (("within", b"committed" * 1000),
+                             ("after", b"committed" * 1000 + b"more")):
             with Volume(name) as volume:
                 self.assertEqual(volume.walk().faults, [])
                 self.assertEqual(volume.bytes_of(volume.find(oid)), wanted)

@@ -18,10 +18,13 @@ WRONG_WORDS = [
     ("exsm_map", ["v", "out.svg", "more"], "unrecognized arguments: more"),
     ("exsm_move", ["v"], "the following arguments are required: NEW"),
     ("exsm_move", ["v", "new", "--size", "1T"], "argument --size: '1T' is no size"),
-    ("exsm_new", ["v", "80MB"],
-     "argument SIZE: '80MB' is no size: a number and K, M or G, as in 80M"),
+    ("exsm_new", ["v", "80X"],
+     "argument SIZE: '80X' is no size: a number and K, M or G, as in 80M or 1.5G"),
     ("exsm_new", ["v", "1M"],
      "argument SIZE: 1M is no size of 2M to 259G; for others use `exsm format`"),
+    ("exsm_serve", ["v"], "the following arguments are required: SOCKET"),
+    ("exsm_serve", ["v", "s", "--idle", "never"],
+     "argument --idle: 'never' is no number of seconds"),
     ("exsm_versions", ["v"], "the following arguments are required: COMMAND"),
     ("exsm_versions", ["v", "diff", "258.0.1"], "the following arguments are required: VERSION"),
     ("exsm_volume", ["v", "get"], "the following arguments are required: OID"),
@@ -38,7 +41,7 @@ class CommandsTest(InFolder):
                 ran = self.tool(name, "--help")
                 self.assertEqual((ran.status, ran.errors), (0, []))
                 self.assertTrue(ran.lines[0].startswith(f"usage: {name}.py "))
-                self.assertIn("VOLUME", ran.lines[0])
+                self.assertIn("VOLUME", " ".join(ran.lines[:ran.lines.index("")]))
 
     def test_wrong_words(self) -> None:
         """of wrong words it is told what is wrong, and nothing is done"""

@@ -78,7 +78,8 @@ class CopyingTest(InFolder):
         with Store("v"):
             ran = self.tool("exsm_copy", "v", "copy")
             self.assertEqual((ran.status, ran.errors), (5, [
-                "exsm_copy: v: another run has it open; in that program: store.backup('copy')"]))
+                "exsm_copy: v: another run has it open; in that program: store.backup('copy'); "
+                "at a server: --socket SOCKET"]))
         self.assertEqual(sorted(os.listdir()), names)
         self.assertEqual(Path("there").read_bytes(), b"precious")
 

@@ -43,8 +43,13 @@ class CratesTest(InFolder):
         for name in "abcd":
             Path(f"crates/{name}/src").mkdir(parents=True)
             Path(f"crates/{name}/src/lib.rt").write_text(f"//! {name}\nfn {name}() {{}}\n")
-        Path("docs/GATE.md").write_text("| `a` | 10 | no tests | 1 (1) |\n| `b` | 30* | 5 | 1 |\n| `c` | 20 | 5 | 1 |\n| `d` | 1 | 5 | 1 |\n")
-        Path("tools/dev/crates.py").write_text(Path("tools/dev/crates.py").read_text().replace('PROGRAM = "exsm"', 'PROGRAM = "d"'))
+        Path("docs/GATE.md").write_text(
+            "| `a` | 10 | no tests | 1 (1) |\n| `b` | 30* | 5 | 1 |\n| `c` | 20 | 5 | 1 |\n| `d` | "
+            "1 | 5 | 1 |\n")
+        Path("tools/dev/crates.py").write_text(Path("tools/dev/crates.py").read_text().replace(
+            'PROGRAM = "exsm"', 'PROGRAM = "d"'))
         ran = self.run_words(sys.executable, "tools/dev/crates.py")
         self.assertEqual((ran.status, ran.errors), (0, []))
-        self.assertIn("The proofs of the heaviest chain take 41 of all 61 seconds of docs/GATE.md: `a` (10) ← `b` (30) ← `d` (1).", ran.lines)
+        self.assertIn(
+            "The proofs of the heaviest chain take 41 of all 61 seconds of docs/GATE.md: `a` (10) "
+            "← `b` (30) ← `d` (1).", ran.lines)

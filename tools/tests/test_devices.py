@@ -7,7 +7,7 @@ import subprocess
 import sys
 from pathlib import Path
 
-from exsm.new import geometry_of
+from exsm.new import geometry_of, room_text
 from tests.support import SECONDS, TOOLS, InFolder
 
 SMALL = "--page-size 512 --pages 64 --segs 16 --seg-len 1 --fan 2".split()
@@ -58,7 +58,8 @@ class DeviceTest(InFolder):
             file.truncate(DEVICE_BYTES)
         commands: list[tuple[list[str], bytes]] = [
             (["format", *SMALL], b""), (["run"], SESSION), (["check"], b""),
-            (["gen", "--seed", "7", "--count", "400"], b""), (["run"], b"files\nspace\nlog\n"), (["check"], b"")]
+            (["gen", "--seed", "7", "--count", "400"], b""), (["run"], b"files\nspace\nlog\n"),
+            (["check"], b"")]
         for (command, *options), given in commands:
             with self.subTest(command):
                 ran = self.exsm(command, self.device, *options, given=given)
@@ -76,18 +77,24 @@ class DeviceTest(InFolder):
         before = Path(self.device).read_bytes()
         ran = self.exsm("format", self.device, "--page-size", "512")
         need = (257 + 4096 + 16384) * 512
-        text = (f"exsm: {self.device} has {DEVICE_BYTES} bytes, the volume needs {need}; nothing was written. "
+        text = (
+            f"exsm: {self.device} has {DEVICE_BYTES} bytes, the volume needs {need}; nothing was "
+            f"written. "
                 "Make a smaller volume, or remove it if it is a file")
         self.assertEqual((ran.status, ran.errors), (10, [text, "exsm: status 10 too small"]))
         ran = self.exsm("run", self.device)
-        text = (f"exsm: {self.device} holds no volume, or a damaged one: part super, the first page, which names "
+        text = (
+            f"exsm: {self.device} holds no volume, or a damaged one: part super, the first page, "
+            f"which names "
                 "the sizes, or the size of the file or device. It is as it was; "
                 f"exsm_volume.py {self.device} save FOLDER saves what can be read")
         self.assertEqual((ran.status, ran.errors), (6, [text, "exsm: status 6 bad volume super"]))
         self.assertEqual(Path(self.device).read_bytes(), before)
         self.assertEqual(self.exsm("format", self.device, *SMALL).status, 0)
         ran = self.exsm("format", self.device, *SMALL)
-        text = (f"exsm: {self.device} begins as a volume does; nothing was written. To make it anew, remove the "
+        text = (
+            f"exsm: {self.device} begins as a volume does; nothing was written. To make it anew, "
+            f"remove the "
                 "file, or write zeros over the front of the device")
         self.assertEqual((ran.status, ran.errors), (9, [text, "exsm: status 9 already a volume"]))
 
@@ -116,19 +123,21 @@ class DeviceTest(InFolder):
             self.assertEqual(first.wait(timeout=SECONDS), 0)
 
     def test_the_maker(self) -> None:
-        """the maker of volumes fills a device that holds nothing, and leaves every other one alone"""
+        """the maker of volumes fills a device that holds nothing, and leaves all others alone"""
         ran = self.tool("exsm_new", self.device)
         numbers = geometry_of(DEVICE_BYTES)
         self.assertEqual((ran.status, ran.lines), (0, [f"ok format {numbers.bytes}"]))
-        self.assertEqual(ran.errors, [" ".join(["exsm format", self.device, *numbers.words()])])
+        told = " ".join(["exsm format", self.device, *numbers.words()])
+        self.assertEqual(ran.errors, [told, f"exsm_new: {room_text(numbers)}"])
         before = Path(self.device).read_bytes()
         ran = self.tool("exsm_new", self.device)
         self.assertEqual((ran.status, ran.lines), (1, []))
-        self.assertTrue(ran.errors[0].startswith(f"exsm_new: {self.device} holds something"), ran.errors)
+        self.assertTrue(ran.errors[0].startswith(f"exsm_new: {self.device} holds something"),
+                        ran.errors)
         self.assertEqual(Path(self.device).read_bytes(), before)
 
     def test_signs_at_the_end(self) -> None:
-        """a device with a sign at its end alone holds something, and one that is too small is told"""
+        """a device with a sign at its end holds something, and one that is too small is told"""
         self.assertEqual(self.tool("exsm_new", self.device, "16M").status, 1)
         self.assertEqual(Path(self.device).read_bytes(), bytes(DEVICE_BYTES))
         with open(self.device, "r+b") as device:
@@ -168,7 +177,7 @@ class FailoverTest(InFolder):
         return run.returncode, text
 
     def test_failover(self) -> None:
-        """the second of two nodes has each commit that was answered, and one that drops syncs is found out"""
+        """the second of two nodes has each answered commit; one that drops syncs is found out"""
         status, text = self.fails_over("--cuts", "4")
         self.assertEqual(status, 0, text)
         self.assertIn("4 cuts on a", text)

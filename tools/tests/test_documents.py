@@ -79,6 +79,16 @@ class DocumentsTest(InFolder):
         readme = "".join(row.split("|")[1] for row in rows if row.startswith("| `"))
         self.assertEqual(sorted(form.split()[0] for form in re.findall(r"`(.*?)`", readme)), built)
 
+    def test_columns(self) -> None:
+        """no line of a Python file in tools or bench has over 100 columns"""
+        for top in (TOOLS, TOP / "bench"):
+            for path in top.rglob("*"):
+                if path.is_file() and (path.suffix == ".py" or path.suffix == "" and
+                                       path.read_bytes().startswith(b"#!/usr/bin/env python3")):
+                    lines = path.read_text(encoding="utf-8").splitlines()
+                    long = [place for place, line in enumerate(lines, 1) if len(line) > 100]
+                    self.assertEqual(long, [], path)
+
     def test_statuses(self) -> None:
         """the statuses of README, manual page and client are the same"""
         rows = re.findall(r"^\| (\d+) \| ([a-z ]+) \|", section(README, "The program"), re.M)
@@ -161,7 +171,7 @@ class DocumentsTest(InFolder):
                     self.assertTrue(transcripts.fits(step.wanted, came), "\n".join(came))
 
     def test_examples(self) -> None:
-        """the examples, each on a volume of its own, write what is stored and end with its status"""
+        """the examples, each on its own volume, write what is stored and end with its status"""
         for example in sorted((TOP / "examples").iterdir()):
             with self.subTest(example.name):
                 stored = {it.name: it.read_bytes() for it in example.iterdir()}
@@ -173,7 +183,7 @@ class DocumentsTest(InFolder):
                 Path("v").unlink(missing_ok=True)
 
     def test_formats(self) -> None:
-        """the example of FORMATS is what the session of README leaves on a small volume, byte for byte"""
+        """the example of FORMATS is what README's session leaves on a small volume"""
         os.symlink(os.environ["EXSM"], "exsm")
         made = re.findall(r"`exsm (format v .*?)`", section(FORMATS, "An example"))[0]
         self.assertEqual(self.exsm(*made.split()).status, 0)
@@ -205,7 +215,8 @@ class DocumentsTest(InFolder):
         if ran.status != 0:
             self.skipTest(f"man can't show a file here: {ran.errors[:1]}")
         self.assertEqual(ran.errors, [])
-        self.assertIn("keep storage objects on a volume, a file or a block device", ran.out.decode(errors="replace"))
+        self.assertIn("keep storage objects on a volume, a file or a block device",
+                      ran.out.decode(errors="replace"))
 
 
 COMPLETE = r"""
@@ -220,15 +231,47 @@ printf '%s\n' "${COMPREPLY[@]}"
 """
 SIZES = ["--fan", "--page-size", "--pages", "--seg-len", "--segs"]
 COMPLETIONS = [
-    ("exsm|", ["check", "format", "gen", "run"]), ("exsm|f", ["format"]),
+    ("exsm|", ["--help", "--version", "check", "clients", "format", "gen", "help", "run"]),
+    ("exsm|f", ["format"]), ("exsm|help|", ["check", "clients", "format", "gen", "run"]),
     ("exsm|run|", ["other", "v"]), ("exsm|check|", ["other", "v"]),
     ("exsm|format|v|", SIZES), ("exsm|format|v|--page-size|8", ["8192"]),
     ("exsm|format|v|--page-size|512|", SIZES), ("exsm|run|v|", ["--max-bytes"]),
     ("exsm|gen|v|", ["--count", "--seed"]),
-    ("exsm_files.py|v|", ["get", "ls", "mv", "put", "rm"]), ("exsm_new.py|v|", ["16G", "1G", "80M"]),
+    ("exsm_files.py|v|", ["get", "ls", "mv", "put", "rm", "verify"]),
+    ("exsm_new.py|v|", ["--for", "16G", "1G", "80M"]),
+    ("exsm_new.py|v|80M|--for|", ["large", "mixed", "small"]),
+    ("exsm_files.py|v|put|o", ["other"]), ("exsm_files.py|v|get|-d|o", ["other"]),
     ("exsm_volume.py|v|s", ["save"]), ("exsm_volume.py|v|m", ["mend"]),
-    ("exsm_versions.py|v|t", ["tree"]), ("exsm_copy.py|o", ["other"]),
+    ("exsm_versions.py|v|t", ["tree"]), ("exsm_versions.py|v|b", ["back"]),
+    ("exsm_copy.py|o", ["other"]),
     ("exsm_move.py|o", ["other"]), ("exsm_do.py|o", ["other"]),
+    ("exsm_serve.py|o", ["other"]), ("exsm_serve.py|v|other|", ["--idle", "--wait"]),
+]
+
+
+NAME_COMPLETIONS = [
+    ("exsm_files.py|v|get|", ["one", "other", "with space"]),
+    ("exsm_files.py|v|get|w", ["with space"]), ("exsm_files.py|v|rm|with\\ s", ["with space"]),
+    ("exsm_files.py|v|mv|o", ["one", "other"]), ("exsm_files.py|nowhere|get|", [""]),
+    ("exsm_versions.py|v|freeze|on", ["one"]),
+]
+"""Words of tools, and the names that are offered behind them."""
+
+ZSH = r"""
+file="$1"
+shift
+compadd() { [[ "$1" == -- ]] && shift; print -rl -- ${(M)@:#$words[CURRENT]*} }
+_files() { print -rl -- $words[CURRENT]*(N) }
+words=("$@")
+CURRENT=$#
+service="$1"
+source "$file"
+"""
+ZSH_COMPLETIONS = [
+    ("exsm|f", ["format"]), ("exsm|help|r", ["run"]), ("exsm|format|v|--page-size|8", ["8192"]),
+    ("exsm_files.py|v|g", ["get"]), ("exsm_files.py|v|get|w", ["with space"]),
+    ("exsm_files.py|v|put|ot", ["other"]), ("exsm_new.py|v|80M|--for|l", ["large"]),
+    ("exsm_do.py|ot", ["other"]), ("exsm_versions.py|v|b", ["back"]),
 ]
 
 
@@ -257,6 +300,52 @@ class InstallTest(InFolder):
                                  *words.split("|"))
             self.assertEqual((sorted(ran.lines), ran.errors), (offers, []), words)
 
+    def with_names(self) -> dict[str, str]:
+        """A volume with names, and the variables by which completion finds the tools."""
+        self.format("v", page_size=4096, pages=64, segs=64, fan=169)
+        for name in ("with space", "one", "other"):
+            Path(name).write_bytes(b"x")
+        self.tool("exsm_files", "v", "put", "with space", "one", "other")
+        os.remove("one")
+        return {**os.environ, "PATH": f"{TOOLS}:{os.environ['PATH']}"}
+
+    def test_completion_of_names(self) -> None:
+        """bash completes the names that a volume keeps, also while a run has it"""
+        variables = self.with_names()
+        with Store("v"):
+            for words, offers in NAME_COMPLETIONS:
+                ran = subprocess.run(["bash", "-c", COMPLETE, "bash", TOOLS / "exsm.bash",
+                                      *words.split("|")], capture_output=True, env=variables,
+                                     check=False, text=True)
+                self.assertEqual((sorted(ran.stdout.splitlines()), ran.stderr), (offers, ""), words)
+
+    def test_fish(self) -> None:
+        """fish completes the words of the program and of the tools, and names"""
+        if shutil.which("fish") is None:
+            self.skipTest("fish isn't there")
+        variables = self.with_names()
+        for line, offers in (("exsm f", ["format"]), ("exsm help r", ["run"]),
+                             ("exsm_files.py v g", ["get"]),
+                             ("exsm_files.py v get w", ["with space"]),
+                             ("exsm_new.py v 80M --for=l", ["--for=large"]),
+                             ("exsm_versions.py v b", ["back"])):
+            ran = subprocess.run(["fish", "--no-config", "-c",
+                                  f"source {TOOLS}/exsm.fish; complete -C '{line}'"],
+                                 capture_output=True, env=variables, check=False, text=True)
+            told = [it.split("\t")[0] for it in ran.stdout.splitlines()]
+            self.assertEqual((told, ran.stderr), (offers, ""), line)
+
+    def test_zsh(self) -> None:
+        """zsh completes the words of the program and of the tools, and names"""
+        if shutil.which("zsh") is None:
+            self.skipTest("zsh isn't there")
+        variables = self.with_names()
+        for words, offers in ZSH_COMPLETIONS:
+            ran = subprocess.run(["zsh", "-f", "-c", ZSH, "zsh", TOOLS / "exsm.zsh",
+                                  *words.split("|")], capture_output=True, env=variables,
+                                 check=False, text=True)
+            self.assertEqual((sorted(ran.stdout.splitlines()), ran.stderr), (offers, ""), words)
+
     def test_install(self) -> None:
         """what is installed runs without the repository, and lies where it is looked for"""
         ran = self.run_words(TOOLS / "install", "there/prefix")
@@ -273,9 +362,12 @@ class InstallTest(InFolder):
         program = "from exsm.client import Store\nwith Store('v') as store: print(store.files())"
         done = subprocess.run([sys.executable, "-c", program], capture_output=True, check=False,
                               env={**variables, "PYTHONPATH": str(prefix / "lib" / "exsm")})
-        self.assertEqual((done.stdout, done.stderr), (b"['blobs', 'names', 'put_sources']\n", b""))
+        self.assertEqual((done.stdout, done.stderr),
+                         (b"['blobs', 'names', 'put_facts', 'put_sources']\n", b""))
         completion = "share/bash-completion/completions/exsm_files.py"
         for name in ("share/man/man1/exsm.1", "share/man/man1/exsm_files.py.1", completion,
+                     "share/zsh/site-functions/_exsm",
+                     "share/fish/vendor_completions.d/exsm_files.py.fish",
                      "bin/exsm"):
             self.assertTrue((prefix / name).is_file(), name)
         self.assertEqual(self.run_words(TOOLS / "install").status, 2)

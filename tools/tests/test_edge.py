@@ -33,9 +33,13 @@ RUN = [
 ]
 CHECK = ["usage: exsm check VOLUME"]
 GEN = ["usage: exsm gen VOLUME --seed N --count 1..1000000"]
+CLIENTS = [
+    "usage: exsm clients VOLUME [--max-bytes N] < SCHEDULE",
+    "           by default --max-bytes 1099511627776",
+]
 USAGE = [
     *FORMAT,
-    *(line.replace("usage:", "      ") for line in [*RUN, *CHECK, *GEN]),
+    *(line.replace("usage:", "      ") for line in [*RUN, *CHECK, *GEN, *CLIENTS]),
 ]
 
 PAGE_SIZES = "512|1024|2048|4096|8192"
@@ -51,6 +55,9 @@ WORDS = [
     (f"run v --max-bytes {TWENTY_ZEROS}1", f"--max-bytes takes N, not '{TWENTY_ZEROS}1'", RUN),
     ("run v --help", "'--help' is neither an option of run nor a VOLUME", RUN),
     ("run -- v", "'--' is neither an option of run nor a VOLUME", RUN),
+    ("clients", "clients takes a VOLUME, and no word names one", CLIENTS),
+    ("clients v --seed 1", "'--seed' is neither an option of clients nor a VOLUME", CLIENTS),
+    ("clients v --max-bytes x", "--max-bytes takes N, not 'x'", CLIENTS),
     ("format", "format takes a VOLUME, and no word names one", FORMAT),
     ("format --pages", "--pages takes 1..4000000, and no word is left", FORMAT),
     ("format v --page-size", f"--page-size takes {PAGE_SIZES}, and no word is left", FORMAT),

@@ -2,6 +2,7 @@
 from __future__ import annotations
 
 import fcntl
+import hashlib
 import json
 import os
 import pty
@@ -15,6 +16,7 @@ from pathlib import Path
 
 from exsm.client import PIECE, Store
 from exsm.files import Names
+from exsm.new import MIB
 from exsm.volume import Volume
 from tests.kills import KILLS, killed, killed_command
 from tests.support import TOOLS, InFolder
@@ -301,7 +303,8 @@ class FilesTest(InFolder):
         self.assertLess(len(stored), INTERRUPTED_FILES)
 
     def interrupted_put(self) -> tuple[int, bytes]:
-        """Puts files in a terminal and presses Ctrl-C after the second; the status, and what came."""
+        """Puts files in a terminal and presses Ctrl-C after the second; the status, and what
+        came."""
         side, other = pty.openpty()
         paths = [f"f{place}" for place in range(INTERRUPTED_FILES)]
         run = subprocess.Popen(
@@ -326,9 +329,12 @@ class FilesTest(InFolder):
         for place in range(4):
             Path(f"f{place}").write_bytes(bytes(8_000_000))
         errors = self.put(*(f"f{place}" for place in range(4)), status=1)
-        self.assertRegex(errors[0], r"^exsm_files: f3: the volume is full: it needs \d+ units and "
-                         r"\d+ are free\. 3 of 4 files are in\. `exsm_move\.py` carries all to a "
-                         r"larger volume$")
+        told = re.match(r"exsm_files: f3: the volume is full: it needs \d+ units and \d+ are "
+                        r"free\. 3 of 4 files are in\. A volume of (\d+)M holds this and a half as "
+                        r"much besides: `exsm_move\.py VOLUME NEW --size \1M` makes one of all "
+                        r"that is there$", errors[0])
+        self.assertGreaterEqual(int(told[1]) * MIB, 1.5 * 32_000_000)
+        self.assertLess(int(told[1]) * MIB, 2.1 * 32_000_000)
         self.assertEqual(sorted(self.stored()), ["f0", "f1", "f2"])
         Path("f1").write_bytes(b"x" * 20_000_000)
         self.assertTrue(self.put("f1", status=1)[0].endswith("so `rm` may also do"))
@@ -339,7 +345,7 @@ class FilesTest(InFolder):
         return [sys.executable, "-c", IN_PARTS.format(tools=str(TOOLS), piece=PIECE), "v", *words]
 
     def test_parts(self) -> None:
-        """a file of several transactions: whole, also over one with versions; old or new after a kill"""
+        """a file of several transactions: whole, also over versions; old or new after a kill"""
         chance = random.Random(11)
         states = [chance.randbytes(9 * PIECE + 17), chance.randbytes(7 * PIECE)]
         Path("big").write_bytes(states[0])
@@ -368,8 +374,66 @@ class FilesTest(InFolder):
             self.assertEqual(store.read(published), states[now])
             self.assertEqual(store.read(current), b"over" * PIECE)
 
+    def test_facts(self) -> None:
+        """modes and times come back by get -p, and each file's digest is kept with its bytes"""
+        for place, mode in enumerate((0o644, 0o755, 0o400)):
+            path = Path(f"f{place}")
+            path.write_bytes(b"%d" % place * 900_000)
+            path.chmod(mode)
+            os.utime(path, ns=(1, 1_000_000_007 * 10 ** 9 + place))
+        self.put("f0", "f1", "f2")
+        self.run_words(*self.in_parts("put", "-n", "parts", "f1"))
+        self.run_words(sys.executable, TOOLS / "exsm_files.py", "v", "put", "-n", "typed", "-",
+                       given=b"typed")
+        self.assertEqual(self.tool("exsm_files", "v", "get", "-p", "-d", "out").status, 0)
+        for name, source in (("f0", "f0"), ("f1", "f1"), ("f2", "f2"), ("parts", "f1")):
+            got, put = os.stat(f"out/{name}"), os.stat(source)
+            self.assertEqual((got.st_mode, got.st_mtime_ns), (put.st_mode, put.st_mtime_ns), name)
+        self.assertGreater(os.stat("out/typed").st_mtime, time.time() - 1000)
+        told = {it["name"]: it
+                for it in json.loads(self.tool("exsm_files", "v", "ls", "--json").out)}
+        self.assertEqual((told["f1"]["mode"], told["f1"]["time"]),
+                         ("755", "2001-09-09T01:46:47+00:00"))
+        self.assertEqual((told["typed"]["mode"], told["typed"]["time"]), (None, None))
+        for name, data in self.stored().items():
+            self.assertEqual(told[name]["sha256"], hashlib.sha256(data).hexdigest())
+        self.tool("exsm_files", "v", "get", "f1", "plain")
+        self.assertNotEqual(os.stat("plain").st_mtime_ns, os.stat("f1").st_mtime_ns)
+        self.tool("exsm_files", "v", "rm", *told)
+        with Store("v") as store:
+            self.assertEqual(store.size(store.list("put_facts")[0]), 0)
+
+    def test_verify(self) -> None:
+        """a byte that isn't what was put, by a line or by damage, is told by verify"""
+        Path("a").write_bytes(b"a" * 3_000)
+        Path("b").write_bytes(b"needle" * 9_000)
+        Path("c").write_bytes(b"c")
+        self.put("a", "b", "c")
+        ran = self.tool("exsm_files", "v", "verify")
+        self.assertEqual((ran.status, ran.lines),
+                         (0, ["3 of 3 files have the bytes that were put"]))
+        with Store("v") as store, store.transaction():
+            store.replace(Names(store).oid(b"c"), 0, b"d")
+        with Store("v") as store:
+            store.checkpoint()
+        data = bytearray(Path("v").read_bytes())
+        data[data.rindex(b"needleneedle")] ^= 1
+        Path("v").write_bytes(data)
+        self.assertEqual(self.exsm("check", "v").status, 0)
+        ran = self.tool("exsm_files", "v", "verify")
+        more = "other bytes than were put: changed since by other lines, or damaged"
+        self.assertEqual((ran.status, ran.lines), (
+            1, [f"b: {more}", f"c: {more}", "1 of 3 files have the bytes that were put"]))
+        self.assertEqual(ran.errors, ["exsm_files: 2 of 3 files have other bytes than were put"])
+        self.assertEqual(self.tool("exsm_files", "v", "verify", "a").status, 0)
+        with Store("v") as store, store.transaction():
+            facts, = store.list("put_facts")
+            store.delete(facts, 0, store.size(facts))
+        self.assertEqual(self.tool("exsm_files", "v", "verify", "a", "c").lines, [
+            "0 of 2 files have the bytes that were put; of 2 no digest is kept"])
+
     def test_old_volumes(self) -> None:
-        """a volume whose names have no paths beside them is read, and nothing is replaced unasked"""
+        """a volume whose names have no paths beside them is read, none replaced unasked"""
         with Store("v") as store, store.transaction():
             store.file("blobs")
             store.file("names")

@@ -60,7 +60,8 @@ class Generated(InFolder):
     """Runs of `gen`."""
 
     def same_by_hand(self, seed: int, count: int, lines: int) -> None:
-        """`gen` tells the same on two fresh volumes, and what a run of the lines by hand replies."""
+        """`gen` tells the same on two fresh volumes, and what a run of the lines by hand
+        replies."""
         text = "".join(f"{line}\n" for line in script(seed, count))
         self.assertEqual(text.count("\n"), lines)
         first, second, hand = (f"{name}-{count}" for name in ("first", "second", "hand"))
@@ -76,14 +77,15 @@ class Generated(InFolder):
             ran = self.exsm("gen", name, "--seed", seed, "--count", count)
             self.assertEqual((ran.status, ran.lines, ran.errors), (0, [line], []))
         counted = self.exsm("check", hand).lines
-        self.assertEqual([self.exsm("check", name).lines for name in (first, second)], [counted] * 2)
+        self.assertEqual([self.exsm("check", name).lines for name in (first, second)],
+                         [counted] * 2)
 
     def test_200_commands(self) -> None:
         """gen: 200 commands make 214 lines, answered as by hand, on two fresh default volumes"""
         self.same_by_hand(1, 200, 214)
 
     def test_2000_commands(self) -> None:
-        """gen: 2,000 commands make 2,050 lines, answered as by hand, on two fresh default volumes"""
+        """gen: 2,000 commands make 2,050 lines, answered as by hand, on two default volumes"""
         self.same_by_hand(7, 2000, 2050)
 
     def test_few_commands(self) -> None:

@@ -77,7 +77,7 @@ class LogTest(unittest.TestCase):
                 page_after(entry, so_far)
 
     def test_records(self) -> None:
-        """records of both kinds are read, and what stands behind an open gate and is none is told"""
+        """records of both kinds are read; what stands behind an open gate and is none is told"""
         image = catalog(1)
         old = HEAD.pack(1, 1, 536, 1, 0, 1, 0) + PAGE_NUMBER.pack(CATALOG) + image
         entry = files(2, [], ("a", 1))

@@ -54,7 +54,8 @@ class MoveTest(InFolder):
                 raise
 
     def shape(self, name: str) -> dict[str, list]:
-        """The objects of a volume without faults, by their files: trees of bytes, state and what is derived."""
+        """The objects of a volume without faults, by their files: trees of bytes, state and what is
+        derived."""
         with Volume(name) as volume:
             self.assertEqual(volume.walk().faults, [])
             return {file: [self.tree(volume, links, next(
@@ -122,10 +123,11 @@ class MoveTest(InFolder):
             store.append(oid, b"!")
         ran = self.tool("exsm_move", "v", "new", "--size", "20M", "--json")
         told = json.loads(ran.out)
-        self.assertEqual(told, {"objects": 4, "versions": 5, "names": 2, "bytes": told["bytes"],
+        self.assertEqual(told, {"objects": 5, "versions": 6, "names": 2, "bytes": told["bytes"],
                                 "map": str(self.folder / "new.map")})
         for name, data in (("one", b"one" * 5_000), ("two words", b"two words" * 5_000 + b"!")):
             self.assertEqual(self.tool("exsm_files", "new", "get", name).out, data)
+        self.assertEqual(self.tool("exsm_files", "new", "verify", "one").status, 0)
         self.assertEqual(self.tool("exsm_files", "new", "put", "one").status, 0)
 
     def test_many(self) -> None:
@@ -138,7 +140,8 @@ class MoveTest(InFolder):
             for start in range(0, 600, 50):
                 with store.transaction():
                     for place in range(start, start + 50):
-                        store.append(store.create("a"), bytes([place % 251]) * (430 if place < 400 else 3))
+                        store.append(store.create("a"),
+                                     bytes([place % 251]) * (430 if place < 400 else 3))
         self.format("new", page_size=512, pages=2_000, segs=100, fan=6)
         ran = self.tool("exsm_move", "v", "new")
         self.assertEqual((ran.status, ran.errors), (0, []))
@@ -176,7 +179,7 @@ class MoveTest(InFolder):
         self.assertEqual({path.name: path.read_bytes() for path in self.folder.iterdir()}, files)
 
     def test_kills(self) -> None:
-        """kills while it moves: the old volume is whole, the new one has its name once it is whole"""
+        """kills while it moves: the old volume is whole, the new one named once it is whole"""
         self.format("v", page_size=512, pages=2_000, segs=3_000, seg_len=2, fan=6)
         self.fill(3)
         wanted, old = self.shape("v"), Path("v").read_bytes()

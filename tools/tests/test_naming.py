@@ -27,7 +27,8 @@ SHIM = r"""
 #include <sys/stat.h>
 #include <unistd.h>
 
-/* A file system without links, of slow or failing renames, or whose folders can't be synced: as the variable FAULTS has a letter. */
+/* A file system without links, of slow or failing renames, or whose folders can't be synced: as
+   the variable FAULTS has a letter. */
 static int has(char letter) {
     const char *faults = getenv("FAULTS");
     for (; faults && *faults; faults++)
@@ -78,7 +79,8 @@ class NamingTest(InFolder):
         Path(f"{shim}.c").write_text(SHIM)
         self.addCleanup(shim.unlink, missing_ok=True)
         self.addCleanup(Path(f"{shim}.c").unlink)
-        subprocess.run([compiler, "-shared", "-fPIC", "-o", str(shim), f"{shim}.c", "-ldl"], check=True)
+        subprocess.run([compiler, "-shared", "-fPIC", "-o", str(shim), f"{shim}.c", "-ldl"],
+                       check=True)
         return {"LD_PRELOAD": str(shim), "FAULTS": faults}
 
     def test_named_as_a_temporary_file(self) -> None:
@@ -95,7 +97,7 @@ class NamingTest(InFolder):
         self.assertEqual(sorted(os.listdir()), [TEMPORARY, "v"])
 
     def test_a_name_that_was_taken_meanwhile(self) -> None:
-        """of two runs that make one volume in a folder without links, one makes it, and its commits stay"""
+        """of two runs that make one volume in a folder without links one does; its commits stay"""
         how = self.without_links("s")
         ended: list[Ran] = []
         slow = threading.Thread(target=lambda: ended.append(self.format("v", **how)))
@@ -178,11 +180,12 @@ class NamingTest(InFolder):
 
 class TextsTest(InFolder):
     def test_names_with_control_characters(self) -> None:
-        """a control character of a word is shown as an escape, so each text has a line of its own"""
+        """a control character of a word is shown as an escape, so each text has its own line"""
         name = "a\n\x1b[2Jb\u0085\x7f"
         shown = "a\\n\\u{1b}[2Jb\\u{85}\\u{7f}"
         rows = [
-            (["run", name], f"exsm: {shown}: No such file or directory (os error 2) (exsm format makes a volume)"),
+            (["run", name],
+             f"exsm: {shown}: No such file or directory (os error 2) (exsm format makes a volume)"),
             ([name], f"exsm: '{shown}' is no command"),
             (["run", "v", name], f"exsm: '{shown}' is a second VOLUME, after 'v'"),
             (["run", f"--{name}"], f"exsm: '--{shown}' is neither an option of run nor a VOLUME"),
@@ -195,14 +198,16 @@ class TextsTest(InFolder):
     def test_other_letters(self) -> None:
         """every other letter of a name is shown as it is"""
         for name in ("\u00e9\u4e2d", "it's \"v\"", "a\\b"):
-            self.assertTrue(self.exsm("run", name).errors[0].startswith(f"exsm: {name}: No such file"))
+            self.assertTrue(self.exsm("run",
+                                      name).errors[0].startswith(f"exsm: {name}: No such file"))
 
 
 class LimitTest(InFolder):
     """The limit of a file's size, of which the system tells a run by a signal that ends it."""
 
     def limited(self, *words: object, most: Optional[int] = None) -> Ran:
-        """Runs words where no file gets longer than so many bytes, the signal as the system has it at first."""
+        """Runs words where no file gets longer than so many bytes, the signal as the system has it
+        at first."""
         def limit() -> None:
             signal.signal(signal.SIGXFSZ, signal.SIG_DFL)
             if most is not None:
@@ -214,7 +219,8 @@ class LimitTest(InFolder):
         return Ran(run.returncode, run.stdout, run.stderr)
 
     def check(self, program: object) -> None:
-        """A run by a script that holds the signal off ends as one on a full disk does, and leaves nothing."""
+        """A run by a script that holds the signal off ends as one on a full disk does, and leaves
+        nothing."""
         before = os.listdir()
         for most in (0, 511, BYTES - 1):
             ran = self.limited(program, "format", "v", *SMALL, most=most)
@@ -233,6 +239,8 @@ class LimitTest(InFolder):
         for folder in ("out", "src"):
             os.makedirs(f"top/crates/exsm/{folder}")
         shutil.copy(TOP / "exsm", "top/exsm")
+        os.mkdir("top/tools")
+        shutil.copy(TOP / "tools" / "words.sh", "top/tools")
         Path("top/crates.txt").write_text("exsm: low\n")
         shutil.copy(os.environ["EXSM"], "top/crates/exsm/out/exsm")
         # The note of a build, behind which no source changed. No kit is on the path.

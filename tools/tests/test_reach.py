@@ -86,7 +86,8 @@ class Reach(InFolder):
                 objects.made = after.made
 
     def lines_of(self, made: str, lines: list[str]) -> None:
-        """Compares after each line of a transaction: in use is what was committed before it, and what would be committed now."""
+        """Compares after each line of a transaction: in use is what was committed before it, and
+        what would be committed now."""
         shutil.copy("v", "before")
         self.told(made, "before")
         committed = units_in_use("before")

@@ -11,6 +11,7 @@ from pathlib import Path
 from xml.etree import ElementTree
 
 from exsm.client import Ended, Store
+from exsm.lock import held, is_held
 from exsm.map import picture, usage
 from exsm.records import BadVolume, Record
 from exsm.volume import Volume
@@ -58,10 +59,32 @@ class ReaderTest(InFolder):
             self.wanted = {oid: store.read(oid)
                            for name in store.files() for oid in store.list(name)}
 
+    def test_beside_a_run(self) -> None:
+        """beside a run the reader and the map say that it is there; they take no lock"""
+        readings = [("exsm_volume", "check"), ("exsm_volume", "list"), ("exsm_volume", "save", "s"),
+                    ("exsm_map",)]
+        for name, *words in readings:
+            ran = self.tool(name, "v", *words)
+            self.assertEqual((ran.status, ran.errors), (0, []), name)
+            shutil.rmtree("s", ignore_errors=True)
+            with Store("v"):
+                told = self.tool(name, "v", *words).errors
+            self.assertEqual(len(told), 1)
+            self.assertTrue(told[0].startswith(f"{name}: v: a run has it open, so what was read"))
+            shutil.rmtree("s", ignore_errors=True)
+        with held("v"):
+            self.assertTrue(is_held("v"))
+        self.assertFalse(is_held("v"))
+        os.symlink("v", "w")
+        with Store("w"):
+            self.assertTrue(is_held("v"))
+
     def test_whole(self) -> None:
         """a whole volume: check, list, get, save"""
         ran = self.tool("exsm_volume", "v", "check")
-        self.assertEqual((ran.status, ran.lines), (0, [f"0 faults, {len(self.wanted)} objects, {len(self.wanted)} versions"]))
+        self.assertEqual((ran.status, ran.lines),
+                         (0, [f"0 faults, {len(self.wanted)} objects, {len(self.wanted)} "
+                              "versions"]))
         rows = [line.split() for line in self.tool("exsm_volume", "v", "list").lines]
         self.assertEqual({row[1]: int(row[0]) for row in rows},
                          {oid: len(data) for oid, data in self.wanted.items()})
@@ -127,7 +150,7 @@ class ReaderTest(InFolder):
         self.assertEqual(ran.status, 0)
         ran = self.tool("exsm_volume", "v", "save", "s")
         self.assertEqual((ran.status, ran.lines[-1]),
-                         (0, "4 versions saved whole, 0 in part; 2 of them under their names"))
+                         (0, "5 versions saved whole, 0 in part; 2 of them under their names"))
         self.assertEqual(Path("s", "blobs", "a b.txt").read_bytes(), b"one")
         self.assertEqual(Path("s", "blobs", "\u00fc").read_bytes(), b"two" * 4000)
         self.assertIn("blobs a b.txt", "\n".join(self.tool("exsm_volume", "v", "list").lines))

@@ -2,6 +2,7 @@
 from __future__ import annotations
 
 import os
+import random
 import re
 import signal
 import time
@@ -34,11 +35,14 @@ class Before(NamedTuple):
     replies: list[str]
 
 
-def stopped(before: Before, line: str, number: int, name: str, *values: str) -> Row:
+def stopped(before: Before, line: str, number: int, name: str, *values: str,
+            more: str = "") -> Row:
     """A script that is refused at the line that stands behind its beginning."""
     place = before.script.count("\n") + 1
     told = [f"exsm_do: line {place}: {line}",
             f"exsm_do: {meaning(line, name, list(values))}"]
+    if more:
+        told.append(f"exsm_do: {more}")
     reply = " ".join(["no", str(number), name, *values])
     return Row(before.script + line, [*before.replies, reply],
                [*told, ABORTED] if before.replies else told, 1)
@@ -54,6 +58,11 @@ APPENDS = Before(MADE.script + f"{APPEND}\n" * APPENDS_MOST,
                  [*MADE.replies, *(f"ok append {size + 1}" for size in range(APPENDS_MOST))])
 FILES = Before("begin\n" + "".join(f"file f{place}\n" for place in range(FILES_OF_512)),
                ["ok begin 1", *(f"ok file f{place}" for place in range(FILES_OF_512))])
+LARGER = ("A volume of 3M holds this and a half as much besides: `exsm_move.py VOLUME NEW --size "
+          "3M` makes one of all that is there")
+"""400,000 bytes and a half as much, and four fifths of a volume for them, and its first 257
+pages."""
+
 TABLE = [
     Row("files\n# a comment\n\nlog\n", ["ok files 0", "ok log 0"], [], 0),
     Row(MADE.script + "commit\n", [*MADE.replies, "ok commit 1"], [], 0),
@@ -76,9 +85,10 @@ TABLE = [
     stopped(FROZEN, "drop @x", 13, "current"),
     stopped(MADE, "unfile a", 14, "not_empty"),
     stopped(FROZEN, "destroy @x", 15, "has_versions"),
-    stopped(MADE, "read @x 0 1", 18, "range"),
+    stopped(MADE, "read @x 0 1", 18, "range", more="@x has 0 bytes"),
+    stopped(NOTHING, "read 9.9.9 0 1", 11, "no_object"),
     stopped(APPENDS, APPEND, 22, "long_txn", "512", "2"),
-    stopped(MADE, "append @x rep:400000:61", 23, "full", "segs", "786", "600"),
+    stopped(MADE, "append @x rep:400000:61", 23, "full", "segs", "786", "600", more=LARGER),
     stopped(DERIVED, "drop @v", 24, "branches", "2"),
 ]
 
@@ -185,7 +195,7 @@ class RunnerTest(InFolder):
             self.assertIn("create notes as @n", history.read())
 
     def test_prompt_words(self) -> None:
-        """in a terminal: text as data, bytes shown, a file put, lines of a file, identifiers by Tab"""
+        """in a terminal: text as data, bytes shown, files put and run, identifiers by Tab, times"""
         if readline is None:
             self.skipTest("this Python has no readline")
         with open("note", "w", encoding="utf-8") as note:
@@ -198,7 +208,8 @@ class RunnerTest(InFolder):
             self.assertIn("ok file notes", talk.type("file notes\n", "exsm*> "))
             self.assertIn("10 bytes of note are in @n",
                           talk.type("put note in notes as @n\n", "exsm*> "))
-            self.assertIn("ok append 22", talk.type('append @n text:"say \\"hi\\"\\n..."\n', "exsm*> "))
+            self.assertIn("ok append 22",
+                          talk.type('append @n text:"say \\"hi\\"\\n..."\n', "exsm*> "))
             self.assertIn('two\r\nlines\r\nsay "hi"', talk.type("show @n\n", "exsm*> "))
             self.assertIn("\r\nlin\r\n", talk.type("show @n 4 3\n", "exsm*> "))
             told = talk.type("source lines\n", "exsm*> ")
@@ -208,15 +219,46 @@ class RunnerTest(InFolder):
             self.assertIn("size 258.0.1 \r\nok size 22", talk.type("size 25\t\n", "exsm*> "))
             self.assertIn("No such file", talk.type("put nowhere in notes as @m\n", "exsm*> "))
             self.assertIn("the form is `show X [POS LEN]`", talk.type("show @n 1\n", "exsm*> "))
-            os.write(talk.side, b"files and what else")
-            time.sleep(0.5)
-            os.kill(talk.run.pid, signal.SIGINT)
-            self.assertIn("^C", talk.read_to("exsm*> "))
+            told = talk.type("time size @n\n", "exsm*> ")
+            self.assertRegex(told, r"ok size 22\r\n[0-9]+\.[0-9] ms")
+            self.assertIn("the form is `time LINE`", talk.type("time\n", "exsm*> "))
+            self.assertIn("@n has 22 bytes", talk.type("read @n 0 23\n", "exsm*> "))
+            self.assertIn("^C", talk.interrupt("files and what else"))
             self.assertIn("ok commit 1", talk.type("commit\n", "exsm> "))
             talk.type("quit\n", "")
             self.assertEqual(talk.run.wait(10), 0)
         finally:
             talk.close()
+
+    def test_interrupts(self) -> None:
+        """in a terminal no Ctrl-C at any moment ends the session or its transaction"""
+        if readline is None:
+            self.skipTest("this Python has no readline")
+        chance = random.Random(7)
+        talk = Terminal(self.format())
+        try:
+            talk.type("begin\n", "exsm*> ")
+            talk.type("file kept\n", "exsm*> ")
+            for _ in range(150):
+                os.write(talk.side, b"log\n" * chance.randrange(3))
+                os.kill(talk.run.pid, signal.SIGINT)
+                time.sleep(chance.random() / 100)
+            os.write(talk.side, b"\nfiles\n")
+            self.assertIn("ok files 1 kept", talk.read_on("ok files 1 kept\r\nexsm*> "))
+            self.assertIn("ok commit 1", talk.type("commit\n", "exsm> "))
+        finally:
+            talk.close()
+
+    def test_colours(self) -> None:
+        """what is refused is told in red in a terminal that has colours, unless NO_COLOR is set"""
+        for variables, begins in (({"TERM": "xterm"}, "\x1b[31mexsm_do: "), ({}, "exsm_do: "),
+                                  ({"TERM": "xterm", "NO_COLOR": "1"}, "exsm_do: ")):
+            talk = Terminal(self.format(), **variables)
+            try:
+                self.assertIn(f"\n{begins}line 1", talk.read_on_after("sizes\n", "size X"))
+            finally:
+                talk.close()
+                os.remove("v")
 
     def test_opens_first(self) -> None:
         """in a terminal a volume that can't be opened is told before any prompt"""

@@ -7,7 +7,8 @@ from pathlib import Path
 
 from tests.support import TOOLS, TOP, InFolder, Ran
 
-# Stands in for rt: tells its words and what the folder has that it runs in, and refuses all edits but those of `trees`.
+# Stands in for rt: tells its words and what the folder has that it runs in, and refuses all edits
+# but those of `trees`.
 RT = """#!/bin/sh
 echo "$@"
 cat crates.txt
@@ -42,7 +43,8 @@ class TryEditsTest(InFolder):
     def test_none_of_the_gate(self) -> None:
         """no edit stands both in the gate and beside it"""
         kept = {(it.parent.name, it.name) for it in (TOP / "tools" / "edits").glob("*/*.edit")}
-        tried = {(it.parent.parent.name, it.name) for it in (TOP / "crates").glob("*/must-fail/*.edit")}
+        tried = {(it.parent.parent.name, it.name)
+                 for it in (TOP / "crates").glob("*/must-fail/*.edit")}
         self.assertEqual((kept & tried, bool(kept)), (set(), True))
 
     def test_listed(self) -> None:
@@ -61,14 +63,16 @@ class TryEditsTest(InFolder):
         self.assertEqual(ran.lines[:2], [f"runs: trying {len(edits)} edits", "must-fail runs"])
         self.assertIn("ex_base: byteorder thiserror", ran.lines)
         self.assertFalse([line for line in ran.lines if line.startswith(("trees:", "generated:"))])
-        self.assertEqual(ran.lines[-len(edits) - 1:], [*edits, "1 of 1 crates refused all of their edits"])
+        self.assertEqual(ran.lines[-len(edits) - 1:],
+                         [*edits, "1 of 1 crates refused all of their edits"])
         self.assertEqual(sorted((TOP / "crates").glob("*/must-fail/*.edit")), before)
 
     def test_one_is_not_refused(self) -> None:
         """the status says that a crate lets an edit through, and the other crates are tried"""
         self.with_rt()
         ran = self.try_edits("trees", "runs")
-        self.assertEqual((ran.status, ran.lines[-1]), (1, "1 of 2 crates refused all of their edits"))
+        self.assertEqual((ran.status, ran.lines[-1]),
+                         (1, "1 of 2 crates refused all of their edits"))
 
     def test_words(self) -> None:
         """help is on standard output, and wrong words try nothing"""

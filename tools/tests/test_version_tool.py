@@ -5,8 +5,10 @@ import difflib
 import json
 import os
 import random
+import re
 import shutil
 import time
+from datetime import datetime, timezone
 from pathlib import Path
 
 from exsm.client import Store
@@ -54,7 +56,7 @@ class VersionToolTest(InFolder):
         for word in (draft, "published", "branch one", "258.2.3"):
             self.assertEqual(self.tool_lines("tree", word), TREE.splitlines())
         self.assertEqual(self.tool_lines("tree"),
-                         [*TREE.splitlines(), "objects of one version: 2"])
+                         [*TREE.splitlines(), "objects of one version: 3"])
         told, = json.loads(self.tool("exsm_versions", "v", "tree", "v2", "--json").out)
         second, branch = told["derived"]
         self.assertEqual((told["oid"], told["names"], told["state"], told["size"]),
@@ -68,7 +70,8 @@ class VersionToolTest(InFolder):
         self.tool_lines("name", draft, "now")
         self.tool_lines("name", draft, "now")
         self.assertEqual(self.tool_lines("name", "258.1.2", "now", status=1), [
-            "exsm_versions: now names another version already: --replace moves the name to this one"])
+            "exsm_versions: now names another version already: --replace moves the name to this "
+            "one"])
         self.assertEqual(self.tool_lines("freeze", draft, "now", status=1),
                          ["exsm_versions: now names another version already"])
         self.tool_lines("name", "--replace", "258.1.2", "now")
@@ -83,6 +86,59 @@ class VersionToolTest(InFolder):
         frozen, = self.tool_lines("freeze", draft, "third")
         self.assertTrue(self.tool_lines("tree", draft)[2].startswith(f"│ └ {frozen} "))
         self.assertIn("frozen", self.tool_lines("freeze", "third", "x", status=1)[0])
+
+    def test_times(self) -> None:
+        """when a version was named last is kept, and goes with its last name"""
+        draft = self.branch()
+        before = datetime.now(timezone.utc).replace(microsecond=0)
+        for words in (["name", "258.1.2", "first"], ["freeze", draft, "third"],
+                      ["name", "third", "the third"]):
+            self.tool_lines(*words)
+        rows = self.tool_lines("tree", "-t", draft)
+        times = [re.search(r"  (\d{4}-\d\d-\d\d \d\d:\d\d:\d\dZ)$", row) for row in rows]
+        self.assertEqual([found is not None for found in times], [True, False, True, False, False])
+        for found in filter(None, times):
+            moment = datetime.fromisoformat(found[1].replace("Z", "+00:00"))
+            self.assertLessEqual(before, moment)
+            self.assertLessEqual(moment, datetime.now(timezone.utc))
+        told, = json.loads(self.tool("exsm_versions", "v", "tree", draft, "--json").out)
+        self.assertEqual(told["time"], times[0][1].replace(" ", "T"))
+        self.tool_lines("unname", "the third")
+        self.assertIn("third  2", self.tool_lines("tree", "-t", draft)[2])
+        self.tool_lines("unname", "third")
+        with Store("v") as store:
+            kept = store.read(store.list("version_times")[0])
+        self.assertEqual(kept.count(b"\n"), 1)
+
+    def test_back(self) -> None:
+        """a current version gets the bytes of another one, by what differs, and keeps its names"""
+        chance = random.Random(5)
+        self.format(page_size=512, pages=900, segs=2_500, fan=6)
+        with Store("v") as store, store.transaction():
+            store.file("a")
+            draft = store.create("a")
+            store.append(draft, chance.randbytes(300_000))
+            first = store.freeze(draft)
+            for _ in range(20):
+                place = chance.randrange(250_000)
+                store.delete(draft, place, chance.randrange(1, 900))
+                store.insert(draft, place, chance.randbytes(chance.randrange(1, 900)))
+            second = store.freeze(draft)
+            store.append(draft, b"more")
+            other = store.create("a")
+        self.tool_lines("name", draft, "now")
+        for wanted in (first, second, first):
+            told, = self.tool_lines("back", "now", wanted)
+            taken = int(re.search(r"for ([0-9,]+), in", told)[1].replace(",", ""))
+            self.assertLess(taken, 60_000)
+            with Store("v") as store:
+                self.assertEqual(store.digest(draft), store.digest(wanted))
+            self.assertEqual(self.tool_lines("diff", draft, wanted), [])
+        self.assertEqual(self.tool_lines("back", "now", first),
+                         [f"{draft}: 0 bytes for 0, in 0 places"])
+        self.assertIn("versions of two objects", self.tool_lines("back", draft, other, status=1)[0])
+        self.assertIn("a frozen version keeps its bytes",
+                      self.tool_lines("back", second, first, status=1)[0])
 
     def test_file_names(self) -> None:
         """the names of files name their objects' versions too"""
@@ -177,7 +233,7 @@ class VersionToolTest(InFolder):
                          ["exsm_versions: v: super: the file doesn't begin as a volume does"])
 
     def test_kills(self) -> None:
-        """kills while it names and freezes: a frozen version has its name, and a name its version"""
+        """kills while it names and freezes: a frozen version has its name, a name its version"""
         self.branch()
         begun = time.monotonic()
         self.tool_lines("freeze", "258.0.1", "k")
