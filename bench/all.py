@@ -1,18 +1,15 @@
 #!/usr/bin/env python3
-"""Times exsm on whole workloads, beside SQLite where python3 has it, and draws how times grow.
+"""Times exsm on whole workloads, and draws how times grow.
 
 Each PROGRAM is a built exsm, so that two builds can be compared; the first one stands first in the
 ratios. Volumes and databases lie in a new folder below FOLDER (/dev/shm where there is none
-given): in memory, where syncs cost nothing, a time is the program's own. A time of exsm is that of
-a whole process, which reads its script from a pipe and writes its replies into a file, the median
-of N runs, without its opening of the volume. A time of SQLite is that of the calls in this
-process, the median of N runs: a write-ahead log, synchronous=FULL, an object as rows of 4,096
-bytes, whose lengths the caller keeps; an older version of an object is there the rows that were
-replaced since. All times are the processor's, of user and system, which other work on the machine
-changes less than the clock's. Where a part has a goal, it is told whether the first program keeps
-it. A program that lacks a workload's lines has no time there, and one whose run took more than ten
-seconds none of larger ones. `--large` goes up to an object of 4 GiB less 1 MiB, for which the
-folder needs room.
+given): in memory, where syncs cost nothing, a time is the program's own. A time is that of a whole
+process, which reads its script from a pipe and writes its replies into a file, the median of N
+runs, without its opening of the volume. All times are the processor's, of user and system, which
+other work on the machine changes less than the clock's. Where a part has a goal, it is told whether
+the first program keeps it. A program that lacks a workload's lines has no time there, and one whose
+run took more than ten seconds none of larger ones. `--large` goes up to an object of 4 GiB less
+1 MiB, for which the folder needs room. bench/peers.py has SQLite and LMDB beside it.
 """
 from __future__ import annotations
 
@@ -26,7 +23,6 @@ sys.dont_write_bytecode = True
 
 from timing import scripts  # noqa: E402
 from timing.growth import growth  # noqa: E402
-from timing.pieces import HAS_SQLITE, Sqlite  # noqa: E402
 from timing.plot import Panel, plot  # noqa: E402
 from timing.program import Exsm, Lacking  # noqa: E402
 from timing.scripts import SIZE  # noqa: E402
@@ -39,11 +35,10 @@ OPENING_GOAL = 10000
 Seconds = list[Optional[float]]
 
 
-def tell(name: str, times: Seconds, peer: Optional[float], goal: Optional[float] = None) -> None:
+def tell(name: str, times: Seconds, goal: Optional[float] = None) -> None:
     """One row: the times of one part, and the ratios of the first program's to the others'."""
     ratios = [ratio(times[0], other) for other in times[1:]]
-    print(" | ".join([name, *map(unit, times), *ratios, unit(peer), ratio(times[0], peer),
-                      kept(times[0], goal)]), flush=True)
+    print(" | ".join([name, *map(unit, times), *ratios, kept(times[0], goal)]), flush=True)
 
 
 def timed(program: Exsm, load: Workload, runs: int) -> Optional[float]:
@@ -56,36 +51,25 @@ def timed(program: Exsm, load: Workload, runs: int) -> Optional[float]:
         return None
 
 
-def timed_beside(peer: Optional[Sqlite], load: Workload, runs: int) -> Optional[float]:
-    """SQLite's seconds of one part, where it does the same."""
-    if not peer or not load.peer:
-        return None
-    return peer.best(load.size, load.peer, runs, load.small).processor / load.parts
-
-
-def compare_openings(programs: list[Exsm], peer: Optional[Sqlite], runs: int,
-                     count: int) -> None:
+def compare_openings(programs: list[Exsm], runs: int, count: int) -> None:
     """The rows of openings: of one object, of many, and of the largest geometry."""
     times: Seconds = [it.opening(it.volume(scripts.appended(SIZE)), runs).processor
                       for it in programs]
-    tell("opening 12 MiB, a process", times,
-         peer.opening(SIZE, runs).processor if peer else None)
+    tell("opening 12 MiB, a process", times)
     times = [it.opening(it.volume(scripts.creations(count)), runs).processor for it in programs]
-    tell(f"opening {count:,} objects, a process", times, None)
+    tell(f"opening {count:,} objects, a process", times)
     times = [it.opening(it.volume(pages=4000000, segs=4000000), runs).processor
              for it in programs]
-    tell("opening the largest geometry, empty", times, None, OPENING_GOAL)
+    tell("opening the largest geometry, empty", times, OPENING_GOAL)
 
 
-def compare(programs: list[Exsm], peer: Optional[Sqlite], runs: int, quick: bool) -> None:
+def compare(programs: list[Exsm], runs: int, quick: bool) -> None:
     """All rows, below their head."""
     heads = [*(it.name for it in programs), *(f"to {it.name}" for it in programs[1:])]
-    print(" | ".join(["processor time of one part", *heads, "SQLite", "to SQLite", "goal"]),
-          flush=True)
+    print(" | ".join(["processor time of one part", *heads, "goal"]), flush=True)
     for load in workloads(quick):
-        times = [timed(it, load, runs) for it in programs]
-        tell(load.name, times, timed_beside(peer, load, runs), load.goal)
-    compare_openings(programs, peer, runs, 1000 if quick else 10000)
+        tell(load.name, [timed(it, load, runs) for it in programs], load.goal)
+    compare_openings(programs, runs, 1000 if quick else 10000)
 
 
 def tell_growth(panels: list[Panel]) -> None:
@@ -110,10 +94,9 @@ def main() -> None:
     words = parser.parse_args()
     with tempfile.TemporaryDirectory(dir=words.folder) as folder:
         programs = [Exsm(path, folder) for path in words.programs]
-        peer = Sqlite(folder) if HAS_SQLITE else None
-        compare(programs, peer, words.runs, words.quick)
+        compare(programs, words.runs, words.quick)
         if words.plot:
-            panels = growth(programs, peer, words.runs, words.quick, words.large)
+            panels = growth(programs, words.runs, words.quick, words.large)
             tell_growth(panels)
             plot(words.plot, panels)
 

@@ -1,1 +1,1 @@
-"""What benches of the whole program share: scripts, runs, SQLite beside them, and plots."""
+"""What benches of the whole program share: scripts, runs, stores beside them, and plots."""

@@ -2,10 +2,9 @@
 from __future__ import annotations
 
 import os
-from typing import NamedTuple, Optional
+from typing import NamedTuple
 
-from timing import pieces, scripts
-from timing.pieces import Sqlite
+from timing import scripts
 from timing.plot import Panel, Point, Series
 from timing.program import Exsm
 from timing.scripts import MIB, PIECE
@@ -58,22 +57,7 @@ def by_number(program: Exsm, counts: list[int], runs: int) -> list[Point]:
     return points
 
 
-def of_peer(peer: Sqlite, sizes: list[int], runs: int) -> tuple[list[Point], list[Point]]:
-    """SQLite's inserts with their commit and its reads, by MiB of an object."""
-    edits: list[Point] = []
-    reads: list[Point] = []
-    for mib in sizes:
-        size = mib * MIB
-        spots = scripts.places(EDITS, size - PIECE)
-        edits.append((mib, peer.best(size, pieces.commits(spots), runs).processor / EDITS))
-        many = spots * AGAIN
-        work = pieces.reads(many, PIECE)
-        reads.append((mib, peer.best(size, work, runs).processor / len(many)))
-    return edits, reads
-
-
-def growth(programs: list[Exsm], peer: Optional[Sqlite], runs: int, quick: bool,
-           large: bool) -> list[Panel]:
+def growth(programs: list[Exsm], runs: int, quick: bool, large: bool) -> list[Panel]:
     """Panels of the plot: a title, and for each label pairs of a size or number and a time."""
     sizes = [1, 4, 16] if quick else [1, 4, 16, 64, 256, *([1024, LARGEST] if large else [])]
     counts = [500, 1000, 2000] if quick else [1000, 2000, 5000, 10000, 20000, 100000]
@@ -85,11 +69,6 @@ def growth(programs: list[Exsm], peer: Optional[Sqlite], runs: int, quick: bool,
         name = program.name
         edits[name], reads[name], openings[name] = by_size(program, sizes, runs)
         makes[name] = by_number(program, counts, runs)
-    if peer:
-        few = [mib for mib in sizes if mib <= 256]
-        edits["SQLite"], reads["SQLite"] = of_peer(peer, few, runs)
-        makes["SQLite"] = [(count, peer.best(0, pieces.creations(count), 1).processor / count)
-                           for count in counts]
     return [
         ("insert and commit, us by MiB of the object", edits),
         ("read of 4 KiB, us by MiB of the object", reads),

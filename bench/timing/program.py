@@ -17,12 +17,14 @@ class Lacking(Exception):
 
 
 class Exsm:
-    """A built program. Its volumes lie in a folder."""
+    """A built program. Its volumes lie in a folder. A script is that of a run, or of one client."""
 
-    def __init__(self, program: str, folder: str) -> None:
+    def __init__(self, program: str, folder: str, client: Optional[int] = None) -> None:
         self.program = os.path.abspath(program)
         self.name = os.path.basename(program)
         self.folder = folder
+        self.word = "run" if client is None else "clients"
+        self.mark = "" if client is None else f"{client} "
 
     def volume(self, script: Optional[Lines] = None, page_size: int = 4096, pages: int = 16384,
                segs: int = 65536) -> str:
@@ -41,12 +43,12 @@ class Exsm:
     def run(self, volume: str, lines: Lines) -> Times:
         """What a script takes, without the opening of the volume before its first line."""
         replies = os.path.join(self.folder, "replies")
-        text = "".join(f"{line}\n" for line in lines).encode()
+        text = "".join(f"{self.mark}{line}\n" for line in lines).encode()
         with open(replies, "wb") as sink:
-            child = subprocess.Popen([self.program, "run", volume], stdin=subprocess.PIPE,
+            child = subprocess.Popen([self.program, self.word, volume], stdin=subprocess.PIPE,
                                      stdout=sink)
             assert child.stdin
-            child.stdin.write(b"files\n")
+            child.stdin.write(f"{self.mark}files\n".encode())
             child.stdin.flush()
             while os.path.getsize(replies) == 0 and child.poll() is None:
                 time.sleep(0.001)
@@ -71,7 +73,7 @@ class Exsm:
     def answers(self) -> Lines:
         """The replies to the script that ran last."""
         with open(os.path.join(self.folder, "replies"), encoding="utf-8") as told:
-            return told.read().splitlines()[1:]
+            return [line.removeprefix(self.mark) for line in told.read().splitlines()[1:]]
 
     def best(self, made: str, lines: Lines, runs: int) -> Times:
         """The middle times of a script on copies of a volume."""

@@ -2,8 +2,7 @@
 from __future__ import annotations
 
 import statistics
-import time
-from typing import Callable, NamedTuple, Optional
+from typing import NamedTuple, Optional
 
 
 class Times(NamedTuple):
@@ -11,13 +10,6 @@ class Times(NamedTuple):
 
     clock: float
     processor: float
-
-
-def seconds(work: Callable[[], object]) -> Times:
-    """What a call takes in this process."""
-    start, used = time.perf_counter(), time.process_time()
-    work()
-    return Times(time.perf_counter() - start, time.process_time() - used)
 
 
 def on_processor(process: int) -> float:
