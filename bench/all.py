@@ -13,8 +13,6 @@ run took more than ten seconds none of larger ones. `--large` goes up to an obje
 """
 from __future__ import annotations
 
-import argparse
-import os
 import sys
 import tempfile
 from typing import Optional
@@ -22,6 +20,7 @@ from typing import Optional
 sys.dont_write_bytecode = True
 
 from timing import scripts  # noqa: E402
+from timing.folder import MEMORY, words_of  # noqa: E402
 from timing.growth import growth  # noqa: E402
 from timing.plot import Panel, plot  # noqa: E402
 from timing.program import Exsm, Lacking  # noqa: E402
@@ -83,10 +82,7 @@ def tell_growth(panels: list[Panel]) -> None:
 
 def main() -> None:
     """Compares the programs, and draws how their times grow where a plot is asked for."""
-    parser = argparse.ArgumentParser(
-        description=__doc__, formatter_class=argparse.RawDescriptionHelpFormatter)
-    parser.add_argument("programs", metavar="PROGRAM", nargs="+")
-    parser.add_argument("--folder", default="/dev/shm" if os.path.isdir("/dev/shm") else None)
+    parser = words_of(__doc__, many=True, folder=MEMORY)
     parser.add_argument("--plot", metavar="FILE.svg")
     parser.add_argument("--runs", type=int, default=5, metavar="N")
     parser.add_argument("--quick", action="store_true", help="fewer and smaller workloads")

@@ -10,13 +10,16 @@ a volume of 64,000 pages. `--quick` leaves out what takes more than some seconds
 """
 from __future__ import annotations
 
-import argparse
 import os
 import subprocess
 import sys
 import tempfile
 import time
 from typing import Iterable, Iterator, NamedTuple
+
+sys.dont_write_bytecode = True
+
+from timing.folder import MEMORY, words_of  # noqa: E402
 
 MIB = 1 << 20
 LINE_MOST = 16 * MIB
@@ -111,10 +114,7 @@ def largest(program: str, path: str) -> None:
 
 def main() -> None:
     """Times all of it on one program."""
-    parser = argparse.ArgumentParser(
-        description=__doc__, formatter_class=argparse.RawDescriptionHelpFormatter)
-    parser.add_argument("program", metavar="PROGRAM")
-    parser.add_argument("--folder", default="/dev/shm")
+    parser = words_of(__doc__, folder=MEMORY)
     parser.add_argument("--quick", action="store_true")
     asked = parser.parse_args()
     program = os.path.abspath(asked.program)

@@ -13,7 +13,6 @@ one connection sends without waiting.
 """
 from __future__ import annotations
 
-import argparse
 import os
 import selectors
 import socket
@@ -27,6 +26,7 @@ from typing import Iterator, NamedTuple
 sys.dont_write_bytecode = True
 
 from timing import scripts  # noqa: E402
+from timing.folder import MEMORY, words_of  # noqa: E402
 from timing.program import Exsm  # noqa: E402
 from timing.scripts import OBJECT, SIZE, Lines  # noqa: E402
 from timing.times import Times, middle, unit  # noqa: E402
@@ -171,10 +171,7 @@ def stream(served: Served) -> None:
 
 def main() -> None:
     """Times schedules, then users of a server."""
-    parser = argparse.ArgumentParser(
-        description=__doc__, formatter_class=argparse.RawDescriptionHelpFormatter)
-    parser.add_argument("program", metavar="PROGRAM")
-    parser.add_argument("--folder", default="/dev/shm" if os.path.isdir("/dev/shm") else None)
+    parser = words_of(__doc__, folder=MEMORY)
     parser.add_argument("--runs", type=int, default=5, metavar="N")
     parser.add_argument("--seconds", type=float, default=3.0)
     words = parser.parse_args()

@@ -11,7 +11,6 @@ least of an empty script.
 """
 from __future__ import annotations
 
-import argparse
 import os
 import shutil
 import statistics
@@ -20,6 +19,10 @@ import sys
 import tempfile
 import time
 from typing import Iterable
+
+sys.dont_write_bytecode = True
+
+from timing.folder import MEMORY, words_of  # noqa: E402
 
 MIB = 1 << 20
 PAGE, PAGES, SEGS, FAN = 4096, 16384, 16384, 169
@@ -103,10 +106,7 @@ def measured(program: str, path: str, lines: list[str], runs: int) -> tuple[floa
 
 def main() -> None:
     """Measures each kind of commit on each program."""
-    parser = argparse.ArgumentParser(
-        description=__doc__, formatter_class=argparse.RawDescriptionHelpFormatter)
-    parser.add_argument("programs", metavar="PROGRAM", nargs="+")
-    parser.add_argument("--folder", default="/dev/shm")
+    parser = words_of(__doc__, many=True, folder=MEMORY)
     parser.add_argument("--commits", type=int, default=1000)
     parser.add_argument("--runs", type=int, default=3)
     asked = parser.parse_args()

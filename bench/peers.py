@@ -19,7 +19,6 @@ store aren't there it is said which package has them, with status 2.
 """
 from __future__ import annotations
 
-import argparse
 import os
 import shutil
 import subprocess
@@ -32,6 +31,7 @@ from typing import NamedTuple, Optional, Union
 sys.dont_write_bytecode = True
 
 from timing import lines  # noqa: E402
+from timing.folder import MEMORY, words_of  # noqa: E402
 from timing.lines import Sizes, Work  # noqa: E402
 from timing.peers import Missing, Peer, counted, peers  # noqa: E402
 from timing.piped import Piped, Refused  # noqa: E402
@@ -167,10 +167,7 @@ def measure(programs: list[str], top: Optional[str], runs: int, sizes: Sizes,
 
 def main() -> int:
     """Measures the programs, and gives the exit status."""
-    parser = argparse.ArgumentParser(
-        description=__doc__, formatter_class=argparse.RawDescriptionHelpFormatter)
-    parser.add_argument("programs", metavar="PROGRAM", nargs="+")
-    parser.add_argument("--folder", default="/dev/shm" if os.path.isdir("/dev/shm") else None)
+    parser = words_of(__doc__, many=True, folder=MEMORY)
     parser.add_argument("--runs", type=int, default=5, metavar="N")
     parser.add_argument("--quick", action="store_true", help="smaller works, to try the bench")
     parser.add_argument("--instructions", action="store_true",

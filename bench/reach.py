@@ -11,13 +11,16 @@ without these.
 """
 from __future__ import annotations
 
-import argparse
 import os
 import subprocess
 import sys
 import tempfile
 import time
 from typing import Callable
+
+sys.dont_write_bytecode = True
+
+from timing.folder import MEMORY, words_of  # noqa: E402
 
 MIB = 1 << 20
 PAGE, FAN = 4096, 169
@@ -106,10 +109,7 @@ def least(program: str, path: str, size: int, work: Callable[[Run, int], Cost],
 
 def main() -> None:
     """Times both works on each program and size."""
-    parser = argparse.ArgumentParser(
-        description=__doc__, formatter_class=argparse.RawDescriptionHelpFormatter)
-    parser.add_argument("programs", metavar="PROGRAM", nargs="+")
-    parser.add_argument("--folder", default="/dev/shm")
+    parser = words_of(__doc__, many=True, folder=MEMORY)
     parser.add_argument("--sizes", type=int, nargs="+", default=[1, 16, 256])
     parser.add_argument("--runs", type=int, default=3)
     asked = parser.parse_args()

@@ -23,6 +23,7 @@ from typing import NamedTuple, Optional
 sys.dont_write_bytecode = True
 
 from timing import scripts  # noqa: E402
+from timing.folder import MEMORY, words_of  # noqa: E402
 from timing.program import Exsm  # noqa: E402
 from timing.scripts import OBJECT, Lines  # noqa: E402
 from timing.tables import table  # noqa: E402
@@ -178,10 +179,7 @@ def count_word(word: str) -> int:
 
 def main() -> int:
     """Measures a program, and gives the exit status."""
-    parser = argparse.ArgumentParser(
-        description=__doc__, formatter_class=argparse.RawDescriptionHelpFormatter)
-    parser.add_argument("program", metavar="PROGRAM")
-    parser.add_argument("--folder", default="/dev/shm" if os.path.isdir("/dev/shm") else None)
+    parser = words_of(__doc__, folder=MEMORY)
     parser.add_argument("--runs", type=int, default=3, metavar="N")
     parser.add_argument("--most", type=count_word, default=COUNTS[-1], metavar="N",
                         help="the most objects, and versions, of a row")

@@ -10,12 +10,15 @@ and `cat` of the volume file, by its wall time.
 """
 from __future__ import annotations
 
-import argparse
 import os
 import subprocess
 import sys
 import tempfile
 import time
+
+sys.dont_write_bytecode = True
+
+from timing.folder import MEMORY, words_of  # noqa: E402
 
 MIB = 1 << 20
 PAGE, FAN = 4096, 169
@@ -84,10 +87,7 @@ def tell(program: str, path: str, size: int, runs: int) -> None:
 
 def main() -> None:
     """Times each program on each size."""
-    words = argparse.ArgumentParser(
-        description=__doc__, formatter_class=argparse.RawDescriptionHelpFormatter)
-    words.add_argument("programs", nargs="+", metavar="PROGRAM")
-    words.add_argument("--folder", default="/dev/shm")
+    words = words_of(__doc__, many=True, folder=MEMORY)
     words.add_argument("--sizes", nargs="+", type=int, default=[16, 256], metavar="MIB")
     words.add_argument("--runs", type=int, default=3)
     given = words.parse_args()

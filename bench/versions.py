@@ -12,7 +12,6 @@ among drafts of one version reads their file.
 """
 from __future__ import annotations
 
-import argparse
 import os
 import sys
 import tempfile
@@ -20,6 +19,7 @@ from typing import Iterator
 
 sys.dont_write_bytecode = True
 
+from timing.folder import MEMORY, words_of  # noqa: E402
 from timing.plot import Series, plot  # noqa: E402
 from timing.program import Exsm  # noqa: E402
 from timing.scripts import MIB, Lines, in_blocks  # noqa: E402
@@ -92,10 +92,7 @@ def rows(program: Exsm, count: int, runs: int) -> Iterator[tuple[str, float]]:
 
 def main() -> None:
     """Times each kind of line on each program and count."""
-    words = argparse.ArgumentParser(
-        description=__doc__, formatter_class=argparse.RawDescriptionHelpFormatter)
-    words.add_argument("programs", nargs="+", metavar="PROGRAM")
-    words.add_argument("--folder", default="/dev/shm" if os.path.isdir("/dev/shm") else None)
+    words = words_of(__doc__, many=True, folder=MEMORY)
     words.add_argument("--counts", nargs="+", type=int, default=[10, 100, 1000, 10000],
                        metavar="N")
     words.add_argument("--runs", type=int, default=3)

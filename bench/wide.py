@@ -9,13 +9,16 @@ middle, and compared.
 """
 from __future__ import annotations
 
-import argparse
 import os
 import subprocess
 import sys
 import tempfile
 import time
 from typing import Iterable
+
+sys.dont_write_bytecode = True
+
+from timing.folder import words_of  # noqa: E402
 
 MIB = 1 << 20
 PIECE = 16 * MIB
@@ -67,11 +70,8 @@ def read(program: str, path: str, size: int) -> None:
 
 def main() -> None:
     """Makes and reads the object."""
-    parser = argparse.ArgumentParser(
-        description=__doc__, formatter_class=argparse.RawDescriptionHelpFormatter)
-    parser.add_argument("program", metavar="PROGRAM")
+    parser = words_of(__doc__)
     parser.add_argument("--gib", type=int, default=6, metavar="N")
-    parser.add_argument("--folder")
     asked = parser.parse_args()
     program = os.path.abspath(asked.program)
     size = asked.gib * 1024 * MIB

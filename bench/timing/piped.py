@@ -4,12 +4,11 @@ from __future__ import annotations
 import hashlib
 import os
 import subprocess
-import time
 from pathlib import Path
 
 from timing.lines import FILE, Lines, Work, spelled
 from timing.scripts import MIB
-from timing.times import Times, on_processor
+from timing.times import Times, rest_of
 
 SIZES = ["--page-size", "4096", "--pages", "16384", "--segs", "65536", "--seg-len", "1",
          "--fan", "169"]
@@ -70,15 +69,10 @@ class Piped:
             child.stdout.readline()                # the volume is open
             with subprocess.Popen(["cat"], stdin=child.stdout, stdout=subprocess.DEVNULL):
                 child.stdout.close()
-                opening, start = on_processor(child.pid), time.perf_counter()
-                child.stdin.write(script)
-                child.stdin.close()
-                _, status, used = os.wait4(child.pid, 0)
-                clock = time.perf_counter() - start
-            child.returncode = os.waitstatus_to_exitcode(status)
+                taken = rest_of(child, script)
         if child.returncode:
             raise Refused(f"{self.program} ended with status {child.returncode}")
-        return Times(clock, used.ru_utime + used.ru_stime - opening)
+        return taken
 
     def digest(self, made: str, work: Work) -> str:
         """The SHA-256 of all that a work reads and lists, and of all objects behind it."""

@@ -9,7 +9,7 @@ import time
 from typing import Optional
 
 from timing.scripts import Lines
-from timing.times import Times, middle, on_processor
+from timing.times import Times, middle, rest_of
 
 
 class Lacking(Exception):
@@ -53,14 +53,9 @@ class Exsm:
             while os.path.getsize(replies) == 0 and child.poll() is None:
                 time.sleep(0.001)
             time.sleep(0.001)
-            opening, start = on_processor(child.pid), time.perf_counter()
-            child.stdin.write(text)
-            child.stdin.close()
-            _, status, used = os.wait4(child.pid, 0)
-            clock = time.perf_counter() - start
-            child.returncode = os.waitstatus_to_exitcode(status)
+            taken = rest_of(child, text)
         self._look_at_replies(child.returncode)
-        return Times(clock, used.ru_utime + used.ru_stime - opening)
+        return taken
 
     def _look_at_replies(self, status: int) -> None:
         """Ends the bench where a script failed, but for a line that the program lacks."""

@@ -1,7 +1,10 @@
 """Seconds, by the clock and by the processor, and how they are told."""
 from __future__ import annotations
 
+import os
 import statistics
+import subprocess
+import time
 from typing import NamedTuple, Optional
 
 
@@ -16,6 +19,18 @@ def on_processor(process: int) -> float:
     """The seconds that a process has had of the processor."""
     with open(f"/proc/{process}/schedstat", encoding="ascii") as told:
         return int(told.read().split()[0]) / 1e9
+
+
+def rest_of(child: subprocess.Popen[bytes], given: bytes) -> Times:
+    """What a process still takes that is given these bytes, and then no more."""
+    assert child.stdin
+    before, start = on_processor(child.pid), time.perf_counter()
+    child.stdin.write(given)
+    child.stdin.close()
+    _, status, used = os.wait4(child.pid, 0)
+    clock = time.perf_counter() - start
+    child.returncode = os.waitstatus_to_exitcode(status)
+    return Times(clock, used.ru_utime + used.ru_stime - before)
 
 
 def middle(times: list[Times]) -> Times:
