@@ -23,12 +23,13 @@ import os
 import re
 import sys
 from pathlib import Path
-from typing import Iterable, Iterator, Optional
+from typing import Iterable, Iterator
 
 sys.dont_write_bytecode = True
 
 from crate_code import (  # noqa: E402
     TOP, edits_of, files_below, named_crates, text_of, write_text)
+from marks import Marks, NoMarks  # noqa: E402
 
 PROGRAM = "exsm"
 # The static library beside the program.
@@ -36,8 +37,7 @@ LIBRARY = "exsm_c"
 CHAIN_MOST, FUNCTIONS_MOST, EDITS_MOST = 10, 100, 4
 ROW_MOST = 92
 PAGE, EDITS, GATE = "docs/ARCHITECTURE.md", "docs/EDITS.md", "docs/GATE.md"
-BEGIN = "<!-- written by tools/dev/crates.py --write -->"
-END = "<!-- end of what it writes -->"
+MARKS = Marks("<!-- written by tools/dev/crates.py --write -->", "<!-- end of what it writes -->")
 # The section of the page with the boxes. What stands in brackets are the crates of a box.
 PICTURE = "## The picture\n"
 # Where the documents say which ported crates are trusted.
@@ -55,8 +55,8 @@ def named_edits() -> list[str]:
 
 def seconds_of_proofs() -> dict[str, int]:
     """The seconds of each crate's proof that the table of docs/GATE.md has."""
-    rows = re.findall(r"(?m)^\| `(\w+)` \| (\d+)\*? \|", text_of(GATE))
-    return {name: int(seconds) for name, seconds in rows}
+    rows = re.findall(r"(?m)^\| `(\w+)` \| ([\d,]+)\*? \|", text_of(GATE))
+    return {name: int(seconds.replace(",", "")) for name, seconds in rows}
 
 
 def short(words: str) -> str:
@@ -241,13 +241,9 @@ def seconds_of_chains(graph: Graph) -> str:
             f"{sum(seconds.values()):,} seconds of {GATE}: {ways}.")
 
 
-def page_with(text: str) -> Optional[str]:
-    """The page with a text between its marks, or None where it has none."""
-    was = text_of(PAGE)
-    if was.count(BEGIN) != 1 or was.count(END) != 1:
-        return None
-    before, rest = was.split(BEGIN)
-    return f"{before}{BEGIN}\n{text}\n{END}{rest.split(END)[1]}"
+def page_with(crates: Crates, bands: dict[str, str], graph: Graph) -> str:
+    """The page with its layers and chains."""
+    return MARKS.replaced(text_of(PAGE), f"{layers(crates, bands)}\n\n{chains(graph)}")
 
 
 def boxes() -> list[list[str]]:
@@ -340,11 +336,11 @@ def faults_of(crates: Crates, bands: dict[str, str], graph: Graph) -> Iterator[s
     yield from faults_of_crates(crates)
     yield from faults_of_trust(crates)
     yield from faults_of_boxes(graph)
-    now = page_with(f"{layers(crates, bands)}\n\n{chains(graph)}")
-    if now is None:
-        yield f"{PAGE} has no place for the layers: the lines {BEGIN} and {END}"
-    elif now != text_of(PAGE):
-        yield f"{PAGE} has old layers: run tools/dev/crates.py --write"
+    try:
+        if page_with(crates, bands, graph) != text_of(PAGE):
+            yield f"{PAGE} has old layers: run tools/dev/crates.py --write"
+    except NoMarks as fault:
+        yield f"{PAGE} has no place for the layers: {fault}"
 
 
 def report_sizes(crates: Crates, graph: Graph) -> None:
@@ -401,10 +397,10 @@ def main() -> int:
     crates, bands = read_crates()
     graph = Graph(crates)
     if words.write:
-        now = page_with(f"{layers(crates, bands)}\n\n{chains(graph)}")
-        if now is None:
-            sys.exit(f"{PAGE} has no place for the layers: the lines {BEGIN} and {END}")
-        write_text(PAGE, now)
+        try:
+            write_text(PAGE, page_with(crates, bands, graph))
+        except NoMarks as fault:
+            sys.exit(f"{PAGE} has no place for the layers: {fault}")
     if words.check:
         found = list(faults_of(crates, bands, graph))
         print("\n".join([*found, f"{len(crates)} crates, {len(found)} rules broken"]))

@@ -14,35 +14,23 @@ import sys
 import time
 from pathlib import Path
 
+sys.dont_write_bytecode = True
+
+from marks import Marks, NoMarks  # noqa: E402
+
 TOP = Path(__file__).resolve().parent.parent.parent
 PAGE = TOP / "docs" / "SPEED.md"
-END = "<!-- end of figures -->"
 
 
-class NoMarks(Exception):
-    """The page has no marks for a bench."""
+def marks_of(bench: str) -> Marks:
+    """The marks of a bench's figures."""
+    return Marks(f"<!-- figures of {bench} -->", "<!-- end of figures -->")
 
 
-def begin_of(bench: str) -> str:
-    """The mark before a bench's figures."""
-    return f"<!-- figures of {bench} -->"
-
-
-def marked(page: str, bench: str, words: list[str]) -> str:
-    """What the page's mark for a call names: the bench with its first word, or the bench alone."""
-    for name in (" ".join([bench, *words[:1]]), bench):
-        if begin_of(name) in page:
-            return name
-    raise NoMarks(f"{PAGE.relative_to(TOP)} has no lines {begin_of(bench)} and {END}")
-
-
-def replaced(page: str, name: str, text: str) -> str:
-    """The page with a text between the marks of a name."""
-    before, mark, rest = page.partition(begin_of(name))
-    _, end, after = rest.partition(END)
-    if not mark or not end:
-        raise NoMarks(f"{PAGE.relative_to(TOP)} has no lines {begin_of(name)} and {END}")
-    return f"{before}{mark}\n\n{text}\n\n{end}{after}"
+def marked(page: str, bench: str, words: list[str]) -> Marks:
+    """The marks of a call: those that name the bench with its first word, or the bench alone."""
+    with_word = marks_of(" ".join([bench, *words[:1]]))
+    return with_word if with_word.begin in page else marks_of(bench)
 
 
 def about(call: str) -> str:
@@ -62,8 +50,8 @@ def as_told(text: str) -> str:
 def write_figures(bench: str, words: list[str]) -> int:
     """Runs the bench, writes what it tells, and gives its status where it fails."""
     page = PAGE.read_text(encoding="utf-8")
-    name = marked(page, bench, words)
-    replaced(page, name, "")
+    marks = marked(page, bench, words)
+    marks.replaced(page, "")
     runner = [sys.executable] if bench.endswith(".py") else ["bash"]
     ran = subprocess.run([*runner, str(TOP / bench), *words], stdout=subprocess.PIPE, text=True,
                          check=False)
@@ -72,7 +60,7 @@ def write_figures(bench: str, words: list[str]) -> int:
               "it was", file=sys.stderr)
         return ran.returncode or 1
     text = f"{about(' '.join([bench, *words]))}\n\n{as_told(ran.stdout.rstrip())}"
-    PAGE.write_text(replaced(page, name, text), encoding="utf-8")
+    PAGE.write_text(marks.replaced(page, text), encoding="utf-8")
     return 0
 
 
@@ -86,7 +74,7 @@ def main() -> int:
     try:
         return write_figures(words.bench, words.words)
     except NoMarks as fault:
-        sys.exit(f"figures: {fault}")
+        sys.exit(f"figures: {PAGE.relative_to(TOP)} has no place for them: {fault}")
 
 
 if __name__ == "__main__":

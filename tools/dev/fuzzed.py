@@ -16,9 +16,13 @@ from collections import Counter, defaultdict
 from pathlib import Path
 from typing import NamedTuple
 
+sys.dont_write_bytecode = True
+
+from marks import Marks, NoMarks  # noqa: E402
+
 TOP = Path(__file__).resolve().parent.parent.parent
 PAGE = TOP / "docs" / "TESTS.md"
-BEGIN, END = "<!-- written by tools/dev/fuzzed.py -->", "<!-- end of what the fuzzer tried -->"
+MARKS = Marks("<!-- written by tools/dev/fuzzed.py -->", "<!-- end of what the fuzzer tried -->")
 DIGITS = 16
 """Digits of the program's digest that are shown."""
 
@@ -93,12 +97,11 @@ def main() -> int:
     if not words.write:
         print(told)
         return 0
-    page = PAGE.read_text(encoding="utf-8")
-    before, mark, rest = page.partition(BEGIN)
-    _, end, after = rest.partition(END)
-    if not mark or not end:
-        sys.exit(f"fuzzed: docs/TESTS.md has no lines {BEGIN} and {END}")
-    PAGE.write_text(f"{before}{mark}\n\n{told}\n\n{end}{after}", encoding="utf-8")
+    try:
+        whole = MARKS.replaced(PAGE.read_text(encoding="utf-8"), told)
+    except NoMarks as fault:
+        sys.exit(f"fuzzed: docs/TESTS.md has no place for it: {fault}")
+    PAGE.write_text(whole, encoding="utf-8")
     return 0
 
 

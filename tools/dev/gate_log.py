@@ -3,6 +3,7 @@
 
     tools/dev/gate_log.py LOG ..            writes the table; of two logs that measured the same
                                             the later one holds
+    tools/dev/gate_log.py --scaled LOG ..   writes it in the measure of the table that stands there
     tools/dev/gate_log.py --again           writes it anew for the crates of crates.txt, with the
                                             figures that stand there
     tools/dev/gate_log.py --print LOG ..    prints it only
@@ -10,6 +11,11 @@
 What no log measured, since the run kept an earlier proof, is taken from the table that stands
 there, with a star. Where that has none either, the field says `kept`. So a table without stars
 comes from a run of `tools/dev/gate --anew`, or from the logs of all parts of one.
+
+The seconds of a table are those of one machine: its measure is what the proof of `ex_base` takes.
+Where figures of the table that stands there stay, and with --scaled, all that the logs measured is
+divided by how many times as long as there that proof took in them. Logs without it, which kept it,
+are taken as they are.
 """
 from __future__ import annotations
 
@@ -17,14 +23,15 @@ import argparse
 import re
 import sys
 from pathlib import Path
-from typing import Iterator, Optional
+from typing import Iterator, NamedTuple, Optional
 
 sys.dont_write_bytecode = True
 
 from crate_code import edits_of, files_below, named_crates, text_of, write_text  # noqa: E402
+from marks import Marks, NoMarks  # noqa: E402
 
 PAGE = "docs/GATE.md"
-BEGIN, END = "<!-- written by tools/dev/gate_log.py -->", "<!-- end of what it writes -->"
+MARKS = Marks("<!-- written by tools/dev/gate_log.py -->", "<!-- end of what it writes -->")
 KINDS = ("proof", "tests", "edit")
 NONE = {"tests": "no tests", "edit": "no edits"}
 # How many crates are told as the most dear.
@@ -32,9 +39,14 @@ DEAR = 5
 
 # What a figure is of: a kind of work, and a crate.
 Key = tuple[str, str]
+# By which machines are compared: the lowest crate, which hardly changes.
+MEASURE: Key = ("proof", "ex_base")
+# From how many times as long on a machine is told to be of another speed.
+OTHER_SPEED = 1.05
 
 WORK = re.compile(r"gate: work (\w+) (\w+) ([\d.]+)")
 BEGUN = re.compile(r"gate: begun (.*), (\d+) processors, .*")
+KEPT = re.compile(r"rt: \w+ is kept: ")
 ENDED = re.compile(
     r"gate: ended with status \d+, wall ([\d.]+) seconds, processors ([\d.]+) seconds")
 # Where all edits were tried before, the log that measured them holds.
@@ -56,6 +68,8 @@ class Log:
         self.part: set[Key] = set()
         self.begun: Optional[str] = None
         self.number = 0
+        # How many crates it kept the proofs of.
+        self.kept = 0
         self.wall: Optional[float] = None
         self.processors = 0.0
         self.last: Optional[str] = None
@@ -75,6 +89,8 @@ class Log:
             self.wall, self.processors = float(ended[1]), float(ended[2])
         elif (part := KEPT_EDITS.search(line)) and part[2] != part[3]:
             self.part.add(("edit", part[1]))
+        elif KEPT.search(line):
+            self.kept += 1
         elif last := LAST.fullmatch(line):
             self.last = last[1]
 
@@ -98,15 +114,28 @@ def earlier() -> dict[Key, int]:
     return found
 
 
+class Speed(NamedTuple):
+    """How long the proof of the measure took in the logs, and in the table that stands there."""
+
+    taken: float
+    before: float
+
+    @property
+    def factor(self) -> float:
+        """How many times as long all took in the logs."""
+        return self.taken / self.before
+
+
 class Table:
     """The rows of the table, and what they come to."""
 
-    def __init__(self, logs: list[Log]) -> None:
+    def __init__(self, logs: list[Log], scaled: bool = False) -> None:
         self.seconds: dict[Key, float] = {}
         for log in logs:
             self.seconds.update({key: it for key, it in log.seconds.items()
                                  if key not in log.part})
         self.before = earlier()
+        self.speed = self._scale(scaled)
         self.sums: dict[str, int] = dict.fromkeys(KINDS, 0)
         self.of_crate: dict[str, int] = {}
         self.starred = False
@@ -114,6 +143,27 @@ class Table:
         self.kept: list[Key] = []
         self.rows = [f"| `{crate}` | {' | '.join(self._field(kind, crate) for kind in KINDS)} |"
                      for crate in named_crates()]
+
+    def _scale(self, always: bool) -> Optional[Speed]:
+        """Brings what the logs measured into the measure of the table that stands there, where
+        some of its figures stay, and gives by what; none where that isn't known or wanted."""
+        taken, before = self.seconds.get(MEASURE, 0.0), self.before.get(MEASURE, 0)
+        stays = any(key in self.before and key not in self.seconds and has_work(*key)
+                    for key in ((kind, crate) for crate in named_crates() for kind in KINDS))
+        if not taken or not before or not (always or stays):
+            return None
+        speed = Speed(taken, before)
+        self.seconds = {key: it / speed.factor for key, it in self.seconds.items()}
+        return speed
+
+    def measure(self) -> Iterator[str]:
+        """The machine whose seconds these are."""
+        seconds = self.seconds.get(MEASURE) or self.before.get(MEASURE)
+        if seconds:
+            yield f"The seconds are those of a machine that proves `ex_base` in {seconds:.0f}."
+        if self.speed and not 1 / OTHER_SPEED < self.speed.factor < OTHER_SPEED:
+            yield (f"What the last run measured was divided by {self.speed.factor:.2f}: there that "
+                   f"proof took {self.speed.taken:.0f}.")
 
     def _field(self, kind: str, crate: str) -> str:
         """What stands of a kind of work of a crate."""
@@ -143,12 +193,12 @@ class Table:
         dear = sorted(self.of_crate, key=lambda it: -self.of_crate[it])[:DEAR]
         told = ", ".join(f"`{it}` ({self.of_crate[it] / 60:.0f} minutes)" for it in dear)
         yield f"Most dear: {told}."
+        yield from self.measure()
         yield of_last(last)
         if self.starred:
-            yield ("A star marks what an earlier run measured, since the last one kept its "
-                   "proof.")
+            yield "A star marks what an earlier run measured, and the last one didn't."
         if self.kept:
-            yield "`kept` stands for what an earlier run has done that wasn't measured."
+            yield "`kept` stands for what was done in an earlier run, if at all, and not measured."
 
     def text(self, last: Optional[Log]) -> str:
         """The table, and what stands below it."""
@@ -156,7 +206,7 @@ class Table:
         edits = sum(len(edits_of(it)) for it in named_crates())
         whole = f"| all, in minutes | {' | '.join(minutes)} ({edits}) |"
         head = ["| Crate | Proof | Tests | Edits |", "|---|---|---|---|"]
-        return "\n".join(["", *head, *self.rows, whole, "", *self.sentences(last), ""])
+        return "\n".join([*head, *self.rows, whole, "", *self.sentences(last)])
 
 
 def of_last(last: Optional[Log]) -> str:
@@ -166,18 +216,10 @@ def of_last(last: Optional[Log]) -> str:
     if not last.wall:
         return f"The last run, of {last.begun}, was cut off."
     ended = f" Its last line: `{last.last}`." if last.last else ""
-    return (f"The last run, of {last.begun}, took {last.wall / 60:.0f} minutes on {last.number} "
-            f"processors, of which it used {last.processors / 60:.0f} processor minutes, and "
-            f"kept what earlier runs had proved.{ended}")
-
-
-def page_with(text: str) -> str:
-    """The page with the table between its marks."""
-    page = text_of(PAGE)
-    if page.count(BEGIN) != 1 or END not in page:
-        sys.exit(f"{PAGE} has no place for the table: the lines {BEGIN} and {END}")
-    before, rest = page.split(BEGIN)
-    return f"{before}{BEGIN}\n{text}\n{END}{rest.split(END, 1)[1]}"
+    kept = f"{last.kept} proof{'s' * (last.kept > 1)}" if last.kept else "no proof"
+    return (f"The last run, of {last.begun}, took {last.wall / 60:.0f} minutes by the clock on "
+            f"{last.number} processors, of which it used {last.processors / 60:.0f} processor "
+            f"minutes of that machine; it kept {kept} of earlier runs.{ended}")
 
 
 def main() -> int:
@@ -186,6 +228,8 @@ def main() -> int:
         description=__doc__, formatter_class=argparse.RawDescriptionHelpFormatter)
     parser.add_argument("logs", metavar="LOG", nargs="*", type=Path)
     parser.add_argument("--again", action="store_true", help="with the figures that stand there")
+    parser.add_argument("--scaled", action="store_true",
+                        help="in the measure of the table that stands there")
     parser.add_argument("--print", dest="shows", action="store_true", help="print the table only")
     words = parser.parse_args()
     if not words.logs and not words.again:
@@ -194,12 +238,15 @@ def main() -> int:
         logs = [Log(it) for it in words.logs]
     except (NoLog, OSError) as fault:
         sys.exit(f"gate_log: {fault}")
-    table = Table(logs)
+    table = Table(logs, words.scaled)
     text = table.text(logs[-1] if logs else None)
     if words.shows:
         print(text)
         return 0
-    write_text(PAGE, page_with(text))
+    try:
+        write_text(PAGE, MARKS.replaced(text_of(PAGE), text))
+    except NoMarks as fault:
+        sys.exit(f"{PAGE} has no place for the table: {fault}")
     print(f"{PAGE} has its table; {len(table.kept)} fields say `kept`")
     return 0
 

@@ -12,10 +12,14 @@ import ast
 import sys
 from pathlib import Path
 
+sys.dont_write_bytecode = True
+
+from marks import Marks, NoMarks  # noqa: E402
+
 TOP = Path(__file__).resolve().parent.parent.parent
 TESTS = TOP / "tools" / "tests"
 PAGE = TOP / "docs" / "TESTS.md"
-BEGIN, END = "<!-- written by tools/dev/tested.py -->", "<!-- end of what it writes -->"
+MARKS = Marks("<!-- written by tools/dev/tested.py -->", "<!-- end of what it writes -->")
 
 
 def sentence(node: ast.AST) -> str:
@@ -56,11 +60,10 @@ def main() -> int:
         print(text())
         return 0
     page = PAGE.read_text(encoding="utf-8")
-    before, mark, rest = page.partition(BEGIN)
-    _, end, after = rest.partition(END)
-    if not mark or not end:
-        sys.exit(f"tested: docs/TESTS.md has no lines {BEGIN} and {END}")
-    whole = f"{before}{mark}\n\n{text()}\n\n{end}{after}"
+    try:
+        whole = MARKS.replaced(page, text())
+    except NoMarks as fault:
+        sys.exit(f"tested: docs/TESTS.md has no place for them: {fault}")
     if words.write:
         PAGE.write_text(whole, encoding="utf-8")
     elif page != whole:

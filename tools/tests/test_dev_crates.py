@@ -69,7 +69,7 @@ class CratesTest(InToy):
     def test_layers(self) -> None:
         """the layers are drawn from the top down, with the longest and the heaviest chain"""
         text = self.text("docs/ARCHITECTURE.md")
-        _, _, drawn = text.partition("--write -->\n")
+        _, _, drawn = text.partition("--write -->\n\n")
         self.assertEqual(drawn.split("\n")[:9], [
             "```", "TESTS: for tests alone", "  test_low  Tests of pages", "",
             "PROGRAMS: exsm", "  exsm      The program", "",

@@ -43,10 +43,42 @@ class GateTest(InToy):
             "| `exsm` | kept | no tests | no edits |",
             "| `test_low` | kept | 100 | no edits |"])
         self.assertIn("| all, in minutes | 20 | 2 | 0 (1) |", lines)
-        self.assertIn("took 10 minutes on 4 processors, of which it used 20 processor minutes",
+        self.assertIn("took 10 minutes by the clock on 4 processors, of which it used 20 processor "
+                      "minutes of that machine",
                       "\n".join(lines))
         self.assertIn("Its last line: `12 passed, 0 failed`.", "\n".join(lines))
         self.assertEqual((lines[0], lines[-1]), ("# Gate", "After."))
+
+    def test_speed(self) -> None:
+        """figures of a machine of another speed are brought into the measure of the table"""
+        measured = LOG.replace("gate: work run", "gate: work proof ex_base 112.0\ngate: work run")
+        own = ["| `ex_base` | 112 | no tests | no edits |", "| `low` | 13 | no tests | kept (1) |"]
+        scaled = ["| `ex_base` | 56 | no tests | no edits |", "| `low` | 6 | no tests | kept (1) |"]
+        told = ("The seconds are those of a machine that proves `ex_base` in 56.\nWhat the last run "
+                "measured was divided by 2.00: there that proof took 112.")
+        page = PAGE.replace("| `low`", "| `ex_base` | 56 | no tests | no edits |\n| `low`")
+        self.write("crates.txt", f"ex_base:\n{self.text('crates.txt')}")
+        for before, words, rows, is_told in (
+                (PAGE, [], own, False),                         # nothing to compare with
+                (page, [], scaled, True),                       # figures stay of exsm_run
+                (page.replace("1,200*", "none"), [], own, False),
+                (page.replace("1,200*", "none"), ["--scaled"], scaled, True)):
+            self.write("docs/GATE.md", before)
+            self.write("log", measured)
+            lines = self.script("gate_log.py", "--print", *words, "log").lines
+            self.assertEqual([it for it in lines if it in own + scaled], rows)
+            self.assertEqual(told in "\n".join(lines), is_told)
+            self.assertIn("of which it used 20 processor minutes of that machine", "\n".join(lines))
+
+    def test_kept(self) -> None:
+        """of the last run it is told how many proofs it kept"""
+        self.write("log", LOG)
+        self.assertIn("it kept no proof of earlier runs.", self.script(
+            "gate_log.py", "--print", "log").out.decode())
+        kept = "[     1.0] rt: low is kept: an earlier run on this machine proved the same files\n"
+        self.write("log", LOG.replace("gate: work edit", f"{kept}gate: work edit"))
+        self.assertIn("it kept 1 proof of earlier runs.", self.script(
+            "gate_log.py", "--print", "log").out.decode())
 
     def test_refused(self) -> None:
         """what is no log is refused, and the page stays"""
