@@ -17,7 +17,7 @@ from __future__ import annotations
 import argparse
 import sys
 
-from exsm.commands import add_socket, parser_of, store_of
+from exsm.commands import add_forms, add_socket, parser_of, store_of
 from exsm.files import Writing, get, get_all, ls, mv, rm, run, verify
 from exsm.putting import STANDARD_INPUT, put
 
@@ -66,11 +66,7 @@ def add_put_and_get(commands) -> None:
 def add_others(commands) -> None:
     """Reads the words of `ls`, `verify`, `mv` and `rm`."""
     listing = commands.add_parser("ls", help="tells sizes, identifiers and names")
-    forms = listing.add_mutually_exclusive_group()
-    forms.add_argument("-0", dest="form", action="store_const", const="zeros", default="lines",
-                       help="the names alone, a zero byte behind each, as `xargs -0` reads them")
-    forms.add_argument("--json", dest="form", action="store_const", const="json",
-                       help="tells them as JSON")
+    add_forms(listing, "the names alone, a zero byte behind each, as `xargs -0` reads them")
     listing.set_defaults(step=lambda names, words: ls(names, words.form))
 
     verifying = commands.add_parser(

@@ -16,7 +16,7 @@ import signal
 import sys
 
 from exsm.checking import CantMend, check, ended, mend
-from exsm.commands import add_json, parser_of
+from exsm.commands import add_forms, add_json, parser_of
 from exsm.lock import told_where_held
 from exsm.records import BadVolume
 from exsm.saving import get, list_versions, save_all
@@ -34,11 +34,7 @@ def parser_of_words() -> argparse.ArgumentParser:
 
     listing = commands.add_parser(
         "list", help="tells the versions that can be read: size, identifier, file")
-    forms = listing.add_mutually_exclusive_group()
-    forms.add_argument("-0", dest="form", action="store_const", const="zeros", default="lines",
-                       help="the names that exsm_files.py keeps alone, a zero byte behind each")
-    forms.add_argument("--json", dest="form", action="store_const", const="json",
-                       help="tells it as JSON")
+    add_forms(listing, "the names that exsm_files.py keeps alone, a zero byte behind each")
     listing.set_defaults(step=lambda volume, words: list_versions(volume, words.form))
 
     getting = commands.add_parser("get", help="writes a version's bytes to standard output")

@@ -82,6 +82,16 @@ def add_json(parser: argparse.ArgumentParser) -> None:
     parser.add_argument("--json", action="store_true", help="tells it as JSON")
 
 
+def add_forms(parser: argparse.ArgumentParser, zeros: str) -> None:
+    """Takes how a list is told: as lines, as JSON, or by the names alone, of which a text says
+    more."""
+    forms = parser.add_mutually_exclusive_group()
+    forms.add_argument("-0", dest="form", action="store_const", const="zeros", default="lines",
+                       help=zeros)
+    forms.add_argument("--json", dest="form", action="store_const", const="json",
+                       help="tells it as JSON")
+
+
 def status_of(fault: Ended) -> int:
     """The status of a command where the program ended: that of a signal as a shell tells it."""
     return fault.status if fault.status > 0 else 128 - fault.status

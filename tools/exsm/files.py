@@ -94,8 +94,7 @@ class Names:
     def transaction(self) -> Iterator[None]:
         """A transaction of the store; what other users committed meanwhile is read first."""
         with self.store.transaction():
-            if self.store.is_shared and self.store.begun - 1 != self._last:
-                self._read()
+            self._read_anew()
             yield
         self._last = self.store.begun
 
@@ -103,9 +102,13 @@ class Names:
     def snapshot(self) -> Iterator[None]:
         """What is read within is of one moment, and so are the names."""
         with self.store.snapshot():
-            if self.store.is_shared and self.store.begun - 1 != self._last:
-                self._read()
+            self._read_anew()
             yield
+
+    def _read_anew(self) -> None:
+        """Reads the names again, where other users committed meanwhile."""
+        if self.store.is_shared and self.store.begun - 1 != self._last:
+            self._read()
 
     def prepare(self) -> None:
         """Makes the files where the volume doesn't have them, and removes what a stop left."""

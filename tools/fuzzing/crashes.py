@@ -155,7 +155,7 @@ class Stops:
         else:
             last = model.last
         self.program.volume.write_bytes(after)
-        return Model(self.trial.sizes, model.tables[last].copy(), last)
+        return model.at(last)
 
     def ask_one(self, image: bytes, model: Model, acknowledged: int) -> int:
         """Tries an image; one that differs is left as the volume."""
@@ -167,8 +167,7 @@ class Stops:
             raise
         if self.chance.random() < PROGRAM_SHARE:
             self.report("crash images by the program")
-            own = Model(self.trial.sizes, model.tables[last].copy(), last)
-            ask_program(image, own, self.program, self.chance)
+            ask_program(image, model.at(last), self.program, self.chance)
         return last
 
     def calls(self, base: bytes, lines: list[bytes], after: bytes) -> list[Call]:

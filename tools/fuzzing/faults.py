@@ -172,8 +172,7 @@ class Faults:
                 self.program.volume.write_bytes(image)
                 raise Differs(f"{where}{differs.told}", f"{where}{differs.wanted}") from None
             if self.chance.random() < PROGRAM_SHARE:
-                own = Model(self.trial.sizes, model.tables[last].copy(), last)
-                ask_program(image, own, self.program, self.chance)
+                ask_program(image, model.at(last), self.program, self.chance)
 
 
 def explore(trial: Trial, program: Program, report: Report) -> None:

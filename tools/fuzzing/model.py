@@ -44,6 +44,10 @@ class Model:
         self.most = Units(self.sizes.pages, self.sizes.segs)
         self.used: Optional[Units] = None
 
+    def at(self, last: int) -> Model:
+        """A new session over what a commit left."""
+        return Model(self.sizes, self.tables[last].copy(), last)
+
     @property
     def table(self) -> Table:
         """The table that commands show."""

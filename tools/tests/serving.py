@@ -124,5 +124,14 @@ class InServed(OfRows):
     def made(self, data: str = "616263") -> str:
         """Makes a volume with an object, and gives its identifier."""
         self.format()
-        return self.lines_of_run("begin", "file a", "create a as @x", f"append @x hex:{data}",
+        return self._object(f"hex:{data}")
+
+    def made_of_a_mib(self) -> str:
+        """Makes a larger volume with an object of 1 MiB, and gives its identifier."""
+        self.format(page_size=4096, pages=200, segs=2000, fan=169)
+        return self._object("rep:1048576:00")
+
+    def _object(self, data: str) -> str:
+        """Makes an object with what a word of data says, and gives its identifier."""
+        return self.lines_of_run("begin", "file a", "create a as @x", f"append @x {data}",
                                  "commit")[2].split()[2]

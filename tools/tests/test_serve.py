@@ -203,11 +203,7 @@ class ServeTest(InServed):
 
     def test_slow_reader(self) -> None:
         """replies that a user doesn't read are kept up to some size; others go on meanwhile"""
-        self.format(page_size=4096, pages=200, segs=2000, fan=169)
-        with Store("v") as store, store.transaction():
-            store.file("a")
-            oid = store.create("a")
-            store.append(oid, bytes(1 << 20))
+        oid = self.made_of_a_mib()
         server = self.serve()
         slow, other = self.user(), self.user()
         count = 40                                 # of 2 MiB each
@@ -379,11 +375,7 @@ class ServeTest(InServed):
 
     def test_end_of_slow_readers(self) -> None:
         """who doesn't read holds up an end for some seconds; a second signal ends at once"""
-        self.format(page_size=4096, pages=200, segs=2000, fan=169)
-        with Store("v") as store, store.transaction():
-            store.file("a")
-            oid = store.create("a")
-            store.append(oid, bytes(1 << 20))
+        oid = self.made_of_a_mib()
         for signals in (1, 2):
             server = self.serve()
             slow = self.user()

@@ -8,8 +8,10 @@ import random
 import re
 import shutil
 import time
+from contextlib import contextmanager
 from datetime import datetime, timezone
 from pathlib import Path
+from typing import Iterator
 
 from exsm.client import Store
 from exsm.volume import Volume
@@ -26,6 +28,16 @@ TREE = """\
 
 
 class VersionToolTest(InFolder):
+    @contextmanager
+    def drafted(self, data: bytes) -> Iterator[tuple[Store, str]]:
+        """A transaction on a new volume of small pages, in which an object has these bytes."""
+        self.format(page_size=512, pages=900, segs=2_500, fan=6)
+        with Store("v") as store, store.transaction():
+            store.file("a")
+            draft = store.create("a")
+            store.append(draft, data)
+            yield store, draft
+
     def tool_lines(self, *words: object, status: int = 0) -> list[str]:
         """What the tool tells: its lines, or of a refusal the errors."""
         ran = self.tool("exsm_versions", "v", *words)
@@ -113,11 +125,7 @@ class VersionToolTest(InFolder):
     def test_back(self) -> None:
         """a current version gets the bytes of another one, by what differs, and keeps its names"""
         chance = random.Random(5)
-        self.format(page_size=512, pages=900, segs=2_500, fan=6)
-        with Store("v") as store, store.transaction():
-            store.file("a")
-            draft = store.create("a")
-            store.append(draft, chance.randbytes(300_000))
+        with self.drafted(chance.randbytes(300_000)) as (store, draft):
             first = store.freeze(draft)
             for _ in range(20):
                 place = chance.randrange(250_000)
@@ -159,11 +167,7 @@ class VersionToolTest(InFolder):
     def test_diff(self) -> None:
         """what is told to differ makes one version of the other, and few leaves are read for it"""
         chance = random.Random(3)
-        self.format(page_size=512, pages=900, segs=2_500, fan=6)
-        with Store("v") as store, store.transaction():
-            store.file("a")
-            draft = store.create("a")
-            store.append(draft, chance.randbytes(400_000))
+        with self.drafted(chance.randbytes(400_000)) as (store, draft):
             states = [store.freeze(draft)]
             for _ in range(STEPS):
                 size = store.size(draft)
@@ -194,14 +198,10 @@ class VersionToolTest(InFolder):
     def test_words(self) -> None:
         """differences in words and in lines of text"""
         text = [f"line {number}\n" for number in range(4_000)]
-        self.format(page_size=512, pages=400, segs=600, fan=6)
+        whole = "".join(text).encode()
+        with self.drafted(whole) as (store, draft):
+            old = store.freeze(draft)
         with Store("v") as store:
-            with store.transaction():
-                store.file("a")
-                draft = store.create("a")
-                store.append(draft, "".join(text).encode())
-                old = store.freeze(draft)
-            whole = "".join(text).encode()
             with store.transaction():
                 store.replace(draft, 3, b"M")
                 store.insert(draft, whole.index(b"line 700\n"), b"a new one\n")
