@@ -13,7 +13,7 @@ from typing import Iterator, NamedTuple, Optional
 from exsm.geometry import CATALOG, LOG_PAGES
 from exsm.lines import reason_of
 from exsm.lock import told_where_held
-from exsm.named import names_of
+from exsm.named import told_names
 from exsm.records import BadVolume, Record
 from exsm.volume import Guessed, Use, Volume
 
@@ -403,7 +403,7 @@ def draw_largest(drawing: Drawing, volume: Volume, largest: list[list[Record]],
                      f"{percent(sum(leaves), len(leaves) * volume.geometry.unit)} filled")
         if len(versions) > 1:
             shape += f", {len(versions)} versions"
-        name = next((names[it.oid] for it in versions if it.oid in names), "")
+        name = names.get(record.oid, "")
         told = f"{record.oid} {name}" if name else record.oid
         drawing.text(16, f"{told:14} {human(record.size)}, {shape}")
         drawing.y += 17
@@ -418,7 +418,7 @@ def picture(volume: Volume) -> str:
     draw_file(drawing, volume)
     draw_log(drawing, volume)
     largest = sorted(volume.objects, key=lambda versions: -largest_of(versions).size)
-    names = names_of(volume)
+    names = told_names(volume)
     page_area, segment_area = areas_of(volume)
     draw_pages(drawing, page_area, names)
     if segment_area.units:

@@ -1,10 +1,13 @@
-"""The names that exsm_files.py keeps in a volume, as a reader of its bytes finds them."""
+"""The names that exsm_files.py and exsm_versions.py keep in a volume, as a reader of its bytes
+finds them."""
 from __future__ import annotations
 
+import os
 import re
 from pathlib import PurePosixPath
 
 from exsm.files import BLOBS_FILE, NAME_LINE, NAMES_FILE
+from exsm.names import VERSION_NAMES_FILE, lines_in
 from exsm.records import BadVolume
 from exsm.volume import Volume
 
@@ -22,6 +25,30 @@ def names_of(volume: Volume) -> dict[str, str]:
     oids = {record.unique: record.oid for record in blobs}
     return {oids[int(unique)]: name.decode("utf-8", "surrogateescape")
             for unique, name in lines if int(unique) in oids}
+
+
+def lines_of(volume: Volume, file: str) -> list[tuple[int, str]]:
+    """The numbers and texts of a list that the volume keeps; of another text none."""
+    records = [it for it in volume.versions.get(file, ()) if not it.frozen]
+    lines = lines_in(volume.bytes_of(records[0])) if len(records) == 1 else None
+    return [(unique, os.fsdecode(text)) for unique, text in lines or ()]
+
+
+def told_names(volume: Volume) -> dict[str, str]:
+    """What a picture calls each version's object: by the name that exsm_files.py keeps, else by
+    all names of its versions."""
+    files, named = names_of(volume), {}
+    try:
+        lines = lines_of(volume, VERSION_NAMES_FILE)
+    except BadVolume:
+        lines = []
+    for versions in volume.objects:
+        uniques = {record.unique for record in versions}
+        name = (next((files[it.oid] for it in versions if it.oid in files), "")
+                or ", ".join(name for unique, name in lines if unique in uniques))
+        if name:
+            named.update((record.oid, name) for record in versions)
+    return named
 
 
 def is_plain_path(name: str) -> bool:

@@ -9,7 +9,7 @@ from typing import Callable, Optional
 from exsm.client import PIECE, Refused, shortened
 from exsm.do import Runner, interrupts_ignored, tell
 from exsm.lines import FORMS, SENTENCES, WORDS, WORDS_OF, reason_of
-from exsm.spelling import known_word
+from exsm.spelling import first_misfit, known_word
 from exsm.texts import shown, with_digits
 
 try:
@@ -47,6 +47,13 @@ DATA_WORDS = 'At the prompt DATA may also be text:WORD or text:"with spaces", wr
 
 class Misuse(Exception):
     """A word of the prompt was used in a way that it isn't for; the text says its form."""
+
+
+def ask_form(words: list[str], form: str, end: Optional[int] = None) -> None:
+    """Misuse where a word of the prompt's own doesn't fit its form."""
+    misfit = first_misfit(words, form, end)
+    if misfit:
+        raise Misuse(f"{misfit}; the form is `{OWN_FORMS[words[0]]}`")
 
 
 class Prompt:
@@ -89,8 +96,7 @@ class Prompt:
 
     def show(self, words: list[str]) -> None:
         """`show X [POS LEN]`"""
-        if len(words) not in (1, 3):
-            raise Misuse(f"the form is `{OWN_FORMS['show']}`")
+        ask_form(["show", *words], "show X POS LEN", 2)
         store, oid = self.runner.store, words[0]
         size = store.size(oid)
         if len(words) == 3:
@@ -102,8 +108,7 @@ class Prompt:
 
     def put(self, words: list[str]) -> None:
         """`put PATH in FILE as @NAME`"""
-        if len(words) != 5 or words[1] != "in" or words[3] != "as":
-            raise Misuse(f"the form is `{OWN_FORMS['put']}`")
+        ask_form(["put", *words], OWN_FORMS["put"])
         path, _, file, _, name = words
         with open(path, "rb") as source:
             if not self.step(f"create {file} as {name}"):
@@ -116,8 +121,7 @@ class Prompt:
 
     def source(self, words: list[str]) -> None:
         """`source PATH`"""
-        if len(words) != 1:
-            raise Misuse(f"the form is `{OWN_FORMS['source']}`")
+        ask_form(["source", *words], OWN_FORMS["source"])
         with open(words[0], encoding="utf-8", errors="surrogateescape") as lines:
             for number, line in enumerate(lines, 1):
                 if line.strip() and not self.step(line.rstrip("\n")):

@@ -99,6 +99,7 @@ FAULTS: dict[str, Callable[[str], Fault]] = {
     "X": version_fault, "POS": number_fault, "LEN": number_fault, "FRAMES": number_fault,
     "DATA": data_fault, "RULE": rule_fault, "@NAME": bound_fault,
     "NAME": name_fault, "FILE": name_fault, "SCAN": name_fault, "GROUP": name_fault,
+    "PATH": lambda word: None,
 }
 """How a word is tested that stands where a form has this one."""
 
@@ -113,16 +114,17 @@ def word_fault(wanted: str, word: str) -> Fault:
     return None if word == wanted else f"is to be `{wanted}`"
 
 
-def first_misfit(words: list[str]) -> Fault:
-    """The first word that doesn't fit the line's form, with its number and what is wrong."""
-    form = FORMS[words[0]].split()
+def first_misfit(words: list[str], form_words: str, end: Optional[int] = None) -> Fault:
+    """The first word that doesn't fit a form, with its number and what is wrong. A line may end
+    before its form does where it has as many words as `end`."""
+    form = form_words.split()
     for place, (wanted, word) in enumerate(zip(form, words)):
         fault = word_fault(wanted, word) if place else None
         if fault:
             return f"word {place + 1}: {shortened(word)!r} {fault}"
     if len(words) > len(form):
         return f"word {len(form) + 1}: {shortened(words[len(form)])!r} is one too many"
-    if len(words) < len(form) and len(words) != MAY_END.get(words[0]):
+    if len(words) < len(form) and len(words) != end:
         return f"word {len(words) + 1} is missing: {form[len(words)]}"
     return None
 
@@ -147,7 +149,7 @@ def syntax_meaning(line: str) -> str:
             return f"no line begins with {shortened(word)!r}: did you mean `{FORMS[meant]}`?"
         return f"Lines begin with: {' '.join(FORMS)}"
     form = f"the form is `{FORMS[word]}`"
-    misfit = first_misfit(words)
+    misfit = first_misfit(words, FORMS[word], MAY_END.get(word))
     if misfit:
         return f"{misfit}; {form}"
     return "; ".join(filter(None, [form, WORDS_OF.get(word), WORDS]))

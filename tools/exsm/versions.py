@@ -16,9 +16,9 @@ from exsm.commands import CYAN, GREEN, RED, coloured, is_coloured, status_of, st
 from exsm.leaves import Body, Change, changes, trimmed
 from exsm.lines import reason_of
 from exsm.lock import held
-from exsm.named import names_of
+from exsm.named import lines_of, names_of
 from exsm.names import (
-    VERSION_NAMES_FILE, VERSION_TIMES_FILE, NameList, Wrong, lines_in, unique_of)
+    VERSION_NAMES_FILE, VERSION_TIMES_FILE, NameList, Wrong, unique_of)
 from exsm.records import BadVolume, Links, Record
 from exsm.sockets import is_socket
 from exsm.spelling import meaning
@@ -52,15 +52,9 @@ class Shown:
     def __init__(self, volume: Volume) -> None:
         self.volume = volume
         self.links = {name: Links(records) for name, records in volume.versions.items()}
-        self.names = self._lines(VERSION_NAMES_FILE)
-        self.times = dict(self._lines(VERSION_TIMES_FILE))
+        self.names = lines_of(volume, VERSION_NAMES_FILE)
+        self.times = dict(lines_of(volume, VERSION_TIMES_FILE))
         self.files = names_of(volume)
-
-    def _lines(self, file: str) -> list[tuple[int, str]]:
-        """The numbers and texts of a list that the volume keeps; of another text none."""
-        records = [it for it in self.volume.versions.get(file, ()) if not it.frozen]
-        lines = lines_in(self.volume.bytes_of(records[0])) if len(records) == 1 else None
-        return [(unique, os.fsdecode(text)) for unique, text in lines or ()]
 
     def time_of(self, record: Record) -> Optional[str]:
         """When a version was given a name last, where it has one that was given by this tool."""

@@ -218,7 +218,13 @@ class RunnerTest(InFolder):
             self.assertIn("ok files 2 more notes", talk.type("files\n", "exsm*> "))
             self.assertIn("size 258.0.1 \r\nok size 22", talk.type("size 25\t\n", "exsm*> "))
             self.assertIn("No such file", talk.type("put nowhere in notes as @m\n", "exsm*> "))
-            self.assertIn("the form is `show X [POS LEN]`", talk.type("show @n 1\n", "exsm*> "))
+            for line, told in (("show @n 1", "word 4 is missing: LEN"),
+                               ("show n", "word 2: 'n' is neither @NAME nor page.slot.unique"),
+                               ("show @n 1 x", "word 4: 'x' ")):
+                shown_of = talk.type(f"{line}\n", "exsm*> ")
+                self.assertIn(told, shown_of)
+                self.assertIn("the form is `show X [POS LEN]`", shown_of)
+            self.assertIn("word 3 is missing: in", talk.type("put text\n", "exsm*> "))
             told = talk.type("time size @n\n", "exsm*> ")
             self.assertRegex(told, r"ok size 22\r\n[0-9]+\.[0-9] ms")
             self.assertIn("the form is `time LINE`", talk.type("time\n", "exsm*> "))

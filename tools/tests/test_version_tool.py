@@ -164,6 +164,20 @@ class VersionToolTest(InFolder):
         self.assertIn("names several versions", self.tool_lines("tree", "text", status=1)[0])
         self.assertEqual(self.tool_lines("diff", frozen, frozen), [])
 
+    def test_picture(self) -> None:
+        """a picture calls an object as its file is called, else by the names of its versions"""
+        self.branch()
+        Path("text").write_text("one\n", encoding="ascii")
+        self.tool("exsm_files", "v", "put", "text")
+        self.tool_lines("name", "258.1.2", "first")
+        self.tool_lines("name", "258.2.3", "second")
+        self.tool_lines("name", "text", "noted")
+        self.assertEqual(self.tool("exsm_map", "v", "map.svg").errors, [])
+        drawn = Path("map.svg").read_text(encoding="utf-8")
+        self.assertIn(">258.0.1 first, second 1002 B, ", drawn)
+        self.assertRegex(drawn, r">[\d.]+ text +4 B, small<")
+        self.assertNotIn("noted", drawn)
+
     def test_diff(self) -> None:
         """what is told to differ makes one version of the other, and few leaves are read for it"""
         chance = random.Random(3)
