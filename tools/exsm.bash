@@ -9,13 +9,13 @@ _exsm_files_here() {                              # offers names of files
     mapfile -t COMPREPLY < <(compgen -f -- "${COMP_WORDS[COMP_CWORD]}")
 }
 
-_exsm_kept() {                                    # offers names that a volume keeps; a reader of its bytes tells them
+_exsm_kept() {                                    # offers names that a volume keeps; a reader of its bytes tells them, with --versions those of versions too
     local name word="${COMP_WORDS[COMP_CWORD]//\\/}"
     compopt -o filenames
     COMPREPLY=()
     while IFS= read -r -d '' name; do
         [[ "$name" == "$word"* ]] && COMPREPLY+=("$name")
-    done < <(exsm_volume.py "${COMP_WORDS[1]}" list -0 2>/dev/null)
+    done < <(exsm_volume.py "${COMP_WORDS[1]}" list -0 "$@" 2>/dev/null)
 }
 
 _exsm() {
@@ -60,7 +60,7 @@ _exsm_versions() {
     case $COMP_CWORD in
     1) _exsm_files_here ;;
     2) _exsm_offer "tree name unname freeze diff back" ;;
-    *) _exsm_kept ;;
+    *) _exsm_kept --versions ;;
     esac
 }
 

@@ -2,7 +2,7 @@
 
 function __exsm_kept -d 'names that a volume keeps, told by a reader of its bytes'
     set -l words (commandline -opc)
-    test (count $words) -ge 2; and exsm_volume.py $words[2] list -0 2>/dev/null | string split0
+    test (count $words) -ge 2; and exsm_volume.py $words[2] list -0 $argv 2>/dev/null | string split0
 end
 
 function __exsm_at -d 'whether so many words stand before the one that is completed'
@@ -36,7 +36,7 @@ complete -c exsm_new.py -x -l for -a 'mixed large small'
 complete -c exsm_files.py -n '__exsm_at 2' -x -a 'put get ls verify mv rm'
 complete -c exsm_files.py -n '__exsm_behind 3 get mv rm verify' -f -a '(__exsm_kept)'
 complete -c exsm_versions.py -n '__exsm_at 2' -x -a 'tree name unname freeze diff back'
-complete -c exsm_versions.py -n '__exsm_behind 3 tree name freeze diff back' -f -a '(__exsm_kept)'
+complete -c exsm_versions.py -n '__exsm_behind 3 tree name unname freeze diff back' -f -a '(__exsm_kept --versions)'
 complete -c exsm_volume.py -n '__exsm_at 2' -x -a 'check list get save mend'
 complete -c exsm_serve.py -x -l idle
 complete -c exsm_serve.py -x -l wait

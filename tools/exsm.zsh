@@ -2,8 +2,9 @@
 # Completes the words of exsm and of its tools in zsh.
 
 _exsm_kept() {                                    # names that a volume keeps; a reader of its bytes tells them
-    local -a kept
-    kept=("${(0)$(exsm_volume.py "$words[2]" list -0 2>/dev/null)}")
+    local -a kept more
+    if [[ "$service" == exsm_versions.py ]]; then more=(--versions); fi
+    kept=("${(0)$(exsm_volume.py "$words[2]" list -0 $more 2>/dev/null)}")
     compadd -- ${kept:#}
 }
 

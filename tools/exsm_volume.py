@@ -35,7 +35,10 @@ def parser_of_words() -> argparse.ArgumentParser:
     listing = commands.add_parser(
         "list", help="tells the versions that can be read: size, identifier, file")
     add_forms(listing, "the names that exsm_files.py keeps alone, a zero byte behind each")
-    listing.set_defaults(step=lambda volume, words: list_versions(volume, words.form))
+    listing.add_argument("--versions", action="store_true",
+                         help="with -0 also the names that exsm_versions.py keeps")
+    listing.set_defaults(
+        step=lambda volume, words: list_versions(volume, words.form, words.versions))
 
     getting = commands.add_parser("get", help="writes a version's bytes to standard output")
     getting.add_argument("oid", metavar="OID")

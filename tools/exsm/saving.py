@@ -5,17 +5,22 @@ import json
 import os
 import sys
 
-from exsm.named import is_plain_path, names_of
+from exsm.named import is_plain_path, lines_of, names_of
+from exsm.names import VERSION_NAMES_FILE
 from exsm.records import Record
 from exsm.volume import Volume
 
 
-def list_versions(volume: Volume, form: str) -> int:
+def list_versions(volume: Volume, form: str, with_versions: bool = False) -> int:
     """Tells the versions that can be read, with the names that exsm_files.py keeps; or the names
-    alone, a zero byte behind each; or all as JSON."""
+    alone, those of versions too where that is asked for, a zero byte behind each; or all as
+    JSON."""
     names = names_of(volume)
     if form == "zeros":
-        sys.stdout.buffer.writelines(os.fsencode(name) + b"\0" for name in names.values())
+        told = list(names.values())
+        if with_versions:
+            told += [name for _, name in lines_of(volume, VERSION_NAMES_FILE)]
+        sys.stdout.buffer.writelines(os.fsencode(name) + b"\0" for name in told)
         sys.stdout.buffer.flush()
         return 0
     if form == "json":

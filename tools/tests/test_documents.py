@@ -253,7 +253,9 @@ NAME_COMPLETIONS = [
     ("exsm_files.py|v|get|", ["one", "other", "with space"]),
     ("exsm_files.py|v|get|w", ["with space"]), ("exsm_files.py|v|rm|with\\ s", ["with space"]),
     ("exsm_files.py|v|mv|o", ["one", "other"]), ("exsm_files.py|nowhere|get|", [""]),
-    ("exsm_versions.py|v|freeze|on", ["one"]),
+    ("exsm_versions.py|v|freeze|on", ["one"]), ("exsm_versions.py|v|tree|", [
+        "one", "other", "the first", "with space"]),
+    ("exsm_versions.py|v|unname|the", ["the first"]), ("exsm_files.py|v|get|the", [""]),
 ]
 """Words of tools, and the names that are offered behind them."""
 
@@ -272,6 +274,7 @@ ZSH_COMPLETIONS = [
     ("exsm_files.py|v|g", ["get"]), ("exsm_files.py|v|get|w", ["with space"]),
     ("exsm_files.py|v|put|ot", ["other"]), ("exsm_new.py|v|80M|--for|l", ["large"]),
     ("exsm_do.py|ot", ["other"]), ("exsm_versions.py|v|b", ["back"]),
+    ("exsm_versions.py|v|tree|the", ["the first"]),
 ]
 
 
@@ -306,6 +309,7 @@ class InstallTest(InFolder):
         for name in ("with space", "one", "other"):
             Path(name).write_bytes(b"x")
         self.tool("exsm_files", "v", "put", "with space", "one", "other")
+        self.tool("exsm_versions", "v", "name", "one", "the first")
         os.remove("one")
         return {**os.environ, "PATH": f"{TOOLS}:{os.environ['PATH']}"}
 
@@ -328,7 +332,8 @@ class InstallTest(InFolder):
                              ("exsm_files.py v g", ["get"]),
                              ("exsm_files.py v get w", ["with space"]),
                              ("exsm_new.py v 80M --for=l", ["--for=large"]),
-                             ("exsm_versions.py v b", ["back"])):
+                             ("exsm_versions.py v b", ["back"]),
+                             ("exsm_versions.py v tree th", ["the first"])):
             ran = subprocess.run(["fish", "--no-config", "-c",
                                   f"source {TOOLS}/exsm.fish; complete -C '{line}'"],
                                  capture_output=True, env=variables, check=False, text=True)
