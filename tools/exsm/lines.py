@@ -74,7 +74,7 @@ SYNONYMS = {
     "rmdir": "unfile", "new": "create", "add": "append", "write": "replace", "put": "append",
     "len": "size", "length": "size", "hash": "digest", "sha256": "digest", "df": "space",
     "history": "versions", "snapshot": "freeze", "branch": "derive", "open": "scan",
-    "sync": "checkpoint",
+    "sync": "checkpoint", "show": "read",
 }
 """Words of other programs, with the line that does what they do here."""
 

@@ -56,7 +56,7 @@ def prove_all() -> int:
         library = TOP / "crates" / name / "out" / "rlib" / "stamp"
         if name == text_of("waits"):
             (HERE / "waiting").touch()
-            time.sleep(60)
+            time.sleep(600)
         if any(it in failed for it in below):
             failed.append(name)
         elif name == text_of("fails"):

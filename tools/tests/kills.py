@@ -9,7 +9,7 @@ import sys
 import time
 from typing import Sequence
 
-from tests.support import TOOLS
+from tests.support import SECONDS, TOOLS
 
 KILLS = int(os.environ.get("EXSM_KILLS", "12"))
 """Kills of each tool; `tools/test --kills N` makes others."""
@@ -57,7 +57,7 @@ def killed_command(chance: random.Random, seconds: float, command: Sequence[obje
     return status
 
 
-def wait_gone(programs: Sequence[int], seconds: float = 30) -> None:
+def wait_gone(programs: Sequence[int], seconds: float = SECONDS) -> None:
     """Waits until programs have ended: they may still step what they read before."""
     until = time.monotonic() + seconds
     while any(is_there(program) for program in programs) and time.monotonic() < until:

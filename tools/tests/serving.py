@@ -10,10 +10,7 @@ import sys
 from typing import Optional
 
 from tests.kills import children
-from tests.support import TOOLS, OfRows
-
-SECONDS = 30
-"""How long a reply or an end is waited for."""
+from tests.support import SECONDS, TOOLS, OfRows
 
 
 class User:

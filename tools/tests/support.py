@@ -14,7 +14,9 @@ from pathlib import Path
 
 TOOLS = Path(__file__).resolve().parent.parent
 TOP = TOOLS.parent
-SECONDS = 60
+SECONDS = 300
+"""How long a test waits for what must come, also on a machine that does much else. No test is
+slower for it, but one that fails."""
 
 
 class Ran:
@@ -89,6 +91,11 @@ class OfRows(InFolder):
                 os.remove("v")
 
 
+def processor_seconds() -> float:
+    """What this process, and those that it started and that ended, took of processors."""
+    return sum(os.times()[:4])
+
+
 def process_state(process: int) -> str:
     """The letter of a process's state, as `S` of one that waits."""
     told = Path(f"/proc/{process}/stat").read_text(encoding="ascii", errors="replace")
@@ -115,11 +122,11 @@ class Terminal:
         os.write(self.side, keys.encode())
         return self.read_to(until)
 
-    def read_to(self, until: str, seconds: float = 10) -> str:
+    def read_to(self, until: str, seconds: float = SECONDS) -> str:
         """What comes until it ends with a text."""
         seen, end = "", time.monotonic() + seconds
         while not (seen.endswith(until) and "\n" in seen or seen == until) and until:
-            if not select.select([self.side], [], [], end - time.monotonic())[0]:
+            if not select.select([self.side], [], [], max(0, end - time.monotonic()))[0]:
                 raise AssertionError(f"no {until!r} came, but {seen!r}")
             try:
                 seen += os.read(self.side, 65536).decode(errors="replace")
@@ -127,7 +134,7 @@ class Terminal:
                 raise AssertionError(f"no {until!r} came, but {seen!r}") from None
         return seen
 
-    def read_on(self, until: str, seconds: float = 30) -> str:
+    def read_on(self, until: str, seconds: float = SECONDS) -> str:
         """What comes until a text is somewhere in it."""
         seen, end = "", time.monotonic() + seconds
         while until not in seen:

@@ -10,7 +10,7 @@ import subprocess
 import time
 from pathlib import Path
 
-from tests.support import TOP, InFolder, Ran
+from tests.support import SECONDS, TOP, InFolder, Ran
 
 CRATES = "base:\nlists: base\nwords: base\nexsm: lists words\n"
 OTHERS = "tests: lists\n"
@@ -19,7 +19,6 @@ FIGURES = ("| `base` | 600 | no tests | no edits |\n| `lists` | 1,200* | 5 | 6 (
 KIT = "kit-of-tests logic 0123"
 NEEDED = ("exsm", "VERSION", "tools/build", "tools/try", "tools/usage.txt", "tools/words.sh",
           "tools/launch")
-SECONDS = 120
 
 
 class OfCheckout(InFolder):

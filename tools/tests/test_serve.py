@@ -19,8 +19,8 @@ from exsm.putting import put
 from exsm.seats import SEATS
 from exsm.serve import GRACE, RESERVED
 from tests.kills import KILLS, is_there, wait_gone
-from tests.serving import SECONDS, InServed, User
-from tests.support import BASE, TOOLS, TOP
+from tests.serving import InServed, User
+from tests.support import BASE, SECONDS, TOOLS, TOP
 
 ROWS = [
     (1, "begin", "ok begin 1"), (1, "file a", "ok file a"),
@@ -376,18 +376,24 @@ class ServeTest(InServed):
     def test_end_of_slow_readers(self) -> None:
         """who doesn't read holds up an end for some seconds; a second signal ends at once"""
         oid = self.made_of_a_mib()
-        for signals in (1, 2):
-            server = self.serve()
-            slow = self.user()
-            slow.send(*[f"read {oid} 0 {1 << 20}"] * 40)
-            self.wait_for(lambda: self.memory(server) > UNREAD_MOST)
-            begun = time.monotonic()
-            for _ in range(signals):
-                server.send_signal(signal.SIGTERM)
-                time.sleep(0.3)
-            self.assertEqual(self.ended(server, 0), [])
-            self.assertEqual(signals == 1, time.monotonic() - begun >= GRACE)
-            slow.cut()
+        self.assertGreaterEqual(self.seconds_to_end(oid, 1), GRACE)
+        # (on a machine that does much else one may be late)
+        self.assertLess(min(self.seconds_to_end(oid, 2) for _ in range(3)), GRACE)
+
+    def seconds_to_end(self, oid: str, signals: int) -> float:
+        """How long a server takes to end that gets so many signals, beside a user who doesn't
+        read."""
+        server = self.serve()
+        slow = self.user()
+        slow.send(*[f"read {oid} 0 {1 << 20}"] * 40)
+        self.wait_for(lambda: self.memory(server) > UNREAD_MOST)
+        begun = time.monotonic()
+        for _ in range(signals):
+            server.send_signal(signal.SIGTERM)
+            time.sleep(0.3)
+        self.assertEqual(self.ended(server, 0), [])
+        slow.cut()
+        return time.monotonic() - begun
 
     def test_end_of_program(self) -> None:
         """where the program ends, each user is told its status, and the server ends with it"""
@@ -537,12 +543,12 @@ class ServeTest(InServed):
     def test_idle(self) -> None:
         """with --idle a transaction whose user says nothing is aborted, and its next line tells"""
         oid = self.made()
-        server = self.serve("--idle", "0.4")
+        server = self.serve("--idle", "2")
         user, other = self.user(), self.user()
         self.assertEqual(user.ask("begin", "file b", f"scan {oid} as s"),
                          ["ok begin 2", "ok file b", "ok scan s 3"])
-        for _ in range(4):
-            time.sleep(0.2)                        # it says something
+        for _ in range(5):
+            time.sleep(0.5)                        # it says something
             self.assertEqual(user.ask("size " + oid), ["ok size 3"])
         self.assertEqual(other.ask("files"), ["no 25 busy 1"])
         self.assertEqual(self.until(other, "files"), "ok files 1 a")
@@ -553,7 +559,7 @@ class ServeTest(InServed):
                 store.file("b")
                 self.until(other, "files")
         self.assertEqual((caught.exception.line, caught.exception.name), ("commit", "no_txn"))
-        told = "exsm_serve: a transaction is aborted: its user said nothing for 0.4 seconds"
+        told = "exsm_serve: a transaction is aborted: its user said nothing for 2 seconds"
         self.assertEqual(self.end(server), [told] * 2)
 
 
