@@ -52,9 +52,15 @@ def counted(count: int, noun: str) -> str:
     return f"{count:,} {noun}" if count == 1 else f"{count:,} {noun}s"
 
 
-def way_on(path: str, faults: list[Fault]) -> str:
+def can_be_mended(opening: Opening, faults: list[Fault]) -> bool:
+    """Whether zeros over the bytes of the faults make the volume good: no version reads them, and
+    no record of the log says other bytes of their pages."""
+    return all(fault.span for fault in faults) and not opening.records
+
+
+def way_on(path: str, mends: bool) -> str:
     """What helps a volume with faults."""
-    if all(fault.span for fault in faults):
+    if mends:
         return f"`exsm_volume.py {path} mend COPY` makes a copy without them"
     return f"`exsm_volume.py {path} save FOLDER` writes what can be read"
 
@@ -62,18 +68,20 @@ def way_on(path: str, faults: list[Fault]) -> str:
 def check(path: str, as_json: bool) -> int:
     """Tells the first part that an opening refuses, with its faults; then the status is 1."""
     with open(path, "rb") as file:
-        part, faults = opening_of(file).first_bad()
+        opening = opening_of(file)
+        part, faults = opening.first_bad()
+    mends = bool(faults) and can_be_mended(opening, faults)
     counts = counts_of(path)
     if as_json:
         print(json.dumps({
             "part": part or None, "faults": [fault.text for fault in faults],
-            "mends": bool(faults) and all(fault.span for fault in faults),
+            "mends": mends,
             **(counts._asdict() if counts else Counts(0, 0, 0)._asdict())}))
         return 1 if faults else 0
     for fault in faults:
         print(f"{part}: {fault.text}")
     told = f"{counted(len(faults), 'fault')}, {counts or 'nothing can be read'}"
-    print(f"{told}: {way_on(path, faults)}" if faults else told)
+    print(f"{told}: {way_on(path, mends)}" if faults else told)
     return 1 if faults else 0
 
 
@@ -108,8 +116,9 @@ def mended(file: BinaryIO) -> int:
                 raise CantMend(f"{part}: {fault.text}: no copy is made; "
                                "`save` writes what can be read")
         if opening.records:
-            raise CantMend(f"the log holds {len(opening.records)} records, which say other bytes "
-                           "of these pages: no copy is made; `save` writes what can be read")
+            raise CantMend(f"the log holds {counted(len(opening.records), 'record')}, and what it "
+                           "says of these pages isn't at home yet: no copy is made; `save` writes "
+                           "what can be read")
         for fault in faults:
             page, start, end = fault.span or (0, 0, 0)
             file.seek(page * opening.geometry.page_size + start)

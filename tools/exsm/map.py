@@ -10,6 +10,7 @@ from dataclasses import dataclass
 from html import escape
 from typing import Iterator, NamedTuple, Optional
 
+from exsm.checking import counted
 from exsm.geometry import CATALOG, LOG_PAGES
 from exsm.lines import reason_of
 from exsm.lock import told_where_held
@@ -42,11 +43,6 @@ def human(count: float) -> str:
 def percent(part: float, whole: float) -> str:
     """A part of a whole in percent."""
     return f"{100 * part / whole:.1f} %" if whole else "-"
-
-
-def counted(count: int, noun: str) -> str:
-    """A number of things: `1 file`, `2 files`."""
-    return f"{count} {noun}" if count == 1 else f"{count} {noun}s"
 
 
 def contents(volume: Volume) -> str:

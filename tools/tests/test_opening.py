@@ -153,6 +153,7 @@ class OpeningTest(InFolder):
         ran = self.tool("exsm_volume", "v", "mend", "copy")
         self.assertEqual(ran.status, 1)
         self.assertIn("the log holds ", ran.errors[0])
+        self.assertIn(" save FOLDER` writes", self.tool("exsm_volume", "v", "check").lines[-1])
         self.assertFalse(os.path.exists("copy") or os.path.exists("copy.part"))
 
     def test_check_way_on(self) -> None:
