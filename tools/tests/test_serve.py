@@ -601,7 +601,7 @@ class ServedToolsTest(InServed):
             os.mkdir(f"of{who}")
             for place in range(6):
                 Path(f"of{who}/f{place}").write_bytes(bytes([who]) * (1000 * place + 1))
-        tool = f"{sys.executable} {TOOLS}/exsm_files.py s --wait 60"
+        tool = f"{sys.executable} {TOOLS}/exsm_files.py s --wait {SECONDS}"
         runs = [subprocess.Popen(
             f"set -e; for i in 0 1 2 3 4 5; do {tool} put -r of{who}/f$i; done;"
             f"{tool} mv of{who}/f2 of{who}/g; {tool} rm of{who}/f0",
