@@ -6,8 +6,9 @@ and of a file that was cut off, it reads what the catalog leads to. Beside a run
 that are none, and says that the run is there. `check` makes the tests that an opening makes, and
 tells the part that it refuses. Of a version with a fault in its tree, `save` writes what the rest
 of the tree names, each byte at its position, to FOLDER/FILE/OID.damaged, and tells the ranges that
-are missing, which are zeros there. What exsm_files.py put is saved under its name. `mend` copies a
-volume of which only bytes are wrong that no version reads.
+are missing, which are zeros there. What exsm_files.py put is saved under its name, and a version
+that exsm_versions.py named under that one, but where a name can't be a path beside the others.
+`mend` copies a volume of which only bytes are wrong that no version reads.
 """
 from __future__ import annotations
 
@@ -45,7 +46,8 @@ def parser_of_words() -> argparse.ArgumentParser:
     getting.set_defaults(step=lambda volume, words: get(volume, words.oid))
 
     saving = commands.add_parser(
-        "save", help="writes each version that can be read to FOLDER/FILE/OID")
+        "save", help="writes each version that can be read to FOLDER/FILE/NAME, or FOLDER/FILE/OID "
+                      "where it has no name")
     saving.add_argument("folder", metavar="FOLDER")
     saving.set_defaults(step=lambda volume, words: save_all(volume, words.folder))
 

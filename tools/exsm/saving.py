@@ -4,11 +4,19 @@ from __future__ import annotations
 import json
 import os
 import sys
+from collections import Counter
+from pathlib import PurePosixPath
 
 from exsm.named import is_plain_path, lines_of, names_of
 from exsm.names import VERSION_NAMES_FILE
-from exsm.records import Record
+from exsm.records import BadVolume, Record
 from exsm.volume import Volume
+
+DAMAGED = ".damaged"
+"""What is put behind the path of a version that is saved in part."""
+
+PART_MOST = 255 - len(DAMAGED)
+"""Bytes of a part of a path, which a file system takes also with what is put behind it."""
 
 
 def list_versions(volume: Volume, form: str, with_versions: bool = False) -> int:
@@ -51,23 +59,48 @@ def save_version(volume: Volume, record: Record, path: str) -> bool:
     for start, end in missing:
         print(f"{record.oid}: bytes {start} to {end - 1} of {record.size} are missing")
     if missing:
-        os.replace(path, f"{path}.damaged")
+        os.replace(path, f"{path}{DAMAGED}")
     return not missing
 
 
-def paths_of(volume: Volume, top: str) -> dict[str, str]:
-    """Where each version is saved, by identifier: under its name where it has one that can be a
-    path, and else under its identifier."""
-    names = {oid: name for oid, name in names_of(volume).items() if is_plain_path(name)}
-    return {record.oid: os.path.join(top, file, names.get(record.oid, record.oid))
-            for file, records in volume.versions.items() for record in records}
+def all_names(volume: Volume) -> dict[str, str]:
+    """The names of versions, by identifier: that of a file which exsm_files.py put, else the first
+    one that exsm_versions.py gave."""
+    try:
+        lines = lines_of(volume, VERSION_NAMES_FILE)
+    except BadVolume:
+        lines = []
+    oids = {record.unique: record.oid for record in volume.all()}
+    named = {oids[unique]: name for unique, name in reversed(lines) if unique in oids}
+    return {**named, **names_of(volume)}
+
+
+def places_of(records: list[Record], names: dict[str, str]) -> dict[str, str]:
+    """Where the versions of a file are saved in its folder, by identifier: each under its name,
+    and under its identifier where it has none, or one that can't be a path beside the others."""
+    oids = {record.oid for record in records}
+    paths = {oid: PurePosixPath(names[oid]) for oid in oids
+             if oid in names and is_plain_path(names[oid])}
+    taken = Counter(paths.values())
+    folders = {folder for path in paths.values() for folder in path.parents}
+
+    def stands(path: PurePosixPath) -> bool:
+        return (taken[path] == 1 and path not in folders and path.parts[0] not in oids
+                and not any(part.endswith(DAMAGED) or len(os.fsencode(part)) > PART_MOST
+                            for part in path.parts))
+
+    return {oid: str(paths[oid]) if oid in paths and stands(paths[oid]) else oid for oid in oids}
 
 
 def save_all(volume: Volume, top: str) -> int:
     """Writes each version that can be read to a file of a folder below this one."""
-    paths = paths_of(volume, top)
-    for file in volume.versions:
+    names = all_names(volume)
+    paths, named = {}, 0
+    for file, records in volume.versions.items():
         os.makedirs(os.path.join(top, file), exist_ok=True)
+        places = places_of(records, names)
+        named += sum(place != oid for oid, place in places.items())
+        paths.update({oid: os.path.join(top, file, place) for oid, place in places.items()})
     show = sys.stderr.isatty()
     whole = 0
     for place, record in enumerate(volume.all(), 1):
@@ -78,7 +111,6 @@ def save_all(volume: Volume, top: str) -> int:
         print(file=sys.stderr)
     for fault in volume.faults:
         print(fault)
-    named = sum(os.path.basename(path) != oid for oid, path in paths.items())
     told = f"; {named} of them under their names" if named else ""
     print(f"{whole} versions saved whole, {len(paths) - whole} in part{told}")
     return 1 if whole < len(paths) or volume.faults else 0

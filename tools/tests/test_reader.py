@@ -157,6 +157,29 @@ class ReaderTest(InFolder):
         self.assertEqual(self.tool("exsm_map", "v", "m.svg").status, 0)
         self.assertIn("a b.txt", Path("m.svg").read_text(encoding="utf-8"))
 
+    def test_saved_beside(self) -> None:
+        """names that can't be paths beside each other give way to identifiers; versions have theirs"""
+        os.remove("v")
+        self.format("v", 4096, 100, 200)
+        Path("text").write_bytes(b"text")
+        oids = {}
+        for name in ("a", "a/b", "x", "x.damaged", "n" * 250):
+            told, = self.tool("exsm_files", "v", "put", "-n", name, "text").lines
+            oids[name] = told.split()[-1]
+        self.assertEqual(self.tool("exsm_files", "v", "put", "-n", oids["a"], "text").status, 0)
+        with Store("v") as store, store.transaction():
+            store.file("drafts")
+            draft = store.create("drafts")
+            old = store.freeze(draft)
+        self.tool("exsm_versions", "v", "name", old, "first one")
+        ran = self.tool("exsm_volume", "v", "save", "s")
+        self.assertEqual((ran.status, ran.errors), (0, []))
+        blobs = [oids["a"], oids["x.damaged"], oids["n" * 250], "a", "x"]
+        self.assertEqual(set(blobs) - set(os.listdir("s/blobs")), set())
+        self.assertEqual(len(os.listdir("s/blobs")), 6)       # and the one that has another's number
+        self.assertEqual(os.listdir("s/blobs/a"), ["b"])
+        self.assertEqual(sorted(os.listdir("s/drafts")), sorted([draft, "first one"]))
+
     @unittest.skipIf(os.getuid() == 0, "root may write to any file")
     def test_read_only(self) -> None:
         """a file that can't be written is read"""
