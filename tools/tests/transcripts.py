@@ -13,7 +13,7 @@ from typing import Iterator, Union
 
 MARK = "\036"
 END_OF_FILE = "END_OF_THE_FILE"
-SECONDS = 600
+SECONDS = 3600
 ANY_LINES = "..."
 
 
