@@ -42,8 +42,8 @@ def parser_of_words() -> argparse.ArgumentParser:
         step=lambda volume, words: list_versions(volume, words.form, words.versions))
 
     getting = commands.add_parser("get", help="writes a version's bytes to standard output")
-    getting.add_argument("oid", metavar="OID")
-    getting.set_defaults(step=lambda volume, words: get(volume, words.oid))
+    getting.add_argument("version", metavar="OID|NAME")
+    getting.set_defaults(step=lambda volume, words: get(volume, words.version))
 
     saving = commands.add_parser(
         "save", help="writes each version that can be read to FOLDER/FILE/NAME, or FOLDER/FILE/OID "

@@ -385,7 +385,7 @@ def rm(names: Names, gone: list[str], with_versions: bool) -> None:
     names.clean()
     try:
         with names.transaction():
-            for name in map(os.fsencode, gone):
+            for name in dict.fromkeys(map(os.fsencode, gone)):
                 names.remove(name, with_versions)
     except Refused as no:
         if no.name != "long_txn":

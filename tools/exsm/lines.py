@@ -130,6 +130,7 @@ FULL_AREAS = {"pages": "pages", "segs": "segment units"}
 def reason_of(fault: Exception, path: str = "") -> str:
     """What a fault says: the reason, behind the file that the system names, else the path."""
     if isinstance(fault, OSError) and fault.strerror:
-        path = os.fsdecode(fault.filename) if fault.filename else path
+        if fault.filename is not None:
+            path = os.fsdecode(fault.filename) or "''"
         return f"{path}: {fault.strerror}" if path else fault.strerror
     return f"{path}: {fault}" if path else str(fault)

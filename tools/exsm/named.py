@@ -8,8 +8,10 @@ from pathlib import PurePosixPath
 
 from exsm.files import BLOBS_FILE, NAME_LINE, NAMES_FILE
 from exsm.names import VERSION_NAMES_FILE, lines_in
-from exsm.records import BadVolume
-from exsm.volume import Volume
+from exsm.records import BadVolume, Record
+from exsm.volume import NoVersion, Volume
+
+OID = re.compile(r"\d+\.\d+\.\d+")
 
 
 def names_of(volume: Volume) -> dict[str, str]:
@@ -34,14 +36,33 @@ def lines_of(volume: Volume, file: str) -> list[tuple[int, str]]:
     return [(unique, os.fsdecode(text)) for unique, text in lines or ()]
 
 
+def version_names_of(volume: Volume) -> list[tuple[int, str]]:
+    """The names that exsm_versions.py keeps, each behind its version's number; none where they
+    can't be read."""
+    try:
+        return lines_of(volume, VERSION_NAMES_FILE)
+    except BadVolume:
+        return []
+
+
+def find_version(volume: Volume, word: str, named: list[tuple[int, str]],
+                 files: dict[str, str]) -> Record:
+    """The version of an identifier, of a version's name or of a file's; the names are given."""
+    if OID.fullmatch(word):
+        return volume.find(word)
+    uniques = {unique for unique, name in named if name == word}
+    found = [it for it in volume.all() if it.unique in uniques or files.get(it.oid) == word]
+    if not found:
+        raise NoVersion(f"no version has the identifier or the name {word}")
+    if len(found) > 1:
+        raise NoVersion(f"{word} names several versions: {' '.join(it.oid for it in found)}")
+    return found[0]
+
+
 def told_names(volume: Volume) -> dict[str, str]:
     """What a picture calls each version's object: by the name that exsm_files.py keeps, else by
     all names of its versions."""
-    files, named = names_of(volume), {}
-    try:
-        lines = lines_of(volume, VERSION_NAMES_FILE)
-    except BadVolume:
-        lines = []
+    files, lines, named = names_of(volume), version_names_of(volume), {}
     for versions in volume.objects:
         uniques = {record.unique for record in versions}
         name = (next((files[it.oid] for it in versions if it.oid in files), "")

@@ -7,9 +7,8 @@ import sys
 from collections import Counter
 from pathlib import PurePosixPath
 
-from exsm.named import is_plain_path, lines_of, names_of
-from exsm.names import VERSION_NAMES_FILE
-from exsm.records import BadVolume, Record
+from exsm.named import find_version, is_plain_path, names_of, version_names_of
+from exsm.records import Record
 from exsm.volume import Volume
 
 DAMAGED = ".damaged"
@@ -27,7 +26,7 @@ def list_versions(volume: Volume, form: str, with_versions: bool = False) -> int
     if form == "zeros":
         told = list(names.values())
         if with_versions:
-            told += [name for _, name in lines_of(volume, VERSION_NAMES_FILE)]
+            told += [name for _, name in version_names_of(volume)]
         sys.stdout.buffer.writelines(os.fsencode(name) + b"\0" for name in told)
         sys.stdout.buffer.flush()
         return 0
@@ -45,9 +44,10 @@ def list_versions(volume: Volume, form: str, with_versions: bool = False) -> int
     return 0
 
 
-def get(volume: Volume, oid: str) -> int:
-    """Writes a version's bytes to standard output."""
-    sys.stdout.buffer.writelines(volume.pieces(volume.find(oid)))
+def get(volume: Volume, word: str) -> int:
+    """Writes the bytes of the version of an identifier or a name to standard output."""
+    record = find_version(volume, word, version_names_of(volume), names_of(volume))
+    sys.stdout.buffer.writelines(volume.pieces(record))
     sys.stdout.buffer.flush()
     return 0
 
@@ -66,10 +66,7 @@ def save_version(volume: Volume, record: Record, path: str) -> bool:
 def all_names(volume: Volume) -> dict[str, str]:
     """The names of versions, by identifier: that of a file which exsm_files.py put, else the first
     one that exsm_versions.py gave."""
-    try:
-        lines = lines_of(volume, VERSION_NAMES_FILE)
-    except BadVolume:
-        lines = []
+    lines = version_names_of(volume)
     oids = {record.unique: record.oid for record in volume.all()}
     named = {oids[unique]: name for unique, name in reversed(lines) if unique in oids}
     return {**named, **names_of(volume)}

@@ -16,15 +16,13 @@ from exsm.commands import CYAN, GREEN, RED, coloured, is_coloured, status_of, st
 from exsm.leaves import Body, Change, changes, trimmed
 from exsm.lines import reason_of
 from exsm.lock import held
-from exsm.named import lines_of, names_of
-from exsm.names import (
-    VERSION_NAMES_FILE, VERSION_TIMES_FILE, NameList, Wrong, unique_of)
+from exsm.named import OID, find_version, lines_of, names_of
+from exsm.names import VERSION_NAMES_FILE, VERSION_TIMES_FILE, NameList, Wrong, unique_of
 from exsm.records import BadVolume, Links, Record
 from exsm.sockets import is_socket
 from exsm.spelling import meaning
-from exsm.volume import Volume
+from exsm.volume import NoVersion, Volume
 
-OID = re.compile(r"\d+\.\d+\.\d+")
 
 REFINED_MOST = 1 << 20
 """Bytes of a range whose lines are compared, so that what differs in it is told apart."""
@@ -70,17 +68,10 @@ class Shown:
 
     def find(self, word: str) -> Record:
         """The version of an identifier, a version's name or a file's name."""
-        if OID.fullmatch(word):
-            found = [it for it in self.volume.all() if it.oid == word]
-        else:
-            named = {unique for unique, name in self.names if name == word}
-            found = [it for it in self.volume.all()
-                     if it.unique in named or self.file_name(it) == word]
-        if not found:
-            raise Wrong(f"no version has the identifier or the name {word}")
-        if len(found) > 1:
-            raise Wrong(f"{word} names several versions: {' '.join(it.oid for it in found)}")
-        return found[0]
+        try:
+            return find_version(self.volume, word, self.names, self.files)
+        except NoVersion as no:
+            raise Wrong(str(no)) from None
 
     def object_of(self, record: Record) -> list[Record]:
         """All versions of a version's object."""

@@ -14,7 +14,7 @@ from exsm.records import BadVolume, Links, Record, record_of
 
 
 class NoVersion(Exception):
-    """No version that can be read has the identifier."""
+    """No version that can be read has the identifier or the name."""
 
 
 class Entry(NamedTuple):
@@ -305,7 +305,7 @@ class Volume:
         for record in self.all():
             if record.oid == oid:
                 return record
-        raise NoVersion(f"no version has the identifier {oid}")
+        raise NoVersion(f"no version has the identifier or the name {oid}")
 
     def pieces(self, record: Record) -> Iterator[bytes]:
         """The bytes of a version, a piece at a time. A fault in its tree is raised."""

@@ -94,7 +94,7 @@ class FilesTest(InFolder):
         ran = self.tool("exsm_files", "v", "rm", names[0], "nothing")
         self.assertEqual((ran.status, ran.errors), (1, ["exsm_files: no such name: nothing"]))
         self.assertEqual(self.stored(), {**made, names[2]: b"new"})
-        self.assertEqual(self.tool("exsm_files", "v", "rm", names[0], names[1]).status, 0)
+        self.assertEqual(self.tool("exsm_files", "v", "rm", names[0], names[1], names[0]).status, 0)
         self.assertEqual(sorted(self.stored()), sorted(names[2:]))
 
     def put(self, *words: object, status: int = 0, given: bytes = b"") -> list[str]:

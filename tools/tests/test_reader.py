@@ -172,6 +172,11 @@ class ReaderTest(InFolder):
             draft = store.create("drafts")
             old = store.freeze(draft)
         self.tool("exsm_versions", "v", "name", old, "first one")
+        self.assertEqual(self.tool("exsm_volume", "v", "get", "x.damaged").out, b"text")
+        self.assertEqual(self.tool("exsm_volume", "v", "get", "first one").status, 0)
+        ran = self.tool("exsm_volume", "v", "get", "y")
+        self.assertEqual((ran.status, ran.errors), (
+            1, ["exsm_volume: v: no version has the identifier or the name y"]))
         ran = self.tool("exsm_volume", "v", "save", "s")
         self.assertEqual((ran.status, ran.errors), (0, []))
         blobs = [oids["a"], oids["x.damaged"], oids["n" * 250], "a", "x"]
