@@ -14,7 +14,7 @@ from pathlib import Path
 
 TOOLS = Path(__file__).resolve().parent.parent
 TOP = TOOLS.parent
-SECONDS = 300
+SECONDS = 600
 """How long a test waits for what must come, also on a machine that does much else. No test is
 slower for it, but one that fails."""
 
