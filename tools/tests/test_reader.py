@@ -158,7 +158,7 @@ class ReaderTest(InFolder):
         self.assertIn("a b.txt", Path("m.svg").read_text(encoding="utf-8"))
 
     def test_saved_beside(self) -> None:
-        """names that can't be paths beside each other give way to identifiers; versions have theirs"""
+        """names that can't be paths beside each other give way to identifiers"""
         os.remove("v")
         self.format("v", 4096, 100, 200)
         Path("text").write_bytes(b"text")
@@ -181,7 +181,7 @@ class ReaderTest(InFolder):
         self.assertEqual((ran.status, ran.errors), (0, []))
         blobs = [oids["a"], oids["x.damaged"], oids["n" * 250], "a", "x"]
         self.assertEqual(set(blobs) - set(os.listdir("s/blobs")), set())
-        self.assertEqual(len(os.listdir("s/blobs")), 6)       # and the one that has another's number
+        self.assertEqual(len(os.listdir("s/blobs")), 6)      # with the one named as another's is
         self.assertEqual(os.listdir("s/blobs/a"), ["b"])
         self.assertEqual(sorted(os.listdir("s/drafts")), sorted([draft, "first one"]))
 
