@@ -8,7 +8,7 @@ some in part and none of others.
 from __future__ import annotations
 
 import random
-from typing import Iterator, NamedTuple
+from typing import Callable, Iterator, NamedTuple
 
 from fuzzing import scripts
 from fuzzing.differs import Differs, same
@@ -181,15 +181,22 @@ class Stops:
         return calls
 
 
-def explore(trial: Trial, program: Program, report: Report) -> None:
-    """Makes runs, and tries the images that their stops may leave."""
-    stops = Stops(trial, program, report, random.Random(trial.seed + " stops"))
+def explore_runs(trial: Trial, program: Program,
+                 ask: Callable[[bytes, list[bytes], Model], Model]) -> None:
+    """Makes runs; of each it is asked what comes of it, by the volume that it began on, its lines
+    and its model, and the answer is the model of the volume for the next one."""
     chance = random.Random(trial.seed)
     model = scripts.new_model(trial, program)
     for _ in range(chance.randint(1, RUNS_MOST)):
         base = program.volume.read_bytes()
         scripts.explore_run(trial, program, model, chance, chance.randint(5, LINES_MOST))
-        model = stops.ask(base, trial.runs[-1], model)
+        model = ask(base, trial.runs[-1], model)
+
+
+def explore(trial: Trial, program: Program, report: Report) -> None:
+    """Makes runs, and tries the images that their stops may leave."""
+    stops = Stops(trial, program, report, random.Random(trial.seed + " stops"))
+    explore_runs(trial, program, stops.ask)
 
 
 def replay(trial: Trial, program: Program, report: Report) -> None:

@@ -15,7 +15,7 @@ from typing import Iterator, NamedTuple
 
 from exsm.client import STATUS_NAMES
 from fuzzing import scripts
-from fuzzing.crashes import ask_image, ask_program, images_of, moments_of
+from fuzzing.crashes import ask_image, ask_program, explore_runs, images_of, moments_of
 from fuzzing.differs import Differs, same
 from fuzzing.model import Model
 from fuzzing.outside import Ended, Plan
@@ -32,7 +32,6 @@ REFUSED_MOST, REFUSED_BITS = 6, 11
 IMAGES = 6
 """Images behind a call that fails, beside the one that the run left."""
 
-RUNS_MOST, LINES_MOST = 3, 60
 PROGRAM_SHARE = 0.03
 """The share of the images that the program opens too."""
 
@@ -90,8 +89,9 @@ class Faults:
         same(ran.status, 0, f"status of {word}: ")
         return Whole(word, base, given, ran.out, calls, self.program.volume.read_bytes())
 
-    def ask(self, base: bytes, lines: list[bytes], model: Model) -> None:
-        """Fails calls of a run, and of a check of what it left; the volume is as before then."""
+    def ask(self, base: bytes, lines: list[bytes], model: Model) -> Model:
+        """Fails calls of a run, and of a check of what it left; the volume is as before then, and
+        its model is given."""
         self.report("scripts with faults")
         after = self.program.volume.read_bytes()
         for whole, most in ((self.whole("run", base, script_of(lines)), CALLS_MOST),
@@ -104,6 +104,7 @@ class Faults:
                 self.ask_memory(whole, harm, model)
         self.trial.harms = []
         self.program.volume.write_bytes(after)
+        return model.at(model.last)
 
     def ask_call(self, whole: Whole, harm: Harm, model: Model) -> None:
         """Fails a call of a run."""
@@ -178,13 +179,7 @@ class Faults:
 def explore(trial: Trial, program: Program, report: Report) -> None:
     """Makes runs, and fails calls of each."""
     faults = Faults(trial, program, report, random.Random(trial.seed + " faults"))
-    chance = random.Random(trial.seed)
-    model = scripts.new_model(trial, program)
-    for _ in range(chance.randint(1, RUNS_MOST)):
-        base = program.volume.read_bytes()
-        model = Model(trial.sizes, model.committed.copy(), model.last)
-        scripts.explore_run(trial, program, model, chance, chance.randint(5, LINES_MOST))
-        faults.ask(base, trial.runs[-1], model)
+    explore_runs(trial, program, faults.ask)
 
 
 def replay(trial: Trial, program: Program, report: Report) -> None:
@@ -193,7 +188,7 @@ def replay(trial: Trial, program: Program, report: Report) -> None:
     model, base = scripts.new_model(trial, program), b""
     for lines in trial.runs:
         base = program.volume.read_bytes()
-        model = Model(trial.sizes, model.committed.copy(), model.last)
+        model = model.at(model.last)
         program.run_lines(model, lines)
     after = program.volume.read_bytes()
     for harm in trial.harms:

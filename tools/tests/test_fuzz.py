@@ -309,8 +309,8 @@ class FuzzTest(InFolder):
     def test_jobs(self) -> None:
         """jobs share the trials, each trial is that of its number, and what each tried is added"""
         Path("none").mkdir()
-        words = (os.environ["EXSM"], "scripts", "--count", 5, "--corpus", "none", "--jobs")
-        counts = [self.fuzz(*words, jobs).lines for jobs in (1, 2)]
+        words = (os.environ["EXSM"], "--count", 5, "--corpus", "none", "--jobs")
+        counts = [self.fuzz(*words, jobs, "scripts").lines for jobs in (1, 2)]
         told = [re.findall("[0-9]+ (?:scripts|volumes)", lines[0]) for lines in counts]
         self.assertEqual(told[0], told[1])
         self.assertIn("5 volumes", told[0])
