@@ -57,9 +57,13 @@ class Put(NamedTuple):
 def put_of(path: str, name: str) -> Put:
     """The file of a path, which is to be there."""
     told = os.stat(path)
+    try:
+        kept = name_of(name)
+    except Wrong as fault:
+        raise Wrong(f"{fault}; nothing was put: -n NAME puts one file under another name") from None
     if not stat.S_ISREG(told.st_mode):
-        return Put(name_of(name), path, None)      # a pipe or a device: read to its end
-    return Put(name_of(name), path, told.st_size)
+        return Put(kept, path, None)               # a pipe or a device: read to its end
+    return Put(kept, path, told.st_size)
 
 
 def is_volume(path: str, volume: Optional[str]) -> bool:
