@@ -271,10 +271,10 @@ source "$file"
 """
 ZSH_COMPLETIONS = [
     ("exsm|f", ["format"]), ("exsm|help|r", ["run"]), ("exsm|format|v|--page-size|8", ["8192"]),
+    ("exsm_versions.py|v|tree|the", ["the first"]),
     ("exsm_files.py|v|g", ["get"]), ("exsm_files.py|v|get|w", ["with space"]),
     ("exsm_files.py|v|put|ot", ["other"]), ("exsm_new.py|v|80M|--for|l", ["large"]),
     ("exsm_do.py|ot", ["other"]), ("exsm_versions.py|v|b", ["back"]),
-    ("exsm_versions.py|v|tree|the", ["the first"]),
 ]
 
 
