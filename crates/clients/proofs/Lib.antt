@@ -4,6 +4,8 @@ pub mod Words
 pub mod Fronts
 pub mod LineTurns
 pub mod Names
+pub mod Nameless
+pub mod FirstWords
 pub mod Preparing
 pub mod Serving
 pub mod Owners

@@ -1,14 +1,18 @@
 -- Names of clients, as a session keeps them.
-use Rattle.std.specs.Prelude.{◌≤◌, ◌+◌, ℕ, List, ◌∷◌, drop, bytes_eq, if◌then◌else◌, Option, Some, None, option_map}
+use Rattle.std.specs.Prelude.{◌≡◌, ◌≤◌, ◌+◌, ℕ, List, ◌∷◌, drop, bytes_eq, if◌then◌else◌, Option, Some, None, option_map}
 use Rattle.table_model.specs.Machines.{main}
 use Rattle.table_model.specs.Requests.{Reference, Bound, Numbered, Request}
 use Rattle.table_model.specs.Requests as request
 use Rattle.table_model.specs.declared.reply.Reply.{Reply}
 use Rattle.table_model.specs.declared.reply.Reply.TheVariants as reply
 
--- Clients are numbered from 1 to 16.
+-- how many clients there may be
+abbrev pub clients_most : ℕ
+clients_most = 16
+
+-- Clients are numbered from 1 on.
 abbrev pub IsClient : ℕ → Type 0
-IsClient k = (1 ≤ k) × (k ≤ 16)
+IsClient k = (1 ≤ k) × (k ≤ clients_most)
 
 -- the letter of a client: A of the first one, P of the sixteenth
 abbrev pub letter : ℕ → ℕ
@@ -98,6 +102,10 @@ group_in _ = None
 abbrev pub held_reference : List ℕ → Reference → Reference
 held_reference subject (Bound name) = Bound subject
 held_reference subject (Numbered page slot unique) = Numbered page slot unique
+
+-- It has no name that a session keeps.
+abbrev pub HasNoName : Request → Type 0
+HasNoName r = (subject_in r ≡ None) × (name_in r ≡ None) × (group_in r ≡ None)
 
 -- a command with these names in the place of its own: of the version that it names, of what it binds, opens, goes on, closes or makes, and of a group
 abbrev pub renamed : List ℕ → List ℕ → List ℕ → Request → Request

@@ -1,9 +1,10 @@
 -- What the clients keep of the line that was taken last, and what they ask the session for.
 use Rattle.std.specs.Prelude.{◌≡◌, ◌≤◌, ℕ, IsTrue, Option, Some, None}
+use Rattle.table_model.specs.Machines.{main}
 use Rattle.table_model.specs.Requests.{Request, is_request, is_spelled, request_of}
 use Rattle.script_lines.specs.Lines.{Line}
 use Rattle.script_lang.specs.Reading.{Reading, Silent, Asks, Fails}
-use Rattle.clients.specs.Names.{IsClient, owned, renamed}
+use Rattle.clients.specs.Names.{IsClient, clients_most, owned, renamed}
 use Rattle.clients.specs.Routing.{busy_with, unless_busy}
 use Rattle.clients.specs.Turns.{IsTurn, Turn, Quiet, Said}
 use Rattle.clients.specs.declared.own_names.OwnNames.{OwnNames}
@@ -14,6 +15,10 @@ use Rattle.clients.specs.declared.turns.Routed.TheVariants.{Nothing, Answer, Ste
 -- a command with these names in the place of its own
 abbrev pub with_names : OwnNames → Request → Request
 with_names names r = renamed names.subject names.name names.group r
+
+-- those of no command
+abbrev pub no_names : OwnNames
+no_names = record { subject = main; name = main; group = main }
 
 -- ---- what a line says, and what it is routed as
 
@@ -32,7 +37,7 @@ routed_reading (Step client command) = Asks (request_of command)
 -- There are few clients. A command has the form of a line's words,
 abbrev pub IsFormedRoute : Routed → Type 0
 IsFormedRoute Nothing = Unit {0}
-IsFormedRoute (Answer client why) = client ≤ 16
+IsFormedRoute (Answer client why) = client ≤ clients_most
 IsFormedRoute (Step client command) = IsClient client × IsTrue (is_request (request_of command))
 
 -- and where it is as the line spells it, it names nothing as a session keeps it.

@@ -1,5 +1,5 @@
 -- Lines of a schedule: whose each one is, and what it says.
-use Rattle.std.specs.Prelude.{◌≡◌, ◌⊎◌, ◌++◌, ℕ, List, ◌∷◌, IsTrue, decimal}
+use Rattle.std.specs.Prelude.{◌≡◌, ◌⊎◌, ◌++◌, ℕ, Bool, List, ◌∷◌, IsTrue, decimal, nat_lt}
 use Rattle.script_lines.specs.Lines.{Line, Short, Long}
 use Rattle.script_lang.specs.LineWords.{words_of}
 use Rattle.script_lang.specs.Reading.{Reading, Fails, Says, is_silent}
@@ -40,3 +40,7 @@ abbrev pub IsTurn : Line → Turn → Type 0
 IsTurn Long turn = turn ≡ Said 0 (Fails refusal.LineLong)
 IsTurn (Short line) Quiet = IsQuiet line
 IsTurn (Short line) (Said k reading) = IsSaid line k reading ⊎ IsUnread line k reading
+
+-- a byte that is no blank and begins no comment, as each byte of a command is
+abbrev pub is_plain : ℕ → Bool
+is_plain b = nat_lt 35 b

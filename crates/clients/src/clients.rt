@@ -1,12 +1,16 @@
 //! Several clients of one session: their names, and whose transaction is open.
-ghost use Rattle.std.specs.Prelude.{◌≡◌, ◌≤◌, IfSome, None};
+ghost use Rattle.std.specs.Prelude.{◌≡◌, ◌≤◌, IfSome, IsTrue, None};
+ghost use Rattle.script_lang.specs.LineWords.{words_of};
+ghost use Rattle.script_lang.specs.Reading.{Asks, Says, is_silent};
 ghost use Rattle.script_lines.specs.Reader.{line_lent};
-ghost use Rattle.table_model.specs.Requests.{request_of};
-ghost use Rattle.clients.specs.Names.{told_bare};
+ghost use Rattle.table_model.specs.Requests.{Request, request_of};
+ghost use Rattle.clients.specs.Names.{IsClient, clients_most, owned, told_bare};
 ghost use Rattle.clients.specs.Routing.{busy_with, owner_after, waits};
+ghost use Rattle.clients.specs.Turns.{Quiet};
 
 use crate::own_names::{OwnNames, bare_name};
-use crate::turns::{Routed, turn_lent};
+use crate::turns::{Front, Routed, front_of, may_name, turn_lent};
+use script_lang::parse;
 use script_lines::LineRef;
 use table_model::{Command, Refusal, Reply};
 
@@ -16,15 +20,17 @@ pub struct Clients {
     owner: Option<u8>,
     client: u8,
     names: OwnNames,
-    ghost few: { client ≤ 16 },
+    ghost few: { client ≤ clients_most },
 }
 
 impl Clients {
-    ghost use Rattle.clients.specs.Prepared.{AsksNow, IsFormedRoute, IsClientOf, IsPrepared, routed_reading};
+    ghost use Rattle.clients.specs.Prepared.{AsksNow, IsFormedRoute, IsClientOf, IsPrepared, IsTurnOf, no_names, routed_reading, with_names};
 
     /// No line was taken yet.
-    pub fn new() -> Clients
-        ensures { result.owner ≡ None }
+    pub fn make() -> Clients
+        ensures owner { result.owner ≡ None }
+        ensures client { result.client ≡ 0 }
+        ensures names { result.names ≡ no_names }
     {
         Clients {
             owner: None,
@@ -33,22 +39,48 @@ impl Clients {
         }
     }
 
-    /// A line is taken.
-    pub fn prepare(&mut self, line: LineRef<'_>)
+    /// A line is taken. Its words are read only where they may have a name that the session keeps.
+    pub fn route(&mut self, line: LineRef<'_>)
         ensures owner { self.new.owner ≡ self.old.owner }
         ensures prepared { IfSome (line_lent line.entry) (λ l. IsPrepared l self.new) }
+        ensures quiet { IsTurnOf (line_lent line.entry) Quiet → self.new ≡ self.old }
     {
-        match turn_lent(line) {
-            Routed::Nothing => {}
-            Routed::Answer { client, .. } => self.client = client,
-            Routed::Step { client, command } => {
-                self.client = client;
-                self.names = OwnNames::of(client, &command);
-            }
+        match line {
+            LineRef::End => {}
+            LineRef::Long => self.client = 0,
+            LineRef::Line(line) => match front_of(line) {
+                Front::Quiet => {}
+                Front::Unread => self.client = 0,
+                Front::Of { client, rest } => self.take(client, rest),
+            },
         }
     }
 
-    /// What the line that was prepared asks for. A refusal as busy comes behind those of its words.
+    // What a client says is taken.
+    fn take(&mut self, client: u8, said: &[u8])
+        requires { IsClient client }
+        ensures owner { self.new.owner ≡ self.old.owner }
+        ensures client { (IsTrue (is_silent (words_of said.now)) → ⊥)
+            → self.new.client ≡ client }
+        ensures names { (r : Request) → Says (words_of said.now) (Asks r)
+            → with_names self.new.names r ≡ owned client r }
+        ensures quiet { IsTrue (is_silent (words_of said.now)) → self.new ≡ self.old }
+    {
+        if !may_name(said) {
+            self.client = client;
+            return;
+        }
+        match parse(said) {
+            Ok(None) => {}
+            Ok(Some(command)) => {
+                self.client = client;
+                self.names = OwnNames::of(client, &command);
+            }
+            Err(_) => self.client = client,
+        }
+    }
+
+    /// What the line that was taken last asks for. A refusal as busy comes behind those of its words.
     pub fn routed<'a>(&'a self, line: LineRef<'a>) -> Routed<'a>
         ensures asked { AsksNow (line_lent line.entry) self.entry.now (routed_reading result) }
         ensures formed { IsFormedRoute result }

@@ -10,6 +10,5 @@ mod turns;
 
 pub use clients::Clients;
 pub use laws::{a_line_is_one_turn, names_are_kept_apart, the_owner_has_the_transaction};
-pub use own_names::{OwnName, OwnNames};
 pub use schedule::Schedule;
 pub use turns::{CLIENTS_MOST, Routed};

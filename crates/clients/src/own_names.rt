@@ -12,12 +12,15 @@ use table_model::{Command, Name, Subject};
 /// The group that is common to all clients.
 const MAIN: &[u8] = b"main";
 
-/// The most bytes of a name that a session keeps: a client's letter, and 32 of a name.
-const KEPT_MOST: usize = 33;
+/// The most bytes of a name, as a line spells it.
+const NAME_MOST: usize = 32;
+
+/// The most bytes of a name that a session keeps: a client's letter and a name.
+const KEPT_MOST: usize = 1 + NAME_MOST;
 
 /// A name as a session keeps it.
 #[derive(Drop)]
-pub struct OwnName {
+pub(crate) struct OwnName {
     bytes: ArrayVec<u8, KEPT_MOST>,
 }
 
@@ -88,17 +91,19 @@ pub(crate) fn bare_name(kept: Name) -> Name
 
 /// The names of a client's command: of the version that it names, of what it binds, opens, goes on, closes or makes, and of a group.
 #[derive(Drop)]
-pub struct OwnNames {
+pub(crate) struct OwnNames {
     subject: OwnName,
     name: OwnName,
     group: OwnName,
 }
 
 impl OwnNames {
-    ghost use Rattle.clients.specs.Prepared.{with_names};
+    ghost use Rattle.clients.specs.Prepared.{no_names, with_names};
 
     /// Those of no command.
-    pub fn new() -> OwnNames {
+    pub fn new() -> OwnNames
+        ensures { result ≡ no_names }
+    {
         OwnNames {
             subject: OwnName::main(),
             name: OwnName::main(),

@@ -3,6 +3,7 @@
 ghost use Rattle.std.specs.Prelude.{◌≡◌, ◌≤◌, ◌⊎◌, ◌++◌, ◌∷◌, [], decimal};
 ghost use Rattle.script_lines.specs.Reader.{counted};
 ghost use Rattle.talks.specs.Stops.{IsSendingStop, IsTakingStop};
+ghost use Rattle.clients.specs.Names.{clients_most};
 
 use crate::clients::Clients;
 use crate::turns::Routed;
@@ -28,7 +29,7 @@ pub struct Schedule {
 
 // What stands before a reply to a client: its number and a space.
 fn numbered(client: u8) -> ArrayVec<u8, FRONT_MOST>
-    requires { client ≤ 16 }
+    requires { client ≤ clients_most }
     ensures { result.items ≡ decimal client ++ 32 ∷ [] }
 {
     let mut digits = Buffer::new();
@@ -52,7 +53,7 @@ impl Talk for Schedule {
     fn advance<H: Host>(&mut self, _alloc: Global, host: &mut H) -> Result<bool, Stopped> {
         self.reader.advance(host)?;
         let line = self.reader.line();
-        self.clients.prepare(line);
+        self.clients.route(line);
         match line {
             LineRef::End => Ok(false),
             LineRef::Long => Ok(true),
@@ -83,7 +84,7 @@ impl SourceTalk for Schedule {
     fn make(alloc: Global, max_bytes: u64) -> Result<Schedule, AllocError> {
         Ok(Schedule {
             reader: Lines::make(alloc, max_bytes)?,
-            clients: Clients::new(),
+            clients: Clients::make(),
             text: Vec::new(alloc),
         })
     }

@@ -13,15 +13,15 @@ returns-in_err-advance-clause-broken g c =
 
 pub returns-in-End-clause-over : goal.returns-in-End-clause-over
 returns-in-End-clause-over g c same first left had so_far =
-    takes_none first c.args.self.now (record { reader = c.advance.new.self; clients = c.prepare.new.self; text = c.args.self.now.text }) c.prepare.ensures.owner so_far c.in_ok-advance.ensures.takes
+    takes_none first c.args.self.now (record { reader = c.advance.new.self; clients = c.route.new.self; text = c.args.self.now.text }) c.route.ensures.owner so_far c.in_ok-advance.ensures.takes
     c.advance.ensures.drawn c.in-End.ensures
 
 pub returns-in-Long-clause-taken : goal.returns-in-Long-clause-taken
 returns-in-Long-clause-taken g c same first left had so_far =
-    takes_line first c.args.self.now (record { reader = c.advance.new.self; clients = c.prepare.new.self; text = c.args.self.now.text }) c.prepare.ensures.owner so_far c.in_ok-advance.ensures.takes
-    c.advance.ensures.drawn Long c.in-Long.ensures (subst (λ (o : Option Line). IfSome o (λ l. IsPrepared l c.prepare.new.self)) c.line-line.ensures c.prepare.ensures.prepared)
+    takes_line first c.args.self.now (record { reader = c.advance.new.self; clients = c.route.new.self; text = c.args.self.now.text }) c.route.ensures.owner so_far c.in_ok-advance.ensures.takes
+    c.advance.ensures.drawn Long c.in-Long.ensures (subst (λ (o : Option Line). IfSome o (λ l. IsPrepared l c.route.new.self)) c.line-line.ensures c.route.ensures.prepared)
 
 pub returns-in-Line-clause-taken : goal.returns-in-Line-clause-taken
 returns-in-Line-clause-taken g c same first left had so_far =
-    takes_line first c.args.self.now (record { reader = c.advance.new.self; clients = c.prepare.new.self; text = c.args.self.now.text }) c.prepare.ensures.owner so_far c.in_ok-advance.ensures.takes
-    c.advance.ensures.drawn (Short c.in-Line._line.now) c.in-Line.ensures (subst (λ (o : Option Line). IfSome o (λ l. IsPrepared l c.prepare.new.self)) c.line-line.ensures c.prepare.ensures.prepared)
+    takes_line first c.args.self.now (record { reader = c.advance.new.self; clients = c.route.new.self; text = c.args.self.now.text }) c.route.ensures.owner so_far c.in_ok-advance.ensures.takes
+    c.advance.ensures.drawn (Short c.in-Line._line.now) c.in-Line.ensures (subst (λ (o : Option Line). IfSome o (λ l. IsPrepared l c.route.new.self)) c.line-line.ensures c.route.ensures.prepared)
