@@ -1,5 +1,5 @@
 -- What is listed of rows, and that the list of a file's records is gathered of them.
-use Rattle.std.proofs.Common.{◌≡◌, ℕ, List, map, Option, refl, sym, ap, ◌∙◌}
+use Rattle.std.proofs.Common.{◌≡◌, ℕ, List, length, map, Option, refl, sym, ap, ◌∙◌}
 use Rattle.std.proofs.lemmas.List.{map-append}
 use Rattle.ex_base.specs.declared.names.Place.{Place}
 use Rattle.ex_base.specs.declared.names.Root.{Root}
@@ -12,15 +12,15 @@ use Rattle.versions.specs.Versions.{root_of}
 use Rattle.record_lists.specs.declared.Listed.{Listed}
 use Rattle.record_lists.specs.Listed.{listed_at, listed_of}
 
-abbrev listed_by : Place → Head → Option Root → Listed
-listed_by place head root = record { place = place; head = head; root = root }
+abbrev listed_by : Place → Head → Option Root → ℕ → Listed
+listed_by place head root len = record { place = place; head = head; root = root; len = len }
 
 -- what is read in a body is what is listed
-pub listed_as : (place : Place) (body : List ℕ) (view : Record) (head : Head) (root : Option Root) → BodyOf body view → head ≡ view.head → root ≡ root_of view.content → listed_by place head root ≡ listed_at place body
+pub listed_as : (place : Place) (body : List ℕ) (view : Record) (head : Head) (root : Option Root) → BodyOf body view → head ≡ view.head → root ≡ root_of view.content → listed_by place head root (length body) ≡ listed_at place body
 listed_as place body view head root spelled head_is root_is =
     let read : record_on body ≡ view = record_read body view spelled in
-    ap (λ (x : Head). listed_by place x root) (head_is ∙ ap (λ (r : Record). r.head) (sym read))
-    ∙ ap (listed_by place (record_on body).head) (root_is ∙ ap (λ (r : Record). root_of r.content) (sym read))
+    ap (λ (x : Head). listed_by place x root (length body)) (head_is ∙ ap (λ (r : Record). r.head) (sym read))
+    ∙ ap (λ (x : Option Root). listed_by place (record_on body).head x (length body)) (root_is ∙ ap (λ (r : Record). root_of r.content) (sym read))
 
 pub gathers_records : Gathers (map listed_of)
 gathers_records = record { none = refl; append = map-append listed_of }

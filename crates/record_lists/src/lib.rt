@@ -15,4 +15,6 @@ pub struct Listed {
     pub head: Head,
     /// The root of the tree of a large version, none of a small one.
     pub root: Option<Root>,
+    /// How many bytes its body has.
+    pub len: usize,
 }

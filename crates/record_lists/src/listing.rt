@@ -46,6 +46,7 @@ fn listed_on(body: Option<&[u8]>, place: Place) -> Result<Listed, PortFault>
             place,
             head: view.head(),
             root: root_seen(&view),
+            len: body.len(),
         }),
         None => Err(no_record(place)),
     }
