@@ -28,19 +28,21 @@ use Rattle.volume_model.specs.Volume.{FileContent, Stored, Volume, file_pages, p
 use Rattle.volume_model.proofs.FilePages.{file_pages_are}
 use Rattle.volume_model.proofs.Places.{Sep, each_has, has_each, sep_from, sep_parted, sep_unlike}
 use Rattle.volume_model.proofs.Standing.{StoredAt, files_at}
-use Rattle.history_model.specs.Dumps.{IsFileOf}
+use Rattle.history_model.specs.Dumps.{IsFileOf, IsHistoryOf}
 use Rattle.history_model.specs.History.{History, HistoryFile, HistoryVersion}
 use Rattle.history_model.specs.Items.{AreItems, IsContentItem, IsFileItem, IsLeafItem, IsRootNumber, IsVersionItem, roots_most}
 use Rattle.history_model.specs.Stream.{FitsHead, head_of}
 use Rattle.history_volumes.specs.Histories.{IsFileOn, IsHistoryOn, IsVersionOn, content_placed, leaf_pages, node_pages, page_placed, root_placed}
 use Rattle.history_volumes.specs.Transcribed.{at_of, place_of}
 use Rattle.history_volumes.proofs.Dumped.{files_are, number_of_tree}
+use Rattle.history_volumes.proofs.FewRecords.{few_stored_in}
 use Rattle.history_volumes.proofs.FileItems.{file_long, files_long, names_same, needed_most, number_of_record, numbers_same, rising_of, root_field}
 use Rattle.history_volumes.proofs.Named.{leaf_filled}
 use Rattle.history_volumes.proofs.Numbers.{found_zip, numbered_within, second_has}
 use Rattle.history_volumes.proofs.PieceItems.{leaves_few, node_items, nodes_few}
 use Rattle.history_volumes.proofs.Placed.{in_bodies, on_page_of_file, small_len}
 use Rattle.history_volumes.proofs.Transcribing.{IsNumber, leaf_is}
+use Rattle.history_volumes.proofs.Whole.{history_of}
 
 has_get : {A : Type 0} (xs : List A) (x : A) → Has xs x → (i : ℕ) × (slice_get xs i ≡ Some x)
 has_get [] x h = absurd h
@@ -55,12 +57,15 @@ part_long (x ∷ files) f (inl e) =
 part_long (x ∷ files) f (inr m) = omega (arith, part_long files f m, length-append x.stored (flat_map (λ (y : FileContent). y.stored) files))
 
 module _ (g : Geometry) (records : List LogRecord) (units : Units) (v : Volume) (h : History) (parts : AllByRecursion (HoldsOf g records units v) content_parts) (rules : IsTable g (table_of units v))
-    (few : length (stored_in v) ≤ volume_roots_most) (sized : (page : ℕ) → InPageArea g page → length (units page) ≤ g.page_size) (on : IsHistoryOn g units v h) where
+    (sized : (page : ℕ) → InPageArea g page → length (units page) ≤ g.page_size) (on : IsHistoryOn g units v h) where
   abbrev at_leaf : ℕ → ℕ
   at_leaf = at_of (leaf_pages units v)
 
   abbrev at_node : ℕ → ℕ
   at_node = at_of (node_pages units v)
+
+  few : length (stored_in v) ≤ volume_roots_most
+  few = few_stored_in g records units v parts
 
   -- ---- records
 
@@ -193,3 +198,7 @@ module _ (g : Geometry) (records : List LogRecord) (units : Units) (v : Volume) 
     few = files_few;
     names = subst RisingTexts (sym (names_same at_leaf at_node _ h.files v.catalog.entries v.files parts.1.1.0 on.files)) parts.0.0.fits.sorted;
   }
+
+  -- so it is a history of the volume's table
+  pub history_whole : IsHistoryOf g h (table_of units v)
+  history_whole = history_of g records units v h parts rules are_items on

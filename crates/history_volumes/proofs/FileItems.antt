@@ -26,7 +26,7 @@ use Rattle.history_volumes.specs.Histories.{IsFileOn, IsVersionOn, page_placed, 
 
 -- ---- the pages that a history needs are few
 
-filled_most : (page_size room : ℕ) (sizes : List ℕ) → pages_filled page_size room sizes ≤ length sizes
+pub filled_most : (page_size room : ℕ) (sizes : List ℕ) → pages_filled page_size room sizes ≤ length sizes
 filled_most page_size room [] = omega arith
 filled_most page_size room (n ∷ sizes) = by (nat_le (n + 4) room) (filled_most page_size (room - (n + 4)) sizes) (filled_most page_size (page_size - 16 - (n + 4)) sizes)
   where

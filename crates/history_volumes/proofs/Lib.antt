@@ -11,3 +11,6 @@ pub mod PieceItems
 pub mod FileItems
 pub mod Placed
 pub mod AllItems
+pub mod Namings
+pub mod Made
+pub mod FewRecords

@@ -32,7 +32,7 @@ use Rattle.history_volumes.proofs.Transcribing.{child_of, leaf_is, leaf_left, no
 
 -- ---- roots of records
 
-large_content : (content : Content) (root : Root) → Has (root_in content) root → content ≡ Large root
+pub large_content : (content : Content) (root : Root) → Has (root_in content) root → content ≡ Large root
 large_content (Small bytes) root h = absurd h
 large_content (Large r) root (inl e) = ap Large e
 large_content (Large r) root (inr none) = absurd none

@@ -1,8 +1,9 @@
 -- Lists whose items are told by numbers from 1 on, and two lists side by side.
-use Rattle.std.proofs.Common.{◌≡◌, ◌≤◌, ◌<◌, ◌+◌, inl, inr, ℕ, zero, suc, List, [], ◌∷◌, length, get_or, map, Some, refl, sym, subst, ap, ◌∙◌, arith}
-use Rattle.std.specs.Prelude.{slice_get}
+use Rattle.std.proofs.Common.{◌≡◌, ◌≤◌, ◌<◌, ◌+◌, inl, inr, ℕ, zero, suc, Bool, true, false, eqb, List, [], ◌∷◌, length, get_or, map, Option, Some, None, refl, sym, subst, ap, ◌∙◌, arith}
+use Rattle.std.specs.Prelude.{slice_get, if◌then◌else◌, ◌==◌}
+use Rattle.std.specs.Option.{option_map}
 use Rattle.std.specs.List.{AllZip, zip}
-use Rattle.std.proofs.lemmas.Bool.{cases_lt}
+use Rattle.std.proofs.lemmas.Bool.{cases_lt, eqb-true, eq-eqb}
 use Rattle.std.proofs.lemmas.List.{get_or_past}
 use Rattle.std.proofs.lemmas.Option.{none-some, same_Some, slice_get_cases, slice_get_within}
 use Rattle.ex_base.specs.Ports.{times}
@@ -10,7 +11,8 @@ use Rattle.ex_base.proofs.Counts.{times_here}
 use Rattle.version_lists.proofs.Lists.{Has}
 use Rattle.history_model.specs.Dumps.{AreAsNamed, IsAsNamed}
 use Rattle.history_model.specs.History.{History, numbered}
-use Rattle.history_volumes.specs.Transcribed.{at_of}
+use Rattle.history_model.specs.Stream.{number_or_none}
+use Rattle.history_volumes.specs.Transcribed.{at_of, number_in}
 use Rattle.history_volumes.proofs.Firsts.{has_times}
 
 -- ---- items and their numbers
@@ -65,6 +67,50 @@ has_at (p ∷ pages) page (inr m) = let rest = has_at pages page m in (suc rest.
     later : (number : ℕ) → 1 ≤ number → at_of (p ∷ pages) (suc number) ≡ at_of pages number
     later zero some = absurd (omega (arith, some))
     later (suc i) some = refl
+
+-- ---- the number of a page
+
+-- one number more
+number_later : (p : ℕ) (pages : List ℕ) (number : ℕ) → 1 ≤ number → at_of (p ∷ pages) (suc number) ≡ at_of pages number
+number_later p pages zero some = absurd (omega (arith, some))
+number_later p pages (suc i) some = refl
+
+pub record IsNumberIn (pages : List ℕ) (page number : ℕ) : Type 0 where
+  pub some : 1 ≤ number
+  pub within : number ≤ length pages
+  pub at : at_of pages number ≡ page
+
+pub number_some : (pages : List ℕ) (page number : ℕ) → number_in pages page ≡ Some number → IsNumberIn pages page number
+number_some [] page number is = absurd (none-some number is)
+number_some (p ∷ pages) page number is = by (eqb page p) refl (number_in pages page) (number_some pages page) is
+  where
+    one : page ≡ p → 1 ≡ number → IsNumberIn (p ∷ pages) page number
+    one same e = subst (IsNumberIn (p ∷ pages) page) e (record { some = omega arith; within = omega arith; at = sym same })
+
+    by : (b : Bool) → eqb page p ≡ b → (o : Option ℕ) → ((n : ℕ) → o ≡ Some n → IsNumberIn pages page n) → (if b then Some 1 else option_map suc o) ≡ Some number → IsNumberIn (p ∷ pages) page number
+    by true same o rest e = one (eqb-true page p same) (same_Some 1 number e)
+    by false same None rest e = absurd (none-some number e)
+    by false same (Some n) rest e =
+        let r = rest n refl in
+        subst (IsNumberIn (p ∷ pages) page) (same_Some (suc n) number e) (record { some = omega arith; within = omega (arith, r.within); at = number_later p pages n r.some ∙ r.at })
+
+pub number_found : (pages : List ℕ) (page : ℕ) → Has pages page → (number : ℕ) × (number_in pages page ≡ Some number)
+number_found [] page h = absurd h
+number_found (p ∷ pages) page h = by (eqb page p) refl h (number_found pages page)
+  where
+    by : (b : Bool) → eqb page p ≡ b → Has (p ∷ pages) page → (Has pages page → (number : ℕ) × (number_in pages page ≡ Some number)) → (number : ℕ) × ((if b then Some 1 else option_map suc (number_in pages page)) ≡ Some number)
+    by true same m rest = (1, refl)
+    by false same (inl e) rest = absurd (let d : false ≡ true = sym same ∙ eq-eqb page p (sym e) in cc)
+    by false same (inr m) rest = let r = rest m in (suc r.0, ap (option_map suc) r.1)
+
+-- the number, or 0
+abbrev pub number_or : List ℕ → ℕ → ℕ
+number_or pages page = number_or_none (number_in pages page)
+
+pub number_there : (pages : List ℕ) (page : ℕ) → Has pages page → IsNumberIn pages page (number_or pages page)
+number_there pages page h =
+    let r = number_found pages page h in
+    subst (IsNumberIn pages page) (sym (ap number_or_none r.1)) (number_some pages page r.0 r.1)
 
 same_index : (pages : List ℕ) → ((p : ℕ) → times p pages ≤ 1) → (i j : ℕ) → i < length pages → j < length pages → get_or pages i 0 ≡ get_or pages j 0 → i ≡ j
 same_index [] once i j lt under same = absurd (omega (arith, lt))

@@ -55,7 +55,7 @@ module _ (g : Geometry) (units : Units) where
       subst (AreBehind units) (sym (with_append seen (nodes_left units l pair.page.0) (flat_map (λ (p : Pair). nodes_left units l p.page.0) pairs)))
       (pairs_behind l goes pairs named.1 (with_firsts seen (nodes_left units l pair.page.0)) (goes pair.page.0 named.0 seen behind))
 
-  level_is : (l page : ℕ) → PairsOf g.fan (units page) (suc l) (pairs_on (units page)) → level_on (units page) ≡ suc l
+  pub level_is : (l page : ℕ) → PairsOf g.fan (units page) (suc l) (pairs_on (units page)) → level_on (units page) ≡ suc l
   level_is l page spelled = (spelled_reads g.fan (units page) (suc l) (pairs_on (units page)) (narrow g) spelled).same_level
 
   -- a node that one of this level names is left before it

@@ -43,7 +43,7 @@ in_records v root m =
     let s = has_flat_from (λ (x : Stored). root_in x.body.content) (in_order unique_of f.0.stored) root f.2 in
     has_flat (λ (x : Stored). root_in x.body.content) (stored_in v) s.0 root (has_flat (λ (x : FileContent). x.stored) v.files f.0 s.0 f.1 (order_has_from unique_of f.0.stored s.0 s.1)) s.2
 
-in_files : (v : Volume) (root : Root) → Has (roots_in (stored_in v)) root → Has (roots_in_order v) root
+pub in_files : (v : Volume) (root : Root) → Has (roots_in (stored_in v)) root → Has (roots_in_order v) root
 in_files v root m =
     let s = has_flat_from (λ (x : Stored). root_in x.body.content) (stored_in v) root m in
     let f = has_flat_from (λ (x : FileContent). x.stored) v.files s.0 s.1 in

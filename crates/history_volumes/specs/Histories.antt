@@ -1,5 +1,5 @@
 -- The history of a volume.
-use Rattle.std.specs.Prelude.{◌≡◌, ℕ, List, length, Option, Some, None}
+use Rattle.std.specs.Prelude.{◌≡◌, ℕ, List, [], length, Option, Some, None}
 use Rattle.std.specs.List.{flat_map, AllZip, zip}
 use Rattle.ex_base.specs.declared.geometry.Geometry.{Geometry}
 use Rattle.ex_base.specs.declared.names.PageNo.{PageNo}
@@ -13,7 +13,7 @@ use Rattle.history_model.specs.Dumps.{AreAsNamed}
 use Rattle.history_model.specs.FilePages.{pages_needed}
 use Rattle.history_model.specs.History.{History, HistoryFile, HistoryVersion}
 use Rattle.history_volumes.specs.Transcribed.{AreTranscribed, at_of, place_of}
-use Rattle.history_volumes.specs.Walks.{firsts, root_leaves, root_nodes}
+use Rattle.history_volumes.specs.Walks.{firsts, root_leaves, root_namings, root_nodes, with_namings}
 
 -- ---- the order of leaves and nodes
 
@@ -24,6 +24,10 @@ roots_in_order v = flat_map (λ (f : FileContent). roots_in (in_order unique_of 
 -- its leaves and its nodes, each where a walk over these roots leaves it first
 abbrev pub leaf_pages : Units → Volume → List ℕ
 leaf_pages units v = firsts (flat_map (root_leaves units) (roots_in_order v))
+
+-- the leaves, each with as many bytes as are named of it at most
+abbrev pub leaves_named : Units → Volume → List (ℕ × ℕ)
+leaves_named units v = with_namings [] (flat_map (root_namings units) (roots_in_order v))
 
 abbrev pub node_pages : Units → Volume → List ℕ
 node_pages units v = firsts (flat_map (root_nodes units) (roots_in_order v))

@@ -4,18 +4,19 @@ use Rattle.std.specs.List.{AllByRecursion, flat_map}
 use Rattle.ex_base.specs.declared.geometry.Geometry.{Geometry}
 use Rattle.ex_base.specs.Area.{InPageArea, NamesLeaf}
 use Rattle.ex_base.specs.Order.{AllDiffer}
+use Rattle.ex_base.specs.Sizes.{leaf_bytes}
 use Rattle.op_log.specs.declared.record.LogRecord.{LogRecord}
 use Rattle.table_model.specs.Tables.{IsTable}
 use Rattle.trees.specs.Trees.{Units, HasSize, IsNamed, bytes_on, root_units, shape_on, units_on}
-use Rattle.volume_model.specs.OwnersMoved.{volume_roots_most}
 use Rattle.volume_model.specs.Parts.{HoldsOf, content_parts}
 use Rattle.volume_model.specs.Volume.{Volume, reach_of, roots_in, stored_in, table_of}
 use Rattle.history_model.specs.Dumps.{IsHistoryOf}
 use Rattle.history_model.specs.History.{History}
 use Rattle.history_model.specs.Items.{AreItems}
 use Rattle.history_model.specs.Trees.{IsUnder, bytes_under, pieces_under, shape_under}
-use Rattle.history_volumes.specs.Histories.{IsHistoryOn, leaf_pages, node_pages}
+use Rattle.history_volumes.specs.Histories.{IsHistoryOn, leaf_pages, leaves_named, node_pages}
 use Rattle.history_volumes.specs.Transcribed.{AreTranscribed, piece_place, place_of}
+use Rattle.history_volumes.specs.Walks.{bytes_named}
 
 -- ---- a tree of a history and the one that it is transcribed to
 
@@ -48,9 +49,22 @@ abbrev pub HistoriesAreOfTables : Type 0
 HistoriesAreOfTables = (g : Geometry) (records : List LogRecord) (units : Units) (v : Volume) (h : History)
     → AllByRecursion (HoldsOf g records units v) content_parts → IsTable g (table_of units v) → AreItems g h → IsHistoryOn g units v h → IsHistoryOf g h (table_of units v)
 
--- The items of its stream are within their limits, where a page of the page area has the bytes of a page and the records are as few as files have room for.
+-- The items of its stream are within their limits, where a page of the page area has the bytes of a page.
 abbrev pub ItemsAreWhole : Type 0
 ItemsAreWhole = (g : Geometry) (records : List LogRecord) (units : Units) (v : Volume) (h : History)
     → AllByRecursion (HoldsOf g records units v) content_parts → IsTable g (table_of units v)
-    → length (stored_in v) ≤ volume_roots_most → ((page : ℕ) → InPageArea g page → length (units page) ≤ g.page_size)
+    → ((page : ℕ) → InPageArea g page → length (units page) ≤ g.page_size)
     → IsHistoryOn g units v h → AreItems g h
+
+-- So it is a history of the volume's table whatever its items are.
+abbrev pub HistoriesAreWhole : Type 0
+HistoriesAreWhole = (g : Geometry) (records : List LogRecord) (units : Units) (v : Volume) (h : History)
+    → AllByRecursion (HoldsOf g records units v) content_parts → IsTable g (table_of units v)
+    → ((page : ℕ) → InPageArea g page → length (units page) ≤ g.page_size)
+    → IsHistoryOn g units v h → IsHistoryOf g h (table_of units v)
+
+-- A volume whose leaves have all bytes of their units has a history: its leaves are as long as is named of them at most.
+abbrev pub VolumesHaveHistories : Type 0
+VolumesHaveHistories = (g : Geometry) (records : List LogRecord) (units : Units) (v : Volume)
+    → AllByRecursion (HoldsOf g records units v) content_parts → ((page : ℕ) → NamesLeaf g page → leaf_bytes g ≤ length (units page))
+    → (h : History) × IsHistoryOn g units v h × (map length h.leaves ≡ map bytes_named (leaves_named units v))

@@ -1,5 +1,6 @@
 -- A history that stands on the units of a volume: each leaf and node at a place of its own, with its children's places in the place of their numbers.
-use Rattle.std.specs.Prelude.{◌≡◌, ℕ, zero, suc, ◌≤◌, List, [], length, map, take, slice_index, Some}
+use Rattle.std.specs.Prelude.{◌≡◌, ℕ, zero, suc, ◌≤◌, ◌==◌, if◌then◌else◌, List, [], ◌∷◌, length, map, take, slice_index, Option, Some, None}
+use Rattle.std.specs.Option.{option_map}
 use Rattle.ex_base.specs.declared.geometry.Geometry.{Geometry}
 use Rattle.ex_base.specs.Area.{InPageArea, NamesLeaf}
 use Rattle.ex_base.specs.Sizes.{leaf_bytes}
@@ -15,6 +16,11 @@ use Rattle.history_model.specs.Trees.{Piece, LeafPiece, NodePiece}
 abbrev pub at_of : List ℕ → ℕ → ℕ
 at_of pages zero = 0
 at_of pages (suc i) = slice_index pages i
+
+-- the number of a page that is one of a list, counted from 1
+abbrev pub number_in : List ℕ → ℕ → Option ℕ
+number_in [] page = None
+number_in (p ∷ pages) page = if page == p then Some 1 else option_map suc (number_in pages page)
 
 -- the place of a tree of a level: of a leaf, or of a node
 abbrev pub place_of : (ℕ → ℕ) → (ℕ → ℕ) → ℕ → ℕ → ℕ
