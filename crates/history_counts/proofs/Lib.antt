@@ -1,0 +1,3 @@
+pub mod Noted
+pub mod Counted
+pub mod Searched

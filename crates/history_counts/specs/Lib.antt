@@ -1,0 +1,4 @@
+pub mod Lengths
+pub mod Pages
+pub mod Numbers
+pub mod CountLaws
