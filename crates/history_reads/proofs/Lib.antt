@@ -1,0 +1,11 @@
+pub mod Behind
+pub mod Reading
+pub mod Reached
+pub mod Tables
+pub mod Filed
+pub mod Items
+pub mod HeadTests
+pub mod Accepting
+pub mod Ends
+pub mod Filling
+pub mod Wholes
