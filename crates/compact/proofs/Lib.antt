@@ -1,0 +1,15 @@
+pub mod Unmoved
+pub mod Levels
+pub mod Pairs
+pub mod Steps
+pub mod LeafSteps
+pub mod Rows
+pub mod NodeSteps
+pub mod NewNodes
+pub mod Loop
+pub mod Once
+pub mod Roots
+pub mod Walking
+pub mod Finding
+pub mod Counting
+pub mod RootCounts
