@@ -1,17 +1,7 @@
 /* heap.c: what the library asks of a heap, by malloc, realloc and free. All three are of one allocator, which aligns each block to 16, as those of Linux do. */
-#include <stdbool.h>
-#include <stddef.h>
+#include "heap.h"
+
 #include <stdlib.h>
-
-/* A block, or that there is none. */
-struct tried {
-    bool ok;
-    void *block;
-};
-
-struct tried rattle_alloc(size_t size, size_t align);
-struct tried rattle_realloc(void *block, size_t kept, size_t size, size_t align);
-void rattle_dealloc(void *block);
 
 /* What stands for a block where there is none: it is never read, written or freed. */
 static char nothing[16] __attribute__((aligned(16)));
@@ -21,13 +11,11 @@ static struct tried tried_of(void *block)
     return (struct tried){block != NULL, block != NULL ? block : nothing};
 }
 
-/* A block of `size` bytes, aligned to `align`, which divides 16. */
 struct tried rattle_alloc(size_t size, size_t align)
 {
     return tried_of(malloc(size != 0 ? size : align));
 }
 
-/* The block with `size` bytes, of which those that both sizes have are kept. */
 struct tried rattle_realloc(void *block, size_t kept, size_t size, size_t align)
 {
     (void)kept;

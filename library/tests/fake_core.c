@@ -1,18 +1,10 @@
 #include "fake_core.h"
 
-#include <stdbool.h>
+#include "heap.h"
+
 #include <stdio.h>
 #include <stdlib.h>
 #include <string.h>
-
-struct tried {
-    bool ok;
-    void *block;
-};
-
-struct tried rattle_alloc(size_t size, size_t align);
-struct tried rattle_realloc(void *block, size_t kept, size_t size, size_t align);
-void rattle_dealloc(void *block);
 
 struct call {
     exsm_asked what;

@@ -39,13 +39,13 @@ def git(*words: str) -> str | None:
     return ran.stdout if ran.returncode == 0 else None
 
 
-def commit_of_text() -> str:
-    """The commit whose crates stand here, or `edited`."""
+def commit_of_text(text: tuple[str, ...] = TEXT) -> str:
+    """The commit whose crates, or other text, stand here, or `edited`."""
     whose = git("rev-parse", "--show-toplevel")
     if whose is None or Path(whose.strip()).resolve() != TOP:
         return EDITED
     changed = git("-c", "core.excludesFile=", "status", "--porcelain", "--untracked-files=all",
-                  "--", *TEXT)
+                  "--", *text)
     commit = git("rev-parse", "--verify", "--quiet", "HEAD")
     return commit.strip() if commit and changed == "" else EDITED
 
@@ -85,7 +85,7 @@ class Begun:
         os.replace(part, NOTE)
 
 
-def read() -> dict[str, str]:
+def read(note: Path = NOTE) -> dict[str, str]:
     """The rows of the note, none where there is no note."""
-    lines = NOTE.read_text(encoding="utf-8").splitlines() if NOTE.is_file() else []
+    lines = note.read_text(encoding="utf-8").splitlines() if note.is_file() else []
     return {key: value for key, _, value in (line.partition(" ") for line in lines)}

@@ -1,5 +1,5 @@
-"""Makes the archive of a release: the program as it was built of this commit's text, tools,
-documents and licence.
+"""Makes the archive of a release: the program and the library for C as they were built of this
+commit's text, tools, documents and licence.
 
 The archive is the same, byte for byte, whenever it is made of one commit and one program: names
 stand in order, times are the commit's, owners are left out.
@@ -15,7 +15,9 @@ import subprocess
 import sys
 import tarfile
 from pathlib import Path
+from typing import NamedTuple
 
+from launch import library_note
 from launch.crates import BUILT, TOP
 from launch.note import EDITED, TEXT, Begun, commit_of_text, digest_of, git, read
 
@@ -24,8 +26,18 @@ PLATFORM = f"{os.uname().sysname.lower()}-{os.uname().machine}"
 TAKEN = ("LICENSE", "CHANGELOG.md", "README.md", "VERSION", "docs/", "examples/", "tools/exsm/",
          "tools/exsm_", "tools/exsm.bash", "tools/exsm.fish", "tools/exsm.sh", "tools/exsm.zsh",
          "tools/install", "tools/usage.txt", "tools/words.sh", "pyproject.toml")
+# And of the library: header, layer and bindings, and how it is installed.
+TAKEN_OF_LIBRARY = ("library/exsm", "library/heap.", "library/layer.h", "library/install")
 WRAPPER, PROGRAM, VERSION_TOLD, SUMS = "exsm", "tools/program", "tools/version.txt", "SHA256SUMS"
 GATE = TOP / ".ci" / "run"
+
+
+class Packed(NamedTuple):
+    """A file of the archive: what it holds and whether it is run, or what a link points to."""
+
+    data: bytes
+    is_run: bool = False
+    link: str = ""
 
 
 class Refused(Exception):
@@ -80,25 +92,49 @@ def run_gate() -> None:
     begun.write()
 
 
-def contents() -> dict[str, tuple[bytes, bool]]:
-    """The files of the archive by name: what each holds, and whether it is run."""
-    names = [it for it in asked("ls-files", "-z").split("\0") if it.startswith(TAKEN)]
-    found = {it: ((TOP / it).read_bytes(), os.access(TOP / it, os.X_OK)) for it in names}
-    told = subprocess.run([str(TOP / "exsm"), "--version"], capture_output=True, check=True).stdout
-    found[WRAPPER] = found["tools/exsm.sh"]
-    found[PROGRAM] = BUILT.read_bytes(), True
-    found[VERSION_TOLD] = told, False
+def hold_library() -> None:
+    """Refuses a library of which its note doesn't say that it was built of this commit's text."""
+    why = library_note.why_not()
+    if why is not None:
+        raise Refused(f"{why}: `library/build` builds it, and `tools/release --program-alone "
+                      "FOLDER` makes an archive without it")
+
+
+def library() -> dict[str, Packed]:
+    """The files of the library that was built, by name, with the link by which programs find it."""
+    files = library_note.built_files()
+    found = {str(it.relative_to(TOP)): Packed(it.read_bytes(), it.suffix not in (".a", ".h"))
+             for it in files}
+    shared = next(it for it in files if it.name.startswith("libexsm.so"))
+    found[str(shared.parent.relative_to(TOP) / "libexsm.so")] = Packed(b"", link=shared.name)
     return found
 
 
-def archive_of(files: dict[str, tuple[bytes, bool]], folder: str, seconds: int) -> bytes:
+def contents(with_library: bool) -> dict[str, Packed]:
+    """The files of the archive by name."""
+    taken = TAKEN + (TAKEN_OF_LIBRARY if with_library else ())
+    names = [it for it in asked("ls-files", "-z").split("\0") if it.startswith(taken)]
+    found = {it: Packed((TOP / it).read_bytes(), os.access(TOP / it, os.X_OK)) for it in names}
+    if with_library:
+        found.update(library())
+    told = subprocess.run([str(TOP / "exsm"), "--version"], capture_output=True, check=True).stdout
+    found[WRAPPER] = found["tools/exsm.sh"]
+    found[PROGRAM] = Packed(BUILT.read_bytes(), True)
+    found[VERSION_TOLD] = Packed(told)
+    return found
+
+
+def archive_of(files: dict[str, Packed], folder: str, seconds: int) -> bytes:
     """A tar archive, compressed, with the files below a folder."""
     plain, packed = io.BytesIO(), io.BytesIO()
     with tarfile.open(fileobj=plain, mode="w", format=tarfile.USTAR_FORMAT) as archive:
-        for name, (data, is_run) in sorted(files.items()):
+        for name, file in sorted(files.items()):
             entry = tarfile.TarInfo(f"{folder}/{name}")
-            entry.size, entry.mode, entry.mtime = len(data), 0o755 if is_run else 0o644, seconds
-            archive.addfile(entry, io.BytesIO(data))
+            entry.size, entry.mtime = len(file.data), seconds
+            entry.mode = 0o755 if file.is_run else 0o644
+            if file.link:
+                entry.type, entry.linkname, entry.mode = tarfile.SYMTYPE, file.link, 0o777
+            archive.addfile(entry, io.BytesIO(file.data))
     with gzip.GzipFile(filename="", mode="wb", fileobj=packed, mtime=0) as archive:
         archive.write(plain.getvalue())
     return packed.getvalue()
@@ -109,15 +145,17 @@ def sums(digests: dict[str, str]) -> bytes:
     return "".join(f"{digest}  {name}\n" for name, digest in sorted(digests.items())).encode()
 
 
-def make(to: Path, with_gate: bool) -> Path:
+def make(to: Path, with_gate: bool, with_library: bool) -> Path:
     """Makes the archive and the file with its SHA-256 in a folder, and gives the archive."""
     hold_text()
     if with_gate:
         run_gate()
     hold_program()
-    files = contents()
-    files[SUMS] = sums({name: hashlib.sha256(data).hexdigest() for name,
-                        (data, _) in files.items()}), False
+    if with_library:
+        hold_library()
+    files = contents(with_library)
+    files[SUMS] = Packed(sums({name: hashlib.sha256(file.data).hexdigest()
+                               for name, file in files.items() if not file.link}))
     version = (TOP / "VERSION").read_text(encoding="ascii").strip()
     folder = f"exsm-{version}-{PLATFORM}"
     data = archive_of(files, folder, int(asked("log", "-1", "--format=%ct")))
@@ -131,13 +169,13 @@ def make(to: Path, with_gate: bool) -> Path:
     return archive
 
 
-def release(to: Path, with_gate: bool) -> int:
+def release(to: Path, with_gate: bool, with_library: bool) -> int:
     """Makes a release, and gives the exit status."""
     try:
         if with_gate and shutil.which("rt") is None:
             raise Refused("rt isn't on PATH to run the gate: it comes with the Rattle kit (README, "
                           "\"Build\")")
-        archive = make(to, with_gate)
+        archive = make(to, with_gate, with_library)
     except (Refused, OSError) as fault:
         print(f"release: {fault}", file=sys.stderr)
         return 1
