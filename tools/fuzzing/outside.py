@@ -140,6 +140,7 @@ class Server:
                 words, env=variables, pass_fds=[other.fileno()], stdin=subprocess.DEVNULL,
                 stdout=subprocess.DEVNULL, stderr=subprocess.DEVNULL)
         self.socket.settimeout(SECONDS)
+        self.running: Optional[int] = None
         self.seconds = 0.0
         if self.socket.recv(ANSWER.size) != READY:
             raise NotServed(words[0])
@@ -147,7 +148,8 @@ class Server:
     def begin(self, plan: Plan, descriptors: list[int]) -> int:
         """Begins a run, and gives its process."""
         socket.send_fds(self.socket, [PLAN.pack(*plan)], descriptors)
-        return self._answer()[0]
+        self.running = self._answer()[0]
+        return self.running
 
     def end(self, process: int) -> int:
         """Waits for the end of a run; gives its status, or below 0 the signal that killed it."""
@@ -157,6 +159,8 @@ class Server:
             os.kill(process, signal.SIGKILL)
             self._answer()
             raise Late from None
+        finally:
+            self.running = None
         self.seconds += taken / 1e6
         return status
 
@@ -168,7 +172,10 @@ class Server:
         return first, second
 
     def close(self) -> None:
-        """Ends it."""
+        """Ends it, and a run that still waits for lines."""
+        if self.running is not None:
+            os.kill(self.running, signal.SIGKILL)
+            self.running = None
         self.socket.close()
         self.process.wait()
 

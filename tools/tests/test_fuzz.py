@@ -255,6 +255,15 @@ class FuzzTest(InFolder):
                     left = program.volume.read_bytes()
                     self.assertEqual((ran.out, left == after), (whole.out, True))
 
+    def test_end_in_a_talk(self) -> None:
+        """a run that waits for lines doesn't hold up an end"""
+        program = self.noting()
+        program.format(SMALL)
+        talk = program.runs.talk(["run", str(program.volume)])
+        program.runs.close()
+        with self.assertRaises(ProcessLookupError):
+            talk.kill()
+
     def test_finds_a_fault(self) -> None:
         """a run that goes on behind a call that failed, loses a commit, or ends wrongly is found"""
         program, harm = self.noting(), ["fail", "run", 0, 5, 500]

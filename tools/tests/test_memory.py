@@ -24,6 +24,11 @@ OTHERS = (
     "digest 258.0.1\nbegin\nfreeze 258.0.1 as @v\nderive @v as @y\ninsert @y 10 rep:900:62\n"
     "delete 258.0.1 5 700\nnext s 400\nclose s\nabort\ncheckpoint\nbegin\n"
     "insert 258.0.1 0 hex:63\ncommit\n")
+USERS = (
+    "1 begin\n2 size 258.0.1\n1 create a as @n\n1 append @n rep:900:64\n2 begin\n2 group g 2 lru\n"
+    "1 insert 258.0.1 0 hex:63\n1 commit\n2 scan 258.0.1 as s in g\n1 scan @n as s in main\n"
+    "2 next s 600\n16 begin\n16 freeze 258.0.1 as @n\n2 next s 500\n16 append @n hex:00\n"
+    "16 commit\n1 read @n 0 1\n1 close s\n2 close s\n")
 LEAST = 10
 """Calls that ask for memory, of which each row has more."""
 
@@ -38,11 +43,18 @@ class Row(NamedTuple):
     given: str = ""
 
 
+def of_client(client: int, script: str) -> str:
+    """The lines of a script as those of one client."""
+    return "".join(f"{client} {line}\n" for line in script.splitlines())
+
+
 ROWS = {
     "a file is made and committed": Row(("run", "v"), given="begin\nfile a\ncommit\nfiles\n"),
     "a version is frozen, edited beside and dropped": Row(("run", "v"), given=BASE + VERSIONS),
     "a node takes the page of a file that is gone": Row(("run", "v"), given=TWO_FILES),
     "lines of other kinds": Row(("run", "v"), BASE, OTHERS),
+    "lines of three clients": Row(("clients", "v"), BASE, USERS),
+    "one client's lines": Row(("clients", "v"), BASE, of_client(1, OTHERS)),
     "check": Row(("check", "v"), BASE),
     "gen": Row(("gen", "v", "--seed", "3", "--count", "20")),
     "format": Row(("format", "v", *SIZES), None),
