@@ -71,6 +71,13 @@ _exsm_volume() {
     esac
 }
 
+_exsm_stream() {
+    case $COMP_CWORD in
+    2) _exsm_offer "check list get make" ;;
+    *) _exsm_files_here ;;
+    esac
+}
+
 _exsm_serve() {
     if [ "$COMP_CWORD" -le 2 ]; then _exsm_files_here; else _exsm_offer "--idle --wait"; fi
 }
@@ -80,5 +87,6 @@ complete -F _exsm_new exsm_new.py
 complete -F _exsm_serve exsm_serve.py
 complete -F _exsm_files exsm_files.py
 complete -F _exsm_volume exsm_volume.py
+complete -F _exsm_stream exsm_stream.py
 complete -F _exsm_versions exsm_versions.py
 complete -F _exsm_files_here exsm_do.py exsm_map.py exsm_copy.py exsm_move.py

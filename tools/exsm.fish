@@ -38,5 +38,6 @@ complete -c exsm_files.py -n '__exsm_behind 3 get mv rm verify' -f -a '(__exsm_k
 complete -c exsm_versions.py -n '__exsm_at 2' -x -a 'tree name unname freeze diff back'
 complete -c exsm_versions.py -n '__exsm_behind 3 tree name unname freeze diff back' -f -a '(__exsm_kept --versions)'
 complete -c exsm_volume.py -n '__exsm_at 2' -x -a 'check list get save mend'
+complete -c exsm_stream.py -n '__exsm_at 2' -x -a 'check list get make'
 complete -c exsm_serve.py -x -l idle
 complete -c exsm_serve.py -x -l wait

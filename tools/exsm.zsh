@@ -1,4 +1,4 @@
-#compdef exsm exsm_new.py exsm_files.py exsm_versions.py exsm_volume.py exsm_do.py exsm_map.py exsm_copy.py exsm_move.py exsm_serve.py
+#compdef exsm exsm_new.py exsm_files.py exsm_versions.py exsm_volume.py exsm_do.py exsm_map.py exsm_copy.py exsm_move.py exsm_stream.py exsm_serve.py
 # Completes the words of exsm and of its tools in zsh.
 
 _exsm_kept() {                                    # names that a volume keeps; a reader of its bytes tells them
@@ -42,6 +42,7 @@ exsm_new.py)
 exsm_files.py) _exsm_words put get ls verify mv rm ;;
 exsm_versions.py) _exsm_words tree name unname freeze diff back ;;
 exsm_volume.py) _exsm_words check list get save mend ;;
+exsm_stream.py) if (( CURRENT == 3 )); then compadd -- check list get make; else _files; fi ;;
 exsm_serve.py) if (( CURRENT == 3 )); then _files; else compadd -- --idle --wait; fi ;;
 *) _files ;;
 esac

@@ -4,6 +4,9 @@ from __future__ import annotations
 from tests.support import TOOLS, InFolder
 
 COMMANDS = sorted(path.stem for path in TOOLS.glob("exsm_*.py"))
+FIRST_WORDS = {"exsm_stream": "STREAM"}
+"""The first word of a command where it is another than VOLUME."""
+
 WRONG_WORDS = [
     ("exsm_copy", ["v"], "the following arguments are required: COPY"),
     ("exsm_copy", ["v", "copy", "--wait", "soon"],
@@ -25,6 +28,9 @@ WRONG_WORDS = [
     ("exsm_serve", ["v"], "the following arguments are required: SOCKET"),
     ("exsm_serve", ["v", "s", "--idle", "never"],
      "argument --idle: 'never' is no number of seconds"),
+    ("exsm_stream", ["s"], "the following arguments are required: COMMAND"),
+    ("exsm_stream", ["s", "get", "x"], "argument NUMBER: invalid int value: 'x'"),
+    ("exsm_stream", ["s", "make"], "the following arguments are required: VOLUME"),
     ("exsm_versions", ["v"], "the following arguments are required: COMMAND"),
     ("exsm_versions", ["v", "diff", "258.0.1"], "the following arguments are required: VERSION"),
     ("exsm_volume", ["v", "get"], "the following arguments are required: OID"),
@@ -41,11 +47,13 @@ class CommandsTest(InFolder):
                 ran = self.tool(name, "--help")
                 self.assertEqual((ran.status, ran.errors), (0, []))
                 self.assertTrue(ran.lines[0].startswith(f"usage: {name}.py "))
-                self.assertIn("VOLUME", " ".join(ran.lines[:ran.lines.index("")]))
+                usage = " ".join(ran.lines[:ran.lines.index("")])
+                self.assertIn(FIRST_WORDS.get(name, "VOLUME"), usage)
 
     def test_wrong_words(self) -> None:
         """of wrong words it is told what is wrong, and nothing is done"""
-        required = [(name, [], "the following arguments are required: VOLUME") for name in COMMANDS]
+        required = [(name, [], "the following arguments are required: "
+                     f"{FIRST_WORDS.get(name, 'VOLUME')}") for name in COMMANDS]
         for name, words, error in [*required, *WRONG_WORDS]:
             with self.subTest(f"{name} {words}"):
                 ran = self.tool(name, *words)

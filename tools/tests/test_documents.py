@@ -244,6 +244,7 @@ COMPLETIONS = [
     ("exsm_volume.py|v|s", ["save"]), ("exsm_volume.py|v|m", ["mend"]),
     ("exsm_versions.py|v|t", ["tree"]), ("exsm_versions.py|v|b", ["back"]),
     ("exsm_copy.py|o", ["other"]),
+    ("exsm_stream.py|o|", ["check", "get", "list", "make"]), ("exsm_stream.py|o|make|v", ["v"]),
     ("exsm_move.py|o", ["other"]), ("exsm_do.py|o", ["other"]),
     ("exsm_serve.py|o", ["other"]), ("exsm_serve.py|v|other|", ["--idle", "--wait"]),
 ]
@@ -275,6 +276,7 @@ ZSH_COMPLETIONS = [
     ("exsm_files.py|v|g", ["get"]), ("exsm_files.py|v|get|w", ["with space"]),
     ("exsm_files.py|v|put|ot", ["other"]), ("exsm_new.py|v|80M|--for|l", ["large"]),
     ("exsm_do.py|ot", ["other"]), ("exsm_versions.py|v|b", ["back"]),
+    ("exsm_stream.py|v|c", ["check"]),
 ]
 
 
@@ -361,6 +363,7 @@ class InstallTest(InFolder):
         Path("one").write_text("files\n", encoding="ascii")
         for line in ("exsm_new.py v 4M", "exsm_files.py v put one", "exsm_do.py v one",
                      "exsm_map.py v", "exsm_volume.py v check", "exsm_copy.py v copy",
+                     "exsm_stream.py stream make v", "exsm_stream.py stream check",
                      "exsm_move.py v larger --size 8M", "exsm_versions.py v tree"):
             done = subprocess.run(line.split(), env=variables, capture_output=True, check=False)
             self.assertEqual(done.returncode, 0, done.stderr)

@@ -4,8 +4,9 @@ from __future__ import annotations
 import io
 from typing import Callable, Optional
 
+from exsm.stream_making import stream_of
+from exsm.streams import BadStream, Stream, read_stream
 from exsm.volume import Volume
-from tests.streams import BadStream, Stream, read_stream, stream_of
 from tests.support import BASE, OfRows
 
 HEAD = ("4558534d444d5031 {page_size:08x} {seg_len:08x} {fan:08x} {next:016x} {last:016x} "

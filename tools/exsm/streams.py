@@ -1,25 +1,22 @@
-"""The whole history of a volume as one stream: read and tested, and made of a volume's bytes.
+"""The whole history of a volume as one stream, read and tested without exsm.
 
-It is what the crate `history_model` says of a stream, written anew, and tests of what writes and
-reads streams take their bytes from here. All numbers are big-endian: the head; each leaf, its
-length and its bytes; each node, its level and its pairs of a count and a child; each file, its name
-and its versions. Leaves and nodes are numbered from 1 in the order in which a walk over files,
-versions and pairs first leaves them. Of leaves the lengths alone are kept, so a stream may be
-longer than memory.
+All numbers are big-endian: the head; each leaf, its length and its bytes; each node, its level and
+its pairs of a count and a child; each file, its name and its versions. Leaves and nodes are
+numbered from 1 in the order in which a walk over files, versions and pairs first leaves them. Of
+leaves the lengths alone are kept, so a stream may be longer than memory.
 """
 from __future__ import annotations
 
 import struct
 from dataclasses import dataclass
 from itertools import accumulate
-from typing import BinaryIO, Callable, Iterator, NamedTuple, NoReturn, Optional
+from typing import BinaryIO, Callable, Iterator, NamedTuple, NoReturn, Optional, Protocol
 
-from exsm.geometry import Geometry
 from exsm.log import CATALOG_ENTRY, CATALOG_HEAD, FILE_PAGE_HEAD, SLOT
 from exsm.opening import FAN_LEAST, NAME, PAGE_SIZES, SEG_LEN_MOST
 from exsm.records import (BODY_LEAST, FORM_LARGE, FORM_SMALL, OBJECT_MOST, RECORD_HEAD,
-                          STATE_CURRENT, STATE_FROZEN, Record)
-from exsm.volume import Pair, Volume
+                          STATE_CURRENT, STATE_FROZEN)
+from exsm.volume import Pair
 
 MAGIC = b"EXSMDMP1"
 HEAD = struct.Struct(">8sIIIQQIIII")
@@ -36,6 +33,13 @@ READ_AT_ONCE = 1 << 20
 
 class BadStream(Exception):
     """The bytes are no dump: at which of them that was seen, and why."""
+
+
+class Source(Protocol):
+    """Where a stream is read."""
+
+    def read(self, count: int, /) -> bytes:
+        """The next bytes, so many at most; none at the end."""
 
 
 class Head(NamedTuple):
@@ -112,6 +116,10 @@ class Stream(NamedTuple):
         for file in self.files:
             yield from file.versions
 
+    def objects(self) -> int:
+        """The number of objects."""
+        return sum(len(set(first_versions(file).values())) for file in self.files)
+
     def pieces(self, version: StreamVersion, source: BinaryIO) -> Iterator[bytes]:
         """The bytes of a version, a leaf at a time, out of the file that was read."""
         if version.height is None:
@@ -152,7 +160,7 @@ def pages_of(page_size: int, files: list[StreamFile]) -> int:
 class Reader:
     """Takes items from a source, and counts its bytes."""
 
-    def __init__(self, source: BinaryIO) -> None:
+    def __init__(self, source: Source) -> None:
         self.source, self.at = source, 0
 
     def bad(self, why: str) -> NoReturn:
@@ -245,7 +253,7 @@ def read_head(reader: Reader) -> Head:
     return head
 
 
-def read_stream(source: BinaryIO, keep: Callable[[bytes], None] = lambda piece: None) -> Stream:
+def read_stream(source: Source, keep: Callable[[bytes], None] = lambda piece: None) -> Stream:
     """Reads a stream to its end, and tests it whole. The bytes of leaves are handed on."""
     reader = Reader(source)
     head = read_head(reader)
@@ -395,86 +403,3 @@ def first_versions(file: StreamFile) -> dict[int, int]:
         first = firsts.get(at.unique, at.unique)
         firsts.update((number, first) for number in path)
     return firsts
-
-
-# Making.
-
-
-class Plan:
-    """The history of a volume: its leaves and nodes in the order in which a walk leaves them."""
-
-    def __init__(self, volume: Volume) -> None:
-        self.volume = volume
-        self.leaf_numbers: dict[int, int] = {}
-        self.lengths: list[int] = []
-        self.node_numbers: dict[int, int] = {}
-        self.nodes: list[StreamNode] = []
-        self.files: list[StreamFile] = []
-        for entry in sorted(volume.files):
-            file = StreamFile(entry.name, [])
-            uniques = {record.place: record.unique for record in volume.versions[entry.name]}
-            for record in volume.versions[entry.name]:
-                file.versions.append(self._version(record, uniques.get(record.older, 0)))
-            self.files.append(file)
-        geometry: Geometry = volume.geometry
-        self.head = Head(geometry.page_size, geometry.seg_len, geometry.fan, volume.next_unique,
-                         volume.last_commit, len(self.files), len(self.lengths), len(self.nodes),
-                         pages_of(geometry.page_size, self.files))
-
-    def _version(self, record: Record, older: int) -> StreamVersion:
-        """The version of a record. Its tree is walked, but for what was walked before."""
-        if record.height is None:
-            return StreamVersion(record.unique, record.frozen, older, record.size,
-                                 data=record.data)
-        root = self._number(record, record.root, record.height, record.size) if record.root else 0
-        return StreamVersion(record.unique, record.frozen, older, record.size, record.height, root)
-
-    def _number(self, record: Record, page: int, level: int, size: int) -> int:
-        """The number of the leaf or node on a page, and of all below it."""
-        if level == 0:
-            number = self.leaf_numbers.setdefault(page, len(self.lengths) + 1)
-            if number > len(self.lengths):
-                self.lengths.append(0)
-            self.lengths[number - 1] = max(self.lengths[number - 1], size)
-            return number
-        if page not in self.node_numbers:
-            pairs, _ = self.volume.node(record, page, level, size)
-            lows = [0, *(pair.count for pair in pairs)]
-            named = [Pair(pair.count, self._number(record, pair.page, level - 1, pair.count - low))
-                     for low, pair in zip(lows, pairs)]
-            self.nodes.append(StreamNode(level, named))
-            self.node_numbers[page] = len(self.nodes)
-        return self.node_numbers[page]
-
-    def pieces(self) -> Iterator[bytes]:
-        """The bytes of the stream, item by item."""
-        yield HEAD.pack(MAGIC, *self.head)
-        for page, length in zip(self.leaf_numbers, self.lengths):
-            yield LEAF_HEAD.pack(length) + self._leaf(page, length)
-        for node in self.nodes:
-            pairs = b"".join(PAIR.pack(*pair) for pair in node.pairs)
-            yield NODE_HEAD.pack(node.level, len(node.pairs)) + pairs
-        for file in self.files:
-            name = file.name.encode("ascii")
-            yield NAME_LENGTH.pack(len(name)) + name + VERSIONS.pack(len(file.versions))
-            yield from map(version_item, file.versions)
-
-    def _leaf(self, page: int, length: int) -> bytes:
-        """The bytes of a leaf."""
-        pages = range(page, page + -(-length // self.head.page_size))
-        return b"".join(map(self.volume.home, pages))[:length]
-
-
-def version_item(version: StreamVersion) -> bytes:
-    """The bytes of a version."""
-    state = STATE_FROZEN if version.frozen else STATE_CURRENT
-    form = FORM_SMALL if version.height is None else FORM_LARGE
-    head = VERSION_HEAD.pack(version.unique, state, version.older, form)
-    if version.height is None:
-        return head + SMALL_LENGTH.pack(len(version.data)) + version.data
-    return head + LARGE.pack(version.size, version.height, version.root)
-
-
-def stream_of(volume: Volume) -> Iterator[bytes]:
-    """The stream of a volume's whole history, item by item."""
-    return Plan(volume).pieces()
