@@ -414,22 +414,37 @@ def fault_text(fault: Exception) -> str:
     return refusal_text(fault) if isinstance(fault, Refused) else reason_of(fault)
 
 
+def interrupted(fault: Optional[BaseException]) -> bool:
+    """Whether Ctrl-C came first, and the fault is one of putting things in order behind it."""
+    while fault is not None and not isinstance(fault, KeyboardInterrupt):
+        fault = fault.__context__
+    return fault is not None
+
+
+def told(fault: Exception) -> int:
+    """Tells why a step didn't end well, and gives the exit status."""
+    if interrupted(fault):
+        print(INTERRUPTION, file=sys.stderr)
+        return INTERRUPTED
+    if isinstance(fault, Ended):
+        print(INTERRUPTION if fault.status == -signal.SIGINT else fault, file=sys.stderr)
+        return status_of(fault)
+    if isinstance(fault, BrokenPipeError):
+        leave_output()
+    else:
+        print(f"exsm_files: {fault_text(fault)}", file=sys.stderr)
+    return 1
+
+
 def run(opened: Callable[[], Store], step: Callable[[Names], None]) -> int:
     """Makes a step on the names of a volume, tells a fault, and gives the exit status."""
     sys.stdout.reconfigure(errors="surrogateescape")
     try:
         with opened() as store:
             step(Names(store))
-    except Ended as fault:
-        print(INTERRUPTION if fault.status == -signal.SIGINT else fault, file=sys.stderr)
-        return status_of(fault)
-    except BrokenPipeError:
-        leave_output()
-        return 1
     except KeyboardInterrupt:
         print(INTERRUPTION, file=sys.stderr)
         return INTERRUPTED
-    except (Refused, Broken, Wrong, ProgramMissing, OSError) as fault:
-        print(f"exsm_files: {fault_text(fault)}", file=sys.stderr)
-        return 1
+    except (Ended, Refused, Broken, Wrong, ProgramMissing, OSError) as fault:
+        return told(fault)
     return 0

@@ -12,10 +12,12 @@ import subprocess
 import sys
 import termios
 import time
+from contextlib import redirect_stderr
+from io import StringIO
 from pathlib import Path
 
 from exsm.client import PIECE, Store
-from exsm.files import Names
+from exsm.files import INTERRUPTED, Names, run
 from exsm.new import MIB
 from exsm.volume import Volume
 from tests.kills import KILLS, killed, killed_command
@@ -301,6 +303,24 @@ class FilesTest(InFolder):
         self.assertLessEqual(told, stored)
         self.assertLessEqual(len(stored), len(told) + 1)
         self.assertLess(len(stored), INTERRUPTED_FILES)
+
+    def test_interrupted_close(self) -> None:
+        """where Ctrl-C ends the program first, and closing the volume fails, it was Ctrl-C"""
+        class Closing:
+            """A store in whose first line Ctrl-C comes, and whose program is gone behind it."""
+
+            def __enter__(self) -> "Closing":
+                return self
+
+            def __exit__(self, *_: object) -> None:
+                raise BrokenPipeError
+
+            def __getattr__(self, name: str) -> None:
+                raise KeyboardInterrupt
+
+        with redirect_stderr(StringIO()) as told:
+            self.assertEqual(run(Closing, lambda _: None), INTERRUPTED)
+        self.assertIn("interrupted; what was told is done", told.getvalue())
 
     def interrupted_put(self) -> tuple[int, bytes]:
         """Puts files in a terminal and presses Ctrl-C after the second; the status, and what
