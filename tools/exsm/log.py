@@ -107,6 +107,8 @@ def with_slots(page: bytes, fields: bytes) -> bytes:
     kind, count, file_number = FILE_PAGE_HEAD.unpack_from(page)
     if kind != KIND_FILE_PAGE:
         raise BadLog("log: slots of a page that is of no file")
+    if FILE_PAGE_HEAD.size + SLOT.size * count > len(page):
+        raise BadLog(f"log: slots of a page that names {count} slots and hasn't room for them")
     slots = {}
     for slot in range(count):
         at, length = SLOT.unpack_from(page, len(page) - SLOT.size * (slot + 1))
@@ -136,6 +138,8 @@ def with_files(page: bytes, fields: bytes) -> bytes:
     kind, count, _, _ = CATALOG_HEAD.unpack_from(page)
     if kind != KIND_CATALOG:
         raise BadLog("log: files of a page that is no catalog")
+    if CATALOG_HEAD.size + CATALOG_ENTRY.size * count > len(page):
+        raise BadLog(f"log: files of a catalog that names {count} files and hasn't room for them")
     entries = {entry[4]: entry for entry in CATALOG_ENTRY.iter_unpack(
         page[CATALOG_HEAD.size:CATALOG_HEAD.size + CATALOG_ENTRY.size * count])}
     next_unique, last = FILES_HEAD.unpack_from(fields)
