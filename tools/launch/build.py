@@ -195,8 +195,9 @@ def prove(log: TextIO, count: int) -> bool:
     except Stopped:
         run.stop()
         progress.clear()
-        say(f"stopped: {len(progress.done)} of {len(crates)} crates are proved, which stays; call "
-            f"it again to go on there")
+        proved = sum(it.is_kept() for it in crates)
+        say(f"stopped: {proved} of {len(crates)} crates are proved, which stays; call it again to "
+            f"go on there")
         raise
     finally:
         progress.clear()
