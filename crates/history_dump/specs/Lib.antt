@@ -1,0 +1,5 @@
+pub mod Streams
+pub mod Sending
+pub mod Items
+pub mod Positions
+pub mod Writing
