@@ -93,8 +93,6 @@ const char *exsm_text(int code)
         return "a volume is there already";
     case EXSM_TOO_SMALL:
         return "the image is smaller than the volume";
-    case EXSM_STRANGE:
-        return "the core gave a reply of another kind";
     default:
         return "an unknown number";
     }

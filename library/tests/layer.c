@@ -580,12 +580,12 @@ static void kills_leave_a_front(void)
 static void texts_are_there(void)
 {
     const int codes[] = {EXSM_ROOM, EXSM_MISUSE, EXSM_NOMEM, EXSM_DISK, EXSM_DAMAGED, EXSM_DOWN, EXSM_BAD_VOLUME, EXSM_IN_USE, EXSM_OS,
-        EXSM_IS_VOLUME, EXSM_TOO_SMALL, EXSM_STRANGE};
+        EXSM_IS_VOLUME, EXSM_TOO_SMALL};
     for (int code = EXSM_OK; code <= EXSM_BUSY; code++)
         CHECK(strlen(exsm_text(code)) > 3 && strcmp(exsm_text(code), exsm_text(-1)) != 0);
     for (size_t i = 0; i < sizeof codes / sizeof codes[0]; i++)
         CHECK(strlen(exsm_text(codes[i])) > 3 && strcmp(exsm_text(codes[i]), exsm_text(-1)) != 0);
-    CHECK(strcmp(exsm_text(26), exsm_text(99)) == 0 && strcmp(exsm_text(110), exsm_text(-1)) == 0);
+    CHECK(strcmp(exsm_text(26), exsm_text(99)) == 0 && strcmp(exsm_text(109), exsm_text(-1)) == 0);
     CHECK(strcmp(exsm_text(EXSM_NO_TXN), "no transaction is open") == 0);
     CHECK(strchr(exsm_version(), '.') != NULL);
 }

@@ -1,9 +1,13 @@
 -- What an export answers.
-use Rattle.std.specs.Prelude.{ℕ}
+use Rattle.std.specs.Prelude.{ℕ, Result, Ok, Err}
 use Rattle.table_model.specs.declared.reply.Refusal.{Refusal}
 use Rattle.table_model.specs.declared.reply.Refusal.TheVariants as refusal
 use Rattle.session_views.specs.declared.engine.Stop.{Stop}
 use Rattle.session_views.specs.declared.engine.Stop.TheVariants as stop
+use Rattle.session_views.specs.declared.opener.OpenFault.{OpenFault}
+use Rattle.session_views.specs.declared.opener.OpenFault.TheVariants as fault
+use Rattle.volume_calls.specs.declared.volume.NotDone.{NotDone}
+use Rattle.volume_calls.specs.declared.volume.NotDone.TheVariants.{Misuse, Refused, Stopped}
 
 -- the number of a refusal, as its line has it
 abbrev pub number_of : Refusal → ℕ
@@ -39,3 +43,20 @@ code_of_stop stop.Memory = 100
 code_of_stop stop.Disk = 100
 code_of_stop (stop.Damaged page want got) = 102
 code_of_stop stop.Down = 103
+
+-- the code of a volume that wasn't opened
+abbrev pub code_of_fault : OpenFault → ℕ
+code_of_fault fault.Memory = 100
+code_of_fault fault.Disk = 100
+code_of_fault (fault.BadVolume part) = 104
+
+-- the code of a call that wasn't done
+abbrev pub code_of_why : NotDone → ℕ
+code_of_why Misuse = 51
+code_of_why (Refused why) = number_of why
+code_of_why (Stopped why) = code_of_stop why
+
+-- the code of a call: 0 where it was done
+abbrev pub code_of : {T : Type 0} → Result T NotDone → ℕ
+code_of (Ok told) = 0
+code_of (Err why) = code_of_why why

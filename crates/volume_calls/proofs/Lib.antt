@@ -1,2 +1,5 @@
 mod Answering
 mod Formed
+mod Renamed
+mod Lending
+mod Calling

@@ -1,11 +1,12 @@
 //! The calls that are to be made on the file, for C.
-ghost use Rattle.std.specs.Prelude.{◌≡◌};
+ghost use Rattle.std.specs.Prelude.{◌≡◌, ◌≢◌, List, ℕ};
+ghost use Rattle.exsm_c.specs.Answers.{AreMade, HasCall, HasCalls};
 ghost use Rattle.exsm_c.specs.Owned.{IsOpen};
 
 use crate::codes::{MISUSE, OK};
 use crate::handle::{Handle, give, take};
-use crate::open::Told;
 use crate::passed::AskedCall;
+use crate::told::tell_call;
 use std::alloc::Global;
 
 /// How many calls are to be made on the file.
@@ -13,9 +14,10 @@ use std::alloc::Global;
 pub extern "C" fn exsm_core_asked(alloc: Global, handle: &mut Handle) -> usize
     requires { IsOpen handle.old.value }
     ensures kept { handle.new.value ≡ handle.old.value }
+    ensures count { HasCalls handle.old.value result }
 {
     let open = take(alloc, handle);
-    let count = open.asked.len();
+    let count = open.volume.asked.len();
     give(handle, open);
     count
 }
@@ -31,21 +33,12 @@ pub extern "C" fn exsm_core_call(
 ) -> u32
     requires { IsOpen handle.old.value }
     ensures kept { handle.new.value ≡ handle.old.value }
+    ensures told { result ≡ 0 → HasCall handle.old.value i call.new out.new }
+    ensures same { result ≢ 0 → call.new ≡ call.old }
 {
     let open = take(alloc, handle);
-    let code = if i < open.asked.len() {
-        *call = match open.tell(i, out) {
-            Told::Write { at, len } => AskedCall {
-                is_write: true,
-                at: at as u64,
-                len: len as u64,
-            },
-            Told::Sync => AskedCall {
-                is_write: false,
-                at: 0,
-                len: 0,
-            },
-        };
+    let code = if i < open.volume.asked.len() {
+        *call = tell_call(&open.volume.asked[i], out);
         OK
     } else {
         MISUSE
@@ -58,9 +51,9 @@ pub extern "C" fn exsm_core_call(
 #[unsafe(no_mangle)]
 pub extern "C" fn exsm_core_made(alloc: Global, handle: &mut Handle)
     requires { IsOpen handle.old.value }
-    ensures kept { IsOpen handle.new.value }
+    ensures { AreMade handle.old.value handle.new.value }
 {
     let mut open = take(alloc, handle);
-    open.asked.clear();
+    open.volume.made();
     give(handle, open);
 }

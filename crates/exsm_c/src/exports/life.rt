@@ -1,39 +1,53 @@
 //! A volume is opened, made and closed, and steps on lines, for C.
 ghost use Rattle.std.specs.Prelude.{◌≡◌, ◌≢◌, None};
-ghost use Rattle.exsm_c.specs.Owned.{IsOpen};
+ghost use Rattle.exsm_c.specs.Answers.{AnswersLine, HasText, HasTextOf};
+ghost use Rattle.exsm_c.specs.Owned.{IsLentBy, IsOpen};
+ghost use Rattle.lent_host.specs.Lent.{IsLent};
+ghost use Rattle.volume_calls.specs.Lines.{line_of};
 
-use crate::codes::{BAD_VOLUME, IS_VOLUME, NO_MEMORY, OK, ROOM, TOO_SMALL, code_of_fault};
+use crate::codes::{BAD_VOLUME, NO_MEMORY, OK, ROOM, code_of_fault};
 use crate::handle::{Handle, give, take};
-use crate::lent::make_over;
 use crate::open::Open;
 use crate::passed::{Sizes, Why, number_of_part};
+use crate::making::make;
+use crate::steps::step_line;
+use crate::told::put_front;
 use ex_base::Geometry;
-use exsm_run::Status;
-use lent_host::Asked;
+use exsm_run::VolumeSession;
+use lent_host::{Asked, FileBytes};
 use session_views::OpenFault;
 use std::alloc::Global;
-use table_model::Reply;
+use table_model::{Names, OidList};
+use volume_calls::LentVolume;
 
-// Opens the volume behind the calls that were listed already, and gives it to the handle.
+// Opens the volume on the image that the listed calls make of a file, and gives it to the handle.
 fn open_behind(
     alloc: Global,
     handle: &mut Handle,
+    file: FileBytes,
     image: &mut [u8],
     asked: Vec<Asked>,
     part: &mut u8,
 ) -> u32
-    requires { handle.old.value ≡ None }
-    ensures opened { result ≡ 0 → IsOpen handle.new.value }
+    requires none { handle.old.value ≡ None }
+    requires lent { IsLent file.bytes asked.items image.old }
+    ensures opened { result ≡ 0 → IsLentBy handle.new.value image.new }
     ensures refused { result ≢ 0 → handle.new.value ≡ None }
 {
-    let open = match Open::open(alloc, image, asked) {
-        Ok(open) => open,
+    let volume = match LentVolume::<VolumeSession>::open(alloc, file, image, asked) {
+        Ok(volume) => volume,
         Err(fault) => {
             if let OpenFault::BadVolume { part: bad } = fault {
                 *part = number_of_part(bad);
             }
             return code_of_fault(fault);
         }
+    };
+    let open = Open {
+        volume,
+        names: Names::make(alloc),
+        oids: OidList::make(alloc),
+        why: None,
     };
     match Box::new(alloc, open) {
         Ok(open) => {
@@ -53,10 +67,11 @@ pub extern "C" fn exsm_core_open(
     part: &mut u8,
 ) -> u32
     requires { handle.old.value ≡ None }
-    ensures opened { result ≡ 0 → IsOpen handle.new.value }
+    ensures opened { result ≡ 0 → IsLentBy handle.new.value image.new }
     ensures refused { result ≢ 0 → handle.new.value ≡ None }
 {
-    open_behind(alloc, handle, image, Vec::new(alloc), part)
+    let file = FileBytes::of(image);
+    open_behind(alloc, handle, file, image, Vec::new(alloc), part)
 }
 
 /// Makes an empty volume of these sizes on an image that holds none, and opens it. The calls that make it are listed first.
@@ -68,7 +83,7 @@ pub extern "C" fn exsm_core_make(
     sizes: &Sizes,
 ) -> u32
     requires { handle.old.value ≡ None }
-    ensures opened { result ≡ 0 → IsOpen handle.new.value }
+    ensures opened { result ≡ 0 → IsLentBy handle.new.value image.new }
     ensures refused { result ≢ 0 → handle.new.value ≡ None }
 {
     let Ok(geometry) = Geometry::make(
@@ -80,15 +95,14 @@ pub extern "C" fn exsm_core_make(
     ) else {
         return BAD_VOLUME;
     };
+    let file = FileBytes::of(image);
     let mut asked = Vec::new(alloc);
-    match make_over(alloc, image, &mut asked, &geometry) {
-        Status::Done => {}
-        Status::AlreadyVolume => return IS_VOLUME,
-        Status::TooSmall { .. } => return TOO_SMALL,
-        _ => return NO_MEMORY,
+    let code = make(alloc, &file, image, &mut asked, &geometry);
+    if code != OK {
+        return code;
     }
     let mut part = 0;
-    open_behind(alloc, handle, image, asked, &mut part)
+    open_behind(alloc, handle, file, image, asked, &mut part)
 }
 
 /// Frees what the handle has. It has none then.
@@ -108,17 +122,10 @@ pub extern "C" fn exsm_core_line(
     image: &mut [u8],
     line: &[u8],
 ) -> u32
-    requires { IsOpen handle.old.value }
-    ensures kept { IsOpen handle.new.value }
+    requires { IsLentBy handle.old.value image.old }
+    ensures answers { AnswersLine handle.old.value handle.new.value image.new (line_of line.now) result }
 {
-    let mut open = take(alloc, handle);
-    let code = match open.step_line(alloc, image, line) {
-        Ok(None) => OK,
-        Ok(Some(why)) => open.refuse(Ok(Reply::No(why))),
-        Err(why) => open.refuse(Err(why)),
-    };
-    give(handle, open);
-    code
+    step_line(alloc, handle, image, line)
 }
 
 /// How many bytes the text of the last line's reply has.
@@ -126,9 +133,10 @@ pub extern "C" fn exsm_core_line(
 pub extern "C" fn exsm_core_text_len(alloc: Global, handle: &mut Handle) -> usize
     requires { IsOpen handle.old.value }
     ensures kept { handle.new.value ≡ handle.old.value }
+    ensures len { HasTextOf handle.old.value result }
 {
     let open = take(alloc, handle);
-    let len = open.text.len();
+    let len = open.volume.text.len();
     give(handle, open);
     len
 }
@@ -138,11 +146,12 @@ pub extern "C" fn exsm_core_text_len(alloc: Global, handle: &mut Handle) -> usiz
 pub extern "C" fn exsm_core_text(alloc: Global, handle: &mut Handle, out: &mut [u8]) -> u32
     requires { IsOpen handle.old.value }
     ensures kept { handle.new.value ≡ handle.old.value }
+    ensures told { result ≡ 0 → HasText handle.old.value out.new }
+    ensures same { result ≢ 0 → out.new ≡ out.old }
 {
     let open = take(alloc, handle);
-    let len = open.text.len();
-    let code = if len <= out.len() {
-        out[..len].copy_from_slice(&open.text);
+    let code = if open.volume.text.len() <= out.len() {
+        put_front(out, &open.volume.text);
         OK
     } else {
         ROOM
@@ -158,6 +167,6 @@ pub extern "C" fn exsm_core_why(alloc: Global, handle: &mut Handle, why: &mut Wh
     ensures kept { handle.new.value ≡ handle.old.value }
 {
     let open = take(alloc, handle);
-    *why = open.why;
+    *why = Why::of(open.why);
     give(handle, open);
 }

@@ -1,10 +1,12 @@
 //! The lists that the last calls told, for C.
-ghost use Rattle.std.specs.Prelude.{◌≡◌};
+ghost use Rattle.std.specs.Prelude.{◌≡◌, ◌≢◌};
+ghost use Rattle.exsm_c.specs.Answers.{HasIdentifier, HasName};
 ghost use Rattle.exsm_c.specs.Owned.{IsOpen};
 
 use crate::codes::{MISUSE, OK, ROOM};
 use crate::handle::{Handle, give, take};
-use crate::passed::{Identifier, put_front};
+use crate::passed::Identifier;
+use crate::told::put_front;
 use std::alloc::Global;
 
 /// Copies the name of this number of the last list of names to the front of `out`, which has 32 bytes or as many as it wants, and tells its length.
@@ -18,6 +20,7 @@ pub extern "C" fn exsm_core_name_at(
 ) -> u32
     requires { IsOpen handle.old.value }
     ensures kept { handle.new.value ≡ handle.old.value }
+    ensures told { result ≡ 0 → HasName handle.old.value i out.new len.new }
 {
     let open = take(alloc, handle);
     let code = if i < open.names.len() {
@@ -46,6 +49,8 @@ pub extern "C" fn exsm_core_oid_at(
 ) -> u32
     requires { IsOpen handle.old.value }
     ensures kept { handle.new.value ≡ handle.old.value }
+    ensures told { result ≡ 0 → HasIdentifier handle.old.value i x.new }
+    ensures same { result ≢ 0 → x.new ≡ x.old }
 {
     let open = take(alloc, handle);
     let code = if i < open.oids.len() {

@@ -1,0 +1,10 @@
+use Rattle.std.proofs.Common.{None}
+use Rattle.exsm_c.proofs.exports.objects.exsm_core_create.Goals as goal
+
+pub returns-clause-answers : goal.returns-clause-answers
+returns-clause-answers c = record {
+  result = c.step.result;
+  steps = c.step.ensures;
+  code = c.tell_identifier.ensures.code;
+  tells = c.tell_identifier.ensures.told;
+}
