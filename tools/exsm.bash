@@ -20,8 +20,8 @@ _exsm_kept() {                                    # offers names that a volume k
 
 _exsm() {
     case $COMP_CWORD in
-    1) _exsm_offer "format run check gen clients help --help --version" ;;
-    2) if [ "${COMP_WORDS[1]}" = help ]; then _exsm_offer "format run check gen clients"; else _exsm_files_here; fi ;;
+    1) _exsm_offer "format run check gen clients dump help --help --version" ;;
+    2) if [ "${COMP_WORDS[1]}" = help ]; then _exsm_offer "format run check gen clients dump"; else _exsm_files_here; fi ;;
     *)
         if [ "${COMP_WORDS[COMP_CWORD - 1]}" = --page-size ]; then
             _exsm_offer "512 1024 2048 4096 8192"
@@ -89,4 +89,4 @@ complete -F _exsm_files exsm_files.py
 complete -F _exsm_volume exsm_volume.py
 complete -F _exsm_stream exsm_stream.py
 complete -F _exsm_versions exsm_versions.py
-complete -F _exsm_files_here exsm_do.py exsm_map.py exsm_copy.py exsm_move.py
+complete -F _exsm_files_here exsm_do.py exsm_map.py exsm_copy.py exsm_move.py exsm_backup.py

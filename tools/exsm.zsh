@@ -1,4 +1,4 @@
-#compdef exsm exsm_new.py exsm_files.py exsm_versions.py exsm_volume.py exsm_do.py exsm_map.py exsm_copy.py exsm_move.py exsm_stream.py exsm_serve.py
+#compdef exsm exsm_new.py exsm_files.py exsm_versions.py exsm_volume.py exsm_do.py exsm_map.py exsm_copy.py exsm_move.py exsm_backup.py exsm_stream.py exsm_serve.py
 # Completes the words of exsm and of its tools in zsh.
 
 _exsm_kept() {                                    # names that a volume keeps; a reader of its bytes tells them
@@ -20,8 +20,8 @@ _exsm_words() {                                   # these words where the first 
 
 _exsm_program() {
     case "$CURRENT:$words[2]:$words[CURRENT-1]" in
-    2:*) compadd -- format run check gen clients help --help --version ;;
-    3:help:*) compadd -- format run check gen clients ;;
+    2:*) compadd -- format run check gen clients dump help --help --version ;;
+    3:help:*) compadd -- format run check gen clients dump ;;
     3:*) _files ;;
     *:format:--page-size) compadd -- 512 1024 2048 4096 8192 ;;
     *:format:*) compadd -- --page-size --pages --segs --seg-len --fan ;;

@@ -1,5 +1,5 @@
 #!/usr/bin/env python3
-"""Makes, tests, lists and reads the stream of a volume, without exsm.
+"""Tests, lists and reads a stream, as `exsm dump v > STREAM` writes it, without exsm.
 
 A stream is a volume's whole history, each leaf and node once; docs/FORMATS.md has its bytes.
 `check` tests all of it, in memory that doesn't grow with the bytes of objects; `-` is standard

@@ -20,7 +20,7 @@ STATUS_NAMES = {
 }
 """The program's statuses but 0, as the README has them."""
 
-DISK_FAULT, BAD_VOLUME = 5, 6
+USAGE, DISK_FAULT, BAD_VOLUME = 2, 5, 6
 
 WAIT_STEP = 0.05
 """Seconds between two tries to have a volume that another run has."""

@@ -10,6 +10,7 @@ from typing import Callable, Iterable
 from exsm.client import STATUS_NAMES, is_answered
 from exsm.geometry import Geometry
 from exsm.opening import Opening
+from exsm.stream_making import stream_of
 from exsm.volume import Volume
 from fuzzing.differs import Differs, same
 from fuzzing.model import Model
@@ -173,6 +174,17 @@ def compare(model: Model, data: bytes, is_space_known: bool) -> None:
             segs = sum(page >= volume.geometry.first_unit for page in volume.uses)
             same(model.used, (len(volume.uses) - segs, segs),
                  "units that `space` told, and the reader reached: ")
+
+
+def compare_dump(program: Program) -> None:
+    """Holds what `dump` writes against the stream that the reader makes of the volume's bytes."""
+    ran = program.call("dump")
+    with volume_of(program.volume.read_bytes()) as volume:
+        wanted = b"".join(stream_of(volume))
+    same(ran.status, 0, "status of dump: ")
+    same(len(ran.out), len(wanted), "bytes of a dump: ")
+    front = next((at for at, (a, b) in enumerate(zip(ran.out, wanted)) if a != b), len(wanted))
+    same(front, len(wanted), "the first byte of a dump that differs: ")
 
 
 def same_table(read: Table, wanted: Table) -> None:

@@ -1,11 +1,12 @@
-"""Random scripts: each reply and each volume that a run leaves, beside the model and the reader."""
+"""Random scripts: each reply, each volume that a run leaves, and the stream of the last one, beside
+the model and the reader."""
 from __future__ import annotations
 
 import random
 from typing import Iterator
 
 from fuzzing.model import Model
-from fuzzing.program import Program, compare
+from fuzzing.program import Program, compare, compare_dump
 from fuzzing.table import Table
 from fuzzing.trials import Kind, Report, Trial
 from fuzzing.writer import Writer
@@ -53,6 +54,7 @@ def explore(trial: Trial, program: Program, report: Report) -> None:
         explore_run(trial, program, model, chance, count)
         ask_volume(program, model)
         report("scripts")
+    compare_dump(program)
     report("volumes")
 
 
@@ -64,6 +66,7 @@ def replay(trial: Trial, program: Program, report: Report) -> None:
         program.run_lines(model, lines)
         ask_volume(program, model)
         report("scripts")
+    compare_dump(program)
     report("volumes")
 
 

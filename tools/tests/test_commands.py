@@ -8,6 +8,7 @@ FIRST_WORDS = {"exsm_stream": "STREAM"}
 """The first word of a command where it is another than VOLUME."""
 
 WRONG_WORDS = [
+    ("exsm_backup", ["v"], "the following arguments are required: FILE"),
     ("exsm_copy", ["v"], "the following arguments are required: COPY"),
     ("exsm_copy", ["v", "copy", "--wait", "soon"],
      "argument --wait: 'soon' is no number of seconds"),

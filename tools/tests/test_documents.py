@@ -231,8 +231,8 @@ printf '%s\n' "${COMPREPLY[@]}"
 """
 SIZES = ["--fan", "--page-size", "--pages", "--seg-len", "--segs"]
 COMPLETIONS = [
-    ("exsm|", ["--help", "--version", "check", "clients", "format", "gen", "help", "run"]),
-    ("exsm|f", ["format"]), ("exsm|help|", ["check", "clients", "format", "gen", "run"]),
+    ("exsm|", ["--help", "--version", "check", "clients", "dump", "format", "gen", "help", "run"]),
+    ("exsm|f", ["format"]), ("exsm|help|", ["check", "clients", "dump", "format", "gen", "run"]),
     ("exsm|run|", ["other", "v"]), ("exsm|check|", ["other", "v"]),
     ("exsm|format|v|", SIZES), ("exsm|format|v|--page-size|8", ["8192"]),
     ("exsm|format|v|--page-size|512|", SIZES), ("exsm|run|v|", ["--max-bytes"]),
@@ -243,7 +243,7 @@ COMPLETIONS = [
     ("exsm_files.py|v|put|o", ["other"]), ("exsm_files.py|v|get|-d|o", ["other"]),
     ("exsm_volume.py|v|s", ["save"]), ("exsm_volume.py|v|m", ["mend"]),
     ("exsm_versions.py|v|t", ["tree"]), ("exsm_versions.py|v|b", ["back"]),
-    ("exsm_copy.py|o", ["other"]),
+    ("exsm_copy.py|o", ["other"]), ("exsm_backup.py|o", ["other"]),
     ("exsm_stream.py|o|", ["check", "get", "list", "make"]), ("exsm_stream.py|o|make|v", ["v"]),
     ("exsm_move.py|o", ["other"]), ("exsm_do.py|o", ["other"]),
     ("exsm_serve.py|o", ["other"]), ("exsm_serve.py|v|other|", ["--idle", "--wait"]),

@@ -37,9 +37,10 @@ CLIENTS = [
     "usage: exsm clients VOLUME [--max-bytes N] < SCHEDULE",
     "           by default --max-bytes 1099511627776",
 ]
+DUMP = ["usage: exsm dump VOLUME > STREAM"]
 USAGE = [
     *FORMAT,
-    *(line.replace("usage:", "      ") for line in [*RUN, *CHECK, *GEN, *CLIENTS]),
+    *(line.replace("usage:", "      ") for line in [*RUN, *CHECK, *GEN, *CLIENTS, *DUMP]),
 ]
 
 PAGE_SIZES = "512|1024|2048|4096|8192"
@@ -58,6 +59,8 @@ WORDS = [
     ("clients", "clients takes a VOLUME, and no word names one", CLIENTS),
     ("clients v --seed 1", "'--seed' is neither an option of clients nor a VOLUME", CLIENTS),
     ("clients v --max-bytes x", "--max-bytes takes N, not 'x'", CLIENTS),
+    ("dump", "dump takes a VOLUME, and no word names one", DUMP),
+    ("dump v --max-bytes 6", "'--max-bytes' is neither an option of dump nor a VOLUME", DUMP),
     ("format", "format takes a VOLUME, and no word names one", FORMAT),
     ("format --pages", "--pages takes 1..4000000, and no word is left", FORMAT),
     ("format v --page-size", f"--page-size takes {PAGE_SIZES}, and no word is left", FORMAT),
@@ -275,6 +278,9 @@ class Causes(InEdge):
             ran = self.ends("format", "w", *SIZES, stdout=full)
         self.check(ran, 4, "output fault", f"{reason}; the volume is made")
         self.assertEqual(self.run_script("files", name="w"), ["ok files 0"])
+        with open("/dev/full", "w", encoding="ascii") as full:
+            ran = self.ends("dump", "v", stdout=full)
+        self.check(ran, 4, "output fault", f"{reason}; what was sent is no whole dump")
 
     def test_not_opened(self) -> None:
         """files that cannot be opened are told with the system's reason, and what would help"""
@@ -284,7 +290,7 @@ class Causes(InEdge):
         for words, line in (
                 *(([verb, name], f"{name}: {odd}")
                   for name in ("pipe", "/dev/null", "/dev/zero", "/dev/full")
-                  for verb in ("run", "check", "format")),
+                  for verb in ("run", "check", "dump", "format")),
                 (["run", "none"], "none: No such file or directory (os error 2) "
                                   "(exsm format makes a volume)"),
                 (["run", "folder"], "folder: Is a directory (os error 21)"),

@@ -1,14 +1,19 @@
-"""The tool that tests, lists, reads and makes streams."""
+"""The tools that test, list, read and make streams, and back volumes up by them."""
 from __future__ import annotations
 
 import json
 import os
+import random
+import subprocess
+import sys
+import time
 from pathlib import Path
 
 from exsm.client import Store
 from exsm.stream_making import stream_of
 from exsm.volume import Volume
-from tests.support import InFolder
+from tests.kills import KILLS, killed
+from tests.support import TOOLS, InFolder
 from tests.test_streams import ONE, SMALL, file, head, joined, leaf, small
 
 HALF = joined(head(4, 7, 2, 1, 0, 10), leaf(("62", 300)), file("a", 2),
@@ -120,3 +125,120 @@ class MadeStreamTest(InFolder):
                              (1, ["exsm_stream: v: another run has it open"]))
         self.assertEqual(Path("there").read_bytes(), b"precious")
         self.assertEqual(sorted(os.listdir()), ["hurt", "there", "v"])
+
+
+class BackupTest(InFolder):
+    """Backups of volumes by the program."""
+
+    def setUp(self) -> None:
+        super().setUp()
+        self.format(page_size=4096, pages=400, segs=5000, fan=169)
+        if self.exsm("dump", "v").status == 2:
+            self.skipTest("the program has no `dump`")
+        chance = random.Random(2)
+        with Store("v") as store, store.transaction():
+            store.file("a")
+            for place in range(40):
+                store.append(store.create("a"), chance.randbytes(place * 4_000))
+        with Volume("v") as volume:
+            self.wanted = b"".join(stream_of(volume))
+
+    def test_backup(self) -> None:
+        """a backup is the volume's stream, as the reader of its bytes makes it"""
+        ran = self.tool("exsm_backup", "v", "b")
+        self.assertEqual((ran.status, ran.errors), (0, []))
+        self.assertEqual(ran.lines, [
+            f"{len(self.wanted) / (1 << 20):,.1f} MiB, commit 1: 1 file, 40 objects, 40 versions, "
+            f"{self.leaves():,} leaves, 38 nodes; page size 4096, seg len 1, fan 169; tested"])
+        self.assertEqual(Path("b").read_bytes(), self.wanted)
+        told = json.loads(self.tool("exsm_backup", "v", "c", "--json").out)
+        self.assertEqual((told["bytes"], told["last"], told["fault"]), (len(self.wanted), 1, None))
+        self.assertEqual(sorted(os.listdir()), ["b", "c", "v"])
+
+    def leaves(self) -> int:
+        """How many leaves the stream has."""
+        return int.from_bytes(self.wanted[40:44], "big")
+
+    def test_refused(self) -> None:
+        """a name that is there, an open volume and what holds none make no backup"""
+        Path("there").write_bytes(b"precious")
+        Path("none").write_bytes(bytes(100_000))
+        for volume, path, status, error in [
+                ("v", "there", 1, "there: it is there already"),
+                ("v", "nowhere/b", 1, "nowhere: No such file or directory"),
+                ("none", "b", 6, "none: no volume, or a damaged one (part super); "
+                 "`exsm_volume.py none save FOLDER` saves what can be read")]:
+            ran = self.tool("exsm_backup", volume, path)
+            self.assertEqual((ran.status, ran.lines, ran.errors),
+                             (status, [], [f"exsm_backup: {error}; no backup was made"]))
+        with Store("v"):
+            ran = self.tool("exsm_backup", "v", "b")
+            self.assertEqual(ran.status, 5)
+            self.assertIn("v: another run has it open", ran.errors[0])
+        self.assertEqual(Path("there").read_bytes(), b"precious")
+        self.assertEqual(sorted(os.listdir()), ["none", "there", "v"])
+
+    def test_waits(self) -> None:
+        """an open volume is waited for"""
+        with Store("v"):
+            run = subprocess.Popen([sys.executable, str(TOOLS / "exsm_backup.py"), "v", "b",
+                                    "--wait", "30"], stdout=subprocess.DEVNULL)
+            time.sleep(0.5)
+            self.assertIsNone(run.poll())
+        self.assertEqual(run.wait(60), 0)
+        self.assertEqual(Path("b").read_bytes(), self.wanted)
+
+    def test_kills(self) -> None:
+        """kills while it backs up: a backup has its name only when it is whole"""
+        begun = time.monotonic()
+        self.assertEqual(self.tool("exsm_backup", "v", "b").status, 0)
+        taken = time.monotonic() - begun
+        os.unlink("b")
+        chance = random.Random(4)
+        for _ in range(KILLS):
+            status = killed(chance, 1.2 * taken, "exsm_backup", "v", "b")
+            if os.path.exists("b"):
+                self.assertEqual(Path("b").read_bytes(), self.wanted)
+                os.unlink("b")
+            else:
+                self.assertNotEqual(status, 0)
+        self.assertEqual(self.tool("exsm_backup", "v", "b").status, 0)
+        self.assertEqual(sorted(os.listdir()), ["b", "v"])
+
+
+class NoDumpTest(InFolder):
+    """A program that has no `dump`, or writes none."""
+
+    def program(self, text: str) -> None:
+        """Puts a program in exsm's place."""
+        Path("program").write_text(f"#!/bin/sh\n{text}\n", encoding="ascii")
+        os.chmod("program", 0o755)
+        before = os.environ["EXSM"]
+        os.environ["EXSM"] = str(self.folder / "program")
+        self.addCleanup(os.environ.__setitem__, "EXSM", before)
+
+    def test_usage(self) -> None:
+        """a program without `dump` makes no backup"""
+        self.program("echo exsm: status 2 usage >&2; exit 2")
+        ran = self.tool("exsm_backup", "v", "b")
+        self.assertEqual((ran.status, ran.lines, ran.errors), (2, [], [
+            "exsm_backup: the program exsm has no `dump`: take a newer one; no backup was made"]))
+        self.assertEqual(os.listdir(), ["program"])
+
+    def test_bad(self) -> None:
+        """what is no dump gets no name, though the program's status is 0"""
+        self.program("printf EXSMDMP1")
+        ran = self.tool("exsm_backup", "v", "b")
+        self.assertEqual((ran.status, ran.lines, ran.errors), (1, [], [
+            "exsm_backup: v: what the program wrote is no dump: byte 8: the stream ends in its "
+            "head; no backup was made"]))
+        self.assertEqual(os.listdir(), ["program"])
+
+    def test_whole(self) -> None:
+        """a dump gets its name once it was tested"""
+        Path("one").write_bytes(ONE)
+        self.program("[ \"$1 $2\" = 'dump v' ] && cat one")
+        ran = self.tool("exsm_backup", "v", "b")
+        self.assertEqual((ran.status, ran.errors), (0, []))
+        self.assertTrue(ran.lines[0].endswith("fan 2; tested"))
+        self.assertEqual(Path("b").read_bytes(), ONE)

@@ -2,6 +2,7 @@
 from __future__ import annotations
 
 import io
+import os
 from typing import Callable, Optional
 
 from exsm.stream_making import stream_of
@@ -140,6 +141,25 @@ class StreamsTest(OfRows):
                 record = next(it for it in volume.all() if it.unique == version.unique)
                 told_by_stream = b"".join(read.pieces(version, io.BytesIO(stream)))
                 self.assertEqual(told_by_stream, volume.bytes_of(record))
+
+    def test_dump(self) -> None:
+        """what `dump` writes is the stream that the reader of the volume's bytes makes"""
+        self.small()
+        if self.exsm("dump", "v").status == 2:
+            self.skipTest("the program has no `dump`")
+        for seed, page_size, seg_len, fan, count in (
+                (1, 512, 1, 2, 2000), (2, 512, 3, 5, 2000), (3, 1024, 1, 2, 3000),
+                (4, 4096, 1, 169, 3000), (5, 8192, 16, 2, 1000)):
+            with self.subTest(seed):
+                os.remove("v")
+                self.format(page_size=page_size, pages=900, segs=900, seg_len=seg_len, fan=fan)
+                ran = self.exsm("gen", "v", "--seed", seed, "--count", count)
+                self.assertEqual(ran.status, 0, ran.errors)
+                ran = self.exsm("dump", "v")
+                self.assertEqual((ran.status, ran.errors), (0, []))
+                with Volume("v") as volume:
+                    self.assertEqual(ran.out, b"".join(stream_of(volume)))
+                self.assertIsNone(told(ran.out))
 
     def test_by_hand(self) -> None:
         """streams that no volume of the program is needed for"""

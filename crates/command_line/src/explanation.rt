@@ -176,6 +176,7 @@ impl Explanation<'_> {
     fn kept(&self) -> &str {
         match self.command() {
             Some(CommandWord::Format) => "; the volume is made",
+            Some(CommandWord::Dump) => "; what was sent is no whole dump",
             _ => "; commits whose reply was sent stay",
         }
     }

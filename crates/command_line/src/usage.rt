@@ -24,9 +24,10 @@ impl fmt::Display for Usage {
                 let check = grammar_of(CommandWord::Check);
                 let generate = grammar_of(CommandWord::Gen);
                 let clients = grammar_of(CommandWord::Clients);
+                let dump = grammar_of(CommandWord::Dump);
                 write!(
                     f,
-                    "usage: exsm {format}\n       exsm {run}\n       exsm {check}\n       exsm {generate}\n       exsm {clients}"
+                    "usage: exsm {format}\n       exsm {run}\n       exsm {check}\n       exsm {generate}\n       exsm {clients}\n       exsm {dump}"
                 )
             }
         }
@@ -47,6 +48,8 @@ const GEN: &str = "gen VOLUME --seed N --count 1..1000000";
 const CLIENTS: &str = "clients VOLUME [--max-bytes N] < SCHEDULE
            by default --max-bytes 1099511627776";
 
+const DUMP: &str = "dump VOLUME > STREAM";
+
 /// How a command is called, behind the program's name.
 fn grammar_of(command: CommandWord) -> &'static str
     ensures { result.now ≡ grammar_text command }
@@ -57,5 +60,6 @@ fn grammar_of(command: CommandWord) -> &'static str
         CommandWord::Check => CHECK,
         CommandWord::Gen => GEN,
         CommandWord::Clients => CLIENTS,
+        CommandWord::Dump => DUMP,
     }
 }

@@ -15,6 +15,8 @@ pub enum CommandWord {
     Gen,
     /// Steps the lines of several clients on a volume, by a schedule.
     Clients,
+    /// Opens a volume and writes its whole history as a stream.
+    Dump,
 }
 
 impl CommandWord {
@@ -29,6 +31,7 @@ impl CommandWord {
             "check" => Some(CommandWord::Check),
             "gen" => Some(CommandWord::Gen),
             "clients" => Some(CommandWord::Clients),
+            "dump" => Some(CommandWord::Dump),
             _ => None,
         }
     }
@@ -43,6 +46,7 @@ impl CommandWord {
             CommandWord::Check => "check",
             CommandWord::Gen => "gen",
             CommandWord::Clients => "clients",
+            CommandWord::Dump => "dump",
         }
     }
 
@@ -53,7 +57,7 @@ impl CommandWord {
         match self {
             CommandWord::Format => &["page-size", "pages", "segs", "seg-len", "fan"],
             CommandWord::Run | CommandWord::Clients => &["max-bytes"],
-            CommandWord::Check => &[],
+            CommandWord::Check | CommandWord::Dump => &[],
             CommandWord::Gen => &["seed", "count"],
         }
     }

@@ -76,7 +76,8 @@ fn bytes_made(wish: Wish) -> Option<u64>
 {
     match wish {
         Wish::Format(geometry) => Some(geometry.volume_bytes()),
-        Wish::Run { .. } | Wish::Check | Wish::Gen { .. } | Wish::Clients { .. } => None,
+        Wish::Run { .. } | Wish::Check | Wish::Gen { .. } | Wish::Clients { .. } | Wish::Dump =>
+            None,
     }
 }
 
@@ -111,6 +112,7 @@ fn wish_by(command: CommandWord, numbers: &[Option<u64>]) -> Option<Wish>
         CommandWord::Check => Some(Wish::Check),
         CommandWord::Gen => gen_by(numbers),
         CommandWord::Clients => clients_by(numbers),
+        CommandWord::Dump => Some(Wish::Dump),
     }
 }
 

@@ -14,4 +14,6 @@ pub enum Wish {
     Gen { seed: u64, count: u32 },
     /// To open a volume and to step the lines of a schedule of at most so many bytes.
     Clients { most: u64 },
+    /// To open a volume and to write its whole history as a stream.
+    Dump,
 }

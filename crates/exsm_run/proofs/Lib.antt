@@ -4,5 +4,6 @@ mod Opened
 mod Lines
 mod Counting
 mod Checking
+mod Dumping
 mod Generating
 mod Running

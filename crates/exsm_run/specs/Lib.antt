@@ -7,4 +7,5 @@ pub mod Openings
 pub mod Check
 pub mod Clients
 pub mod Generate
+pub mod Dump
 pub mod Promises

@@ -8,9 +8,10 @@ use Rattle.session_core.specs.Meant.{meant}
 use Rattle.command_line.specs.declared.status.Status.{Status}
 use Rattle.command_line.specs.declared.status.Status.TheVariants.{Done, Memory, ScriptLong}
 use Rattle.command_words.specs.declared.wish.Wish.{Wish}
-use Rattle.command_words.specs.declared.wish.Wish.TheVariants.{Format, Run, Check, Gen, Clients}
+use Rattle.command_words.specs.declared.wish.Wish.TheVariants.{Format, Run, Check, Gen, Clients, Dump}
 use Rattle.exsm_run.specs.Check.{CheckPromise}
 use Rattle.exsm_run.specs.Clients.{ClientsPromise}
+use Rattle.exsm_run.specs.Dump.{DumpPromise}
 use Rattle.exsm_run.specs.Generate.{GenPromise}
 use Rattle.exsm_run.specs.EmptyVolume.{HasMagic}
 use Rattle.exsm_run.specs.Format.{FormatAnswers, FormatSends, IsFormatted, IsFormatMoment, MayFormat, WritesAlone}
@@ -56,3 +57,4 @@ Promise (Run most) before after status = RunPromise most before after status
 Promise Check before after status = CheckPromise before after status
 Promise (Gen seed count) before after status = GenPromise seed count before after status
 Promise (Clients most) before after status = ClientsPromise most before after status
+Promise Dump before after status = DumpPromise before after status

@@ -7,29 +7,19 @@ ghost use Rattle.table_model.specs.declared.table.Table.{Table};
 ghost use Rattle.session_views.specs.Opening.{StandsOpening};
 ghost use Rattle.session_core.specs.Meant.{meant};
 ghost use Rattle.volume_model.specs.Parts.{StandsFor};
-ghost use Rattle.exsm_run.specs.Check.{CheckPromise, IsCount, StopsAs, StopsCount, counts_line, unopened_status};
+ghost use Rattle.exsm_run.specs.Check.{CheckPromise, IsCount, StopsAs, StopsCount, counts_line};
 ghost use Rattle.exsm_run.specs.Openings.{OpeningPromise};
 ghost use Rattle.exsm_run.specs.Script.{HoldsVolume};
 ghost use Rattle.exsm_run.specs.Status.{IsRefusal};
 
+use crate::opening::status_unopened;
 use crate::session::VolumeSession;
 use crate::status::Status;
 use disk_model::{Host, send_all};
-use session_views::{OpenFault, Stop};
+use session_views::Stop;
 use std::alloc::{AllocError, Global};
 use talks::Opener;
 use transactions::Summary;
-
-// The status where a volume wasn't opened.
-fn status_unopened(fault: OpenFault) -> Status
-    ensures { result ≡ unopened_status fault }
-{
-    match fault {
-        OpenFault::Memory => Status::Memory,
-        OpenFault::Disk => Status::DiskFault,
-        OpenFault::BadVolume { part } => Status::BadVolume { part },
-    }
-}
 
 // The status where a session that was up stopped.
 fn status_stopped(stop: Stop) -> Status

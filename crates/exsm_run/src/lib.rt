@@ -2,8 +2,10 @@
 #![tactic(auto)]
 
 mod check;
+mod dump;
 mod format;
 mod generate;
+mod opening;
 mod program;
 mod script;
 mod session;

@@ -8,6 +8,7 @@ ghost use Rattle.exsm_run.specs.Promises.{Promise};
 ghost use Rattle.exsm_run.specs.Status.{IsRefusal};
 
 use crate::check::checked;
+use crate::dump::dumped;
 use crate::format::format;
 use crate::generate::generate;
 use crate::script::run_script;
@@ -83,5 +84,6 @@ fn fulfil<H: Host>(alloc: Global, host: &mut H, wish: Wish) -> Status
         Wish::Check => checked(alloc, host),
         Wish::Gen { seed, count } => generate(alloc, host, seed, count),
         Wish::Clients { most } => run_script::<VolumeSession, Schedule, H>(alloc, host, most),
+        Wish::Dump => dumped(alloc, host),
     }
 }

@@ -190,6 +190,12 @@ fn each_status_has_its_reason(rt: HostRuntime) -> Result<(), Fail> {
             "standard output: No space left on device (os error 28); the volume is made",
         ),
         (
+            "dump v",
+            Status::OutputFault,
+            system,
+            "standard output: No space left on device (os error 28); what was sent is no whole dump",
+        ),
+        (
             "run v",
             Status::DiskFault,
             missing,

@@ -22,3 +22,7 @@ returns-in-Gen c = ap grammar_text (sym c.in-Gen.is)
 pub returns-in-Clients : goal.returns-in-Clients
 unfolding grammar_text digits
 returns-in-Clients c = ap grammar_text (sym c.in-Clients.is)
+
+pub returns-in-Dump : goal.returns-in-Dump
+unfolding grammar_text digits
+returns-in-Dump c = ap grammar_text (sym c.in-Dump.is)

@@ -1,0 +1,33 @@
+use Rattle.std.proofs.Common.{sym, subst}
+use Rattle.command_line.specs.declared.status.Status.{Status}
+use Rattle.exsm_run.specs.Dump.{DumpPromise}
+use Rattle.exsm_run.proofs.Dumping.{can_read, dump_done, dump_failed, dump_unopened}
+use Rattle.exsm_run.proofs.dump.dumped.Goals as goal
+
+pub send_dump-requires : goal.send_dump-requires
+send_dump-requires g c = record { ready = can_read (g.H.World.outside c.opened.new.host).size c.in-Ok.volume c.in-Ok.ensures.parts c.in-Ok.ensures.room }
+
+pub returns-in-Err-clause-promise : goal.returns-in-Err-clause-promise
+returns-in-Err-clause-promise g c =
+    dump_unopened c.in-Err.status c.opened.ensures.only c.in-Err.ensures.stops c.in-Err.ensures.rests c.opened.ensures.any_moment c.in-Err.ensures.opening
+
+pub returns-in-Ok-send_dump-clause-promise : goal.returns-in-Ok-send_dump-clause-promise
+returns-in-Ok-send_dump-clause-promise g c =
+    dump_done (record {
+      opening = c.opened.ensures.only;
+      rests = c.in-Ok.ensures.rests;
+      moments = c.opened.ensures.any_moment;
+      stood = c.in-Ok.ensures.stood;
+      reads = c.send_dump.ensures.only;
+    }) c.in-Ok-send_dump.ensures.sent
+
+pub returns-clause-promise : goal.returns-clause-promise
+returns-clause-promise g c =
+    subst (λ (s : Status). DumpPromise (g.H.World.outside c.args.host.now) (g.H.World.outside c.send_dump.new.host) s) (sym c.status_failed.ensures)
+    (dump_failed c.in-Err-send_dump.fault (record {
+      opening = c.opened.ensures.only;
+      rests = c.in-Ok.ensures.rests;
+      moments = c.opened.ensures.any_moment;
+      stood = c.in-Ok.ensures.stood;
+      reads = c.send_dump.ensures.only;
+    }) c.in-Err-send_dump.ensures.sent c.in-Err-send_dump.ensures.cause c.in-Err-send_dump.ensures.sound)

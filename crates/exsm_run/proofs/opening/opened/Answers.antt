@@ -1,0 +1,29 @@
+use Rattle.std.proofs.Common.{◌≡◌, ◌⊎◌, sym, ap, subst, Err}
+use Rattle.session_core.specs.Meant.{meant}
+use Rattle.command_line.specs.declared.status.Status.{Status}
+use Rattle.command_line.specs.declared.status.Status.TheVariants as status
+use Rattle.exsm_run.specs.Openings.{OpeningPromise}
+use Rattle.exsm_run.proofs.Counting.{unopened_so, unopened_well}
+use Rattle.exsm_run.proofs.Dumping.{rests_with}
+use Rattle.exsm_run.proofs.Opened.{leaves_opening}
+use Rattle.exsm_run.proofs.opening.opened.Goals as goal
+
+pub returns-in-Ok-clause-rests : goal.returns-in-Ok-clause-rests
+returns-in-Ok-clause-rests g c table was on = rests_with on.image table c.in-Ok.volume on.stands (c.in-Ok.ensures.rests on.image on.honest on.holds)
+
+pub returns-in-Ok-clause-any_moment : goal.returns-in-Ok-clause-any_moment
+returns-in-Ok-clause-any_moment g c image honest holds = leaves_opening image (c.open_volume.ensures.any_moment image honest holds)
+
+pub returns-in-Err-clause-any_moment : goal.returns-in-Err-clause-any_moment
+returns-in-Err-clause-any_moment g c image honest holds = leaves_opening image (c.open_volume.ensures.any_moment image honest holds)
+
+pub returns-in-Err-clause-rests : goal.returns-in-Err-clause-rests
+returns-in-Err-clause-rests g c table was on =
+    subst (λ (s : Status). (s ≡ status.DiskFault) ⊎ (s ≡ status.Memory)) (sym c.status_unopened.ensures)
+    (unopened_so c.in-Err.fault (λ part is. meant.no_table on.image table part on.stands (c.in-Err.ensures.bad part (ap (λ f. Err f) is) on.image on.holds)))
+
+pub returns-in-Err-clause-opening : goal.returns-in-Err-clause-opening
+returns-in-Err-clause-opening g c =
+    subst (λ (s : Status). OpeningPromise (g.H.World.outside c.args.host.now) (g.H.World.outside c.open_volume.new.disk) s) (sym c.status_unopened.ensures)
+    (unopened_well c.in-Err.fault (g.H.World.is_world c.args.host.now) (λ part is. c.in-Err.ensures.bad part (ap (λ f. Err f) is)) c.open_volume.ensures.left
+    (λ part is. c.in-Err.ensures.unwritten part (ap (λ f. Err f) is)) (λ part is. c.in-Err.ensures.kept part (ap (λ f. Err f) is)))
