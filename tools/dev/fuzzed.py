@@ -5,12 +5,14 @@
     tools/dev/fuzzed.py --about TEXT --write FILE ..  writes it into the page, between its marks
 
 TEXT says which program it was, as `the gate's program of commit 81070cf`. Campaigns of different
-programs aren't added.
+programs aren't added: with --beside, what the page has of other programs stays behind the new
+table, and how many were tried of each thing together stands at the end.
 """
 from __future__ import annotations
 
 import argparse
 import json
+import re
 import sys
 from collections import Counter, defaultdict
 from pathlib import Path
@@ -82,6 +84,19 @@ def text(whole: Campaigns, about: str) -> str:
     return "\n".join([head, "", *heads, *rows])
 
 
+def beside(told: str, program: str, part: str) -> str:
+    """What was tried of a program, then what a page's part has of others, and all together."""
+    tables = [it.strip() for it in re.split(r"(?m)^(?=On |Together: )", part)]
+    others = [it for it in tables
+              if it.startswith("On ") and f"(SHA-256 {program[:DIGITS]}..)" not in it]
+    counts: Counter[str] = Counter()
+    for tried in re.findall(r"(?m)^\| `\w+` \| ([^|]*) \|", "\n".join([told, *others])):
+        for count, what in re.findall(r"([\d,]+) ([^,]+)", tried):
+            counts[what] += int(count.replace(",", ""))
+    together = ", ".join(f"{count:,} {what}" for what, count in sorted(counts.items()))
+    return "\n\n".join([told, *others, *([f"Together: {together}."] if others else [])])
+
+
 def main() -> int:
     """Prints or writes, and gives the exit status."""
     parser = argparse.ArgumentParser(
@@ -89,16 +104,22 @@ def main() -> int:
     parser.add_argument("files", metavar="FILE", nargs="+", type=Path, help="what a campaign told")
     parser.add_argument("--about", metavar="TEXT", default="a program", help="which program it was")
     parser.add_argument("--write", action="store_true", help="write the page")
+    parser.add_argument("--beside", action="store_true",
+                        help="what the page has of other programs stays")
     words = parser.parse_args()
     try:
-        told = text(read(words.files), words.about)
+        tried = read(words.files)
+        told = text(tried, words.about)
     except NoCampaign as fault:
         sys.exit(f"fuzzed: {fault}")
-    if not words.write:
-        print(told)
-        return 0
     try:
-        whole = MARKS.replaced(PAGE.read_text(encoding="utf-8"), told)
+        page = PAGE.read_text(encoding="utf-8")
+        if words.beside:
+            told = beside(told, tried.program, MARKS.part(page))
+        if not words.write:
+            print(told)
+            return 0
+        whole = MARKS.replaced(page, told)
     except NoMarks as fault:
         sys.exit(f"fuzzed: docs/TESTS.md has no place for it: {fault}")
     PAGE.write_text(whole, encoding="utf-8")

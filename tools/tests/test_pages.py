@@ -123,3 +123,15 @@ class PagesTest(InFolder):
             self.assertEqual((ran.status, ran.lines), (1, []))
             self.assertIn(error, ran.errors[-1])
         self.assertEqual(Path("docs/TESTS.md").read_text(encoding="utf-8").splitlines(), lines)
+        self.assert_beside(lines)
+
+    def assert_beside(self, lines: list[str]) -> None:
+        """With --beside another program's table stands before the others, once, and all are summed."""
+        for _ in range(2):
+            ran = self.script("fuzzed.py", "--about", "that", "--beside", "--write", "d")
+            self.assertEqual(ran.status, 0)
+            self.assertEqual(Path("docs/TESTS.md").read_text(encoding="utf-8").splitlines(), [
+                *lines[:3],
+                f"On that (SHA-256 {'cd' * 8}..), seed 7, in 0 minutes of a processor: none "
+                "differed.", "", *lines[5:7], "| `damage` | 5 things | 10 things |", "",
+                *lines[3:10], "Together: 1,510 things.", "", *lines[10:]])
